@@ -1,0 +1,254 @@
+-- Rules for `search`: each way through a parser, from what the callees answered and what the tests said.
+use Prim.Native.Nat.{ℕ, suc, _+_, _-_, _≤_, _<_}
+use mathlib.Core.Path.{_≡_, refl, sym, ap, _∙_}
+use mathlib.Core.List.{List, []}
+use mathlib.Core.Bool.{Bool, true, false}
+use native.Mathlib.Omega.{arith}
+use lib.ListN.{length, take, drop}
+use lib.Dec.{eqb, leb}
+use borrow.Author.Tests.{lt-ltb, le-ltb, le-leb, lt-leb, eq-eqb, ne-eqb}
+use Rattle.layout.specs.Bytes.{Bytes}
+use Rattle.layout.specs.Parser.{Res, refuse, ok, next, choose, chunk, u32, Parser}
+use Rattle.layout.specs.Tree.{LeafType, leafType, Label, ColumnType, cleaf, cstruct, clist, carray}
+use Rattle.layout.specs.Layout.{Kind, aLeaf, aStruct, aList, anArray, label, fieldId, elementLabel, plainLeaf, leafKind, kind, body, structType, listType, arrayType, columns, type}
+use Rattle.layout.specs.Answers.{stepRes, shortRes, longRes, unitRes, spanAt, spanIn, textRes, headRes, headIn, labelRes, labelAt, leafAt, textIn, labelIn, movedOf}
+use Rattle.layout.specs.declared.bytes.Span.{Span}
+use Rattle.layout.specs.declared.cursor.Cursor.{Cursor}
+use Rattle.layout.specs.declared.cursor.Step.{Step}
+use Rattle.layout.specs.declared.cursor.Short.{Short}
+use Rattle.layout.specs.declared.cursor.Long.{Long}
+use Rattle.layout.specs.declared.cursor.Moved.{Moved}
+use Rattle.layout.specs.declared.cursor.Text.{Text}
+use Rattle.layout.specs.declared.leaf.TimeUnit.{TimeUnit}
+use Rattle.layout.specs.declared.leaf.Leaf.{Leaf}
+use Rattle.layout.specs.declared.types.LeafType.{LeafType as LeafSpan}
+use Rattle.layout.specs.declared.types.PlainLeaf.{PlainLeaf}
+use Rattle.layout.specs.declared.types.Head.{Head}
+use Rattle.layout.specs.declared.types.Unit.{Unit as UnitRead}
+use Rattle.layout.specs.declared.columns.Labelled.{Labelled}
+use Rattle.layout.specs.declared.columns.Label.{Label as LabelSpan}
+use Rattle.layout.specs.declared.columns.Siblings.{Siblings}
+use Rattle.layout.specs.declared.version.Version.{Version}
+
+pub clash : {A : Type 0} → _≡_ {A = ℕ} 0 1 → A
+clash z = absurd (omega arith)
+
+pub choose-true : {A : Type 0} (b : Bool) (x y : A) {z : A} → b ≡ true → z ≡ x → z ≡ choose b x y
+unfolding choose
+choose-true b x y e f = rw e f
+
+pub choose-false : {A : Type 0} (b : Bool) (x y : A) {z : A} → b ≡ false → z ≡ y → z ≡ choose b x y
+unfolding choose
+choose-false b x y e f = rw e f
+
+-- a test that a call made
+pub flag : (x : Bool) {b t : Bool} → b ≡ x → b ≡ t → x ≡ t
+flag x e f = sym e ∙ f
+
+module _ (n : ℕ) (s : List ℕ) (at : ℕ) where
+  pub chunk-fits : at ≤ length s → n ≤ length s - at → ok (take n (drop at s)) (at + n) ≡ chunk n s at
+  unfolding chunk
+  chunk-fits h k = choose-true _ _ _ (le-leb (at + n) (length s) (omega arith)) refl
+
+  pub chunk-past : length s < at → refuse 2 ≡ chunk n s at
+  unfolding chunk
+  chunk-past h = choose-false _ _ _ (lt-leb (at + n) (length s) (omega arith)) refl
+
+  pub chunk-short : length s - at < n → refuse 2 ≡ chunk n s at
+  unfolding chunk
+  chunk-short h = choose-false _ _ _ (lt-leb (at + n) (length s) (omega arith)) refl
+
+pub id-none : (v : Version) (s : List ℕ) (at : ℕ) → v ≡ Version.ByName → ok 0 at ≡ fieldId v s at
+unfolding fieldId
+id-none v s at h = rw h
+
+pub id-none-on : {B : Type 0} (v : Version) (s : List ℕ) (at : ℕ) (k : ℕ → ℕ → Res B) {y : Res B} → v ≡ Version.ByName → y ≡ k 0 at → y ≡ next (fieldId v s at) k
+unfolding fieldId next
+id-none-on v s at k h e = rw h e
+
+pub id-some : (v : Version) (s : List ℕ) (at : ℕ) {y : Res ℕ} → v ≡ Version.ByNumber → y ≡ u32 s at → y ≡ fieldId v s at
+unfolding fieldId
+id-some v s at h e = rw h e
+
+pub text-in : (s : List ℕ) {p : Text} {b : Span} {c : Cursor} → textIn s p → p ≡ Text.Is b c → spanIn s b
+text-in s h e = rw e at h
+
+pub head-in : (s : List ℕ) {p : Head} {l : LeafSpan} {c : Cursor} → headIn s p → p ≡ Head.Leaf l c → spanIn s (l .zone)
+head-in s h e = rw e at h
+
+pub label-in : (s : List ℕ) {p : Labelled} {l : LabelSpan} {c : Cursor} → labelIn s p → p ≡ Labelled.Is l c → spanIn s (l .name)
+label-in s h e = rw e at h
+
+-- the tree is not in the answer: there is one
+pub moved-to : {A : Type 0} (x : Res A) {r : Moved} {c : Cursor} → r ≡ movedOf x → r ≡ Moved.To c → (a : A) × (x ≡ ok a (c .at))
+unfolding movedOf
+moved-to (refuse n) p q = clash (cc)
+moved-to (ok a m) {r} {c} p q = let h : Moved.To (record { at = m }) ≡ Moved.To c = sym p ∙ q in (a, (cc))
+
+pub moved-refused : {A : Type 0} (x : Res A) {r : Moved} {n : ℕ} → r ≡ movedOf x → r ≡ Moved.Refused n → x ≡ refuse n
+unfolding movedOf
+moved-refused (refuse m) p q = cc
+moved-refused (ok a m) p q = clash (cc)
+
+-- a test of a number that is known
+pub eqb-from : (k n : ℕ) {m : ℕ} {b : Bool} → k ≡ m → eqb m n ≡ b → eqb k n ≡ b
+eqb-from k n h e = rw h e
+
+pub leb-from : (k n : ℕ) {m : ℕ} {b : Bool} → k ≡ m → leb m n ≡ b → leb k n ≡ b
+leb-from k n h e = rw h e
+
+pub element-none : (v : Version) (s : List ℕ) (at : ℕ) → v ≡ Version.ByName → ok (record { name = []; id = record { 0 = 0 } }) at ≡ elementLabel v s at
+unfolding elementLabel
+element-none v s at h = rw h
+
+pub element-some : (v : Version) (s : List ℕ) (at : ℕ) {y : Res Label} → v ≡ Version.ByNumber → y ≡ label v s at → y ≡ elementLabel v s at
+unfolding elementLabel
+element-some v s at h e = rw h (rw h at e)
+
+-- the leaf of a code that is not a date-time's
+pub leaf-known : (code : ℕ) (s : List ℕ) (at : ℕ) {p : PlainLeaf} {l : Leaf} → p ≡ plainLeaf code → p ≡ PlainLeaf.Known l → ok (aLeaf (leafType l [])) at ≡ leafKind (plainLeaf code) s at
+unfolding leafKind
+leaf-known code s at e f = rw (← e, f)
+
+pub leaf-unknown : (code : ℕ) (s : List ℕ) (at : ℕ) {p : PlainLeaf} → p ≡ plainLeaf code → p ≡ PlainLeaf.Unknown → refuse 3 ≡ leafKind (plainLeaf code) s at
+unfolding leafKind
+leaf-unknown code s at e f = rw (← e, f)
+
+module _ {B : Type 0} where
+  pub step-on : (x : Res (ℕ)) (k : ℕ → ℕ → Res B) {y : Res B} {p : Step} {b : ℕ} {c : Cursor} → stepRes p ≡ x → p ≡ Step.Byte b c → y ≡ k b (c .at) → y ≡ next x k
+  unfolding next
+  step-on x k e f g = rw (← e, f) g
+
+  pub step-off : (x : Res (ℕ)) (k : ℕ → ℕ → Res B) {p : Step} {n : ℕ} → stepRes p ≡ x → p ≡ Step.Refused n → refuse n ≡ next x k
+  unfolding next
+  step-off x k e f = rw (← e, f)
+
+  pub short-on : (x : Res (ℕ)) (k : ℕ → ℕ → Res B) {y : Res B} {p : Short} {b : ℕ} {c : Cursor} → shortRes p ≡ x → p ≡ Short.Is b c → y ≡ k b (c .at) → y ≡ next x k
+  unfolding next
+  short-on x k e f g = rw (← e, f) g
+
+  pub short-off : (x : Res (ℕ)) (k : ℕ → ℕ → Res B) {p : Short} {n : ℕ} → shortRes p ≡ x → p ≡ Short.Refused n → refuse n ≡ next x k
+  unfolding next
+  short-off x k e f = rw (← e, f)
+
+  pub long-on : (x : Res (ℕ)) (k : ℕ → ℕ → Res B) {y : Res B} {p : Long} {b : ℕ} {c : Cursor} → longRes p ≡ x → p ≡ Long.Is b c → y ≡ k b (c .at) → y ≡ next x k
+  unfolding next
+  long-on x k e f g = rw (← e, f) g
+
+  pub long-off : (x : Res (ℕ)) (k : ℕ → ℕ → Res B) {p : Long} {n : ℕ} → longRes p ≡ x → p ≡ Long.Refused n → refuse n ≡ next x k
+  unfolding next
+  long-off x k e f = rw (← e, f)
+
+  pub unit-on : (x : Res (TimeUnit)) (k : TimeUnit → ℕ → Res B) {y : Res B} {p : UnitRead} {b : TimeUnit} {c : Cursor} → unitRes p ≡ x → p ≡ UnitRead.Is b c → y ≡ k b (c .at) → y ≡ next x k
+  unfolding next
+  unit-on x k e f g = rw (← e, f) g
+
+  pub unit-off : (x : Res (TimeUnit)) (k : TimeUnit → ℕ → Res B) {p : UnitRead} {n : ℕ} → unitRes p ≡ x → p ≡ UnitRead.Refused n → refuse n ≡ next x k
+  unfolding next
+  unit-off x k e f = rw (← e, f)
+
+  pub text-on : (s : List ℕ) (x : Res (List ℕ)) (k : List ℕ → ℕ → Res B) {y : Res B} {p : Text} {b : Span} {c : Cursor} → textRes s p ≡ x → p ≡ Text.Is b c → y ≡ k (spanAt s b) (c .at) → y ≡ next x k
+  unfolding next
+  text-on s x k e f g = rw (← e, f) g
+
+  pub text-off : (s : List ℕ) (x : Res (List ℕ)) (k : List ℕ → ℕ → Res B) {p : Text} {n : ℕ} → textRes s p ≡ x → p ≡ Text.Refused n → refuse n ≡ next x k
+  unfolding next
+  text-off s x k e f = rw (← e, f)
+
+  pub label-on : (s : List ℕ) (x : Res (Label)) (k : Label → ℕ → Res B) {y : Res B} {p : Labelled} {b : LabelSpan} {c : Cursor} → labelRes s p ≡ x → p ≡ Labelled.Is b c → y ≡ k (labelAt s b) (c .at) → y ≡ next x k
+  unfolding next
+  label-on s x k e f g = rw (← e, f) g
+
+  pub label-off : (s : List ℕ) (x : Res (Label)) (k : Label → ℕ → Res B) {p : Labelled} {n : ℕ} → labelRes s p ≡ x → p ≡ Labelled.Refused n → refuse n ≡ next x k
+  unfolding next
+  label-off s x k e f = rw (← e, f)
+
+pub ruleset ways = (step-on, step-off, short-on, short-off, long-on, long-off, unit-on, unit-off, text-on, text-off, label-on, label-off, choose-true, choose-false, chunk-fits, chunk-past, chunk-short, id-none-on, id-some, eqb-from, leb-from, element-none, element-some, leaf-known, leaf-unknown, text-in, flag, lt-ltb, le-ltb, le-leb, lt-leb, eq-eqb, ne-eqb)
+
+-- where only the position is answered
+pub to-ok : {A : Type 0} (a : A) (c : Cursor) → Moved.To c ≡ movedOf (ok a (c .at))
+unfolding movedOf
+to-ok a c = refl
+
+module _ {A : Type 0} {o : Moved} where
+  pub to-pure : {B : Type 0} (f : A → B) (x : Res A) → o ≡ movedOf x → o ≡ movedOf (next x (λ a m. ok (f a) m))
+  unfolding movedOf next
+  to-pure f (refuse n) e = e
+  to-pure f (ok a m) e = e
+
+  pub to-on : {B : Type 0} (x : Res A) (k : A → ℕ → Res B) {p : Moved} {c : Cursor} → p ≡ movedOf x → p ≡ Moved.To c → ((a : A) → o ≡ movedOf (k a (c .at)))
+      → o ≡ movedOf (next x k)
+  unfolding next
+  to-on x k e f g = let t = moved-to x e f in rw (t .1) (g (t .0))
+
+pub to-off : {A B : Type 0} (x : Res A) (k : A → ℕ → Res B) {p : Moved} {n : ℕ} → p ≡ movedOf x → p ≡ Moved.Refused n → Moved.Refused n ≡ movedOf (next x k)
+unfolding next movedOf
+to-off x k e f = rw (moved-refused x e f)
+
+module _ {B : Type 0} (s : List ℕ) (x : Res Kind) (k : Kind → ℕ → Res B) {p : Head} (e : headRes s p ≡ x) where
+  pub head-leaf : {o : Moved} {l : LeafSpan} {c : Cursor} → p ≡ Head.Leaf l c → o ≡ movedOf (k (aLeaf (leafAt s l)) (c .at)) → o ≡ movedOf (next x k)
+  unfolding next
+  head-leaf f g = rw (← e, f) g
+
+  pub head-struct : {o : Moved} {n : ℕ} {c : Cursor} → p ≡ Head.Struct n c → o ≡ movedOf (k (aStruct n) (c .at)) → o ≡ movedOf (next x k)
+  unfolding next
+  head-struct f g = rw (← e, f) g
+
+  pub head-list : {o : Moved} {c : Cursor} → p ≡ Head.List c → o ≡ movedOf (k aList (c .at)) → o ≡ movedOf (next x k)
+  unfolding next
+  head-list f g = rw (← e, f) g
+
+  pub head-array : {o : Moved} {n : ℕ} {c : Cursor} → p ≡ Head.Array n c → o ≡ movedOf (k (anArray n) (c .at)) → o ≡ movedOf (next x k)
+  unfolding next
+  head-array f g = rw (← e, f) g
+
+  pub head-refused : {n : ℕ} → p ≡ Head.Refused n → Moved.Refused n ≡ movedOf (next x k)
+  unfolding next movedOf
+  head-refused f = rw (← e, f)
+
+module _ (v : Version) (r : Siblings) (s : List ℕ) (at d : ℕ) where
+  pub type-deep : d ≡ 0 → Moved.Refused 4 ≡ movedOf (type v r d s at)
+  unfolding type movedOf
+  type-deep z = rw z
+
+  pub type-level : {o : Moved} → (d ≡ 0 → ⊥) → o ≡ movedOf (next (kind s at) (λ k m. body v r (type v r (d - 1)) k s m)) → o ≡ movedOf (type v r d s at)
+  unfolding type
+  type-level z e = e ∙ ap (λ (k : ℕ). movedOf (type v r k s at)) (let e : suc (d - 1) ≡ d = omega arith in e)
+
+module _ (v : Version) (r : Siblings) (p : Parser ColumnType) (s : List ℕ) where
+  pub body-leaf : (l : LeafType) (c : Cursor) → Moved.To c ≡ movedOf (body v r p (aLeaf l) s (c .at))
+  unfolding body movedOf
+  body-leaf l c = refl
+
+  pub body-struct : (n at : ℕ) {o : Moved} → o ≡ movedOf (columns v r p n [] s at) → o ≡ movedOf (body v r p (aStruct n) s at)
+  unfolding body structType
+  body-struct n at e = to-pure cstruct (columns v r p n [] s at) e
+
+  pub body-list : (at : ℕ) {o : Moved} → o ≡ movedOf (listType v p s at) → o ≡ movedOf (body v r p aList s at)
+  unfolding body
+  body-list at e = e
+
+  pub body-array : (w at : ℕ) {o : Moved} → o ≡ movedOf (arrayType v w p s at) → o ≡ movedOf (body v r p (anArray w) s at)
+  unfolding body
+  body-array w at e = e
+
+  pub list-on : (at : ℕ) {o : Moved} {q : Labelled} {l : LabelSpan} {c : Cursor} → labelRes s q ≡ elementLabel v s at → q ≡ Labelled.Is l c
+      → o ≡ movedOf (p s (c .at)) → o ≡ movedOf (listType v p s at)
+  unfolding listType next
+  list-on at {l = l} {c = c} e f g = rw (← e, f) (to-pure (clist (labelAt s l)) (p s (c .at)) g)
+
+  pub list-off : (at : ℕ) {q : Labelled} {n : ℕ} → labelRes s q ≡ elementLabel v s at → q ≡ Labelled.Refused n → Moved.Refused n ≡ movedOf (listType v p s at)
+  unfolding listType next movedOf
+  list-off at e f = rw (← e, f)
+
+  pub array-on : (w at : ℕ) {o : Moved} {q : Labelled} {l : LabelSpan} {c : Cursor} → labelRes s q ≡ elementLabel v s at → q ≡ Labelled.Is l c
+      → o ≡ movedOf (p s (c .at)) → o ≡ movedOf (arrayType v w p s at)
+  unfolding arrayType next
+  array-on w at {l = l} {c = c} e f g = rw (← e, f) (to-pure (carray w (labelAt s l)) (p s (c .at)) g)
+
+  pub array-off : (w at : ℕ) {q : Labelled} {n : ℕ} → labelRes s q ≡ elementLabel v s at → q ≡ Labelled.Refused n
+      → Moved.Refused n ≡ movedOf (arrayType v w p s at)
+  unfolding arrayType next movedOf
+  array-off w at e f = rw (← e, f)
+
+pub ruleset type-ways = (type-deep, type-level, body-leaf, body-struct, body-list, body-array, list-on, list-off, array-on, array-off, head-leaf, head-struct, head-list, head-array, head-refused)

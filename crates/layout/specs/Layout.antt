@@ -1,0 +1,204 @@
+-- Document 01, "Reading a layout" and "Layouts": bytes to a tree, or the number of the first refusal.
+-- Each parser refuses where the document has the test: 2 where the bytes end, 4 at a length over 63 or at a depth over 16,
+-- 3 at an unknown code or unit, 5 once a sibling that repeats is read.
+use Prim.Native.Nat.{ℕ, zero, suc, _+_, _*_}
+use mathlib.Core.List.{List, [], _∷_, _++_}
+use mathlib.Core.Bool.{Bool, true, false, not, _||_, _&&_}
+use lib.ListN.{length, take, getD}
+use lib.Dec.{leb, eqb}
+use Rattle.layout.specs.Bytes.{Bytes, sameBytes}
+use Rattle.layout.specs.Parser.{Res, refuse, ok, Parser, next, _>>=_, _>>_, pure, fail, test, if, choose, byte, chunk, u16, u32}
+use Rattle.layout.specs.Tree.{LeafType, leafType, Label, ColumnType, cleaf, cstruct, clist, carray, Columns, cnil, ccons, Layout}
+use Rattle.layout.specs.declared.leaf.TimeUnit.{TimeUnit}
+use Rattle.layout.specs.declared.leaf.TimeUnit.the-variants.{Nanoseconds, Microseconds, Milliseconds}
+use Rattle.layout.specs.declared.leaf.Leaf.{Leaf}
+use Rattle.layout.specs.declared.leaf.Leaf.the-variants.{Null, Boolean, Int8, Int16, Int32, Int64, UInt8, UInt16, UInt32, UInt64, Float16, Float32, Float64, Date, Datetime, String, Binary, Categorical}
+use Rattle.layout.specs.declared.types.PlainLeaf.{PlainLeaf}
+use Rattle.layout.specs.declared.types.PlainLeaf.the-variants.{Known, Unknown}
+use Rattle.layout.specs.declared.version.Version.{Version}
+use Rattle.layout.specs.declared.version.Version.the-variants.{ByName, ByNumber}
+use Rattle.layout.specs.declared.columns.Siblings.{Siblings}
+use Rattle.layout.specs.declared.columns.Siblings.the-variants.{Names, Ids, Free}
+
+-- a name or a zone: a length byte of at most 63, and as many bytes
+unfoldable pub text : Parser Bytes
+text = do
+  n ← byte
+  if (leb n 63) (chunk n) (fail 4)
+
+-- a date-time's unit: 0 ns, 1 µs, 2 ms
+unfoldable pub unit : Parser TimeUnit
+unit = do
+  u ← byte
+  if (eqb u 0) (pure Nanoseconds) (if (eqb u 1) (pure Microseconds) (if (eqb u 2) (pure Milliseconds) (fail 3)))
+
+-- what a type begins with: a whole leaf, or what stands before columns or an element
+pub data Kind : Type 0 where
+  aLeaf : LeafType → Kind
+  aStruct : ℕ → Kind
+  aList : Kind
+  anArray : ℕ → Kind
+
+-- the leaves that are their code alone, each at the place of its code; 14 is a date-time
+abbrev pub plainLeaves : List PlainLeaf
+plainLeaves =
+    Known Null ∷ Known Boolean
+    ∷ Known Int8 ∷ Known Int16 ∷ Known Int32 ∷ Known Int64
+    ∷ Known UInt8 ∷ Known UInt16 ∷ Known UInt32 ∷ Known UInt64
+    ∷ Known Float16 ∷ Known Float32 ∷ Known Float64
+    ∷ Known Date ∷ Unknown
+    ∷ Known String ∷ Known Binary ∷ Known Categorical ∷ []
+
+abbrev pub plainLeaf : ℕ → PlainLeaf
+plainLeaf code = getD plainLeaves code Unknown
+
+unfoldable pub leafKind : PlainLeaf → Parser Kind
+leafKind (Known l) = pure (aLeaf (leafType l []))
+leafKind Unknown = fail 3
+
+unfoldable pub datetimeKind : Parser Kind
+datetimeKind = do
+  u ← unit
+  z ← text
+  pure (aLeaf (leafType (Datetime u) z))
+
+unfoldable pub structKind : Parser Kind
+structKind = do
+  n ← u16
+  pure (aStruct n)
+
+unfoldable pub arrayKind : Parser Kind
+arrayKind = do
+  w ← u32
+  pure (anArray w)
+
+-- by the type code
+unfoldable pub kindOf : ℕ → Parser Kind
+kindOf c =
+    if (eqb c 14) datetimeKind
+    (if (eqb c 18) structKind
+    (if (eqb c 19) (pure aList)
+    (if (eqb c 20) arrayKind
+    (leafKind (plainLeaf c)))))
+
+unfoldable pub kind : Parser Kind
+kind = do
+  c ← byte
+  kindOf c
+
+unfoldable pub fieldId : Version → Parser ℕ
+fieldId ByName = pure 0
+fieldId ByNumber = u32
+
+unfoldable pub label : Version → Parser Label
+label v = do
+  n ← text
+  i ← fieldId v
+  pure (record { name = n; id = record { 0 = i } })
+
+-- an element has a label in version 2 only
+unfoldable pub elementLabel : Version → Parser Label
+elementLabel ByName = pure (record { name = []; id = record { 0 = 0 } })
+elementLabel ByNumber = label ByNumber
+
+-- whether a label repeats another, under a rule
+abbrev pub repeats : Siblings → Label → Label → Bool
+repeats Names l m = sameBytes (l .name) (m .name)
+repeats Ids l m = eqb (l .id .0) (m .id .0)
+repeats Free l m = false
+
+unfoldable pub repeatsAny : Siblings → Label → List Label → Bool
+repeatsAny r l [] = false
+repeatsAny r l (m ∷ ms) = repeats r l m || repeatsAny r l ms
+
+-- n columns after the earlier labels, whose types p reads; 5 is tested once a column is read
+unfoldable pub columns : Version → Siblings → Parser ColumnType → ℕ → List Label → Parser Columns
+columns v r p zero earlier = pure cnil
+columns v r p (suc n) earlier = do
+  l ← label v
+  t ← p
+  test (not (repeatsAny r l earlier)) 5
+  cs ← columns v r p n (earlier ++ (l ∷ []))
+  pure (ccons l t cs)
+
+-- a list's element
+unfoldable pub listType : Version → Parser ColumnType → Parser ColumnType
+listType v p = do
+  l ← elementLabel v
+  t ← p
+  pure (clist l t)
+
+unfoldable pub arrayType : Version → ℕ → Parser ColumnType → Parser ColumnType
+arrayType v w p = do
+  l ← elementLabel v
+  t ← p
+  pure (carray w l t)
+
+unfoldable pub structType : Version → Siblings → ℕ → Parser ColumnType → Parser ColumnType
+structType v r n p = do
+  cs ← columns v r p n []
+  pure (cstruct cs)
+
+-- the rest of a type, whose inner types p reads
+unfoldable pub body : Version → Siblings → Parser ColumnType → Kind → Parser ColumnType
+body v r p (aLeaf l) = pure (cleaf l)
+body v r p (aStruct n) = structType v r n p
+body v r p aList = listType v p
+body v r p (anArray w) = arrayType v w p
+
+-- a type of at most d levels, whose inner columns keep to the rule r; the depth is tested before the code is read
+unfoldable pub type : Version → Siblings → ℕ → Parser ColumnType
+type v r zero = fail 4
+type v r (suc d) = do
+  k ← kind
+  body v r (type v r d) k
+
+-- 5: version 1 tests names, of top columns only; version 2 tests ids, at all levels
+abbrev pub topRule : Version → Siblings
+topRule ByName = Names
+topRule ByNumber = Ids
+
+abbrev pub innerRule : Version → Siblings
+innerRule ByName = Free
+innerRule ByNumber = Ids
+
+-- `LAY` and a version
+abbrev pub mark : ℕ → Bytes
+mark v = 0x4C ∷ 0x41 ∷ 0x59 ∷ v ∷ 0 ∷ []
+
+-- 1 where the first five bytes are not a known mark and version
+unfoldable pub version : Parser Version
+version s at =
+    choose (sameBytes (take 5 s) (mark 1)) (ok ByName 5)
+    (choose (sameBytes (take 5 s) (mark 2)) (ok ByNumber 5)
+    (refuse 1))
+
+-- 4 where there are over 16,384 bytes
+unfoldable pub sized : Parser (Unit {0})
+sized s at = test (leb (length s) 16384) 4 s at
+
+-- 6 where bytes are left over
+unfoldable pub ended : Parser (Unit {0})
+ended s at = test (eqb at (length s)) 6 s at
+
+-- the deepest type of a layout
+abbrev pub deepest : ℕ
+deepest = 16
+
+-- the count, the columns and the end
+unfoldable pub counted : Version → Parser Layout
+counted v = do
+  n ← u16
+  cs ← columns v (topRule v) (type v (innerRule v) deepest) n []
+  ended
+  pure (record { version = v; columns = cs })
+
+unfoldable pub layoutFrom : Parser Layout
+layoutFrom = do
+  sized
+  v ← version
+  counted v
+
+-- reading a layout
+unfoldable pub layout : Bytes → Res Layout
+layout s = layoutFrom s 0

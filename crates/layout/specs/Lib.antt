@@ -1,0 +1,7 @@
+pub mod Bytes
+pub mod Parser
+pub mod Tree
+pub mod Layout
+pub mod Answers
+pub mod Scan
+pub mod Stands

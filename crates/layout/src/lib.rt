@@ -1,0 +1,8 @@
+// Layouts (document 01): the byte cursor, leaf types, types and columns, reading a layout, and walking over one that was read.
+pub mod bytes;
+pub mod columns;
+pub mod cursor;
+pub mod leaf;
+pub mod read;
+pub mod types;
+pub mod version;

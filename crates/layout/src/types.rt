@@ -1,0 +1,143 @@
+// What a type begins with: its code and what follows up to its columns or its element.
+ghost use mathlib.Core.Path.{_≡_};
+ghost use Rattle.layout.specs.Layout.{unit, plainLeaf, kind, datetimeKind, structKind, arrayKind};
+ghost use Rattle.layout.specs.Answers.{unitRes, headRes, headIn};
+use crate::bytes::Span;
+use crate::cursor::Cursor;
+use crate::cursor::Long;
+use crate::cursor::Short;
+use crate::cursor::Step;
+use crate::cursor::Text;
+use crate::leaf::Leaf;
+use crate::leaf::TimeUnit;
+
+pub enum Unit {
+    Is(TimeUnit, Cursor),
+    Refused(u8),
+}
+
+// The leaf of a code that has nothing after it.
+pub enum PlainLeaf {
+    Known(Leaf),
+    Unknown,
+}
+
+// A leaf type: the kind and where a date-time's zone stands; the zone of any other kind is empty.
+pub struct LeafType {
+    pub leaf: Leaf,
+    pub zone: Span,
+}
+
+pub enum Head {
+    Leaf(LeafType, Cursor),
+    Struct(u16, Cursor),
+    List(Cursor),
+    Array(u32, Cursor),
+    Refused(u8),
+}
+
+pub fn plain_leaf(code: u8) -> PlainLeaf
+    ensures { λ r. ⌜ r ≡ plainLeaf code ⌝ }
+{
+    match code {
+        0 => PlainLeaf::Known(Leaf::Null),
+        1 => PlainLeaf::Known(Leaf::Boolean),
+        2 => PlainLeaf::Known(Leaf::Int8),
+        3 => PlainLeaf::Known(Leaf::Int16),
+        4 => PlainLeaf::Known(Leaf::Int32),
+        5 => PlainLeaf::Known(Leaf::Int64),
+        6 => PlainLeaf::Known(Leaf::UInt8),
+        7 => PlainLeaf::Known(Leaf::UInt16),
+        8 => PlainLeaf::Known(Leaf::UInt32),
+        9 => PlainLeaf::Known(Leaf::UInt64),
+        10 => PlainLeaf::Known(Leaf::Float16),
+        11 => PlainLeaf::Known(Leaf::Float32),
+        12 => PlainLeaf::Known(Leaf::Float64),
+        13 => PlainLeaf::Known(Leaf::Date),
+        14 => PlainLeaf::Unknown,
+        15 => PlainLeaf::Known(Leaf::String),
+        16 => PlainLeaf::Known(Leaf::Binary),
+        17 => PlainLeaf::Known(Leaf::Categorical),
+        _ => PlainLeaf::Unknown,
+    }
+}
+
+impl Cursor {
+    fn unit(self, s: &[u8]) -> Unit
+        ensures { λ r. ⌜ unitRes r ≡ unit (now (s .entry)) (self .at) ⌝ }
+    {
+        match self.byte(s) {
+            Step::Byte(u, c) => match u {
+                0 => Unit::Is(TimeUnit::Nanoseconds, c),
+                1 => Unit::Is(TimeUnit::Microseconds, c),
+                2 => Unit::Is(TimeUnit::Milliseconds, c),
+                _ => Unit::Refused(3),
+            },
+            Step::Refused(k) => Unit::Refused(k),
+        }
+    }
+
+    fn datetime_head(self, s: &[u8]) -> Head
+        ensures { λ r. ⌜ headRes (now (s .entry)) r ≡ datetimeKind (now (s .entry)) (self .at) ⌝ }
+        ensures { λ r. ⌜ headIn (now (s .entry)) r ⌝ }
+    {
+        match self.unit(s) {
+            Unit::Is(u, c) => match c.text(s) {
+                Text::Is(zone, next) => Head::Leaf(
+                    LeafType {
+                        leaf: Leaf::Datetime(u),
+                        zone,
+                    },
+                    next,
+                ),
+                Text::Refused(k) => Head::Refused(k),
+            },
+            Unit::Refused(k) => Head::Refused(k),
+        }
+    }
+
+    fn struct_head(self, s: &[u8]) -> Head
+        ensures { λ r. ⌜ headRes (now (s .entry)) r ≡ structKind (now (s .entry)) (self .at) ⌝ }
+        ensures { λ r. ⌜ headIn (now (s .entry)) r ⌝ }
+    {
+        match self.short(s) {
+            Short::Is(n, c) => Head::Struct(n, c),
+            Short::Refused(k) => Head::Refused(k),
+        }
+    }
+
+    fn array_head(self, s: &[u8]) -> Head
+        ensures { λ r. ⌜ headRes (now (s .entry)) r ≡ arrayKind (now (s .entry)) (self .at) ⌝ }
+        ensures { λ r. ⌜ headIn (now (s .entry)) r ⌝ }
+    {
+        match self.long(s) {
+            Long::Is(w, c) => Head::Array(w, c),
+            Long::Refused(k) => Head::Refused(k),
+        }
+    }
+
+    pub fn head(self, s: &[u8]) -> Head
+        ensures { λ r. ⌜ headRes (now (s .entry)) r ≡ kind (now (s .entry)) (self .at) ⌝ }
+        ensures { λ r. ⌜ headIn (now (s .entry)) r ⌝ }
+    {
+        match self.byte(s) {
+            Step::Byte(code, c) => match code {
+                14 => c.datetime_head(s),
+                18 => c.struct_head(s),
+                19 => Head::List(c),
+                20 => c.array_head(s),
+                _ => match plain_leaf(code) {
+                    PlainLeaf::Known(leaf) => Head::Leaf(
+                        LeafType {
+                            leaf,
+                            zone: Span { start: 0, len: 0 },
+                        },
+                        c,
+                    ),
+                    PlainLeaf::Unknown => Head::Refused(3),
+                },
+            },
+            Step::Refused(k) => Head::Refused(k),
+        }
+    }
+}
