@@ -5,3 +5,5 @@ pub mod FreeRule
 pub mod Reading
 pub mod Top
 pub mod View
+pub mod Finding
+pub mod Whole

@@ -5,3 +5,4 @@ pub mod Layout
 pub mod Answers
 pub mod Scan
 pub mod Stands
+pub mod Find

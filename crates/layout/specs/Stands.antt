@@ -5,7 +5,7 @@ use mathlib.Core.List.{[]}
 use Rattle.layout.specs.Bytes.{Bytes}
 use Rattle.layout.specs.Parser.{Res, ok}
 use Rattle.layout.specs.Tree.{ColumnType, Columns, Layout}
-use Rattle.layout.specs.Layout.{type, columns as columnsOf, layout}
+use Rattle.layout.specs.Layout.{type, columns as columnsOf, deepest, layout}
 use Rattle.layout.specs.declared.version.Version.{Version}
 use Rattle.layout.specs.declared.columns.Siblings.the-variants.{Free}
 
@@ -21,8 +21,7 @@ pub record ColumnsAt (v : Version) (d : ℕ) (s : Bytes) (n at : ℕ) : Type 0 w
   pub end : ℕ
   pub reads : columnsOf v Free (type v Free d) n [] s at ≡ ok columns end
 
--- the bytes are a layout of n columns
+-- the bytes are a layout of n columns, which begin after the mark, the version and the count
 pub record LayoutAt (s : Bytes) (v : Version) (n : ℕ) : Type 0 where
-  pub columns : Columns
-  pub end : ℕ
-  pub reads : layout s ≡ ok (record { version = v; columns = columns }) end
+  pub columns : ColumnsAt v deepest s n 7
+  pub reads : layout s ≡ ok (record { version = v; columns = columns .columns }) (columns .end)

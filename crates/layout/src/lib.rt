@@ -2,6 +2,7 @@
 pub mod bytes;
 pub mod columns;
 pub mod cursor;
+pub mod find;
 pub mod leaf;
 pub mod read;
 pub mod types;

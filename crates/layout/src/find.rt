@@ -1,0 +1,98 @@
+// Looking a column up among its siblings: its position, its label and where its type stands. Hash lookups become scans.
+ghost use mathlib.Core.Path.{_≡_};
+ghost use Rattle.layout.specs.Answers.{labelAt, spanIn};
+ghost use Rattle.layout.specs.Find.{columnNamed, columnOfId, columnAt, findFrom, wantedBy, Finds};
+ghost use Rattle.layout.specs.Stands.{ColumnsAt};
+use crate::bytes::same_bytes;
+use crate::columns::FieldId;
+use crate::columns::Label;
+use crate::columns::Labelled;
+use crate::columns::Position;
+use crate::columns::Siblings;
+use crate::cursor::Cursor;
+use crate::cursor::Moved;
+use crate::read::read_type;
+use crate::version::Version;
+
+pub enum Found {
+    At(Position, Label, Cursor),
+    Absent,
+}
+
+// A name stands beside it, as a slice.
+pub enum Wanted {
+    Name,
+    Id(FieldId),
+    At(Position),
+}
+
+fn is_wanted(s: &[u8], wanted: Wanted, name: &[u8], i: u16, l: Label) -> bool
+    requires { ⌜ spanIn (now s) (l .name) ⌝ }
+    ensures { λ r. ⌜ r ≡ wantedBy wanted (now (name .entry)) i (labelAt (now (s .entry)) l) ⌝ }
+{
+    match wanted {
+        Wanted::Name => {
+            let a = l.name.start;
+            same_bytes(&s[a..a + l.name.len], name)
+        }
+        Wanted::Id(id) => l.id.0 == id.0,
+        Wanted::At(k) => i == k.0,
+    }
+}
+
+// The first of `n` columns from a cursor that is wanted.
+pub fn find_column(
+    s: &[u8],
+    v: Version,
+    depth: u8,
+    n: u16,
+    c: Cursor,
+    wanted: Wanted,
+    name: &[u8],
+) -> Found
+    requires { ⌜ ColumnsAt v depth (now s) n (c .at) ⌝ }
+    ensures { λ r. ⌜ ((P : ColumnsAt v depth (now (s .entry)) n (c .at)) → Finds v depth (now (s .entry)) (findFrom (wantedBy wanted (now (name .entry))) 0 (P .columns)) r) ⌝ }
+{
+    let mut at = c.at;
+    let mut i: u16 = 0;
+    while i < n {
+        let d = Cursor { at };
+        match d.label(s, v) {
+            Labelled::Is(l, next) => {
+                if is_wanted(s, wanted, name, i, l) {
+                    return Found::At(Position(i), l, next);
+                }
+                match read_type(s, v, Siblings::Free, depth, next) {
+                    Moved::To(e) => {
+                        at = e.at;
+                    }
+                    Moved::Refused(_) => return Found::Absent,
+                }
+            }
+            Labelled::Refused(_) => return Found::Absent,
+        }
+        i += 1;
+    }
+    Found::Absent
+}
+
+pub fn column_named(s: &[u8], v: Version, depth: u8, n: u16, c: Cursor, name: &[u8]) -> Found
+    requires { ⌜ ColumnsAt v depth (now s) n (c .at) ⌝ }
+    ensures { λ r. ⌜ ((P : ColumnsAt v depth (now (s .entry)) n (c .at)) → Finds v depth (now (s .entry)) (columnNamed (now (name .entry)) (P .columns)) r) ⌝ }
+{
+    find_column(s, v, depth, n, c, Wanted::Name, name)
+}
+
+pub fn column_of_id(s: &[u8], v: Version, depth: u8, n: u16, c: Cursor, id: FieldId) -> Found
+    requires { ⌜ ColumnsAt v depth (now s) n (c .at) ⌝ }
+    ensures { λ r. ⌜ ((P : ColumnsAt v depth (now (s .entry)) n (c .at)) → Finds v depth (now (s .entry)) (columnOfId id (P .columns)) r) ⌝ }
+{
+    find_column(s, v, depth, n, c, Wanted::Id(id), &s[..0])
+}
+
+pub fn column_at(s: &[u8], v: Version, depth: u8, n: u16, c: Cursor, k: Position) -> Found
+    requires { ⌜ ColumnsAt v depth (now s) n (c .at) ⌝ }
+    ensures { λ r. ⌜ ((P : ColumnsAt v depth (now (s .entry)) n (c .at)) → Finds v depth (now (s .entry)) (columnAt k (P .columns)) r) ⌝ }
+{
+    find_column(s, v, depth, n, c, Wanted::At(k), &s[..0])
+}
