@@ -1,0 +1,13 @@
+-- What an exported call answers: a refusal's number and place, or 0 and what is accepted, in one number of 64 bits.
+use Prim.Native.Nat.{ℕ, _+_, _*_, _^_}
+use Rattle.layout.specs.Parser.{Res, refuse, ok}
+use Rattle.layout.specs.Tree.{Layout}
+
+-- the number (0: accepted) in the upper half; in the lower the place of a refusal, the length of a result, or 0
+abbrev pub answer : ℕ → ℕ → ℕ
+answer number rest = number * 2 ^ 32 + rest
+
+-- reading one layout: its place is 1
+abbrev pub readAnswer : Res Layout → ℕ
+readAnswer (refuse n) = answer n 1
+readAnswer (ok l at) = answer 0 0
