@@ -7,3 +7,4 @@ pub mod Top
 pub mod View
 pub mod Finding
 pub mod Whole
+pub mod Samples
