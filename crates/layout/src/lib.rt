@@ -7,3 +7,4 @@ pub mod leaf;
 pub mod read;
 pub mod types;
 pub mod version;
+pub mod walk;
