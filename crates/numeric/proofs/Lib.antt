@@ -1,0 +1,12 @@
+pub mod Law
+pub mod Bounds
+pub mod Agrees
+pub mod Samples
+pub mod Nearest
+pub mod Midpoint
+pub mod Exact
+pub mod Shifts
+pub mod Conversions
+pub mod TwosComplement
+pub mod Units
+pub mod Beyond

@@ -1,0 +1,17 @@
+-- `numeric::integers::number` meets its contract. By whether the kind has a sign. Assumes nothing.
+use mathlib.Core.Path.{sym, _∙_}
+use Rattle.numeric.proofs.TwosComplement.{bits-at, number-signed, number-unsigned}
+use borrow.Author.Needs.{needs}
+use Rattle.numeric.proofs.integers.number.Statement.{statement}
+use Rattle.numeric.proofs.integers.number.Tie as tie
+
+pub number-spec : {M : Type 1} → statement M
+number-spec =
+    tie.close
+    (tie.spec
+    (λ c κs. search needs)
+    (λ c κs. search needs)
+    (λ c κs. let a = c .before .before .before .args in bits-at (a .i) (c .before .before .bits .result) (c .before .before .bits .ensures))
+    (λ c. let a = c .before .before .before .before .args in c .signed-number .ensures ∙ number-signed (a .i) (c .before .before .before .bits .result) (a .b) (c .before .before .before .bits .ensures) (sym (c .before .before .is-signed .ensures) ∙ c .before .if1 .taken))
+    (λ c κs. let a = c .before .before .before .args in bits-at (a .i) (c .before .before .bits .result) (c .before .before .bits .ensures))
+    (λ c. let a = c .before .before .before .before .args in number-unsigned (a .i) (c .before .before .before .bits .result) (a .b) (c .low .result) (c .before .before .before .bits .ensures) (sym (c .before .before .is-signed .ensures) ∙ c .before .if1 .left) (c .low .ensures)))
