@@ -1,0 +1,15 @@
+pub mod Agree
+pub mod Casts
+pub mod Codes
+pub mod EachLeaf
+pub mod Interval
+pub mod Keys
+pub mod LeafTypes
+pub mod Loosen
+pub mod OfClass
+pub mod Options
+pub mod PairRule
+pub mod Ranges
+pub mod Samples
+pub mod Utc
+pub mod Way

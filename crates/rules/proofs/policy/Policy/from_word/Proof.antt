@@ -1,0 +1,20 @@
+-- `rules::policy::Policy::from_word` meets its contract: a field at a time.
+use Prim.Native.Nat.{ℕ, _/_}
+use mathlib.Core.Path.{_≡_}
+use native.Mathlib.Omega.{arith}
+use borrow.Author.Needs.{needs}
+use Rattle.rules.proofs.policy.Policy.from_word.Statement.{statement}
+use Rattle.rules.proofs.policy.Policy.from_word.Tie as tie
+
+-- bit 0 is not divided
+by-one : (n : ℕ) → n / 1 ≡ n
+by-one n = omega arith
+
+pub from-word-spec : {M : Type 1} → statement M
+from-word-spec =
+    tie.close
+    (tie.spec
+    (λ c κs. search needs)
+    (λ c κs. search needs)
+    (λ c κs. search needs)
+    (λ c. rw (c .insert-if2 .ensures, c .before .ignore-if .ensures, c .before .before .insert-if .ensures, by-one (c .before .before .before .args .word))))

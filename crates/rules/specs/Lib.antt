@@ -1,0 +1,10 @@
+pub mod Choice
+pub mod Policies
+pub mod Outcomes
+pub mod Zones
+pub mod Kinds
+pub mod Classes
+pub mod Promotion
+pub mod Chain
+pub mod Rules
+pub mod Pairs
