@@ -1,0 +1,385 @@
+#!/usr/bin/env python3
+# Makes the stored list of cases that the program `cases` replays, and what the program must write.
+#
+#   compare/cases.py [BASE]
+#
+# BASE has answers of a second implementation, one JSON object a line (default: ../shared/vectors/base.jsonl beside the repository).
+# Its `layout` cases are taken over. Cases at the edges of document 01's rules are added, whose answers come from the reader below.
+# The reader is written from document 01 and shares nothing with the library; where it disagrees with an answer of BASE, nothing is
+# written and the exit status is 1. Written: crates/cases/stdin and crates/cases/stdout.
+import json
+import os
+import sys
+
+ROOT = os.path.dirname(os.path.dirname(os.path.abspath(__file__)))
+STORED = os.path.join(ROOT, "crates", "cases")
+BASE = os.path.join(os.path.dirname(ROOT), "shared", "vectors", "base.jsonl")
+
+HEAD = """\
+# Cases of the interface, one a line; compare/cases.py makes this file, and says where the answers come from.
+# A line: the call, its arguments, and the answer as two words: the number of the refusal (0: accepted) and the rest.
+# Bytes are hexadecimal, `-` where there are none; numbers are decimal.
+# The rest is the place of a refusal, the result's bytes of an accepted build or run, and 0 of an accepted reading or check.
+#   layout <layout> <number> <rest>
+#   build_name <policy> <buffer's length> <incoming> <target> <number> <rest>
+#   build_number <policy> <source index> <buffer's length> <incoming> <target> <defaults> <number> <rest>
+#   check <incoming> <target> <plan> <number> <rest>
+#   run <buffer's length> <incoming> <target> <plan> <record> <number> <rest>
+# `#` starts a comment.
+"""
+
+
+# --- the reader of layouts, by document 01 -------------------------------------------------------------------------------------
+
+
+class Refused(Exception):
+    pass
+
+
+class Reader:
+    def __init__(self, data, version):
+        self.data, self.version, self.at = data, version, 5
+
+    def take(self, n):
+        if len(self.data) - self.at < n:
+            raise Refused(2)
+        self.at += n
+        return self.data[self.at - n : self.at]
+
+    def number(self, n):
+        value = 0
+        for shift in range(n):  # byte by byte
+            value += self.take(1)[0] << (8 * shift)
+        return value
+
+    def text(self):
+        n = self.number(1)
+        if n > 63:
+            raise Refused(4)
+        return self.take(n)
+
+    def columns(self, count, depth, top):
+        names, ids = set(), set()
+        for _ in range(count):
+            name = self.text()
+            ident = self.number(4) if self.version == 2 else None
+            self.type(depth)
+            if self.version == 2:
+                if ident in ids:
+                    raise Refused(5)
+                ids.add(ident)
+            elif top:
+                if name in names:
+                    raise Refused(5)
+                names.add(name)
+
+    def type(self, depth):
+        if depth > 16:
+            raise Refused(4)
+        code = self.number(1)
+        if code > 20:
+            raise Refused(3)
+        if code == 14:
+            if self.number(1) > 2:
+                raise Refused(3)
+            self.text()
+        elif code == 18:
+            self.columns(self.number(2), depth + 1, False)
+        elif code in (19, 20):
+            if code == 20:
+                self.number(4)
+            if self.version == 2:
+                self.text()
+                self.number(4)
+            self.type(depth + 1)
+
+
+# The number of the refusal, or 0.
+def read(data):
+    if len(data) > 16384:
+        return 4
+    if data[:5] not in (b"LAY\x01\x00", b"LAY\x02\x00"):
+        return 1
+    reader = Reader(data, data[3])
+    try:
+        reader.columns(reader.number(2), 1, True)
+    except Refused as refusal:
+        return refusal.args[0]
+    return 6 if reader.at < len(data) else 0
+
+
+# --- layouts to read -----------------------------------------------------------------------------------------------------------
+
+
+def u16(n):
+    return n.to_bytes(2, "little")
+
+
+def u32(n):
+    return n.to_bytes(4, "little")
+
+
+def lay(version, count, *columns):
+    return b"LAY" + u16(version) + u16(count) + b"".join(columns)
+
+
+# A column with an id where one is given.
+def col(name, kind, ident=None):
+    return bytes([len(name)]) + name + (b"" if ident is None else u32(ident)) + kind
+
+
+def struct(*columns):
+    return b"\x12" + u16(len(columns)) + b"".join(columns)
+
+
+def datetime(unit, zone):
+    return bytes([14, unit, len(zone)]) + zone
+
+
+INT8 = b"\x02"
+LIST = b"\x13"
+
+
+def array(width):
+    return b"\x14" + u32(width)
+
+
+# A type of so many levels: in version 2 each element has a label.
+def nested(version, depth, outer, leaf=INT8):
+    label = b"" if version == 1 else col(b"e", b"", 9)
+    return (outer + label) * (depth - 1) + leaf
+
+
+def nested_structs(version, depth, leaf=INT8):
+    label = col(b"f", b"", None if version == 1 else 9)
+    return (b"\x12" + u16(1) + label) * (depth - 1) + leaf
+
+
+def heads():
+    yield b""
+    for n in range(1, 6):
+        yield b"LAY\x01\x00"[:n]
+        yield b"LAY\x02\x00"[:n]
+    for at in range(5):
+        for flip in (1, 0x20, 0x80):
+            mark = bytearray(lay(1, 0))
+            mark[at] ^= flip
+            yield bytes(mark)
+    for version in (0, 1, 2, 3, 4, 255, 256, 257, 258, 513, 65535):
+        yield lay(version, 0)
+        yield lay(version, 1, col(b"a", INT8))
+        yield lay(version, 1, col(b"a", INT8, 7))
+    yield b"YAL" + lay(1, 0)[3:]
+    yield b"DEF" + lay(1, 0)[3:]
+    yield b"PLN" + lay(1, 0)[3:]
+
+
+# Every code and unit, alone and with some bytes after it.
+def codes():
+    for version, ident in ((1, None), (2, 7)):
+        for code in range(256):
+            yield lay(version, 1, col(b"a", bytes([code]), ident))
+        for code in list(range(22)) + [255]:
+            yield lay(version, 1, col(b"a", bytes([code, 0, 0]), ident))
+        for unit in (0, 1, 2, 3, 4, 127, 128, 255):
+            yield lay(version, 1, col(b"a", datetime(unit, b""), ident))
+            yield lay(version, 1, col(b"a", datetime(unit, b"UTC"), ident))
+        for count in (0, 1, 2, 65535):
+            yield lay(version, 1, col(b"a", b"\x12" + u16(count), ident))
+        for width in (0, 1, 65536, 4294967295):
+            yield lay(version, 1, col(b"a", array(width) + nested(version, 1, b""), ident))
+            label = b"" if version == 1 else col(b"e", b"", 4294967295)
+            yield lay(version, 1, col(b"a", array(width) + label + INT8, ident))
+
+
+# Names and zones of every length that matters, whole, cut and followed by bytes.
+def lengths():
+    for version, ident in ((1, None), (2, 7)):
+        for n in (0, 1, 62, 63, 64, 65, 127, 128, 255):
+            yield lay(version, 1, bytes([n]))
+            yield lay(version, 1, bytes([n]) + b"n" * n)
+            yield lay(version, 1, col(b"n" * n, INT8, ident))
+            yield lay(version, 1, col(b"n" * n, INT8, ident))[:-1]
+            yield lay(version, 1, col(b"a", struct(col(b"n" * n, INT8, ident)), ident))
+            yield lay(version, 1, col(b"a", b"\x0e\x01" + bytes([n]), ident))
+            yield lay(version, 1, col(b"a", datetime(1, b"z" * n), ident))
+            yield lay(version, 1, col(b"a", datetime(1, b"z" * n), ident))[:-1]
+            yield lay(version, 1, col(b"a", datetime(1, b"z" * n) + b"\x00", ident))
+            if version == 2:
+                yield lay(2, 1, col(b"a", LIST + col(b"n" * n, INT8, 8), 7))
+        yield lay(version, 1, col(bytes(range(63)), datetime(0, bytes(range(193, 256))), ident))
+
+
+def depths():
+    for version, ident in ((1, None), (2, 7)):
+        for depth in (1, 2, 15, 16, 17, 18):
+            shapes = [nested(version, depth, LIST), nested(version, depth, array(2)), nested_structs(version, depth)]
+            # the bytes end before the innermost code, after it, and go on
+            for shape in shapes:
+                for kind in (shape[:-1], shape, shape[:-1] + b"\xff", shape[:-1] + datetime(3, b""), shape + b"\x00"):
+                    yield lay(version, 1, col(b"a", kind, ident))
+        # nothing is read at depth 17: neither a bad code nor an end is seen before it
+        yield lay(version, 1, col(b"a", nested(version, 17, LIST, b"\x15"), ident))
+        # a struct with no fields has no deeper type
+        yield lay(version, 1, col(b"a", nested(version, 16, LIST, struct()), ident))
+        yield lay(version, 1, col(b"a", nested(version, 17, LIST, struct()), ident))
+        # a struct at depth 16 whose field's name is too long, or missing
+        yield lay(version, 1, col(b"a", nested(version, 16, LIST, b"\x12\x01\x00\x40"), ident))
+        yield lay(version, 1, col(b"a", nested(version, 16, LIST, b"\x12\x01\x00"), ident))
+        # deep, and after it another column
+        deep = [col(b"a", nested_structs(version, 16), ident), col(b"b", nested(version, 16, LIST), ident and 8)]
+        yield lay(version, 2, *deep)
+        yield lay(version, 2, *deep[::-1])
+
+
+# Names repeat at the top (refused in version 1 alone) and inside (allowed); ids repeat anywhere (refused).
+def siblings():
+    a, b = col(b"a", INT8), col(b"b", INT8)
+    for columns in ([a, a], [a, b, a], [a, b, b], [a, b], [col(b"", INT8)] * 2, [a, col(b"a", LIST + INT8)], [a, col(b"A", INT8)]):
+        yield lay(1, len(columns), *columns)
+        yield lay(1, 1, col(b"s", struct(*columns)))
+        yield lay(1, 1, col(b"s", LIST + struct(*columns)))
+    yield lay(1, 2, col(b"ab", INT8), col(b"a", INT8))
+    yield lay(1, 2, col(b"a", struct(a)), b)
+    yield lay(1, 2, col(b"x" * 63, INT8), col(b"x" * 63, INT8))
+    yield lay(1, 2, col(b"x" * 63, INT8), col(b"x" * 62 + b"y", INT8))
+    # the second column is read before the names are compared
+    for kind in (b"", b"\xff", datetime(3, b""), nested(1, 17, LIST), struct(a), struct(a)[:-1]):
+        yield lay(1, 2, a, col(b"a", kind))
+    # a repeat is found before the next column and before what is left over
+    yield lay(1, 3, a, a)
+    yield lay(1, 3, a, a, b"\xff")
+    yield lay(1, 2, a, a, b"\x00")
+    for ids in ([1, 1], [1, 2, 1], [1, 2, 2], [1, 2], [0, 0], [4294967295] * 2, [1, 257], [1, 65537], [1, 16777217], [256, 1]):
+        same = [col(b"a", INT8, i) for i in ids]
+        other = [col(b"abc"[:n], INT8, i) for n, i in enumerate(ids)]
+        for columns in (same, other):
+            yield lay(2, len(columns), *columns)
+            yield lay(2, 1, col(b"s", struct(*columns), 1))
+            yield lay(2, 1, col(b"s", LIST + col(b"e", struct(*columns), 1), 1))
+            yield lay(2, 1, col(b"s", array(3) + col(b"e", struct(*columns), 1), 1))
+            yield lay(2, 1, col(b"s", struct(col(b"t", struct(*columns), 1)), 1))
+    # an id may stand again at another level or inside a sibling
+    yield lay(2, 2, col(b"a", struct(col(b"b", INT8, 1)), 1), col(b"c", struct(col(b"d", INT8, 1)), 2))
+    for kind in (b"", b"\xff", datetime(3, b""), nested(2, 17, LIST), struct(col(b"b", INT8, 1)), struct(col(b"b", INT8, 1))[:-1]):
+        yield lay(2, 2, col(b"a", INT8, 1), col(b"c", kind, 1))
+    yield lay(2, 3, col(b"a", INT8, 1), col(b"a", INT8, 1))
+    yield lay(2, 2, col(b"a", INT8, 1), col(b"a", INT8, 1), b"\x00")
+
+
+# Counts that do not agree with what follows.
+def counts():
+    for version, ident in ((1, None), (2, 7)):
+        for count in (0, 1, 2, 3, 255, 256, 65535):
+            yield lay(version, count)
+            yield lay(version, count, col(b"a", INT8, ident))
+            yield lay(version, count, col(b"a", INT8, ident), col(b"b", INT8, ident and 8))
+            yield lay(version, 1, col(b"s", b"\x12" + u16(count) + col(b"a", INT8, ident), ident))
+    yield lay(1, 65535, b"".join(col(u16(n), INT8) for n in range(300)))
+    yield lay(1, 300, b"".join(col(u16(n), INT8) for n in range(300)))
+
+
+# Each prefix of layouts that have a bit of everything, and each with a byte after it.
+def prefixes():
+    whole = [
+        lay(
+            1,
+            3,
+            col(b"at", datetime(1, b"UTC")),
+            col(b"s", struct(col(b"x", LIST + INT8), col(b"x", array(3) + struct(col(b"", b"\x0f"))))),
+            col(b"", b"\x00"),
+        ),
+        lay(
+            2,
+            3,
+            col(b"at", datetime(2, b"Z"), 1),
+            col(b"s", struct(col(b"x", LIST + col(b"e", INT8, 5), 3), col(b"x", array(3) + col(b"", struct(), 6), 4)), 2),
+            col(b"", b"\x11", 0),
+        ),
+    ]
+    for one in whole:
+        for n in range(len(one) + 1):
+            yield one[:n]
+        yield one + b"\x00"
+        yield one + one
+
+
+# Layouts about the limit of 16,384 bytes; past it nothing else is looked at.
+def limits():
+    for version in (1, 2):
+        each = [col(u16(n) + b"c" * 60, INT8, None if version == 1 else n) for n in range(300)]
+        used = 16384 - 7
+        fit = used // len(each[0])
+        rest = used - fit * len(each[0])
+        room = rest - 2 if version == 1 else rest - 6
+        last = col(b"l" * room, INT8, None if version == 1 else 999)
+        full = lay(version, fit + 1, *each[:fit], last)
+        assert len(full) == 16384, len(full)
+        yield full
+        yield full + b"\x00"
+        if version == 1:
+            yield full[:-1]
+            yield full[:-1] + b"\xff"
+            yield lay(1, fit + 2, *each[:fit], last)
+            yield b"LAY" + u16(3) + full[5:]
+            yield b"LAY" + u16(3) + full[5:] + b"\x00"
+    yield b"\x00" * 16384
+    yield b"\x00" * 16385
+    # the most columns: each has no name but its id (version 2), or a name of two bytes
+    yield lay(2, 2729, *(col(b"", b"\x00", n) for n in range(2729)))
+    yield lay(1, 4094, *(col(u16(n), b"\x00") for n in range(4094)))
+    yield lay(1, 4094, *(col(u16(n), b"\x00") for n in range(4093)), col(u16(0), b"\x00"))
+
+
+GROUPS = [
+    ("marks and versions", heads),
+    ("type codes and units", codes),
+    ("lengths of names and zones", lengths),
+    ("depth", depths),
+    ("repeated siblings", siblings),
+    ("counts", counts),
+    ("ends at every byte", prefixes),
+    ("16,384 bytes", limits),
+]
+
+
+# --- the list ------------------------------------------------------------------------------------------------------------------
+
+
+def line(data, number):
+    return "layout %s %d %d" % (data.hex() or "-", number, 1 if number else 0)
+
+
+def taken(path):
+    lines = []
+    for number, text in enumerate(open(path), 1):
+        case = json.loads(text)
+        if case["op"] != "layout":
+            continue
+        data, out = bytes.fromhex(case["in"]["layout"]), case["out"]
+        due = 0 if out == {"ok": True} else out["refuse"]
+        if line(data, read(data)) != line(data, due) or out.get("place", 0) != (1 if due else 0):
+            sys.exit("%s:%d: the reader answers %d, the list says %r" % (path, number, read(data), out))
+        lines.append(line(data, due))
+    return lines
+
+
+def main():
+    lines = taken(sys.argv[1] if len(sys.argv) > 1 else BASE)
+    text = [HEAD, "# a second implementation's answers\n"] + [one + "\n" for one in lines]
+    seen = set(lines)
+    for title, group in GROUPS:
+        text.append("# %s\n" % title)
+        for data in group():
+            one = line(data, read(data))
+            if one not in seen:
+                seen.add(one)
+                lines.append(one)
+                text.append(one + "\n")
+    with open(os.path.join(STORED, "stdin"), "w") as stored:
+        stored.write("".join(text))
+    with open(os.path.join(STORED, "stdout"), "w") as stored:
+        stored.write("layout: %d agree\n%d cases, 0 differ\n" % (len(lines), len(lines)))
+
+
+main()

@@ -1,0 +1,25 @@
+// Replays a stored list of cases and compares: standard input has a case a line; standard output gets a line for each case that
+// differs, a line for each kind of case and a last line with the counts. compare/cases.py makes the list, whose head says its form.
+mod case;
+mod replay;
+mod report;
+mod text;
+
+ghost use mathlib.Core.Path.{_≡_};
+ghost use lib.ListN.{length};
+use libc::STDIN_FILENO;
+
+// A list that fills this buffer may have been cut off, which the report says.
+const SPACE: usize = 4194304;
+
+fn space() -> [u8; SPACE]
+    ensures { λ r. ⌜ 4194304 ≡ length r ⌝ }
+{
+    [0; SPACE]
+}
+
+fn main() {
+    let mut list = space();
+    let n = io::read_full(STDIN_FILENO, &mut list);
+    report::summary(replay::replay(&list[..n]), n < SPACE);
+}

@@ -1,0 +1,139 @@
+// What was counted, and the lines that are written.
+ghost use mathlib.Core.Path.{_≡_};
+ghost use Prim.Native.Nat.{_+_, min};
+use crate::case::Kind;
+use crate::case::Outcome;
+use crate::case::answer_word;
+use crate::text::from_word;
+use libc::STDOUT_FILENO;
+
+// How many lines there were, how many cases of each kind agreed, and how many lines differ.
+pub struct Tally {
+    pub lines: u64,
+    pub layout: u64,
+    pub differ: u64,
+}
+
+// One more, as far as there is one.
+fn more(n: u64) -> u64
+    ensures { λ r. ⌜ r ≡ min (n + 1) 18446744073709551615 ⌝ }
+{
+    if n < 18446744073709551615 { n + 1 } else { n }
+}
+
+impl Tally {
+    pub fn new() -> Self
+        ensures { λ r. ⌜ (r .lines ≡ 0) × (r .layout ≡ 0) × (r .differ ≡ 0) ⌝ }
+    {
+        Tally {
+            lines: 0,
+            layout: 0,
+            differ: 0,
+        }
+    }
+
+    pub fn line(self) -> Self
+        ensures { λ r. ⌜ (r .layout ≡ self .layout) × (r .differ ≡ self .differ) ⌝ }
+    {
+        Tally {
+            lines: more(self.lines),
+            layout: self.layout,
+            differ: self.differ,
+        }
+    }
+
+    fn agrees(self, kind: Kind) -> Self
+        ensures { λ r. ⌜ (r .lines ≡ self .lines) × (r .differ ≡ self .differ) ⌝ }
+    {
+        match kind {
+            Kind::Layout => Tally {
+                lines: self.lines,
+                layout: more(self.layout),
+                differ: self.differ,
+            },
+            Kind::Unknown => self,
+        }
+    }
+
+    fn differs(self) -> Self
+        ensures { λ r. ⌜ (r .lines ≡ self .lines) × (r .layout ≡ self .layout) ⌝ }
+    {
+        Tally {
+            lines: self.lines,
+            layout: self.layout,
+            differ: more(self.differ),
+        }
+    }
+
+    // Counts an outcome, and writes a line unless the case agrees.
+    pub fn with(self, kind: Kind, outcome: Outcome, line: &[u8]) -> Self {
+        match outcome {
+            Outcome::Agrees => self.agrees(kind),
+            Outcome::Differs(given) => {
+                difference(self.lines, given, from_word(line, answer_word(kind)));
+                self.differs()
+            }
+            Outcome::Malformed => {
+                no_case(self.lines);
+                self.differs()
+            }
+        }
+    }
+}
+
+fn put(text: &[u8]) {
+    io::write_all(STDOUT_FILENO, text);
+}
+
+fn put_number(n: u64) {
+    io::print_decimal(STDOUT_FILENO, n);
+}
+
+// line 7: answered 3 1, expected 2 1
+fn difference(line_number: u64, given: u64, expected: &[u8]) {
+    put(b"line ");
+    put_number(line_number);
+    put(b": answered ");
+    put_number(given / 0x1_0000_0000);
+    put(b" ");
+    put_number(given % 0x1_0000_0000);
+    put(b", expected ");
+    put(expected);
+    put(b"\n");
+}
+
+fn no_case(line_number: u64) {
+    put(b"line ");
+    put_number(line_number);
+    put(b": no case\n");
+}
+
+fn kind_line(name: &[u8], agreed: u64) {
+    put(name);
+    put(b": ");
+    put_number(agreed);
+    put(b" agree\n");
+}
+
+// The sum, as far as there is one.
+fn sum(a: u64, b: u64) -> u64
+    ensures { λ r. ⌜ r ≡ min (a + b) 18446744073709551615 ⌝ }
+{
+    if a <= 18446744073709551615 - b {
+        a + b
+    } else {
+        18446744073709551615
+    }
+}
+
+// `whole` says that the list was read to its end.
+pub fn summary(t: Tally, whole: bool) {
+    if !whole {
+        put(b"the list is longer than the buffer\n");
+    }
+    kind_line(b"layout", t.layout);
+    put_number(sum(t.layout, t.differ));
+    put(b" cases, ");
+    put_number(t.differ);
+    put(b" differ\n");
+}

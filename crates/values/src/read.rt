@@ -1,0 +1,166 @@
+// Reading a value by its type, which stands in a layout that was read before.
+ghost use mathlib.Core.Path.{_≡_};
+ghost use Rattle.layout.specs.Tree.{dtypeOf, fieldsOf};
+ghost use Rattle.layout.specs.Stands.{TypeAt, ColumnsAt};
+ghost use Rattle.layout.specs.Answers.{movedOf};
+ghost use Rattle.values.specs.Reading.{value, values, content, listContent, times};
+ghost use Rattle.values.specs.Answers.{valueMoved};
+use crate::leaf::Presence;
+use crate::leaf::read_leaf;
+use crate::leaf::read_presence;
+use layout::columns::Labelled;
+use layout::cursor::Cursor;
+use layout::cursor::Moved;
+use layout::cursor::Short;
+use layout::types::Head;
+use layout::version::Version;
+use layout::walk::skip_type;
+
+// Where the type ends and where the value ends.
+pub enum ValueRead {
+    To(Cursor, Cursor),
+    Refused(u8),
+}
+
+// A value that ends at `c`, of a type that is not passed yet.
+fn pass_type(lay: &[u8], v: Version, depth: u8, t: Cursor, c: Cursor) -> ValueRead
+    requires { ⌜ TypeAt v depth (now lay) (t .at) ⌝ }
+    ensures { λ r. ⌜ ((P : TypeAt v depth (now (lay .entry)) (t .at)) → r ≡ ValueRead.To (record { at = P .end }) c) ⌝ }
+{
+    ValueRead::To(skip_type(lay, v, depth, t), c)
+}
+
+pub fn read_value(lay: &[u8], v: Version, depth: u8, t: Cursor, rec: &[u8], c: Cursor) -> ValueRead
+    requires { ⌜ TypeAt v depth (now lay) (t .at) ⌝ }
+    ensures { λ r. ⌜ ((P : TypeAt v depth (now (lay .entry)) (t .at)) → r ≡ valueMoved (P .end) (value (dtypeOf (P .tree)) (now (rec .entry)) (c .at))) ⌝ }
+{
+    match read_presence(rec, c) {
+        Presence::Null(d) => pass_type(lay, v, depth, t, d),
+        Presence::Present(d) => read_content(lay, v, depth, t, rec, d),
+        Presence::Refused(k) => ValueRead::Refused(k),
+    }
+}
+
+// What follows the presence byte of a value that is present.
+pub fn read_content(
+    lay: &[u8],
+    v: Version,
+    depth: u8,
+    t: Cursor,
+    rec: &[u8],
+    c: Cursor,
+) -> ValueRead
+    requires { ⌜ TypeAt v depth (now lay) (t .at) ⌝ }
+    ensures { λ r. ⌜ ((P : TypeAt v depth (now (lay .entry)) (t .at)) → r ≡ valueMoved (P .end) (content (dtypeOf (P .tree)) (now (rec .entry)) (c .at))) ⌝ }
+{
+    match t.head(lay) {
+        Head::Leaf(l, e) => {
+            let leaf = l.leaf;
+            match read_leaf(rec, leaf, c) {
+                Moved::To(d) => ValueRead::To(e, d),
+                Moved::Refused(k) => ValueRead::Refused(k),
+            }
+        }
+        Head::Struct(n, e) => read_fields(lay, v, depth - 1, n, e, rec, c),
+        Head::List(e) => match e.element_label(lay, v) {
+            Labelled::Is(_, f) => read_list(lay, v, depth - 1, f, rec, c),
+            Labelled::Refused(k) => ValueRead::Refused(k),
+        },
+        Head::Array(w, e) => match e.element_label(lay, v) {
+            Labelled::Is(_, f) => read_elements(lay, v, depth - 1, w, f, rec, c),
+            Labelled::Refused(k) => ValueRead::Refused(k),
+        },
+        Head::Refused(k) => ValueRead::Refused(k),
+    }
+}
+
+// A value for each of `n` columns.
+pub fn read_fields(
+    lay: &[u8],
+    v: Version,
+    depth: u8,
+    n: u16,
+    t: Cursor,
+    rec: &[u8],
+    c: Cursor,
+) -> ValueRead
+    requires { ⌜ ColumnsAt v depth (now lay) n (t .at) ⌝ }
+    ensures { λ r. ⌜ ((P : ColumnsAt v depth (now (lay .entry)) n (t .at)) → r ≡ valueMoved (P .end) (values (fieldsOf (P .columns)) (now (rec .entry)) (c .at))) ⌝ }
+{
+    let mut at = t.at;
+    let mut to = c.at;
+    let mut i: u16 = 0;
+    while i < n {
+        let d = Cursor { at };
+        match d.label(lay, v) {
+            Labelled::Is(_, e) => {
+                let b = Cursor { at: to };
+                match read_value(lay, v, depth, e, rec, b) {
+                    ValueRead::To(f, g) => {
+                        at = f.at;
+                        to = g.at;
+                    }
+                    ValueRead::Refused(k) => return ValueRead::Refused(k),
+                }
+            }
+            Labelled::Refused(k) => return ValueRead::Refused(k),
+        }
+        i += 1;
+    }
+    ValueRead::To(Cursor { at }, Cursor { at: to })
+}
+
+// A count and as many values of one type.
+fn read_list(lay: &[u8], v: Version, depth: u8, t: Cursor, rec: &[u8], c: Cursor) -> ValueRead
+    requires { ⌜ TypeAt v depth (now lay) (t .at) ⌝ }
+    ensures { λ r. ⌜ ((P : TypeAt v depth (now (lay .entry)) (t .at)) → r ≡ valueMoved (P .end) (listContent (value (dtypeOf (P .tree))) (now (rec .entry)) (c .at))) ⌝ }
+{
+    match c.short(rec) {
+        Short::Is(n, d) => read_elements(lay, v, depth, n as u32, t, rec, d),
+        Short::Refused(k) => ValueRead::Refused(k),
+    }
+}
+
+// One element, whose type is not passed.
+fn read_element(lay: &[u8], v: Version, depth: u8, t: Cursor, rec: &[u8], c: Cursor) -> Moved
+    requires { ⌜ TypeAt v depth (now lay) (t .at) ⌝ }
+    ensures { λ r. ⌜ ((P : TypeAt v depth (now (lay .entry)) (t .at)) → r ≡ movedOf (value (dtypeOf (P .tree)) (now (rec .entry)) (c .at))) ⌝ }
+{
+    match read_presence(rec, c) {
+        Presence::Null(d) => Moved::To(d),
+        Presence::Present(d) => match read_content(lay, v, depth, t, rec, d) {
+            ValueRead::To(_, e) => Moved::To(e),
+            ValueRead::Refused(k) => Moved::Refused(k),
+        },
+        Presence::Refused(k) => Moved::Refused(k),
+    }
+}
+
+// `n` values of one type, which is passed once at the end and not at each null.
+fn read_elements(
+    lay: &[u8],
+    v: Version,
+    depth: u8,
+    n: u32,
+    t: Cursor,
+    rec: &[u8],
+    c: Cursor,
+) -> ValueRead
+    requires { ⌜ TypeAt v depth (now lay) (t .at) ⌝ }
+    ensures { λ r. ⌜ ((P : TypeAt v depth (now (lay .entry)) (t .at)) → r ≡ valueMoved (P .end) (times n (value (dtypeOf (P .tree))) (now (rec .entry)) (c .at))) ⌝ }
+{
+    let mut at = c.at;
+    let mut i: u32 = 0;
+    while i < n {
+        let d = Cursor { at };
+        match read_element(lay, v, depth, t, rec, d) {
+            Moved::To(e) => {
+                at = e.at;
+            }
+            Moved::Refused(k) => return ValueRead::Refused(k),
+        }
+        i += 1;
+    }
+    let end = Cursor { at };
+    pass_type(lay, v, depth, t, end)
+}
