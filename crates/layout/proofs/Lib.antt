@@ -8,3 +8,4 @@ pub mod View
 pub mod Finding
 pub mod Whole
 pub mod Samples
+pub mod OfBytes

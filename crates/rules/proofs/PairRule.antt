@@ -22,7 +22,8 @@ use Rattle.rules.specs.Pairs.{pairRule}
 use Rattle.rules.proofs.EachLeaf.{each-pair, kind-eq}
 use Rattle.rules.proofs.LeafTypes.{leaf-of-type, zone-of-type, same-leaf-type}
 use Rattle.rules.proofs.Way.{Way, way, way-same}
-use Rattle.rules.proofs.Utc.{same-bytes-refl, same-bytes-eq, zones-identical}
+use Rattle.layout.proofs.OfBytes.{same-bytes-refl, same-bytes-eq}
+use Rattle.rules.proofs.Utc.{zones-identical}
 
 -- ---- the zones count between date-times alone
 

@@ -6,28 +6,11 @@ use native.Mathlib.Omega.{arith}
 use lib.ListN.{length}
 use lib.Dec.{eqb}
 use borrow.Author.Tests.{eqb-true, eq-eqb}
+use Rattle.layout.proofs.OfBytes.{same-bytes-eq, same-bytes-refl}
 use Rattle.layout.specs.Bytes.{Bytes, sameBytes}
 use Rattle.rules.specs.declared.zones.Params.the-variants.{Identical, SameAsUtc, Different}
 use Rattle.rules.specs.Choice.{if_then_else_}
 use Rattle.rules.specs.Zones.{utc, isUtc, readZone, zonesOf}
-
--- ---- the same bytes
-
-pub same-bytes-refl : (a : Bytes) → sameBytes a a ≡ true
-unfolding sameBytes
-same-bytes-refl [] = refl
-same-bytes-refl (x ∷ xs) = rw (eq-eqb x x refl) (same-bytes-refl xs)
-
-pub same-bytes-eq : (a b : Bytes) → sameBytes a b ≡ true → a ≡ b
-unfolding sameBytes
-same-bytes-eq [] [] e = refl
-same-bytes-eq [] (y ∷ ys) e = absurd (true≢false (sym e))
-same-bytes-eq (x ∷ xs) [] e = absurd (true≢false (sym e))
-same-bytes-eq (x ∷ xs) (y ∷ ys) e = go (same-bytes-eq xs ys) (eqb x y) refl e
-  where
-    go : (sameBytes xs ys ≡ true → xs ≡ ys) → (c : Bool) → eqb x y ≡ c → (c && sameBytes xs ys) ≡ true → _≡_ {A = Bytes} (x ∷ xs) (y ∷ ys)
-    go r true q e = ap₂ _∷_ (eqb-true x y q) (r e)
-    go r false q e = absurd (true≢false (sym e))
 
 -- ---- what is read as UTC
 

@@ -1,0 +1,86 @@
+-- The forms of leaves and numbers against the readers' table of codes and the stores' little-endian bytes. Assumes nothing.
+use Prim.Native.Nat.{ℕ, zero, suc, _+_, _*_, _/_, _%_, _<_}
+use mathlib.Core.Path.{_≡_, refl, sym, ap, _∙_}
+use mathlib.Core.List.{List, [], _∷_}
+use native.Mathlib.Omega.{arith}
+use lib.ListN.{getD, length}
+use Rattle.store.specs.Overlay.{littleBytes}
+use Rattle.layout.specs.Bytes.{Bytes}
+use Rattle.layout.specs.Tree.{LeafType, leafType, null, boolean, int8, int16, int32, int64, uint8, uint16, uint32, uint64, float16, float32, float64, date, datetime, string, binary, categorical}
+use Rattle.layout.specs.Layout.{plainLeaf, plainLeaves}
+use Rattle.layout.specs.declared.leaf.TimeUnit.{TimeUnit}
+use Rattle.layout.specs.declared.leaf.Leaf.{Leaf}
+use Rattle.layout.specs.declared.leaf.Leaf.the-variants.{Null, Boolean, Int8, Int16, Int32, Int64, UInt8, UInt16, UInt32, UInt64, Float16, Float32, Float64, Date, Datetime, String, Binary, Categorical}
+use Rattle.layout.specs.declared.types.PlainLeaf.{PlainLeaf}
+use Rattle.layout.specs.declared.types.PlainLeaf.the-variants.{Known, Unknown}
+use Rattle.layout.proofs.Ways.{clash}
+use Rattle.forms.specs.Form.{u16Bytes, u32Bytes, leafForm}
+
+-- ---- numbers that fit their field
+
+high-byte : (n : ℕ) → n < 65536 → n / 256 ≡ n / 256 % 256
+high-byte n h = omega arith
+
+pub little-u16 : (n : ℕ) → n < 65536 → u16Bytes n ≡ littleBytes 2 n
+unfolding u16Bytes littleBytes
+little-u16 n h = ap (λ (b : ℕ). n % 256 ∷ b ∷ []) (high-byte n h)
+
+pub little-u32 : (n : ℕ) → n < 4294967296 → u32Bytes n ≡ littleBytes 4 n
+unfolding u32Bytes u16Bytes littleBytes
+little-u32 n h =
+    let p : n / 256 ≡ 256 * (n / 65536) + n % 65536 / 256 = omega arith in
+    let q : n / 256 / 256 ≡ n / 65536 = omega arith in
+    let a : n % 65536 % 256 ≡ n % 256 = omega arith in
+    let b : n % 65536 / 256 ≡ n / 256 % 256 = omega arith in
+    let c : n / 65536 % 256 ≡ n / 256 / 256 % 256 = ap (λ (m : ℕ). m % 256) (sym q) in
+    let d : n / 65536 / 256 ≡ n / 256 / 256 / 256 % 256 = high-byte (n / 65536) (omega arith) ∙ ap (λ (m : ℕ). m / 256 % 256) (sym q) in
+    rw (a, b, c, d)
+
+-- ---- a leaf is its code alone, at whose place the readers' table has it, or a date-time
+
+pub data LeafCase (l : LeafType) : Type 0 where
+  plain : (k : Leaf) (code : ℕ) → code < 18 → (code ≡ 14 → ⊥) → plainLeaf code ≡ Known k → l ≡ leafType k [] → leafForm l ≡ code ∷ [] → LeafCase l
+  timed : (u : TimeUnit) (z : Bytes) → l ≡ datetime u z → LeafCase l
+
+pub leafCase : (l : LeafType) → LeafCase l
+unfolding leafForm
+leafCase null = plain Null 0 (omega arith) (λ e. omega arith) refl refl refl
+leafCase boolean = plain Boolean 1 (omega arith) (λ e. omega arith) refl refl refl
+leafCase int8 = plain Int8 2 (omega arith) (λ e. omega arith) refl refl refl
+leafCase int16 = plain Int16 3 (omega arith) (λ e. omega arith) refl refl refl
+leafCase int32 = plain Int32 4 (omega arith) (λ e. omega arith) refl refl refl
+leafCase int64 = plain Int64 5 (omega arith) (λ e. omega arith) refl refl refl
+leafCase uint8 = plain UInt8 6 (omega arith) (λ e. omega arith) refl refl refl
+leafCase uint16 = plain UInt16 7 (omega arith) (λ e. omega arith) refl refl refl
+leafCase uint32 = plain UInt32 8 (omega arith) (λ e. omega arith) refl refl refl
+leafCase uint64 = plain UInt64 9 (omega arith) (λ e. omega arith) refl refl refl
+leafCase float16 = plain Float16 10 (omega arith) (λ e. omega arith) refl refl refl
+leafCase float32 = plain Float32 11 (omega arith) (λ e. omega arith) refl refl refl
+leafCase float64 = plain Float64 12 (omega arith) (λ e. omega arith) refl refl refl
+leafCase date = plain Date 13 (omega arith) (λ e. omega arith) refl refl refl
+leafCase (datetime u z) = timed u z refl
+leafCase string = plain String 15 (omega arith) (λ e. omega arith) refl refl refl
+leafCase binary = plain Binary 16 (omega arith) (λ e. omega arith) refl refl refl
+leafCase categorical = plain Categorical 17 (omega arith) (λ e. omega arith) refl refl refl
+
+-- each leaf of a table, from code i on, has its place for its form
+abbrev Coded : List PlainLeaf → ℕ → Type 0
+Coded [] i = Unit {0}
+Coded (Known l ∷ xs) i = (leafForm (leafType l []) ≡ i ∷ []) × Coded xs (suc i)
+Coded (Unknown ∷ xs) i = Coded xs (suc i)
+
+known-is : {k l : Leaf} → Known k ≡ Known l → k ≡ l
+known-is e = cc
+
+coded-at : (xs : List PlainLeaf) (i c : ℕ) {l : Leaf} → Coded xs i → getD xs c Unknown ≡ Known l → leafForm (leafType l []) ≡ (i + c) ∷ []
+coded-at [] i c h e = clash (cc)
+coded-at (Known k ∷ xs) i zero h e = ap (λ (x : Leaf). leafForm (leafType x [])) (sym (known-is e)) ∙ h .0 ∙ ap (λ (n : ℕ). n ∷ []) (let z : i ≡ i + 0 = omega arith in z)
+coded-at (Unknown ∷ xs) i zero h e = clash (cc)
+coded-at (Known k ∷ xs) i (suc c) h e = coded-at xs (suc i) c (h .1) e ∙ ap (λ (n : ℕ). n ∷ []) (let z : suc i + c ≡ i + suc c = omega arith in z)
+coded-at (Unknown ∷ xs) i (suc c) h e = coded-at xs (suc i) c h e ∙ ap (λ (n : ℕ). n ∷ []) (let z : suc i + c ≡ i + suc c = omega arith in z)
+
+pub plain-form : (c : ℕ) {l : Leaf} → plainLeaf c ≡ Known l → leafForm (leafType l []) ≡ c ∷ []
+unfolding leafForm
+plain-form c e =
+    coded-at plainLeaves 0 c (refl, (refl, (refl, (refl, (refl, (refl, (refl, (refl, (refl, (refl, (refl, (refl, (refl, (refl, (refl, (refl, (refl, tt))))))))))))))))) e
+    ∙ ap (λ (n : ℕ). n ∷ []) (let z : 0 + c ≡ c = omega arith in z)

@@ -1,0 +1,100 @@
+-- The theorems about version 1 forms. Assumes nothing.
+use Prim.Native.Nat.{ℕ, _+_, _-_, _≤_}
+use mathlib.Core.Path.{_≡_, refl, sym, ap, _∙_}
+use mathlib.Core.List.{[], _++_, append-assoc}
+use mathlib.Core.Bool.{Bool, true, false}
+use mathlib.Core.Logic.{_↔_}
+use native.Mathlib.Omega.{arith}
+use lib.ListN.{length, take, drop}
+use lib.Seq.{drop-at}
+use Rattle.layout.specs.Bytes.{Bytes, sameBytes, AllBytes}
+use Rattle.layout.specs.Parser.{ok}
+use Rattle.layout.specs.Tree.{ColumnType, DataType, Fields, dtypeOf, fieldsOf, countFields}
+use Rattle.layout.specs.Layout.{type}
+use Rattle.layout.specs.Stands.{ColumnsAt}
+use Rattle.layout.specs.declared.version.Version.{Version}
+use Rattle.layout.specs.declared.version.Version.the-variants.{ByName}
+use Rattle.layout.specs.declared.columns.Siblings.{Siblings}
+use Rattle.layout.specs.declared.columns.Siblings.the-variants.{Free}
+use Rattle.forms.specs.Form.{form, formFields}
+use Rattle.forms.specs.Same.{sameDtype, sameFields, equalTypes}
+use Rattle.forms.specs.Readable.{Readable, depthOf, labelled}
+use Rattle.forms.proofs.Equal.{form-eq, same-dtype-refl, same-dtype-eq, same-fields-refl, same-fields-eq}
+use Rattle.layout.proofs.OfBytes.{same-bytes-refl, same-bytes-eq}
+use Rattle.store.proofs.Overlay.{slice-take}
+use Rattle.forms.proofs.Read.{type→, columns→}
+use Rattle.forms.proofs.ReadBack.{type-extent, columns-extent, type-readable, type-stands}
+use Rattle.forms.proofs.Written.{type-at, dtype-labelled}
+
+-- ---- 1. forms are equal exactly when the types are
+
+-- whatever stands behind them
+pub forms-prefix : (t u : DataType) (r q : Bytes) → form t ++ r ≡ form u ++ q → (t ≡ u) × (r ≡ q)
+forms-prefix t u r q e = form-eq t u e
+
+pub forms-equal : (t u : DataType) → (form t ≡ form u) ↔ (t ≡ u)
+forms-equal t u = (λ e. form-eq t u (ap (λ (b : Bytes). b ++ []) e) .0, λ e. ap form e)
+
+-- with ids and element names dropped
+pub labelled-forms-equal : (a b : ColumnType) → (form (dtypeOf a) ≡ form (dtypeOf b)) ↔ (dtypeOf a ≡ dtypeOf b)
+labelled-forms-equal a b = forms-equal (dtypeOf a) (dtypeOf b)
+
+-- comparing decides it: part with part, and the bytes
+pub same-decides : (t u : DataType) → (sameDtype t u ≡ true) ↔ (t ≡ u)
+same-decides t u = (λ e. same-dtype-eq t u e, λ e. ap (sameDtype t) (sym e) ∙ same-dtype-refl t)
+
+pub equal-decides : (t u : DataType) → (equalTypes t u ≡ true) ↔ (t ≡ u)
+unfolding equalTypes
+equal-decides t u = (λ e. forms-equal t u .0 (same-bytes-eq (form t) (form u) e), λ e. ap (λ (x : DataType). sameBytes (form t) (form x)) (sym e) ∙ same-bytes-refl (form t))
+
+both-ways : (a b : Bool) → (a ≡ true → b ≡ true) → (b ≡ true → a ≡ true) → a ≡ b
+both-ways true b f g = sym (f refl)
+both-ways false true f g = g refl
+both-ways false false f g = refl
+
+-- so comparing part with part is what the document defines
+pub same-is-equal : (t u : DataType) → sameDtype t u ≡ equalTypes t u
+same-is-equal t u =
+    both-ways (sameDtype t u) (equalTypes t u) (λ e. equal-decides t u .1 (same-decides t u .0 e)) (λ e. same-decides t u .1 (equal-decides t u .0 e))
+
+-- columns: names, types and count
+pub same-fields-decides : (fs gs : Fields) → (sameFields fs gs ≡ true) ↔ (fs ≡ gs)
+same-fields-decides fs gs = (λ e. same-fields-eq fs gs e, λ e. ap (sameFields fs) (sym e) ∙ same-fields-refl fs)
+
+-- ---- 2. a form that is written is read back, and nothing behind it is read
+
+pub form-read : (t : DataType) (d : ℕ) (pre post : Bytes) → Readable t → depthOf t ≤ d
+    → (type ByName Free d (pre ++ (form t ++ post)) (length pre) ≡ ok (labelled t) (length pre + length (form t))) × (dtypeOf (labelled t) ≡ t)
+form-read t d pre post h p = (type-at t d (pre ++ (form t ++ post)) (length pre) post h p (drop-at pre (form t ++ post) (length pre) refl), dtype-labelled t)
+
+-- ---- 3. what was read as a type
+
+-- version 1: the bytes that were read are the type's form
+pub read-form : (r : Siblings) (d : ℕ) (s : Bytes) (at : ℕ) {c : ColumnType} {m : ℕ} → AllBytes s → type ByName r d s at ≡ ok c m → form (dtypeOf c) ≡ take (m - at) (drop at s)
+read-form r d s at {c} {m} o e =
+    let S = type-stands o (type→ ByName r s d at e) in
+    let a = S .from in
+    let b = S .to in
+    let n : at + (m - at) ≡ m = omega arith in
+    sym (S .is) ∙ (rw n at (slice-take s at (m - at) (omega arith)))
+
+-- every version: the form is not longer than the bytes, nor deeper than was allowed
+pub read-extent : (v : Version) (r : Siblings) (d : ℕ) (s : Bytes) (at : ℕ) {c : ColumnType} {m : ℕ} → type v r d s at ≡ ok c m
+    → (at ≤ m) × (m ≤ length s) × (length (form (dtypeOf c)) ≤ m - at) × (depthOf (dtypeOf c) ≤ d)
+read-extent v r d s at e =
+    let E = type-extent (type→ v r s d at e) in
+    let a = E .from in
+    let b = E .long in
+    (a, E .to, omega arith, E .deep)
+
+pub read-readable : (v : Version) (r : Siblings) (d : ℕ) (s : Bytes) (at : ℕ) {c : ColumnType} {m : ℕ} → AllBytes s → type v r d s at ≡ ok c m → Readable (dtypeOf c)
+read-readable v r d s at o e = type-readable o (type→ v r s d at e)
+
+-- columns that stand: their form is not longer than their bytes, and there are as many as were asked for
+pub columns-reach : {v : Version} {d : ℕ} {s : Bytes} {n at : ℕ} (P : ColumnsAt v d s n at) → at ≤ length s
+    → (at ≤ P .end) × (P .end ≤ length s) × (length (formFields (fieldsOf (P .columns))) ≤ P .end - at) × (countFields (fieldsOf (P .columns)) ≡ n)
+columns-reach {v} {d} {s} {n} {at} P h =
+    let (E, c) = columns-extent (columns→ v Free s d (λ at t e h. type→ v Free s d at h) n [] at (P .reads)) h in
+    let a = E .from in
+    let b = E .long in
+    (a, E .to, omega arith, c)

@@ -1,0 +1,77 @@
+-- Document 01, "Types in plans drop ids and element names" and "type (version 1 form)": the bytes that a version 1 layout has for a type.
+use Prim.Native.Nat.{ℕ, _/_, _%_}
+use mathlib.Core.List.{[], _∷_, _++_}
+use lib.ListN.{length}
+use Rattle.layout.specs.Bytes.{Bytes}
+use Rattle.layout.specs.Tree.{LeafType, null, boolean, int8, int16, int32, int64, uint8, uint16, uint32, uint64, float16, float32, float64, date, datetime, string, binary, categorical, DataType, leaf, struct, list, array, Fields, fnil, fcons, countFields}
+use Rattle.layout.specs.Layout.{Kind, aLeaf, aStruct, aList, anArray}
+use Rattle.layout.specs.declared.leaf.TimeUnit.{TimeUnit}
+use Rattle.layout.specs.declared.leaf.TimeUnit.the-variants.{Nanoseconds, Microseconds, Milliseconds}
+
+-- Numbers are little-endian. The last byte is not cut to eight bits: a number that fits its field has the field's bytes
+-- (`little-u16`, `little-u32`), and two numbers never have the same, whatever they are.
+unfoldable pub u16Bytes : ℕ → Bytes
+u16Bytes n = n % 256 ∷ n / 256 ∷ []
+
+unfoldable pub u32Bytes : ℕ → Bytes
+u32Bytes n = u16Bytes (n % 65536) ++ u16Bytes (n / 65536)
+
+-- a name or a zone: its length and its bytes
+unfoldable pub textBytes : Bytes → Bytes
+textBytes b = length b ∷ b
+
+unfoldable pub unitCode : TimeUnit → ℕ
+unitCode Nanoseconds = 0
+unitCode Microseconds = 1
+unitCode Milliseconds = 2
+
+unfoldable pub leafForm : LeafType → Bytes
+leafForm null = 0 ∷ []
+leafForm boolean = 1 ∷ []
+leafForm int8 = 2 ∷ []
+leafForm int16 = 3 ∷ []
+leafForm int32 = 4 ∷ []
+leafForm int64 = 5 ∷ []
+leafForm uint8 = 6 ∷ []
+leafForm uint16 = 7 ∷ []
+leafForm uint32 = 8 ∷ []
+leafForm uint64 = 9 ∷ []
+leafForm float16 = 10 ∷ []
+leafForm float32 = 11 ∷ []
+leafForm float64 = 12 ∷ []
+leafForm date = 13 ∷ []
+leafForm (datetime u z) = 14 ∷ unitCode u ∷ textBytes z
+leafForm string = 15 ∷ []
+leafForm binary = 16 ∷ []
+leafForm categorical = 17 ∷ []
+
+-- what a type begins with
+unfoldable pub kindForm : Kind → Bytes
+kindForm (aLeaf l) = leafForm l
+kindForm (aStruct n) = 18 ∷ u16Bytes n
+kindForm aList = 19 ∷ []
+kindForm (anArray w) = 20 ∷ u32Bytes w
+
+unfoldable mutual
+  pub form : DataType → Bytes
+  form (leaf l) = leafForm l
+  form (struct fs) = kindForm (aStruct (countFields fs)) ++ formFields fs
+  form (list t) = kindForm aList ++ form t
+  form (array w t) = kindForm (anArray w) ++ form t
+
+  pub formFields : Fields → Bytes
+  formFields fnil = []
+  formFields (fcons n t fs) = textBytes n ++ (form t ++ formFields fs)
+
+-- what a type begins with, and the form of what follows: a struct's columns or an element
+unfoldable pub headOf : DataType → Kind
+headOf (leaf l) = aLeaf l
+headOf (struct fs) = aStruct (countFields fs)
+headOf (list t) = aList
+headOf (array w t) = anArray w
+
+unfoldable pub restForm : DataType → Bytes
+restForm (leaf l) = []
+restForm (struct fs) = formFields fs
+restForm (list t) = form t
+restForm (array w t) = form t

@@ -1,0 +1,5 @@
+pub mod Form
+pub mod Same
+pub mod Readable
+pub mod Answers
+pub mod Labelled

@@ -1,0 +1,48 @@
+-- Document 01, "Reading a layout", as conditions on a type: names and zones of at most 63 bytes, numbers within their fields, and the depth.
+use Prim.Native.Nat.{ℕ, suc, _≤_, _<_, max}
+use mathlib.Core.List.{[]}
+use lib.ListN.{length}
+use Rattle.layout.specs.Bytes.{Bytes, AllBytes}
+use Rattle.layout.specs.Tree.{LeafType, zoneOf, Label, ColumnType, cleaf, cstruct, clist, carray, Columns, cnil, ccons, DataType, leaf, struct, list, array, Fields, fnil, fcons, countFields}
+
+-- a name or a zone
+abbrev pub ShortText : Bytes → Type 0
+ShortText b = (length b ≤ 63) × AllBytes b
+
+abbrev mutual
+  pub Readable : DataType → Type 0
+  Readable (leaf l) = ShortText (zoneOf l)
+  Readable (struct fs) = (countFields fs < 65536) × ReadableFields fs
+  Readable (list t) = Readable t
+  Readable (array w t) = (w < 4294967296) × Readable t
+
+  pub ReadableFields : Fields → Type 0
+  ReadableFields fnil = Unit {0}
+  ReadableFields (fcons n t fs) = ShortText n × (Readable t × ReadableFields fs)
+
+-- a leaf is 1; a struct, list or array is one more than its deepest part
+unfoldable mutual
+  pub depthOf : DataType → ℕ
+  depthOf (leaf l) = 1
+  depthOf (struct fs) = suc (depthOfFields fs)
+  depthOf (list t) = suc (depthOf t)
+  depthOf (array w t) = suc (depthOf t)
+
+  pub depthOfFields : Fields → ℕ
+  depthOfFields fnil = 0
+  depthOfFields (fcons n t fs) = max (depthOf t) (depthOfFields fs)
+
+-- A type as version 1 reads it: ids are 0 and an element has no name.
+abbrev pub named : Bytes → Label
+named n = record { name = n; id = record { 0 = 0 } }
+
+unfoldable mutual
+  pub labelled : DataType → ColumnType
+  labelled (leaf l) = cleaf l
+  labelled (struct fs) = cstruct (labelledFields fs)
+  labelled (list t) = clist (named []) (labelled t)
+  labelled (array w t) = carray w (named []) (labelled t)
+
+  pub labelledFields : Fields → Columns
+  labelledFields fnil = cnil
+  labelledFields (fcons n t fs) = ccons (named n) (labelled t) (labelledFields fs)

@@ -1,0 +1,185 @@
+// Compares types and columns that were read before, of any versions, with ids and element names dropped.
+ghost use mathlib.Core.Path.{_≡_};
+ghost use mathlib.Core.Bool.{_&&_};
+ghost use Rattle.layout.specs.Bytes.{sameBytes};
+ghost use Rattle.layout.specs.Tree.{dtypeOf, fieldsOf};
+ghost use Rattle.layout.specs.Answers.{spanAt, spanIn};
+ghost use Rattle.layout.specs.Stands.{TypeAt, ColumnsAt};
+ghost use Rattle.forms.specs.Same.{sameDtype, sameFields};
+ghost use Rattle.forms.specs.Answers.{sameOf};
+ghost use Rattle.forms.specs.Labelled.{ElementAt, ColumnAt};
+use crate::head::head_end;
+use layout::bytes::Span;
+use layout::bytes::same_bytes;
+use layout::columns::Labelled;
+use layout::cursor::Cursor;
+use layout::types::Head;
+use layout::version::Version;
+
+// Where two types that are the same end, each in its own bytes.
+pub enum Same {
+    To(Cursor, Cursor),
+    No,
+}
+
+pub fn same_text(a: &[u8], p: Span, b: &[u8], q: Span) -> bool
+    requires { ⌜ spanIn (now a) p ⌝ }
+    requires { ⌜ spanIn (now b) q ⌝ }
+    ensures { λ r. ⌜ r ≡ sameBytes (spanAt (now (a .entry)) p) (spanAt (now (b .entry)) q) ⌝ }
+{
+    let i = p.start;
+    let j = q.start;
+    same_bytes(&a[i..i + p.len], &b[j..j + q.len])
+}
+
+// What the types begin with is compared as bytes: the code, a date-time's unit and zone, a struct's count, an array's width.
+pub fn same_type(
+    a: &[u8],
+    va: Version,
+    da: u8,
+    ca: Cursor,
+    b: &[u8],
+    vb: Version,
+    db: u8,
+    cb: Cursor,
+) -> Same
+    requires { ⌜ TypeAt va da (now a) (ca .at) ⌝ }
+    requires { ⌜ TypeAt vb db (now b) (cb .at) ⌝ }
+    ensures { λ r. ⌜ ((P : TypeAt va da (now (a .entry)) (ca .at)) (Q : TypeAt vb db (now (b .entry)) (cb .at)) → r ≡ sameOf (sameDtype (dtypeOf (P .tree)) (dtypeOf (Q .tree))) (P .end) (Q .end)) ⌝ }
+{
+    let x = head_end(a, ca);
+    let y = head_end(b, cb);
+    let p = Span {
+        start: ca.at,
+        len: x.at - ca.at,
+    };
+    let q = Span {
+        start: cb.at,
+        len: y.at - cb.at,
+    };
+    if !same_text(a, p, b, q) {
+        return Same::No;
+    }
+    match ca.head(a) {
+        Head::Leaf(_, _) => Same::To(x, y),
+        Head::Struct(n, _) => same_fields(a, va, da - 1, n, x, b, vb, db - 1, y),
+        Head::List(_) => same_element(a, va, da - 1, x, b, vb, db - 1, y),
+        Head::Array(_, _) => same_element(a, va, da - 1, x, b, vb, db - 1, y),
+        Head::Refused(_) => Same::No,
+    }
+}
+
+// The elements' labels are dropped.
+fn same_element(
+    a: &[u8],
+    va: Version,
+    da: u8,
+    ca: Cursor,
+    b: &[u8],
+    vb: Version,
+    db: u8,
+    cb: Cursor,
+) -> Same
+    requires { ⌜ ElementAt va da (now a) (ca .at) ⌝ }
+    requires { ⌜ ElementAt vb db (now b) (cb .at) ⌝ }
+    ensures { λ r. ⌜ ((E : ElementAt va da (now (a .entry)) (ca .at)) (F : ElementAt vb db (now (b .entry)) (cb .at)) → r ≡ sameOf (sameDtype (dtypeOf (E .inner .tree)) (dtypeOf (F .inner .tree))) (E .inner .end) (F .inner .end)) ⌝ }
+{
+    match ca.element_label(a, va) {
+        Labelled::Is(_, x) => match cb.element_label(b, vb) {
+            Labelled::Is(_, y) => same_type(a, va, da, x, b, vb, db, y),
+            Labelled::Refused(_) => Same::No,
+        },
+        Labelled::Refused(_) => Same::No,
+    }
+}
+
+// Of a column's label the name counts.
+fn same_column(
+    a: &[u8],
+    va: Version,
+    da: u8,
+    ca: Cursor,
+    b: &[u8],
+    vb: Version,
+    db: u8,
+    cb: Cursor,
+) -> Same
+    requires { ⌜ ColumnAt va da (now a) (ca .at) ⌝ }
+    requires { ⌜ ColumnAt vb db (now b) (cb .at) ⌝ }
+    ensures { λ r. ⌜ ((E : ColumnAt va da (now (a .entry)) (ca .at)) (F : ColumnAt vb db (now (b .entry)) (cb .at)) → r ≡ sameOf (sameBytes (E .label .name) (F .label .name) && sameDtype (dtypeOf (E .inner .tree)) (dtypeOf (F .inner .tree))) (E .inner .end) (F .inner .end)) ⌝ }
+{
+    match ca.label(a, va) {
+        Labelled::Is(l, x) => match cb.label(b, vb) {
+            Labelled::Is(m, y) => {
+                let p = l.name;
+                let q = m.name;
+                if !same_text(a, p, b, q) {
+                    return Same::No;
+                }
+                same_type(a, va, da, x, b, vb, db, y)
+            }
+            Labelled::Refused(_) => Same::No,
+        },
+        Labelled::Refused(_) => Same::No,
+    }
+}
+
+// `n` columns of each.
+fn same_fields(
+    a: &[u8],
+    va: Version,
+    da: u8,
+    n: u16,
+    ca: Cursor,
+    b: &[u8],
+    vb: Version,
+    db: u8,
+    cb: Cursor,
+) -> Same
+    requires { ⌜ ColumnsAt va da (now a) n (ca .at) ⌝ }
+    requires { ⌜ ColumnsAt vb db (now b) n (cb .at) ⌝ }
+    ensures { λ r. ⌜ ((P : ColumnsAt va da (now (a .entry)) n (ca .at)) (Q : ColumnsAt vb db (now (b .entry)) n (cb .at)) → r ≡ sameOf (sameFields (fieldsOf (P .columns)) (fieldsOf (Q .columns))) (P .end) (Q .end)) ⌝ }
+{
+    let mut at = ca.at;
+    let mut bt = cb.at;
+    let mut i: u16 = 0;
+    while i < n {
+        let c = Cursor { at };
+        let d = Cursor { at: bt };
+        match same_column(a, va, da, c, b, vb, db, d) {
+            Same::To(e, f) => {
+                at = e.at;
+                bt = f.at;
+            }
+            Same::No => return Same::No,
+        }
+        i += 1;
+    }
+    Same::To(Cursor { at }, Cursor { at: bt })
+}
+
+// Whether two lists of columns have the same names, types and count.
+pub fn same_columns(
+    a: &[u8],
+    va: Version,
+    da: u8,
+    n: u16,
+    ca: Cursor,
+    b: &[u8],
+    vb: Version,
+    db: u8,
+    m: u16,
+    cb: Cursor,
+) -> bool
+    requires { ⌜ ColumnsAt va da (now a) n (ca .at) ⌝ }
+    requires { ⌜ ColumnsAt vb db (now b) m (cb .at) ⌝ }
+    ensures { λ r. ⌜ ((P : ColumnsAt va da (now (a .entry)) n (ca .at)) (Q : ColumnsAt vb db (now (b .entry)) m (cb .at)) → r ≡ sameFields (fieldsOf (P .columns)) (fieldsOf (Q .columns))) ⌝ }
+{
+    if n != m {
+        return false;
+    }
+    match same_fields(a, va, da, n, ca, b, vb, db, cb) {
+        Same::To(_, _) => true,
+        Same::No => false,
+    }
+}
