@@ -1,0 +1,14 @@
+pub mod Samples
+pub mod Results
+pub mod Typed
+pub mod Over
+pub mod Leaves
+pub mod Preserve
+pub mod Independent
+pub mod Reading
+pub mod Reached
+pub mod Parts
+pub mod Written
+pub mod ReadBack
+pub mod Theorems
+pub mod Moves

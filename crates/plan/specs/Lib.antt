@@ -1,0 +1,12 @@
+pub mod Result
+pub mod Selector
+pub mod Encode
+pub mod Read
+pub mod Check
+pub mod Convert
+pub mod Run
+pub mod Reach
+pub mod Fits
+pub mod Formed
+pub mod Fallback
+pub mod Answers

@@ -1,0 +1,221 @@
+// Reading a plan (30): selectors by recursion with the remaining nesting falling, counts of them by loops.
+ghost use mathlib.Core.Path.{_≡_};
+ghost use Rattle.layout.specs.Answers.{movedOf};
+ghost use Rattle.layout.specs.Layout.{text};
+ghost use Rattle.plan.specs.Read.{dataType, castOption, positionRest, constantRest, castRest, renameRest, structRest, listRest, arrayRest, selectorRest, selector, selectors, planCounted, faulty, plan};
+ghost use Rattle.plan.specs.Answers.{valueEnd, planRead};
+use layout::bytes::same_bytes;
+use layout::columns::Siblings;
+use layout::cursor::Cursor;
+use layout::cursor::Moved;
+use layout::cursor::Short;
+use layout::cursor::Step;
+use layout::cursor::Text;
+use layout::read::read_type;
+use layout::version::Version;
+use rules::outcome::OptionCode;
+use rules::outcome::option_of_code;
+use values::read::ValueRead;
+use values::read::read_value;
+
+// A plan's number of selectors, and where they begin.
+pub enum PlanRead {
+    Read(u16, Cursor),
+    Refused(u8),
+}
+
+fn read_text(s: &[u8], c: Cursor) -> Moved
+    ensures { λ r. ⌜ r ≡ movedOf (text (now (s .entry)) (c .at)) ⌝ }
+{
+    match c.text(s) {
+        Text::Is(_, d) => Moved::To(d),
+        Text::Refused(k) => Moved::Refused(k),
+    }
+}
+
+// A type in version 1 form.
+fn read_data_type(s: &[u8], c: Cursor) -> Moved
+    ensures { λ r. ⌜ r ≡ movedOf (dataType (now (s .entry)) (c .at)) ⌝ }
+{
+    read_type(s, Version::ByName, Siblings::Free, 16, c)
+}
+
+fn read_option(s: &[u8], c: Cursor) -> Moved
+    ensures { λ r. ⌜ r ≡ movedOf (castOption (now (s .entry)) (c .at)) ⌝ }
+{
+    match c.byte(s) {
+        Step::Byte(b, d) => match option_of_code(b) {
+            OptionCode::Known(_) => Moved::To(d),
+            OptionCode::Unknown => Moved::Refused(3),
+        },
+        Step::Refused(k) => Moved::Refused(k),
+    }
+}
+
+fn read_position(s: &[u8], c: Cursor) -> Moved
+    ensures { λ r. ⌜ r ≡ movedOf (positionRest (now (s .entry)) (c .at)) ⌝ }
+{
+    match c.short(s) {
+        Short::Is(_, d) => Moved::To(d),
+        Short::Refused(k) => Moved::Refused(k),
+    }
+}
+
+fn value_end(r: ValueRead) -> Moved
+    ensures { λ m. ⌜ m ≡ valueEnd r ⌝ }
+{
+    match r {
+        ValueRead::To(_, c) => Moved::To(c),
+        ValueRead::Refused(k) => Moved::Refused(k),
+    }
+}
+
+// A name, a type and a value of it.
+fn read_constant(s: &[u8], c: Cursor) -> Moved
+    ensures { λ r. ⌜ r ≡ movedOf (constantRest (now (s .entry)) (c .at)) ⌝ }
+{
+    match c.text(s) {
+        Text::Is(_, d) => match read_type(s, Version::ByName, Siblings::Free, 16, d) {
+            Moved::To(e) => value_end(read_value(s, Version::ByName, 16, d, s, e)),
+            Moved::Refused(k) => Moved::Refused(k),
+        },
+        Text::Refused(k) => Moved::Refused(k),
+    }
+}
+
+// A selector of at most `depth` levels.
+pub fn read_selector(s: &[u8], depth: u8, c: Cursor) -> Moved
+    ensures { λ r. ⌜ r ≡ movedOf (selector depth (now (s .entry)) (c .at)) ⌝ }
+{
+    if depth == 0 {
+        return Moved::Refused(4);
+    }
+    match c.byte(s) {
+        Step::Byte(code, d) => read_rest(s, depth - 1, code, d),
+        Step::Refused(k) => Moved::Refused(k),
+    }
+}
+
+// What follows a selector's code; the selectors inside have at most `depth` levels.
+fn read_rest(s: &[u8], depth: u8, code: u8, c: Cursor) -> Moved
+    ensures { λ r. ⌜ r ≡ movedOf (selectorRest (selector depth) code (now (s .entry)) (c .at)) ⌝ }
+{
+    match code {
+        0 => read_position(s, c),
+        1 => read_constant(s, c),
+        2 => read_cast(s, depth, c),
+        3 => read_rename(s, depth, c),
+        4 => read_struct(s, depth, c),
+        5 => read_list(s, depth, c),
+        6 => read_array(s, depth, c),
+        _ => Moved::Refused(3),
+    }
+}
+
+fn read_cast(s: &[u8], depth: u8, c: Cursor) -> Moved
+    ensures { λ r. ⌜ r ≡ movedOf (castRest (selector depth) (now (s .entry)) (c .at)) ⌝ }
+{
+    match read_selector(s, depth, c) {
+        Moved::To(d) => match read_data_type(s, d) {
+            Moved::To(e) => read_option(s, e),
+            Moved::Refused(k) => Moved::Refused(k),
+        },
+        Moved::Refused(k) => Moved::Refused(k),
+    }
+}
+
+fn read_rename(s: &[u8], depth: u8, c: Cursor) -> Moved
+    ensures { λ r. ⌜ r ≡ movedOf (renameRest (selector depth) (now (s .entry)) (c .at)) ⌝ }
+{
+    match read_selector(s, depth, c) {
+        Moved::To(d) => read_text(s, d),
+        Moved::Refused(k) => Moved::Refused(k),
+    }
+}
+
+fn read_struct(s: &[u8], depth: u8, c: Cursor) -> Moved
+    ensures { λ r. ⌜ r ≡ movedOf (structRest (selector depth) (now (s .entry)) (c .at)) ⌝ }
+{
+    match read_selector(s, depth, c) {
+        Moved::To(d) => match d.short(s) {
+            Short::Is(n, e) => read_selectors(s, depth, n, e),
+            Short::Refused(k) => Moved::Refused(k),
+        },
+        Moved::Refused(k) => Moved::Refused(k),
+    }
+}
+
+fn read_list(s: &[u8], depth: u8, c: Cursor) -> Moved
+    ensures { λ r. ⌜ r ≡ movedOf (listRest (selector depth) (now (s .entry)) (c .at)) ⌝ }
+{
+    match read_selector(s, depth, c) {
+        Moved::To(d) => read_selector(s, depth, d),
+        Moved::Refused(k) => Moved::Refused(k),
+    }
+}
+
+fn read_array(s: &[u8], depth: u8, c: Cursor) -> Moved
+    ensures { λ r. ⌜ r ≡ movedOf (arrayRest (selector depth) (now (s .entry)) (c .at)) ⌝ }
+{
+    match read_selector(s, depth, c) {
+        Moved::To(d) => read_selector(s, depth, d),
+        Moved::Refused(k) => Moved::Refused(k),
+    }
+}
+
+// `n` selectors, each of at most `depth` levels.
+pub fn read_selectors(s: &[u8], depth: u8, n: u16, c: Cursor) -> Moved
+    ensures { λ r. ⌜ r ≡ movedOf (selectors (selector depth) n (now (s .entry)) (c .at)) ⌝ }
+{
+    let mut at = c.at;
+    let mut i: u16 = 0;
+    while i < n {
+        let d = Cursor { at };
+        match read_selector(s, depth, d) {
+            Moved::To(e) => {
+                at = e.at;
+            }
+            Moved::Refused(k) => return Moved::Refused(k),
+        }
+        i += 1;
+    }
+    Moved::To(Cursor { at })
+}
+
+const MARK: [u8; 5] = [0x50, 0x4C, 0x4E, 1, 0];
+
+// The count and the selectors of a plan, which begin after its version, to the end.
+fn read_counted(s: &[u8]) -> PlanRead
+    ensures { λ r. ⌜ r ≡ planRead (faulty (planCounted (now (s .entry)) 5)) ⌝ }
+{
+    let c = Cursor { at: 5 };
+    match c.short(s) {
+        Short::Is(n, d) => match read_selectors(s, 64, n, d) {
+            Moved::To(e) => {
+                if e.at == s.len() {
+                    PlanRead::Read(n, Cursor { at: 7 })
+                } else {
+                    PlanRead::Refused(30)
+                }
+            }
+            Moved::Refused(_) => PlanRead::Refused(30),
+        },
+        Short::Refused(_) => PlanRead::Refused(30),
+    }
+}
+
+pub fn read_plan(s: &[u8]) -> PlanRead
+    ensures { λ r. ⌜ r ≡ planRead (plan (now (s .entry))) ⌝ }
+{
+    if 65536 < s.len() {
+        return PlanRead::Refused(30);
+    }
+    if s.len() < 5 {
+        return PlanRead::Refused(30);
+    }
+    if same_bytes(&s[..5], &MARK) {
+        read_counted(s)
+    } else {
+        PlanRead::Refused(30)
+    }
+}
