@@ -1,0 +1,17 @@
+//! The original column selector beside the library: see README.md.
+
+include!(concat!(env!("OUT_DIR"), "/source.rs"));
+
+pub mod beside;
+pub mod edges;
+pub mod form;
+pub mod generate;
+pub mod json;
+pub mod leaves;
+#[cfg(feature = "library")]
+pub mod library;
+pub mod list;
+pub mod oracle;
+pub mod sample;
+pub mod statistics;
+pub mod vectors;

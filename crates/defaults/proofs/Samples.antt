@@ -1,0 +1,133 @@
+-- Some tables, and what the definitions make of them: computed.
+use Prim.Native.Nat.{ℕ}
+use mathlib.Core.Path.{_≡_, refl}
+use mathlib.Core.List.{List, [], _∷_, map}
+use lib.ListN.{replicate, take}
+use Rattle.layout.specs.Bytes.{Bytes, sameBytes}
+use Rattle.layout.specs.Parser.{Res, refuse, ok, next, choose, byte, chunk, u16, u32}
+use Rattle.layout.specs.Tree.{int8}
+use Rattle.layout.specs.Layout.{text, unit, leafKind, datetimeKind, sized, ended}
+use Rattle.layout.specs.declared.leaf.Leaf.the-variants.{Int8}
+use Rattle.values.specs.Value.{vnull, vnumber, vnil, vcons}
+use Rattle.values.specs.Reading.{presence, nullable, flag, little, longText, contentBy, leafContent, content, value, times}
+use Rattle.defaults.specs.Table.{Given, initial, partition, failed, Entry, sameKind, repeatsAnyEntry, onlyLeaf, defaultType, initialEntry, loadedEntry, partitionEntry, givenOf, entry, entries, tableVersion, tableFrom, table}
+use Rattle.defaults.specs.Lookup.{Taken, refused, nothing, taken, unlessNull, ofSource, givenTo, firstEntry, getDefaultValue}
+
+-- `DEF`, version 1, n entries
+abbrev tabled : ℕ → Bytes → Bytes
+tabled n rest = 0x44 ∷ 0x45 ∷ 0x46 ∷ 1 ∷ 0 ∷ n ∷ 0 ∷ rest
+
+-- opens every definition that a sample computes through
+computed : Bytes → Res (List Entry)
+unfolding table tableFrom tableVersion sameBytes sized ended entries entry givenOf partitionEntry loadedEntry initialEntry defaultType onlyLeaf sameKind repeatsAnyEntry leafKind datetimeKind unit text byte chunk u16 u32 value content presence nullable flag little longText contentBy leafContent times next choose
+computed s = table s
+
+-- the default of an id, where the table is read
+abbrev default : ℕ → ℕ → Res (List Entry) → Taken
+default k i (refuse n) = refused n
+default k i (ok es at) = getDefaultValue es k (record { 0 = i })
+
+looked : ℕ → ℕ → Bytes → Taken
+unfolding computed getDefaultValue firstEntry givenTo ofSource unlessNull
+looked k i s = default k i (table s)
+
+-- 0 for a table that is read, or the refusal's number
+abbrev numberOf : Res (List Entry) → ℕ
+numberOf (refuse n) = n
+numberOf (ok es at) = 0
+
+-- id 5: an initial 7; for the partition's sources null and 9. Id 6: an initial 8; id 7: a partition that failed; id 8: a null initial
+good : Bytes
+good = tabled 5 (5 ∷ 0 ∷ 0 ∷ 0 ∷ 0 ∷ 2 ∷ 1 ∷ 7 ∷ 5 ∷ 0 ∷ 0 ∷ 0 ∷ 1 ∷ 0 ∷ 2 ∷ 2 ∷ 0 ∷ 0 ∷ 1 ∷ 9
+    ∷ 6 ∷ 0 ∷ 0 ∷ 0 ∷ 0 ∷ 2 ∷ 1 ∷ 8 ∷ 7 ∷ 0 ∷ 0 ∷ 0 ∷ 1 ∷ 1 ∷ 8 ∷ 0 ∷ 0 ∷ 0 ∷ 0 ∷ 2 ∷ 0 ∷ [])
+
+abbrev entryFor : ℕ → Given → Entry
+entryFor i g = record { id = record { 0 = i }; given = g }
+
+good-read : table good ≡ ok (entryFor 5 (initial int8 (vnumber Int8 7)) ∷ entryFor 5 (partition int8 (vcons vnull (vcons (vnumber Int8 9) vnil)))
+    ∷ entryFor 6 (initial int8 (vnumber Int8 8)) ∷ entryFor 7 failed ∷ entryFor 8 (initial int8 vnull) ∷ []) 48
+unfolding computed good
+good-read = refl
+
+-- a partition entry wins; null or past the end is no default, and no initial one is tried
+good-defaults : map (λ k. default k 5 (table good)) (0 ∷ 1 ∷ 2 ∷ []) ≡ nothing ∷ taken int8 (vnumber Int8 9) ∷ nothing ∷ []
+unfolding looked good
+good-defaults = refl
+
+-- an initial one, a failed one, a null initial one, and an id that the table does not have
+other-defaults : map (λ i. default 0 i (table good)) (6 ∷ 7 ∷ 8 ∷ 9 ∷ []) ≡ taken int8 (vnumber Int8 8) ∷ refused 26 ∷ nothing ∷ nothing ∷ []
+unfolding looked good
+other-defaults = refl
+
+no-entries : table (tabled 0 []) ≡ ok [] 7
+unfolding computed
+no-entries = refl
+
+-- it ends at each byte of its first entry: 1 before the mark and version are whole, then 2
+good-ends : map (λ n. numberOf (table (take n good))) (0 ∷ 4 ∷ 5 ∷ 6 ∷ 7 ∷ 10 ∷ 11 ∷ 12 ∷ 13 ∷ 14 ∷ []) ≡ 1 ∷ 1 ∷ 2 ∷ 2 ∷ 2 ∷ 2 ∷ 2 ∷ 2 ∷ 2 ∷ 2 ∷ []
+unfolding computed good
+good-ends = refl
+
+unmarked : table (0x44 ∷ 0x45 ∷ 0x46 ∷ 2 ∷ 0 ∷ 0 ∷ 0 ∷ []) ≡ refuse 1
+unfolding computed
+unmarked = refl
+
+bytes-left : table (tabled 0 (0 ∷ [])) ≡ refuse 6
+unfolding computed
+bytes-left = refl
+
+-- ---- repeats: of one kind, whether loaded or failed, and once the entry is read; of two kinds there is none (`good`)
+
+two-initial : table (tabled 3 (5 ∷ 0 ∷ 0 ∷ 0 ∷ 0 ∷ 2 ∷ 0 ∷ 5 ∷ 0 ∷ 0 ∷ 0 ∷ 0 ∷ 2 ∷ 0 ∷ [])) ≡ refuse 5
+unfolding computed
+two-initial = refl
+
+two-partitions : table (tabled 2 (5 ∷ 0 ∷ 0 ∷ 0 ∷ 1 ∷ 0 ∷ 2 ∷ 0 ∷ 0 ∷ 5 ∷ 0 ∷ 0 ∷ 0 ∷ 1 ∷ 1 ∷ [])) ≡ refuse 5
+unfolding computed
+two-partitions = refl
+
+repeated-unknown : table (tabled 2 (5 ∷ 0 ∷ 0 ∷ 0 ∷ 0 ∷ 2 ∷ 0 ∷ 5 ∷ 0 ∷ 0 ∷ 0 ∷ 0 ∷ 99 ∷ [])) ≡ refuse 3
+unfolding computed
+repeated-unknown = refl
+
+-- ---- types, kinds and load bytes
+
+-- a struct's, list's or array's code is 3, even where the bytes end after it
+nested : map (λ c. numberOf (table (tabled 1 (5 ∷ 0 ∷ 0 ∷ 0 ∷ 0 ∷ c ∷ [])))) (18 ∷ 19 ∷ 20 ∷ 21 ∷ []) ≡ 3 ∷ 3 ∷ 3 ∷ 3 ∷ []
+unfolding computed
+nested = refl
+
+unknown-kind : table (tabled 1 (5 ∷ 0 ∷ 0 ∷ 0 ∷ 2 ∷ [])) ≡ refuse 3
+unfolding computed
+unknown-kind = refl
+
+unknown-load : table (tabled 1 (5 ∷ 0 ∷ 0 ∷ 0 ∷ 1 ∷ 2 ∷ [])) ≡ refuse 3
+unfolding computed
+unknown-load = refl
+
+long-zone : table (tabled 1 (5 ∷ 0 ∷ 0 ∷ 0 ∷ 0 ∷ 14 ∷ 0 ∷ 64 ∷ [])) ≡ refuse 4
+unfolding computed
+long-zone = refl
+
+-- ---- values
+
+value-ends : table (tabled 1 (5 ∷ 0 ∷ 0 ∷ 0 ∷ 0 ∷ 3 ∷ 1 ∷ 7 ∷ [])) ≡ refuse 2
+unfolding computed
+value-ends = refl
+
+bad-presence : table (tabled 1 (5 ∷ 0 ∷ 0 ∷ 0 ∷ 0 ∷ 2 ∷ 2 ∷ [])) ≡ refuse 3
+unfolding computed
+bad-presence = refl
+
+present-null : table (tabled 1 (5 ∷ 0 ∷ 0 ∷ 0 ∷ 0 ∷ 0 ∷ 1 ∷ [])) ≡ refuse 3
+unfolding computed
+present-null = refl
+
+bad-boolean : table (tabled 1 (5 ∷ 0 ∷ 0 ∷ 0 ∷ 0 ∷ 1 ∷ 1 ∷ 2 ∷ [])) ≡ refuse 3
+unfolding computed
+bad-boolean = refl
+
+-- 4 comes before 1
+too-long : table (replicate 16385 0) ≡ refuse 4
+unfolding computed
+too-long = refl

@@ -1,0 +1,208 @@
+-- From the answers of `read_table` and `get_default_value` to what stands in the bytes. Assumes nothing.
+use Prim.Native.Nat.{ℕ, zero, suc, _+_, _≤_}
+use mathlib.Core.Path.{_≡_, refl, sym, ap, _∙_}
+use mathlib.Core.List.{List, [], _∷_}
+use mathlib.Core.Bool.{Bool, true, false}
+use native.Mathlib.Omega.{arith}
+use lib.ListN.{length, take}
+use lib.Dec.{eqb}
+use borrow.Author.Tests.{leb-true}
+use Rattle.layout.specs.Bytes.{Bytes, AllBytes, sameBytes}
+use Rattle.layout.specs.Parser.{Res, refuse, ok, next, choose, byte}
+use Rattle.layout.specs.Tree.{LeafType, leaf}
+use Rattle.layout.specs.Layout.{sized, ended}
+use Rattle.layout.specs.Answers.{leafAt, spanIn}
+use Rattle.layout.specs.declared.columns.FieldId.{FieldId}
+use Rattle.layout.specs.declared.cursor.Cursor.{Cursor}
+use Rattle.layout.specs.declared.types.LeafType.{LeafType as LeafSpan}
+use Rattle.layout.proofs.Ways.{clash}
+use Rattle.layout.proofs.View.{next-ok}
+use Rattle.layout.proofs.Whole.{byte-at, u16-at, tested}
+use Rattle.values.specs.Value.{Value, vnull, Values, vnil, vcons}
+use Rattle.values.specs.Reading.{presence, nullable, content, value}
+use Rattle.values.specs.Fits.{Fits}
+use Rattle.values.proofs.Round.{value-fits}
+use Rattle.defaults.specs.Table.{Given, initial, partition, failed, Entry, entries, tableMark, tableVersion, tableFrom, table}
+use Rattle.defaults.specs.Lookup.{Taken, refused, nothing, taken, isNullValue, unlessNull, ofSource, givenTo, isPartitionOf, isInitialOf, firstEntry, getDefaultValue}
+use Rattle.defaults.specs.Answers.{tableOf}
+use Rattle.defaults.specs.Stands.{TableAt, Answers}
+use Rattle.defaults.specs.declared.lookup.DefaultValue.{DefaultValue}
+use Rattle.defaults.specs.declared.read.TableRead.{TableRead}
+use Rattle.defaults.proofs.Top.{entries-count}
+
+-- ---- a table that was read
+
+version-at : (s : Bytes) (at : ℕ) {u : Unit {0}} {m : ℕ} → tableVersion s at ≡ ok u m → m ≡ 5
+unfolding tableVersion choose
+version-at s at {u} {m} h = go (sameBytes (take 5 s) tableMark) h
+  where
+    go : (b : Bool) → choose b (ok tt 5) (refuse 1) ≡ ok u m → m ≡ 5
+    go true e = cc
+    go false e = clash (cc)
+
+record Parts (s : Bytes) (es : List Entry) (m : ℕ) : Type 0 where
+  small : length s ≤ 16384
+  count : ℕ
+  reads : entries count [] s 7 ≡ ok es m
+
+parts : (s : Bytes) {es : List Entry} {m : ℕ} → table s ≡ ok es m → Parts s es m
+unfolding table tableFrom sized ended
+parts s {es} {m} h =
+    let (u, i, a, b) = next-ok _ _ h in
+    let (w, j, a₁, b₁) = next-ok _ _ b in
+    let (k, o, a₂, b₂) = next-ok _ _ b₁ in
+    let (fs, e, a₃, b₃) = next-ok _ _ b₂ in
+    let (x, e′, a₄, b₄) = next-ok _ _ b₃ in
+    let z = tested _ 4 s 0 a in
+    let y = tested _ 6 s e a₄ in
+    let p = version-at s i a₁ in
+    let q = u16-at s j a₂ in
+    let r : o ≡ 7 = omega arith in
+    let f : fs ≡ es = cc in
+    let g : e ≡ m = sym (y .1) ∙ (let g′ : e′ ≡ m = cc in g′) in
+    record {
+      small = leb-true _ _ (z .0);
+      count = k;
+      reads = ap (λ (i : ℕ). entries k [] s i) (sym r) ∙ a₃ ∙ ap (λ (l : List Entry). ok l e) f ∙ ap (ok es) g;
+    }
+
+-- a table of n entries, which begin at an offset
+pub record TableGot (s : Bytes) (n at : ℕ) : Type 0 where
+  pub entries : TableAt s n at
+  pub starts : at ≡ 7
+  pub reads : table s ≡ ok (entries .entries) (entries .end)
+
+-- what `read_table` answered
+pub table-at : (s : Bytes) {r : TableRead} {n : ℕ} {c : Cursor} → r ≡ tableOf (table s) → r ≡ TableRead.Read n c → TableGot s n (c .at)
+unfolding tableOf
+table-at s {r} {n} {c} e f = go (table s) refl e
+  where
+    go : (x : Res (List Entry)) → table s ≡ x → r ≡ tableOf x → TableGot s n (c .at)
+    go (refuse k) q e = clash (cc)
+    go (ok es m) q e =
+        let h : TableRead.Read (length es) (record { at = 7 }) ≡ TableRead.Read n c = sym e ∙ f in
+        let P = parts s q in
+        let l = entries-count (P .count) [] s 7 (P .reads) in
+        let k : length es ≡ n = cc in
+        let o : 7 ≡ c .at = cc in
+        let i : n ≡ P .count = sym k ∙ l ∙ (let z : 0 + P .count ≡ P .count = omega arith in z) in
+        record {
+          entries = record { entries = es; end = m; reads = ap (λ (j : ℕ). entries j [] s (c .at)) i ∙ ap (λ (j : ℕ). entries (P .count) [] s j) (sym o) ∙ P .reads };
+          starts = sym o;
+          reads = q;
+        }
+
+pub table-refused : (s : Bytes) {r : TableRead} {k : ℕ} → r ≡ tableOf (table s) → r ≡ TableRead.Refused k → table s ≡ refuse k
+unfolding tableOf
+table-refused s {r} {k} e f = go (table s) e
+  where
+    go : (x : Res (List Entry)) → r ≡ tableOf x → x ≡ refuse k
+    go (refuse n) e = cc
+    go (ok es m) e = clash (cc)
+
+-- a table that was read is within its limit
+pub table-small : (s : Bytes) {es : List Entry} {m : ℕ} → table s ≡ ok es m → length s ≤ 16384
+table-small s h = parts s h .small
+
+-- ---- what `get_default_value` answered
+
+-- a value and its type, where the answer says
+pub record DefaultAt (s : Bytes) (x : Taken) (l : LeafSpan) (at : ℕ) : Type 0 where
+  pub tree : Value
+  pub end : ℕ
+  pub is : x ≡ taken (leafAt s l) tree
+  pub inside : spanIn s (l .zone)
+  pub reads : value (leaf (leafAt s l)) s at ≡ ok tree end
+
+module _ (s : Bytes) {r : DefaultValue} where
+  pub default-failed : (x : Taken) → Answers s x r → r ≡ DefaultValue.Failed → x ≡ refused 26
+  default-failed (refused n) h e = ap refused (h .0)
+  default-failed nothing h e = clash (let z : DefaultValue.Failed ≡ DefaultValue.Nothing = sym e ∙ h in cc)
+  default-failed (taken l v) h e = clash (let z : DefaultValue.Failed ≡ DefaultValue.At (h .span) (h .start) = sym e ∙ h .is in cc)
+
+  pub default-none : (x : Taken) → Answers s x r → r ≡ DefaultValue.Nothing → x ≡ nothing
+  default-none (refused n) h e = clash (let z : DefaultValue.Nothing ≡ DefaultValue.Failed = sym e ∙ h .1 in cc)
+  default-none nothing h e = refl
+  default-none (taken l v) h e = clash (let z : DefaultValue.Nothing ≡ DefaultValue.At (h .span) (h .start) = sym e ∙ h .is in cc)
+
+  pub default-at : (x : Taken) {l : LeafSpan} {c : Cursor} → Answers s x r → r ≡ DefaultValue.At l c → DefaultAt s x l (c .at)
+  default-at (refused n) {l} {c} h e = clash (let z : DefaultValue.At l c ≡ DefaultValue.Failed = sym e ∙ h .1 in cc)
+  default-at nothing {l} {c} h e = clash (let z : DefaultValue.At l c ≡ DefaultValue.Nothing = sym e ∙ h in cc)
+  default-at (taken t v) {l} {c} h e =
+      let z : DefaultValue.At (h .span) (h .start) ≡ DefaultValue.At l c = sym (h .is) ∙ e in
+      let p : h .span ≡ l = cc in
+      let q : h .start ≡ c = cc in
+      let w : t ≡ leafAt s l = sym (h .type) ∙ ap (leafAt s) p in
+      made v (h .end) p q w (h .inside) (h .reads)
+    where
+      made : {t : LeafType} {l m : LeafSpan} {b c : Cursor} (v : Value) (o : ℕ) → m ≡ l → b ≡ c → t ≡ leafAt s l → spanIn s (m .zone) → value (leaf t) s (b .at) ≡ ok v o
+          → DefaultAt s (taken t v) l (c .at)
+      made {t} {l} {m} {b} {c} v o p q w i h = record {
+        tree = v;
+        end = o;
+        is = ap (λ (k : LeafType). taken k v) w;
+        inside = rw p at i;
+        reads = ap (λ (k : LeafType). value (leaf k) s (c .at)) (sym w) ∙ ap (λ (d : Cursor). value (leaf t) s (d .at)) (sym q) ∙ h;
+      }
+
+-- with bytes below 256 the value fits its type
+pub default-fits : {s : Bytes} {x : Taken} {l : LeafSpan} {at : ℕ} → AllBytes s → (D : DefaultAt s x l at) → Fits (leaf (leafAt s l)) (D .tree)
+default-fits {s} {x} {l} {at} o D = value-fits (leaf (leafAt s l)) s o at (D .tree) (D .end) (D .reads)
+
+-- ---- a value that is taken is not null
+
+unless-taken : (l : LeafType) (v : Value) {m : LeafType} {w : Value} → unlessNull l v ≡ taken m w → isNullValue w ≡ false
+unfolding unlessNull choose
+unless-taken l v {m} {w} h = go (isNullValue v) refl h
+  where
+    go : (b : Bool) → isNullValue v ≡ b → choose b nothing (taken l v) ≡ taken m w → isNullValue w ≡ false
+    go true e q = clash (cc)
+    go false e q = let z : v ≡ w = cc in sym (ap isNullValue z) ∙ e
+
+source-taken : (l : LeafType) (vs : Values) (k : ℕ) {m : LeafType} {w : Value} → ofSource l vs k ≡ taken m w → isNullValue w ≡ false
+unfolding ofSource
+source-taken l vnil k h = clash (cc)
+source-taken l (vcons v vs) zero h = unless-taken l v h
+source-taken l (vcons v vs) (suc k) h = source-taken l vs k h
+
+given-taken : (k : ℕ) (g : Given) {m : LeafType} {w : Value} → givenTo k g ≡ taken m w → isNullValue w ≡ false
+unfolding givenTo
+given-taken k (initial l v) h = unless-taken l v h
+given-taken k (partition l vs) h = source-taken l vs k h
+given-taken k failed h = clash (cc)
+
+first-taken : (f : Entry → Bool) (k : ℕ) (es : List Entry) (r : Taken) {m : LeafType} {w : Value} → (r ≡ taken m w → isNullValue w ≡ false)
+    → firstEntry f (givenTo k) es r ≡ taken m w → isNullValue w ≡ false
+unfolding firstEntry choose
+first-taken f k [] r i h = i h
+first-taken f k (e ∷ es) r {m} {w} i h = go (f e) (first-taken f k es r i) h
+  where
+    go : (b : Bool) → (firstEntry f (givenTo k) es r ≡ taken m w → isNullValue w ≡ false) → choose b (givenTo k (e .given)) (firstEntry f (givenTo k) es r) ≡ taken m w → isNullValue w ≡ false
+    go true j q = given-taken k (e .given) q
+    go false j q = j q
+
+pub taken-present : (es : List Entry) (k : ℕ) (i : FieldId) {l : LeafType} {v : Value} → getDefaultValue es k i ≡ taken l v → isNullValue v ≡ false
+unfolding getDefaultValue
+taken-present es k i h = first-taken (isPartitionOf i) k es _ (λ q. first-taken (isInitialOf i) k es nothing (λ z. clash (cc)) q) h
+
+-- the presence byte of a value that is not null is 1
+presence-ends : (s : Bytes) (at : ℕ) {b : Bool} {m : ℕ} → presence s at ≡ ok b m → m ≡ at + 1
+unfolding presence choose
+presence-ends s at {b} {m} e =
+    let (x, i, a, q) = next-ok (byte s at) _ e in
+    go i (eqb x 0) (eqb x 1) q ∙ byte-at s at a
+  where
+    go : (i : ℕ) (c d : Bool) → choose c (ok false i) (choose d (ok true i) (refuse 3)) ≡ ok b m → m ≡ i
+    go i true d e = cc
+    go i false true e = cc
+    go i false false e = clash (cc)
+
+pub present-byte : (l : LeafType) (s : Bytes) (at : ℕ) {v : Value} {m : ℕ} → value (leaf l) s at ≡ ok v m → isNullValue v ≡ false → presence s at ≡ ok true (at + 1)
+unfolding value nullable choose
+present-byte l s at {v} {m} h n =
+    let (b, i, a, q) = next-ok (presence s at) _ h in
+    go b a q
+  where
+    go : (b : Bool) {i : ℕ} → presence s at ≡ ok b i → choose b (content (leaf l) s i) (ok vnull i) ≡ ok v m → presence s at ≡ ok true (at + 1)
+    go true a q = a ∙ ap (ok true) (presence-ends s at a)
+    go false a q = let z : v ≡ vnull = cc in clash (let y : true ≡ false = sym (ap isNullValue z) ∙ n in cc)
