@@ -15,3 +15,8 @@ pub mod Theorems
 pub mod Calls
 pub mod Projected
 pub mod Samples
+pub mod Putting
+pub mod Names
+pub mod Matching
+pub mod Whole
+pub mod Rows

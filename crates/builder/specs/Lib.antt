@@ -5,3 +5,4 @@ pub mod Due
 pub mod Untouched
 pub mod Iceberg
 pub mod Stated
+pub mod Answers

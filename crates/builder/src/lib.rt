@@ -1,1 +1,7 @@
-// Both builders.
+// The builder (document 01, "Matching"), under the names of source 000.
+pub mod answer;
+pub mod fields;
+pub mod leaf;
+pub mod parts;
+pub mod tests;
+pub mod write;

@@ -1,0 +1,227 @@
+-- A type's parts by the answer of `head`, and the leaf case. Assumes nothing.
+use Prim.Native.Nat.{ℕ, suc, _+_, _-_, _≤_, _<_}
+use mathlib.Core.Path.{_≡_, refl, sym, ap, _∙_, subst}
+use mathlib.Core.List.{[], _∷_}
+use mathlib.Core.Bool.{Bool, true, false}
+use native.Mathlib.Omega.{arith}
+use lib.ListN.{length, take, drop}
+use native.Mathlib.Nat.{add-sub-cancel-left}
+use lib.Dec.{eqb}
+use Rattle.layout.specs.Bytes.{Bytes}
+use Rattle.layout.specs.Parser.{Res, ok}
+use Rattle.layout.specs.Tree.{LeafType, leafType, leafOf, Label, ColumnType, cleaf, cstruct, clist, carray, Columns, dtypeOf}
+use Rattle.layout.specs.Layout.{Kind, aLeaf, aStruct, aList, anArray, kind, elementLabel}
+use Rattle.layout.specs.Answers.{headRes, headIn, leafAt, labelRes, labelAt, labelIn, spanAt, spanIn}
+use Rattle.layout.specs.Stands.{TypeAt, ColumnsAt}
+use Rattle.layout.specs.declared.columns.Position.{Position}
+use Rattle.layout.specs.declared.columns.Label.{Label as LabelSpan}
+use Rattle.layout.specs.declared.columns.Labelled.{Labelled}
+use Rattle.layout.specs.declared.cursor.Cursor.{Cursor}
+use Rattle.layout.specs.declared.types.Head.{Head}
+use Rattle.layout.specs.declared.types.LeafType.{LeafType as LeafSpan}
+use Rattle.layout.specs.declared.version.Version.{Version}
+use Rattle.layout.specs.declared.version.Version.the-variants.{ByName, ByNumber}
+use Rattle.layout.proofs.Ways.{clash, head-in, label-in}
+use Rattle.layout.proofs.View.{label-got, leaf-at, StructAt, struct-at, ListAt, list-at, ArrayAt, array-at}
+use Rattle.forms.specs.Form.{u16Bytes, u32Bytes, textBytes, kindForm, headOf}
+use Rattle.forms.proofs.Read.{ok-eq, label-ends}
+use Rattle.forms.proofs.Heads.{HeadAt, head-at}
+use Rattle.forms.proofs.Writing.{span-long}
+use Rattle.rules.specs.Classes.{isNull}
+use Rattle.rules.specs.Kinds.{kindOf}
+use Rattle.rules.specs.Outcomes.{Verdict, untouched, refused, cast as casts}
+use Rattle.rules.specs.Pairs.{pairRule}
+use Rattle.rules.proofs.LeafTypes.{leaf-of-type}
+use Rattle.rules.specs.declared.policy.Policy.{Policy}
+use Rattle.plan.specs.Result.{Result, gives, refuses, _>>=_}
+use Rattle.plan.specs.Selector.{Selector}
+use Rattle.builder.specs.Default.{Defaults, noDefaults}
+use Rattle.builder.specs.Build.{leafPart, structPart, isNullType, ruled, attach}
+use Rattle.builder.specs.Answers.{LeafIs, LeafPartIs, StructIs, StructPartIs, Inner, noElement, listElement, arrayElement, elementOf, ElementIs, ElementPartIs, madeOf, Wrote, Makes, byRule}
+use Rattle.builder.specs.declared.answer.Made.{Made}
+use Rattle.builder.specs.declared.parts.LeafPart.{LeafPart}
+use Rattle.builder.specs.declared.parts.StructPart.{StructPart}
+use Rattle.builder.specs.declared.parts.ElementPart.{ElementPart}
+
+-- ---- kinds
+
+abbrev isLeafKind : Kind → Bool
+isLeafKind (aLeaf l) = true
+isLeafKind (aStruct n) = false
+isLeafKind aList = false
+isLeafKind (anArray w) = false
+
+abbrev isStructKind : Kind → Bool
+isStructKind (aLeaf l) = false
+isStructKind (aStruct n) = true
+isStructKind aList = false
+isStructKind (anArray w) = false
+
+abbrev hasElement : Kind → Bool
+hasElement (aLeaf l) = false
+hasElement (aStruct n) = false
+hasElement aList = true
+hasElement (anArray w) = true
+
+differ : {B : Type 0} {a b : Bool} → a ≡ true → b ≡ false → a ≡ b → B
+differ p q r = let z : true ≡ false = sym p ∙ r ∙ q in clash (cc)
+
+no-leaf : (t : ColumnType) {k : Kind} → k ≡ headOf (dtypeOf t) → isLeafKind k ≡ false → leafPart t ≡ refuses 24
+unfolding leafPart dtypeOf headOf
+no-leaf (cleaf l) e f = differ refl f (ap isLeafKind (sym e))
+no-leaf (cstruct cs) e f = refl
+no-leaf (clist l t) e f = refl
+no-leaf (carray w l t) e f = refl
+
+no-struct : (t : ColumnType) {k : Kind} → k ≡ headOf (dtypeOf t) → isStructKind k ≡ false → structPart t ≡ refuses 24
+unfolding structPart dtypeOf headOf
+no-struct (cleaf l) e f = refl
+no-struct (cstruct cs) e f = differ refl f (ap isStructKind (sym e))
+no-struct (clist l t) e f = refl
+no-struct (carray w l t) e f = refl
+
+no-element : (t : ColumnType) {k : Kind} → k ≡ headOf (dtypeOf t) → hasElement k ≡ false → elementOf t ≡ noElement
+unfolding elementOf dtypeOf headOf
+no-element (cleaf l) e f = refl
+no-element (cstruct cs) e f = refl
+no-element (clist l t) e f = differ refl f (ap hasElement (sym e))
+no-element (carray w l t) e f = differ refl f (ap hasElement (sym e))
+
+-- an element's label
+element-label-ends : (s : Bytes) (v : Version) (at : ℕ) {l : Label} {i : ℕ} → elementLabel v s at ≡ ok l i → (at + length (l .name) ≤ i) × (length (l .name) ≤ 63)
+unfolding elementLabel textBytes
+element-label-ends s ByName at e = let (p, q) = ok-eq e in let h = ap (λ (x : Label). length (x .name)) p in (omega arith, omega arith)
+element-label-ends s ByNumber at {l} e = named (label-ends s ByNumber at e)
+  where
+    named : {i m : ℕ} {X : Type 0} → (i ≤ m) × ((at + length (textBytes (l .name)) ≤ i) × ((length (l .name) ≤ 63) × X)) → (at + length (l .name) ≤ i) × (length (l .name) ≤ 63)
+    named (a, (b, (c, d))) = (omega arith, c)
+
+module _ {v : Version} {d : ℕ} {s : Bytes} {at : ℕ} (P : TypeAt v d s at) where
+  -- the head, by the parser's answer
+  head-is : (k : Kind) {m : ℕ} → kind s at ≡ ok k m → (k ≡ headOf (dtypeOf (P .tree))) × (at + length (kindForm k) ≡ m)
+  head-is k {m} h =
+      let H = head-at P {c = record { at = at }} refl refl in
+      let (a, b) = ok-eq (sym h ∙ H .reads) in
+      (a, ap (λ (j : Kind). at + length (kindForm j)) a ∙ H .long ∙ sym b)
+
+  pub leaf-mismatch : (k : Kind) {m : ℕ} → kind s at ≡ ok k m → isLeafKind k ≡ false → LeafPartIs s (leafPart (P .tree)) LeafPart.Mismatch
+  leaf-mismatch k h f = subst (λ (x : Result LeafType). LeafPartIs s x LeafPart.Mismatch) (sym (no-leaf (P .tree) (head-is k h .0) f)) (refl, refl)
+
+  pub struct-mismatch : (k : Kind) {m : ℕ} → kind s at ≡ ok k m → isStructKind k ≡ false → StructPartIs v d s at (structPart (P .tree)) (P .end) StructPart.Mismatch
+  struct-mismatch k h f = subst (λ (x : Result Columns). StructPartIs v d s at x (P .end) StructPart.Mismatch) (sym (no-struct (P .tree) (head-is k h .0) f)) (refl, refl)
+
+  pub element-mismatch : (k : Kind) {m : ℕ} → kind s at ≡ ok k m → hasElement k ≡ false → ElementPartIs v d s at (elementOf (P .tree)) (P .end) ElementPart.Mismatch
+  element-mismatch k h f = subst (λ (x : Inner). ElementPartIs v d s at x (P .end) ElementPart.Mismatch) (sym (no-element (P .tree) (head-is k h .0) f)) refl
+
+-- where an element's label stands
+label-bounds : (s : Bytes) (v : Version) (c : Cursor) {q : Labelled} {l : LabelSpan} {b : Cursor} → labelRes s q ≡ elementLabel v s (c .at) → labelIn s q → q ≡ Labelled.Is l b
+    → (spanIn s (l .name)) × (c .at + l .name .len ≤ b .at) × (l .name .len ≤ 63)
+label-bounds s v c {q} {l} g i k =
+    let h = label-in s i k in
+    let (x, y) = element-label-ends s v (c .at) (label-got s g k) in
+    let z = span-long s (l .name) h in
+    (h, omega arith, omega arith)
+
+module _ {v : Version} {d : ℕ} {s : Bytes} {at : ℕ} (P : TypeAt v d s at) {p : Head} (e : headRes s p ≡ kind s at) where
+  pub leaf-taken : {l : LeafSpan} {c : Cursor} → headIn s p → p ≡ Head.Leaf l c → LeafPartIs s (leafPart (P .tree)) (LeafPart.Is l)
+  unfolding leafPart
+  leaf-taken {l} i f =
+      subst (λ (t : ColumnType). LeafPartIs s (leafPart t) (LeafPart.Is l)) (sym (leaf-at P e f .0)) (record { span = l; is = refl; leaf = refl; inside = head-in s i f })
+
+  pub struct-taken : {n : ℕ} {c : Cursor} → p ≡ Head.Struct n c → StructPartIs v d s at (structPart (P .tree)) (P .end) (StructPart.Is n c)
+  unfolding structPart kindForm u16Bytes
+  struct-taken {n} {c} f =
+      let S = struct-at P e f in
+      let h = head-is P (aStruct n) (sym e ∙ ap (headRes s) f) .1 in
+      subst (λ (t : ColumnType). StructPartIs v d s at (structPart t) (P .end) (StructPart.Is n c)) (sym (S .is))
+      (record { count = n; start = c; is = refl; inner = S .inner; columns = refl; ends = S .ends; after = omega arith })
+
+  module _ {c : Cursor} {q : Labelled} (g : labelRes s q ≡ elementLabel v s (c .at)) (i : labelIn s q) {l : LabelSpan} {b : Cursor} (k : q ≡ Labelled.Is l b) where
+    pub list-taken : p ≡ Head.List c → ElementPartIs v d s at (elementOf (P .tree)) (P .end) (ElementPart.List l b)
+    unfolding elementOf kindForm
+    list-taken f =
+        let L = list-at P e g f k in
+        let (h, x, y) = label-bounds s v c g i k in
+        let z = head-is P aList (sym e ∙ ap (headRes s) f) .1 in
+        subst (λ (t : ColumnType). ElementPartIs v d s at (elementOf t) (P .end) (ElementPart.List l b)) (sym (L .is))
+        (record { span = l; start = b; is = refl; label = refl; inside = h; short = y; inner = L .inner; tree = refl; ends = L .ends; after = omega arith })
+
+    pub array-taken : {w : ℕ} → p ≡ Head.Array w c → ElementPartIs v d s at (elementOf (P .tree)) (P .end) (ElementPart.Array w l b)
+    unfolding elementOf kindForm u32Bytes u16Bytes
+    array-taken {w} f =
+        let L = array-at P e g f k in
+        let (h, x, y) = label-bounds s v c g i k in
+        let z = head-is P (anArray w) (sym e ∙ ap (headRes s) f) .1 in
+        subst (λ (t : ColumnType). ElementPartIs v d s at (elementOf t) (P .end) (ElementPart.Array w l b)) (sym (L .is))
+        (record { span = l; start = b; is = refl; label = refl; inside = h; short = y; inner = L .inner; tree = refl; ends = L .ends; after = omega arith })
+
+-- ---- what a taken part says
+
+module _ (s : Bytes) {r : LeafPart} where
+  pub part-leaf : (X : Result LeafType) {l : LeafSpan} → LeafPartIs s X r → r ≡ LeafPart.Is l → (X ≡ gives (leafAt s l)) × spanIn s (l .zone)
+  part-leaf (refuses n) {l} h e = let z : LeafPart.Mismatch ≡ LeafPart.Is l = sym (h .1) ∙ e in clash (cc)
+  part-leaf (gives x) {l} h e =
+      let z : LeafPart.Is (h .span) ≡ LeafPart.Is l = sym (h .is) ∙ e in
+      let y : h .span ≡ l = cc in
+      (ap gives (sym (h .leaf) ∙ ap (leafAt s) y), subst (λ (x : LeafSpan). spanIn s (x .zone)) y (h .inside))
+
+  pub part-other : (X : Result LeafType) → LeafPartIs s X r → r ≡ LeafPart.Mismatch → X ≡ refuses 24
+  part-other (refuses n) h e = ap refuses (h .0)
+  part-other (gives x) h e = let z : LeafPart.Is (h .span) ≡ LeafPart.Mismatch = sym (h .is) ∙ e in clash (cc)
+
+pub null-leaf : (s : Bytes) (t : ColumnType) (l : LeafSpan) {k : ℕ} → leafPart t ≡ gives (leafAt s l) → k ≡ kindOf (l .leaf) → eqb k 0 ≡ isNullType t
+unfolding leafPart isNullType
+null-leaf s (cleaf m) l {k} h e =
+    let z : m ≡ leafAt s l = cc in
+    let y : leafOf m ≡ l .leaf = ap leafOf z ∙ leaf-of-type (l .leaf) (spanAt s (l .zone)) in
+    rw (e, y)
+null-leaf s (cstruct cs) l h e = clash (cc)
+null-leaf s (clist m t) l h e = clash (cc)
+null-leaf s (carray w m t) l h e = clash (cc)
+
+pub null-other : (t : ColumnType) → leafPart t ≡ refuses 24 → false ≡ isNullType t
+unfolding leafPart isNullType
+null-other (cleaf m) h = clash (cc)
+null-other (cstruct cs) h = refl
+null-other (clist l t) h = refl
+null-other (carray w l t) h = refl
+
+-- whether the incoming type is null, by what was taken
+pub null-part : (s : Bytes) (t : ColumnType) {r : LeafPart} {l : LeafSpan} {k : ℕ} → LeafPartIs s (leafPart t) r → r ≡ LeafPart.Is l → k ≡ kindOf (l .leaf) → eqb k 0 ≡ isNullType t
+null-part s t {r} {l} h e = null-leaf s t l (part-leaf s (leafPart t) h e .0)
+
+-- the zones, by the parts of the bytes that were lent
+pub rule-spans : (p : Policy) (s t : Bytes) (l u : LeafSpan) {x : Verdict}
+    → x ≡ pairRule p (leafType (l .leaf) (take (l .zone .start + l .zone .len - l .zone .start) (drop (l .zone .start) s))) (leafType (u .leaf) (take (u .zone .start + u .zone .len - u .zone .start) (drop (u .zone .start) t)))
+    → x ≡ pairRule p (leafAt s l) (leafAt t u)
+rule-spans p s t l u e =
+    e ∙ ap (λ (n : ℕ). pairRule p (leafType (l .leaf) (take n (drop (l .zone .start) s))) (leafType (u .leaf) (take (u .zone .start + u .zone .len - u .zone .start) (drop (u .zone .start) t)))) (add-sub-cancel-left (l .zone .start) (l .zone .len))
+    ∙ ap (λ (n : ℕ). pairRule p (leafAt s l) (leafType (u .leaf) (take n (drop (u .zone .start) t)))) (add-sub-cancel-left (u .zone .start) (u .zone .len))
+
+-- ---- the leaf case
+
+by-rule : (x : Verdict) (k : Position) (u : LeafType) → ruled x k u ≡ byRule x k (cleaf u)
+unfolding ruled dtypeOf
+by-rule untouched k u = refl
+by-rule (refused n) k u = refl
+by-rule (casts o) k u = refl
+
+module _ (v : Version) (p : Policy) (d : Defaults) (k : Position) (t : ColumnType) {u : ColumnType} {m : LeafType} (is : u ≡ cleaf m) where
+  pub leaf-ruled : {l : LeafType} {x : Verdict} → leafPart t ≡ gives l → x ≡ pairRule p l m → attach v p d u k t ≡ byRule x k u
+  unfolding attach _>>=_
+  leaf-ruled {l} {x} h e =
+      ap (λ (x : ColumnType). attach v p d x k t) is ∙ ap (λ (x : Result LeafType). x >>= λ a. ruled (pairRule p a m) k m) h
+      ∙ by-rule (pairRule p l m) k m ∙ ap (λ (x : ColumnType). byRule (pairRule p l m) k x) (sym is) ∙ ap (λ (y : Verdict). byRule y k u) (sym e)
+
+  pub leaf-refused : leafPart t ≡ refuses 24 → attach v p d u k t ≡ refuses 24
+  unfolding attach _>>=_
+  leaf-refused h = ap (λ (x : ColumnType). attach v p d x k t) is ∙ ap (λ (x : Result LeafType). x >>= λ a. ruled (pairRule p a m) k m) h
+
+-- a refusal, answered
+pub makes-refused : {X : Result Selector} {n : ℕ} (b e : ℕ) (out : Bytes) (k : ℕ) (o : Bytes) → X ≡ refuses n → Makes b e out k X (Made.Refused n) o
+unfolding madeOf Wrote
+makes-refused b e out k o h = rw h (record { answer = refl; wrote = tt })
+
+-- the same answer under another name of the selector
+pub makes-as : {X Y : Result Selector} (b e : ℕ) (r : Made) (out : Bytes) (k : ℕ) (o : Bytes) → X ≡ Y → Makes b e out k Y r o → Makes b e out k X r o
+makes-as {X} {Y} b e r out k o h m = subst (λ (Z : Result Selector). Makes b e out k Z r o) (sym h) m

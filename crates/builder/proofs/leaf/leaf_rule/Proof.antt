@@ -1,0 +1,21 @@
+-- `builder::leaf::leaf_rule` meets its contract. Assumes nothing.
+use denote.Ref.{now}
+use Rattle.builder.proofs.Matching.{rule-spans}
+use borrow.Author.Needs.{needs}
+use Rattle.builder.proofs.leaf.leaf_rule.Statement.{statement}
+use Rattle.builder.proofs.leaf.leaf_rule.Tie as tie
+
+pub leaf-rule-spec : {M : Type 1} → statement M
+leaf-rule-spec =
+    tie.close
+    (tie.spec
+    (λ c. search needs)
+    (λ c. search needs)
+    (λ c. search needs)
+    (λ c. search needs)
+    (λ c. search needs)
+    (λ c. search needs)
+    (λ c. search needs)
+    (λ c. search needs)
+    (λ c κs. search needs)
+    (λ c. rule-spans (c .before .before .before .before .before .before .before .args .policy) (now (c .before .before .before .before .before .before .before .args .incoming)) (now (c .before .before .before .before .before .before .before .args .target)) (c .before .before .before .before .before .before .before .args .l) (c .before .before .before .before .before .before .before .args .u) (c .leaf-type-pair .ensures)))

@@ -1,0 +1,86 @@
+// A type's parts, or else the plain mismatch.
+ghost use mathlib.Core.Path.{_≡_};
+ghost use Prim.Native.Nat.{ℕ};
+ghost use Rattle.layout.specs.Stands.{TypeAt};
+ghost use Rattle.layout.specs.declared.version.Version.{Version as VersionOf};
+ghost use Rattle.builder.specs.Build.{leafPart, structPart, isNullType};
+ghost use Rattle.builder.specs.Answers.{LeafPartIs, StructPartIs, ElementPartIs, elementOf};
+use layout::columns::Label;
+use layout::columns::Labelled;
+use layout::cursor::Cursor;
+use layout::types::Head;
+use layout::types::LeafType;
+use layout::version::Version;
+use rules::kinds::kind;
+
+pub enum LeafPart {
+    Is(LeafType),
+    Mismatch,
+}
+
+// A struct's count of columns, and where they begin.
+pub enum StructPart {
+    Is(u16, Cursor),
+    Mismatch,
+}
+
+// The width (0 for a list), the element's label and where its type begins.
+pub enum ElementPart {
+    List(Label, Cursor),
+    Array(u32, Label, Cursor),
+    Mismatch,
+}
+
+pub fn leaf_part(s: &[u8], c: Cursor) -> LeafPart
+    ensures { λ r. ⌜ ((v : VersionOf) (d : ℕ) (P : TypeAt v d (now (s .entry)) (c .at)) → LeafPartIs (now (s .entry)) (leafPart (P .tree)) r) ⌝ }
+{
+    match c.head(s) {
+        Head::Leaf(l, _) => LeafPart::Is(l),
+        Head::Struct(_, _) => LeafPart::Mismatch,
+        Head::List(_) => LeafPart::Mismatch,
+        Head::Array(_, _) => LeafPart::Mismatch,
+        Head::Refused(_) => LeafPart::Mismatch,
+    }
+}
+
+pub fn struct_part(s: &[u8], c: Cursor) -> StructPart
+    ensures { λ r. ⌜ ((v : VersionOf) (d : ℕ) (P : TypeAt v d (now (s .entry)) (c .at)) → StructPartIs v d (now (s .entry)) (c .at) (structPart (P .tree)) (P .end) r) ⌝ }
+{
+    match c.head(s) {
+        Head::Leaf(_, _) => StructPart::Mismatch,
+        Head::Struct(n, d) => StructPart::Is(n, d),
+        Head::List(_) => StructPart::Mismatch,
+        Head::Array(_, _) => StructPart::Mismatch,
+        Head::Refused(_) => StructPart::Mismatch,
+    }
+}
+
+pub fn element_part(s: &[u8], v: Version, c: Cursor) -> ElementPart
+    ensures { λ r. ⌜ ((d : ℕ) (P : TypeAt v d (now (s .entry)) (c .at)) → ElementPartIs v d (now (s .entry)) (c .at) (elementOf (P .tree)) (P .end) r) ⌝ }
+{
+    match c.head(s) {
+        Head::Leaf(_, _) => ElementPart::Mismatch,
+        Head::Struct(_, _) => ElementPart::Mismatch,
+        Head::List(d) => match d.element_label(s, v) {
+            Labelled::Is(l, e) => ElementPart::List(l, e),
+            Labelled::Refused(_) => ElementPart::Mismatch,
+        },
+        Head::Array(w, d) => match d.element_label(s, v) {
+            Labelled::Is(l, e) => ElementPart::Array(w, l, e),
+            Labelled::Refused(_) => ElementPart::Mismatch,
+        },
+        Head::Refused(_) => ElementPart::Mismatch,
+    }
+}
+
+pub fn is_null_type(s: &[u8], c: Cursor) -> bool
+    ensures { λ r. ⌜ ((v : VersionOf) (d : ℕ) (P : TypeAt v d (now (s .entry)) (c .at)) → r ≡ isNullType (P .tree)) ⌝ }
+{
+    match leaf_part(s, c) {
+        LeafPart::Is(l) => {
+            let leaf = l.leaf;
+            kind(leaf) == 0
+        }
+        LeafPart::Mismatch => false,
+    }
+}

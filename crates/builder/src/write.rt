@@ -1,0 +1,93 @@
+// The bytes of selectors. Bytes past the buffer's end are dropped.
+ghost use mathlib.Core.Path.{_≡_};
+ghost use mathlib.Core.List.{_∷_};
+ghost use Prim.Native.Nat.{_+_, _*_, _^_, _≤_, _<_};
+ghost use lib.ListN.{length};
+ghost use Rattle.store.specs.Overlay.{overlay};
+ghost use Rattle.layout.specs.Tree.{dtypeOf};
+ghost use Rattle.layout.specs.Answers.{spanAt, spanIn};
+ghost use Rattle.layout.specs.Stands.{TypeAt};
+ghost use Rattle.forms.specs.Form.{u16Bytes};
+ghost use Rattle.values.specs.Value.{vnull};
+ghost use Rattle.plan.specs.Selector.{position, constant, cast};
+ghost use Rattle.plan.specs.Encode.{encodeSelector};
+use forms::write::write_form;
+use forms::write::write_text;
+use layout::bytes::Span;
+use layout::columns::Position;
+use layout::cursor::Cursor;
+use layout::version::Version;
+use rules::outcome::CastOption;
+use rules::outcome::option_code;
+use store::put;
+
+pub fn put_short(out: &mut [u8], k: usize, n: u16)
+    requires { ⌜ k + 2 < 2 ^ 64 ⌝ }
+    ensures { λ _. ⌜ now (out .exit) ≡ overlay (now (out .entry)) k (u16Bytes n) ⌝ }
+{
+    put(out, k, (n % 256) as u8);
+    put(out, k + 1, (n / 256) as u8);
+}
+
+// A bare position.
+pub fn put_position(out: &mut [u8], k: usize, p: Position)
+    requires { ⌜ k + 3 < 2 ^ 64 ⌝ }
+    ensures { λ _. ⌜ now (out .exit) ≡ overlay (now (out .entry)) k (encodeSelector (position p)) ⌝ }
+{
+    put(out, k, 0);
+    put_short(out, k + 1, p.0);
+}
+
+// A transform's code and its input, a position.
+pub fn put_head(out: &mut [u8], k: usize, code: u8, p: Position)
+    requires { ⌜ k + 4 < 2 ^ 64 ⌝ }
+    ensures { λ _. ⌜ now (out .exit) ≡ overlay (now (out .entry)) k (code ∷ encodeSelector (position p)) ⌝ }
+{
+    put(out, k, code);
+    put_position(out, k + 1, p);
+}
+
+// A position cast to a target type; its length.
+pub fn put_cast(
+    target: &[u8],
+    v: Version,
+    depth: u8,
+    b: Cursor,
+    p: Position,
+    o: CastOption,
+    out: &mut [u8],
+    k: usize,
+) -> usize
+    requires { ⌜ TypeAt v depth (now target) (b .at) ⌝ }
+    requires { ⌜ k + 5 + 2 * length (now target) < 2 ^ 64 ⌝ }
+    ensures { λ r. ⌜ ((Q : TypeAt v depth (now (target .entry)) (b .at)) → r ≡ length (encodeSelector (cast (position p) (dtypeOf (Q .tree)) o))) ⌝ }
+    ensures { λ _. ⌜ ((Q : TypeAt v depth (now (target .entry)) (b .at)) → now (out .exit) ≡ overlay (now (out .entry)) k (encodeSelector (cast (position p) (dtypeOf (Q .tree)) o))) ⌝ }
+{
+    put_head(out, k, 2, p);
+    let w = write_form(target, v, depth, b, out, k + 4);
+    put(out, k + 4 + w.len, option_code(o));
+    5 + w.len
+}
+
+// A null constant of a target column's name and type; its length.
+pub fn put_null(
+    target: &[u8],
+    v: Version,
+    depth: u8,
+    name: Span,
+    b: Cursor,
+    out: &mut [u8],
+    k: usize,
+) -> usize
+    requires { ⌜ spanIn (now target) name × (name .len ≤ 63) ⌝ }
+    requires { ⌜ TypeAt v depth (now target) (b .at) ⌝ }
+    requires { ⌜ k + 66 + 2 * length (now target) < 2 ^ 64 ⌝ }
+    ensures { λ r. ⌜ ((Q : TypeAt v depth (now (target .entry)) (b .at)) → r ≡ length (encodeSelector (constant (spanAt (now (target .entry)) name) (dtypeOf (Q .tree)) vnull))) ⌝ }
+    ensures { λ _. ⌜ ((Q : TypeAt v depth (now (target .entry)) (b .at)) → now (out .exit) ≡ overlay (now (out .entry)) k (encodeSelector (constant (spanAt (now (target .entry)) name) (dtypeOf (Q .tree)) vnull))) ⌝ }
+{
+    put(out, k, 1);
+    let n = write_text(target, name, out, k + 1);
+    let w = write_form(target, v, depth, b, out, k + 1 + n);
+    put(out, k + 1 + n + w.len, 0);
+    2 + n + w.len
+}
