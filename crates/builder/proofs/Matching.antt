@@ -35,8 +35,8 @@ use Rattle.rules.proofs.LeafTypes.{leaf-of-type}
 use Rattle.rules.specs.declared.policy.Policy.{Policy}
 use Rattle.plan.specs.Result.{Result, gives, refuses, _>>=_}
 use Rattle.plan.specs.Selector.{Selector}
-use Rattle.builder.specs.Default.{Defaults, noDefaults}
-use Rattle.builder.specs.Build.{leafPart, structPart, isNullType, ruled, attach}
+use Rattle.matching.specs.Default.{Defaults, noDefaults}
+use Rattle.matching.specs.Build.{leafPart, structPart, isNullType, ruled, attach}
 use Rattle.builder.specs.Answers.{LeafIs, LeafPartIs, StructIs, StructPartIs, Inner, noElement, listElement, arrayElement, elementOf, ElementIs, ElementPartIs, madeOf, Wrote, Makes, byRule}
 use Rattle.builder.specs.declared.answer.Made.{Made}
 use Rattle.builder.specs.declared.parts.LeafPart.{LeafPart}

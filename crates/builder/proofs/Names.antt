@@ -23,7 +23,7 @@ use Rattle.layout.specs.declared.version.Version.{Version}
 use Rattle.layout.specs.declared.version.Version.the-variants.{ByName, ByNumber}
 use Rattle.layout.proofs.Ways.{clash}
 use Rattle.layout.proofs.View.{FirstAt, first-at, first-labelled, no-column, same-columns, columns-moved}
-use Rattle.builder.specs.Build.{counterpart, isAbsent, distinctNames, distinct, noExtra}
+use Rattle.matching.specs.Build.{counterpart, isAbsent, distinctNames, distinct, noExtra}
 
 -- ---- lookups
 

@@ -26,9 +26,9 @@ use Rattle.rules.specs.declared.outcome.CastOption.the-variants.{NonStrict}
 use Rattle.plan.specs.Result.{gives, demand}
 use Rattle.plan.specs.Selector.{Selector, position, constant, cast, rename}
 use Rattle.plan.specs.Encode.{encodeSelector}
-use Rattle.builder.specs.Default.{noDefaults}
-use Rattle.builder.proofs.ByName.{missing-constant}
-use Rattle.builder.specs.Build.{isByName, isNullType, sameElement, renamed, distinct, noExtra, ignores, missing}
+use Rattle.matching.specs.Default.{noDefaults}
+use Rattle.matching.proofs.ByName.{missing-constant}
+use Rattle.matching.specs.Build.{isByName, isNullType, sameElement, renamed, distinct, noExtra, ignores, missing}
 use Rattle.builder.specs.Answers.{madeOf, Wrote, Makes, needsRename, faultOf, nullCast}
 use Rattle.builder.specs.declared.answer.Made.{Made}
 use Rattle.builder.proofs.Putting.{cast-long, null-long, form-some}

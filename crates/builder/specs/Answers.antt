@@ -22,8 +22,8 @@ use Rattle.rules.specs.declared.outcome.CastOption.the-variants.{NonStrict}
 use Rattle.plan.specs.Result.{Result, gives, refuses, demand}
 use Rattle.plan.specs.Selector.{Selector, position, constant, cast, rename, structMapping, listMapping, arrayMapping, Selectors}
 use Rattle.plan.specs.Encode.{encodeSelector, encodeSelectors}
-use Rattle.builder.specs.Default.{noDefaults}
-use Rattle.builder.specs.Build.{inPlace, attach, attachFields, distinct, noExtra, ignores}
+use Rattle.matching.specs.Default.{noDefaults}
+use Rattle.matching.specs.Build.{inPlace, attach, attachFields, distinct, noExtra, ignores}
 use Rattle.builder.specs.declared.answer.Made.{Made}
 use Rattle.builder.specs.declared.answer.Made.the-variants.{Refused, Bare, Built}
 use Rattle.builder.specs.declared.answer.Row.{Row}

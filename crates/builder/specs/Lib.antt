@@ -1,8 +1,1 @@
-pub mod Default
-pub mod Build
-pub mod Calls
-pub mod Due
-pub mod Untouched
-pub mod Iceberg
-pub mod Stated
 pub mod Answers

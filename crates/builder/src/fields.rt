@@ -4,7 +4,7 @@ ghost use mathlib.Core.Bool.{not};
 ghost use Rattle.layout.specs.Answers.{spanAt, spanIn, labelAt};
 ghost use Rattle.layout.specs.Find.{columnNamed, Finds};
 ghost use Rattle.layout.specs.Stands.{ColumnsAt};
-ghost use Rattle.builder.specs.Build.{counterpart, isAbsent, distinctNames, distinct as distinctBy, noExtra};
+ghost use Rattle.matching.specs.Build.{counterpart, isAbsent, distinctNames, distinct as distinctBy, noExtra};
 use layout::bytes::Span;
 use layout::columns::Label;
 use layout::columns::Labelled;

@@ -3,7 +3,7 @@ ghost use mathlib.Core.Path.{_≡_};
 ghost use Prim.Native.Nat.{ℕ};
 ghost use Rattle.layout.specs.Stands.{TypeAt};
 ghost use Rattle.layout.specs.declared.version.Version.{Version as VersionOf};
-ghost use Rattle.builder.specs.Build.{leafPart, structPart, isNullType};
+ghost use Rattle.matching.specs.Build.{leafPart, structPart, isNullType};
 ghost use Rattle.builder.specs.Answers.{LeafPartIs, StructPartIs, ElementPartIs, elementOf};
 use layout::columns::Label;
 use layout::columns::Labelled;

@@ -1,6 +1,6 @@
 -- `builder::fields::distinct_names` meets its contract. Assumes nothing.
 use mathlib.Core.Path.{refl}
-use Rattle.builder.specs.Build.{distinctNames}
+use Rattle.matching.specs.Build.{distinctNames}
 use Rattle.layout.proofs.Ways.{label-in}
 use Rattle.builder.proofs.Names.{Passing, passing-start, passing-done, passing-unlabelled, column, tail-at, names-stop, names-more}
 use borrow.Author.Needs.{needs}

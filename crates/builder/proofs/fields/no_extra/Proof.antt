@@ -1,6 +1,6 @@
 -- `builder::fields::no_extra` meets its contract. Assumes nothing.
 use mathlib.Core.Path.{refl}
-use Rattle.builder.specs.Build.{noExtra}
+use Rattle.matching.specs.Build.{noExtra}
 use Rattle.layout.specs.Stands.{ColumnsAt}
 use Rattle.layout.proofs.Ways.{label-in}
 use Rattle.builder.proofs.Names.{Passing, passing-start, passing-done, passing-unlabelled, column, fields-stop, fields-more}

@@ -1,7 +1,7 @@
 -- `builder::leaf::attach_leaf` meets its contract. Assumes nothing.
 use denote.Ref.{now}
-use Rattle.builder.specs.Default.{noDefaults}
-use Rattle.builder.specs.Build.{leafPart}
+use Rattle.matching.specs.Default.{noDefaults}
+use Rattle.matching.specs.Build.{leafPart}
 use Rattle.builder.proofs.Matching.{part-leaf, part-other, leaf-ruled, leaf-refused, makes-refused, makes-as}
 use borrow.Author.Needs.{needs}
 use Rattle.builder.proofs.leaf.attach_leaf.Statement.{statement}

@@ -1,6 +1,6 @@
 -- `builder::parts::is_null_type` meets its contract. Assumes nothing.
 use denote.Ref.{now}
-use Rattle.builder.specs.Build.{leafPart}
+use Rattle.matching.specs.Build.{leafPart}
 use Rattle.builder.proofs.Matching.{null-part, part-other, null-other}
 use borrow.Author.Needs.{needs}
 use Rattle.builder.proofs.parts.is_null_type.Statement.{statement}

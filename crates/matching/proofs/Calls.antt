@@ -1,0 +1,161 @@
+-- Demand 3 for the calls: what a build that was accepted wrote, over any bytes. Assumes nothing.
+use Prim.Native.Nat.{ℕ, _≤_}
+use mathlib.Core.Path.{_≡_, refl, sym, ap, _∙_}
+use mathlib.Core.Bool.{true}
+use mathlib.Core.List.{List}
+use lib.ListN.{length}
+use lib.Dec.{leb}
+use borrow.Author.Tests.{leb-true}
+use Rattle.layout.specs.Bytes.{Bytes, AllBytes}
+use Rattle.layout.specs.Parser.{Res, refuse, ok}
+use Rattle.layout.specs.Tree.{Columns, Layout, fieldsOf}
+use Rattle.layout.specs.Layout.{layout}
+use Rattle.layout.specs.declared.version.Version.{Version}
+use Rattle.layout.specs.declared.version.Version.the-variants.{ByName, ByNumber}
+use Rattle.layout.proofs.Ways.{clash}
+use Rattle.rules.specs.declared.policy.Policy.{Policy}
+use Rattle.values.specs.Value.{Values}
+use Rattle.values.specs.Fits.{FitsAll}
+use Rattle.values.specs.Encode.{encodeValues}
+use Rattle.values.specs.Record.{RecordFits}
+use Rattle.plan.specs.Result.{Answer, accepted, answered}
+use Rattle.plan.specs.Selector.{Selectors}
+use Rattle.plan.specs.Encode.{encodePlan}
+use Rattle.plan.specs.Read.{plan, longestPlan}
+use Rattle.plan.specs.Check.{check}
+use Rattle.plan.specs.Run.{evals, spacious, run}
+use Rattle.plan.specs.Reach.{ReachesOverflow}
+use Rattle.plan.specs.Formed.{FormedAll}
+use Rattle.plan.proofs.Results.{both, accepted-eq, gives-eq, demand-gives, placed-accepted, answered-accepted}
+use Rattle.defaults.specs.Table.{Entry, table}
+use Rattle.defaults.specs.Lookup.{getDefaultValue}
+use Rattle.plan.proofs.Theorems.{Runs, plan-runs}
+use Rattle.matching.specs.Default.{Defaults, noDefaults}
+use Rattle.matching.specs.Build.{build}
+use Rattle.matching.specs.Calls.{readAt, sameVersion, ofVersion, bothLayouts, roomFor, writtenPlan, buildByName, buildByNumber}
+use Rattle.matching.specs.Due.{dues}
+use Rattle.matching.proofs.Limits.{layout-limits}
+use Rattle.matching.proofs.Fitting.{Good, good-none, table-good}
+use Rattle.matching.proofs.Theorems.{build-passes, build-due, build-formed, build-reads}
+
+-- what a build that was accepted wrote
+pub record Built (v : Version) (p : Policy) (d : Defaults) (incoming target bytes : Bytes) : Type 0 where
+  pub from : Columns
+  pub to : Columns
+  pub fromEnd : ℕ
+  pub toEnd : ℕ
+  pub incomingRead : layout incoming ≡ ok (record { version = v; columns = from }) fromEnd
+  pub targetRead : layout target ≡ ok (record { version = v; columns = to }) toEnd
+  pub selectors : Selectors
+  pub built : build v p d from to ≡ accepted selectors
+  pub is : bytes ≡ encodePlan selectors
+  pub reads : plan bytes ≡ ok selectors (length bytes)
+  pub formed : FormedAll selectors
+  pub passes : check (fieldsOf from) (fieldsOf to) selectors ≡ accepted tt
+  pub due : (ρ : Values) → FitsAll (fieldsOf from) ρ → evals ρ selectors ≡ dues v d to from ρ
+
+read-at : {A B : Type 0} (k : ℕ) (r : Res A) (f : A → Answer B) {b : B} → readAt k r f ≡ accepted b → (a : A) × (m : ℕ) × (r ≡ ok a m) × (f a ≡ accepted b)
+unfolding readAt
+read-at k (refuse n) f e = clash (cc)
+read-at k (ok a m) f e = (a, m, refl, e)
+
+version-eq : (v w : Version) → sameVersion v w ≡ true → w ≡ v
+version-eq ByName ByName e = refl
+version-eq ByName ByNumber e = clash (cc)
+version-eq ByNumber ByName e = clash (cc)
+version-eq ByNumber ByNumber e = refl
+
+of-version : (v : Version) (s : Bytes) (l : Layout) {m : ℕ} → layout s ≡ ok l m → sameVersion v (l .version) ≡ true → layout s ≡ ok (record { version = v; columns = l .columns }) m
+of-version v s l {m} e q = e ∙ ap (λ (w : Version). ok (record { version = w; columns = l .columns }) m) (version-eq v (l .version) q)
+
+-- the two layouts that were read
+record Both {A : Type 0} (v : Version) (incoming target : Bytes) (f : Columns → Columns → Answer A) (a : A) : Type 0 where
+  from : Columns
+  to : Columns
+  fromEnd : ℕ
+  toEnd : ℕ
+  incomingRead : layout incoming ≡ ok (record { version = v; columns = from }) fromEnd
+  targetRead : layout target ≡ ok (record { version = v; columns = to }) toEnd
+  next : f from to ≡ accepted a
+
+both-read : {A : Type 0} (v : Version) (incoming target : Bytes) (f : Columns → Columns → Answer A) {a : A} → bothLayouts v incoming target f ≡ accepted a → Both v incoming target f a
+unfolding bothLayouts ofVersion
+both-read v incoming target f e =
+    let (x, m, p, e) = read-at 1 (layout incoming) _ e in
+    let (y, n, q, e) = read-at 2 (layout target) _ e in
+    let (u, c, e) = placed-accepted _ _ _ e in
+    let (c, h) = demand-gives _ _ _ c in
+    let (c, h) = both (sameVersion v (x .version)) c in
+    record { from = x .columns; to = y .columns; fromEnd = m; toEnd = n; incomingRead = of-version v incoming x p c; targetRead = of-version v target y q h; next = e }
+
+written-plan : (room : ℕ) (ss : Selectors) {b : Bytes} → writtenPlan room ss ≡ accepted b → (b ≡ encodePlan ss) × (length (encodePlan ss) ≤ longestPlan)
+unfolding writtenPlan roomFor
+written-plan room ss e =
+    let (x, c, e) = placed-accepted _ _ _ e in
+    let (c, g) = demand-gives _ _ _ c in
+    (sym (accepted-eq e) ∙ sym (gives-eq g), leb-true _ _ (both (leb (length (encodePlan ss)) room) c .1))
+
+built-of : (v : Version) (p : Policy) (d : Defaults) (incoming target : Bytes) (room : ℕ) {b : Bytes} {from to : Columns} {m n : ℕ} → AllBytes incoming → AllBytes target → Good d
+    → layout incoming ≡ ok (record { version = v; columns = from }) m → layout target ≡ ok (record { version = v; columns = to }) n
+    → answered (build v p d from to) (λ ss. writtenPlan room ss) ≡ accepted b → Built v p d incoming target b
+built-of v p d incoming target room {from = from} {to = to} {m} {n} oi ot g i t e =
+    let (ss, q, e) = answered-accepted (build v p d from to) _ e in
+    let (w, l) = written-plan room ss e in
+    let y = layout-limits incoming oi i in
+    let z = layout-limits target ot t in
+    record {
+      from = from;
+      to = to;
+      fromEnd = m;
+      toEnd = n;
+      incomingRead = i;
+      targetRead = t;
+      selectors = ss;
+      built = q;
+      is = w;
+      reads = ap plan w ∙ (build-reads v p d from to q g y z l ∙ ap (λ (b : Bytes). ok ss (length b)) (sym w));
+      formed = build-formed v p d from to q g y z;
+      passes = build-passes v p d from to q g z;
+      due = λ ρ h. build-due v p d from to q h;
+    }
+
+pub by-name-built : (p : Policy) (incoming target : Bytes) (room : ℕ) {b : Bytes} → AllBytes incoming → AllBytes target → buildByName p incoming target room ≡ accepted b → Built ByName p noDefaults incoming target b
+unfolding buildByName
+by-name-built p incoming target room oi ot e =
+    let B = both-read ByName incoming target _ e in
+    built-of ByName p noDefaults incoming target room oi ot good-none (B .incomingRead) (B .targetRead) (B .next)
+
+-- the table that was read, and what was built with it
+pub record BuiltByNumber (p : Policy) (index : ℕ) (incoming target defaults bytes : Bytes) : Type 0 where
+  pub entries : List Entry
+  pub end : ℕ
+  pub tableRead : table defaults ≡ ok entries end
+  pub built : Built ByNumber p (getDefaultValue entries index) incoming target bytes
+
+pub by-number-built : (p : Policy) (index : ℕ) (incoming target defaults : Bytes) (room : ℕ) {b : Bytes} → AllBytes incoming → AllBytes target → AllBytes defaults → buildByNumber p index incoming target defaults room ≡ accepted b
+    → BuiltByNumber p index incoming target defaults b
+unfolding buildByNumber
+by-number-built p index incoming target defaults room oi ot od e =
+    let B = both-read ByNumber incoming target _ e in
+    let (es, m, q, e) = read-at 3 (table defaults) _ (B .next) in
+    record {
+      entries = es;
+      end = m;
+      tableRead = q;
+      built = built-of ByNumber p (getDefaultValue es index) incoming target room oi ot (table-good defaults od index q) (B .incomingRead) (B .targetRead) e;
+    }
+
+-- ---- the run of a plan that was built, between its own two layouts
+
+module _ {v : Version} {p : Policy} {d : Defaults} {incoming target bytes : Bytes} (B : Built v p d incoming target bytes) {ρ : Values} (h : FitsAll (fieldsOf (B .from)) ρ) (room : ℕ) where
+  -- it is the run of a plan that passes the check: what is left is 44, 45 or a record that fits the target
+  pub built-runs : Runs (fieldsOf (B .to)) ρ (B .selectors) room
+  built-runs = plan-runs (fieldsOf (B .from)) (fieldsOf (B .to)) (B .formed) (B .passes) h room
+
+  -- "unless it refuses as just said, writes exactly the record that document 01 calls due"
+  pub built-writes : (ReachesOverflow ρ (B .selectors) → ⊥) → spacious room (encodeValues (dues v d (B .to) (B .from) ρ)) ≡ true
+      → (run ρ (B .selectors) room ≡ accepted (encodeValues (dues v d (B .to) (B .from) ρ))) × RecordFits (fieldsOf (B .to)) (encodeValues (dues v d (B .to) (B .from) ρ))
+  built-writes n s =
+      let e = B .due ρ h in
+      let (w, (f, r)) = built-runs .writes n (ap (λ (vs : Values). spacious room (encodeValues vs)) e ∙ s) in
+      (w ∙ ap (λ (vs : Values). accepted (encodeValues vs)) e, rw e at r)

@@ -1,0 +1,17 @@
+pub mod Lookup
+pub mod Attach
+pub mod InPlace
+pub mod Untouched
+pub mod Limits
+pub mod Entries
+pub mod Fitting
+pub mod Passes
+pub mod Right
+pub mod Nesting
+pub mod ByName
+pub mod Iceberg
+pub mod OneReading
+pub mod Theorems
+pub mod Calls
+pub mod Projected
+pub mod Samples

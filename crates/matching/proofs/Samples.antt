@@ -1,0 +1,318 @@
+-- Document 01's samples of builds, and others, computed from the definitions over bytes.
+use Prim.Native.Nat.{ℕ}
+use mathlib.Core.Path.{_≡_, refl}
+use mathlib.Core.List.{List, [], _∷_, _++_}
+use Rattle.layout.specs.Bytes.{Bytes, sameBytes}
+use Rattle.layout.specs.Parser.{Res, refuse, ok, next, choose, byte, chunk, u16, u32}
+use Rattle.layout.specs.Tree.{int8, Layout, dtypeOf, fieldsOf, countColumns, countFields}
+use Rattle.layout.specs.Layout.{layout, layoutFrom, sized, version, counted, ended, columns, label, text, fieldId, type, kind, kindOf, leafKind, datetimeKind, structKind, arrayKind, unit, body, structType, listType, arrayType, elementLabel, repeatsAny}
+use Rattle.layout.specs.Find.{findFrom}
+use Rattle.layout.specs.declared.leaf.Leaf.the-variants.{Int8}
+use Rattle.forms.specs.Form.{u16Bytes, u32Bytes, textBytes, unitCode, leafForm, kindForm, form, formFields}
+use Rattle.forms.specs.Same.{sameLeaf, sameDtype}
+use Rattle.rules.specs.declared.policy.Policy.{Policy}
+use Rattle.rules.specs.Policies.{policyOf}
+use Rattle.rules.specs.Zones.{zonesOf, readZone, isUtc}
+use Rattle.rules.specs.Chain.{chain}
+use Rattle.rules.specs.Pairs.{pairRule}
+use Rattle.store.specs.Overlay.{littleBytes}
+use Rattle.values.specs.Value.{vnull, vnumber, vnil, vcons}
+use Rattle.values.specs.Encode.{encodeValue, encodeValues}
+use Rattle.values.specs.Reading.{presence, nullable, flag, little, longText, contentBy, leafContent, times, content, value}
+use Rattle.plan.specs.Result.{Answer, accepted, refusedAt, _>>=_, demand, placed, answered}
+use Rattle.plan.specs.Selector.{countSelectors}
+use Rattle.plan.specs.Encode.{encodeSelector, encodeSelectors, encodePlan}
+use Rattle.defaults.specs.Table.{initial, partition, Entry, sameKind, repeatsAnyEntry, onlyLeaf, defaultType, initialEntry, loadedEntry, partitionEntry, givenOf, entry, entries, tableVersion, tableFrom, table}
+use Rattle.defaults.specs.Lookup.{unlessNull, ofSource, givenTo, firstEntry, getDefaultValue}
+use Rattle.matching.specs.Default.{leafDefault, withField, structDefault, defaultOf, defaultsOf, missingValue}
+use Rattle.matching.specs.Build.{leafPart, structPart, listPart, arrayPart, isNullType, unlessNullType, renamed, sameElement, distinctNames, distinct, noExtra, missing, ruled, isPosition, inPlace, structSelector, listSelector, arraySelector, sought, attach, attachFields, buildColumnSelector, buildFrom, build}
+use Rattle.matching.specs.Calls.{readAt, ofVersion, bothLayouts, roomFor, writtenPlan, buildByName, buildByNumber}
+
+-- opens every definition that a sample computes through
+laidOut : Bytes → Res Layout
+unfolding layout layoutFrom sized version sameBytes counted ended columns label text byte chunk u16 u32 fieldId type kind kindOf leafKind datetimeKind structKind arrayKind unit body structType listType arrayType elementLabel repeatsAny next choose
+laidOut s = layout s
+
+tabled : Bytes → Res (List Entry)
+unfolding laidOut table tableFrom tableVersion entries entry givenOf partitionEntry loadedEntry initialEntry defaultType onlyLeaf repeatsAnyEntry sameKind presence nullable flag little longText contentBy leafContent times content value
+tabled s = table s
+
+built : Policy → ℕ → Bytes → Bytes → Bytes → ℕ → Answer Bytes
+unfolding tabled buildByName buildByNumber bothLayouts readAt ofVersion roomFor writtenPlan build buildFrom buildColumnSelector attach attachFields sought missing missingValue defaultOf defaultsOf structDefault withField leafDefault getDefaultValue firstEntry givenTo ofSource unlessNull leafPart structPart listPart arrayPart isNullType unlessNullType renamed sameElement distinctNames distinct noExtra ruled isPosition inPlace structSelector listSelector arraySelector findFrom pairRule chain zonesOf readZone isUtc sameDtype sameLeaf dtypeOf fieldsOf countColumns countFields countSelectors encodePlan encodeSelector encodeSelectors u16Bytes u32Bytes textBytes unitCode leafForm kindForm form formFields encodeValue encodeValues littleBytes _>>=_ demand placed answered
+built p k a b d room = buildByNumber p k a b d room
+
+-- ---- layouts, tables and plans
+
+-- a layout of the version v with n columns
+abbrev laid : ℕ → ℕ → Bytes → Bytes
+laid v n cs = 0x4C ∷ 0x41 ∷ 0x59 ∷ v ∷ 0 ∷ n ∷ 0 ∷ cs
+
+-- a column of version 1 with a name of one byte
+abbrev named : ℕ → Bytes → Bytes
+named c t = 1 ∷ c ∷ t
+
+-- and of version 2
+abbrev numbered : ℕ → ℕ → Bytes → Bytes
+numbered c i t = 1 ∷ c ∷ i ∷ 0 ∷ 0 ∷ 0 ∷ t
+
+abbrev structOf : ℕ → Bytes → Bytes
+structOf n cs = 18 ∷ n ∷ 0 ∷ cs
+
+-- a table of n entries
+abbrev defaults : ℕ → Bytes → Bytes
+defaults n es = 0x44 ∷ 0x45 ∷ 0x46 ∷ 1 ∷ 0 ∷ n ∷ 0 ∷ es
+
+-- an entry of the id i and the kind k
+abbrev entryOf : ℕ → ℕ → Bytes → Bytes
+entryOf i k r = i ∷ 0 ∷ 0 ∷ 0 ∷ k ∷ r
+
+-- a plan of n selectors
+abbrev planned : ℕ → Bytes → Bytes
+planned n ss = 0x50 ∷ 0x4C ∷ 0x4E ∷ 1 ∷ 0 ∷ n ∷ 0 ∷ ss
+
+-- every flag on; extra fields under Raise; missing fields under Raise; missing columns under Raise; null_upcast off
+abbrev on : Policy
+on = policyOf 16383
+
+abbrev noExtras : Policy
+noExtras = policyOf 12287
+
+abbrev noMissing : Policy
+noMissing = policyOf 14335
+
+abbrev noMissingColumns : Policy
+noMissingColumns = policyOf 8191
+
+abbrev noNulls : Policy
+noNulls = policyOf 16382
+
+-- one column t by name, with room for the plan
+abbrev byName : Policy → Bytes → Bytes → Answer Bytes
+byName p t u = buildByName p (laid 1 1 (named 0x74 t)) (laid 1 1 (named 0x74 u)) 1000
+
+-- one column t of the id 1 by number
+abbrev byNumber : Policy → Bytes → Bytes → Bytes → Answer Bytes
+byNumber p d t u = buildByNumber p 0 (laid 2 1 (numbered 0x74 1 t)) (laid 2 1 (numbered 0x74 1 u)) d 1000
+
+-- ---- S1 to S4, S12
+
+s1 : buildByName on (0x4C ∷ 0x41 ∷ 0x59 ∷ 1 ∷ 0 ∷ 1 ∷ 0 ∷ 1 ∷ 0x74 ∷ 3 ∷ []) (0x4C ∷ 0x41 ∷ 0x59 ∷ 1 ∷ 0 ∷ 2 ∷ 0 ∷ 1 ∷ 0x74 ∷ 4 ∷ 1 ∷ 0x73 ∷ 0x0F ∷ []) 18
+    ≡ accepted (0x50 ∷ 0x4C ∷ 0x4E ∷ 1 ∷ 0 ∷ 2 ∷ 0 ∷ 2 ∷ 0 ∷ 0 ∷ 0 ∷ 4 ∷ 2 ∷ 1 ∷ 1 ∷ 0x73 ∷ 0x0F ∷ 0 ∷ [])
+unfolding built
+s1 = refl
+
+-- one byte less is 27
+s1-short : buildByName on (laid 1 1 (named 0x74 (3 ∷ []))) (laid 1 2 (named 0x74 (4 ∷ named 0x73 (15 ∷ [])))) 17 ≡ refusedAt 27 0
+unfolding built
+s1-short = refl
+
+-- 11 at its column
+s1-raise : buildByName noMissingColumns (laid 1 1 (named 0x74 (3 ∷ []))) (laid 1 2 (named 0x74 (4 ∷ named 0x73 (15 ∷ [])))) 18 ≡ refusedAt 11 1
+unfolding built
+s1-raise = refl
+
+s2 : byName on (8 ∷ []) (4 ∷ []) ≡ refusedAt 17 0
+unfolding built
+s2 = refl
+
+s3 : byName on (8 ∷ []) (5 ∷ []) ≡ accepted (planned 1 (2 ∷ 0 ∷ 0 ∷ 0 ∷ 5 ∷ 2 ∷ []))
+unfolding built
+s3 = refl
+
+-- a NonStrict cast, not untouched
+s4 : byName on (14 ∷ 1 ∷ 0 ∷ []) (14 ∷ 1 ∷ 3 ∷ 85 ∷ 84 ∷ 67 ∷ []) ≡ accepted (planned 1 (2 ∷ 0 ∷ 0 ∷ 0 ∷ 14 ∷ 1 ∷ 3 ∷ 85 ∷ 84 ∷ 67 ∷ 0 ∷ []))
+unfolding built
+s4 = refl
+
+s4-untouched : byName on (14 ∷ 1 ∷ 0 ∷ []) (14 ∷ 1 ∷ 0 ∷ []) ≡ accepted (planned 1 (0 ∷ 0 ∷ 0 ∷ []))
+unfolding built
+s4-untouched = refl
+
+s12 : byName on (20 ∷ 2 ∷ 0 ∷ 0 ∷ 0 ∷ 3 ∷ []) (20 ∷ 3 ∷ 0 ∷ 0 ∷ 0 ∷ 3 ∷ []) ≡ refusedAt 24 0
+unfolding built
+s12 = refl
+
+-- ---- structs by name
+
+-- 13 is looked for after 12
+extra-field : byName noExtras (structOf 2 (named 0x61 (3 ∷ named 0x62 (3 ∷ [])))) (structOf 1 (named 0x61 (3 ∷ []))) ≡ refusedAt 13 0
+unfolding built
+extra-field = refl
+
+extra-and-repeated : byName noExtras (structOf 2 (named 0x62 (3 ∷ named 0x62 (3 ∷ [])))) (structOf 1 (named 0x61 (3 ∷ []))) ≡ refusedAt 12 0
+unfolding built
+extra-and-repeated = refl
+
+-- 13 before 14
+extra-and-missing : byName (policyOf 10239) (structOf 1 (named 0x62 (3 ∷ []))) (structOf 1 (named 0x61 (3 ∷ []))) ≡ refusedAt 13 0
+unfolding built
+extra-and-missing = refl
+
+missing-field : byName noMissing (structOf 0 []) (structOf 1 (named 0x61 (3 ∷ []))) ≡ refusedAt 14 0
+unfolding built
+missing-field = refl
+
+-- equal structs that repeat a name are not tested for equality first
+equal-and-repeated : byName on (structOf 2 (named 0x61 (3 ∷ named 0x61 (3 ∷ [])))) (structOf 2 (named 0x61 (3 ∷ named 0x61 (3 ∷ [])))) ≡ refusedAt 12 0
+unfolding built
+equal-and-repeated = refl
+
+-- a null column is cast whole, before 12 is looked for
+null-to-struct : byName on (0 ∷ []) (structOf 2 (named 0x61 (3 ∷ named 0x61 (3 ∷ [])))) ≡ accepted (planned 1 (2 ∷ 0 ∷ 0 ∷ 0 ∷ structOf 2 (named 0x61 (3 ∷ named 0x61 (3 ∷ [])) ++ (0 ∷ []))))
+unfolding built
+null-to-struct = refl
+
+null-refused : byName noNulls (0 ∷ []) (19 ∷ 3 ∷ []) ≡ refusedAt 15 0
+unfolding built
+null-refused = refl
+
+-- fields in another order: a mapping; in their own: none
+reordered : byName on (structOf 2 (named 0x61 (3 ∷ named 0x62 (4 ∷ [])))) (structOf 2 (named 0x62 (4 ∷ named 0x61 (3 ∷ []))))
+    ≡ accepted (planned 1 (4 ∷ 0 ∷ 0 ∷ 0 ∷ 2 ∷ 0 ∷ 0 ∷ 1 ∷ 0 ∷ 0 ∷ 0 ∷ 0 ∷ []))
+unfolding built
+reordered = refl
+
+in-order : byName on (structOf 2 (named 0x61 (3 ∷ named 0x62 (4 ∷ [])))) (structOf 2 (named 0x61 (3 ∷ named 0x62 (4 ∷ [])))) ≡ accepted (planned 1 (0 ∷ 0 ∷ 0 ∷ []))
+unfolding built
+in-order = refl
+
+-- the first fields alone: the counts differ
+prefix : byName on (structOf 2 (named 0x61 (3 ∷ named 0x62 (4 ∷ [])))) (structOf 1 (named 0x61 (3 ∷ []))) ≡ accepted (planned 1 (4 ∷ 0 ∷ 0 ∷ 0 ∷ 1 ∷ 0 ∷ 0 ∷ 0 ∷ 0 ∷ []))
+unfolding built
+prefix = refl
+
+-- ---- by number
+
+abbrev none : Bytes
+none = defaults 0 []
+
+-- null against a nested type is 24, and a struct has no test 12
+null-by-number : byNumber on none (0 ∷ []) (structOf 0 []) ≡ refusedAt 24 0
+unfolding built
+null-by-number = refl
+
+repeated-by-number : byNumber on none (structOf 2 (numbered 0x61 2 (3 ∷ numbered 0x61 3 (3 ∷ [])))) (structOf 2 (numbered 0x61 2 (3 ∷ numbered 0x61 3 (3 ∷ [])))) ≡ accepted (planned 1 (0 ∷ 0 ∷ 0 ∷ []))
+unfolding built
+repeated-by-number = refl
+
+-- elements: 25, and none where an id is 4,294,967,295; an unequal name is a rename inside a mapping
+element-ids : byNumber on none (19 ∷ numbered 0x65 2 (3 ∷ [])) (19 ∷ numbered 0x65 3 (3 ∷ [])) ≡ refusedAt 25 0
+unfolding built
+element-ids = refl
+
+element-default-id : byNumber on none (19 ∷ numbered 0x65 2 (3 ∷ [])) (19 ∷ 1 ∷ 0x65 ∷ 255 ∷ 255 ∷ 255 ∷ 255 ∷ 3 ∷ []) ≡ accepted (planned 1 (0 ∷ 0 ∷ 0 ∷ []))
+unfolding built
+element-default-id = refl
+
+element-renamed : byNumber on none (19 ∷ numbered 0x65 2 (3 ∷ [])) (19 ∷ numbered 0x66 2 (3 ∷ [])) ≡ accepted (planned 1 (5 ∷ 0 ∷ 0 ∷ 0 ∷ 3 ∷ 0 ∷ 0 ∷ 0 ∷ 1 ∷ 0x66 ∷ []))
+unfolding built
+element-renamed = refl
+
+-- ---- defaults
+
+-- the target's field 2, an int8, is missing
+abbrev missingField : Policy → Bytes → Answer Bytes
+missingField p d = byNumber p d (structOf 0 []) (structOf 1 (numbered 0x61 2 (2 ∷ [])))
+
+-- the plan that gives it the value
+abbrev inserted : Bytes → Answer Bytes
+inserted v = accepted (planned 1 (4 ∷ 0 ∷ 0 ∷ 0 ∷ 1 ∷ 0 ∷ 1 ∷ 1 ∷ 0x61 ∷ 2 ∷ v))
+
+abbrev initialSeven : Bytes
+initialSeven = entryOf 2 0 (2 ∷ 1 ∷ 7 ∷ [])
+
+initial-default : missingField on (defaults 1 initialSeven) ≡ inserted (1 ∷ 7 ∷ [])
+unfolding built
+initial-default = refl
+
+-- a null partition value hides the initial default, as one past the end does
+partition-null : missingField on (defaults 2 (initialSeven ++ entryOf 2 1 (0 ∷ 2 ∷ 1 ∷ 0 ∷ 0 ∷ []))) ≡ inserted (0 ∷ [])
+unfolding built
+partition-null = refl
+
+partition-past-end : missingField on (defaults 2 (initialSeven ++ entryOf 2 1 (0 ∷ 2 ∷ 0 ∷ 0 ∷ []))) ≡ inserted (0 ∷ [])
+unfolding built
+partition-past-end = refl
+
+partition-value : missingField on (defaults 2 (initialSeven ++ entryOf 2 1 (0 ∷ 2 ∷ 1 ∷ 0 ∷ 1 ∷ 9 ∷ []))) ≡ inserted (1 ∷ 9 ∷ [])
+unfolding built
+partition-value = refl
+
+partition-failed : missingField on (defaults 2 (initialSeven ++ entryOf 2 1 (1 ∷ []))) ≡ refusedAt 26 0
+unfolding built
+partition-failed = refl
+
+unlike-type : missingField on (defaults 1 (entryOf 2 0 (6 ∷ 1 ∷ 7 ∷ []))) ≡ refusedAt 28 0
+unfolding built
+unlike-type = refl
+
+-- 14 before a default is looked at
+missing-raises : missingField noMissing (defaults 1 (entryOf 2 1 (1 ∷ []))) ≡ refusedAt 14 0
+unfolding built
+missing-raises = refl
+
+-- a missing top column: its struct's default has the field's default, and null where none
+missing-column : buildByNumber on 0 (laid 2 0 []) (laid 2 1 (numbered 0x74 1 (structOf 2 (numbered 0x61 2 (2 ∷ numbered 0x62 3 (2 ∷ [])))))) (defaults 1 initialSeven) 1000
+    ≡ accepted (planned 1 (1 ∷ 1 ∷ 0x74 ∷ structOf 2 (1 ∷ 0x61 ∷ 2 ∷ 1 ∷ 0x62 ∷ 2 ∷ 1 ∷ 1 ∷ 7 ∷ 0 ∷ [])))
+unfolding built
+missing-column = refl
+
+-- inside an element there is none
+missing-in-element : byNumber on (defaults 1 initialSeven) (19 ∷ numbered 0x65 9 (structOf 0 [])) (19 ∷ numbered 0x65 9 (structOf 1 (numbered 0x61 2 (2 ∷ []))))
+    ≡ accepted (planned 1 (5 ∷ 0 ∷ 0 ∷ 0 ∷ 4 ∷ 0 ∷ 0 ∷ 0 ∷ 1 ∷ 0 ∷ 1 ∷ 1 ∷ 0x61 ∷ 2 ∷ 0 ∷ []))
+unfolding built
+missing-in-element = refl
+
+-- ---- reading a table
+
+two-kinds : table (defaults 2 (initialSeven ++ entryOf 2 1 (0 ∷ 2 ∷ 1 ∷ 0 ∷ 0 ∷ [])))
+    ≡ ok (record { id = record { 0 = 2 }; given = initial int8 (vnumber Int8 7) } ∷ record { id = record { 0 = 2 }; given = partition int8 (vcons vnull vnil) } ∷ []) 25
+unfolding tabled
+two-kinds = refl
+
+-- "a repeated id of one kind 5 once that entry is read": so 2 comes before it
+repeated-id : table (defaults 2 (initialSeven ++ initialSeven)) ≡ refuse 5
+unfolding tabled
+repeated-id = refl
+
+repeated-partition : table (defaults 2 (entryOf 2 1 (1 ∷ []) ++ entryOf 2 1 (0 ∷ 2 ∷ 0 ∷ 0 ∷ []))) ≡ refuse 5
+unfolding tabled
+repeated-partition = refl
+
+repeated-unread : table (defaults 2 (initialSeven ++ entryOf 2 0 (2 ∷ 1 ∷ []))) ≡ refuse 2
+unfolding tabled
+repeated-unread = refl
+
+-- 3 at the code, though the bytes end there
+not-a-leaf : table (defaults 1 (entryOf 2 0 (18 ∷ []))) ≡ refuse 3
+unfolding tabled
+not-a-leaf = refl
+
+unknown-kind : table (defaults 1 (entryOf 2 2 [])) ≡ refuse 3
+unfolding tabled
+unknown-kind = refl
+
+unknown-load : table (defaults 1 (entryOf 2 1 (2 ∷ []))) ≡ refuse 3
+unfolding tabled
+unknown-load = refl
+
+bad-presence : table (defaults 1 (entryOf 2 0 (2 ∷ 2 ∷ []))) ≡ refuse 3
+unfolding tabled
+bad-presence = refl
+
+left-over : table (defaults 0 (0 ∷ [])) ≡ refuse 6
+unfolding tabled
+left-over = refl
+
+wrong-mark : table (laid 1 0 []) ≡ refuse 1
+unfolding tabled
+wrong-mark = refl
+
+-- the order of a build's readings: both layouts, 10, then the table
+order : buildByNumber on 0 (laid 2 0 []) (laid 1 0 []) [] 1000 ≡ refusedAt 10 0
+unfolding built
+order = refl
+
+order-table : buildByNumber on 0 (laid 2 0 []) (laid 2 1 (numbered 0x74 1 (0 ∷ []))) [] 1000 ≡ refusedAt 1 3
+unfolding built
+order-table = refl

@@ -1,0 +1,98 @@
+-- Demand 3, from "Every plan that either builder writes" on, and the second half of demand 2: the theorems, each under the sentence that it states. Assumes nothing.
+use Prim.Native.Nat.{ℕ, _≤_}
+use mathlib.Core.Path.{_≡_, ap}
+use mathlib.Core.Bool.{Bool}
+use mathlib.Core.List.{List}
+use mathlib.Core.Logic.{_↔_}
+use native.Mathlib.Omega.{arith}
+use lib.ListN.{length}
+use Rattle.layout.specs.Parser.{ok}
+use Rattle.layout.specs.Tree.{Label, ColumnType, Columns, fieldsOf}
+use Rattle.layout.specs.Find.{at, columnAt}
+use Rattle.layout.specs.declared.columns.FieldId.{FieldId}
+use Rattle.layout.specs.declared.columns.Position.{Position}
+use Rattle.layout.specs.declared.version.Version.{Version}
+use Rattle.layout.specs.declared.version.Version.the-variants.{ByName, ByNumber}
+use Rattle.rules.specs.declared.policy.Policy.{Policy}
+use Rattle.values.specs.Value.{Values}
+use Rattle.values.specs.Fits.{FitsAll}
+use Rattle.defaults.specs.Table.{Entry}
+use Rattle.defaults.specs.Lookup.{getDefaultValue}
+use Rattle.plan.specs.Result.{accepted}
+use Rattle.plan.specs.Selector.{Selector, Selectors, nestingAll}
+use Rattle.plan.specs.Encode.{encodePlan}
+use Rattle.plan.specs.Read.{plan, longestPlan}
+use Rattle.plan.specs.Check.{check}
+use Rattle.plan.specs.Run.{evals, written, run}
+use Rattle.plan.specs.Reach.{SelectorAt}
+use Rattle.plan.specs.Formed.{FormedAll}
+use Rattle.plan.proofs.Typed.{typed→passed}
+use Rattle.plan.proofs.Theorems.{written-read}
+use Rattle.matching.specs.Default.{Defaults}
+use Rattle.matching.specs.Build.{build}
+use Rattle.matching.specs.Due.{dueLeaf, dues}
+use Rattle.matching.specs.Untouched.{Untouched, EqualType}
+use Rattle.matching.specs.Iceberg.{ReadsAll}
+use Rattle.matching.specs.Stated.{stated, NoneHidden, ComposedAll, OwnIdsAll}
+use Rattle.matching.proofs.Attach.{build→}
+use Rattle.matching.proofs.Untouched.{column-untouched}
+use Rattle.matching.proofs.Limits.{LayoutLimits}
+use Rattle.matching.proofs.Fitting.{Good}
+use Rattle.matching.proofs.Passes.{attachAll-typed}
+use Rattle.matching.proofs.Right.{attachAll-due}
+use Rattle.matching.proofs.Nesting.{attachAll-nests, attached-count, attachAll-formed}
+use Rattle.matching.proofs.Iceberg.{built-reads, null-due}
+use Rattle.matching.proofs.OneReading.{DistinctIdsAll, reads-all-one}
+
+-- `LayoutLimits` holds of the columns of every layout that was read (`layout-limits`); `Good` of every table that was read (`table-good`) and of none
+-- (`good-none`). Calls.antt has the same for the calls over bytes, where neither is left.
+module _ (v : Version) (p : Policy) (d : Defaults) (Γ Δ : Columns) {ss : Selectors} (built : build v p d Γ Δ ≡ accepted ss) where
+  -- "Every plan that either builder writes passes this check between its own two layouts."
+  pub build-passes : Good d → LayoutLimits Δ → check (fieldsOf Γ) (fieldsOf Δ) ss ≡ accepted tt
+  build-passes g z = typed→passed (attachAll-typed v (build→ v p d Γ Δ built) g (z .within))
+
+  -- "For every record that fits the incoming one, the run of such a plan between these same two .. writes exactly the record that document 01 calls due":
+  -- its values are those due,
+  pub build-due : {ρ : Values} → FitsAll (fieldsOf Γ) ρ → evals ρ ss ≡ dues v d Δ Γ ρ
+  build-due h = attachAll-due v (build→ v p d Γ Δ built) h
+
+  -- and the run's answer, 44 and 45 included, is that of the values due.
+  pub build-runs : {ρ : Values} → FitsAll (fieldsOf Γ) ρ → (room : ℕ) → run ρ ss room ≡ written (dues v d Δ Γ ρ) room
+  unfolding run
+  build-runs h room = ap (λ (vs : Values). written vs room) (build-due h)
+
+  -- The answer to a built plan is never 30: its selectors are not "nested over 64",
+  pub build-nests : LayoutLimits Δ → nestingAll ss ≤ 33
+  build-nests z = let h = attachAll-nests v (build→ v p d Γ Δ built) in let w = z .within .deep in omega arith
+
+  -- have no "type or value that breaks its rule",
+  pub build-formed : Good d → LayoutLimits Γ → LayoutLimits Δ → FormedAll ss
+  build-formed g y z = attachAll-formed v (build→ v p d Γ Δ built) g (y .count) (y .readable) (z .readable) (z .within .deep) (z .names)
+
+  -- and within 65,536 bytes (27) they are read back.
+  pub build-reads : Good d → LayoutLimits Γ → LayoutLimits Δ → length (encodePlan ss) ≤ longestPlan → plan (encodePlan ss) ≡ ok ss (length (encodePlan ss))
+  build-reads g y z l =
+      let c = attached-count v (build→ v p d Γ Δ built) in
+      let n = build-nests z in
+      let k = z .count in
+      written-read (build-formed g y z) (omega arith) (omega arith) l
+
+module _ (p : Policy) (d : Defaults) (Γ Δ : Columns) {ss : Selectors} (built : build ByName p d Γ Δ ≡ accepted ss) where
+  -- "Matched by name, a built plan leaves a target column untouched exactly when the incoming column of that name has an equal type." The target column at
+  -- the position j has the label b and the type u; its selector is s.
+  pub build-untouched : (j : Position) {k : Position} {b : Label} {u : ColumnType} {s : Selector} → columnAt j Δ ≡ at k b u → SelectorAt ss (j .0) s → Untouched Γ b s ↔ EqualType Γ b u
+  build-untouched j e x = column-untouched 0 (j .0) (omega arith) (build→ ByName p d Γ Δ built) x e
+
+-- Demand 2: "by field number, matching and defaults are proved to be the Iceberg table specification's, each difference listed." The conditions shut out the
+-- differences (Stated.antt): no initial default stands behind a null partition value, structs have the default that document 01 puts together and nothing is stated of
+-- fields inside elements, no element has the id 4,294,967,295. What document 01 refuses (11, 13, 14, 24, 25, 26, 28) is no plan.
+module _ (p : Policy) (es : List Entry) (k : ℕ) (structs : FieldId → Bool) (Γ Δ : Columns) {ss : Selectors} (built : build ByNumber p (getDefaultValue es k) Γ Δ ≡ accepted ss)
+    (hidden : NoneHidden es (stated es k structs)) (composed : ComposedAll (stated es k structs) (getDefaultValue es k) Δ) (own : OwnIdsAll Δ) (ownIncoming : OwnIdsAll Γ) {ρ : Values} (h : FitsAll (fieldsOf Γ) ρ) where
+  -- The run of a plan built by number reads a record as the specification reads a row of a data file: columns by field id, and those that the file lacks by its rules;
+  -- leaves change by document 01's rules.
+  pub build-projects : ReadsAll dueLeaf (stated es k structs) Δ Γ ρ (evals ρ ss)
+  build-projects = built-reads p es k structs Γ Δ built hidden composed own ownIncoming h
+
+  -- The specification has no other reading of it; `DistinctIdsAll` holds of the columns of every layout of version 2 that was read (`layout-distinct`).
+  pub build-projects-only : DistinctIdsAll Γ → (ys : Values) → ReadsAll dueLeaf (stated es k structs) Δ Γ ρ ys → ys ≡ evals ρ ss
+  build-projects-only d ys r = reads-all-one dueLeaf (stated es k structs) null-due d r build-projects

@@ -1,0 +1,209 @@
+-- Document 01, "Matching": both builders, in the shape of source 000: `build_column_selector` with `attach_transforms` by name, and
+-- `attach_iceberg_transforms` by number. The layouts' version says which; where they differ stands in the second part.
+use Prim.Native.Nat.{ℕ, _+_}
+use mathlib.Core.Bool.{Bool, true, false, _&&_, _||_, not}
+use lib.Dec.{eqb}
+use Rattle.layout.specs.Bytes.{sameBytes}
+use Rattle.layout.specs.Parser.{choose}
+use Rattle.layout.specs.Tree.{LeafType, leafOf, Label, ColumnType, cleaf, cstruct, clist, carray, Columns, cnil, ccons, countColumns, leaf, dtypeOf}
+use Rattle.layout.specs.Find.{Lookup, absent, at, columnNamed, columnOfId}
+use Rattle.layout.specs.declared.columns.Position.{Position}
+use Rattle.layout.specs.declared.version.Version.{Version}
+use Rattle.layout.specs.declared.version.Version.the-variants.{ByName, ByNumber}
+use Rattle.rules.specs.declared.policy.Policy.{Policy}
+use Rattle.rules.specs.declared.policy.MissingColumnsPolicy.{MissingColumnsPolicy}
+use Rattle.rules.specs.declared.policy.ExtraColumnsPolicy.{ExtraColumnsPolicy}
+use Rattle.rules.specs.declared.outcome.CastOption.the-variants.{NonStrict}
+use Rattle.rules.specs.Outcomes.{Verdict, untouched, refused}
+use Rattle.rules.specs.Classes.{isNull}
+use Rattle.rules.specs.Pairs.{pairRule}
+use Rattle.plan.specs.Result.{Result, gives, refuses, _>>=_, demand, Answer, accepted, placed, answered}
+use Rattle.plan.specs.Selector.{Selector, position, constant, cast, rename, structMapping, listMapping, arrayMapping, Selectors, snil, scons, countSelectors}
+use Rattle.matching.specs.Default.{Defaults, noDefaults, missingValue}
+
+-- ---- the incoming type's parts, or else the plain mismatch, 24 (`let .. else`)
+
+unfoldable pub leafPart : ColumnType → Result LeafType
+leafPart (cleaf l) = gives l
+leafPart (cstruct cs) = refuses 24
+leafPart (clist l t) = refuses 24
+leafPart (carray w l t) = refuses 24
+
+unfoldable pub structPart : ColumnType → Result Columns
+structPart (cleaf l) = refuses 24
+structPart (cstruct cs) = gives cs
+structPart (clist l t) = refuses 24
+structPart (carray w l t) = refuses 24
+
+-- a list's or array's element
+pub record Element : Type 0 where
+  pub label : Label
+  pub type : ColumnType
+
+unfoldable pub listPart : ColumnType → Result Element
+listPart (cleaf l) = refuses 24
+listPart (cstruct cs) = refuses 24
+listPart (clist l t) = gives (record { label = l; type = t })
+listPart (carray w l t) = refuses 24
+
+-- "Array: 24 also for unequal widths"
+unfoldable pub arrayPart : ℕ → ColumnType → Result Element
+arrayPart w (cleaf l) = refuses 24
+arrayPart w (cstruct cs) = refuses 24
+arrayPart w (clist l t) = refuses 24
+arrayPart w (carray x l t) = demand (eqb x w) 24 (gives (record { label = l; type = t }))
+
+unfoldable pub isNullType : ColumnType → Bool
+isNullType (cleaf l) = isNull (leafOf l)
+isNullType (cstruct cs) = false
+isNullType (clist l t) = false
+isNullType (carray w l t) = false
+
+-- ---- where the two ways of matching differ
+
+abbrev pub isByName : Version → Bool
+isByName ByName = true
+isByName ByNumber = false
+
+-- among columns, the one of the same name; by number, of the same id
+abbrev pub counterpart : Version → Label → Columns → Lookup
+counterpart ByName l cs = columnNamed (l .name) cs
+counterpart ByNumber l cs = columnOfId (l .id) cs
+
+-- By name "null incoming, other target (nested too): 15 `null_upcast` off, else NonStrict cast"; another type goes on with r. By number null against a
+-- nested type is 24. A leaf target goes by the rule of its pair in both.
+unfoldable pub unlessNullType : Version → Policy → Position → ColumnType → ColumnType → Result Selector → Result Selector
+unlessNullType v p k u t r = choose (isByName v && isNullType t) (demand (p .«null_upcast») 15 (gives (cast (position k) (dtypeOf u) NonStrict))) r
+
+-- By number "unequal names add a rename outside".
+unfoldable pub renamed : Version → Label → Label → Selector → Selector
+renamed ByName target incoming s = s
+renamed ByNumber target incoming s = choose (sameBytes (incoming .name) (target .name)) s (rename s (target .name))
+
+-- stands for `LIST_ELEMENT_DEFAULT_ID`
+abbrev pub elementDefaultId : ℕ
+elementDefaultId = 4294967295
+
+-- By number "25 when ids differ and neither is 4,294,967,295".
+unfoldable pub sameElement : Version → Label → Label → Bool
+sameElement ByName a b = true
+sameElement ByNumber a b = eqb (a .id .0) (b .id .0) || eqb (a .id .0) elementDefaultId || eqb (b .id .0) elementDefaultId
+
+abbrev pub isAbsent : Lookup → Bool
+isAbsent absent = true
+isAbsent (at k l t) = false
+
+-- no name is repeated
+unfoldable pub distinctNames : Columns → Bool
+distinctNames cnil = true
+distinctNames (ccons l t cs) = isAbsent (columnNamed (l .name) cs) && distinctNames cs
+
+-- 12; by number "a struct has no test 12"
+unfoldable pub distinct : Version → Columns → Bool
+distinct ByName cs = distinctNames cs
+distinct ByNumber cs = true
+
+-- ---- 11, 13 and 14
+
+-- each of the incoming fields fs has a counterpart in the target's gs
+unfoldable pub noExtra : Version → Columns → Columns → Bool
+noExtra v cnil gs = true
+noExtra v (ccons l t fs) gs = not (isAbsent (counterpart v l gs)) && noExtra v fs gs
+
+abbrev pub ignores : ExtraColumnsPolicy → Bool
+ignores ExtraColumnsPolicy.Ignore = true
+ignores ExtraColumnsPolicy.Raise = false
+
+abbrev pub inserts : MissingColumnsPolicy → Bool
+inserts MissingColumnsPolicy.Insert = true
+inserts MissingColumnsPolicy.Raise = false
+
+-- a column with no counterpart: a constant under Insert, else the refusal n
+unfoldable pub missing : Defaults → Bool → ℕ → Label → ColumnType → Result Selector
+missing d insert n l u = demand insert n (missingValue d l u >>= λ x. gives (constant (l .name) (dtypeOf u) x))
+
+-- ---- the selectors
+
+-- a leaf, by the rule of its pair
+unfoldable pub ruled : Verdict → Position → LeafType → Result Selector
+ruled untouched k u = gives (position k)
+ruled (refused n) k u = refuses n
+ruled (Verdict.cast o) k u = gives (cast (position k) (leaf u) o)
+
+-- the selector is the bare position i
+unfoldable pub isPosition : ℕ → Selector → Bool
+isPosition i (position k) = eqb (k .0) i
+isPosition i (constant n t x) = false
+isPosition i (cast s t o) = false
+isPosition i (rename s n) = false
+isPosition i (structMapping s ss) = false
+isPosition i (listMapping s e) = false
+isPosition i (arrayMapping s e) = false
+
+-- each selector is its own number's bare position, the first's being i
+unfoldable pub inPlace : ℕ → Selectors → Bool
+inPlace i snil = true
+inPlace i (scons s ss) = isPosition i s && inPlace (i + 1) ss
+
+-- "A mapping is left out when it takes position i at each i with equal counts (list or array: bare position 0)": `is_input_passthrough`
+unfoldable pub structSelector : Position → Columns → Selectors → Selector
+structSelector k fs ss = choose (eqb (countColumns fs) (countSelectors ss) && inPlace 0 ss) (position k) (structMapping (position k) ss)
+
+unfoldable pub listSelector : Position → Selector → Selector
+listSelector k s = choose (isPosition 0 s) (position k) (listMapping (position k) s)
+
+unfoldable pub arraySelector : Position → Selector → Selector
+arraySelector k s = choose (isPosition 0 s) (position k) (arrayMapping (position k) s)
+
+abbrev pub first : Position
+first = record { 0 = 0 }
+
+-- what was looked up, or else r
+unfoldable pub sought : Lookup → Result Selector → (Position → Label → ColumnType → Result Selector) → Result Selector
+sought absent r f = r
+sought (at k l t) r f = f k l t
+
+-- `attach v p d u k t`: the selector that takes position k, of the incoming type t, to the target type u
+unfoldable mutual
+  pub attach : Version → Policy → Defaults → ColumnType → Position → ColumnType → Result Selector
+  attach v p d (cleaf u) k t = leafPart t >>= λ l. ruled (pairRule p l u) k u
+  attach v p d (cstruct gs) k t =
+      unlessNullType v p k (cstruct gs) t
+      (structPart t >>= λ fs.
+      demand (distinct v gs) 12
+      (demand (distinct v fs) 12
+      (demand (ignores (p .«extra_struct_fields») || noExtra v fs gs) 13
+      (attachFields v p d gs fs >>= λ ss. gives (structSelector k fs ss)))))
+  attach v p d (clist l u) k t =
+      unlessNullType v p k (clist l u) t
+      (listPart t >>= λ e.
+      demand (sameElement v (e .label) l) 25
+      (attach v p noDefaults u first (e .type) >>= λ s. gives (listSelector k (renamed v l (e .label) s))))
+  attach v p d (carray w l u) k t =
+      unlessNullType v p k (carray w l u) t
+      (arrayPart w t >>= λ e.
+      demand (sameElement v (e .label) l) 25
+      (attach v p noDefaults u first (e .type) >>= λ s. gives (arraySelector k (renamed v l (e .label) s))))
+
+  -- each target field in order, 14 where it is missing under Raise
+  pub attachFields : Version → Policy → Defaults → Columns → Columns → Result Selectors
+  attachFields v p d cnil fs = gives snil
+  attachFields v p d (ccons l u gs) fs =
+      sought (counterpart v l fs) (missing d (inserts (p .«missing_struct_fields»)) 14 l u) (λ k m t. attach v p d u k t >>= λ s. gives (renamed v l m s)) >>= λ s.
+      attachFields v p d gs fs >>= λ ss.
+      gives (scons s ss)
+
+-- `build_column_selector`: a target column, 11 where it is missing under Raise
+unfoldable pub buildColumnSelector : Version → Policy → Defaults → Label → ColumnType → Columns → Result Selector
+buildColumnSelector v p d l u fs =
+    sought (counterpart v l fs) (missing d (inserts (p .«missing_columns»)) 11 l u) (λ k m t. attach v p d u k t >>= λ s. gives (renamed v l m s))
+
+-- target columns in order; the place of a refusal is the column's position, i that of the first
+unfoldable pub buildFrom : Version → Policy → Defaults → Columns → Columns → ℕ → Answer Selectors
+buildFrom v p d cnil fs i = accepted snil
+buildFrom v p d (ccons l u gs) fs i =
+    placed i (buildColumnSelector v p d l u fs) (λ s. answered (buildFrom v p d gs fs (i + 1)) (λ ss. accepted (scons s ss)))
+
+-- the plan from the incoming columns to the target columns
+unfoldable pub build : Version → Policy → Defaults → Columns → Columns → Answer Selectors
+build v p d incoming target = buildFrom v p d target incoming 0

@@ -1,0 +1,63 @@
+-- Document 01, "Building by name" and "Building by number": a build over any bytes, with its refusals in their order.
+use Prim.Native.Nat.{ℕ}
+use mathlib.Core.Bool.{Bool, true, false, _&&_}
+use mathlib.Core.List.{_++_}
+use lib.Dec.{leb}
+use lib.ListN.{length, drop}
+use Rattle.layout.specs.Bytes.{Bytes}
+use Rattle.layout.specs.Parser.{Res, refuse, ok}
+use Rattle.layout.specs.Tree.{Layout, Columns}
+use Rattle.layout.specs.Layout.{layout}
+use Rattle.layout.specs.declared.version.Version.{Version}
+use Rattle.layout.specs.declared.version.Version.the-variants.{ByName, ByNumber}
+use Rattle.rules.specs.declared.policy.Policy.{Policy}
+use Rattle.plan.specs.Result.{Result, gives, demand, Answer, accepted, refusedAt, placed, answered}
+use Rattle.plan.specs.Selector.{Selectors}
+use Rattle.plan.specs.Encode.{encodePlan}
+use Rattle.plan.specs.Read.{longestPlan}
+use Rattle.defaults.specs.Table.{table}
+use Rattle.defaults.specs.Lookup.{getDefaultValue}
+use Rattle.matching.specs.Default.{noDefaults}
+use Rattle.matching.specs.Build.{build}
+
+-- what is read, its place in reading order, and what follows it
+unfoldable pub readAt : {A B : Type 0} → ℕ → Res A → (A → Answer B) → Answer B
+readAt k (refuse n) f = refusedAt n k
+readAt k (ok a m) f = f a
+
+abbrev pub sameVersion : Version → Version → Bool
+sameVersion ByName ByName = true
+sameVersion ByName ByNumber = false
+sameVersion ByNumber ByName = false
+sameVersion ByNumber ByNumber = true
+
+-- 10: either layout is not of the version v
+unfoldable pub ofVersion : Version → Layout → Layout → Result (Unit {0})
+ofVersion v incoming target = demand (sameVersion v (incoming .version) && sameVersion v (target .version)) 10 (gives tt)
+
+-- the incoming layout, the target layout, 10
+unfoldable pub bothLayouts : {A : Type 0} → Version → Bytes → Bytes → (Columns → Columns → Answer A) → Answer A
+bothLayouts v incoming target f =
+    readAt 1 (layout incoming) (λ a. readAt 2 (layout target) (λ b. placed 0 (ofVersion v a b) (λ x. f (a .columns) (b .columns))))
+
+-- the bytes fit a buffer of that many bytes, and a plan's longest length
+unfoldable pub roomFor : ℕ → Bytes → Bool
+roomFor room b = leb (length b) room && leb (length b) longestPlan
+
+-- "Last, 27: the plan is longer than the buffer or 65,536 bytes"
+unfoldable pub writtenPlan : ℕ → Selectors → Answer Bytes
+writtenPlan room ss = placed 0 (demand (roomFor room (encodePlan ss)) 27 (gives (encodePlan ss))) (λ b. accepted b)
+
+unfoldable pub buildByName : Policy → Bytes → Bytes → ℕ → Answer Bytes
+buildByName p incoming target room = bothLayouts ByName incoming target (λ a b. answered (build ByName p noDefaults a b) (λ ss. writtenPlan room ss))
+
+-- after 10 the defaults are read; the index is the source's
+unfoldable pub buildByNumber : Policy → ℕ → Bytes → Bytes → Bytes → ℕ → Answer Bytes
+buildByNumber p index incoming target defaults room =
+    bothLayouts ByNumber incoming target
+    (λ a b. readAt 3 (table defaults) (λ es. answered (build ByNumber p (getDefaultValue es index) a b) (λ ss. writtenPlan room ss)))
+
+-- a lent buffer after a call: the result from its start, the rest as it was; after a refusal all as it was
+abbrev pub bufferAfter : Answer Bytes → Bytes → Bytes
+bufferAfter (accepted b) out = b ++ drop (length b) out
+bufferAfter (refusedAt n k) out = out

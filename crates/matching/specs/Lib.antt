@@ -1,0 +1,7 @@
+pub mod Default
+pub mod Build
+pub mod Calls
+pub mod Due
+pub mod Untouched
+pub mod Iceberg
+pub mod Stated
