@@ -1,6 +1,7 @@
 // The builder (document 01, "Matching"), under the names of source 000.
 pub mod answer;
 pub mod conditions;
+pub mod default;
 pub mod fields;
 pub mod leaf;
 pub mod parts;

@@ -32,7 +32,8 @@ use Rattle.defaults.specs.Lookup.{getDefaultValue}
 use Rattle.plan.proofs.Theorems.{Runs, plan-runs}
 use Rattle.matching.specs.Default.{Defaults, noDefaults}
 use Rattle.matching.specs.Build.{build}
-use Rattle.matching.specs.Calls.{readAt, sameVersion, ofVersion, bothLayouts, roomFor, writtenPlan, buildByName, buildByNumber}
+use Rattle.plan.specs.Calls.{readAt}
+use Rattle.matching.specs.Calls.{sameVersion, ofVersion, bothLayouts, roomFor, writtenPlan, buildByName, buildByNumber}
 use Rattle.matching.specs.Due.{dues}
 use Rattle.matching.proofs.Limits.{layout-limits}
 use Rattle.matching.proofs.Fitting.{Good, good-none, table-good}
@@ -54,7 +55,7 @@ pub record Built (v : Version) (p : Policy) (d : Defaults) (incoming target byte
   pub passes : check (fieldsOf from) (fieldsOf to) selectors ≡ accepted tt
   pub due : (ρ : Values) → FitsAll (fieldsOf from) ρ → evals ρ selectors ≡ dues v d to from ρ
 
-read-at : {A B : Type 0} (k : ℕ) (r : Res A) (f : A → Answer B) {b : B} → readAt k r f ≡ accepted b → (a : A) × (m : ℕ) × (r ≡ ok a m) × (f a ≡ accepted b)
+pub read-at : {A B : Type 0} (k : ℕ) (r : Res A) (f : A → Answer B) {b : B} → readAt k r f ≡ accepted b → (a : A) × (m : ℕ) × (r ≡ ok a m) × (f a ≡ accepted b)
 unfolding readAt
 read-at k (refuse n) f e = clash (cc)
 read-at k (ok a m) f e = (a, m, refl, e)
@@ -65,7 +66,7 @@ version-eq ByName ByNumber e = clash (cc)
 version-eq ByNumber ByName e = clash (cc)
 version-eq ByNumber ByNumber e = refl
 
-of-version : (v : Version) (s : Bytes) (l : Layout) {m : ℕ} → layout s ≡ ok l m → sameVersion v (l .version) ≡ true → layout s ≡ ok (record { version = v; columns = l .columns }) m
+pub of-version : (v : Version) (s : Bytes) (l : Layout) {m : ℕ} → layout s ≡ ok l m → sameVersion v (l .version) ≡ true → layout s ≡ ok (record { version = v; columns = l .columns }) m
 of-version v s l {m} e q = e ∙ ap (λ (w : Version). ok (record { version = w; columns = l .columns }) m) (version-eq v (l .version) q)
 
 -- the two layouts that were read

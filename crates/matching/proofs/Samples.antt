@@ -26,18 +26,19 @@ use Rattle.defaults.specs.Table.{initial, partition, Entry, sameKind, repeatsAn
 use Rattle.defaults.specs.Lookup.{unlessNull, ofSource, givenTo, firstEntry, getDefaultValue}
 use Rattle.matching.specs.Default.{leafDefault, withField, structDefault, defaultOf, defaultsOf, missingValue}
 use Rattle.matching.specs.Build.{leafPart, structPart, listPart, arrayPart, isNullType, unlessNullType, renamed, sameElement, distinctNames, distinct, noExtra, missing, ruled, isPosition, inPlace, structSelector, listSelector, arraySelector, sought, attach, attachFields, buildColumnSelector, buildFrom, build}
-use Rattle.matching.specs.Calls.{readAt, ofVersion, bothLayouts, roomFor, writtenPlan, buildByName, buildByNumber}
+use Rattle.plan.specs.Calls.{readAt}
+use Rattle.matching.specs.Calls.{ofVersion, bothLayouts, roomFor, writtenPlan, buildByName, buildByNumber}
 
 -- opens every definition that a sample computes through
-laidOut : Bytes → Res Layout
+unfoldable pub laidOut : Bytes → Res Layout
 unfolding layout layoutFrom sized version sameBytes counted ended columns label text byte chunk u16 u32 fieldId type kind kindOf leafKind datetimeKind structKind arrayKind unit body structType listType arrayType elementLabel repeatsAny next choose
 laidOut s = layout s
 
-tabled : Bytes → Res (List Entry)
+unfoldable pub tabled : Bytes → Res (List Entry)
 unfolding laidOut table tableFrom tableVersion entries entry givenOf partitionEntry loadedEntry initialEntry defaultType onlyLeaf repeatsAnyEntry sameKind presence nullable flag little longText contentBy leafContent times content value
 tabled s = table s
 
-built : Policy → ℕ → Bytes → Bytes → Bytes → ℕ → Answer Bytes
+unfoldable pub built : Policy → ℕ → Bytes → Bytes → Bytes → ℕ → Answer Bytes
 unfolding tabled buildByName buildByNumber bothLayouts readAt ofVersion roomFor writtenPlan build buildFrom buildColumnSelector attach attachFields sought missing missingValue defaultOf defaultsOf structDefault withField leafDefault getDefaultValue firstEntry givenTo ofSource unlessNull leafPart structPart listPart arrayPart isNullType unlessNullType renamed sameElement distinctNames distinct noExtra ruled isPosition inPlace structSelector listSelector arraySelector findFrom pairRule chain zonesOf readZone isUtc sameDtype sameLeaf dtypeOf fieldsOf countColumns countFields countSelectors encodePlan encodeSelector encodeSelectors u16Bytes u32Bytes textBytes unitCode leafForm kindForm form formFields encodeValue encodeValues littleBytes _>>=_ demand placed answered
 built p k a b d room = buildByNumber p k a b d room
 

@@ -5,7 +5,6 @@ use mathlib.Core.List.{_++_}
 use lib.Dec.{leb}
 use lib.ListN.{length, drop}
 use Rattle.layout.specs.Bytes.{Bytes}
-use Rattle.layout.specs.Parser.{Res, refuse, ok}
 use Rattle.layout.specs.Tree.{Layout, Columns}
 use Rattle.layout.specs.Layout.{layout}
 use Rattle.layout.specs.declared.version.Version.{Version}
@@ -14,16 +13,12 @@ use Rattle.rules.specs.declared.policy.Policy.{Policy}
 use Rattle.plan.specs.Result.{Result, gives, demand, Answer, accepted, refusedAt, placed, answered}
 use Rattle.plan.specs.Selector.{Selectors}
 use Rattle.plan.specs.Encode.{encodePlan}
+use Rattle.plan.specs.Calls.{readAt}
 use Rattle.plan.specs.Read.{longestPlan}
 use Rattle.defaults.specs.Table.{table}
 use Rattle.defaults.specs.Lookup.{getDefaultValue}
 use Rattle.matching.specs.Default.{noDefaults}
 use Rattle.matching.specs.Build.{build}
-
--- what is read, its place in reading order, and what follows it
-unfoldable pub readAt : {A B : Type 0} → ℕ → Res A → (A → Answer B) → Answer B
-readAt k (refuse n) f = refusedAt n k
-readAt k (ok a m) f = f a
 
 abbrev pub sameVersion : Version → Version → Bool
 sameVersion ByName ByName = true

@@ -23,7 +23,7 @@ use Rattle.numeric.specs.Rounding.{rounded}
 use Rattle.numeric.specs.Floats.{fromInteger, integerToFloat}
 use Rattle.numeric.specs.Times.{finer, coarser}
 use Rattle.values.specs.Value.{vnull, vnumber, vstruct, Values, vnil, vcons}
-use Rattle.values.specs.Reading.{presence, nullable, little, contentBy, leafContent, content, values, value}
+use Rattle.values.specs.Reading.{structContent, presence, nullable, little, contentBy, leafContent, content, values, value}
 use Rattle.values.specs.Record.{renumber, recordFrom, recordOf, shortEnough, ended as recordEnded}
 use Rattle.store.specs.Overlay.{littleBytes}
 use Rattle.values.specs.Encode.{encodeValue, encodeValues}
@@ -60,7 +60,7 @@ unfolding encodePlan encodeSelector encodeSelectors countSelectors u16Bytes text
 s1-encoded = refl
 
 -- opens every definition that the reading of a plan goes through
-read : Bytes → Res Selectors
+unfoldable pub read : Bytes → Res Selectors
 unfolding plan renumber planFrom planCounted planSized planVersion sameBytes next choose byte chunk u16 selectors selector selectorRest positionRest constantRest castRest renameRest structRest listRest arrayRest dataType castOption knownOption type kind kindOf leafKind body dtypeOf text value nullable presence content ended
 read b = plan b
 
@@ -74,7 +74,7 @@ unfolding read
 s1-left = refl
 
 -- opens every definition that a check goes through
-checked : Fields → Fields → Selectors → Answer (Unit {0})
+unfoldable pub checked : Fields → Fields → Selectors → Answer (Unit {0})
 unfolding check topTypes typeOf typesOf columnAt _>>=_ checkCast checkRename checkStruct structOf castFits fromNull castPasses pairRule chain zonesOf readZone isUtc sameBytes demand resulting withinLimits depthOf depthOfFields countFields form formFields leafForm kindForm textBytes u16Bytes unitCode placed answered against sameFields sameDtype sameLeaf
 checked Γ Δ ss = check Γ Δ ss
 
@@ -107,12 +107,17 @@ unfolding checked
 s4-untouched = refl
 
 -- opens every definition that a run goes through
-ran : Values → Selectors → ℕ → Answer Bytes
+unfoldable pub ran : Values → Selectors → ℕ → Answer Bytes
 unfolding run written evals eval valueAt castValue castLeaf convert convertAs rescaled counted widened numberOf signed unsigned pattern finer coarser onStruct clean cleanAll demand spacious encodeValue encodeValues littleBytes placed
 ran ρ ss room = run ρ ss room
 
+-- and the reading of a record
+unfoldable pub recorded : Fields → Bytes → Res Values
+unfolding recordOf recordFrom shortEnough renumber values structContent content leafContent contentBy nullable presence byte chunk little next choose recordEnded
+recorded Γ b = recordOf Γ b
+
 s1-record : recordOf (one (leaf int16)) (1 ∷ 0xFE ∷ 0xFF ∷ []) ≡ ok (vcons (vnumber Int16 65534) vnil) 3
-unfolding recordOf recordFrom shortEnough renumber values content leafContent contentBy nullable presence byte chunk little next choose recordEnded
+unfolding recorded
 s1-record = refl
 
 s1-ran : run (vcons (vnumber Int16 65534) vnil) s1 6 ≡ accepted (1 ∷ 0xFE ∷ 0xFF ∷ 0xFF ∷ 0xFF ∷ 0 ∷ [])

@@ -10,3 +10,4 @@ pub mod Fits
 pub mod Formed
 pub mod Fallback
 pub mod Answers
+pub mod Calls

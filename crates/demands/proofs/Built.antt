@@ -1,0 +1,128 @@
+-- What a build wrote, or was too long to write, from bytes. Assumes nothing.
+use Prim.Native.Nat.{ℕ}
+use mathlib.Core.Path.{_≡_, refl, sym, ap, _∙_}
+use mathlib.Core.Bool.{Bool, true, false, _&&_}
+use native.Mathlib.Omega.{arith}
+use Rattle.layout.specs.Bytes.{Bytes, AllBytes}
+use Rattle.layout.specs.Parser.{Res, refuse, ok}
+use Rattle.layout.specs.Tree.{Layout, Columns, fieldsOf}
+use Rattle.layout.specs.Layout.{layout}
+use Rattle.layout.proofs.Ways.{clash}
+use Rattle.values.specs.Record.{recordOf}
+use Rattle.plan.specs.Result.{gives, demand, Answer, accepted, refusedAt, placed, answered}
+use Rattle.plan.specs.Encode.{encodePlan}
+use lib.Dec.{eqb}
+use Rattle.plan.specs.Selector.{Selectors}
+use Rattle.plan.specs.Read.{plan}
+use Rattle.plan.specs.Run.{written, run}
+use Rattle.plan.specs.Calls.{readAt, readPlan, checkPlan, runPlan}
+use Rattle.matching.proofs.Calls.{of-version, Built}
+use Rattle.plan.proofs.Results.{both}
+use Rattle.matching.specs.Default.{Defaults, noDefaults}
+use Rattle.matching.specs.Build.{build}
+use Rattle.matching.specs.Calls.{sameVersion, ofVersion, bothLayouts, roomFor, writtenPlan, buildByName, buildByNumber}
+use Rattle.matching.specs.Due.{dues}
+use Rattle.defaults.specs.Table.{table}
+use Rattle.defaults.specs.Lookup.{getDefaultValue}
+use Rattle.rules.specs.declared.policy.Policy.{Policy}
+use Rattle.layout.specs.declared.version.Version.{Version}
+use Rattle.layout.specs.declared.version.Version.the-variants.{ByName, ByNumber}
+use Rattle.values.proofs.Round.{record-back}
+use Rattle.demands.proofs.Numbers.{OtherAnswer, OtherDefaults, other-none, other-table, other-build}
+use Rattle.demands.specs.Stated.{FitsLayout, LayoutOf, columnsOf, PlanTooLong, NumberTooLong}
+use Rattle.demands.proofs.Passed.{ok-eq, number-eq}
+
+pub built-passes : {v : Version} {p : Policy} {d : Defaults} {incoming target bytes : Bytes} → Built v p d incoming target bytes → checkPlan incoming target bytes ≡ accepted tt
+unfolding checkPlan readPlan readAt
+built-passes B = rw (B .incomingRead, B .targetRead, B .reads, B .passes)
+
+module _ {v : Version} {p : Policy} {d : Defaults} {incoming target bytes rec : Bytes} (B : Built v p d incoming target bytes) (or : AllBytes rec) (F : FitsLayout incoming rec) (T : LayoutOf target) (room : ℕ) where
+  from-eq : columnsOf F ≡ B .from
+  from-eq = ap (λ (l : Layout). l .columns) (ok-eq (F .layoutReads) (B .incomingRead))
+
+  to-eq : T .read .columns ≡ B .to
+  to-eq = ap (λ (l : Layout). l .columns) (ok-eq (T .reads) (B .targetRead))
+
+  record-reads : recordOf (fieldsOf (B .from)) rec ≡ ok (F .values) (F .end)
+  record-reads = ap (λ (cs : Columns). recordOf (fieldsOf cs) rec) (sym from-eq) ∙ F .reads
+
+  pub built-due : runPlan incoming target bytes rec room ≡ written (dues v d (T .read .columns) (columnsOf F) (F .values)) room
+  unfolding runPlan readPlan readAt answered run
+  built-due =
+      let h = record-back (fieldsOf (B .from)) rec or (F .values) (F .end) record-reads .fits in
+      rw (B .incomingRead, B .targetRead, B .reads, B .passes, record-reads, B .due (F .values) h, ← from-eq, ← to-eq)
+
+place-eq : {A : Type 0} {m n j k : ℕ} → _≡_ {A = Answer A} (refusedAt m j) (refusedAt n k) → j ≡ k
+place-eq e = cc
+
+written-fits : (space : ℕ) (ss : Selectors) → roomFor space (encodePlan ss) ≡ true → writtenPlan space ss ≡ accepted (encodePlan ss)
+unfolding writtenPlan placed demand
+written-fits space ss q = rw q
+
+written-exceeds : (space : ℕ) (ss : Selectors) → roomFor space (encodePlan ss) ≡ false → writtenPlan space ss ≡ refusedAt 27 0
+unfolding writtenPlan placed demand
+written-exceeds space ss q = rw q
+
+written-long : (space : ℕ) (ss : Selectors) → writtenPlan space ss ≡ refusedAt 27 0 → roomFor space (encodePlan ss) ≡ false
+written-long space ss e = go (roomFor space (encodePlan ss)) refl
+  where
+    go : (b : Bool) → roomFor space (encodePlan ss) ≡ b → roomFor space (encodePlan ss) ≡ false
+    go true q = let w = written-fits space ss q in clash (cc)
+    go false q = q
+
+built-long : (space : ℕ) (x : Answer Selectors) → OtherAnswer x → answered x (λ ss. writtenPlan space ss) ≡ refusedAt 27 0 → (ss : Selectors) × (x ≡ accepted ss) × (roomFor space (encodePlan ss) ≡ false)
+unfolding answered
+built-long space (accepted ss) o e = (ss, refl, written-long space ss e)
+built-long space (refusedAt n k) o e = let q : true ≡ false = ap (λ (m : ℕ). eqb m 27) (sym (number-eq e)) ∙ o in clash (cc)
+
+-- a result that was read, where the refusals of reading have another place than 0
+read-past : {A B : Type 0} (k : ℕ) (r : Res A) (f : A → Answer B) {n : ℕ} → (k ≡ 0 → ⊥) → readAt k r f ≡ refusedAt n 0 → (a : A) × (m : ℕ) × (r ≡ ok a m) × (f a ≡ refusedAt n 0)
+unfolding readAt
+read-past k (refuse n) f h e = absurd (h (place-eq e))
+read-past k (ok a m) f h e = (a, m, refl, e)
+
+version-past : {A : Type 0} (b : Bool) (f : Answer A) → placed 0 (demand b 10 (gives tt)) (λ (x : Unit {0}). f) ≡ refusedAt 27 0 → (b ≡ true) × (f ≡ refusedAt 27 0)
+unfolding placed demand
+version-past true f e = (refl, e)
+version-past false f e = absurd (omega (arith, number-eq e))
+
+module _ (v : Version) (p : Policy) (incoming target : Bytes) (space : ℕ) where
+  -- the layouts, where the answer is 27
+  layouts-past : (f : Columns → Columns → Answer Bytes) → bothLayouts v incoming target f ≡ refusedAt 27 0
+      → (a : Columns) × (b : Columns) × (m : ℕ) × (n : ℕ) × (layout incoming ≡ ok (record { version = v; columns = a }) m) × (layout target ≡ ok (record { version = v; columns = b }) n) × (f a b ≡ refusedAt 27 0)
+  unfolding bothLayouts ofVersion
+  layouts-past f e =
+      let (x, m, q, e) = read-past 1 (layout incoming) _ (λ h. omega (arith, h)) e in
+      let (y, n, r, e) = read-past 2 (layout target) _ (λ h. omega (arith, h)) e in
+      let (c, e) = version-past (sameVersion v (x .version) && sameVersion v (y .version)) (f (x .columns) (y .columns)) e in
+      let (c, d) = both (sameVersion v (x .version)) c in
+      (x .columns, y .columns, m, n, of-version v incoming x q c, of-version v target y r d, e)
+
+  built-past : (d : Defaults) → OtherDefaults d → (a b : Columns) (m n : ℕ) → layout incoming ≡ ok (record { version = v; columns = a }) m → layout target ≡ ok (record { version = v; columns = b }) n
+      → answered (build v p d a b) (λ ss. writtenPlan space ss) ≡ refusedAt 27 0 → PlanTooLong v p d incoming target space
+  built-past d o a b m n q r e =
+      let (ss, h, l) = built-long space (build v p d a b) (other-build v p d a b o) e in
+      record { defined = record { from = a; to = b; fromEnd = m; toEnd = n; incomingRead = q; targetRead = r; selectors = ss; built = h }; long = l }
+
+pub by-name-past : (p : Policy) (incoming target : Bytes) (space : ℕ) → buildByName p incoming target space ≡ refusedAt 27 0 → PlanTooLong ByName p noDefaults incoming target space
+unfolding buildByName
+by-name-past p incoming target space e =
+    let (a, b, m, n, q, r, e) = layouts-past ByName p incoming target space _ e in
+    built-past ByName p incoming target space noDefaults other-none a b m n q r e
+
+pub by-name-back : (p : Policy) (incoming target : Bytes) (space : ℕ) → PlanTooLong ByName p noDefaults incoming target space → buildByName p incoming target space ≡ refusedAt 27 0
+unfolding buildByName bothLayouts ofVersion readAt placed demand answered
+by-name-back p incoming target space L = rw (L .defined .incomingRead, L .defined .targetRead, L .defined .built, written-exceeds space (L .defined .selectors) (L .long))
+
+pub by-number-past : (p : Policy) (index : ℕ) (incoming target defaults : Bytes) (space : ℕ) → buildByNumber p index incoming target defaults space ≡ refusedAt 27 0 → NumberTooLong p index incoming target defaults space
+unfolding buildByNumber
+by-number-past p index incoming target defaults space e =
+    let (a, b, m, n, q, r, e) = layouts-past ByNumber p incoming target space _ e in
+    let (es, k, t, e) = read-past 3 (table defaults) _ (λ h. omega (arith, h)) e in
+    record { entries = es; end = k; reads = t; plan = built-past ByNumber p incoming target space (getDefaultValue es index) (other-table es index) a b m n q r e }
+
+pub by-number-back : (p : Policy) (index : ℕ) (incoming target defaults : Bytes) (space : ℕ) → NumberTooLong p index incoming target defaults space → buildByNumber p index incoming target defaults space ≡ refusedAt 27 0
+unfolding buildByNumber bothLayouts ofVersion readAt placed demand answered
+by-number-back p index incoming target defaults space N =
+    let L = N .plan in
+    rw (L .defined .incomingRead, L .defined .targetRead, N .reads, L .defined .built, written-exceeds space (L .defined .selectors) (L .long))

@@ -1,0 +1,98 @@
+-- Demand 3, sentence by sentence, over bytes and in the terms of the exported calls' contracts: `checkPlan`, `runPlan` (crate plan, specs/Calls.antt), `buildByName`,
+-- `buildByNumber` (crate matching, specs/Calls.antt). `AllBytes` says that a list's numbers are below 256, as those of every lent slice are. Assumes nothing.
+use Prim.Native.Nat.{ℕ}
+use mathlib.Core.Path.{_≡_, sym, ap, _∙_, subst}
+use mathlib.Core.List.{List}
+use mathlib.Core.Bool.{false}
+use mathlib.Core.Logic.{_↔_}
+use Rattle.layout.specs.Bytes.{Bytes, AllBytes}
+use Rattle.layout.specs.Parser.{ok}
+use Rattle.layout.specs.Tree.{Layout, Label, ColumnType}
+use Rattle.plan.specs.Result.{accepted, refusedAt}
+use Rattle.plan.specs.Selector.{Selector, Selectors}
+use Rattle.plan.specs.Run.{spacious, written}
+use Rattle.plan.specs.Reach.{SelectorAt, ReachesOverflow}
+use Rattle.plan.specs.Calls.{checkPlan, runPlan}
+use Rattle.matching.proofs.Calls.{by-name-built, by-number-built}
+use Rattle.matching.specs.Default.{noDefaults}
+use Rattle.matching.specs.Calls.{buildByName, buildByNumber}
+use Rattle.matching.specs.Due.{dues}
+use Rattle.matching.specs.Untouched.{Untouched, EqualType}
+use Rattle.matching.proofs.Theorems.{build-untouched}
+use Rattle.defaults.specs.Table.{Entry, table}
+use Rattle.defaults.specs.Lookup.{getDefaultValue}
+use Rattle.rules.specs.declared.policy.Policy.{Policy}
+use Rattle.layout.specs.Find.{at, columnAt}
+use Rattle.layout.specs.declared.columns.Position.{Position}
+use Rattle.layout.specs.declared.version.Version.the-variants.{ByName, ByNumber}
+use Rattle.demands.specs.Stated.{FitsLayout, SelectorsOf, LayoutOf, columnsOf, output, Running, PlanTooLong, NumberTooLong}
+use Rattle.demands.proofs.Passed.{passed-runs, exceeds-exactly, ok-eq}
+use Rattle.demands.proofs.Built.{built-passes, built-due, by-name-past, by-name-back, by-number-past, by-number-back}
+
+-- ---- "For every plan that passes the check from one layout to another, and every record that fits the first: the run refuses with 44 exactly when a strict cast that it
+-- reaches multiplies a non-null date-time beyond signed 64 bits. Otherwise, given space, it writes a record that fits the second; short of space it refuses with 45, and
+-- no other refusal is left." `ReachesOverflow` (crate plan, specs/Reach.antt) is the condition of 44; the defined output is `output`, and there is space for it where
+-- `spacious` says so: for the buffer and for 16,384 bytes.
+
+module _ (incoming target bytes rec : Bytes) (ob : AllBytes bytes) (or : AllBytes rec) (passes : checkPlan incoming target bytes ≡ accepted tt) (F : FitsLayout incoming rec) (room : ℕ) where
+  pub run-passed : Running incoming target bytes rec F room
+  run-passed = passed-runs incoming target bytes rec ob or passes F room
+
+-- 45 "just when the defined output is too long, for the buffer or for the fixed limit", where no overflow is reached.
+module _ {incoming target bytes rec : Bytes} {F : FitsLayout incoming rec} {room : ℕ} (R : Running incoming target bytes rec F room) where
+  pub output-too-long : (runPlan incoming target bytes rec room ≡ refusedAt 45 0)
+      ↔ ((ReachesOverflow (F .values) (R .plan .selectors) → ⊥) × (spacious room (output (F .values) (R .plan .selectors)) ≡ false))
+  output-too-long = exceeds-exactly R
+
+-- ---- "Every plan that either builder writes passes this check between its own two layouts."
+
+module _ (p : Policy) (incoming target : Bytes) (oi : AllBytes incoming) (ot : AllBytes target) (space : ℕ) {bytes : Bytes} (built : buildByName p incoming target space ≡ accepted bytes) where
+  pub by-name-passes : checkPlan incoming target bytes ≡ accepted tt
+  by-name-passes = built-passes (by-name-built p incoming target space oi ot built)
+
+module _ (p : Policy) (index : ℕ) (incoming target defaults : Bytes) (oi : AllBytes incoming) (ot : AllBytes target) (od : AllBytes defaults) (space : ℕ) {bytes : Bytes}
+    (built : buildByNumber p index incoming target defaults space ≡ accepted bytes) where
+  pub by-number-passes : checkPlan incoming target bytes ≡ accepted tt
+  by-number-passes = built-passes (by-number-built p index incoming target defaults space oi ot od built .built)
+
+-- ---- "For every record that fits the incoming one, the run of such a plan between these same two, unless it refuses as just said, writes exactly the record that document 01
+-- calls due: each target field holds the incoming field of the same path, converted by rule, or else its default or null." The due values are `dues` (crate matching,
+-- specs/Due.antt), from the build's arguments and the record alone; `written` refuses them with 44 or 45 as above and else gives their bytes.
+
+module _ (p : Policy) (incoming target rec : Bytes) (oi : AllBytes incoming) (ot : AllBytes target) (or : AllBytes rec) (space : ℕ) {bytes : Bytes} (built : buildByName p incoming target space ≡ accepted bytes)
+    (F : FitsLayout incoming rec) (T : LayoutOf target) (room : ℕ) where
+  pub by-name-due : runPlan incoming target bytes rec room ≡ written (dues ByName noDefaults (T .read .columns) (columnsOf F) (F .values)) room
+  by-name-due = built-due (by-name-built p incoming target space oi ot built) or F T room
+
+module _ (p : Policy) (index : ℕ) (incoming target defaults rec : Bytes) (oi : AllBytes incoming) (ot : AllBytes target) (od : AllBytes defaults) (or : AllBytes rec) (space : ℕ) {bytes : Bytes}
+    (built : buildByNumber p index incoming target defaults space ≡ accepted bytes) (F : FitsLayout incoming rec) (T : LayoutOf target) (room : ℕ) where
+  -- the table that was read
+  pub by-number-due : (es : List Entry) {e : ℕ} → table defaults ≡ ok es e → runPlan incoming target bytes rec room ≡ written (dues ByNumber (getDefaultValue es index) (T .read .columns) (columnsOf F) (F .values)) room
+  by-number-due es t =
+      let B = by-number-built p index incoming target defaults space oi ot od built in
+      built-due (B .built) or F T room
+      ∙ ap (λ (xs : List Entry). written (dues ByNumber (getDefaultValue xs index) (T .read .columns) (columnsOf F) (F .values)) room) (ok-eq (B .tableRead) t)
+
+-- ---- "Matched by name, a built plan leaves a target column untouched exactly when the incoming column of that name has an equal type." The target column at the position j
+-- has the label b and the type u; its selector is s.
+
+module _ (p : Policy) (incoming target : Bytes) (oi : AllBytes incoming) (ot : AllBytes target) (space : ℕ) {bytes : Bytes} (built : buildByName p incoming target space ≡ accepted bytes)
+    (I : LayoutOf incoming) (T : LayoutOf target) (S : SelectorsOf bytes) where
+  pub by-name-untouched : (j : Position) {k : Position} {b : Label} {u : ColumnType} {s : Selector} → columnAt j (T .read .columns) ≡ at k b u → SelectorAt (S .selectors) (j .0) s
+      → Untouched (I .read .columns) b s ↔ EqualType (I .read .columns) b u
+  by-name-untouched j {k} {b} {u} {s} e x =
+      let B = by-name-built p incoming target space oi ot built in
+      let f : I .read .columns ≡ B .from = ap (λ (l : Layout). l .columns) (ok-eq (I .reads) (B .incomingRead)) in
+      let t : T .read .columns ≡ B .to = ap (λ (l : Layout). l .columns) (ok-eq (T .reads) (B .targetRead)) in
+      let g : S .selectors ≡ B .selectors = ok-eq (S .reads) (B .reads) in
+      rw f (build-untouched p noDefaults (B .from) (B .to) (B .built) j (ap (columnAt j) (sym t) ∙ e) (subst (λ (ss : Selectors). SelectorAt ss (j .0) s) g x))
+
+-- ---- 27 "just when the defined output is too long, for the buffer or for the fixed limit": the layouts read, the columns all matched, and there is no room for the plan's bytes
+
+module _ (p : Policy) (incoming target : Bytes) (space : ℕ) where
+  pub by-name-too-long : (buildByName p incoming target space ≡ refusedAt 27 0) ↔ PlanTooLong ByName p noDefaults incoming target space
+  by-name-too-long = (λ e. by-name-past p incoming target space e, λ L. by-name-back p incoming target space L)
+
+module _ (p : Policy) (index : ℕ) (incoming target defaults : Bytes) (space : ℕ) where
+  pub by-number-too-long : (buildByNumber p index incoming target defaults space ≡ refusedAt 27 0) ↔ NumberTooLong p index incoming target defaults space
+  by-number-too-long = (λ e. by-number-past p index incoming target defaults space e, λ N. by-number-back p index incoming target defaults space N)
