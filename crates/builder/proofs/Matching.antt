@@ -37,7 +37,7 @@ use Rattle.plan.specs.Result.{Result, gives, refuses, _>>=_}
 use Rattle.plan.specs.Selector.{Selector}
 use Rattle.matching.specs.Default.{Defaults, noDefaults}
 use Rattle.matching.specs.Build.{leafPart, structPart, isNullType, ruled, attach}
-use Rattle.builder.specs.Answers.{LeafIs, LeafPartIs, StructIs, StructPartIs, Inner, noElement, listElement, arrayElement, elementOf, ElementIs, ElementPartIs, madeOf, Wrote, Makes, byRule}
+use Rattle.builder.specs.Answers.{LeafIs, LeafPartIs, StructIs, StructPartIs, Inner, noElement, listElement, arrayElement, elementOf, ElementIs, ElementPartIs, needsRename, madeOf, Wrote, Makes, byRule}
 use Rattle.builder.specs.declared.answer.Made.{Made}
 use Rattle.builder.specs.declared.parts.LeafPart.{LeafPart}
 use Rattle.builder.specs.declared.parts.StructPart.{StructPart}
@@ -57,13 +57,13 @@ isStructKind (aStruct n) = true
 isStructKind aList = false
 isStructKind (anArray w) = false
 
-abbrev hasElement : Kind → Bool
+abbrev pub hasElement : Kind → Bool
 hasElement (aLeaf l) = false
 hasElement (aStruct n) = false
 hasElement aList = true
 hasElement (anArray w) = true
 
-differ : {B : Type 0} {a b : Bool} → a ≡ true → b ≡ false → a ≡ b → B
+pub differ : {B : Type 0} {a b : Bool} → a ≡ true → b ≡ false → a ≡ b → B
 differ p q r = let z : true ≡ false = sym p ∙ r ∙ q in clash (cc)
 
 no-leaf : (t : ColumnType) {k : Kind} → k ≡ headOf (dtypeOf t) → isLeafKind k ≡ false → leafPart t ≡ refuses 24
@@ -96,16 +96,25 @@ element-label-ends s ByNumber at {l} e = named (label-ends s ByNumber at e)
     named : {i m : ℕ} {X : Type 0} → (i ≤ m) × ((at + length (textBytes (l .name)) ≤ i) × ((length (l .name) ≤ 63) × X)) → (at + length (l .name) ≤ i) × (length (l .name) ≤ 63)
     named (a, (b, (c, d))) = (omega arith, c)
 
+-- by number it has a byte at least
+element-label-later : (s : Bytes) (v : Version) (at : ℕ) {l : Label} {i : ℕ} → elementLabel v s at ≡ ok l i → (x y : Label) → needsRename v x y ≡ true → at < i
+unfolding elementLabel textBytes
+element-label-later s ByName at e x y h = clash (cc)
+element-label-later s ByNumber at e x y h = let (a, (b, c)) = label-ends s ByNumber at e in omega (arith, b)
+
 module _ {v : Version} {d : ℕ} {s : Bytes} {at : ℕ} (P : TypeAt v d s at) where
   -- the head, by the parser's answer
-  head-is : (k : Kind) {m : ℕ} → kind s at ≡ ok k m → (k ≡ headOf (dtypeOf (P .tree))) × (at + length (kindForm k) ≡ m)
+  pub head-is : (k : Kind) {m : ℕ} → kind s at ≡ ok k m → (k ≡ headOf (dtypeOf (P .tree))) × (at + length (kindForm k) ≡ m) × (m ≤ length s)
   head-is k {m} h =
       let H = head-at P {c = record { at = at }} refl refl in
       let (a, b) = ok-eq (sym h ∙ H .reads) in
-      (a, ap (λ (j : Kind). at + length (kindForm j)) a ∙ H .long ∙ sym b)
+      (a, ap (λ (j : Kind). at + length (kindForm j)) a ∙ H .long ∙ sym b, let t = H .to in omega arith)
+
+  pub leaf-none : (k : Kind) {m : ℕ} → kind s at ≡ ok k m → isLeafKind k ≡ false → leafPart (P .tree) ≡ refuses 24
+  leaf-none k h f = no-leaf (P .tree) (head-is k h .0) f
 
   pub leaf-mismatch : (k : Kind) {m : ℕ} → kind s at ≡ ok k m → isLeafKind k ≡ false → LeafPartIs s (leafPart (P .tree)) LeafPart.Mismatch
-  leaf-mismatch k h f = subst (λ (x : Result LeafType). LeafPartIs s x LeafPart.Mismatch) (sym (no-leaf (P .tree) (head-is k h .0) f)) (refl, refl)
+  leaf-mismatch k h f = subst (λ (x : Result LeafType). LeafPartIs s x LeafPart.Mismatch) (sym (leaf-none k h f)) (refl, refl)
 
   pub struct-mismatch : (k : Kind) {m : ℕ} → kind s at ≡ ok k m → isStructKind k ≡ false → StructPartIs v d s at (structPart (P .tree)) (P .end) StructPart.Mismatch
   struct-mismatch k h f = subst (λ (x : Result Columns). StructPartIs v d s at x (P .end) StructPart.Mismatch) (sym (no-struct (P .tree) (head-is k h .0) f)) (refl, refl)
@@ -115,12 +124,12 @@ module _ {v : Version} {d : ℕ} {s : Bytes} {at : ℕ} (P : TypeAt v d s at) wh
 
 -- where an element's label stands
 label-bounds : (s : Bytes) (v : Version) (c : Cursor) {q : Labelled} {l : LabelSpan} {b : Cursor} → labelRes s q ≡ elementLabel v s (c .at) → labelIn s q → q ≡ Labelled.Is l b
-    → (spanIn s (l .name)) × (c .at + l .name .len ≤ b .at) × (l .name .len ≤ 63)
+    → (spanIn s (l .name)) × (c .at ≤ b .at) × (l .name .len ≤ 63) × ((x y : Label) → needsRename v x y ≡ true → c .at < b .at)
 label-bounds s v c {q} {l} g i k =
     let h = label-in s i k in
     let (x, y) = element-label-ends s v (c .at) (label-got s g k) in
     let z = span-long s (l .name) h in
-    (h, omega arith, omega arith)
+    (h, omega arith, omega arith, element-label-later s v (c .at) (label-got s g k))
 
 module _ {v : Version} {d : ℕ} {s : Bytes} {at : ℕ} (P : TypeAt v d s at) {p : Head} (e : headRes s p ≡ kind s at) where
   pub leaf-taken : {l : LeafSpan} {c : Cursor} → headIn s p → p ≡ Head.Leaf l c → LeafPartIs s (leafPart (P .tree)) (LeafPart.Is l)
@@ -132,28 +141,28 @@ module _ {v : Version} {d : ℕ} {s : Bytes} {at : ℕ} (P : TypeAt v d s at) {p
   unfolding structPart kindForm u16Bytes
   struct-taken {n} {c} f =
       let S = struct-at P e f in
-      let h = head-is P (aStruct n) (sym e ∙ ap (headRes s) f) .1 in
+      let (_, h, w) = head-is P (aStruct n) (sym e ∙ ap (headRes s) f) in
       subst (λ (t : ColumnType). StructPartIs v d s at (structPart t) (P .end) (StructPart.Is n c)) (sym (S .is))
-      (record { count = n; start = c; is = refl; inner = S .inner; columns = refl; ends = S .ends; after = omega arith })
+      (record { count = n; start = c; is = refl; inner = S .inner; columns = refl; ends = S .ends; after = omega arith; within = w })
 
   module _ {c : Cursor} {q : Labelled} (g : labelRes s q ≡ elementLabel v s (c .at)) (i : labelIn s q) {l : LabelSpan} {b : Cursor} (k : q ≡ Labelled.Is l b) where
     pub list-taken : p ≡ Head.List c → ElementPartIs v d s at (elementOf (P .tree)) (P .end) (ElementPart.List l b)
     unfolding elementOf kindForm
     list-taken f =
         let L = list-at P e g f k in
-        let (h, x, y) = label-bounds s v c g i k in
+        let (h, x, y, n) = label-bounds s v c g i k in
         let z = head-is P aList (sym e ∙ ap (headRes s) f) .1 in
         subst (λ (t : ColumnType). ElementPartIs v d s at (elementOf t) (P .end) (ElementPart.List l b)) (sym (L .is))
-        (record { span = l; start = b; is = refl; label = refl; inside = h; short = y; inner = L .inner; tree = refl; ends = L .ends; after = omega arith })
+        (record { span = l; start = b; is = refl; label = refl; inside = h; short = y; inner = L .inner; tree = refl; ends = L .ends; after = omega arith; named = λ x y p. let q = n x y p in omega arith })
 
     pub array-taken : {w : ℕ} → p ≡ Head.Array w c → ElementPartIs v d s at (elementOf (P .tree)) (P .end) (ElementPart.Array w l b)
     unfolding elementOf kindForm u32Bytes u16Bytes
     array-taken {w} f =
         let L = array-at P e g f k in
-        let (h, x, y) = label-bounds s v c g i k in
+        let (h, x, y, n) = label-bounds s v c g i k in
         let z = head-is P (anArray w) (sym e ∙ ap (headRes s) f) .1 in
         subst (λ (t : ColumnType). ElementPartIs v d s at (elementOf t) (P .end) (ElementPart.Array w l b)) (sym (L .is))
-        (record { span = l; start = b; is = refl; label = refl; inside = h; short = y; inner = L .inner; tree = refl; ends = L .ends; after = omega arith })
+        (record { span = l; start = b; is = refl; label = refl; inside = h; short = y; inner = L .inner; tree = refl; ends = L .ends; after = omega arith; named = λ x y p. let q = n x y p in omega arith })
 
 -- ---- what a taken part says
 

@@ -126,11 +126,11 @@ distinct-more l t cs {b} e h = go (isAbsent (columnNamed (l .name) cs)) (sym e �
     go true z = refl
     go false z = clash (cc)
 
-not-true : (b : Bool) → not b ≡ true → b ≡ false
+pub not-true : (b : Bool) → not b ≡ true → b ≡ false
 not-true true h = clash (cc)
 not-true false h = refl
 
-not-false : (b : Bool) → not b ≡ false → b ≡ true
+pub not-false : (b : Bool) → not b ≡ false → b ≡ true
 not-false true h = refl
 not-false false h = clash (cc)
 

@@ -1,30 +1,27 @@
 -- The bytes of selectors, store by store. Assumes nothing.
-use Prim.Native.Nat.{ℕ, suc, _+_, _*_, _/_, _%_, _≤_, _<_}
-use mathlib.Core.Path.{_≡_, refl, sym, ap, _∙_}
-use mathlib.Core.List.{List, [], _∷_, _++_}
+use Prim.Native.Nat.{ℕ, _+_, _/_, _%_, _<_}
+use mathlib.Core.Path.{_≡_, refl, ap, _∙_}
+use mathlib.Core.List.{[], _∷_, _++_}
 use native.Mathlib.Omega.{arith}
 use lib.ListN.{length, set, length-append}
 use Rattle.store.specs.Overlay.{overlay}
 use Rattle.store.proofs.Overlay.{overlay-append}
 use Rattle.store.proofs.Holds.{holds-exact}
 use Rattle.layout.specs.Bytes.{Bytes}
-use Rattle.layout.specs.Tree.{LeafType, ColumnType, DataType, leaf, struct, list, array, dtypeOf, countFields}
+use Rattle.layout.specs.Tree.{LeafType, DataType, leaf, struct, list, array, dtypeOf}
 use Rattle.layout.specs.Stands.{TypeAt}
 use Rattle.layout.specs.declared.columns.Position.{Position}
 use Rattle.layout.specs.declared.version.Version.{Version}
-use Rattle.forms.specs.Form.{u16Bytes, u32Bytes, textBytes, leafForm, kindForm, form}
+use Rattle.forms.specs.Form.{u16Bytes, textBytes, leafForm, kindForm, form}
 use Rattle.forms.proofs.Leaves.{LeafCase, plain, timed, leafCase}
 use Rattle.forms.proofs.Writing.{extent}
-use Rattle.values.specs.Value.{vnull}
-use Rattle.values.specs.Encode.{encodeValue}
 use Rattle.rules.specs.Outcomes.{optionCode, numberOf, verdictOf}
 use Rattle.rules.specs.declared.outcome.CastOption.{CastOption}
 use Rattle.rules.specs.declared.outcome.Mismatch.{Mismatch}
 use Rattle.rules.specs.declared.outcome.Outcome.{Outcome}
-use Rattle.plan.specs.Result.{gives, refuses}
-use Rattle.plan.specs.Selector.{position, constant, cast}
+use Rattle.plan.specs.Selector.{position, cast}
 use Rattle.plan.specs.Encode.{encodeSelector}
-use Rattle.builder.specs.Answers.{madeOf, Wrote, Makes, byRule}
+use Rattle.builder.specs.Answers.{madeOf, Wrote, Makes, byRule, constantHead}
 use Rattle.builder.specs.declared.answer.Made.{Made}
 
 module _ (out : Bytes) (k : ℕ) where
@@ -48,13 +45,10 @@ module _ (out : Bytes) (k : ℕ) where
       (overlay-append (overlay out k (2 ∷ encodeSelector (position p))) (k + 4) (form t) (optionCode x ∷ [])
       ∙ overlay-append out k (2 ∷ encodeSelector (position p)) (form t ++ (optionCode x ∷ [])))
 
-  pub null-put : (b : Bytes) (t : DataType) {n m : ℕ} {o₁ o₂ o₃ o₄ : Bytes} → o₁ ≡ set out k 1 → n ≡ length (textBytes b) → o₂ ≡ overlay o₁ (k + 1) (textBytes b)
-      → m ≡ length (form t) → o₃ ≡ overlay o₂ (k + 1 + n) (form t) → o₄ ≡ set o₃ (k + 1 + n + m) 0 → o₄ ≡ overlay out k (encodeSelector (constant b t vnull))
-  unfolding overlay encodeSelector encodeValue
-  null-put b t {n} {m} {o₁} {o₂} {o₃} {o₄} e₁ en e₂ em e₃ e₄ =
-      rw (e₄, em, e₃, en, e₂, e₁)
-      (overlay-append (overlay (set out k 1) (k + 1) (textBytes b)) (k + 1 + length (textBytes b)) (form t) (0 ∷ [])
-      ∙ overlay-append (set out k 1) (k + 1) (textBytes b) (form t ++ (0 ∷ [])))
+  pub constant-head-put : (b : Bytes) (t : DataType) {n : ℕ} {o₁ o₂ o₃ : Bytes} → o₁ ≡ set out k 1 → n ≡ length (textBytes b) → o₂ ≡ overlay o₁ (k + 1) (textBytes b)
+      → o₃ ≡ overlay o₂ (k + 1 + n) (form t) → o₃ ≡ overlay out k (constantHead b t)
+  unfolding overlay
+  constant-head-put b t e₁ en e₂ e₃ = rw (e₃, en, e₂, e₁) (overlay-append (set out k 1) (k + 1) (textBytes b) (form t))
 
 pub position-long : (p : Position) → length (encodeSelector (position p)) ≡ 3
 unfolding encodeSelector u16Bytes
@@ -64,12 +58,8 @@ pub cast-long : (p : Position) (t : DataType) (x : CastOption) {n : ℕ} → n �
 unfolding encodeSelector u16Bytes
 cast-long p t x e = let h = length-append (form t) (optionCode x ∷ []) in omega arith
 
-pub null-long : (b : Bytes) (t : DataType) {n m : ℕ} → n ≡ length (textBytes b) → m ≡ length (form t) → 2 + n + m ≡ length (encodeSelector (constant b t vnull))
-unfolding encodeSelector encodeValue
-null-long b t e f =
-    let h = length-append (form t) (0 ∷ []) in
-    let g = length-append (textBytes b) (form t ++ (0 ∷ [])) in
-    omega arith
+pub constant-head-long : (b : Bytes) (t : DataType) {n m : ℕ} → n ≡ length (textBytes b) → m ≡ length (form t) → 1 + n + m ≡ length (constantHead b t)
+constant-head-long b t e f = let h = length-append (textBytes b) (form t) in omega arith
 
 -- a type has a byte at least
 pub form-some : (t : DataType) → 0 < length (form t)

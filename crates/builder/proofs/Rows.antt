@@ -18,7 +18,7 @@ use Rattle.plan.specs.Result.{Result, gives, refuses, _>>=_}
 use Rattle.plan.specs.Selector.{Selector, position, constant, cast, rename, structMapping, listMapping, arrayMapping, Selectors, snil, scons, countSelectors}
 use Rattle.plan.specs.Encode.{encodeSelector, encodeSelectors}
 use Rattle.matching.specs.Build.{isPosition, inPlace, listSelector, arraySelector, structSelector, attachFields, counterpart, sought, missing, attach, renamed, inserts}
-use Rattle.builder.specs.Answers.{madeOf, rowOf, isRefused, isBare, lenOf, failedOf, refusedRow, joinRow, Wrote, WroteRow, Makes, MakesRow}
+use Rattle.builder.specs.Answers.{madeOf, rowOf, isRefused, isBare, lenOf, failedOf, refusedRow, joinRow, Wrote, WroteRow, Makes, MakesRow, Maps}
 use Rattle.builder.specs.declared.answer.Made.{Made}
 use Rattle.builder.specs.declared.answer.Made.the-variants.{Refused, Bare, Built}
 use Rattle.builder.specs.declared.answer.Row.{Row}
@@ -83,12 +83,7 @@ module _ {b e : ℕ} {out : Bytes} {k : ℕ} {r : Made} {o : Bytes} where
   makes-before (refuses n) m h = never (sym (ap isRefused (m .answer)) ∙ h)
   makes-before (gives s) m h = holds-before out k (encodeSelector s) o (m .wrote .0)
 
--- ---- a mapping of a list or an array: g is the mapping, c its code
-
-pub record Maps (k : Position) (c : ℕ) (f g : Selector → Selector) : Type 0 where
-  pub chooses : (s : Selector) → f s ≡ choose (isPosition 0 s) (position k) (g s)
-  pub bytes : (s : Selector) → encodeSelector (g s) ≡ c ∷ (encodeSelector (position k) ++ encodeSelector s)
-  pub made : (s : Selector) → madeOf (gives (g s)) ≡ Built (length (encodeSelector (g s)))
+-- ---- a mapping of a list or an array
 
 pub list-maps : (k : Position) → Maps k 5 (listSelector k) (λ s. listMapping (position k) s)
 unfolding listSelector encodeSelector madeOf

@@ -1,5 +1,5 @@
 -- The tests of the matchers, and the selectors that need no matching. Assumes nothing.
-use Prim.Native.Nat.{ℕ, _≤_, _<_}
+use Prim.Native.Nat.{ℕ}
 use mathlib.Core.Path.{_≡_, refl, sym, ap, _∙_}
 use mathlib.Core.Bool.{Bool, true, false, not, _&&_, _||_}
 use native.Mathlib.Omega.{arith}
@@ -11,27 +11,22 @@ use Rattle.store.proofs.Holds.{holds-exact}
 use Rattle.layout.specs.Bytes.{Bytes, sameBytes}
 use Rattle.layout.specs.Parser.{choose}
 use Rattle.layout.specs.Tree.{Label, ColumnType, Columns, dtypeOf}
-use Rattle.layout.specs.Answers.{labelAt, spanAt, spanIn}
 use Rattle.layout.specs.Stands.{TypeAt}
 use Rattle.layout.specs.declared.columns.FieldId.{FieldId}
 use Rattle.layout.specs.declared.columns.Position.{Position}
-use Rattle.layout.specs.declared.columns.Label.{Label as LabelSpan}
 use Rattle.layout.specs.declared.version.Version.{Version}
 use Rattle.layout.specs.declared.version.Version.the-variants.{ByName, ByNumber}
 use Rattle.layout.proofs.Ways.{clash}
-use Rattle.forms.proofs.Writing.{extent, text-long}
-use Rattle.values.specs.Value.{vnull}
+use Rattle.forms.proofs.Writing.{extent}
 use Rattle.rules.specs.declared.policy.Policy.{Policy}
 use Rattle.rules.specs.declared.outcome.CastOption.the-variants.{NonStrict}
-use Rattle.plan.specs.Result.{gives, demand}
-use Rattle.plan.specs.Selector.{Selector, position, constant, cast, rename}
+use Rattle.plan.specs.Result.{demand}
+use Rattle.plan.specs.Selector.{Selector, position, cast, rename}
 use Rattle.plan.specs.Encode.{encodeSelector}
-use Rattle.matching.specs.Default.{noDefaults}
-use Rattle.matching.proofs.ByName.{missing-constant}
-use Rattle.matching.specs.Build.{isByName, isNullType, sameElement, renamed, distinct, noExtra, ignores, missing}
+use Rattle.matching.specs.Build.{isByName, isNullType, sameElement, renamed, distinct, noExtra, ignores}
 use Rattle.builder.specs.Answers.{madeOf, Wrote, Makes, needsRename, faultOf, nullCast}
 use Rattle.builder.specs.declared.answer.Made.{Made}
-use Rattle.builder.proofs.Putting.{cast-long, null-long, form-some}
+use Rattle.builder.proofs.Putting.{cast-long, form-some}
 
 pub null-by-name : {v : Version} (t : ColumnType) {b : Bool} → v ≡ ByName → b ≡ isNullType t → b ≡ (isByName v && isNullType t)
 null-by-name t h e = rw h e
@@ -134,26 +129,3 @@ module _ (p : Policy) (k : Position) {v : Version} {d : ℕ} {s : Bytes} {at : �
   pub null-refused : (o : Bytes) → p .«null_upcast» ≡ false → Makes at (Q .end) out to (nullCast p k (Q .tree)) (Made.Refused 15) o
   unfolding demand madeOf Wrote
   null-refused o h = rw h (record { answer = refl; wrote = tt })
-
--- ---- a column with no counterpart
-
-pub missing-null : (n : ℕ) (l : Label) (u : ColumnType) → missing noDefaults true n l u ≡ gives (constant (l .name) (dtypeOf u) vnull)
-unfolding demand
-missing-null n l u = missing-constant true n l u
-
-module _ (number : ℕ) (l : LabelSpan) {v : Version} {d : ℕ} {s : Bytes} {at : ℕ} (from : ℕ) (Q : TypeAt v d s at) (lt : from < at) (out : Bytes) (to : ℕ) where
-  pub missing-put : {i : Bool} {n : ℕ} {o : Bytes} → spanIn s (l .name) → l .name .len ≤ 63 → i ≡ true
-      → n ≡ length (encodeSelector (constant (spanAt s (l .name)) (dtypeOf (Q .tree)) vnull))
-      → o ≡ overlay out to (encodeSelector (constant (spanAt s (l .name)) (dtypeOf (Q .tree)) vnull))
-      → Makes from (Q .end) out to (missing noDefaults i number (labelAt s l) (Q .tree)) (Made.Built n) o
-  unfolding madeOf Wrote
-  missing-put inn short h e f =
-      let a = text-long s (l .name) inn in
-      let g = null-long (spanAt s (l .name)) (dtypeOf (Q .tree)) refl refl in
-      let (b, c) = extent Q in
-      rw (h, missing-null number (labelAt s l) (Q .tree))
-      (record { answer = ap Made.Built e; wrote = (holds-exact out to (encodeSelector (constant (spanAt s (l .name)) (dtypeOf (Q .tree)) vnull)) f, omega arith) })
-
-  pub missing-refused : {i : Bool} (o : Bytes) → i ≡ false → Makes from (Q .end) out to (missing noDefaults i number (labelAt s l) (Q .tree)) (Made.Refused number) o
-  unfolding missing demand madeOf Wrote
-  missing-refused o h = rw h (record { answer = refl; wrote = tt })

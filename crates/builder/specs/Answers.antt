@@ -1,13 +1,14 @@
 -- What the answers of the code stand for, and the contracts of the matchers: what is written into the scratch buffer is right up to its end.
 use mathlib.Core.Path.{_≡_}
 use mathlib.Core.Bool.{Bool, true, false, not, _&&_, _||_}
+use mathlib.Core.List.{_∷_, _++_}
 use Prim.Native.Nat.{ℕ, _+_, _-_, _*_, _<_, _≤_}
 use lib.ListN.{length}
 use lib.Dec.{eqb}
 use Rattle.store.specs.Overlay.{Holds}
 use Rattle.layout.specs.Bytes.{Bytes, sameBytes}
 use Rattle.layout.specs.Parser.{choose}
-use Rattle.layout.specs.Tree.{LeafType, Label, ColumnType, cleaf, cstruct, clist, carray, Columns, dtypeOf}
+use Rattle.layout.specs.Tree.{LeafType, Label, ColumnType, cleaf, cstruct, clist, carray, Columns, DataType, dtypeOf}
 use Rattle.layout.specs.Answers.{leafAt, labelAt, spanIn}
 use Rattle.layout.specs.Stands.{TypeAt, ColumnsAt}
 use Rattle.layout.specs.declared.columns.Position.{Position}
@@ -19,18 +20,31 @@ use Rattle.layout.specs.declared.version.Version.the-variants.{ByName, ByNumber
 use Rattle.rules.specs.declared.policy.Policy.{Policy}
 use Rattle.rules.specs.Outcomes.{Verdict, untouched, refused, cast as casts}
 use Rattle.rules.specs.declared.outcome.CastOption.the-variants.{NonStrict}
-use Rattle.plan.specs.Result.{Result, gives, refuses, demand}
+use Rattle.forms.specs.Form.{textBytes, form}
+use Rattle.values.specs.Encode.{encodeValue, encodeValues}
+use Rattle.defaults.specs.Stands.{TableAt}
+use Rattle.defaults.specs.Lookup.{getDefaultValue}
+use Rattle.plan.specs.Result.{Result, gives, refuses, _>>=_, demand}
 use Rattle.plan.specs.Selector.{Selector, position, constant, cast, rename, structMapping, listMapping, arrayMapping, Selectors}
 use Rattle.plan.specs.Encode.{encodeSelector, encodeSelectors}
-use Rattle.matching.specs.Default.{noDefaults}
-use Rattle.matching.specs.Build.{inPlace, attach, attachFields, distinct, noExtra, ignores}
+use Rattle.matching.specs.Default.{Defaults, noDefaults, Default, none, some, orNull, FieldDefaults}
+use Rattle.matching.specs.Build.{Element, structPart, listPart, arrayPart, counterpart, renamed, sameElement, distinct, noExtra, ignores, missing, isPosition, inPlace, structSelector, listSelector, arraySelector, first, sought, attach, attachFields}
 use Rattle.builder.specs.declared.answer.Made.{Made}
 use Rattle.builder.specs.declared.answer.Made.the-variants.{Refused, Bare, Built}
 use Rattle.builder.specs.declared.answer.Row.{Row}
 use Rattle.builder.specs.declared.answer.Row.the-variants.{Failed, Done}
+use Rattle.builder.specs.declared.default.DefaultFieldValues.{DefaultFieldValues}
+use Rattle.builder.specs.declared.default.DefaultMade.{DefaultMade}
+use Rattle.builder.specs.declared.default.DefaultsMade.{DefaultsMade}
 use Rattle.builder.specs.declared.parts.LeafPart.{LeafPart}
 use Rattle.builder.specs.declared.parts.StructPart.{StructPart}
 use Rattle.builder.specs.declared.parts.ElementPart.{ElementPart}
+use Rattle.builder.specs.declared.parts.InnerPart.{InnerPart}
+
+-- by number unequal names add a rename
+abbrev pub needsRename : Version → Label → Label → Bool
+needsRename ByName target incoming = false
+needsRename ByNumber target incoming = not (sameBytes (incoming .name) (target .name))
 
 -- ---- a type's parts
 
@@ -54,6 +68,7 @@ pub record StructIs (v : Version) (d : ℕ) (s : Bytes) (at : ℕ) (cs : Columns
   pub columns : inner .columns ≡ cs
   pub ends : inner .end ≡ e
   pub after : at < start .at
+  pub within : start .at ≤ length s
 
 abbrev pub StructPartIs : Version → ℕ → Bytes → ℕ → Result Columns → ℕ → StructPart → Type 0
 StructPartIs v d s at (refuses n) e r = (n ≡ 24) × (r ≡ StructPart.Mismatch)
@@ -72,7 +87,7 @@ elementOf (clist l t) = listElement l t
 elementOf (carray w l t) = arrayElement w l t
 
 -- where the element of a type at an offset, which ends at e, stands; f makes the answer
-pub record ElementIs (v : Version) (d : ℕ) (s : Bytes) (at : ℕ) (l : Label) (t : ColumnType) (e : ℕ) (f : LabelSpan → Cursor → ElementPart) (r : ElementPart) : Type 0 where
+pub record ElementIs {R : Type 0} (v : Version) (d : ℕ) (s : Bytes) (at : ℕ) (l : Label) (t : ColumnType) (e : ℕ) (f : LabelSpan → Cursor → R) (r : R) : Type 0 where
   pub span : LabelSpan
   pub start : Cursor
   pub is : r ≡ f span start
@@ -82,12 +97,18 @@ pub record ElementIs (v : Version) (d : ℕ) (s : Bytes) (at : ℕ) (l : Label) 
   pub inner : TypeAt v (d - 1) s (start .at)
   pub tree : inner .tree ≡ t
   pub ends : inner .end ≡ e
-  pub after : at + 1 + span .name .len ≤ start .at
+  pub after : at < start .at
+  pub named : (x y : Label) → needsRename v x y ≡ true → at + 1 < start .at
 
 abbrev pub ElementPartIs : Version → ℕ → Bytes → ℕ → Inner → ℕ → ElementPart → Type 0
 ElementPartIs v d s at noElement e r = r ≡ ElementPart.Mismatch
 ElementPartIs v d s at (listElement l t) e r = ElementIs v d s at l t e (λ a b. ElementPart.List a b) r
 ElementPartIs v d s at (arrayElement w l t) e r = ElementIs v d s at l t e (λ a b. ElementPart.Array w a b) r
+
+-- the element of a list, or of an array of one width
+abbrev pub InnerPartIs : Version → ℕ → Bytes → ℕ → Result Element → ℕ → InnerPart → Type 0
+InnerPartIs v d s at (refuses n) e r = (n ≡ 24) × (r ≡ InnerPart.Mismatch)
+InnerPartIs v d s at (gives x) e r = ElementIs v d s at (x .label) (x .type) e (λ a b. InnerPart.Is a b) r
 
 -- ---- the matchers' answers
 
@@ -157,15 +178,65 @@ pub record MakesRow (b e : ℕ) (out : Bytes) (k : ℕ) (X : Result Selectors) (
   pub answer : r ≡ rowOf 0 X
   pub wrote : WroteRow b e out k X out′
 
+-- the defaults that the code is given: n entries of a table, at a source index
+abbrev pub DefaultsAt : Bytes → DefaultFieldValues → Type 0
+DefaultsAt table dv = TableAt table (dv .count) (dv .entries .at)
+
+abbrev pub defaultsAt : {table : Bytes} (dv : DefaultFieldValues) → DefaultsAt table dv → Defaults
+defaultsAt dv T = getDefaultValue (T .entries) (dv .«source_index»)
+
 -- the type matcher: the incoming type at `at`, the target type at `bt`
-abbrev pub Attached : Policy → Version → ℕ → Bytes → ℕ → Bytes → ℕ → Position → Bytes → ℕ → Made → Bytes → Type 0
-Attached p v d incoming at target bt k out to r out′ =
-    (P : TypeAt v d incoming at) (Q : TypeAt v d target bt) → Makes bt (Q .end) out to (attach v p noDefaults (Q .tree) k (P .tree)) r out′
+abbrev pub Attached : Policy → Version → ℕ → Bytes → DefaultFieldValues → Bytes → ℕ → Bytes → ℕ → Position → Bytes → ℕ → Made → Bytes → Type 0
+Attached p v d table dv incoming at target bt k out to r out′ =
+    (T : DefaultsAt table dv) (P : TypeAt v d incoming at) (Q : TypeAt v d target bt) → Makes bt (Q .end) out to (attach v p (defaultsAt dv T) (Q .tree) k (P .tree)) r out′
 
 -- the field matcher: n incoming fields at `at`, m target fields at `bt`
-abbrev pub AttachedFields : Policy → Version → ℕ → Bytes → ℕ → ℕ → Bytes → ℕ → ℕ → Bytes → ℕ → Row → Bytes → Type 0
-AttachedFields p v d incoming n at target m bt out to r out′ =
-    (P : ColumnsAt v d incoming n at) (Q : ColumnsAt v d target m bt) → MakesRow bt (Q .end) out to (attachFields v p noDefaults (Q .columns) (P .columns)) r out′
+abbrev pub AttachedFields : Policy → Version → ℕ → Bytes → DefaultFieldValues → Bytes → ℕ → ℕ → Bytes → ℕ → ℕ → Bytes → ℕ → Row → Bytes → Type 0
+AttachedFields p v d table dv incoming n at target m bt out to r out′ =
+    (T : DefaultsAt table dv) (P : ColumnsAt v d incoming n at) (Q : ColumnsAt v d target m bt)
+    → MakesRow bt (Q .end) out to (attachFields v p (defaultsAt dv T) (Q .columns) (P .columns)) r out′
+
+-- ---- the parts of `attach` that have functions of their own
+
+-- with a rename outside, where the labels ask for one
+abbrev pub attachRenamed : Version → Policy → Defaults → Label → ColumnType → Position → Label → ColumnType → Result Selector
+attachRenamed v p d l u k m t = attach v p d u k t >>= λ s. gives (renamed v l m s)
+
+-- a target column over its counterpart among fs; n is the refusal where it is missing
+abbrev pub attachField : Version → Policy → Defaults → Bool → ℕ → Label → ColumnType → Columns → Result Selector
+attachField v p d insert n l u fs = sought (counterpart v l fs) (missing d insert n l u) (λ k m t. attachRenamed v p d l u k m t)
+
+-- a struct target with the fields gs
+abbrev pub attachStruct : Version → Policy → Defaults → Columns → Position → ColumnType → Result Selector
+attachStruct v p d gs k t =
+    structPart t >>= λ fs.
+    demand (distinct v gs) 12
+    (demand (distinct v fs) 12
+    (demand (ignores (p .«extra_struct_fields») || noExtra v fs gs) 13
+    (attachFields v p d gs fs >>= λ ss. gives (structSelector k fs ss))))
+
+-- an element, inside which there are no defaults; f is the mapping around it
+abbrev pub attachElement : Version → Policy → (Selector → Selector) → Label → ColumnType → Label → ColumnType → Result Selector
+attachElement v p f l u m t = demand (sameElement v m l) 25 (attachRenamed v p noDefaults l u first m t >>= λ s. gives (f s))
+
+-- a target with this element
+abbrev pub attachInner : Version → Policy → Inner → Position → ColumnType → Result Selector
+attachInner v p noElement k t = refuses 24
+attachInner v p (listElement l u) k t = listPart t >>= λ e. attachElement v p (listSelector k) l u (e .label) (e .type)
+attachInner v p (arrayElement w l u) k t = arrayPart w t >>= λ e. attachElement v p (arraySelector k) l u (e .label) (e .type)
+
+-- a target that is no leaf, over an incoming type that is not null
+unfoldable pub attachNested : Version → Policy → Defaults → ColumnType → Position → ColumnType → Result Selector
+attachNested v p d (cleaf l) k t = refuses 24
+attachNested v p d (cstruct gs) k t = attachStruct v p d gs k t
+attachNested v p d (clist l u) k t = attachInner v p (listElement l u) k t
+attachNested v p d (carray w l u) k t = attachInner v p (arrayElement w l u) k t
+
+-- f leaves the mapping g out around the element's bare position; c is the mapping's code
+pub record Maps (k : Position) (c : ℕ) (f g : Selector → Selector) : Type 0 where
+  pub chooses : (s : Selector) → f s ≡ choose (isPosition 0 s) (position k) (g s)
+  pub bytes : (s : Selector) → encodeSelector (g s) ≡ c ∷ (encodeSelector (position k) ++ encodeSelector s)
+  pub made : (s : Selector) → madeOf (gives (g s)) ≡ Built (length (encodeSelector (g s)))
 
 -- a leaf, by the rule of its pair
 abbrev pub byRule : Verdict → Position → ColumnType → Result Selector
@@ -178,11 +249,6 @@ Ruled x v d target bt k out to r out′ = (Q : TypeAt v d target bt) → Makes b
 
 -- ---- the tests
 
--- by number unequal names add a rename
-abbrev pub needsRename : Version → Label → Label → Bool
-needsRename ByName target incoming = false
-needsRename ByNumber target incoming = not (sameBytes (incoming .name) (target .name))
-
 -- 12, the target's names first, then 13; 0 where both pass
 abbrev pub faultOf : Policy → Version → Columns → Columns → ℕ
 faultOf p v gs fs = choose (distinct v gs) (choose (distinct v fs) (choose (ignores (p .«extra_struct_fields») || noExtra v fs gs) 0 13) 12) 12
@@ -190,3 +256,69 @@ faultOf p v gs fs = choose (distinct v gs) (choose (distinct v fs) (choose (igno
 -- a null incoming type by name
 abbrev pub nullCast : Policy → Position → ColumnType → Result Selector
 nullCast p k u = demand (p .«null_upcast») 15 (gives (cast (position k) (dtypeOf u) NonStrict))
+
+-- ---- the value of a column with no counterpart
+
+unfoldable pub defaultMade : Result Default → DefaultMade
+defaultMade (refuses n) = DefaultMade.Refused n
+defaultMade (gives none) = DefaultMade.None
+defaultMade (gives (some x)) = DefaultMade.Some (length (encodeValue x))
+
+-- the values of a struct's fields
+unfoldable pub defaultsMade : Result FieldDefaults → DefaultsMade
+defaultsMade (refuses n) = DefaultsMade.Failed n
+defaultsMade (gives g) = DefaultsMade.Done (g .any) (length (encodeValues (g .values)))
+
+abbrev pub isDefaultRefused : DefaultMade → Bool
+isDefaultRefused (DefaultMade.Refused n) = true
+isDefaultRefused DefaultMade.None = false
+isDefaultRefused (DefaultMade.Some n) = false
+
+abbrev pub isSomeMade : DefaultMade → Bool
+isSomeMade (DefaultMade.Refused n) = false
+isSomeMade DefaultMade.None = false
+isSomeMade (DefaultMade.Some n) = true
+
+-- a null has one byte
+abbrev pub valueLen : DefaultMade → ℕ
+valueLen (DefaultMade.Refused n) = 0
+valueLen DefaultMade.None = 1
+valueLen (DefaultMade.Some n) = n
+
+abbrev pub failedDefault : DefaultMade → DefaultsMade
+failedDefault (DefaultMade.Refused n) = DefaultsMade.Failed n
+failedDefault DefaultMade.None = DefaultsMade.Failed 0
+failedDefault (DefaultMade.Some n) = DefaultsMade.Failed 0
+
+-- a field before others
+abbrev pub joinDefaults : Bool → ℕ → DefaultsMade → DefaultsMade
+joinDefaults any len (DefaultsMade.Failed n) = DefaultsMade.Failed n
+joinDefaults any len (DefaultsMade.Done more n) = DefaultsMade.Done (any || more) (len + n)
+
+-- a constant: its name and type have h bytes with its code
+abbrev pub constantMade : ℕ → DefaultMade → Made
+constantMade h (DefaultMade.Refused n) = Refused n
+constantMade h DefaultMade.None = Built (h + 1)
+constantMade h (DefaultMade.Some n) = Built (h + n)
+
+-- A value in the buffer from k on, for target bytes from b to e: a value of a table has at most 16,384 bytes, and what it stands for at least one.
+unfoldable pub WroteDefault : ℕ → ℕ → Bytes → ℕ → Result Default → Bytes → Type 0
+WroteDefault b e out k (refuses n) out′ = Unit {0}
+WroteDefault b e out k (gives x) out′ = Holds out k (encodeValue (orNull x)) out′ × (length (encodeValue (orNull x)) + 16384 * b ≤ 16384 * e)
+
+unfoldable pub WroteDefaults : ℕ → ℕ → Bytes → ℕ → Result FieldDefaults → Bytes → Type 0
+WroteDefaults b e out k (refuses n) out′ = Unit {0}
+WroteDefaults b e out k (gives g) out′ = Holds out k (encodeValues (g .values)) out′ × (length (encodeValues (g .values)) + 16384 * b ≤ 16384 * e)
+
+-- the default that X is, answered and written
+pub record MakesDefault (b e : ℕ) (out : Bytes) (k : ℕ) (X : Result Default) (r : DefaultMade) (out′ : Bytes) : Type 0 where
+  pub answer : r ≡ defaultMade X
+  pub wrote : WroteDefault b e out k X out′
+
+pub record MakesDefaults (b e : ℕ) (out : Bytes) (k : ℕ) (X : Result FieldDefaults) (r : DefaultsMade) (out′ : Bytes) : Type 0 where
+  pub answer : r ≡ defaultsMade X
+  pub wrote : WroteDefaults b e out k X out′
+
+-- the bytes of a constant before its value
+abbrev pub constantHead : Bytes → DataType → Bytes
+constantHead n t = 1 ∷ (textBytes n ++ form t)

@@ -6,15 +6,13 @@ ghost use lib.ListN.{length};
 ghost use Rattle.layout.specs.Tree.{Label as LabelOf};
 ghost use Rattle.layout.specs.Answers.{labelAt, spanIn};
 ghost use Rattle.layout.specs.Stands.{TypeAt, ColumnsAt};
-ghost use Rattle.matching.specs.Default.{noDefaults};
-ghost use Rattle.matching.specs.Build.{isByName, isNullType, sameElement, ignores as ignoresExtra, inserts as insertsMissing, missing};
+ghost use Rattle.matching.specs.Build.{isByName, isNullType, sameElement, ignores as ignoresExtra, inserts as insertsMissing};
 ghost use Rattle.builder.specs.Answers.{Makes, needsRename, faultOf, nullCast};
 use crate::answer::Made;
 use crate::fields::distinct;
 use crate::fields::no_extra;
 use crate::parts::is_null_type;
 use crate::write::put_cast;
-use crate::write::put_null;
 use forms::compare::same_text;
 use layout::columns::FieldId;
 use layout::columns::Label;
@@ -132,35 +130,11 @@ pub fn put_null_cast(
     k: usize,
 ) -> Made
     requires { ⌜ TypeAt v depth (now target) (b .at) ⌝ }
-    requires { ⌜ (length (now target) ≤ 16384) × (k ≤ 65536 * b .at) ⌝ }
+    requires { ⌜ (length (now target) ≤ 16384) × (k ≤ 65536 * b .at + 1) ⌝ }
     ensures { λ r. ⌜ ((Q : TypeAt v depth (now (target .entry)) (b .at)) → Makes (b .at) (Q .end) (now (out .entry)) k (nullCast policy position (Q .tree)) r (now (out .exit))) ⌝ }
 {
     if policy.null_upcast {
         return Made::Built(put_cast(target, v, depth, b, position, CastOption::NonStrict, out, k));
     }
     Made::Refused(15)
-}
-
-// A target column with no counterpart, whose label is `l` and whose type stands at `b`: a null constant under Insert, else the refusal.
-pub fn put_missing(
-    insert: bool,
-    number: u8,
-    v: Version,
-    depth: u8,
-    target: &[u8],
-    l: Label,
-    b: Cursor,
-    out: &mut [u8],
-    k: usize,
-) -> Made
-    requires { ⌜ spanIn (now target) (l .name) × (l .name .len ≤ 63) ⌝ }
-    requires { ⌜ TypeAt v depth (now target) (b .at) ⌝ }
-    requires { ⌜ (length (now target) ≤ 16384) × (k ≤ 65536 * b .at) ⌝ }
-    ensures { λ r. ⌜ ((from : ℕ) (Q : TypeAt v depth (now (target .entry)) (b .at)) → from < b .at → Makes from (Q .end) (now (out .entry)) k (missing noDefaults insert number (labelAt (now (target .entry)) l) (Q .tree)) r (now (out .exit))) ⌝ }
-{
-    if insert {
-        let name = l.name;
-        return Made::Built(put_null(target, v, depth, name, b, out, k));
-    }
-    Made::Refused(number)
 }

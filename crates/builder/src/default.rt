@@ -1,8 +1,296 @@
-// The defaults of a build: by number those of a table that was read, at a source index. With no entries there are none: so by name, and inside elements.
+// The value of a target column with no counterpart, as source 000's `build_iceberg_default_value` finds it, and the constant that holds it.
+ghost use mathlib.Core.Path.{_≡_};
+ghost use mathlib.Core.Bool.{_||_};
+ghost use Prim.Native.Nat.{ℕ, _+_, _*_, _^_, _≤_, _<_};
+ghost use lib.ListN.{length};
+ghost use Rattle.store.specs.Overlay.{overlay};
+ghost use Rattle.layout.specs.Tree.{leaf};
+ghost use Rattle.layout.specs.Answers.{leafAt, labelAt, spanIn};
+ghost use Rattle.layout.specs.Stands.{TypeAt, ColumnsAt};
+ghost use Rattle.forms.specs.Same.{sameDtype};
+ghost use Rattle.values.specs.Value.{vnull};
+ghost use Rattle.values.specs.Encode.{encodeValue};
+ghost use Rattle.values.specs.Stands.{ValueAt};
+ghost use Rattle.defaults.specs.Lookup.{getDefaultValue};
+ghost use Rattle.defaults.specs.Stands.{TableAt};
+ghost use Rattle.plan.specs.Result.{gives, demand};
+ghost use Rattle.matching.specs.Default.{some, leafDefault, defaultOf, defaultsOf};
+ghost use Rattle.matching.specs.Build.{missing};
+ghost use Rattle.builder.specs.Answers.{Makes, MakesDefault, MakesDefaults, isDefaultRefused, isSomeMade, valueLen, failedDefault, constantMade};
+use crate::answer::Made;
+use crate::leaf::leaf_rule;
+use crate::write::put_constant_head;
+use defaults::lookup::DefaultValue;
+use defaults::lookup::get_default_value;
+use defaults::types::read_leaf_value;
+use layout::columns::FieldId;
+use layout::columns::Label;
+use layout::columns::Labelled;
 use layout::cursor::Cursor;
+use layout::cursor::Moved;
+use layout::types::Head;
+use layout::types::LeafType;
+use layout::version::Version;
+use layout::walk::skip_type;
+use rules::outcome::Outcome;
+use rules::policy::Policy;
+use store::copy;
+use store::put;
 
+// The defaults of a build: by number those of a table that was read, at a source index. With no entries there are none: so by name, and inside elements.
 pub struct DefaultFieldValues {
     pub count: u16,
     pub entries: Cursor,
     pub source_index: u32,
+}
+
+// A refusal's number; no default, and a null was written; or the length of the value that was written.
+pub enum DefaultMade {
+    Refused(u8),
+    None,
+    Some(usize),
+}
+
+// The same for the values of a struct's fields: whether one has a default, and their length.
+pub enum DefaultsMade {
+    Failed(u8),
+    Done(bool, usize),
+}
+
+fn is_default_refused(made: DefaultMade) -> bool
+    ensures { λ r. ⌜ r ≡ isDefaultRefused made ⌝ }
+{
+    match made {
+        DefaultMade::Refused(_) => true,
+        DefaultMade::None => false,
+        DefaultMade::Some(_) => false,
+    }
+}
+
+fn is_some(made: DefaultMade) -> bool
+    ensures { λ r. ⌜ r ≡ isSomeMade made ⌝ }
+{
+    match made {
+        DefaultMade::Refused(_) => false,
+        DefaultMade::None => false,
+        DefaultMade::Some(_) => true,
+    }
+}
+
+// A null has one byte.
+fn value_len(made: DefaultMade) -> usize
+    ensures { λ r. ⌜ r ≡ valueLen made ⌝ }
+{
+    match made {
+        DefaultMade::Refused(_) => 0,
+        DefaultMade::None => 1,
+        DefaultMade::Some(n) => n,
+    }
+}
+
+fn failed_default(made: DefaultMade) -> DefaultsMade
+    ensures { λ r. ⌜ r ≡ failedDefault made ⌝ }
+{
+    match made {
+        DefaultMade::Refused(n) => DefaultsMade::Failed(n),
+        DefaultMade::None => DefaultsMade::Failed(0),
+        DefaultMade::Some(_) => DefaultsMade::Failed(0),
+    }
+}
+
+fn either(a: bool, b: bool) -> bool
+    ensures { λ r. ⌜ r ≡ (a || b) ⌝ }
+{
+    if a { true } else { b }
+}
+
+// Equal leaf types are those whose pair is untouched, under any policy.
+fn same_leaf_type(a: &[u8], l: LeafType, b: &[u8], m: LeafType) -> bool
+    requires { ⌜ spanIn (now a) (l .zone) × spanIn (now b) (m .zone) ⌝ }
+    ensures { λ r. ⌜ r ≡ sameDtype (leaf (leafAt (now (a .entry)) l)) (leaf (leafAt (now (b .entry)) m)) ⌝ }
+{
+    match leaf_rule(Policy::all_on(), a, l, b, m) {
+        Outcome::Untouched => true,
+        Outcome::Refused(_) => false,
+        Outcome::Cast(_) => false,
+    }
+}
+
+fn put_none(out: &mut [u8], k: usize) -> DefaultMade
+    ensures { λ r. ⌜ r ≡ DefaultMade.None ⌝ }
+    ensures { λ _. ⌜ now (out .exit) ≡ overlay (now (out .entry)) k (encodeValue vnull) ⌝ }
+{
+    put(out, k, 0);
+    DefaultMade::None
+}
+
+// A value of the table, of the type `m`, for a field of the leaf type `u`.
+fn put_taken(
+    table: &[u8],
+    m: LeafType,
+    c: Cursor,
+    target: &[u8],
+    u: LeafType,
+    out: &mut [u8],
+    k: usize,
+) -> DefaultMade
+    requires { ⌜ spanIn (now table) (m .zone) × spanIn (now target) (u .zone) ⌝ }
+    requires { ⌜ ValueAt (leaf (leafAt (now table) m)) (now table) (c .at) ⌝ }
+    requires { ⌜ (length (now table) ≤ 16384) × (k + 16384 < 2 ^ 64) ⌝ }
+    ensures { λ r. ⌜ ((b e : ℕ) (P : ValueAt (leaf (leafAt (now (table .entry)) m)) (now (table .entry)) (c .at)) → b < e → MakesDefault b e (now (out .entry)) k (demand (sameDtype (leaf (leafAt (now (table .entry)) m)) (leaf (leafAt (now (target .entry)) u))) 28 (gives (some (P .tree)))) r (now (out .exit))) ⌝ }
+{
+    if !same_leaf_type(table, m, target, u) {
+        return DefaultMade::Refused(28);
+    }
+    match read_leaf_value(table, m, c) {
+        Moved::To(d) => {
+            copy(table, c.at, d.at, out, k);
+            DefaultMade::Some(d.at - c.at)
+        }
+        Moved::Refused(n) => DefaultMade::Refused(n),
+    }
+}
+
+// The default of a field of the leaf type `u`.
+fn put_leaf_default(
+    table: &[u8],
+    defaults: DefaultFieldValues,
+    id: FieldId,
+    target: &[u8],
+    u: LeafType,
+    out: &mut [u8],
+    k: usize,
+) -> DefaultMade
+    requires { ⌜ TableAt (now table) (defaults .count) (defaults .entries .at) ⌝ }
+    requires { ⌜ spanIn (now target) (u .zone) ⌝ }
+    requires { ⌜ (length (now table) ≤ 16384) × (k + 16384 < 2 ^ 64) ⌝ }
+    ensures { λ r. ⌜ ((b e : ℕ) (T : TableAt (now (table .entry)) (defaults .count) (defaults .entries .at)) → b < e → MakesDefault b e (now (out .entry)) k (leafDefault (leafAt (now (target .entry)) u) (getDefaultValue (T .entries) (defaults .«source_index») id)) r (now (out .exit))) ⌝ }
+{
+    let entries = defaults.entries;
+    match get_default_value(table, defaults.count, entries, defaults.source_index, id) {
+        DefaultValue::Failed => DefaultMade::Refused(26),
+        DefaultValue::Nothing => put_none(out, k),
+        DefaultValue::At(m, c) => put_taken(table, m, c, target, u, out, k),
+    }
+}
+
+// The default of a field of this id, whose type stands at `b`; where there is none, a null.
+pub fn put_default(
+    v: Version,
+    depth: u8,
+    table: &[u8],
+    defaults: DefaultFieldValues,
+    target: &[u8],
+    id: FieldId,
+    b: Cursor,
+    out: &mut [u8],
+    k: usize,
+) -> DefaultMade
+    requires { ⌜ TypeAt v depth (now target) (b .at) ⌝ }
+    requires { ⌜ TableAt (now table) (defaults .count) (defaults .entries .at) ⌝ }
+    requires { ⌜ (length (now table) ≤ 16384) × (k + 16384 * length (now target) < 2 ^ 64 + 16384 * b .at) ⌝ }
+    ensures { λ r. ⌜ ((T : TableAt (now (table .entry)) (defaults .count) (defaults .entries .at)) (Q : TypeAt v depth (now (target .entry)) (b .at)) → MakesDefault (b .at) (Q .end) (now (out .entry)) k (defaultOf (getDefaultValue (T .entries) (defaults .«source_index»)) id (Q .tree)) r (now (out .exit))) ⌝ }
+{
+    match b.head(target) {
+        Head::Leaf(u, _) => put_leaf_default(table, defaults, id, target, u, out, k),
+        Head::Struct(n, c) => {
+            put(out, k, 1);
+            match put_defaults(v, depth - 1, table, defaults, target, n, c, out, k + 1) {
+                DefaultsMade::Failed(m) => DefaultMade::Refused(m),
+                DefaultsMade::Done(any, len) => {
+                    if any {
+                        return DefaultMade::Some(1 + len);
+                    }
+                    put_none(out, k)
+                }
+            }
+        }
+        Head::List(_) => put_none(out, k),
+        Head::Array(_, _) => put_none(out, k),
+        Head::Refused(n) => DefaultMade::Refused(n),
+    }
+}
+
+// The defaults of `n` fields, one after the other.
+fn put_defaults(
+    v: Version,
+    depth: u8,
+    table: &[u8],
+    defaults: DefaultFieldValues,
+    target: &[u8],
+    n: u16,
+    c: Cursor,
+    out: &mut [u8],
+    k: usize,
+) -> DefaultsMade
+    requires { ⌜ ColumnsAt v depth (now target) n (c .at) ⌝ }
+    requires { ⌜ TableAt (now table) (defaults .count) (defaults .entries .at) ⌝ }
+    requires { ⌜ (length (now table) ≤ 16384) × (k + 16384 * length (now target) < 2 ^ 64 + 16384 * c .at) ⌝ }
+    ensures { λ r. ⌜ ((T : TableAt (now (table .entry)) (defaults .count) (defaults .entries .at)) (Q : ColumnsAt v depth (now (target .entry)) n (c .at)) → MakesDefaults (c .at) (Q .end) (now (out .entry)) k (defaultsOf (getDefaultValue (T .entries) (defaults .«source_index»)) (Q .columns)) r (now (out .exit))) ⌝ }
+{
+    let mut at = c.at;
+    let mut to = k;
+    let mut any = false;
+    let mut i: u16 = 0;
+    while i < n {
+        let d = Cursor { at };
+        match d.label(target, v) {
+            Labelled::Is(l, b) => {
+                let id = l.id;
+                let made = put_default(v, depth, table, defaults, target, id, b, out, to);
+                if is_default_refused(made) {
+                    return failed_default(made);
+                }
+                let e = skip_type(target, v, depth, b);
+                at = e.at;
+                to += value_len(made);
+                any = either(any, is_some(made));
+            }
+            Labelled::Refused(m) => return DefaultsMade::Failed(m),
+        }
+        i += 1;
+    }
+    DefaultsMade::Done(any, to - k)
+}
+
+// What a constant comes to whose value was made behind `head` bytes.
+fn constant_made(head: usize, made: DefaultMade) -> Made
+    requires { ⌜ head + valueLen made < 2 ^ 64 ⌝ }
+    ensures { λ r. ⌜ r ≡ constantMade head made ⌝ }
+{
+    match made {
+        DefaultMade::Refused(n) => Made::Refused(n),
+        DefaultMade::None => Made::Built(head + 1),
+        DefaultMade::Some(n) => Made::Built(head + n),
+    }
+}
+
+// A target column with no counterpart, whose label is `l` and whose type stands at `b`: under Insert a constant of its default, or else of null; otherwise the refusal.
+pub fn put_missing(
+    insert: bool,
+    number: u8,
+    v: Version,
+    depth: u8,
+    table: &[u8],
+    defaults: DefaultFieldValues,
+    target: &[u8],
+    l: Label,
+    b: Cursor,
+    out: &mut [u8],
+    k: usize,
+) -> Made
+    requires { ⌜ spanIn (now target) (l .name) × (l .name .len ≤ 63) ⌝ }
+    requires { ⌜ TypeAt v depth (now target) (b .at) ⌝ }
+    requires { ⌜ TableAt (now table) (defaults .count) (defaults .entries .at) ⌝ }
+    requires { ⌜ (length (now target) ≤ 16384) × (length (now table) ≤ 16384) × (k ≤ 65536 * b .at) ⌝ }
+    ensures { λ r. ⌜ ((from : ℕ) (T : TableAt (now (table .entry)) (defaults .count) (defaults .entries .at)) (Q : TypeAt v depth (now (target .entry)) (b .at)) → from < b .at → Makes from (Q .end) (now (out .entry)) k (missing (getDefaultValue (T .entries) (defaults .«source_index»)) insert number (labelAt (now (target .entry)) l) (Q .tree)) r (now (out .exit))) ⌝ }
+{
+    if !insert {
+        return Made::Refused(number);
+    }
+    let name = l.name;
+    let id = l.id;
+    let head = put_constant_head(target, v, depth, name, b, out, k);
+    let made = put_default(v, depth, table, defaults, target, id, b, out, k + head);
+    constant_made(head, made)
 }

@@ -7,7 +7,9 @@ ghost use Rattle.layout.specs.Answers.{leafAt, spanIn};
 ghost use Rattle.layout.specs.Stands.{TypeAt};
 ghost use Rattle.rules.specs.Outcomes.{verdictOf};
 ghost use Rattle.rules.specs.Pairs.{pairRule};
-ghost use Rattle.builder.specs.Answers.{Attached, Ruled};
+ghost use Rattle.matching.specs.Default.{Defaults};
+ghost use Rattle.matching.specs.Build.{attach};
+ghost use Rattle.builder.specs.Answers.{Makes, Ruled};
 use crate::answer::Made;
 use crate::parts::LeafPart;
 use crate::parts::leaf_part;
@@ -23,7 +25,13 @@ use rules::pair::leaf_type_pair;
 use rules::policy::Policy;
 
 // The rule of two leaf types, each with its zone in its own bytes.
-fn leaf_rule(policy: Policy, incoming: &[u8], l: LeafType, target: &[u8], u: LeafType) -> Outcome
+pub fn leaf_rule(
+    policy: Policy,
+    incoming: &[u8],
+    l: LeafType,
+    target: &[u8],
+    u: LeafType,
+) -> Outcome
     requires { ⌜ spanIn (now incoming) (l .zone) × spanIn (now target) (u .zone) ⌝ }
     ensures { λ r. ⌜ verdictOf r ≡ pairRule policy (leafAt (now (incoming .entry)) l) (leafAt (now (target .entry)) u) ⌝ }
 {
@@ -52,7 +60,7 @@ fn apply_outcome(
     k: usize,
 ) -> Made
     requires { ⌜ TypeAt v depth (now target) (b .at) ⌝ }
-    requires { ⌜ (length (now target) ≤ 16384) × (k ≤ 65536 * b .at) ⌝ }
+    requires { ⌜ (length (now target) ≤ 16384) × (k ≤ 65536 * b .at + 1) ⌝ }
     ensures { λ r. ⌜ Ruled (verdictOf outcome) v depth (now (target .entry)) (b .at) position (now (out .entry)) k r (now (out .exit)) ⌝ }
 {
     match outcome {
@@ -79,9 +87,9 @@ pub fn attach_leaf(
     k: usize,
 ) -> Made
     requires { ⌜ TypeAt v depth (now incoming) (c .at) × TypeAt v depth (now target) (b .at) ⌝ }
-    requires { ⌜ (length (now target) ≤ 16384) × (k ≤ 65536 * b .at) ⌝ }
+    requires { ⌜ (length (now target) ≤ 16384) × (k ≤ 65536 * b .at + 1) ⌝ }
     requires { ⌜ spanIn (now target) (u .zone) × ((Q : TypeAt v depth (now target) (b .at)) → Q .tree ≡ cleaf (leafAt (now target) u)) ⌝ }
-    ensures { λ r. ⌜ Attached policy v depth (now (incoming .entry)) (c .at) (now (target .entry)) (b .at) position (now (out .entry)) k r (now (out .exit)) ⌝ }
+    ensures { λ r. ⌜ ((d : Defaults) (P : TypeAt v depth (now (incoming .entry)) (c .at)) (Q : TypeAt v depth (now (target .entry)) (b .at)) → Makes (b .at) (Q .end) (now (out .entry)) k (attach v policy d (Q .tree) position (P .tree)) r (now (out .exit))) ⌝ }
 {
     let LeafPart::Is(l) = leaf_part(incoming, c) else {
         return Made::Refused(24);

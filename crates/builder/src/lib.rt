@@ -1,4 +1,4 @@
-// The builder (document 01, "Matching"), under the names of source 000.
+// What the matchers are made of (document 01, "Matching"), under the names of source 000.
 pub mod answer;
 pub mod conditions;
 pub mod default;

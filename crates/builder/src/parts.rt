@@ -3,8 +3,8 @@ ghost use mathlib.Core.Path.{_≡_};
 ghost use Prim.Native.Nat.{ℕ};
 ghost use Rattle.layout.specs.Stands.{TypeAt};
 ghost use Rattle.layout.specs.declared.version.Version.{Version as VersionOf};
-ghost use Rattle.matching.specs.Build.{leafPart, structPart, isNullType};
-ghost use Rattle.builder.specs.Answers.{LeafPartIs, StructPartIs, ElementPartIs, elementOf};
+ghost use Rattle.matching.specs.Build.{leafPart, structPart, listPart, arrayPart, isNullType};
+ghost use Rattle.builder.specs.Answers.{LeafPartIs, StructPartIs, ElementPartIs, elementOf, InnerPartIs};
 use layout::columns::Label;
 use layout::columns::Labelled;
 use layout::cursor::Cursor;
@@ -24,10 +24,16 @@ pub enum StructPart {
     Mismatch,
 }
 
-// The width (0 for a list), the element's label and where its type begins.
+// A list's or array's element, with an array's width.
 pub enum ElementPart {
     List(Label, Cursor),
     Array(u32, Label, Cursor),
+    Mismatch,
+}
+
+// The label of a list's or array's element, and where its type begins.
+pub enum InnerPart {
+    Is(Label, Cursor),
     Mismatch,
 }
 
@@ -70,6 +76,32 @@ pub fn element_part(s: &[u8], v: Version, c: Cursor) -> ElementPart
             Labelled::Refused(_) => ElementPart::Mismatch,
         },
         Head::Refused(_) => ElementPart::Mismatch,
+    }
+}
+
+pub fn list_part(s: &[u8], v: Version, c: Cursor) -> InnerPart
+    ensures { λ r. ⌜ ((d : ℕ) (P : TypeAt v d (now (s .entry)) (c .at)) → InnerPartIs v d (now (s .entry)) (c .at) (listPart (P .tree)) (P .end) r) ⌝ }
+{
+    match element_part(s, v, c) {
+        ElementPart::List(l, e) => InnerPart::Is(l, e),
+        ElementPart::Array(_, _, _) => InnerPart::Mismatch,
+        ElementPart::Mismatch => InnerPart::Mismatch,
+    }
+}
+
+// The array has the width `w`.
+pub fn array_part(s: &[u8], v: Version, w: u32, c: Cursor) -> InnerPart
+    ensures { λ r. ⌜ ((d : ℕ) (P : TypeAt v d (now (s .entry)) (c .at)) → InnerPartIs v d (now (s .entry)) (c .at) (arrayPart w (P .tree)) (P .end) r) ⌝ }
+{
+    match element_part(s, v, c) {
+        ElementPart::List(_, _) => InnerPart::Mismatch,
+        ElementPart::Array(x, l, e) => {
+            if x == w {
+                return InnerPart::Is(l, e);
+            }
+            InnerPart::Mismatch
+        }
+        ElementPart::Mismatch => InnerPart::Mismatch,
     }
 }
 

@@ -8,9 +8,9 @@ ghost use Rattle.layout.specs.Tree.{dtypeOf};
 ghost use Rattle.layout.specs.Answers.{spanAt, spanIn};
 ghost use Rattle.layout.specs.Stands.{TypeAt};
 ghost use Rattle.forms.specs.Form.{u16Bytes};
-ghost use Rattle.values.specs.Value.{vnull};
-ghost use Rattle.plan.specs.Selector.{position, constant, cast};
+ghost use Rattle.plan.specs.Selector.{position, cast};
 ghost use Rattle.plan.specs.Encode.{encodeSelector};
+ghost use Rattle.builder.specs.Answers.{constantHead};
 use forms::write::write_form;
 use forms::write::write_text;
 use layout::bytes::Span;
@@ -69,8 +69,8 @@ pub fn put_cast(
     5 + w.len
 }
 
-// A null constant of a target column's name and type; its length.
-pub fn put_null(
+// A constant's code, name and type; their length.
+pub fn put_constant_head(
     target: &[u8],
     v: Version,
     depth: u8,
@@ -82,12 +82,11 @@ pub fn put_null(
     requires { ⌜ spanIn (now target) name × (name .len ≤ 63) ⌝ }
     requires { ⌜ TypeAt v depth (now target) (b .at) ⌝ }
     requires { ⌜ k + 66 + 2 * length (now target) < 2 ^ 64 ⌝ }
-    ensures { λ r. ⌜ ((Q : TypeAt v depth (now (target .entry)) (b .at)) → r ≡ length (encodeSelector (constant (spanAt (now (target .entry)) name) (dtypeOf (Q .tree)) vnull))) ⌝ }
-    ensures { λ _. ⌜ ((Q : TypeAt v depth (now (target .entry)) (b .at)) → now (out .exit) ≡ overlay (now (out .entry)) k (encodeSelector (constant (spanAt (now (target .entry)) name) (dtypeOf (Q .tree)) vnull))) ⌝ }
+    ensures { λ r. ⌜ ((Q : TypeAt v depth (now (target .entry)) (b .at)) → r ≡ length (constantHead (spanAt (now (target .entry)) name) (dtypeOf (Q .tree)))) ⌝ }
+    ensures { λ _. ⌜ ((Q : TypeAt v depth (now (target .entry)) (b .at)) → now (out .exit) ≡ overlay (now (out .entry)) k (constantHead (spanAt (now (target .entry)) name) (dtypeOf (Q .tree)))) ⌝ }
 {
     put(out, k, 1);
     let n = write_text(target, name, out, k + 1);
     let w = write_form(target, v, depth, b, out, k + 1 + n);
-    put(out, k + 1 + n + w.len, 0);
-    2 + n + w.len
+    1 + n + w.len
 }

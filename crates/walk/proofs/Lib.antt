@@ -1,0 +1,9 @@
+pub mod Deeper
+pub mod Forward
+pub mod View
+pub mod Heads
+pub mod Trees
+pub mod Standing
+pub mod Moving
+pub mod Asking
+pub mod Samples

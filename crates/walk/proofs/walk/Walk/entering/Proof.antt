@@ -1,0 +1,18 @@
+-- `walk::walk::Walk::entering` meets its contract: by the path and the part. Assumes nothing.
+use borrow.Author.Needs.{needs}
+use Rattle.walk.proofs.Moving.{entering-ended, entering-part, entering-none}
+use Rattle.walk.proofs.walk.Walk.entering.Statement.{statement}
+use Rattle.walk.proofs.walk.Walk.entering.Tie as tie
+
+pub entering-spec : {M : Type 1} → statement M
+entering-spec =
+    tie.close
+    (tie.spec
+    (λ c. search needs)
+    (λ c. search needs)
+    (λ c κs. search needs)
+    (λ c. search needs)
+    (λ c. search needs)
+    (λ c. λ x M m. entering-part M m (c .before .before .before .before .before .if1 .taken) (c .before .before .before .part .ensures) (c .before .p .given .1))
+    (λ c. λ x M m. entering-none M m (c .before .before .before .before .if1 .taken) (c .before .before .part .ensures) (c .enum-told .given .1))
+    (λ c. λ x M m. entering-ended M m (c .if1 .left)))

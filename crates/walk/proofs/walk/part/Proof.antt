@@ -1,0 +1,31 @@
+-- `walk::walk::part` meets its contract: by the head. Assumes nothing.
+use borrow.Author.Needs.{needs}
+use Rattle.walk.proofs.Moving.{list-found, array-found, part-position, part-constant, part-cast, part-rename}
+use Rattle.walk.proofs.Heads.{is-position, is-constant, is-cast, is-rename, is-struct, is-list, is-array, never-refused}
+use Rattle.walk.proofs.walk.part.Statement.{statement}
+use Rattle.walk.proofs.walk.part.Tie as tie
+
+pub part-spec : {M : Type 1} → statement M
+part-spec =
+    tie.close
+    (tie.spec
+    (λ c κs. search needs)
+    (λ c. search needs)
+    (λ c. search needs)
+    (λ c. search needs)
+    (λ c. search needs)
+    (λ c. search needs)
+    (λ c κs. search needs)
+    (λ c. search needs)
+    (λ c κs. search needs)
+    (λ c. search needs)
+    (λ c κs. search needs)
+    (λ c. search needs)
+    (λ c. λ P m. part-position (is-position (c .before .before .head .ensures P) (c .enum-told .given .1) .1) m)
+    (λ c. λ P m. part-constant (is-constant (c .before .before .head .ensures P) (c .enum-told2 .given .1)) m)
+    (λ c. λ P m. part-cast (is-cast (c .before .before .head .ensures P) (c .enum-told3 .given .1)) m)
+    (λ c. λ P m. part-rename (is-rename (c .before .before .head .ensures P) (c .enum-told4 .given .1)) m)
+    (λ c. λ P m. c .struct-part .ensures (c .before .before .before .before .before .before .args .c .at) P (is-struct (c .before .before .before .before .head .ensures P) (c .before .before .input .given .1)))
+    (λ c. λ P m. let L = is-list (c .before .before .before .before .head .ensures P) (c .before .before .input2 .given .1) in list-found (c .before .before .before .before .before .before .args .k) L (c .skip-selector .ensures (L .input)))
+    (λ c. λ P m. let A = is-array (c .before .before .before .before .head .ensures P) (c .before .before .input3 .given .1) in array-found (c .before .before .before .before .before .before .args .k) A (c .skip-selector2 .ensures (A .input)))
+    (λ c. λ P m. never-refused (c .before .before .head .ensures P) (c .enum-told5 .given .1)))

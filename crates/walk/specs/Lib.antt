@@ -1,0 +1,7 @@
+pub mod Stands
+pub mod Parts
+pub mod State
+pub mod Moves
+pub mod Types
+pub mod Values
+pub mod Standing

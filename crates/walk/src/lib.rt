@@ -1,0 +1,3 @@
+// Walking through the selectors of a plan that was read.
+pub mod head;
+pub mod walk;
