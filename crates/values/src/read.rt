@@ -137,7 +137,7 @@ fn read_element(lay: &[u8], v: Version, depth: u8, t: Cursor, rec: &[u8], c: Cur
 }
 
 // `n` values of one type, which is passed once at the end and not at each null.
-fn read_elements(
+pub fn read_elements(
     lay: &[u8],
     v: Version,
     depth: u8,

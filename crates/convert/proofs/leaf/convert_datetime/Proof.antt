@@ -1,0 +1,21 @@
+-- `convert::leaf::convert_datetime` meets its contract: a law for each kind of target. Assumes nothing.
+use Rattle.convert.proofs.Pairs.{datetime-integer, datetime-float, datetime-datetime, datetime-other}
+use borrow.Author.Needs.{needs}
+use Rattle.convert.proofs.leaf.convert_datetime.Statement.{statement}
+use Rattle.convert.proofs.leaf.convert_datetime.Tie as tie
+
+pub convert-datetime-spec : {M : Type 1} → statement M
+convert-datetime-spec =
+    tie.close
+    (tie.spec
+    (λ c κs. search needs)
+    (λ c. search needs)
+    (λ c. search needs)
+    (λ c. search needs)
+    (λ c κs. search needs)
+    (λ c κs. c .unit-change .ensures .1)
+    (λ c. search needs)
+    (λ c. datetime-integer _ _ (c .before .before .number-kind .ensures) _ (c .enum-told .given .1))
+    (λ c. datetime-float _ _ (c .before .before .number-kind .ensures) _ (c .enum-told2 .given .1))
+    (λ c. datetime-datetime _ _ (c .before .before .before .before .before .number-kind .ensures) _ (c .before .unit-change .result) (c .rescale .result) (c .before .before .before .v .given .1) (c .before .unit-change .ensures .0) (c .rescale .ensures))
+    (λ c. datetime-other _ _ (c .before .before .number-kind .ensures) _ (c .enum-told3 .given .1)))

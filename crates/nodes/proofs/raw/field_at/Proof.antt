@@ -1,0 +1,20 @@
+-- `nodes::raw::field_at` meets its contract: the column stands after those before it, and its value after theirs. Assumes nothing.
+use Rattle.nodes.proofs.Node.{field-past, field-front, field-found, field-unlabelled, field-unread}
+use borrow.Author.Needs.{needs}
+use Rattle.nodes.proofs.raw.field_at.Statement.{statement}
+use Rattle.nodes.proofs.raw.field_at.Tie as tie
+
+pub field-at-spec : {M : Type 1} → statement M
+field-at-spec =
+    tie.close
+    (tie.spec
+    (λ c. λ X. field-past X (c .if1 .taken))
+    (λ c κs. field-front (c .before .before .before .pre) (c .if1 .left))
+    (λ c. search needs)
+    (λ c κs. search needs)
+    (λ c. search needs)
+    (λ c. search needs)
+    (λ c. search needs)
+    (λ c. λ X. field-found X (c .before .before .before .before .before .before .before .before .if1 .left) (c .before .before .before .before .before .before .before .read-fields .ensures) (c .before .before .before .before .before .t .given .1) (c .before .before .before .label .ensures .0) (c .before .e .given .1))
+    (λ c. λ X. field-unlabelled X (c .before .before .before .before .before .before .before .if1 .left) (c .before .before .before .before .before .before .read-fields .ensures) (c .before .before .before .before .t .given .1) (c .before .before .label .ensures .0) (c .enum-told .given .1))
+    (λ c. λ X. field-unread X (c .before .before .before .if1 .left) (c .before .before .read-fields .ensures) (c .enum-told2 .given .1)))

@@ -1,0 +1,18 @@
+-- `nodes::raw::part_at` meets its contract: a null has no parts. Assumes nothing.
+use Rattle.nodes.proofs.Node.{nowhere, part-as, raw-null, raw-present, raw-unread}
+use borrow.Author.Needs.{needs}
+use Rattle.nodes.proofs.raw.part_at.Statement.{statement}
+use Rattle.nodes.proofs.raw.part_at.Tie as tie
+
+pub part-at-spec : {M : Type 1} → statement M
+part-at-spec =
+    tie.close
+    (tie.spec
+    (λ c κs. search needs)
+    (λ c. search needs)
+    (λ c. search needs)
+    (λ c κs. raw-present (c .before .before .before .before .before .before .pre) (c .before .before .before .read-presence .ensures) (c .before .d .given .1) .inner)
+    (λ c. search needs)
+    (λ c. λ X. nowhere (raw-null X (c .before .before .read-presence .ensures) (c .enum-told .given .1) .part _))
+    (λ c. λ X. let I = raw-present X (c .before .before .before .before .read-presence .ensures) (c .before .before .d .given .1) in part-as (c .before .before .before .before .before .before .before .args .k) (I .is) (c .present-part .ensures (I .inner)))
+    (λ c. λ X. raw-unread X (c .before .before .read-presence .ensures) (c .enum-told2 .given .1)))

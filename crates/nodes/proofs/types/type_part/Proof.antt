@@ -1,0 +1,34 @@
+-- `nodes::types::type_part` meets its contract: a law for each head. Assumes nothing.
+use Rattle.nodes.proofs.Leading.{leads-leaf, leads-field, leads-absent, leads-list, leads-array}
+use Rattle.layout.proofs.View.{struct-at, list-labelled, array-labelled, never-headless}
+use borrow.Author.Needs.{needs}
+use Rattle.nodes.proofs.types.type_part.Statement.{statement}
+use Rattle.nodes.proofs.types.type_part.Tie as tie
+
+pub type-part-spec : {M : Type 1} → statement M
+type-part-spec =
+    tie.close
+    (tie.spec
+    (λ c κs. search needs)
+    (λ c. search needs)
+    (λ c. search needs)
+    (λ c κs. struct-at (c .before .before .before .before .before .pre) (c .before .before .before .head .ensures .0) (c .before .n .given .1) .inner)
+    (λ c. search needs)
+    (λ c. search needs)
+    (λ c. search needs)
+    (λ c κs. search needs)
+    (λ c. search needs)
+    (λ c. search needs)
+    (λ c. search needs)
+    (λ c κs. search needs)
+    (λ c. search needs)
+    (λ c. search needs)
+    (λ c. search needs)
+    (λ c. λ p u L. leads-leaf _ _ _ _ _ _ L (c .before .before .head .ensures .0) (c .enum-told .given .1))
+    (λ c. λ p u L. leads-field _ _ _ _ _ _ L (c .before .before .before .before .before .before .before .head .ensures .0) (c .before .before .before .before .before .n .given .1) (c .before .before .before .column-at .ensures) (c .before .e .given .1))
+    (λ c. λ p u L. leads-absent _ _ _ _ _ _ L (c .before .before .before .before .before .before .head .ensures .0) (c .before .before .before .before .n .given .1) (c .before .before .column-at .ensures) (c .enum-told2 .given .1))
+    (λ c. λ p u L. leads-list _ _ _ _ _ _ L (c .before .before .before .before .before .before .before .head .ensures .0) (c .before .before .before .element-label .ensures .0) (c .before .e2 .given .1) (c .before .before .before .before .before .d .given .1))
+    (λ c. λ p u L. list-labelled (L .type) (c .before .before .before .before .before .before .head .ensures .0) (c .before .before .element-label .ensures .0) (c .before .before .before .before .d .given .1) (c .enum-told3 .given .1))
+    (λ c. λ p u L. leads-array _ _ _ _ _ _ L (c .before .before .before .before .before .before .before .head .ensures .0) (c .before .before .before .element-label2 .ensures .0) (c .before .e3 .given .1) (c .before .before .before .before .before .d2 .given .1))
+    (λ c. λ p u L. array-labelled (L .type) (c .before .before .before .before .before .before .head .ensures .0) (c .before .before .element-label2 .ensures .0) (c .before .before .before .before .d2 .given .1) (c .enum-told4 .given .1))
+    (λ c. λ p u L. never-headless (L .type) (c .before .before .head .ensures .0) (c .enum-told5 .given .1)))
