@@ -4,9 +4,9 @@
 #   compare/cases.py [BASE]
 #
 # BASE has answers of a second implementation, one JSON object a line (default: ../shared/vectors/base.jsonl beside the repository).
-# Its `layout` cases are taken over. Cases at the edges of document 01's rules are added, whose answers come from the reader below.
-# The reader is written from document 01 and shares nothing with the library; where it disagrees with an answer of BASE, nothing is
-# written and the exit status is 1. Written: crates/cases/stdin and crates/cases/stdout.
+# Its cases are taken over. Layouts at the edges of document 01's rules are added, whose answers come from the reader below, and builds of
+# the original source (compare/rust/sample.txt). The reader is written from document 01 and shares nothing with the library; where it
+# disagrees with an answer of BASE, nothing is written and the exit status is 1. Written: crates/cases/stdin and crates/cases/stdout.
 import json
 import os
 import sys
@@ -14,6 +14,7 @@ import sys
 ROOT = os.path.dirname(os.path.dirname(os.path.abspath(__file__)))
 STORED = os.path.join(ROOT, "crates", "cases")
 BASE = os.path.join(os.path.dirname(ROOT), "shared", "vectors", "base.jsonl")
+SAMPLE = os.path.join(ROOT, "compare", "rust", "sample.txt")
 
 HEAD = """\
 # Cases of the interface, one a line; compare/cases.py makes this file, and says where the answers come from.
@@ -346,15 +347,44 @@ GROUPS = [
 # --- the list ------------------------------------------------------------------------------------------------------------------
 
 
+CALLS = ("layout", "build_name", "build_number")
+
+# The words of a call's arguments, in the order of a line.
+ARGUMENTS = {
+    "build_name": ("policy", "buffer", "incoming", "target"),
+    "build_number": ("policy", "source_index", "buffer", "incoming", "target", "defaults"),
+    "check": ("incoming", "target", "plan"),
+    "run": ("buffer", "incoming", "target", "plan", "record"),
+}
+
+
 def line(data, number):
     return "layout %s %d %d" % (data.hex() or "-", number, 1 if number else 0)
+
+
+# A line of another call, whose answer is taken over.
+def other(case):
+    given, out = case["in"], case["out"]
+    words = [case["op"]]
+    for name in ARGUMENTS[case["op"]]:
+        words.append(str(given[name]) if isinstance(given[name], int) else given[name] or "-")
+    if "refuse" in out:
+        words += [str(out["refuse"]), str(out["place"])]
+    elif case["op"] == "check":
+        words += ["0", "0"]
+    else:
+        words += ["0", out["ok"] or "-"]
+    return " ".join(words)
 
 
 def taken(path):
     lines = []
     for number, text in enumerate(open(path), 1):
         case = json.loads(text)
+        if case["op"] not in CALLS:
+            continue
         if case["op"] != "layout":
+            lines.append(other(case))
             continue
         data, out = bytes.fromhex(case["in"]["layout"]), case["out"]
         due = 0 if out == {"ok": True} else out["refuse"]
@@ -376,10 +406,18 @@ def main():
                 seen.add(one)
                 lines.append(one)
                 text.append(one + "\n")
+    text.append("# the original builder's answers (compare/rust/sample.txt says how they were made)\n")
+    for one in open(SAMPLE):
+        one = one.rstrip("\n")
+        if one.split(" ")[0] in CALLS and one not in seen:
+            seen.add(one)
+            lines.append(one)
+            text.append(one + "\n")
     with open(os.path.join(STORED, "stdin"), "w") as stored:
         stored.write("".join(text))
+    counts = ["%s: %d agree\n" % (name, sum(one.split(" ")[0] == name for one in lines)) for name in CALLS]
     with open(os.path.join(STORED, "stdout"), "w") as stored:
-        stored.write("layout: %d agree\n%d cases, 0 differ\n" % (len(lines), len(lines)))
+        stored.write("".join(counts) + "%d cases, 0 differ\n" % len(lines))
 
 
 main()

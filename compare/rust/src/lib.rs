@@ -2,6 +2,8 @@
 
 include!(concat!(env!("OUT_DIR"), "/source.rs"));
 
+#[cfg(feature = "library")]
+pub mod bench;
 pub mod beside;
 pub mod edges;
 pub mod form;

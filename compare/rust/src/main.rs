@@ -14,6 +14,7 @@ compare oracle [--cases N] [--seed N] [--quiet]   generated cases with the origi
 compare leaves [--all-flags] [--quiet]            the same for every pair of leaf kinds
 compare compare [--cases N] [--seed N] [--all-flags]
                                                   these and the edges beside the library; built with --features library
+compare bench                                     what a build costs beside the original; built with --features library
 compare sample FILE [--seed N]                    writes the stored list
 compare vectors FILE                              the original beside stored answers, one JSON object a line";
 
@@ -129,6 +130,23 @@ fn compare(_: &Options) -> ExitCode {
     ExitCode::FAILURE
 }
 
+#[cfg(feature = "library")]
+fn bench() -> ExitCode {
+    match compare::bench::run() {
+        Ok(()) => ExitCode::SUCCESS,
+        Err(error) => {
+            eprintln!("{error}");
+            ExitCode::FAILURE
+        }
+    }
+}
+
+#[cfg(not(feature = "library"))]
+fn bench() -> ExitCode {
+    eprintln!("build with --features library to measure the library");
+    ExitCode::FAILURE
+}
+
 const SAMPLE_HEAD: &str = "\
 # Builds beside the original source: its answers, compiled unchanged, to cases at the edges of its rules, to
 # pairs of leaf kinds and to generated layouts.
@@ -179,6 +197,7 @@ fn main() -> ExitCode {
         ["oracle"] => print(&options, generated(&options), options.cases),
         ["leaves"] => print(&options, leaf_pairs(&options), u64::MAX),
         ["compare"] => compare(&options),
+        ["bench"] => bench(),
         ["sample", path] => sample(path, options.seed),
         ["vectors", path] => vectors(path),
         _ => {

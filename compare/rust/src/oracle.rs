@@ -90,12 +90,60 @@ pub fn original(case: &Case) -> Result<Answer, Aside> {
     }
 }
 
+/// A build's arguments in the original's types, for measuring what the matching alone costs.
+pub enum Prepared {
+    ByName(ColumnSelectorBuilder, Schema, Schema),
+    ByNumber(ColumnSelectorBuilder, IcebergSchema, IcebergSchema),
+}
+
+/// By number without defaults.
+pub fn prepare(case: &Case) -> Result<Prepared, Aside> {
+    let unreadable = |place: u32| move |number: u32| Aside::Unreadable { number, place };
+    let incoming = form::read_layout(&case.incoming).map_err(unreadable(1))?;
+    let target = form::read_layout(&case.target).map_err(unreadable(2))?;
+    let builder = builder(case.policy);
+    Ok(match case.number {
+        None => Prepared::ByName(builder, schema(&incoming)?, schema(&target)?),
+        Some(_) => Prepared::ByNumber(
+            builder,
+            iceberg_schema(&incoming.columns)?,
+            iceberg_schema(&target.columns)?,
+        ),
+    })
+}
+
+impl Prepared {
+    /// The selectors, as far as the original builds them.
+    pub fn build(&self) -> Vec<ColumnSelector> {
+        match self {
+            Prepared::ByName(builder, incoming, target) => target
+                .0
+                .iter()
+                .filter_map(|(name, dtype)| {
+                    builder.build_column_selector(incoming, name, dtype).ok()
+                })
+                .collect(),
+            Prepared::ByNumber(builder, incoming, target) => target
+                .iter()
+                .filter_map(|(id, column)| {
+                    let (index, _, counterpart) = incoming.get_full(id)?;
+                    let input = ColumnSelector::Position(index);
+                    builder
+                        .attach_iceberg_transforms(input, counterpart, column, None)
+                        .ok()
+                })
+                .collect(),
+        }
+    }
+}
+
+fn schema(layout: &Layout) -> Result<Schema, Aside> {
+    let column = |column: &Column| Ok((text(&column.name)?, dtype(&column.type_)?));
+    let columns: Result<_, _> = layout.columns.iter().map(column).collect();
+    Ok(Schema(columns?))
+}
+
 fn by_name(policy: u32, incoming: &Layout, target: &Layout) -> Result<Answer, Aside> {
-    let schema = |layout: &Layout| -> Result<Schema, Aside> {
-        let column = |column: &Column| Ok((text(&column.name)?, dtype(&column.type_)?));
-        let columns: Result<_, _> = layout.columns.iter().map(column).collect();
-        Ok(Schema(columns?))
-    };
     let (incoming, target) = (schema(incoming)?, schema(target)?);
     let builder = builder(policy);
     let mut selectors = Vec::new();

@@ -1,16 +1,19 @@
 // One case: a line of the list, replayed by the call that its first word names. Another call is added by a function like `layout_case`
 // and a kind: a line here in `kind_of`, `answer_word` and `replay_case`, and a count in the tally.
-ghost use mathlib.Core.Path.{_≡_};
-ghost use Prim.Native.Nat.{_+_, _*_, _^_};
-use crate::text::Decimal;
+use crate::answer::Expected;
+use crate::answer::compared;
+use crate::answer::expected_answer;
+use crate::build::build_name_case;
+use crate::build::build_number_case;
 use crate::text::decode;
 use crate::text::is_hex;
-use crate::text::number;
 use crate::text::word;
 use layout::bytes::same_bytes;
 
 pub enum Kind {
     Layout,
+    BuildName,
+    BuildNumber,
     Unknown,
 }
 
@@ -27,6 +30,12 @@ pub fn kind_of(line: &[u8]) -> Kind {
     if same_bytes(name, b"layout") {
         return Kind::Layout;
     }
+    if same_bytes(name, b"build_name") {
+        return Kind::BuildName;
+    }
+    if same_bytes(name, b"build_number") {
+        return Kind::BuildNumber;
+    }
     Kind::Unknown
 }
 
@@ -34,6 +43,8 @@ pub fn kind_of(line: &[u8]) -> Kind {
 pub fn answer_word(kind: Kind) -> usize {
     match kind {
         Kind::Layout => 2,
+        Kind::BuildName => 5,
+        Kind::BuildNumber => 7,
         Kind::Unknown => 0,
     }
 }
@@ -41,43 +52,21 @@ pub fn answer_word(kind: Kind) -> usize {
 pub fn replay_case(kind: Kind, line: &[u8]) -> Outcome {
     match kind {
         Kind::Layout => layout_case(line),
+        Kind::BuildName => build_name_case(line),
+        Kind::BuildNumber => build_number_case(line),
         Kind::Unknown => Outcome::Malformed,
-    }
-}
-
-// An answer of the interface, from its two halves.
-fn answer(number: u32, rest: u32) -> u64
-    ensures { λ r. ⌜ r ≡ number * 2 ^ 32 + rest ⌝ }
-{
-    (number as u64) * 0x1_0000_0000 + (rest as u64)
-}
-
-fn compared(given: u64, expected: u64) -> Outcome {
-    if given == expected {
-        Outcome::Agrees
-    } else {
-        Outcome::Differs(given)
     }
 }
 
 // layout <layout> <number> <place>
 fn layout_case(line: &[u8]) -> Outcome {
-    let Decimal::Is(n) = number(word(line, 2)) else {
-        return Outcome::Malformed;
-    };
-    let Decimal::Is(place) = number(word(line, 3)) else {
-        return Outcome::Malformed;
-    };
     if !is_hex(word(line, 1), 16640) {
         return Outcome::Malformed;
     }
-    if word(line, 4).len() != 0 {
+    let Expected::Is(expected) = expected_answer(line, 2) else {
         return Outcome::Malformed;
-    }
+    };
     let mut bytes = [0u8; 16640];
     let len = decode(word(line, 1), &mut bytes);
-    compared(
-        selector::selector_read_layout(&bytes[..len]),
-        answer(n, place),
-    )
+    compared(selector::selector_read_layout(&bytes[..len]), expected)
 }

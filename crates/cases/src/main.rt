@@ -1,5 +1,7 @@
 // Replays a stored list of cases and compares: standard input has a case a line; standard output gets a line for each case that
 // differs, a line for each kind of case and a last line with the counts. compare/cases.py makes the list, whose head says its form.
+mod answer;
+mod build;
 mod case;
 mod replay;
 mod report;

@@ -11,6 +11,8 @@ use libc::STDOUT_FILENO;
 pub struct Tally {
     pub lines: u64,
     pub layout: u64,
+    pub build_name: u64,
+    pub build_number: u64,
     pub differ: u64,
 }
 
@@ -23,46 +25,49 @@ fn more(n: u64) -> u64
 
 impl Tally {
     pub fn new() -> Self
-        ensures { λ r. ⌜ (r .lines ≡ 0) × (r .layout ≡ 0) × (r .differ ≡ 0) ⌝ }
+        ensures { λ r. ⌜ (r .lines ≡ 0) × (r .differ ≡ 0) ⌝ }
     {
         Tally {
             lines: 0,
             layout: 0,
+            build_name: 0,
+            build_number: 0,
             differ: 0,
         }
     }
 
     pub fn line(self) -> Self
-        ensures { λ r. ⌜ (r .layout ≡ self .layout) × (r .differ ≡ self .differ) ⌝ }
+        ensures { λ r. ⌜ r .differ ≡ self .differ ⌝ }
     {
-        Tally {
-            lines: more(self.lines),
-            layout: self.layout,
-            differ: self.differ,
-        }
+        let mut t = self;
+        t.lines = more(self.lines);
+        t
     }
 
     fn agrees(self, kind: Kind) -> Self
         ensures { λ r. ⌜ (r .lines ≡ self .lines) × (r .differ ≡ self .differ) ⌝ }
     {
+        let mut t = self;
         match kind {
-            Kind::Layout => Tally {
-                lines: self.lines,
-                layout: more(self.layout),
-                differ: self.differ,
-            },
-            Kind::Unknown => self,
+            Kind::Layout => t.layout = more(self.layout),
+            Kind::BuildName => t.build_name = more(self.build_name),
+            Kind::BuildNumber => t.build_number = more(self.build_number),
+            Kind::Unknown => t.lines = self.lines,
         }
+        t
     }
 
     fn differs(self) -> Self
-        ensures { λ r. ⌜ (r .lines ≡ self .lines) × (r .layout ≡ self .layout) ⌝ }
+        ensures { λ r. ⌜ r .lines ≡ self .lines ⌝ }
     {
-        Tally {
-            lines: self.lines,
-            layout: self.layout,
-            differ: more(self.differ),
-        }
+        let mut t = self;
+        t.differ = more(self.differ);
+        t
+    }
+
+    fn agreed(self) -> u64 {
+        let layouts = sum(self.layout, self.build_name);
+        sum(layouts, self.build_number)
     }
 
     // Counts an outcome, and writes a line unless the case agrees.
@@ -132,7 +137,9 @@ pub fn summary(t: Tally, whole: bool) {
         put(b"the list is longer than the buffer\n");
     }
     kind_line(b"layout", t.layout);
-    put_number(sum(t.layout, t.differ));
+    kind_line(b"build_name", t.build_name);
+    kind_line(b"build_number", t.build_number);
+    put_number(sum(t.agreed(), t.differ));
     put(b" cases, ");
     put_number(t.differ);
     put(b" differ\n");

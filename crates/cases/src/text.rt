@@ -196,3 +196,13 @@ pub fn number(s: &[u8]) -> Decimal {
     }
     x
 }
+
+// The length of a buffer that a word gives, as far as `buffer` goes.
+pub fn room_in(word: &[u8], buffer: &[u8]) -> usize
+    ensures { λ r. ⌜ Counts r (now (buffer .entry)) ⌝ }
+{
+    match number(word) {
+        Decimal::Is(n) => least(n as usize, buffer.len()),
+        Decimal::Malformed => 0,
+    }
+}

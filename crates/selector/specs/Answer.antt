@@ -2,6 +2,10 @@
 use Prim.Native.Nat.{ℕ, _+_, _*_, _^_}
 use Rattle.layout.specs.Parser.{Res, refuse, ok}
 use Rattle.layout.specs.Tree.{Layout}
+use lib.ListN.{length}
+use Rattle.layout.specs.Bytes.{Bytes}
+use Rattle.plan.specs.Result.{Answer, accepted, refusedAt}
+use Rattle.calls.specs.declared.write.Build.{Build}
 
 -- the number (0: accepted) in the upper half; in the lower the place of a refusal, the length of a result, or 0
 abbrev pub answer : ℕ → ℕ → ℕ
@@ -11,3 +15,13 @@ answer number rest = number * 2 ^ 32 + rest
 abbrev pub readAnswer : Res Layout → ℕ
 readAnswer (refuse n) = answer n 1
 readAnswer (ok l at) = answer 0 0
+
+-- a call that writes: the result's length, or the refusal
+abbrev pub writtenAnswer : Answer Bytes → ℕ
+writtenAnswer (accepted b) = answer 0 (length b)
+writtenAnswer (refusedAt n k) = answer n k
+
+-- the same of a builder's answer
+abbrev pub buildAnswer : Build → ℕ
+buildAnswer (Build.Written len) = answer 0 len
+buildAnswer (Build.Refused n k) = answer n k

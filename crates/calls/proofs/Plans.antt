@@ -1,0 +1,265 @@
+-- The two calls: the layouts and the table that were read, and the plan that was written. Assumes nothing.
+use Prim.Native.Nat.{ℕ, zero, suc, _+_, _*_, _≤_, _<_}
+use mathlib.Core.Path.{_≡_, refl, sym, ap, _∙_, subst}
+use mathlib.Core.Bool.{Bool, true, false, _&&_, and-false}
+use mathlib.Core.List.{List, [], _++_}
+use native.Mathlib.Omega.{arith}
+use native.Mathlib.Nat.{zero-add}
+use lib.ListN.{length, take}
+use lib.Dec.{leb}
+use lib.Seq.{slice}
+use borrow.Author.Tests.{le-leb, lt-leb}
+use Rattle.store.specs.Overlay.{overlay, Holds}
+use Rattle.store.proofs.Overlay.{overlay-front, slice-take}
+use Rattle.store.proofs.Holds.{holds-exact, holds-append, holds-front}
+use Rattle.layout.specs.Bytes.{Bytes}
+use Rattle.layout.specs.Parser.{Res, refuse, ok}
+use Rattle.layout.specs.Tree.{Columns, cnil, ccons, countColumns, Layout}
+use Rattle.layout.specs.Layout.{columns, type, deepest, layout}
+use Rattle.layout.specs.Answers.{layoutOf}
+use Rattle.layout.specs.Stands.{ColumnsAt, LayoutAt}
+use Rattle.layout.specs.declared.columns.Siblings.the-variants.{Free}
+use Rattle.layout.specs.declared.cursor.Cursor.{Cursor}
+use Rattle.layout.specs.declared.read.LayoutRead.{LayoutRead}
+use Rattle.layout.specs.declared.version.Version.{Version}
+use Rattle.layout.specs.declared.version.Version.the-variants.{ByName, ByNumber}
+use Rattle.layout.proofs.Ways.{clash}
+use Rattle.layout.proofs.Top.{columns-count}
+use Rattle.layout.proofs.View.{next-ok, no-column}
+use Rattle.layout.proofs.Whole.{layout-at, layout-small}
+use Rattle.forms.specs.Form.{u16Bytes}
+use Rattle.forms.proofs.Read.{label-ends}
+use Rattle.forms.proofs.Theorems.{columns-reach}
+use Rattle.rules.specs.declared.policy.Policy.{Policy}
+use Rattle.defaults.specs.Table.{Entry, entries, table}
+use Rattle.defaults.specs.Lookup.{getDefaultValue, firstEntry}
+use Rattle.defaults.specs.Stands.{TableAt}
+use Rattle.plan.specs.Result.{Result, gives, refuses, demand, Answer, accepted, refusedAt, placed, answered}
+use Rattle.plan.specs.Selector.{Selector, Selectors, snil, scons, countSelectors}
+use Rattle.plan.specs.Encode.{encodeSelectors, encodePlan}
+use Rattle.plan.specs.Read.{longestPlan}
+use Rattle.matching.specs.Default.{Defaults, noDefaults}
+use Rattle.matching.specs.Build.{buildFrom, build}
+use Rattle.plan.specs.Calls.{readAt}
+use Rattle.matching.specs.Calls.{sameVersion, ofVersion, bothLayouts, roomFor, writtenPlan, buildByName, buildByNumber, bufferAfter}
+use Rattle.matching.proofs.Calls.{of-version}
+use Rattle.calls.specs.Answers.{answerOf, BothAt, BothIs, columnsMade, WroteColumns, MakesColumns, planHead, written}
+use Rattle.calls.specs.declared.write.Build.{Build}
+use Rattle.calls.specs.declared.layouts.BothRead.{BothRead}
+use Rattle.calls.specs.declared.columns.ColumnsMade.{ColumnsMade}
+
+-- ---- the two layouts
+
+-- 1 to 6 of the first, of the second, then 10
+module _ (v : Version) (incoming target : Bytes) (f : Columns → Columns → Answer Bytes) where
+  pub first-refused : {k : ℕ} → layout incoming ≡ refuse k → bothLayouts v incoming target f ≡ refusedAt k 1
+  unfolding bothLayouts readAt
+  first-refused h = rw h
+
+  module _ {a : Layout} {m : ℕ} (h : layout incoming ≡ ok a m) where
+    pub second-refused : {k : ℕ} → layout target ≡ refuse k → bothLayouts v incoming target f ≡ refusedAt k 2
+    unfolding bothLayouts readAt
+    second-refused g = rw (h, g)
+
+    both-tested : {b : Layout} {n : ℕ} {t : Bool} → layout target ≡ ok b n → (sameVersion v (a .version) && sameVersion v (b .version)) ≡ t
+        → bothLayouts v incoming target f ≡ placed 0 (demand t 10 (gives (tt {0}))) (λ x. f (a .columns) (b .columns))
+    unfolding bothLayouts readAt ofVersion
+    both-tested g q = rw (h, g, q)
+
+    pub versions-differ : {b : Layout} {n : ℕ} → layout target ≡ ok b n → (sameVersion v (a .version) && sameVersion v (b .version)) ≡ false → bothLayouts v incoming target f ≡ refusedAt 10 0
+    unfolding placed demand
+    versions-differ g q = both-tested g q
+
+    pub versions-same : {b : Layout} {n : ℕ} → layout target ≡ ok b n → (sameVersion v (a .version) && sameVersion v (b .version)) ≡ true → bothLayouts v incoming target f ≡ f (a .columns) (b .columns)
+    unfolding placed demand
+    versions-same g q = both-tested g q
+
+both-true : (a b : Bool) → (a && b) ≡ true → (a ≡ true) × (b ≡ true)
+both-true true b h = (refl, h)
+both-true false b h = clash (cc)
+
+-- a layout's columns, once its version is known
+abbrev versionIn : Version → Res Layout → Version
+versionIn v (refuse n) = v
+versionIn v (ok l m) = l .version
+
+columns-of : {s : Bytes} {v w : Version} {n at : ℕ} (L : LayoutAt s w n) → sameVersion v w ≡ true → at ≡ 7 → ColumnsAt v deepest s n at
+columns-of {s} {v} {w} {n} {at} L h z =
+    let e : w ≡ v = ap (versionIn v) (sym (L .reads) ∙ of-version v s (record { version = w; columns = L .columns .columns }) (L .reads) h) in
+    record {
+      columns = L .columns .columns;
+      end = L .columns .end;
+      reads = ap (λ (x : Version). columns x Free (type x Free deepest) n [] s at) (sym e) ∙ ap (λ (j : ℕ). columns w Free (type w Free deepest) n [] s j) z ∙ L .columns .reads;
+    }
+
+module _ (v : Version) (incoming target : Bytes) {r q : LayoutRead} (e : r ≡ layoutOf (layout incoming)) (g : q ≡ layoutOf (layout target)) {a w : Version} {n m : ℕ} {c b : Cursor}
+    (f : r ≡ LayoutRead.Read a n c) (h : q ≡ LayoutRead.Read w m b) {x y z : Bool} (i : x ≡ sameVersion v a) (j : y ≡ sameVersion v w) (t : z ≡ (x && y)) where
+  tested : {o : Bool} → z ≡ o → (sameVersion v a && sameVersion v w) ≡ o
+  tested u = sym (ap (λ (k : Bool). k && sameVersion v w) i) ∙ sym (ap (λ (k : Bool). x && k) j) ∙ sym t ∙ u
+
+  pub both-read : z ≡ true → BothAt v incoming target n c m b
+  unfolding columns-of
+  both-read u =
+      let (L, l) = layout-at incoming e f in
+      let (M, o) = layout-at target g h in
+      let k = tested u in
+      let (p, s) = both-true (sameVersion v a) (sameVersion v w) k in
+      record {
+        from = columns-of L p l;
+        to = columns-of M s o;
+        starts = o;
+        small = layout-small M;
+        is = λ φ. versions-same v incoming target φ (L .reads) (M .reads) k;
+      }
+
+  pub both-differ : z ≡ false → (φ : Columns → Columns → Answer Bytes) → bothLayouts v incoming target φ ≡ refusedAt 10 0
+  both-differ u φ =
+      let (L, l) = layout-at incoming e f in
+      let (M, o) = layout-at target g h in
+      versions-differ v incoming target φ (L .reads) (M .reads) (tested u)
+
+-- what `read_both` answered
+module _ (v : Version) (incoming target : Bytes) (r : BothRead) (h : BothIs v incoming target r) where
+  pub both-at : {n : ℕ} {c : Cursor} {m : ℕ} {b : Cursor} → r ≡ BothRead.Read n c m b → BothAt v incoming target n c m b
+  both-at e = subst (λ (x : BothRead). BothIs v incoming target x) e h
+
+  pub both-refused : {n k : ℕ} → r ≡ BothRead.Refused n k → (f : Columns → Columns → Answer Bytes) → bothLayouts v incoming target f ≡ refusedAt n k
+  both-refused e = subst (λ (x : BothRead). BothIs v incoming target x) e h
+
+-- ---- 27
+
+module _ (room : ℕ) (p : Bytes) where
+  long : roomFor room p ≡ false → written room p ≡ refusedAt 27 0
+  unfolding placed demand
+  long h = ap (λ (b : Bool). placed 0 (demand b 27 (gives p)) (λ b. accepted b)) h
+
+  fits : roomFor room p ≡ true → written room p ≡ accepted p
+  unfolding placed demand
+  fits h = ap (λ (b : Bool). placed 0 (demand b 27 (gives p)) (λ b. accepted b)) h
+
+  module _ {len : ℕ} (e : len ≡ length p) where
+    pub past-limit : longestPlan < len → written room p ≡ refusedAt 27 0
+    unfolding roomFor
+    past-limit h = long (ap (λ (b : Bool). leb (length p) room && b) (lt-leb (length p) longestPlan (omega arith)) ∙ and-false (leb (length p) room))
+
+    pub past-buffer : room < len → written room p ≡ refusedAt 27 0
+    unfolding roomFor
+    past-buffer h = long (ap (λ (b : Bool). b && leb (length p) longestPlan) (lt-leb (length p) room (omega arith)))
+
+    pub within-both : len ≤ room → len ≤ longestPlan → written room p ≡ accepted p
+    unfolding roomFor
+    within-both h g = fits (ap (λ (b : Bool). b && leb (length p) longestPlan) (le-leb (length p) room (omega arith)) ∙ le-leb (length p) longestPlan (omega arith))
+
+-- a refusal changes nothing
+pub plan-kept : {X : Answer Bytes} {n k : ℕ} (out : Bytes) → X ≡ refusedAt n k → (Build.Refused n k ≡ answerOf X) × (out ≡ bufferAfter X out)
+plan-kept out h = (sym (ap answerOf h), sym (ap (λ (x : Answer Bytes). bufferAfter x out) h))
+
+-- the front of what was built, copied
+pub plan-copied : (s : Bytes) {len : ℕ} (p : Bytes) (X : Answer Bytes) (out : Bytes) {o : Bytes} → len ≡ length p → take len s ≡ p → X ≡ accepted p → len ≤ length s → len ≤ length out → o ≡ overlay out 0 (slice 0 len s)
+    → (Build.Written len ≡ answerOf X) × (o ≡ bufferAfter X out)
+plan-copied s {len} p X out {o} e t h l m w =
+    let z : slice 0 len s ≡ p = ap (λ (j : ℕ). slice 0 j s) (sym (zero-add len)) ∙ slice-take s 0 len (omega arith) ∙ t in
+    (ap Build.Written e ∙ sym (ap answerOf h), w ∙ ap (overlay out 0) z ∙ overlay-front out p (omega arith) ∙ sym (ap (λ (x : Answer Bytes). bufferAfter x out) h))
+
+-- ---- the plan
+
+-- as many selectors as target columns
+one-more : (i : ℕ) (X : Result Selector) (Y : Answer Selectors) (ss : Selectors) (n : ℕ) → ((rs : Selectors) → Y ≡ accepted rs → countSelectors rs ≡ n)
+    → placed i X (λ s. answered Y (λ rs. accepted (scons s rs))) ≡ accepted ss → countSelectors ss ≡ suc n
+unfolding placed answered countSelectors
+one-more i (refuses k) Y ss n f h = clash (cc)
+one-more i (gives s) (refusedAt k j) ss n f h = clash (cc)
+one-more i (gives s) (accepted rs) ss n f h = let q : ss ≡ scons s rs = cc in rw q (ap suc (f rs refl))
+
+count-built : (v : Version) (p : Policy) (d : Defaults) (gs fs : Columns) (i : ℕ) (ss : Selectors) → buildFrom v p d gs fs i ≡ accepted ss → countSelectors ss ≡ countColumns gs
+unfolding buildFrom countColumns countSelectors
+count-built v p d cnil fs i ss h = let q : ss ≡ snil = cc in rw q
+count-built v p d (ccons l u gs) fs i ss h = one-more i _ (buildFrom v p d gs fs (i + 1)) ss (countColumns gs) (count-built v p d gs fs (i + 1)) h
+
+pub count-is : (v : Version) (p : Policy) (d : Defaults) (fs : Columns) {s : Bytes} {m at : ℕ} (Q : ColumnsAt v deepest s m at) (ss : Selectors) → buildFrom v p d (Q .columns) fs 0 ≡ accepted ss → countSelectors ss ≡ m
+count-is v p d fs {s} {m} {at} Q ss h = count-built v p d (Q .columns) fs 0 ss h ∙ columns-count v Free (type v Free deepest) m [] s at (Q .columns) (Q .end) (Q .reads)
+
+-- columns end within the bytes, or where they begin
+columns-end : {v : Version} {d : ℕ} {s : Bytes} (n : ℕ) {at : ℕ} (Q : ColumnsAt v d s n at) → Q .end ≤ at + length s
+unfolding columns
+columns-end zero Q = let (a, b) = no-column Q refl in omega arith
+columns-end {v} {d} {s} (suc n) {at} Q =
+    let (l, i, h, g) = next-ok _ _ (Q .reads) in
+    let (a, (b, c)) = label-ends s v at h in
+    let (x, y, z, w) = columns-reach Q (let le : at ≤ length s = omega arith in le) in
+    omega arith
+
+-- the index behind the selectors stays in its bounds
+pub columns-room : (X : Answer Selectors) {v : Version} {d : ℕ} {s : Bytes} {n at : ℕ} (Q : ColumnsAt v d s n at) {out : Bytes} {k : ℕ} {r : ColumnsMade} {o : Bytes} {len : ℕ}
+    → MakesColumns at (Q .end) out k X r o → r ≡ ColumnsMade.Done len → len ≤ 65536 * length s
+unfolding columnsMade WroteColumns
+columns-room (refusedAt m j) Q {len = len} A q = let z : ColumnsMade.Failed m j ≡ ColumnsMade.Done len = sym (A .answer) ∙ q in clash (cc)
+columns-room (accepted ss) {n = n} Q {len = len} A q =
+    let z : ColumnsMade.Done (length (encodeSelectors ss)) ≡ ColumnsMade.Done len = sym (A .answer) ∙ q in
+    let y : length (encodeSelectors ss) ≡ len = cc in
+    let w = A .wrote .1 in
+    let e = columns-end n Q in
+    omega arith
+
+module _ (room : ℕ) (plan : Bytes) {b e : ℕ} {o₁ o₂ : Bytes} {r : ColumnsMade} where
+  pub plan-refused : (X : Answer Selectors) {n i : ℕ} → MakesColumns b e o₁ 7 X r o₂ → r ≡ ColumnsMade.Failed n i
+      → (Build.Refused n i ≡ answerOf (answered X (writtenPlan room))) × (plan ≡ bufferAfter (answered X (writtenPlan room)) plan)
+  unfolding answered columnsMade
+  plan-refused (refusedAt m j) {n} {i} A q = let z : ColumnsMade.Failed m j ≡ ColumnsMade.Failed n i = sym (A .answer) ∙ q in let x : m ≡ n = cc in let y : j ≡ i = cc in (rw (x, y), refl)
+  plan-refused (accepted ss) {n} {i} A q = let z : ColumnsMade.Done (length (encodeSelectors ss)) ≡ ColumnsMade.Failed n i = sym (A .answer) ∙ q in clash (cc)
+
+  -- the plan that X is, where y and o are what `write_plan` made of its bytes
+  pub plan-written : (out : Bytes) (X : Answer Selectors) {m len : ℕ} {y : Build} {o : Bytes} → ((ss : Selectors) → X ≡ accepted ss → countSelectors ss ≡ m) → MakesColumns b e o₁ 7 X r o₂ → r ≡ ColumnsMade.Done len
+      → o₁ ≡ overlay out 0 (planHead m) → length o₁ ≡ length out → length out ≡ 65536
+      → ((p : Bytes) → 7 + len ≡ length p → (7 + len ≤ 65536 → take (7 + len) o₂ ≡ p) → (y ≡ answerOf (written room p)) × (o ≡ bufferAfter (written room p) plan))
+      → (y ≡ answerOf (answered X (writtenPlan room))) × (o ≡ bufferAfter (answered X (writtenPlan room)) plan)
+  unfolding answered columnsMade WroteColumns writtenPlan encodePlan u16Bytes
+  plan-written out (refusedAt k j) {len = len} f A q h l z g = let x : ColumnsMade.Failed k j ≡ ColumnsMade.Done len = sym (A .answer) ∙ q in clash (cc)
+  plan-written out (accepted ss) {m} {len} f A q h l z g =
+      let x : ColumnsMade.Done (length (encodeSelectors ss)) ≡ ColumnsMade.Done len = sym (A .answer) ∙ q in
+      let n : length (encodeSelectors ss) ≡ len = cc in
+      let w : Holds out 0 (planHead m ++ encodeSelectors ss) o₂ = holds-append out 0 (planHead m) (encodeSelectors ss) o₁ o₂ l (holds-exact out 0 (planHead m) h) (A .wrote .0) in
+      let c : planHead m ++ encodeSelectors ss ≡ encodePlan ss = ap (λ (k : ℕ). planHead k ++ encodeSelectors ss) (sym (f ss refl)) in
+      let u : 7 + len ≡ length (encodePlan ss) = let u : 7 + len ≡ suc (suc (suc (suc (suc (suc (suc (length (encodeSelectors ss)))))))) = omega arith in u in
+      let w′ : Holds out 0 (encodePlan ss) o₂ = subst (λ (k : Bytes). Holds out 0 k o₂) c w in
+      g (encodePlan ss) u (λ le. ap (λ (k : ℕ). take k o₂) u ∙ holds-front out (encodePlan ss) o₂ (omega arith) w′)
+
+-- ---- the calls
+
+-- no entries stand anywhere, and give no defaults
+pub no-table : (s : Bytes) (at : ℕ) → TableAt s 0 at
+unfolding entries
+no-table s at = record { entries = []; end = at; reads = refl }
+
+no-entries : {s : Bytes} {at : ℕ} (T : TableAt s 0 at) (k : ℕ) → getDefaultValue (T .entries) k ≡ noDefaults
+unfolding entries getDefaultValue firstEntry
+no-entries T k = let h = T .reads in let e : T .entries ≡ [] = cc in ap (λ (es : List Entry). getDefaultValue es k) e ∙ (λ i j. noDefaults j)
+
+module _ (p : Policy) (incoming target : Bytes) (room : ℕ) where
+  pub by-name-refused : {n k : ℕ} → ((f : Columns → Columns → Answer Bytes) → bothLayouts ByName incoming target f ≡ refusedAt n k) → buildByName p incoming target room ≡ refusedAt n k
+  unfolding buildByName
+  by-name-refused h = h _
+
+  pub by-name-built : {n : ℕ} {c : Cursor} {m : ℕ} {b : Cursor} (B : BothAt ByName incoming target n c m b) {s : Bytes} {at : ℕ} (T : TableAt s 0 at) (k : ℕ)
+      → buildByName p incoming target room ≡ answered (build ByName p (getDefaultValue (T .entries) k) (B .from .columns) (B .to .columns)) (writtenPlan room)
+  unfolding buildByName
+  by-name-built B T k = B .is _ ∙ ap (λ (d : Defaults). answered (build ByName p d (B .from .columns) (B .to .columns)) (writtenPlan room)) (sym (no-entries T k))
+
+module _ (p : Policy) (index : ℕ) (incoming target defaults : Bytes) (room : ℕ) where
+  pub by-number-refused : {n k : ℕ} → ((f : Columns → Columns → Answer Bytes) → bothLayouts ByNumber incoming target f ≡ refusedAt n k) → buildByNumber p index incoming target defaults room ≡ refusedAt n k
+  unfolding buildByNumber
+  by-number-refused h = h _
+
+  module _ {n : ℕ} {c : Cursor} {m : ℕ} {b : Cursor} (B : BothAt ByNumber incoming target n c m b) where
+    pub by-number-untabled : {k : ℕ} → table defaults ≡ refuse k → buildByNumber p index incoming target defaults room ≡ refusedAt k 3
+    unfolding buildByNumber readAt
+    by-number-untabled h = B .is _ ∙ rw h
+
+    pub by-number-built : {es : List Entry} {z : ℕ} → table defaults ≡ ok es z
+        → buildByNumber p index incoming target defaults room ≡ answered (build ByNumber p (getDefaultValue es index) (B .from .columns) (B .to .columns)) (writtenPlan room)
+    unfolding buildByNumber readAt
+    by-number-built h = B .is _ ∙ rw h
+
+-- an answer and a buffer, under another name of what they are
+pub plan-as : {X Y : Answer Bytes} {y : Build} {o : Bytes} (out : Bytes) → X ≡ Y → (y ≡ answerOf Y) × (o ≡ bufferAfter Y out) → (y ≡ answerOf X) × (o ≡ bufferAfter X out)
+plan-as out h (a, b) = (a ∙ sym (ap answerOf h), b ∙ sym (ap (λ (x : Answer Bytes). bufferAfter x out) h))

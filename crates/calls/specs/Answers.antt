@@ -1,0 +1,75 @@
+-- What the answers of the two calls stand for (document 01, "A refusal is a number and a place"), and what their parts ask and write.
+use mathlib.Core.Path.{_≡_}
+use mathlib.Core.List.{_++_}
+use Prim.Native.Nat.{ℕ, _+_, _*_, _≤_}
+use lib.ListN.{length}
+use Rattle.store.specs.Overlay.{Holds}
+use Rattle.layout.specs.Bytes.{Bytes}
+use Rattle.layout.specs.Tree.{Columns}
+use Rattle.layout.specs.Layout.{deepest}
+use Rattle.layout.specs.Stands.{ColumnsAt}
+use Rattle.layout.specs.declared.cursor.Cursor.{Cursor}
+use Rattle.layout.specs.declared.version.Version.{Version}
+use Rattle.forms.specs.Form.{u16Bytes}
+use Rattle.plan.specs.Result.{Answer, accepted, refusedAt, placed, demand, gives}
+use Rattle.plan.specs.Selector.{Selectors}
+use Rattle.plan.specs.Encode.{planMark, encodeSelectors}
+use Rattle.matching.specs.Calls.{bothLayouts, roomFor}
+use Rattle.builder.specs.declared.answer.Made.{Made}
+use Rattle.calls.specs.declared.write.Build.{Build}
+use Rattle.calls.specs.declared.columns.ColumnsMade.{ColumnsMade}
+use Rattle.calls.specs.declared.layouts.BothRead.{BothRead}
+
+-- a refusal's number and place, or the length of the plan
+abbrev pub answerOf : Answer Bytes → Build
+answerOf (accepted b) = Build.Written (length b)
+answerOf (refusedAt n k) = Build.Refused n k
+
+-- ---- the two layouts
+
+-- where the columns of both stand, and that a build goes on with them
+pub record BothAt (v : Version) (incoming target : Bytes) (n : ℕ) (c : Cursor) (m : ℕ) (b : Cursor) : Type 0 where
+  pub from : ColumnsAt v deepest incoming n (c .at)
+  pub to : ColumnsAt v deepest target m (b .at)
+  pub starts : b .at ≡ 7
+  pub small : length target ≤ 16384
+  pub is : (f : Columns → Columns → Answer Bytes) → bothLayouts v incoming target f ≡ f (from .columns) (to .columns)
+
+abbrev pub BothIs : Version → Bytes → Bytes → BothRead → Type 0
+BothIs v incoming target (BothRead.Read n c m b) = BothAt v incoming target n c m b
+BothIs v incoming target (BothRead.Refused n k) = (f : Columns → Columns → Answer Bytes) → bothLayouts v incoming target f ≡ refusedAt n k
+
+-- ---- the selectors of the target columns
+
+unfoldable pub columnsMade : Answer Selectors → ColumnsMade
+columnsMade (accepted ss) = ColumnsMade.Done (length (encodeSelectors ss))
+columnsMade (refusedAt n k) = ColumnsMade.Failed n k
+
+abbrev pub failedColumn : ℕ → Made → ColumnsMade
+failedColumn i (Made.Refused n) = ColumnsMade.Failed n i
+failedColumn i (Made.Bare k) = ColumnsMade.Failed 0 i
+failedColumn i (Made.Built n) = ColumnsMade.Failed 0 i
+
+-- a column before others
+abbrev pub joinColumns : ℕ → ColumnsMade → ColumnsMade
+joinColumns len (ColumnsMade.Failed n k) = ColumnsMade.Failed n k
+joinColumns len (ColumnsMade.Done n) = ColumnsMade.Done (len + n)
+
+-- in the buffer from k on, for target bytes from b to e; after a refusal nothing is said of it
+unfoldable pub WroteColumns : ℕ → ℕ → Bytes → ℕ → Answer Selectors → Bytes → Type 0
+WroteColumns b e out k (accepted ss) out′ = Holds out k (encodeSelectors ss) out′ × (length (encodeSelectors ss) + 65536 * b ≤ 65536 * e)
+WroteColumns b e out k (refusedAt n i) out′ = Unit {0}
+
+pub record MakesColumns (b e : ℕ) (out : Bytes) (k : ℕ) (X : Answer Selectors) (r : ColumnsMade) (out′ : Bytes) : Type 0 where
+  pub answer : r ≡ columnsMade X
+  pub wrote : WroteColumns b e out k X out′
+
+-- ---- the plan
+
+-- its bytes before the selectors: the mark, the version and the count
+abbrev pub planHead : ℕ → Bytes
+planHead n = planMark ++ u16Bytes n
+
+-- "Last, 27: the plan is longer than the buffer or 65,536 bytes"
+abbrev pub written : ℕ → Bytes → Answer Bytes
+written room b = placed 0 (demand (roomFor room b) 27 (gives b)) (λ b. accepted b)

@@ -1,0 +1,85 @@
+// Building by name and by number: each call is total, and states its answer and the buffer by equation.
+ghost use mathlib.Core.Path.{_≡_};
+ghost use lib.ListN.{length};
+ghost use Rattle.matching.specs.Calls.{buildByName, buildByNumber, bufferAfter};
+ghost use Rattle.calls.specs.Answers.{answerOf};
+use crate::layouts::BothRead;
+use crate::layouts::read_both;
+use crate::write::Build;
+use crate::write::build_plan;
+use builder::default::DefaultFieldValues;
+use defaults::read::TableRead;
+use defaults::read::read_table;
+use layout::cursor::Cursor;
+use layout::version::Version;
+use rules::policy::Policy;
+
+// By name there are no defaults: a table of no entries, which stands in any bytes.
+pub fn build_by_name(policy: Policy, incoming: &[u8], target: &[u8], plan: &mut [u8]) -> Build
+    ensures { λ r. ⌜ r ≡ answerOf (buildByName policy (now (incoming .entry)) (now (target .entry)) (length (now (plan .entry)))) ⌝ }
+    ensures { λ _. ⌜ now (plan .exit) ≡ bufferAfter (buildByName policy (now (incoming .entry)) (now (target .entry)) (length (now (plan .entry)))) (now (plan .entry)) ⌝ }
+{
+    match read_both(Version::ByName, incoming, target) {
+        BothRead::Read(n, c, m, b) => {
+            let none = DefaultFieldValues {
+                count: 0,
+                entries: Cursor { at: 0 },
+                source_index: 0,
+            };
+            build_plan(
+                policy,
+                Version::ByName,
+                incoming,
+                n,
+                c,
+                target,
+                none,
+                target,
+                m,
+                b,
+                plan,
+            )
+        }
+        BothRead::Refused(k, place) => Build::Refused(k, place),
+    }
+}
+
+// After 10 the defaults are read, of which the source's count.
+pub fn build_by_number(
+    policy: Policy,
+    source_index: u32,
+    incoming: &[u8],
+    target: &[u8],
+    defaults: &[u8],
+    plan: &mut [u8],
+) -> Build
+    ensures { λ r. ⌜ r ≡ answerOf (buildByNumber policy «source_index» (now (incoming .entry)) (now (target .entry)) (now (defaults .entry)) (length (now (plan .entry)))) ⌝ }
+    ensures { λ _. ⌜ now (plan .exit) ≡ bufferAfter (buildByNumber policy «source_index» (now (incoming .entry)) (now (target .entry)) (now (defaults .entry)) (length (now (plan .entry)))) (now (plan .entry)) ⌝ }
+{
+    match read_both(Version::ByNumber, incoming, target) {
+        BothRead::Read(n, c, m, b) => match read_table(defaults) {
+            TableRead::Read { count, entries } => {
+                let values = DefaultFieldValues {
+                    count,
+                    entries,
+                    source_index,
+                };
+                build_plan(
+                    policy,
+                    Version::ByNumber,
+                    incoming,
+                    n,
+                    c,
+                    defaults,
+                    values,
+                    target,
+                    m,
+                    b,
+                    plan,
+                )
+            }
+            TableRead::Refused(k) => Build::Refused(k, 3),
+        },
+        BothRead::Refused(k, place) => Build::Refused(k, place),
+    }
+}

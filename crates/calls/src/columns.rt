@@ -1,0 +1,97 @@
+// The selectors of the target columns.
+ghost use mathlib.Core.Path.{_≡_};
+ghost use Prim.Native.Nat.{_*_, _≤_};
+ghost use lib.ListN.{length};
+ghost use Rattle.layout.specs.Layout.{deepest};
+ghost use Rattle.layout.specs.Stands.{ColumnsAt};
+ghost use Rattle.defaults.specs.Stands.{TableAt};
+ghost use Rattle.matching.specs.Build.{buildFrom};
+ghost use Rattle.builder.specs.Answers.{DefaultsAt, defaultsAt};
+ghost use Rattle.calls.specs.Answers.{failedColumn, MakesColumns};
+use builder::answer::Made;
+use builder::answer::is_refused;
+use builder::answer::len_of;
+use builder::conditions::inserts;
+use builder::default::DefaultFieldValues;
+use layout::columns::Labelled;
+use layout::cursor::Cursor;
+use layout::version::Version;
+use layout::walk::skip_type;
+use matcher::attach::attach_field;
+use rules::policy::Policy;
+
+// A refusal's number and the column's position; or the length of the selectors that were written.
+pub enum ColumnsMade {
+    Failed(u8, u16),
+    Done(usize),
+}
+
+fn failed_column(made: Made, position: u16) -> ColumnsMade
+    ensures { λ r. ⌜ r ≡ failedColumn position made ⌝ }
+{
+    match made {
+        Made::Refused(n) => ColumnsMade::Failed(n, position),
+        Made::Bare(_) => ColumnsMade::Failed(0, position),
+        Made::Built(_) => ColumnsMade::Failed(0, position),
+    }
+}
+
+// The selectors of the `m` target columns, in order; the place of a refusal is the column's position.
+pub fn build_columns(
+    policy: Policy,
+    v: Version,
+    incoming: &[u8],
+    n: u16,
+    c: Cursor,
+    table: &[u8],
+    defaults: DefaultFieldValues,
+    target: &[u8],
+    m: u16,
+    b: Cursor,
+    out: &mut [u8],
+    k: usize,
+) -> ColumnsMade
+    requires { ⌜ ColumnsAt v deepest (now incoming) n (c .at) × ColumnsAt v deepest (now target) m (b .at) ⌝ }
+    requires { ⌜ TableAt (now table) (defaults .count) (defaults .entries .at) ⌝ }
+    requires { ⌜ (length (now target) ≤ 16384) × (length (now table) ≤ 16384) × (k ≤ 65536 * b .at) ⌝ }
+    ensures { λ r. ⌜ ((T : DefaultsAt (now (table .entry)) defaults) (P : ColumnsAt v deepest (now (incoming .entry)) n (c .at)) (Q : ColumnsAt v deepest (now (target .entry)) m (b .at)) → MakesColumns (b .at) (Q .end) (now (out .entry)) k (buildFrom v policy (defaultsAt defaults T) (Q .columns) (P .columns) 0) r (now (out .exit))) ⌝ }
+{
+    let missing = policy.missing_columns;
+    let insert = inserts(missing);
+    let mut at = b.at;
+    let mut to = k;
+    let mut i: u16 = 0;
+    while i < m {
+        let d = Cursor { at };
+        match d.label(target, v) {
+            Labelled::Is(l, e) => {
+                let made = attach_field(
+                    policy,
+                    v,
+                    16,
+                    incoming,
+                    n,
+                    c,
+                    table,
+                    defaults,
+                    target,
+                    l,
+                    e,
+                    insert,
+                    11,
+                    out,
+                    to,
+                );
+                if is_refused(made) {
+                    return failed_column(made, i);
+                }
+                let f = skip_type(target, v, 16, e);
+                at = f.at;
+                to += len_of(made);
+            }
+            Labelled::Refused(x) => return ColumnsMade::Failed(x, i),
+        }
+        i += 1;
+    }
+    ColumnsMade::Done(to - k)
+}

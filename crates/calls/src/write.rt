@@ -1,0 +1,102 @@
+// The plan's bytes. They are built in a local buffer and copied once, so that a refusal changes no lent buffer.
+ghost use mathlib.Core.Path.{_≡_};
+ghost use Prim.Native.Nat.{_+_, _≤_};
+ghost use lib.ListN.{length, take};
+ghost use Rattle.store.specs.Overlay.{overlay};
+ghost use Rattle.layout.specs.Bytes.{Bytes};
+ghost use Rattle.layout.specs.Layout.{deepest};
+ghost use Rattle.layout.specs.Stands.{ColumnsAt};
+ghost use Rattle.defaults.specs.Stands.{TableAt};
+ghost use Rattle.plan.specs.Result.{answered};
+ghost use Rattle.matching.specs.Build.{build};
+ghost use Rattle.matching.specs.Calls.{writtenPlan, bufferAfter};
+ghost use Rattle.builder.specs.Answers.{DefaultsAt, defaultsAt};
+ghost use Rattle.calls.specs.Answers.{answerOf, planHead, written};
+use crate::columns::ColumnsMade;
+use crate::columns::build_columns;
+use builder::default::DefaultFieldValues;
+use builder::write::put_short;
+use layout::cursor::Cursor;
+use layout::version::Version;
+use rules::policy::Policy;
+use store::copy;
+use store::put;
+
+// The plan's length; or a refusal's number and place.
+pub enum Build {
+    Written(usize),
+    Refused(u8, u16),
+}
+
+// The buffer that a plan is built in: as long as a plan may be.
+fn scratch() -> [u8; 65536]
+    ensures { λ r. ⌜ 65536 ≡ length r ⌝ }
+{
+    [0; 65536]
+}
+
+// The mark `PLN`, version 1 and the count.
+fn put_plan_head(out: &mut [u8], n: u16)
+    ensures { λ _. ⌜ now (out .exit) ≡ overlay (now (out .entry)) 0 (planHead n) ⌝ }
+{
+    put(out, 0, 0x50);
+    put(out, 1, 0x4C);
+    put(out, 2, 0x4E);
+    put_short(out, 3, 1);
+    put_short(out, 5, n);
+}
+
+// The first `len` bytes of what was built, unless the plan is too long: 27.
+fn write_plan(room: &[u8], len: usize, plan: &mut [u8]) -> Build
+    requires { ⌜ length (now room) ≡ 65536 ⌝ }
+    ensures { λ r. ⌜ ((p : Bytes) → len ≡ length p → (len ≤ 65536 → take len (now (room .entry)) ≡ p) → (r ≡ answerOf (written (length (now (plan .entry))) p)) × (now (plan .exit) ≡ bufferAfter (written (length (now (plan .entry))) p) (now (plan .entry)))) ⌝ }
+{
+    if 65536 < len {
+        return Build::Refused(27, 0);
+    }
+    if plan.len() < len {
+        return Build::Refused(27, 0);
+    }
+    copy(room, 0, len, plan, 0);
+    Build::Written(len)
+}
+
+// The plan between two layouts that were read.
+pub fn build_plan(
+    policy: Policy,
+    v: Version,
+    incoming: &[u8],
+    n: u16,
+    c: Cursor,
+    table: &[u8],
+    defaults: DefaultFieldValues,
+    target: &[u8],
+    m: u16,
+    b: Cursor,
+    plan: &mut [u8],
+) -> Build
+    requires { ⌜ ColumnsAt v deepest (now incoming) n (c .at) × ColumnsAt v deepest (now target) m (b .at) ⌝ }
+    requires { ⌜ TableAt (now table) (defaults .count) (defaults .entries .at) ⌝ }
+    requires { ⌜ (length (now target) ≤ 16384) × (length (now table) ≤ 16384) × (b .at ≡ 7) ⌝ }
+    ensures { λ r. ⌜ ((T : DefaultsAt (now (table .entry)) defaults) (P : ColumnsAt v deepest (now (incoming .entry)) n (c .at)) (Q : ColumnsAt v deepest (now (target .entry)) m (b .at)) → (r ≡ answerOf (answered (build v policy (defaultsAt defaults T) (P .columns) (Q .columns)) (writtenPlan (length (now (plan .entry)))))) × (now (plan .exit) ≡ bufferAfter (answered (build v policy (defaultsAt defaults T) (P .columns) (Q .columns)) (writtenPlan (length (now (plan .entry))))) (now (plan .entry)))) ⌝ }
+{
+    let mut room = scratch();
+    put_plan_head(&mut room, m);
+    match build_columns(
+        policy,
+        v,
+        incoming,
+        n,
+        c,
+        table,
+        defaults,
+        target,
+        m,
+        b,
+        &mut room,
+        7,
+    ) {
+        ColumnsMade::Failed(x, i) => Build::Refused(x, i),
+        ColumnsMade::Done(len) => write_plan(&room, 7 + len, plan),
+    }
+}
