@@ -1,16 +1,27 @@
 /* The column selector for C and C++: the functions of libselector.a, which is made by `rt staticlib selector` for x86-64 Linux.
  *
- * Proved of every call: whatever the bytes that it is lent, it ends, reads nothing outside of them, writes nothing, and answers as
- * crates/selector/specs defines. It allocates no memory, keeps nothing for a later call and calls no other library, so that threads
- * may call at the same time.
+ * A controller receives its neighbour's record, laid out as the neighbour lays it out, and puts every reading into its own layout. A
+ * plan, built once from the two layouts, says how. docs/01 of the works gives the rules and
+ * byte forms; the numbers below are its refusals.
+ *
+ * Proved of every call, whatever the bytes that it is lent: it ends, reads nothing outside of them, writes nothing but the buffer that
+ * is lent for its result, and answers as crates/selector/specs defines. A refused call changes no byte of that buffer. An accepted one
+ * writes its result from the buffer's start and changes no byte after it. A call allocates no memory, keeps nothing for a later call
+ * and calls no other library, so that threads may call at the same time.
  *
  * What is asked of the caller, and of the caller alone:
- *   - a pointer and the length after it give bytes that can be read, and that nothing writes until the call returns;
- *   - the pointer is not null. Where the length is 0 it is not followed, and any other address will do;
- *   - there is as much stack as is said at the function.
+ *   - a pointer and the length after it give bytes that can be read, and that nothing else writes until the call returns; the buffer
+ *     for a result can be written;
+ *   - the buffer for a result overlaps none of the other arguments. These may overlap each other;
+ *   - no pointer is null. Where a length is 0 the pointer is not followed, and any other address will do;
+ *   - there is as much stack as the macro named at the function says.
  *
- * An answer is number * 2^32 + rest. The number is 0 where the bytes are accepted, and else says why they are refused. The rest of a
- * refusal is its place: which layout was refused, counted from 1 in the order in which they are read.
+ * An answer is number * 2^32 + rest. The number is 0 where the call is accepted, and else says why it is refused. The rest of an
+ * accepted build or run is the result's length; of another accepted call it is 0. The rest of a refusal is its place:
+ *   1 to 6              which layout or table was refused, counted from 1 in the order in which they are read;
+ *   11 to 26, 28        the position of the target's top column, from 0;
+ *   all others          0.
+ * The tests are made in the order in which document 01 gives them, and the first that applies is the answer.
  */
 #ifndef SELECTOR_H
 #define SELECTOR_H
@@ -25,19 +36,78 @@ extern "C" {
 #define SELECTOR_NUMBER(answer) ((uint32_t)((uint64_t)(answer) >> 32))
 #define SELECTOR_REST(answer) ((uint32_t)((uint64_t)(answer) & 0xFFFFFFFFu))
 
-/* Refusals of a layout. First its length is tested (4), then its mark and version (1). Then it is read forward by byte, and the first
- * of 2 to 5 that applies is the answer; 6 comes last. */
+/* The longest that each thing may be, in bytes. A result is never longer. */
+#define SELECTOR_LAYOUT_MAX 16384 /* and a table of defaults */
+#define SELECTOR_PLAN_MAX 65536
+#define SELECTOR_RECORD_MAX 16384
+
+/* The most stack that a call takes, in bytes, as compiled here; compare/c/stack measures it. */
+#define SELECTOR_READ_STACK 8192
+#define SELECTOR_BUILD_STACK 114688
+
+/* Refusals of a layout or a table of defaults. First its length is tested (4), then its mark and version (1). Then it is read forward
+ * by byte, and the first of 2 to 5 that applies is the answer; 6 comes last. */
 #define SELECTOR_UNKNOWN_MARK 1 /* the first five bytes are not a known mark and version, or there are fewer than five */
 #define SELECTOR_ENDS_EARLY 2   /* the bytes end within what they announce */
-#define SELECTOR_UNKNOWN_CODE 3 /* a type code or a date-time unit is unknown */
+#define SELECTOR_UNKNOWN_CODE 3 /* an unknown type code or date-time unit; in a table also a type that is no leaf, an unknown kind or
+                                   load byte, or a value that does not fit its type */
 #define SELECTOR_TOO_LARGE 4    /* more than 16,384 bytes, a name or zone of more than 63, or a type deeper than 16 */
-#define SELECTOR_REPEATED 5     /* a column repeats a sibling's name (version 1, top columns only) or id (version 2, all levels) */
+#define SELECTOR_REPEATED 5     /* a column repeats a sibling's name (version 1, top columns only) or id (version 2, all levels); in a
+                                   table an id of one kind */
 #define SELECTOR_BYTES_LEFT 6   /* bytes are left over */
 
+/* Refusals of a build. */
+#define SELECTOR_WRONG_VERSION 10        /* a layout is not of version 1 (by name) or 2 (by number) */
+#define SELECTOR_MISSING_COLUMN 11       /* a target column has no counterpart, and missing columns are not inserted */
+#define SELECTOR_REPEATED_NAME 12        /* a struct repeats a field's name (by name) */
+#define SELECTOR_EXTRA_FIELD 13          /* an incoming struct has a field that the target lacks, and such are not ignored */
+#define SELECTOR_MISSING_FIELD 14        /* a target struct's field has no counterpart, and missing fields are not inserted */
+#define SELECTOR_NULL_UPCAST 15          /* null to another type, and the flag is off; likewise to 23 */
+#define SELECTOR_INTEGER_UPCAST 16       /* between integers */
+#define SELECTOR_INTEGER_RANGE 17        /* the target's range lacks an incoming value */
+#define SELECTOR_FLOAT_UPCAST 18         /* to a wider float */
+#define SELECTOR_FLOAT_DOWNCAST 19       /* to a narrower float */
+#define SELECTOR_INTEGER_TO_FLOAT 20     /* an integer to a float */
+#define SELECTOR_TIME_ZONE 21            /* date-times of different zones */
+#define SELECTOR_TIME_UNIT 22            /* date-times of different units */
+#define SELECTOR_CATEGORY_TO_STRING 23   /* a category to a string */
+#define SELECTOR_TYPE_MISMATCH 24        /* no rule takes the one type to the other */
+#define SELECTOR_ELEMENT_ID 25           /* the elements of two lists or arrays have different ids (by number) */
+#define SELECTOR_DEFAULT_NOT_LOADED 26   /* the default wanted is a partition's value that could not be loaded (by number) */
+#define SELECTOR_PLAN_TOO_LONG 27        /* the plan is longer than the buffer or 65,536 bytes */
+#define SELECTOR_DEFAULT_TYPE 28         /* the default taken has a type unlike the field's (by number) */
+
+/* The policy word: a bit each, 1 allows. All other bits are ignored. */
+#define SELECTOR_ALLOW_NULL_UPCAST (UINT32_C(1) << 0)
+#define SELECTOR_ALLOW_INTEGER_UPCAST (UINT32_C(1) << 1)
+#define SELECTOR_ALLOW_FLOAT_UPCAST (UINT32_C(1) << 2)
+#define SELECTOR_ALLOW_FLOAT_DOWNCAST (UINT32_C(1) << 3)
+#define SELECTOR_ALLOW_INTEGER_TO_FLOAT (UINT32_C(1) << 4)
+#define SELECTOR_ALLOW_TIME_ZONE (UINT32_C(1) << 5)
+#define SELECTOR_ALLOW_NANOSECONDS_DOWNCAST (UINT32_C(1) << 6)
+#define SELECTOR_ALLOW_MICROSECONDS_DOWNCAST (UINT32_C(1) << 7)
+#define SELECTOR_ALLOW_MICROSECONDS_UPCAST (UINT32_C(1) << 8)
+#define SELECTOR_ALLOW_MILLISECONDS_UPCAST (UINT32_C(1) << 9)
+#define SELECTOR_ALLOW_CATEGORY_TO_STRING (UINT32_C(1) << 10)
+#define SELECTOR_INSERT_MISSING_FIELDS (UINT32_C(1) << 11)
+#define SELECTOR_IGNORE_EXTRA_FIELDS (UINT32_C(1) << 12)
+#define SELECTOR_INSERT_MISSING_COLUMNS (UINT32_C(1) << 13)
+#define SELECTOR_ALLOW_ALL UINT32_C(0x3FFF)
+
 /* Reads a layout of version 1 or 2 to its end. The answer is 0 where it is accepted, else one of the numbers above with place 1.
- * Stack: 8 KiB. Time: repeated names and ids are looked for by scanning earlier siblings again, so that it grows as the square of the
+ * Stack: SELECTOR_READ_STACK. Time: repeated names and ids are looked for by scanning earlier siblings again, so that it grows as the square of the
  * number of columns. */
 uint64_t selector_read_layout(const uint8_t *layout, size_t length);
+
+/* Builds the plan that takes records of the incoming layout to the target layout, columns matched by name. Both are of version 1.
+ * Refusals: 1 to 6, 10, 11 to 24, 27. Stack: SELECTOR_BUILD_STACK. */
+uint64_t selector_build_by_name(uint32_t policy, const uint8_t *incoming, size_t incoming_length, const uint8_t *target, size_t target_length,
+                                uint8_t *plan, size_t plan_length);
+
+/* The same by field id, with defaults for missing fields. Both layouts are of version 2; of a partition's values in the table of
+ * defaults the source index, from 0, picks one. Refusals: 1 to 6, 10, 11, 13 to 28. Stack: SELECTOR_BUILD_STACK. */
+uint64_t selector_build_by_number(uint32_t policy, uint32_t source_index, const uint8_t *incoming, size_t incoming_length, const uint8_t *target,
+                                  size_t target_length, const uint8_t *defaults, size_t defaults_length, uint8_t *plan, size_t plan_length);
 
 #ifdef __cplusplus
 }

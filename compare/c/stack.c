@@ -1,0 +1,177 @@
+/* The stack that each call takes, measured on a thread's painted stack: over the cases of a list (its form: the head of crates/cases/stdin) and over the deepest
+ * layouts. The exit status is 1 where a call takes more than include/selector.h says.
+ *
+ *   stack LIST
+ */
+#define _DEFAULT_SOURCE
+#include "selector.h"
+
+#include <pthread.h>
+#include <stdio.h>
+#include <stdlib.h>
+#include <string.h>
+#include <sys/mman.h>
+
+enum { SPACE = 73728, STACK = 1 << 20, PAINT = 0xA5, INPUTS = 3 };
+
+enum kind { BUILD_NAME, BUILD_NUMBER, KINDS };
+
+static const char *const names[KINDS] = {"build_name", "build_number"};
+static const size_t said[KINDS] = {SELECTOR_BUILD_STACK, SELECTOR_BUILD_STACK};
+static size_t most[KINDS];
+
+static enum kind kind;
+static uint32_t policy, source_index;
+static uint8_t bytes[INPUTS][SPACE], buffer[SPACE];
+static size_t length[INPUTS], space;
+
+static void *call(void *unused) {
+    switch (kind) {
+    case BUILD_NAME:
+        selector_build_by_name(policy, bytes[0], length[0], bytes[1], length[1], buffer, space);
+        break;
+    default:
+        selector_build_by_number(policy, source_index, bytes[0], length[0], bytes[1], length[1], bytes[2], length[2], buffer, space);
+    }
+    return unused;
+}
+
+static void *no_call(void *unused) { return unused; }
+
+static uint8_t *stack;
+
+/* How much of a stack a thread changes. */
+static size_t touched(void *(*work)(void *)) {
+    pthread_attr_t attributes;
+    pthread_t thread;
+    memset(stack, PAINT, STACK);
+    if (pthread_attr_init(&attributes) != 0 || pthread_attr_setstack(&attributes, stack, STACK) != 0 ||
+        pthread_create(&thread, &attributes, work, NULL) != 0 || pthread_join(thread, NULL) != 0)
+        exit(2);
+    pthread_attr_destroy(&attributes);
+    size_t free_bytes = 0;
+    while (free_bytes < STACK && stack[free_bytes] == PAINT)
+        free_bytes++;
+    return STACK - free_bytes;
+}
+
+static void measure(void) {
+    static size_t without;
+    if (without == 0)
+        without = touched(no_call);
+    size_t taken = touched(call) - without;
+    if (taken > most[kind])
+        most[kind] = taken;
+}
+
+/* --- the list ----------------------------------------------------------------------------------------------------------------- */
+
+static size_t decode(const char *word, uint8_t *to) {
+    size_t n = 0;
+    if (strcmp(word, "-") == 0)
+        return 0;
+    for (; word[0] != 0 && word[1] != 0 && n < SPACE; word += 2) {
+        char pair[3] = {word[0], word[1], 0};
+        to[n++] = (uint8_t)strtoul(pair, NULL, 16);
+    }
+    return n;
+}
+
+static void one_case(enum kind k, char *rest) {
+    char *word = strtok(rest, " ");
+    int inputs = k == BUILD_NAME ? 2 : 3;
+    kind = k;
+    policy = (uint32_t)strtoul(word, NULL, 10);
+    word = strtok(NULL, " ");
+    if (k == BUILD_NUMBER) {
+        source_index = (uint32_t)strtoul(word, NULL, 10);
+        word = strtok(NULL, " ");
+    }
+    space = strtoul(word, NULL, 10);
+    word = strtok(NULL, " ");
+    for (int i = 0; i < inputs && word != NULL; i++) {
+        length[i] = decode(word, bytes[i]);
+        word = strtok(NULL, " ");
+    }
+    if (space <= SPACE)
+        measure();
+}
+
+static void whole_list(const char *path) {
+    FILE *list = fopen(path, "r");
+    char *text = NULL;
+    size_t size = 0;
+    if (list == NULL) {
+        perror(path);
+        exit(2);
+    }
+    while (getline(&text, &size, list) >= 0) {
+        text[strcspn(text, "\n")] = 0;
+        for (int k = 0; k < KINDS; k++) {
+            size_t n = strlen(names[k]);
+            if (strncmp(text, names[k], n) == 0 && text[n] == ' ')
+                one_case((enum kind)k, text + n + 1);
+        }
+    }
+    free(text);
+    fclose(list);
+}
+
+/* --- the deepest layouts ------------------------------------------------------------------------------------------------------ */
+
+static void put(int i, uint32_t value, int count) {
+    for (int k = 0; k < count; k++)
+        bytes[i][length[i]++] = (uint8_t)(value >> (8 * k));
+}
+
+/* One column of so many levels with a leaf inside. */
+static void nested(int i, uint32_t version, uint32_t code, int levels, uint32_t leaf) {
+    length[i] = 0;
+    put(i, 'L' | 'A' << 8 | 'Y' << 16, 3);
+    put(i, version, 2);
+    put(i, 1, 2);
+    for (int k = 0; k <= levels; k++) {
+        if (k == 0 || code == 18 || version == 2) {
+            put(i, 1, 1);
+            put(i, 'a', 1);
+            if (version == 2)
+                put(i, (uint32_t)k + 1, 4);
+        }
+        put(i, k < levels ? code : leaf, 1);
+        if (k < levels && code != 19)
+            put(i, 1, code == 18 ? 2 : 4);
+    }
+}
+
+static void deepest(void) {
+    policy = SELECTOR_ALLOW_ALL;
+    space = SPACE;
+    for (uint32_t version = 1; version <= 2; version++)
+        for (uint32_t code = 18; code <= 20; code++) {
+            kind = version == 1 ? BUILD_NAME : BUILD_NUMBER;
+            nested(0, version, code, 15, 3);
+            nested(1, version, code, 15, 5); /* cast at the bottom */
+            length[2] = 7;
+            memcpy(bytes[2], "DEF\x01\x00\x00\x00", 7);
+            measure();
+            length[0] = 7; /* no incoming column: a constant */
+            bytes[0][5] = 0;
+            measure();
+        }
+}
+
+int main(int count, char **words) {
+    if (count != 2)
+        return 2;
+    stack = mmap(NULL, STACK, PROT_READ | PROT_WRITE, MAP_PRIVATE | MAP_ANONYMOUS, -1, 0);
+    if (stack == MAP_FAILED)
+        return 2;
+    deepest();
+    whole_list(words[1]);
+    int within = 1;
+    for (int k = 0; k < KINDS; k++) {
+        printf("stack of %s: %zu bytes, of %zu\n", names[k], most[k], said[k]);
+        within = within && most[k] <= said[k];
+    }
+    return within ? EXIT_SUCCESS : EXIT_FAILURE;
+}
