@@ -122,7 +122,7 @@ fn read_list(lay: &[u8], v: Version, depth: u8, t: Cursor, rec: &[u8], c: Cursor
 }
 
 // One element, whose type is not passed.
-fn read_element(lay: &[u8], v: Version, depth: u8, t: Cursor, rec: &[u8], c: Cursor) -> Moved
+pub fn read_element(lay: &[u8], v: Version, depth: u8, t: Cursor, rec: &[u8], c: Cursor) -> Moved
     requires { ⌜ TypeAt v depth (now lay) (t .at) ⌝ }
     ensures { λ r. ⌜ ((P : TypeAt v depth (now (lay .entry)) (t .at)) → r ≡ movedOf (value (dtypeOf (P .tree)) (now (rec .entry)) (c .at))) ⌝ }
 {

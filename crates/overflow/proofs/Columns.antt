@@ -1,0 +1,173 @@
+-- What holds while the columns of a plan are asked one after the other. Assumes nothing.
+use Prim.Native.Nat.{ℕ, _+_, _-_, _≤_, _<_}
+use mathlib.Core.Path.{_≡_, refl, sym, ap, _∙_, subst}
+use mathlib.Core.Bool.{Bool, true, false, not, _&&_}
+use mathlib.Core.List.{[]}
+use native.Mathlib.Omega.{arith}
+use lib.ListN.{length}
+use Rattle.layout.specs.Bytes.{Bytes, AllBytes}
+use Rattle.layout.specs.Tree.{DataType, Fields, fnil, fcons, dtypeOf, fieldsOf}
+use Rattle.layout.specs.Layout.{label, columns as columnsOf, type}
+use Rattle.layout.specs.Answers.{labelRes, labelAt}
+use Rattle.layout.specs.Stands.{TypeAt, ColumnsAt}
+use Rattle.layout.specs.declared.cursor.Cursor.{Cursor}
+use Rattle.layout.specs.declared.columns.Label.{Label as LabelSpan}
+use Rattle.layout.specs.declared.columns.Labelled.{Labelled}
+use Rattle.layout.specs.declared.columns.Siblings.the-variants.{Free}
+use Rattle.layout.specs.declared.version.Version.{Version}
+use Rattle.layout.proofs.Ways.{clash}
+use Rattle.layout.proofs.View.{FirstAt, first-at, first-labelled, no-column}
+use Rattle.values.specs.Value.{Values}
+use Rattle.plan.specs.Selector.{Selector, Selectors, snil, scons, countSelectors}
+use Rattle.plan.specs.Check.{column}
+use Rattle.plan.specs.Read.{longestPlan, selectors as selectorsOf, selector, deepestSelector}
+use Rattle.plan.specs.Run.{eval, evals, clean, cleanAll}
+use Rattle.plan.specs.Fits.{FitsAllOver}
+use Rattle.plan.proofs.Typed.{Typed, TypedAll, t-nil, t-cons, typed→check, passed→typed}
+use Rattle.plan.proofs.Preserve.{eval-over}
+use Rattle.plan.proofs.ReadBack.{selector-back, selectors-read}
+use Rattle.nodes.specs.Raw.{RowAt}
+use Rattle.walk.specs.Stands.{SelectorAt, SelectorsAt}
+use Rattle.walk.proofs.View.{FirstAt as FirstOf, first-at as first-of, selectors-counted}
+use Rattle.overflow.specs.Want.{overflowing}
+use Rattle.overflow.specs.Some.{some}
+use Rattle.overflow.specs.Leaves.{leaves}
+use Rattle.overflow.specs.Overflows.{TopAt, PlanAt}
+use Rattle.overflow.proofs.Clean.{unclean}
+use Rattle.overflow.proofs.Seeking.{row-over}
+
+-- the first of selectors that give columns
+typed-first : {Γ : Fields} {ss : Selectors} {n : Bytes} {t : DataType} {fs Δ : Fields} → Δ ≡ fcons n t fs → TypedAll Γ ss Δ → (s : Selector) × (rs : Selectors) × (ss ≡ scons s rs) × Typed Γ s n t × TypedAll Γ rs fs
+typed-first e t-nil = clash (cc)
+typed-first {Γ} {n = n} {t = t} {fs = fs} e (t-cons {s = s} {ss = rs} {n = m} {t = u} {fs = gs} d ds) =
+    let a : m ≡ n = cc in
+    let b : u ≡ t = cc in
+    let c : gs ≡ fs = cc in
+    (s, rs, refl, subst (λ (x : DataType). Typed Γ s n x) b (subst (λ (x : Bytes). Typed Γ s x u) a d), subst (λ (x : Fields). TypedAll Γ rs x) c ds)
+
+typed-none : {Γ : Fields} {ss : Selectors} {Δ : Fields} → Δ ≡ fnil → TypedAll Γ ss Δ → ss ≡ snil
+typed-none e t-nil = refl
+typed-none e (t-cons d ds) = clash (cc)
+
+counted : (ss : Selectors) {s : Selector} {rs : Selectors} {n : ℕ} → ss ≡ scons s rs → countSelectors ss ≡ n → 0 < n
+unfolding countSelectors
+counted ss e h = let k = sym (ap countSelectors e) ∙ h in omega arith
+
+-- the columns from i on are left; b is whether there is an overflow
+pub record Columning (plan : Bytes) (Γ : Fields) (ρ : Values) (y : Version) (tgt : Bytes) (m : ℕ) (b : Bool) (at to i : ℕ) : Type 0 where
+  pub within : i ≤ m
+  pub fits : FitsAllOver Γ ρ
+  pub small : length plan ≤ longestPlan
+  pub bytes : AllBytes plan
+  pub count : ℕ
+  pub selectors : SelectorsAt plan count at
+  pub columns : ColumnsAt y 16 tgt (m - i) to
+  pub typed : TypedAll Γ (selectors .trees) (fieldsOf (columns .columns))
+  pub is : not (cleanAll (evals ρ (selectors .trees))) ≡ b
+
+not-clean : (ρ : Values) (ss : Selectors) {s : Selector} {rs : Selectors} {c : Bool} → ss ≡ scons s rs → not (clean (eval ρ s)) ≡ c → not (cleanAll (evals ρ ss)) ≡ not (not c && cleanAll (evals ρ rs))
+unfolding evals cleanAll
+not-clean ρ ss {s} {rs} e h = rw e (ap (λ (x : Bool). not (x && cleanAll (evals ρ rs))) (turned (clean (eval ρ s)) h))
+  where
+    turned : (a : Bool) {c : Bool} → not a ≡ c → a ≡ not c
+    turned true k = ap not k
+    turned false k = ap not k
+
+none-left : (ρ : Values) (ss : Selectors) → ss ≡ snil → not (cleanAll (evals ρ ss)) ≡ false
+unfolding evals cleanAll
+none-left ρ ss e = rw e
+
+module _ {plan : Bytes} {Γ : Fields} {ρ : Values} {y : Version} {tgt : Bytes} {m : ℕ} {b : Bool} {at to i : ℕ} (C : Columning plan Γ ρ y tgt m b at to i) where
+  pub columning-all : m ≤ i → false ≡ b
+  unfolding fieldsOf
+  columning-all h =
+      let z = no-column (C .columns) (omega arith) .0 in
+      sym (none-left ρ (C .selectors .trees) (typed-none (ap fieldsOf z) (C .typed))) ∙ C .is
+
+  module _ (lt : i < m) {q : Labelled} (g : labelRes tgt q ≡ label y tgt to) where
+    pub columning-labelled : {B : Type 0} {k : ℕ} → q ≡ Labelled.Refused k → B
+    columning-labelled h = first-labelled (C .columns) (λ z. absurd (omega arith)) g h
+
+    module _ {l : LabelSpan} {e : Cursor} (h : q ≡ Labelled.Is l e) where
+      -- the first column that is left, and its selector
+      pub record Next : Type 0 where
+        pub field : FirstAt y 16 tgt (m - i) to (C .columns) (labelAt tgt l) (e .at)
+        pub selector : FirstOf plan (C .count) at (C .selectors)
+        pub typed : Typed Γ (selector .head .tree) (labelAt tgt l .name) (dtypeOf (field .head .tree))
+        pub rest : TypedAll Γ (selector .tail .trees) (fieldsOf (field .tail .columns))
+
+      pub next : Next
+      unfolding fieldsOf
+      next =
+          let A = first-at (C .columns) (λ z. absurd (omega arith)) g h in
+          let (s, rs, k, d, ds) = typed-first (ap fieldsOf (A .is)) (C .typed) in
+          let F = first-of (C .selectors) (counted (C .selectors .trees) k (selectors-counted (C .count) (C .selectors))) in
+          let z : scons s rs ≡ scons (F .head .tree) (F .tail .trees) = sym k ∙ F .is in
+          let a : s ≡ F .head .tree = cc in
+          let b : rs ≡ F .tail .trees = cc in
+          record { field = A; selector = F; typed = subst (λ (x : Selector). Typed Γ x (labelAt tgt l .name) (dtypeOf (A .head .tree))) a d; rest = subst (λ (x : Selectors). TypedAll Γ x (fieldsOf (A .tail .columns))) b ds }
+
+      pub column-top : TopAt plan at Γ
+      column-top =
+          let N = next in
+          let P = N .selector .head in
+          record {
+            here = P;
+            ends = selector-back plan (C .bytes) 64 at (P .tree) (P .end) (P .reads) .stands .within;
+            small = C .small;
+            column = column (labelAt tgt l .name) (dtypeOf (N .field .head .tree));
+            passes = typed→check (N .typed);
+          }
+
+      pub column-type : TypeAt y 16 tgt (e .at)
+      column-type = next .field .head
+
+      module _ {r : Bool} (x : (T : TopAt plan at Γ) (Q : TypeAt y 16 tgt (e .at)) → r ≡ leaves (dtypeOf (Q .tree)) (λ p u. some (overflowing u) p (eval ρ (T .here .tree)))) where
+        column-clean : not (clean (eval ρ (next .selector .head .tree))) ≡ r
+        unfolding column-top
+        column-clean = let N = next in sym (x column-top (N .field .head) ∙ unclean (eval-over (N .typed) (C .fits)))
+
+        pub columning-found : r ≡ true → true ≡ b
+        columning-found k = sym (not-clean ρ (C .selectors .trees) (next .selector .is) (column-clean ∙ k)) ∙ C .is
+
+        pub columning-more : r ≡ false → {o u : ℕ} → ((P : SelectorAt plan at) → o ≡ P .end) → ((P : TypeAt y 16 tgt (e .at)) → u ≡ P .end) → Columning plan Γ ρ y tgt m b o u (i + 1)
+        columning-more k {o} {u} f w =
+            let N = next in
+            let A = N .field in
+            let F = N .selector in
+            let j : m - (i + 1) ≡ m - i - 1 = omega arith in
+            record {
+              within = omega arith;
+              fits = C .fits;
+              small = C .small;
+              bytes = C .bytes;
+              count = C .count - 1;
+              selectors = record { trees = F .tail .trees; end = F .tail .end; reads = ap (λ (z : ℕ). selectorsOf (selector deepestSelector) (C .count - 1) plan z) (f (F .head)) ∙ F .tail .reads };
+              columns = record {
+                columns = A .tail .columns;
+                end = A .tail .end;
+                reads = ap (λ (n : ℕ). columnsOf y Free (type y Free 16) n [] tgt u) j ∙ ap (λ (z : ℕ). columnsOf y Free (type y Free 16) (m - i - 1) [] tgt z) (w (A .head)) ∙ A .tail .reads;
+              };
+              typed = N .rest;
+              is = sym (not-clean ρ (C .selectors .trees) (F .is) (column-clean ∙ k)) ∙ C .is;
+            }
+
+-- of all that stand there
+abbrev pub Columnings : Version → Bytes → ℕ → ℕ → Bytes → Bytes → ℕ → Version → Bytes → ℕ → ℕ → ℕ → ℕ → ℕ → Type 0
+Columnings v lay n columns rec plan first y tgt m target at to i =
+    (X : RowAt v lay n columns rec 0) (D : ColumnsAt y 16 tgt m target) (P : PlanAt plan first (fieldsOf (X .columns .columns)) (fieldsOf (D .columns)))
+    → Columning plan (fieldsOf (X .columns .columns)) (X .values .values) y tgt m (not (cleanAll (evals (X .values .values) (P .selectors .trees)))) at to i
+
+pub columning-start : (v : Version) (lay : Bytes) (n columns : ℕ) (rec plan : Bytes) (first : ℕ) (y : Version) (tgt : Bytes) (m target : ℕ) → AllBytes rec → AllBytes plan
+    → Columnings v lay n columns rec plan first y tgt m target first target 0
+columning-start v lay n columns rec plan first y tgt m target o p X D P = record {
+  within = omega arith;
+  fits = row-over o X;
+  small = P .small;
+  bytes = p;
+  count = P .count;
+  selectors = P .selectors;
+  columns = record { columns = D .columns; end = D .end; reads = ap (λ (k : ℕ). columnsOf y Free (type y Free 16) k [] tgt target) (let e : m - 0 ≡ m = omega arith in e) ∙ D .reads };
+  typed = passed→typed (selectors-read plan p deepestSelector (P .count) first (P .starts) (P .selectors .reads) .formed) (P .passes);
+  is = refl;
+}

@@ -1,0 +1,15 @@
+pub mod Before
+pub mod Clean
+pub mod Scoped
+pub mod Moving
+pub mod Stopping
+pub mod Scaling
+pub mod Raw
+pub mod Scanning
+pub mod Asking
+pub mod Stops
+pub mod Meaning
+pub mod Seeking
+pub mod Paths
+pub mod Columns
+pub mod Samples

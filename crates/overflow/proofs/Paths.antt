@@ -1,0 +1,190 @@
+-- The paths to the date-time leaves of a type that stands in a layout, and what holds while they are asked for. Assumes nothing.
+use Prim.Native.Nat.{ℕ, _+_, _-_, _≤_, _<_}
+use mathlib.Core.Path.{_≡_, refl, sym, ap, _∙_, subst}
+use mathlib.Core.Bool.{Bool, true, false, _||_}
+use mathlib.Core.List.{List, [], _∷_, _++_, append-nil, append-assoc}
+use native.Mathlib.Omega.{arith}
+use native.Mathlib.Numerals.{add-one}
+use lib.ListN.{length, set, length-set, length-replicate}
+use lib.Seq.{slice, take-suc-set}
+use Rattle.layout.specs.Bytes.{Bytes}
+use Rattle.layout.specs.Tree.{leafOf, Label, DataType, Fields, ColumnType, Columns, cnil, ccons, dtypeOf, fieldsOf}
+use Rattle.layout.specs.Layout.{kind, label, elementLabel, columns as columnsOf, type}
+use Rattle.layout.specs.Answers.{headRes, leafAt, labelRes, labelAt}
+use Rattle.layout.specs.Stands.{TypeAt, ColumnsAt}
+use Rattle.layout.specs.declared.leaf.TimeUnit.{TimeUnit}
+use Rattle.layout.specs.declared.cursor.Cursor.{Cursor}
+use Rattle.layout.specs.declared.types.Head.{Head}
+use Rattle.layout.specs.declared.types.LeafType.{LeafType as LeafSpan}
+use Rattle.layout.specs.declared.columns.Label.{Label as LabelSpan}
+use Rattle.layout.specs.declared.columns.Labelled.{Labelled}
+use Rattle.layout.specs.declared.columns.Siblings.the-variants.{Free}
+use Rattle.layout.specs.declared.version.Version.{Version}
+use Rattle.layout.proofs.View.{leaf-at, struct-at, list-at, array-at, FirstAt, first-at, first-labelled, no-column, same-columns}
+use Rattle.rules.proofs.LeafTypes.{leaf-of-type}
+use Rattle.values.specs.Value.{Values}
+use Rattle.plan.specs.Selector.{Selector}
+use Rattle.plan.specs.Run.{eval}
+use Rattle.nodes.specs.Raw.{RowAt}
+use Rattle.walk.specs.State.{state}
+use Rattle.walk.specs.Standing.{e-none, WalkAt}
+use Rattle.walk.specs.declared.walk.Walk.{Walk}
+use Rattle.overflow.specs.Want.{Small, widest, overflowing, timeOf}
+use Rattle.overflow.specs.Some.{some}
+use Rattle.overflow.specs.Leaves.{atLeaf, leaves, leavesFrom}
+use Rattle.overflow.specs.Seek.{Seeks}
+use Rattle.overflow.specs.Overflows.{TopAt, overAt, started}
+use Rattle.overflow.specs.declared.want.Timed.{Timed}
+use Rattle.overflow.specs.declared.want.Timed.the-variants.{In, Never}
+
+-- ---- a step more of a path
+
+module _ (path : List ℕ) (len k : ℕ) {below : List ℕ} (room : length path ≡ 64) (e : below ≡ set path len k) where
+  longer : len < 64 → slice 0 (len + 1) below ≡ slice 0 len path ++ (k ∷ [])
+  longer h = ap (λ (q : List ℕ). slice 0 (len + 1) q) e ∙ rw add-one (take-suc-set path len k (omega arith))
+
+  pub step-leaves : (ρ : Values) (s : Selector) (t : DataType) {r : Bool} → len < 64 → r ≡ leaves t (λ p u. overAt ρ s below (len + 1) p u) → r ≡ leaves t (λ p u. overAt ρ s path len (k ∷ p) u)
+  step-leaves ρ s t h g =
+      g ∙ (λ i. leaves t (λ p u. some (overflowing u) ((ap (λ (q : List ℕ). q ++ p) (longer h) ∙ append-assoc (slice 0 len path) (k ∷ []) p) i) (eval ρ s)))
+
+  pub step-room : length below ≡ 64
+  step-room = ap length e ∙ length-set path len k ∙ room
+
+-- ---- the walk to a leaf
+
+pub widest-small : Small widest
+widest-small = record { above = omega arith; below = omega arith }
+
+module _ {plan : Bytes} {top : ℕ} {Γ : Fields} (T : TopAt plan top Γ) {path : List ℕ} {len : ℕ} (room : length path ≡ 64) (short : len ≤ 64) where
+  standing : WalkAt plan (started top (length plan) path len) (state (T .here .tree) [] (slice 0 len path))
+  standing = record {
+    here = T .here;
+    selector = refl;
+    ends = T .ends;
+    bound = omega arith;
+    small = T .small;
+    entries = e-none;
+    deep = omega arith;
+    short = short;
+    room = (length-replicate {A = ℕ} 64 0, room);
+    path = refl;
+  }
+
+  module _ {w : Walk} (e : w ≡ started top (length plan) path len) where
+    pub leaf-seeks : Seeks plan w Γ
+    leaf-seeks = record {
+      selector = T .here .tree;
+      path = slice 0 len path;
+      standing = subst (λ (z : Walk). WalkAt plan z (state (T .here .tree) [] (slice 0 len path))) (sym e) standing;
+      column = T .column;
+      passes = T .passes;
+    }
+
+    pub leaf-over : (ρ : Values) (u : TimeUnit) {b : Bool} → ((S : Seeks plan w Γ) → b ≡ some (overflowing u) (S .path) (eval ρ (S .selector))) → b ≡ overAt ρ (T .here .tree) path len [] u
+    unfolding leaf-seeks
+    leaf-over ρ u h = h leaf-seeks ∙ ap (λ (p : List ℕ). some (overflowing u) p (eval ρ (T .here .tree))) (sym (append-nil (slice 0 len path)))
+
+-- ---- by what a type begins with
+
+time-kind : (s : Bytes) (l : LeafSpan) {q : Timed} → q ≡ timeOf (l .leaf) → q ≡ timeOf (leafOf (leafAt s l))
+time-kind s l g = g ∙ sym (ap timeOf (leaf-of-type (l .leaf) _))
+
+leaves-as : (f : List ℕ → TimeUnit → Bool) {t u : ColumnType} {b : Bool} → t ≡ u → b ≡ leaves (dtypeOf u) f → b ≡ leaves (dtypeOf t) f
+leaves-as f h g = g ∙ sym (ap (λ (t : ColumnType). leaves (dtypeOf t) f) h)
+
+module _ {v : Version} {d : ℕ} {s : Bytes} {at : ℕ} (Q : TypeAt v d s at) {p : Head} (e : headRes s p ≡ kind s at) (f : List ℕ → TimeUnit → Bool) where
+  module _ {l : LeafSpan} {c : Cursor} (h : p ≡ Head.Leaf l c) {q : Timed} (g : q ≡ timeOf (l .leaf)) where
+    pub time-leaves : {u : TimeUnit} {b : Bool} → q ≡ In u → b ≡ f [] u → b ≡ leaves (dtypeOf (Q .tree)) f
+    unfolding leaves dtypeOf atLeaf
+    time-leaves k x = leaves-as f (leaf-at Q e h .0) (x ∙ ap (λ (t : Timed). atLeaf t f) (sym k ∙ time-kind s l g))
+
+    pub never-leaves : q ≡ Never → false ≡ leaves (dtypeOf (Q .tree)) f
+    unfolding leaves dtypeOf atLeaf
+    never-leaves k = leaves-as f (leaf-at Q e h .0) (ap (λ (t : Timed). atLeaf t f) (sym k ∙ time-kind s l g))
+
+  pub struct-leaves : {n : ℕ} {c : Cursor} {b : Bool} → p ≡ Head.Struct n c → ((D : ColumnsAt v (d - 1) s n (c .at)) → b ≡ leavesFrom (fieldsOf (D .columns)) 0 f) → b ≡ leaves (dtypeOf (Q .tree)) f
+  unfolding leaves dtypeOf
+  struct-leaves h g = let S = struct-at Q e h in leaves-as f (S .is) (g (S .inner))
+
+  module _ {c : Cursor} {q : Labelled} (g : labelRes s q ≡ elementLabel v s (c .at)) {l : LabelSpan} {a : Cursor} (k : q ≡ Labelled.Is l a) {b : Bool}
+      (x : (P : TypeAt v (d - 1) s (a .at)) → b ≡ leaves (dtypeOf (P .tree)) (λ p u. f (0 ∷ p) u)) where
+    pub list-leaves : p ≡ Head.List c → b ≡ leaves (dtypeOf (Q .tree)) f
+    unfolding leaves dtypeOf
+    list-leaves h = let L = list-at Q e g h k in leaves-as f (L .is) (x (L .inner))
+
+    pub array-leaves : {w : ℕ} → p ≡ Head.Array w c → b ≡ leaves (dtypeOf (Q .tree)) f
+    unfolding leaves dtypeOf
+    array-leaves h = let L = array-at Q e g h k in leaves-as f (L .is) (x (L .inner))
+
+-- ---- the loop over a struct's columns: none of the first i of n has one
+
+pub record Fielding (v : Version) (d : ℕ) (s : Bytes) (n c : ℕ) (f : List ℕ → TimeUnit → Bool) (i at : ℕ) : Type 0 where
+  pub within : i ≤ n
+  pub whole : ColumnsAt v d s n c
+  pub left : ColumnsAt v d s (n - i) at
+  pub same : leavesFrom (fieldsOf (whole .columns)) 0 f ≡ leavesFrom (fieldsOf (left .columns)) i f
+
+pub fielding-none : {v : Version} {d : ℕ} {s : Bytes} {n c : ℕ} (f : List ℕ → TimeUnit → Bool) → ColumnsAt v d s n c → Fielding v d s n c f 0 c
+fielding-none {v} {d} {s} {n} {c} f P = record {
+  within = omega arith;
+  whole = P;
+  left = record { columns = P .columns; end = P .end; reads = ap (λ (k : ℕ). columnsOf v Free (type v Free d) k [] s c) (let e : n - 0 ≡ n = omega arith in e) ∙ P .reads };
+  same = refl;
+}
+
+from-none : (cs : Columns) (i : ℕ) (f : List ℕ → TimeUnit → Bool) → cs ≡ cnil → leavesFrom (fieldsOf cs) i f ≡ false
+unfolding leavesFrom fieldsOf
+from-none cs i f e = rw e
+
+from-first : (cs : Columns) (i : ℕ) (f : List ℕ → TimeUnit → Bool) {l : Label} {t : ColumnType} {ds : Columns} → cs ≡ ccons l t ds
+    → leavesFrom (fieldsOf cs) i f ≡ (leaves (dtypeOf t) (λ p u. f (i ∷ p) u) || leavesFrom (fieldsOf ds) (i + 1) f)
+unfolding leavesFrom fieldsOf
+from-first cs i f e = rw (e, add-one i)
+
+or-true : {a : Bool} (b : Bool) → a ≡ true → (a || b) ≡ true
+or-true b e = rw e
+
+or-false : {a : Bool} (b : Bool) → a ≡ false → (a || b) ≡ b
+or-false b e = rw e
+
+module _ {v : Version} {d : ℕ} {s : Bytes} {n c : ℕ} {f : List ℕ → TimeUnit → Bool} {i at : ℕ} (F : Fielding v d s n c f i at) where
+  fielded : (Q : ColumnsAt v d s n c) → leavesFrom (fieldsOf (Q .columns)) 0 f ≡ leavesFrom (fieldsOf (F .left .columns)) i f
+  fielded Q = ap (λ (cs : Columns). leavesFrom (fieldsOf cs) 0 f) (same-columns Q (F .whole) .0) ∙ F .same
+
+  pub fielding-all : n ≤ i → (Q : ColumnsAt v d s n c) → false ≡ leavesFrom (fieldsOf (Q .columns)) 0 f
+  fielding-all h Q = sym (fielded Q ∙ from-none (F .left .columns) i f (no-column (F .left) (omega arith) .0))
+
+  module _ (lt : i < n) {q : Labelled} (g : labelRes s q ≡ label v s at) where
+    pub fielding-labelled : {B : Type 0} {k : ℕ} → q ≡ Labelled.Refused k → B
+    fielding-labelled h = first-labelled (F .left) (λ z. absurd (omega arith)) g h
+
+    module _ {l : LabelSpan} {e : Cursor} (h : q ≡ Labelled.Is l e) where
+      field : FirstAt v d s (n - i) at (F .left) (labelAt s l) (e .at)
+      field = first-at (F .left) (λ z. absurd (omega arith)) g h
+
+      pub fielding-type : TypeAt v d s (e .at)
+      fielding-type = field .head
+
+      module _ {r : Bool} (x : (P : TypeAt v d s (e .at)) → r ≡ leaves (dtypeOf (P .tree)) (λ p u. f (i ∷ p) u)) where
+        pub fielding-found : r ≡ true → (Q : ColumnsAt v d s n c) → true ≡ leavesFrom (fieldsOf (Q .columns)) 0 f
+        fielding-found k Q = sym (fielded Q ∙ from-first (F .left .columns) i f (field .is) ∙ or-true _ (sym (x (field .head)) ∙ k))
+
+        pub fielding-more : r ≡ false → {m : ℕ} → ((P : TypeAt v d s (e .at)) → m ≡ P .end) → Fielding v d s n c f (i + 1) m
+        fielding-more k {m} w =
+            let A = field in
+            let u : n - (i + 1) ≡ n - i - 1 = omega arith in
+            record {
+              within = omega arith;
+              whole = F .whole;
+              left = record {
+                columns = A .tail .columns;
+                end = A .tail .end;
+                reads = ap (λ (j : ℕ). columnsOf v Free (type v Free d) j [] s m) u ∙ ap (λ (o : ℕ). columnsOf v Free (type v Free d) (n - i - 1) [] s o) (w (A .head)) ∙ A .tail .reads;
+              };
+              same = F .same ∙ from-first (F .left .columns) i f (A .is) ∙ or-false _ (sym (x (A .head)) ∙ k);
+            }
+
+-- of all that stand there
+abbrev pub Fieldings : Version → Bytes → ℕ → ℕ → Bytes → Bytes → ℕ → Version → ℕ → Bytes → ℕ → ℕ → List ℕ → ℕ → ℕ → ℕ → Type 0
+Fieldings v lay n columns rec plan top y d tgt m c path len i at =
+    (X : RowAt v lay n columns rec 0) (T : TopAt plan top (fieldsOf (X .columns .columns))) → Fielding y d tgt m c (λ p u. overAt (X .values .values) (T .here .tree) path len p u) i at

@@ -1,0 +1,107 @@
+-- S5 and S6 of document 01, as what `overflows` asks and promises: that it can be had, and what it comes to. Computed.
+use Prim.Native.Nat.{_≤_}
+use mathlib.Core.Path.{_≡_, refl}
+use mathlib.Core.Bool.{Bool, true, false, not}
+use mathlib.Core.List.{[], _∷_}
+use native.Mathlib.Omega.{arith}
+use lib.ListN.{length}
+use Rattle.layout.specs.Bytes.{Bytes, sameBytes}
+use Rattle.layout.specs.Parser.{Res, ok, next, choose, byte, chunk, u16}
+use Rattle.layout.specs.Tree.{datetime, leaf, Fields, Columns, cleaf, cnil, ccons, dtypeOf, fieldsOf, countFields}
+use Rattle.layout.specs.Layout.{text, unit, leafKind, datetimeKind, kindOf, kind, fieldId, label, repeatsAny, columns, body, type}
+use Rattle.layout.specs.Stands.{ColumnsAt}
+use Rattle.layout.specs.declared.leaf.TimeUnit.{TimeUnit}
+use Rattle.layout.specs.declared.leaf.TimeUnit.the-variants.{Nanoseconds, Milliseconds}
+use Rattle.layout.specs.declared.leaf.Leaf.the-variants.{Datetime}
+use Rattle.layout.specs.declared.columns.Siblings.the-variants.{Free}
+use Rattle.layout.specs.declared.version.Version.the-variants.{ByName}
+use Rattle.forms.specs.Form.{u16Bytes, textBytes, leafForm, kindForm, form, formFields, unitCode}
+use Rattle.forms.specs.Readable.{depthOf, depthOfFields}
+use Rattle.forms.specs.Same.{sameDtype, sameFields, sameLeaf}
+use Rattle.rules.specs.declared.outcome.CastOption.the-variants.{Strict}
+use Rattle.rules.specs.Zones.{zonesOf, readZone, isUtc}
+use Rattle.rules.specs.Chain.{chain}
+use Rattle.rules.specs.Pairs.{pairRule, castPasses}
+use Rattle.numeric.specs.Integers.{signed, pattern}
+use Rattle.numeric.specs.Times.{finer}
+use Rattle.values.specs.Value.{Values, vnumber, vnil, vcons}
+use Rattle.values.specs.Reading.{presence, nullable, little, contentBy, leafContent, content, values}
+use Rattle.plan.specs.Result.{accepted, _>>=_, demand, placed, answered}
+use Rattle.plan.specs.Selector.{position, cast, Selectors, snil, scons}
+use Rattle.plan.specs.Read.{dataType, castOption, knownOption, selectors, positionRest, castRest, selectorRest, selector, deepestSelector}
+use Rattle.plan.specs.Check.{columnAt, castFits, withinLimits, resulting, checkCast, typeOf, topTypes, against, check}
+use Rattle.plan.specs.Convert.{counted, rescaled, convertAs, convert}
+use Rattle.plan.specs.Run.{valueAt, castLeaf, castValue, eval, evals, clean, cleanAll}
+use Rattle.nodes.specs.Raw.{RowAt}
+use Rattle.overflow.specs.Overflows.{PlanAt}
+
+-- the column `t`, a date-time without a zone, of milliseconds and of nanoseconds
+abbrev lay : Bytes
+lay = 1 ∷ 0x74 ∷ 14 ∷ 2 ∷ 0 ∷ []
+
+abbrev target : Bytes
+target = 1 ∷ 0x74 ∷ 14 ∷ 0 ∷ 0 ∷ []
+
+-- position 0, cast strictly to nanoseconds
+abbrev plan : Bytes
+plan = 2 ∷ 0 ∷ 0 ∷ 0 ∷ 14 ∷ 0 ∷ 0 ∷ 1 ∷ []
+
+-- 9,223,372,036,854 and 9,223,372,036,855
+abbrev s5 : Bytes
+s5 = 1 ∷ 246 ∷ 90 ∷ 208 ∷ 123 ∷ 99 ∷ 8 ∷ 0 ∷ 0 ∷ []
+
+abbrev s6 : Bytes
+s6 = 1 ∷ 247 ∷ 90 ∷ 208 ∷ 123 ∷ 99 ∷ 8 ∷ 0 ∷ 0 ∷ []
+
+abbrev one : TimeUnit → Columns
+one u = ccons (record { name = 0x74 ∷ []; id = record { 0 = 0 } }) (cleaf (datetime u [])) cnil
+
+abbrev strict : Selectors
+strict = scons (cast (position (record { 0 = 0 })) (leaf (datetime Nanoseconds [])) Strict) snil
+
+-- opens every definition that the readings go through
+columns-computed : Bytes → Res Columns
+unfolding type kind kindOf leafKind datetimeKind unit body columns label text fieldId repeatsAny byte chunk u16 next choose
+columns-computed s = columns ByName Free (type ByName Free 16) 1 [] s 0
+
+values-computed : Bytes → Res Values
+unfolding fieldsOf dtypeOf presence nullable little contentBy leafContent content byte chunk next choose
+values-computed s = values (fieldsOf (one Milliseconds)) s 0
+
+plan-computed : Bytes → Res Selectors
+unfolding columns-computed dtypeOf selectors selector selectorRest positionRest castRest dataType castOption knownOption
+plan-computed s = selectors (selector deepestSelector) 1 s 0
+
+row : (rec : Bytes) (vs : Values) → values (fieldsOf (one Milliseconds)) rec 0 ≡ ok vs 9 → RowAt ByName lay 1 0 rec 0
+unfolding columns-computed
+row rec vs e = record { columns = record { columns = one Milliseconds; end = 5; reads = refl }; values = record { values = vs; end = 9; reads = e } }
+
+s5-row : RowAt ByName lay 1 0 s5 0
+unfolding values-computed
+s5-row = row s5 (vcons (vnumber (Datetime Milliseconds) 9223372036854) vnil) refl
+
+s6-row : RowAt ByName lay 1 0 s6 0
+unfolding values-computed
+s6-row = row s6 (vcons (vnumber (Datetime Milliseconds) 9223372036855) vnil) refl
+
+targeted : ColumnsAt ByName 16 target 1 0
+unfolding columns-computed
+targeted = record { columns = one Nanoseconds; end = 5; reads = refl }
+
+-- the plan passes the check
+planned : PlanAt plan 0 (fieldsOf (one Milliseconds)) (fieldsOf (one Nanoseconds))
+unfolding plan-computed check topTypes typeOf columnAt _>>=_ checkCast castFits castPasses pairRule chain zonesOf readZone isUtc sameBytes demand resulting withinLimits depthOf depthOfFields countFields form formFields leafForm kindForm textBytes u16Bytes unitCode placed answered against sameFields sameDtype sameLeaf fieldsOf dtypeOf
+planned = record { count = 1; selectors = record { trees = strict; end = 8; reads = refl }; starts = omega arith; small = omega arith; passes = refl }
+
+-- opens every definition that an answer goes through
+answer : Values → Selectors → Bool
+unfolding evals eval valueAt castValue castLeaf convert convertAs rescaled counted finer signed pattern clean cleanAll
+answer ρ ss = not (cleanAll (evals ρ ss))
+
+s5-fits : not (cleanAll (evals (s5-row .values .values) (planned .selectors .trees))) ≡ false
+unfolding s5-row row planned answer
+s5-fits = refl
+
+s6-overflows : not (cleanAll (evals (s6-row .values .values) (planned .selectors .trees))) ≡ true
+unfolding s6-row row planned answer
+s6-overflows = refl

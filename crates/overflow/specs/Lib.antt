@@ -1,0 +1,5 @@
+pub mod Want
+pub mod Some
+pub mod Leaves
+pub mod Seek
+pub mod Overflows

@@ -1,0 +1,219 @@
+// What stands in a value at a path that takes every element of the lists and arrays it goes through. The value stands in a record, or in a plan as a constant.
+ghost use mathlib.Core.Path.{_≡_};
+ghost use Prim.Native.Nat.{_<_, _≤_};
+ghost use lib.ListN.{length};
+ghost use lib.Seq.{slice};
+ghost use Rattle.nodes.specs.Raw.{RawAt, ElementsAt, ListOf, PresentAt};
+ghost use Rattle.overflow.specs.Want.{Small, SmallWant, isBeyond, isStruct, isFilled, meets};
+ghost use Rattle.overflow.specs.Some.{anyOf, somePart, some};
+use crate::want::Bounds;
+use crate::want::Timed;
+use crate::want::Want;
+use crate::want::count_beyond;
+use crate::want::time_of;
+use layout::columns::Labelled;
+use layout::cursor::Cursor;
+use layout::cursor::Moved;
+use layout::cursor::Short;
+use layout::leaf::TimeUnit;
+use layout::types::Head;
+use layout::version::Version;
+use nodes::raw::NodeAt;
+use nodes::raw::field_at;
+use values::leaf::Presence;
+use values::leaf::number_at;
+use values::leaf::read_presence;
+use values::read::read_element;
+
+// ---- a value that is present, at the path's end
+
+fn is_struct(lay: &[u8], v: Version, t: Cursor, rec: &[u8], c: Cursor) -> bool
+    requires { ⌜ PresentAt v (now lay) (t .at) (now rec) (c .at) ⌝ }
+    ensures { λ r. ⌜ ((X : PresentAt v (now (lay .entry)) (t .at) (now (rec .entry)) (c .at)) → r ≡ isStruct (X .content .tree)) ⌝ }
+{
+    match t.head(lay) {
+        Head::Leaf(_, _) => false,
+        Head::Struct(_, _) => true,
+        Head::List(_) => false,
+        Head::Array(_, _) => false,
+        Head::Refused(_) => false,
+    }
+}
+
+fn is_filled(lay: &[u8], v: Version, t: Cursor, rec: &[u8], c: Cursor) -> bool
+    requires { ⌜ PresentAt v (now lay) (t .at) (now rec) (c .at) ⌝ }
+    ensures { λ r. ⌜ ((X : PresentAt v (now (lay .entry)) (t .at) (now (rec .entry)) (c .at)) → r ≡ isFilled (X .content .tree)) ⌝ }
+{
+    match t.head(lay) {
+        Head::Leaf(_, _) => false,
+        Head::Struct(_, _) => false,
+        Head::List(_) => match c.short(rec) {
+            Short::Is(n, _) => 0 < n,
+            Short::Refused(_) => false,
+        },
+        Head::Array(w, _) => 0 < w,
+        Head::Refused(_) => false,
+    }
+}
+
+fn is_beyond(
+    lay: &[u8],
+    v: Version,
+    t: Cursor,
+    rec: &[u8],
+    c: Cursor,
+    d: Bounds,
+    u: TimeUnit,
+) -> bool
+    requires { ⌜ PresentAt v (now lay) (t .at) (now rec) (c .at) ⌝ }
+    requires { ⌜ Small d ⌝ }
+    ensures { λ r. ⌜ ((X : PresentAt v (now (lay .entry)) (t .at) (now (rec .entry)) (c .at)) → r ≡ isBeyond d u (X .content .tree)) ⌝ }
+{
+    match t.head(lay) {
+        Head::Leaf(l, _) => {
+            let leaf = l.leaf;
+            match time_of(leaf) {
+                Timed::In(r) => count_beyond(d, u, Timed::In(r), number_at(rec, c.at, 8)),
+                Timed::Never => false,
+            }
+        }
+        Head::Struct(_, _) => false,
+        Head::List(_) => false,
+        Head::Array(_, _) => false,
+        Head::Refused(_) => false,
+    }
+}
+
+fn present_meets(lay: &[u8], v: Version, t: Cursor, rec: &[u8], c: Cursor, want: Want) -> bool
+    requires { ⌜ PresentAt v (now lay) (t .at) (now rec) (c .at) ⌝ }
+    requires { ⌜ SmallWant want ⌝ }
+    ensures { λ r. ⌜ ((X : PresentAt v (now (lay .entry)) (t .at) (now (rec .entry)) (c .at)) → r ≡ meets want (X .content .tree)) ⌝ }
+{
+    match want {
+        Want::Parts => is_struct(lay, v, t, rec, c),
+        Want::Element => is_filled(lay, v, t, rec, c),
+        Want::Beyond(d, u) => is_beyond(lay, v, t, rec, c, d, u),
+    }
+}
+
+// ---- along the path
+
+// Whether one of the nodes at the rest of the path is such as is wanted.
+pub fn some_at(
+    lay: &[u8],
+    v: Version,
+    t: Cursor,
+    rec: &[u8],
+    c: Cursor,
+    path: [u16; 64],
+    from: usize,
+    len: usize,
+    want: Want,
+) -> bool
+    requires { ⌜ RawAt v (now lay) (t .at) (now rec) (c .at) ⌝ }
+    requires { ⌜ (from ≤ len) × (len ≤ length path) × SmallWant want ⌝ }
+    ensures { λ r. ⌜ ((X : RawAt v (now (lay .entry)) (t .at) (now (rec .entry)) (c .at)) → r ≡ some want (slice from len path) (X .value .tree)) ⌝ }
+{
+    match read_presence(rec, c) {
+        Presence::Null(_) => false,
+        Presence::Present(d) => {
+            if from == len {
+                present_meets(lay, v, t, rec, d, want)
+            } else {
+                some_part(lay, v, t, rec, d, path, from, len, want)
+            }
+        }
+        Presence::Refused(_) => false,
+    }
+}
+
+// The same of a value that is present, where the path is not at its end.
+fn some_part(
+    lay: &[u8],
+    v: Version,
+    t: Cursor,
+    rec: &[u8],
+    c: Cursor,
+    path: [u16; 64],
+    from: usize,
+    len: usize,
+    want: Want,
+) -> bool
+    requires { ⌜ PresentAt v (now lay) (t .at) (now rec) (c .at) ⌝ }
+    requires { ⌜ (from < len) × (len ≤ length path) × SmallWant want ⌝ }
+    ensures { λ r. ⌜ ((X : PresentAt v (now (lay .entry)) (t .at) (now (rec .entry)) (c .at)) → r ≡ some want (slice from len path) (X .content .tree)) ⌝ }
+{
+    match t.head(lay) {
+        Head::Leaf(_, _) => false,
+        Head::Struct(n, e) => match field_at(lay, v, n, e, rec, c, path[from]) {
+            NodeAt::At(f, d) => some_at(lay, v, f, rec, d, path, from + 1, len, want),
+            NodeAt::Null => false,
+        },
+        Head::List(e) => match e.element_label(lay, v) {
+            Labelled::Is(_, f) => some_listed(lay, v, f, rec, c, path, from + 1, len, want),
+            Labelled::Refused(_) => false,
+        },
+        Head::Array(w, e) => match e.element_label(lay, v) {
+            Labelled::Is(_, f) => some_element(lay, v, w, f, rec, c, path, from + 1, len, want),
+            Labelled::Refused(_) => false,
+        },
+        Head::Refused(_) => false,
+    }
+}
+
+// Of an element of a list that is present, from its count on.
+fn some_listed(
+    lay: &[u8],
+    v: Version,
+    t: Cursor,
+    rec: &[u8],
+    c: Cursor,
+    path: [u16; 64],
+    from: usize,
+    len: usize,
+    want: Want,
+) -> bool
+    requires { ⌜ ListOf v (now lay) (t .at) (now rec) (c .at) ⌝ }
+    requires { ⌜ (from ≤ len) × (len ≤ length path) × SmallWant want ⌝ }
+    ensures { λ r. ⌜ ((X : ListOf v (now (lay .entry)) (t .at) (now (rec .entry)) (c .at)) → r ≡ somePart 0 (λ x. some want (slice from len path) x) (X .content .tree)) ⌝ }
+{
+    match c.short(rec) {
+        Short::Is(n, d) => some_element(lay, v, n as u32, t, rec, d, path, from, len, want),
+        Short::Refused(_) => false,
+    }
+}
+
+// Of one of `n` elements.
+fn some_element(
+    lay: &[u8],
+    v: Version,
+    n: u32,
+    t: Cursor,
+    rec: &[u8],
+    c: Cursor,
+    path: [u16; 64],
+    from: usize,
+    len: usize,
+    want: Want,
+) -> bool
+    requires { ⌜ ElementsAt v (now lay) n (t .at) (now rec) (c .at) ⌝ }
+    requires { ⌜ (from ≤ len) × (len ≤ length path) × SmallWant want ⌝ }
+    ensures { λ r. ⌜ ((X : ElementsAt v (now (lay .entry)) n (t .at) (now (rec .entry)) (c .at)) → r ≡ anyOf (λ x. some want (slice from len path) x) (X .values .values)) ⌝ }
+{
+    let mut at = c.at;
+    let mut i: u32 = 0;
+    while i < n {
+        let d = Cursor { at };
+        if some_at(lay, v, t, rec, d, path, from, len, want) {
+            return true;
+        }
+        match read_element(lay, v, 16, t, rec, d) {
+            Moved::To(e) => {
+                at = e.at;
+            }
+            Moved::Refused(_) => return false,
+        }
+        i += 1;
+    }
+    false
+}

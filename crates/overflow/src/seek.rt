@@ -1,0 +1,68 @@
+// Whether a node of a selector's result is such as is wanted, at a path that takes every element of the lists and arrays it goes through.
+//
+// The walk goes back from the result to a column of the record or to a constant. A cast changes what is wanted of its input. A constant answers for itself; then it
+// only has to be found out whether it is run at all, which is asked of the input of the innermost mapping. Each selector is passed at most once, whatever the length
+// of the result.
+ghost use mathlib.Core.Path.{_≡_};
+ghost use Prim.Native.Nat.{_-_, _<_, _≤_};
+ghost use lib.ListN.{getD};
+ghost use Rattle.layout.specs.Tree.{fieldsOf};
+ghost use Rattle.plan.specs.Run.{eval};
+ghost use Rattle.nodes.specs.Raw.{RowAt};
+ghost use Rattle.overflow.specs.Want.{SmallWant};
+ghost use Rattle.overflow.specs.Some.{some};
+ghost use Rattle.overflow.specs.Seek.{Seeks, outer};
+use crate::stop::Stop;
+use crate::stop::at_stop;
+use crate::want::Want;
+use layout::cursor::Cursor;
+use layout::version::Version;
+use walk::walk::Walk;
+
+// To the input of the innermost mapping, with no path.
+fn outward(w: Walk) -> Walk
+    requires { ⌜ (0 < w .deep) × (w .deep ≤ 64) × (getD (w .maps) (w .deep - 1) 0 < w .at) ⌝ }
+    ensures { λ r. ⌜ r ≡ outer w ⌝ }
+{
+    let d = w.deep - 1;
+    let m = w.maps[d] as usize;
+    let mut next = w;
+    next.at = m + 1;
+    next.lim = w.at;
+    next.deep = d;
+    next.len = d;
+    next
+}
+
+pub fn seek(
+    lay: &[u8],
+    v: Version,
+    n: u16,
+    columns: Cursor,
+    rec: &[u8],
+    plan: &[u8],
+    w: Walk,
+    want: Want,
+) -> bool
+    requires { ⌜ ((X : RowAt v (now lay) n (columns .at) (now rec) 0) × Seeks (now plan) w (fieldsOf (X .columns .columns))) ⌝ }
+    requires { ⌜ SmallWant want ⌝ }
+    ensures { λ r. ⌜ ((X : RowAt v (now (lay .entry)) n (columns .at) (now (rec .entry)) 0) (S : Seeks (now (plan .entry)) w (fieldsOf (X .columns .columns))) → r ≡ some want (S .path) (eval (X .values .values) (S .selector))) ⌝ }
+{
+    let mut x = w;
+    let mut asks = want;
+    loop {
+        x = x.locate(plan);
+        match at_stop(lay, v, n, columns, rec, plan, x, asks) {
+            Stop::No => return false,
+            Stop::Yes => return true,
+            Stop::Input(next) => {
+                x = x.to_input();
+                asks = next;
+            }
+            Stop::Outward(next) => {
+                x = outward(x);
+                asks = next;
+            }
+        }
+    }
+}

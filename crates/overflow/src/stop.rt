@@ -1,0 +1,238 @@
+// Where a walk through a plan stops: whether what is wanted is found there, or what is to be asked next.
+ghost use mathlib.Core.Path.{_≡_};
+ghost use mathlib.Core.List.{[]};
+ghost use Prim.Native.Nat.{_≤_};
+ghost use lib.ListN.{length};
+ghost use lib.Seq.{slice};
+ghost use Rattle.layout.specs.Tree.{dtypeOf};
+ghost use Rattle.layout.specs.Stands.{TypeAt};
+ghost use Rattle.layout.specs.declared.version.Version.{Version as VersionOf};
+ghost use Rattle.layout.specs.Bytes.{Bytes};
+ghost use Rattle.plan.specs.Run.{valueAt};
+ghost use Rattle.plan.specs.Selector.{position};
+ghost use Rattle.nodes.specs.Raw.{RowAt};
+ghost use Rattle.walk.specs.State.{State};
+ghost use Rattle.walk.specs.Standing.{WalkAt};
+ghost use Rattle.overflow.specs.Want.{SmallWant};
+ghost use Rattle.overflow.specs.Some.{some};
+ghost use Rattle.overflow.specs.Seek.{RawIn, answered, ranStop, constantStop, timeStop, castStop, structStop, listStop, stopOf};
+use crate::scan::some_at;
+use crate::want::Timed;
+use crate::want::Want;
+use crate::want::bounds_before;
+use crate::want::time_of;
+use layout::columns::Position;
+use layout::cursor::Cursor;
+use layout::types::Head;
+use layout::version::Version;
+use layout::walk::skip_type;
+use nodes::raw::NodeAt;
+use nodes::raw::column_value;
+use walk::head::SelectorHead;
+use walk::head::head;
+use walk::head::skip_selector;
+use walk::walk::Walk;
+
+// Found or not; or to be asked of the input of the transform, or of the input of the innermost mapping.
+pub enum Stop {
+    No,
+    Yes,
+    Input(Want),
+    Outward(Want),
+}
+
+fn answer(found: bool) -> Stop
+    ensures { λ r. ⌜ r ≡ answered found ⌝ }
+{
+    if found { Stop::Yes } else { Stop::No }
+}
+
+// In the record's column `k`, at a path.
+fn in_column(
+    lay: &[u8],
+    v: Version,
+    n: u16,
+    columns: Cursor,
+    rec: &[u8],
+    k: u16,
+    path: [u16; 64],
+    len: usize,
+    want: Want,
+) -> bool
+    requires { ⌜ RowAt v (now lay) n (columns .at) (now rec) 0 ⌝ }
+    requires { ⌜ (len ≤ length path) × SmallWant want ⌝ }
+    ensures { λ r. ⌜ ((X : RowAt v (now (lay .entry)) n (columns .at) (now (rec .entry)) 0) → r ≡ some want (slice 0 len path) (valueAt (X .values .values) k)) ⌝ }
+{
+    match column_value(lay, v, n, columns, rec, k) {
+        NodeAt::At(t, c) => some_at(lay, v, t, rec, c, path, 0, len, want),
+        NodeAt::Null => false,
+    }
+}
+
+// In a constant, whose type stands at `t`, at a path.
+fn in_constant(plan: &[u8], t: Cursor, path: [u16; 64], from: usize, len: usize, want: Want) -> bool
+    requires { ⌜ RawIn (now plan) (t .at) ⌝ }
+    requires { ⌜ (from ≤ len) × (len ≤ length path) × SmallWant want ⌝ }
+    ensures { λ r. ⌜ ((X : RawIn (now (plan .entry)) (t .at)) → r ≡ some want (slice from len path) (X .value .tree)) ⌝ }
+{
+    let c = skip_type(plan, Version::ByName, 16, t);
+    some_at(plan, Version::ByName, t, plan, c, path, from, len, want)
+}
+
+// Of what is asked where a constant is found: whether it is run.
+fn ran(plan: &[u8], w: Walk) -> Stop
+    requires { ⌜ ((x : State) × WalkAt (now plan) w x) ⌝ }
+    ensures { λ r. ⌜ ((x : State) → WalkAt (now (plan .entry)) w x → r ≡ ranStop (x .frames)) ⌝ }
+{
+    if w.deep == 0 {
+        return Stop::Yes;
+    }
+    let m = w.maps[w.deep - 1] as usize;
+    if plan[m] == 4 {
+        Stop::Outward(Want::Parts)
+    } else {
+        Stop::Outward(Want::Element)
+    }
+}
+
+// Before a cast to a date-time.
+fn before_time(t: Timed, want: Want) -> Stop
+    requires { ⌜ SmallWant want ⌝ }
+    ensures { λ r. ⌜ r ≡ timeStop t want ⌝ }
+{
+    match t {
+        Timed::In(c) => match want {
+            Want::Parts => Stop::No,
+            Want::Element => Stop::No,
+            Want::Beyond(d, u) => Stop::Input(Want::Beyond(bounds_before(d, c, u), c)),
+        },
+        Timed::Never => Stop::No,
+    }
+}
+
+// Before a cast to the type that stands at `t`.
+fn before_cast(plan: &[u8], t: Cursor, want: Want) -> Stop
+    requires { ⌜ TypeAt VersionOf.ByName 16 (now plan) (t .at) ⌝ }
+    requires { ⌜ SmallWant want ⌝ }
+    ensures { λ r. ⌜ ((T : TypeAt VersionOf.ByName 16 (now (plan .entry)) (t .at)) → r ≡ castStop [] (dtypeOf (T .tree)) want) ⌝ }
+{
+    match t.head(plan) {
+        Head::Leaf(l, _) => {
+            let leaf = l.leaf;
+            before_time(time_of(leaf), want)
+        }
+        Head::Struct(_, _) => Stop::No,
+        Head::List(_) => Stop::No,
+        Head::Array(_, _) => Stop::No,
+        Head::Refused(_) => Stop::No,
+    }
+}
+
+fn before_struct(want: Want) -> Stop
+    ensures { λ r. ⌜ r ≡ structStop [] want ⌝ }
+{
+    match want {
+        Want::Parts => Stop::Input(Want::Parts),
+        Want::Element => Stop::No,
+        Want::Beyond(_, _) => Stop::No,
+    }
+}
+
+fn before_list(want: Want) -> Stop
+    ensures { λ r. ⌜ r ≡ listStop want ⌝ }
+{
+    match want {
+        Want::Parts => Stop::No,
+        Want::Element => Stop::Input(Want::Element),
+        Want::Beyond(_, _) => Stop::No,
+    }
+}
+
+// ---- by the selector where the walk stands
+
+fn at_position(
+    lay: &[u8],
+    v: Version,
+    n: u16,
+    columns: Cursor,
+    rec: &[u8],
+    k: Position,
+    w: Walk,
+    want: Want,
+) -> Stop
+    requires { ⌜ RowAt v (now lay) n (columns .at) (now rec) 0 ⌝ }
+    requires { ⌜ (w .len ≤ length (w .path)) × SmallWant want ⌝ }
+    ensures { λ r. ⌜ ((X : RowAt v (now (lay .entry)) n (columns .at) (now (rec .entry)) 0) (plan : Bytes) (x : State) → WalkAt plan w x → x .selector ≡ position k → r ≡ stopOf (X .values .values) x want) ⌝ }
+{
+    if 0 < w.deep {
+        return Stop::No;
+    }
+    let i = k.0;
+    let path = w.path;
+    let len = w.len;
+    answer(in_column(lay, v, n, columns, rec, i, path, len, want))
+}
+
+// Whose type stands at `t`.
+fn at_constant(plan: &[u8], t: Cursor, w: Walk, want: Want) -> Stop
+    requires { ⌜ RawIn (now plan) (t .at) × ((x : State) × WalkAt (now plan) w x) ⌝ }
+    requires { ⌜ SmallWant want ⌝ }
+    ensures { λ r. ⌜ ((X : RawIn (now (plan .entry)) (t .at)) (x : State) → WalkAt (now (plan .entry)) w x → r ≡ constantStop (some want (x .path) (X .value .tree)) (x .frames)) ⌝ }
+{
+    let path = w.path;
+    let from = w.deep;
+    let len = w.len;
+    if in_constant(plan, t, path, from, len, want) {
+        ran(plan, w)
+    } else {
+        Stop::No
+    }
+}
+
+// Whose type stands at `t`.
+fn at_cast(plan: &[u8], t: Cursor, w: Walk, want: Want) -> Stop
+    requires { ⌜ TypeAt VersionOf.ByName 16 (now plan) (t .at) ⌝ }
+    requires { ⌜ SmallWant want ⌝ }
+    ensures { λ r. ⌜ ((T : TypeAt VersionOf.ByName 16 (now (plan .entry)) (t .at)) (x : State) → WalkAt (now (plan .entry)) w x → r ≡ castStop (x .path) (dtypeOf (T .tree)) want) ⌝ }
+{
+    if w.deep < w.len {
+        return Stop::No;
+    }
+    before_cast(plan, t, want)
+}
+
+fn at_struct(w: Walk, want: Want) -> Stop
+    ensures { λ r. ⌜ ((plan : Bytes) (x : State) → WalkAt plan w x → r ≡ structStop (x .path) want) ⌝ }
+{
+    if w.deep < w.len {
+        return Stop::No;
+    }
+    before_struct(want)
+}
+
+pub fn at_stop(
+    lay: &[u8],
+    v: Version,
+    n: u16,
+    columns: Cursor,
+    rec: &[u8],
+    plan: &[u8],
+    w: Walk,
+    want: Want,
+) -> Stop
+    requires { ⌜ RowAt v (now lay) n (columns .at) (now rec) 0 × ((x : State) × WalkAt (now plan) w x) ⌝ }
+    requires { ⌜ SmallWant want ⌝ }
+    ensures { λ r. ⌜ ((X : RowAt v (now (lay .entry)) n (columns .at) (now (rec .entry)) 0) (x : State) → WalkAt (now (plan .entry)) w x → r ≡ stopOf (X .values .values) x want) ⌝ }
+{
+    let c = Cursor { at: w.at };
+    match head(plan, c) {
+        SelectorHead::Position(k) => at_position(lay, v, n, columns, rec, k, w, want),
+        SelectorHead::Constant(_, t) => at_constant(plan, t, w, want),
+        SelectorHead::Cast(input) => at_cast(plan, skip_selector(plan, input), w, want),
+        SelectorHead::Rename(_) => Stop::Input(want),
+        SelectorHead::Struct(_) => at_struct(w, want),
+        SelectorHead::List(_) => before_list(want),
+        SelectorHead::Array(_) => before_list(want),
+        SelectorHead::Refused => Stop::No,
+    }
+}
