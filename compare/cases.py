@@ -347,7 +347,7 @@ GROUPS = [
 # --- the list ------------------------------------------------------------------------------------------------------------------
 
 
-CALLS = ("layout", "build_name", "build_number")
+CALLS = ("layout", "build_name", "build_number", "check", "run")
 
 # The words of a call's arguments, in the order of a line.
 ARGUMENTS = {

@@ -1,7 +1,7 @@
 /* The column selector for C and C++: the functions of libselector.a, which is made by `rt staticlib selector` for x86-64 Linux.
  *
  * A controller receives its neighbour's record, laid out as the neighbour lays it out, and puts every reading into its own layout. A
- * plan, built once from the two layouts, says how. docs/01 of the works gives the rules and
+ * plan, built once from the two layouts, says how; a run of the plan does it for one record. docs/01 of the works gives the rules and
  * byte forms; the numbers below are its refusals.
  *
  * Proved of every call, whatever the bytes that it is lent: it ends, reads nothing outside of them, writes nothing but the buffer that
@@ -20,6 +20,7 @@
  * accepted build or run is the result's length; of another accepted call it is 0. The rest of a refusal is its place:
  *   1 to 6              which layout or table was refused, counted from 1 in the order in which they are read;
  *   11 to 26, 28        the position of the target's top column, from 0;
+ *   31, 32              the number of the plan's top selector, from 0;
  *   all others          0.
  * The tests are made in the order in which document 01 gives them, and the first that applies is the answer.
  */
@@ -44,6 +45,8 @@ extern "C" {
 /* The most stack that a call takes, in bytes, as compiled here; compare/c/stack measures it. */
 #define SELECTOR_READ_STACK 8192
 #define SELECTOR_BUILD_STACK 114688
+#define SELECTOR_CHECK_STACK 262144
+#define SELECTOR_RUN_STACK 262144
 
 /* Refusals of a layout or a table of defaults. First its length is tested (4), then its mark and version (1). Then it is read forward
  * by byte, and the first of 2 to 5 that applies is the answer; 6 comes last. */
@@ -77,6 +80,21 @@ extern "C" {
 #define SELECTOR_PLAN_TOO_LONG 27        /* the plan is longer than the buffer or 65,536 bytes */
 #define SELECTOR_DEFAULT_TYPE 28         /* the default taken has a type unlike the field's (by number) */
 
+/* Refusals of a check, and so of a run. */
+#define SELECTOR_MALFORMED_PLAN 30   /* the plan's bytes are no plan: too long, wrong mark or version, an early end, an unknown code, a type or
+                                        value that breaks its rule, selectors nested over 64, or bytes left */
+#define SELECTOR_NO_SUCH_POSITION 31 /* a selector takes a position that is not there */
+#define SELECTOR_UNFIT_TRANSFORM 32  /* a transform does not fit its input, or its result is too deep or too large a type */
+#define SELECTOR_OTHER_LAYOUT 33     /* names, types or count of the columns made differ from the target's */
+
+/* Refusals of a run, after those of the check. */
+#define SELECTOR_RECORD_ENDS 40      /* the record ends early */
+#define SELECTOR_RECORD_BYTE 41      /* a bad presence or boolean byte in the record */
+#define SELECTOR_RECORD_LEFT 42      /* bytes of the record are left over */
+#define SELECTOR_RECORD_TOO_LONG 43  /* the record has more than 16,384 bytes */
+#define SELECTOR_OVERFLOW 44         /* a date-time that goes into the output is too large for its finer unit */
+#define SELECTOR_OUTPUT_TOO_LONG 45  /* the output exceeds the buffer or 16,384 bytes */
+
 /* The policy word: a bit each, 1 allows. All other bits are ignored. */
 #define SELECTOR_ALLOW_NULL_UPCAST (UINT32_C(1) << 0)
 #define SELECTOR_ALLOW_INTEGER_UPCAST (UINT32_C(1) << 1)
@@ -108,6 +126,16 @@ uint64_t selector_build_by_name(uint32_t policy, const uint8_t *incoming, size_t
  * defaults the source index, from 0, picks one. Refusals: 1 to 6, 10, 11, 13 to 28. Stack: SELECTOR_BUILD_STACK. */
 uint64_t selector_build_by_number(uint32_t policy, uint32_t source_index, const uint8_t *incoming, size_t incoming_length, const uint8_t *target,
                                   size_t target_length, const uint8_t *defaults, size_t defaults_length, uint8_t *plan, size_t plan_length);
+
+/* Checks that a plan takes records of the incoming layout to the target layout; the layouts are of either version. Refusals: 1 to 6, 30 to 33.
+ * Stack: SELECTOR_CHECK_STACK. */
+uint64_t selector_check_plan(const uint8_t *incoming, size_t incoming_length, const uint8_t *target, size_t target_length, const uint8_t *plan,
+                             size_t plan_length);
+
+/* Runs a plan over one record of the incoming layout and writes the record of the target layout. All of the check is made first. Refusals: those of the
+ * check, 40 to 45. A plan that passes the check, run over a record that fits, can only be refused with 44 or 45. Stack: SELECTOR_RUN_STACK. */
+uint64_t selector_run(const uint8_t *incoming, size_t incoming_length, const uint8_t *target, size_t target_length, const uint8_t *plan, size_t plan_length,
+                      const uint8_t *record, size_t record_length, uint8_t *output, size_t output_length);
 
 #ifdef __cplusplus
 }

@@ -1,11 +1,11 @@
-/* Replays the builds of a list of cases (its form: the head of crates/cases/stdin) through the C interface, then damages their
+/* Replays the builds, checks and runs of a list of cases (its form: the head of crates/cases/stdin) through the C interface, then damages their
  * inputs at random and holds the calls to what the header promises of every call.
  *
  *   calls LIST [ROUNDS [SEED]]
  *
  * Each input and the lent buffer ends right before a page that cannot be touched, and in a second pass begins right after one, so that a read or
  * write outside of it ends the program. Of damaged inputs it is tested that a refused call changes nothing of the buffer, that an accepted one changes no
- * byte after its result, and that the number is one of the call's.
+ * byte after its result, that the number is one of the call's, and that a plan which was built passes the check between its own layouts.
  * One line sums up; the exit status is 1 where anything differs. */
 #define _DEFAULT_SOURCE
 #include "selector.h"
@@ -16,7 +16,7 @@
 #include <sys/mman.h>
 #include <unistd.h>
 
-enum { INPUTS = 3, SPACE = 73728, FILL = 165 };
+enum { INPUTS = 4, SPACE = 73728, FILL = 165 };
 
 /* --- memory between pages that cannot be touched ------------------------------------------------------------------------------ */
 
@@ -38,9 +38,9 @@ static uint8_t *place(int i, size_t length, int before_end) { return before_end 
 
 /* --- a case ------------------------------------------------------------------------------------------------------------------- */
 
-enum kind { BUILD_NAME, BUILD_NUMBER, KINDS };
+enum kind { BUILD_NAME, BUILD_NUMBER, CHECK, RUN, KINDS };
 
-static const char *const names[KINDS] = {"build_name", "build_number"};
+static const char *const names[KINDS] = {"build_name", "build_number", "check", "run"};
 
 typedef struct {
     enum kind kind;
@@ -53,7 +53,7 @@ typedef struct {
 
 /* Calls with the inputs and the buffer at one side of their rooms. The buffer is filled before. */
 static uint64_t made(const call *c, int before_end) {
-    const uint8_t *in[INPUTS] = {rooms[0], rooms[1], rooms[2]};
+    const uint8_t *in[INPUTS] = {rooms[0], rooms[1], rooms[2], rooms[3]};
     for (int i = 0; i < c->inputs; i++) {
         uint8_t *to = place(i, c->length[i], before_end);
         memcpy(to, c->bytes[i], c->length[i]);
@@ -65,8 +65,12 @@ static uint64_t made(const call *c, int before_end) {
     switch (c->kind) {
     case BUILD_NAME:
         return selector_build_by_name(c->policy, in[0], n[0], in[1], n[1], out, c->space);
-    default:
+    case BUILD_NUMBER:
         return selector_build_by_number(c->policy, c->source_index, in[0], n[0], in[1], n[1], in[2], n[2], out, c->space);
+    case CHECK:
+        return selector_check_plan(in[0], n[0], in[1], n[1], in[2], n[2]);
+    default:
+        return selector_run(in[0], n[0], in[1], n[1], in[2], n[2], in[3], n[3], out, c->space);
     }
 }
 
@@ -98,15 +102,19 @@ static int parse(enum kind kind, char *rest, call *c, char **number, char **last
     c->kind = kind;
     c->space = 0;
     c->policy = c->source_index = 0;
-    c->inputs = kind == BUILD_NAME ? 2 : 3;
-    c->policy = (uint32_t)strtoul(word ? word : "", NULL, 10);
-    word = strtok(NULL, " ");
+    c->inputs = kind == BUILD_NAME ? 2 : kind == RUN ? 4 : 3;
+    if (kind == BUILD_NAME || kind == BUILD_NUMBER) {
+        c->policy = (uint32_t)strtoul(word ? word : "", NULL, 10);
+        word = strtok(NULL, " ");
+    }
     if (kind == BUILD_NUMBER) {
         c->source_index = (uint32_t)strtoul(word ? word : "", NULL, 10);
         word = strtok(NULL, " ");
     }
-    c->space = strtoul(word ? word : "", NULL, 10);
-    word = strtok(NULL, " ");
+    if (kind != CHECK) {
+        c->space = strtoul(word ? word : "", NULL, 10);
+        word = strtok(NULL, " ");
+    }
     for (int i = 0; i < c->inputs; i++) {
         if (word == NULL)
             return 0;
@@ -127,6 +135,8 @@ static void replay(unsigned long line, const call *c, const char *number, const 
         int agrees;
         if (due != 0) {
             agrees = given == ((uint64_t)due << 32) + strtoul(last, NULL, 10) && is_filled(out, c->space);
+        } else if (c->kind == CHECK) {
+            agrees = given == 0;
         } else {
             size_t n = decode(last, result);
             agrees = given == n && n <= c->space && memcmp(out, result, n) == 0 && is_filled(out + n, c->space - n);
@@ -196,16 +206,20 @@ static void damage(call *c) {
 
 /* Whether a call of the kind may answer with the number. */
 static int possible(enum kind kind, uint32_t n) {
-    int reading = n >= 1 && n <= 6;
+    int reading = n >= 1 && n <= 6, plan = n >= 30 && n <= 33;
     switch (kind) {
     case BUILD_NAME:
         return n == 0 || reading || (n >= 10 && n <= 24) || n == 27;
-    default:
+    case BUILD_NUMBER:
         return n == 0 || reading || n == 10 || n == 11 || (n >= 13 && n <= 28);
+    case CHECK:
+        return n == 0 || reading || plan;
+    default:
+        return n == 0 || reading || plan || (n >= 40 && n <= 45);
     }
 }
 
-/* What holds of every call. */
+/* What holds of every call, and of a plan that was built. */
 static int lawful(const call *c, int side) {
     uint64_t given = made(c, side);
     uint32_t number = SELECTOR_NUMBER(given);
@@ -214,11 +228,15 @@ static int lawful(const call *c, int side) {
         met[c->kind][number]++;
     if (!possible(c->kind, number))
         return 0;
+    if (c->kind == CHECK)
+        return number != 0 || given == 0;
     if (number != 0)
         return is_filled(out, c->space);
     size_t n = (size_t)given;
     accepted[c->kind]++;
-    return n <= c->space && is_filled(out + n, c->space - n);
+    if (n > c->space || !is_filled(out + n, c->space - n))
+        return 0;
+    return c->kind == RUN || selector_check_plan(place(0, c->length[0], side), c->length[0], place(1, c->length[1], side), c->length[1], out, n) == 0;
 }
 
 static void try_damaged(unsigned long line, const call *c, unsigned long rounds) {
@@ -285,6 +303,6 @@ int main(int count, char **words) {
                 printf(" %d:%lu", n, met[k][n]);
         printf("\n");
     }
-    printf("%lu cases, %lu damaged, %lu differ\n", cases[0] + cases[1], tried, differences);
+    printf("%lu cases, %lu damaged, %lu differ\n", cases[0] + cases[1] + cases[2] + cases[3], tried, differences);
     return differences != 0;
 }

@@ -1,5 +1,5 @@
 /* The stack that each call takes, measured on a thread's painted stack: over the cases of a list (its form: the head of crates/cases/stdin) and over the deepest
- * layouts. The exit status is 1 where a call takes more than include/selector.h says.
+ * layouts and plans. The exit status is 1 where a call takes more than include/selector.h says.
  *
  *   stack LIST
  */
@@ -12,12 +12,12 @@
 #include <string.h>
 #include <sys/mman.h>
 
-enum { SPACE = 73728, STACK = 1 << 20, PAINT = 0xA5, INPUTS = 3 };
+enum { SPACE = 73728, STACK = 1 << 20, PAINT = 0xA5, INPUTS = 4 };
 
-enum kind { BUILD_NAME, BUILD_NUMBER, KINDS };
+enum kind { BUILD_NAME, BUILD_NUMBER, CHECK, RUN, KINDS };
 
-static const char *const names[KINDS] = {"build_name", "build_number"};
-static const size_t said[KINDS] = {SELECTOR_BUILD_STACK, SELECTOR_BUILD_STACK};
+static const char *const names[KINDS] = {"build_name", "build_number", "check", "run"};
+static const size_t said[KINDS] = {SELECTOR_BUILD_STACK, SELECTOR_BUILD_STACK, SELECTOR_CHECK_STACK, SELECTOR_RUN_STACK};
 static size_t most[KINDS];
 
 static enum kind kind;
@@ -30,8 +30,14 @@ static void *call(void *unused) {
     case BUILD_NAME:
         selector_build_by_name(policy, bytes[0], length[0], bytes[1], length[1], buffer, space);
         break;
-    default:
+    case BUILD_NUMBER:
         selector_build_by_number(policy, source_index, bytes[0], length[0], bytes[1], length[1], bytes[2], length[2], buffer, space);
+        break;
+    case CHECK:
+        selector_check_plan(bytes[0], length[0], bytes[1], length[1], bytes[2], length[2]);
+        break;
+    default:
+        selector_run(bytes[0], length[0], bytes[1], length[1], bytes[2], length[2], bytes[3], length[3], buffer, space);
     }
     return unused;
 }
@@ -79,16 +85,20 @@ static size_t decode(const char *word, uint8_t *to) {
 
 static void one_case(enum kind k, char *rest) {
     char *word = strtok(rest, " ");
-    int inputs = k == BUILD_NAME ? 2 : 3;
+    int inputs = k == BUILD_NAME ? 2 : k == RUN ? 4 : 3;
     kind = k;
-    policy = (uint32_t)strtoul(word, NULL, 10);
-    word = strtok(NULL, " ");
+    if (k == BUILD_NAME || k == BUILD_NUMBER) {
+        policy = (uint32_t)strtoul(word, NULL, 10);
+        word = strtok(NULL, " ");
+    }
     if (k == BUILD_NUMBER) {
         source_index = (uint32_t)strtoul(word, NULL, 10);
         word = strtok(NULL, " ");
     }
-    space = strtoul(word, NULL, 10);
-    word = strtok(NULL, " ");
+    if (k != CHECK) {
+        space = strtoul(word, NULL, 10);
+        word = strtok(NULL, " ");
+    }
     for (int i = 0; i < inputs && word != NULL; i++) {
         length[i] = decode(word, bytes[i]);
         word = strtok(NULL, " ");
@@ -119,7 +129,7 @@ static void whole_list(const char *path) {
 
 /* --- the deepest layouts ------------------------------------------------------------------------------------------------------ */
 
-static void put(int i, uint32_t value, int count) {
+static void put(int i, uint64_t value, int count) {
     for (int k = 0; k < count; k++)
         bytes[i][length[i]++] = (uint8_t)(value >> (8 * k));
 }
@@ -160,6 +170,56 @@ static void deepest(void) {
         }
 }
 
+/* --- the deepest plans -------------------------------------------------------------------------------------------------------- */
+
+/* Selectors 64 deep, one inside another: fields of struct mappings (4), elements of list or array mappings (5, 6), or inputs of renames (3). Most are refused, but only once the
+ * innermost has been looked at. */
+static void nested_plan(uint32_t code, int levels) {
+    length[2] = 0;
+    put(2, 'P' | 'L' << 8 | 'N' << 16, 3);
+    put(2, 1, 2);
+    put(2, 1, 2);
+    for (int k = 1; k < levels; k++) {
+        put(2, code, 1);
+        if (code == 3)
+            continue;
+        put(2, 1, 2); /* a constant without a name */
+        if (code == 4)
+            put(2, 0x01000012, 4); /* a struct without fields, present */
+        else if (code == 5)
+            put(2, 0x00010213, 4); /* a list of int8, */
+        else
+            put(2, 0x0000000114, 5); /* an array of one */
+        if (code == 5)
+            put(2, 0, 1); /* which has no elements */
+        if (code == 6) {
+            put(2, 2, 1);
+            put(2, 0x0001, 2); /* int8, null */
+        }
+        if (code == 4)
+            put(2, 1, 2);
+    }
+    put(2, 1, 2);
+    put(2, 0x0002, 2); /* a null int8 */
+    for (int k = 1; k < levels && code == 3; k++)
+        put(2, 0, 1);
+}
+
+static void deepest_plans(void) {
+    for (uint32_t code = 3; code <= 6; code++)
+        for (int levels = 12; levels <= 64; levels += 26) {
+            nested(0, 1, 18, 15, 3);
+            nested(1, 1, 18, 15, 3);
+            nested_plan(code, levels);
+            kind = CHECK;
+            measure();
+            kind = RUN;
+            length[3] = 1;
+            bytes[3][0] = 0;
+            measure();
+        }
+}
+
 int main(int count, char **words) {
     if (count != 2)
         return 2;
@@ -167,6 +227,7 @@ int main(int count, char **words) {
     if (stack == MAP_FAILED)
         return 2;
     deepest();
+    deepest_plans();
     whole_list(words[1]);
     int within = 1;
     for (int k = 0; k < KINDS; k++) {

@@ -41,7 +41,8 @@ use Rattle.plan.specs.Read.{longestPlan}
 use Rattle.matching.specs.Default.{Defaults, noDefaults}
 use Rattle.matching.specs.Build.{buildFrom, build}
 use Rattle.plan.specs.Calls.{readAt}
-use Rattle.matching.specs.Calls.{sameVersion, ofVersion, bothLayouts, roomFor, writtenPlan, buildByName, buildByNumber, bufferAfter}
+use Rattle.plan.specs.Calls.{bufferAfter}
+use Rattle.matching.specs.Calls.{sameVersion, ofVersion, bothLayouts, roomFor, writtenPlan, buildByName, buildByNumber}
 use Rattle.matching.proofs.Calls.{of-version}
 use Rattle.calls.specs.Answers.{answerOf, BothAt, BothIs, columnsMade, WroteColumns, MakesColumns, planHead, written}
 use Rattle.calls.specs.declared.write.Build.{Build}

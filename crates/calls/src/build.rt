@@ -1,7 +1,8 @@
 // Building by name and by number: each call is total, and states its answer and the buffer by equation.
 ghost use mathlib.Core.Path.{_≡_};
 ghost use lib.ListN.{length};
-ghost use Rattle.matching.specs.Calls.{buildByName, buildByNumber, bufferAfter};
+ghost use Rattle.plan.specs.Calls.{bufferAfter};
+ghost use Rattle.matching.specs.Calls.{buildByName, buildByNumber};
 ghost use Rattle.calls.specs.Answers.{answerOf};
 use crate::layouts::BothRead;
 use crate::layouts::read_both;

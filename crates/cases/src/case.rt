@@ -5,6 +5,8 @@ use crate::answer::compared;
 use crate::answer::expected_answer;
 use crate::build::build_name_case;
 use crate::build::build_number_case;
+use crate::run::check_case;
+use crate::run::run_case;
 use crate::text::decode;
 use crate::text::is_hex;
 use crate::text::word;
@@ -14,6 +16,8 @@ pub enum Kind {
     Layout,
     BuildName,
     BuildNumber,
+    Check,
+    Run,
     Unknown,
 }
 
@@ -36,6 +40,12 @@ pub fn kind_of(line: &[u8]) -> Kind {
     if same_bytes(name, b"build_number") {
         return Kind::BuildNumber;
     }
+    if same_bytes(name, b"check") {
+        return Kind::Check;
+    }
+    if same_bytes(name, b"run") {
+        return Kind::Run;
+    }
     Kind::Unknown
 }
 
@@ -45,6 +55,8 @@ pub fn answer_word(kind: Kind) -> usize {
         Kind::Layout => 2,
         Kind::BuildName => 5,
         Kind::BuildNumber => 7,
+        Kind::Check => 4,
+        Kind::Run => 6,
         Kind::Unknown => 0,
     }
 }
@@ -54,6 +66,8 @@ pub fn replay_case(kind: Kind, line: &[u8]) -> Outcome {
         Kind::Layout => layout_case(line),
         Kind::BuildName => build_name_case(line),
         Kind::BuildNumber => build_number_case(line),
+        Kind::Check => check_case(line),
+        Kind::Run => run_case(line),
         Kind::Unknown => Outcome::Malformed,
     }
 }

@@ -5,6 +5,7 @@ mod build;
 mod case;
 mod replay;
 mod report;
+mod run;
 mod text;
 
 ghost use mathlib.Core.Path.{_≡_};

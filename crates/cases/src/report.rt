@@ -13,6 +13,8 @@ pub struct Tally {
     pub layout: u64,
     pub build_name: u64,
     pub build_number: u64,
+    pub check: u64,
+    pub run: u64,
     pub differ: u64,
 }
 
@@ -32,6 +34,8 @@ impl Tally {
             layout: 0,
             build_name: 0,
             build_number: 0,
+            check: 0,
+            run: 0,
             differ: 0,
         }
     }
@@ -52,6 +56,8 @@ impl Tally {
             Kind::Layout => t.layout = more(self.layout),
             Kind::BuildName => t.build_name = more(self.build_name),
             Kind::BuildNumber => t.build_number = more(self.build_number),
+            Kind::Check => t.check = more(self.check),
+            Kind::Run => t.run = more(self.run),
             Kind::Unknown => t.lines = self.lines,
         }
         t
@@ -67,7 +73,9 @@ impl Tally {
 
     fn agreed(self) -> u64 {
         let layouts = sum(self.layout, self.build_name);
-        sum(layouts, self.build_number)
+        let builds = sum(layouts, self.build_number);
+        let checks = sum(builds, self.check);
+        sum(checks, self.run)
     }
 
     // Counts an outcome, and writes a line unless the case agrees.
@@ -139,6 +147,8 @@ pub fn summary(t: Tally, whole: bool) {
     kind_line(b"layout", t.layout);
     kind_line(b"build_name", t.build_name);
     kind_line(b"build_number", t.build_number);
+    kind_line(b"check", t.check);
+    kind_line(b"run", t.run);
     put_number(sum(t.agreed(), t.differ));
     put(b" cases, ");
     put_number(t.differ);

@@ -139,7 +139,7 @@ version-ends s i {v} {j} e = go (sameBytes (take 5 s) (mark 1)) (sameBytes (take
     go false false e = clash (cc)
 
 -- the mark, the version and the count are there
-header : (s : Bytes) {l : Layout} {m : ℕ} → layout s ≡ ok l m → 7 ≤ length s
+pub header : (s : Bytes) {l : Layout} {m : ℕ} → layout s ≡ ok l m → 7 ≤ length s
 unfolding layout layoutFrom counted
 header s e =
     let (u, i, a, e) = next-ok _ _ e in

@@ -1,9 +1,8 @@
 -- Document 01, "Building by name" and "Building by number": a build over any bytes, with its refusals in their order.
 use Prim.Native.Nat.{ℕ}
 use mathlib.Core.Bool.{Bool, true, false, _&&_}
-use mathlib.Core.List.{_++_}
 use lib.Dec.{leb}
-use lib.ListN.{length, drop}
+use lib.ListN.{length}
 use Rattle.layout.specs.Bytes.{Bytes}
 use Rattle.layout.specs.Tree.{Layout, Columns}
 use Rattle.layout.specs.Layout.{layout}
@@ -51,8 +50,3 @@ unfoldable pub buildByNumber : Policy → ℕ → Bytes → Bytes → Bytes → 
 buildByNumber p index incoming target defaults room =
     bothLayouts ByNumber incoming target
     (λ a b. readAt 3 (table defaults) (λ es. answered (build ByNumber p (getDefaultValue es index) a b) (λ ss. writtenPlan room ss)))
-
--- a lent buffer after a call: the result from its start, the rest as it was; after a refusal all as it was
-abbrev pub bufferAfter : Answer Bytes → Bytes → Bytes
-bufferAfter (accepted b) out = b ++ drop (length b) out
-bufferAfter (refusedAt n k) out = out

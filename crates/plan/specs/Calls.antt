@@ -1,5 +1,7 @@
 -- Document 01, "Checking a plan" and "Running", over any bytes: the refusals in their order, with their places.
 use Prim.Native.Nat.{ℕ}
+use mathlib.Core.List.{_++_}
+use lib.ListN.{length, drop}
 use Rattle.layout.specs.Bytes.{Bytes}
 use Rattle.layout.specs.Parser.{Res, refuse, ok}
 use Rattle.layout.specs.Tree.{Fields, fieldsOf}
@@ -28,3 +30,8 @@ checkPlan incoming target bytes = readPlan incoming target bytes (λ Γ Δ ss. c
 unfoldable pub runPlan : Bytes → Bytes → Bytes → Bytes → ℕ → Answer Bytes
 runPlan incoming target bytes rec room =
     readPlan incoming target bytes (λ Γ Δ ss. answered (check Γ Δ ss) (λ x. readAt 0 (recordOf Γ rec) (λ ρ. run ρ ss room)))
+
+-- a lent buffer after a call: the result from its start, the rest as it was; after a refusal all as it was
+abbrev pub bufferAfter : Answer Bytes → Bytes → Bytes
+bufferAfter (accepted b) out = b ++ drop (length b) out
+bufferAfter (refusedAt n k) out = out

@@ -12,10 +12,14 @@ use Rattle.layout.proofs.Ways.{clash}
 use Rattle.layout.specs.Bytes.{Bytes}
 use Rattle.rules.specs.declared.policy.Policy.{Policy}
 use Rattle.plan.specs.Result.{Answer, accepted, refusedAt}
-use Rattle.matching.specs.Calls.{bufferAfter}
+use Rattle.plan.specs.Calls.{bufferAfter}
 use Rattle.calls.specs.Answers.{answerOf}
 use Rattle.calls.specs.declared.write.Build.{Build}
-use Rattle.selector.specs.Answer.{answer, readAnswer, writtenAnswer, buildAnswer}
+use Rattle.checker.specs.Tops.{planChecked}
+use Rattle.checker.specs.declared.tops.PlanChecked.{PlanChecked}
+use Rattle.run.specs.Answers.{runOf}
+use Rattle.run.specs.declared.run.Run.{Run}
+use Rattle.selector.specs.Answer.{answer, readAnswer, writtenAnswer, buildAnswer, checkedAnswer, checkAnswer, runAnswer}
 
 pub layout-accepted : (x : Res Layout) {r : LayoutRead} {v : Version} {n : ℕ} {c : Cursor} → r ≡ layoutOf x → r ≡ LayoutRead.Read v n c → 0 ≡ readAnswer x
 unfolding layoutOf
@@ -44,3 +48,27 @@ built-length {n = n} e = let z : n ≡ 0 + n = omega arith in z ∙ sym (ap buil
 
 pub built-refused : {b : Build} {n k r : ℕ} → b ≡ Build.Refused n k → r ≡ answer n k → r ≡ buildAnswer b
 built-refused e h = h ∙ sym (ap buildAnswer e)
+
+-- ---- the check
+
+pub checked-passed : {b : PlanChecked} → b ≡ PlanChecked.Passed → 0 ≡ checkAnswer b
+checked-passed e = sym (ap checkAnswer e)
+
+pub checked-refused : {b : PlanChecked} {n k r : ℕ} → b ≡ PlanChecked.Refused n k → r ≡ answer n k → r ≡ checkAnswer b
+checked-refused e h = h ∙ sym (ap checkAnswer e)
+
+pub check-answered : (x : Answer (Unit {0})) {b : PlanChecked} {r : ℕ} → b ≡ planChecked x → r ≡ checkAnswer b → r ≡ checkedAnswer x
+check-answered (accepted u) e h = h ∙ ap checkAnswer e
+check-answered (refusedAt n k) e h = h ∙ ap checkAnswer e
+
+-- ---- the run
+
+pub ran-length : {b : Run} {n : ℕ} → b ≡ Run.Written n → n ≡ runAnswer b
+ran-length {n = n} e = let z : n ≡ 0 + n = omega arith in z ∙ sym (ap runAnswer e)
+
+pub ran-refused : {b : Run} {n k r : ℕ} → b ≡ Run.Refused n k → r ≡ answer n k → r ≡ runAnswer b
+ran-refused e h = h ∙ sym (ap runAnswer e)
+
+pub run-answered : (x : Answer Bytes) {b : Run} {r : ℕ} → b ≡ runOf x → r ≡ runAnswer b → r ≡ writtenAnswer x
+run-answered (accepted u) e h = h ∙ ap runAnswer e
+run-answered (refusedAt n k) e h = h ∙ ap runAnswer e

@@ -5,14 +5,19 @@ ghost use Prim.Native.Nat.{_<_};
 ghost use lib.ListN.{length};
 ghost use Rattle.layout.specs.Layout.{layout};
 ghost use Rattle.rules.specs.Policies.{policyOf};
-ghost use Rattle.matching.specs.Calls.{buildByName, buildByNumber, bufferAfter};
-ghost use Rattle.selector.specs.Answer.{answer, readAnswer, buildAnswer, writtenAnswer};
+ghost use Rattle.plan.specs.Calls.{checkPlan, runPlan, bufferAfter};
+ghost use Rattle.matching.specs.Calls.{buildByName, buildByNumber};
+ghost use Rattle.selector.specs.Answer.{answer, readAnswer, buildAnswer, writtenAnswer, checkedAnswer, checkAnswer, runAnswer};
 use calls::build::build_by_name;
 use calls::build::build_by_number;
 use calls::write::Build;
+use checker::tops::PlanChecked;
+use checker::tops::check_plan;
 use layout::read::LayoutRead;
 use layout::read::read_layout;
 use rules::policy::Policy;
+use run::run::Run;
+use run::run::run_plan;
 
 fn refusal(number: u8, place: u32) -> u64
     ensures { λ r. ⌜ r ≡ answer number place ⌝ }
@@ -76,4 +81,43 @@ pub extern "C" fn selector_build_by_number(
         defaults,
         plan,
     ))
+}
+
+fn checked(check: PlanChecked) -> u64
+    ensures { λ r. ⌜ r ≡ checkAnswer check ⌝ }
+{
+    match check {
+        PlanChecked::Passed => 0,
+        PlanChecked::Refused(n, place) => refusal(n, place as u32),
+    }
+}
+
+#[no_mangle]
+pub extern "C" fn selector_check_plan(incoming: &[u8], target: &[u8], plan: &[u8]) -> u64
+    ensures { λ r. ⌜ r ≡ checkedAnswer (checkPlan (now (incoming .entry)) (now (target .entry)) (now (plan .entry))) ⌝ }
+{
+    checked(check_plan(incoming, target, plan))
+}
+
+fn ran(run: Run) -> u64
+    ensures { λ r. ⌜ r ≡ runAnswer run ⌝ }
+{
+    match run {
+        Run::Written(len) => len as u64,
+        Run::Refused(n, place) => refusal(n, place as u32),
+    }
+}
+
+#[no_mangle]
+pub extern "C" fn selector_run(
+    incoming: &[u8],
+    target: &[u8],
+    plan: &[u8],
+    rec: &[u8],
+    output: &mut [u8],
+) -> u64
+    ensures { λ r. ⌜ r ≡ writtenAnswer (runPlan (now (incoming .entry)) (now (target .entry)) (now (plan .entry)) (now (rec .entry)) (length (now (output .entry)))) ⌝ }
+    ensures { λ _. ⌜ now (output .exit) ≡ bufferAfter (runPlan (now (incoming .entry)) (now (target .entry)) (now (plan .entry)) (now (rec .entry)) (length (now (output .entry)))) (now (output .entry)) ⌝ }
+{
+    ran(run_plan(incoming, target, plan, rec, output))
 }

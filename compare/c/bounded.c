@@ -1,0 +1,161 @@
+/* Plans that ask for outputs far past any limit, some 10^33 bytes: nested list mappings over constant lists of hundreds of elements. A run must answer 44 or 45 at once. Tried are plans
+ * with and without an overflow inside, with an empty list on the way (so that what is inside is never run), and driven by an incoming list.
+ * The exit status is 1 where an answer is not the one due or takes more than a second. */
+#define _DEFAULT_SOURCE
+#include "selector.h"
+
+#include <stdio.h>
+#include <stdlib.h>
+#include <string.h>
+#include <time.h>
+
+enum { LEVELS = 14, ELEMENTS = 300 };
+
+typedef struct {
+    uint8_t bytes[SELECTOR_PLAN_MAX];
+    size_t length;
+} text;
+
+static void put(text *t, uint64_t value, int count) {
+    for (int i = 0; i < count; i++)
+        t->bytes[t->length++] = (uint8_t)(value >> (8 * i));
+}
+
+static void mark(text *t, const char *three, uint32_t count) {
+    t->length = 0;
+    memcpy(t->bytes, three, 3);
+    t->length = 3;
+    put(t, 1, 2);
+    put(t, count, 2);
+}
+
+/* A constant list of so many null bytes, without a name. */
+static void constant_list(text *t, int elements) {
+    put(t, 1, 1);
+    put(t, 0, 1);
+    put(t, 0x0213, 2); /* a list of int8 */
+    put(t, 1, 1);
+    put(t, (uint64_t)elements, 2);
+    for (int i = 0; i < elements; i++)
+        put(t, 0, 1);
+}
+
+/* One column of lists in lists of date-times in nanoseconds. */
+static void target_of(text *t, int levels) {
+    mark(t, "LAY", 1);
+    put(t, 0, 1);
+    for (int i = 0; i < levels; i++)
+        put(t, 19, 1);
+    put(t, 0x00000E, 3);
+}
+
+/* The incoming layout: one column without a name, a list of date-times in milliseconds. */
+static void incoming_of(text *t) {
+    mark(t, "LAY", 1);
+    put(t, 0, 1);
+    put(t, 19, 1);
+    put(t, 0x00020E, 3);
+}
+
+static void record_of(text *t, int elements, int64_t last) {
+    t->length = 0;
+    put(t, 1, 1);
+    put(t, (uint64_t)elements, 2);
+    for (int i = 0; i < elements; i++) {
+        put(t, 1, 1);
+        put(t, (uint64_t)(i + 1 == elements ? last : 0), 8);
+    }
+}
+
+/* Each level maps a constant list; the one at `empty` has no elements. The innermost gives a cast of a constant in milliseconds. */
+static void plan_of(text *t, int levels, int empty, int64_t milliseconds) {
+    mark(t, "PLN", 1);
+    for (int i = 0; i < levels; i++) {
+        put(t, 5, 1);
+        constant_list(t, i == empty ? 0 : ELEMENTS);
+    }
+    put(t, 2, 1); /* a cast */
+    put(t, 1, 1); /* of a constant without a name */
+    put(t, 0, 1);
+    put(t, 0x00020E, 3);
+    put(t, 1, 1);
+    put(t, (uint64_t)milliseconds, 8);
+    put(t, 0x00000E, 3); /* to nanoseconds */
+    put(t, 1, 1);        /* Strict */
+}
+
+/* The outermost list is the incoming one. */
+static void driven_of(text *t, int levels) {
+    mark(t, "PLN", 1);
+    put(t, 5, 1);
+    put(t, 0, 1); /* position 0 */
+    put(t, 0, 2);
+    for (int i = 1; i < levels; i++) {
+        put(t, 5, 1);
+        constant_list(t, ELEMENTS);
+    }
+    put(t, 2, 1);
+    put(t, 1, 1);
+    put(t, 0, 1);
+    put(t, 0x00020E, 3);
+    put(t, 1, 1);
+    put(t, UINT64_C(9223372036855), 8);
+    put(t, 0x00000E, 3);
+    put(t, 1, 1);
+}
+
+/* The incoming list's own elements, cast. */
+static void cast_of(text *t) {
+    mark(t, "PLN", 1);
+    put(t, 5, 1);
+    put(t, 0, 1);
+    put(t, 0, 2);
+    put(t, 2, 1);
+    put(t, 0, 1);
+    put(t, 0, 2);
+    put(t, 0x00000E, 3);
+    put(t, 1, 1);
+}
+
+static text incoming, target, plan, record;
+static uint8_t output[SELECTOR_RECORD_MAX];
+static int failed;
+
+static void expect(const char *name, uint32_t number) {
+    struct timespec from, to;
+    clock_gettime(CLOCK_MONOTONIC, &from);
+    uint64_t answer = selector_run(incoming.bytes, incoming.length, target.bytes, target.length, plan.bytes, plan.length, record.bytes, record.length, output, sizeof output);
+    clock_gettime(CLOCK_MONOTONIC, &to);
+    double taken = (double)(to.tv_sec - from.tv_sec) * 1e3 + (double)(to.tv_nsec - from.tv_nsec) / 1e6;
+    printf("%s: %u after %.2f ms\n", name, SELECTOR_NUMBER(answer), taken);
+    if (SELECTOR_NUMBER(answer) != number || taken > 1000)
+        failed = 1;
+}
+
+int main(void) {
+    const int64_t fits = 9223372036854, exceeds = 9223372036855;
+    incoming_of(&incoming);
+    record_of(&record, 100, fits);
+    target_of(&target, LEVELS);
+    plan_of(&plan, LEVELS, -1, fits);
+    expect("300^14 elements, no overflow", 45);
+    plan_of(&plan, LEVELS, -1, exceeds);
+    expect("300^14 elements, an overflow in each", 44);
+    for (int empty = 0; empty < LEVELS; empty += 5) {
+        plan_of(&plan, LEVELS, empty, exceeds);
+        char name[80];
+        snprintf(name, sizeof name, "an empty list at level %d, an overflow inside", empty);
+        expect(name, empty == 0 ? 0 : 45);
+    }
+    driven_of(&plan, LEVELS);
+    expect("driven by an incoming list", 44);
+    record_of(&record, 0, 0);
+    expect("driven by an empty incoming list", 0);
+    target_of(&target, 1);
+    cast_of(&plan);
+    record_of(&record, 1000, fits);
+    expect("the incoming list's elements", 0);
+    record_of(&record, 1000, exceeds);
+    expect("the incoming list's elements, the last too large", 44);
+    return failed;
+}

@@ -1,0 +1,213 @@
+#!/usr/bin/env python3
+# Makes the folders of examples/: two layouts, the plan that a builder writes for them, a record, and what the run writes.
+#
+#   compare/examples.py
+#
+# Everything is spelled out below by document 01, without the library; .ci/run holds the library to these files (compare/c/examples.c builds each
+# plan again and runs it).
+import os
+import struct
+
+ROOT = os.path.dirname(os.path.dirname(os.path.abspath(__file__)))
+EXAMPLES = os.path.join(ROOT, "examples")
+
+INT8, INT16, INT32, INT64 = b"\x02", b"\x03", b"\x04", b"\x05"
+FLOAT32, FLOAT64 = b"\x0b", b"\x0c"
+STRING, CATEGORY = b"\x0f", b"\x11"
+NANOSECONDS, MILLISECONDS = 0, 2
+NONSTRICT, STRICT, OVERFLOWING = b"\x00", b"\x01", b"\x02"
+
+
+def u16(n):
+    return struct.pack("<H", n)
+
+
+def u32(n):
+    return struct.pack("<I", n)
+
+
+def text(s):
+    return bytes([len(s)]) + s.encode()
+
+
+# --- layouts
+
+
+def datetime(unit, zone=""):
+    return bytes([14, unit]) + text(zone)
+
+
+# A column by name, or with an id by number.
+def column(name, kind, ident=None):
+    return text(name) + (b"" if ident is None else u32(ident)) + kind
+
+
+def struct_of(*columns):
+    return b"\x12" + u16(len(columns)) + b"".join(columns)
+
+
+def list_of(element):
+    return b"\x13" + element
+
+
+def layout(version, *columns):
+    return b"LAY" + u16(version) + u16(len(columns)) + b"".join(columns)
+
+
+# --- plans
+
+
+def position(k):
+    return b"\x00" + u16(k)
+
+
+def constant(name, kind, value):
+    return b"\x01" + text(name) + kind + value
+
+
+def cast(selector, kind, option):
+    return b"\x02" + selector + kind + option
+
+
+def rename(selector, name):
+    return b"\x03" + selector + text(name)
+
+
+def struct_mapping(selector, *selectors):
+    return b"\x04" + selector + u16(len(selectors)) + b"".join(selectors)
+
+
+def list_mapping(selector, element):
+    return b"\x05" + selector + element
+
+
+def plan(*selectors):
+    return b"PLN" + u16(1) + u16(len(selectors)) + b"".join(selectors)
+
+
+# --- values
+
+NULL = b"\x00"
+
+
+def number(form, x):
+    return b"\x01" + struct.pack("<" + form, x)
+
+
+def string(s):
+    return b"\x01" + u16(len(s)) + s.encode()
+
+
+def present(*values):
+    return b"\x01" + b"".join(values)
+
+
+def many(*values):
+    return b"\x01" + u16(len(values)) + b"".join(values)
+
+
+# --- defaults
+
+
+def initial(ident, kind, value):
+    return u32(ident) + b"\x00" + kind + value
+
+
+def table(*entries):
+    return b"DEF" + u16(1) + u16(len(entries)) + b"".join(entries)
+
+
+# Each folder: what it shows, the policy word, and its files. With `defaults.def` the plan is built by number, for source 0.
+ALL_ON = 0x3FFF
+
+FOLDERS = {
+    "neighbour": (
+        "By number: a renamed and reordered date-time that is made finer, wider numbers, a struct whose fields change places, a list converted element by"
+        " element, a column filled by its default and one filled by null; two incoming columns are dropped.",
+        ALL_ON,
+        {
+            "incoming.lay": layout(
+                2,
+                column("pump", STRING, 1),
+                column("flow", INT16, 2),
+                column("opened", datetime(MILLISECONDS), 3),
+                column("battery", INT8, 4),
+                column("site", struct_of(column("lat", FLOAT32, 6), column("lon", FLOAT32, 7), column("depth", INT8, 8)), 5),
+                column("readings", list_of(column("element", INT16, 10)), 9),
+                column("operator", CATEGORY, 13),
+            ),
+            "target.lay": layout(
+                2,
+                column("opened_at", datetime(NANOSECONDS, "UTC"), 3),
+                column("pump", STRING, 1),
+                column("flow", INT32, 2),
+                column("strength", FLOAT64, 11),
+                column("site", struct_of(column("depth", INT16, 8), column("lat", FLOAT64, 6), column("lon", FLOAT64, 7)), 5),
+                column("readings", list_of(column("element", INT32, 10)), 9),
+                column("note", STRING, 12),
+            ),
+            "defaults.def": table(initial(11, FLOAT64, number("d", 26.5))),
+            "plan.pln": plan(
+                rename(cast(position(2), datetime(NANOSECONDS, "UTC"), STRICT), "opened_at"),
+                position(0),
+                cast(position(1), INT32, OVERFLOWING),
+                constant("strength", FLOAT64, number("d", 26.5)),
+                struct_mapping(
+                    position(4), cast(position(2), INT16, OVERFLOWING), cast(position(0), FLOAT64, NONSTRICT), cast(position(1), FLOAT64, NONSTRICT)
+                ),
+                list_mapping(position(5), cast(position(0), INT32, OVERFLOWING)),
+                constant("note", STRING, NULL),
+            ),
+            "record.bin": string("P7")
+            + number("h", -12)
+            + number("q", 1_700_000_000_123)
+            + number("b", 97)
+            + present(number("f", 45.5), number("f", -1.25), number("b", 3))
+            + many(number("h", 7), NULL, number("h", -300))
+            + string("night"),
+            "output.bin": number("q", 1_700_000_000_123_000_000)
+            + string("P7")
+            + number("i", -12)
+            + number("d", 26.5)
+            + present(number("h", 3), number("d", 45.5), number("d", -1.25))
+            + many(number("i", 7), NULL, number("i", -300))
+            + NULL,
+        },
+    ),
+    "older": (
+        "By name: the neighbour is older and lacks a column, which is filled by null; its pump number is widened (document 01's sample S1).",
+        ALL_ON,
+        {
+            "incoming.lay": layout(1, column("t", INT16)),
+            "target.lay": layout(1, column("t", INT32), column("s", STRING)),
+            "plan.pln": plan(cast(position(0), INT32, OVERFLOWING), constant("s", STRING, NULL)),
+            "record.bin": number("h", -2),
+            "output.bin": number("i", -2) + NULL,
+        },
+    ),
+    "overflow": (
+        "By name: a date-time in milliseconds that nanoseconds of 64 bits do not reach, so that the run is refused with 44 (sample S6).",
+        ALL_ON,
+        {
+            "incoming.lay": layout(1, column("at", datetime(MILLISECONDS))),
+            "target.lay": layout(1, column("at", datetime(NANOSECONDS))),
+            "plan.pln": plan(cast(position(0), datetime(NANOSECONDS), STRICT)),
+            "record.bin": number("q", 9_223_372_036_855),
+            "output.bin": b"refused 44\n",
+        },
+    ),
+}
+
+
+def main():
+    for name, (about, policy, files) in FOLDERS.items():
+        folder = os.path.join(EXAMPLES, name)
+        os.makedirs(folder, exist_ok=True)
+        with open(os.path.join(folder, "about.txt"), "w") as f:
+            f.write("%s\nPolicy word: %d.\n" % (about, policy))
+        for file, data in files.items():
+            with open(os.path.join(folder, file), "wb") as f:
+                f.write(data)
+
+
+main()

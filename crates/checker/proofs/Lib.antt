@@ -1,0 +1,17 @@
+pub mod Given
+pub mod Steps
+pub mod Room
+pub mod Outer
+pub mod Stops
+pub mod Fields
+pub mod Resolving
+pub mod Making
+pub mod Headed
+pub mod Parting
+pub mod Naming
+pub mod Fitting
+pub mod Alike
+pub mod Casting
+pub mod Checks
+pub mod Selecting
+pub mod Topping

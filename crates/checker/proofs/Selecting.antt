@@ -1,0 +1,395 @@
+-- The check of a selector from that of its input and its parts. Assumes nothing.
+use Prim.Native.Nat.{ℕ, zero, suc, _+_, _-_, _≤_, _<_}
+use mathlib.Core.Path.{_≡_, refl, sym, ap, _∙_, subst}
+use mathlib.Core.Bool.{Bool}
+use mathlib.Core.List.{[], _∷_}
+use native.Mathlib.Omega.{arith}
+use Rattle.layout.specs.Bytes.{Bytes}
+use Rattle.layout.specs.Tree.{DataType, leaf, struct, list, array, Fields, fcons, dtypeOf}
+use Rattle.layout.specs.Layout.{Kind}
+use Rattle.layout.specs.declared.bytes.Span.{Span}
+use Rattle.layout.specs.declared.columns.Position.{Position}
+use Rattle.layout.specs.declared.cursor.Cursor.{Cursor}
+use Rattle.layout.specs.declared.version.Version.{Version}
+use Rattle.forms.specs.Form.{headOf}
+use Rattle.plan.specs.Result.{Result, gives, refuses, _>>=_}
+use Rattle.plan.specs.Selector.{Selector, structMapping, listMapping, arrayMapping, Selectors, snil, scons, countSelectors, nesting}
+use Rattle.plan.specs.Check.{Column, columnAt, elementOf, structOf, listOf, arrayOf, withinLimits, resulting, checkCast, checkRename, checkStruct, checkList, checkArray, typeOf, typesOf}
+use Rattle.plan.specs.Reach.{SelectorAt as Nth, s-here, s-there}
+use Rattle.walk.specs.State.{Frame, fields, element, State, state}
+use Rattle.walk.specs.Moves.{Input, i-cast, i-rename, i-struct, i-list, i-array, Part, p-field, p-list, p-array}
+use Rattle.walk.specs.Types.{c-fields, c-list, c-array, a-here}
+use Rattle.walk.specs.Parts.{CastAt, RenameAt, StructAt, ListAt, ArrayAt, HeadIs}
+use Rattle.walk.specs.Standing.{WalkAt, rank, StepsTo}
+use Rattle.walk.specs.declared.walk.Walk.{Walk}
+use Rattle.walk.specs.declared.head.SelectorHead.{SelectorHead}
+use Rattle.walk.proofs.Heads.{is-position, is-constant}
+use Rattle.checker.specs.Shallow.{Shallow}
+use Rattle.checker.specs.Same.{codeOf}
+use Rattle.checker.specs.Standing.{headKind, TypeHeadIs, TypedAt, made-struct, made-list, made-array, MappedAt, ResolvedAt, ScopedAt}
+use Rattle.checker.specs.Checking.{checkedOf, fittingOf, CheckingAt, MappingAt, Elements, of-list, of-array, fieldsResult, elementResult}
+use Rattle.checker.specs.declared.selector.Checked.{Checked}
+use Rattle.checker.specs.declared.place.TypeHead.{TypeHead}
+use Rattle.checker.specs.declared.resolve.Source.{Source}
+use Rattle.checker.specs.declared.resolve.Resolved.{Resolved}
+use Rattle.checker.proofs.Room.{cast-shallow, rename-shallow, struct-shallow, list-shallow, array-shallow, field-shallow, element-shallow, array-element-shallow, entries-count}
+use Rattle.checker.proofs.Resolving.{selected}
+use Rattle.checker.proofs.Making.{nth-there}
+use Rattle.checker.proofs.Checks.{result-is, bind-refused, bind-gives, passed-gives}
+use Rattle.checker.proofs.Outer.{behind}
+
+abbrev ToInput : Walk → Walk → Type 0
+ToInput w x = (p : Bytes) (z : State) (s : Selector) → WalkAt p w z → Input (z .selector) s → StepsTo p (state s (z .frames) (z .path)) w x
+
+abbrev ToChild : Bytes → Walk → ℕ → Walk → Type 0
+ToChild plan w k x = (z : State) (f : Frame) (s : Selector) → WalkAt plan w z → z .path ≡ [] → Part (z .selector) k f s → StepsTo plan (state s (f ∷ z .frames) []) w x
+
+abbrev Answers : Bytes → Version → ℕ → Bytes → Walk → Checked → Type 0
+Answers incoming v n plan x r = (s : Selector) (Δ : Fields) → CheckingAt incoming v n plan x s Δ → r ≡ checkedOf (typeOf Δ s)
+
+-- ---- the selector where the walk stands
+
+module _ {incoming : Bytes} {v : Version} {n : ℕ} {plan : Bytes} {w : Walk} {s : Selector} {Δ : Fields} (C : CheckingAt incoming v n plan w s Δ) where
+  pub checking-before : w .at < w .lim
+  checking-before = let b = behind (C .standing .here) in omega (arith, C .standing .ends)
+
+  pub checking-scope : ScopedAt incoming v n plan w Δ
+  checking-scope = record { columns = C .columns; place = state s (C .frames) []; standing = C .standing; shallow = C .shallow; scoped = C .scoped }
+
+  stands-for : {t : Selector} → C .standing .here .tree ≡ t → s ≡ t
+  stands-for e = sym (C .standing .selector) ∙ e
+
+  typed-for : {t : Selector} → C .standing .here .tree ≡ t → typeOf Δ s ≡ typeOf Δ t
+  typed-for e = ap (λ (x : Selector). typeOf Δ x) (stands-for e)
+
+  module _ {r : SelectorHead} (h : HeadIs plan (w .at) (C .standing .here) r) where
+    pub checks-position : {k : Position} {q : Checked} → r ≡ SelectorHead.Position k → q ≡ checkedOf (columnAt Δ (k .0)) → q ≡ checkedOf (typeOf Δ s)
+    unfolding typeOf
+    checks-position e f = f ∙ ap checkedOf (sym (typed-for (is-position h e .1)))
+
+    pub checks-constant : {b : Span} {c : Cursor} → r ≡ SelectorHead.Constant b c → Checked.Passed ≡ checkedOf (typeOf Δ s)
+    unfolding typeOf
+    checks-constant e = ap checkedOf (sym (typed-for (is-constant h e .is)))
+
+  -- ---- its input
+
+  -- s transforms what i gives by f
+  pub record Transforms (i : Selector) (f : Column → Result Column) : Type 0 where
+    pub takes : Input s i
+    pub shallow : Shallow (state i (C .frames) [])
+    pub typed : typeOf Δ s ≡ (typeOf Δ i >>= f)
+
+  pub by-cast : {m : ℕ} (K : CastAt plan (w .at) (C .standing .here) m) → Transforms (K .input .tree) (checkCast (dtypeOf (K .type .tree)) (K .option .option))
+  unfolding typeOf
+  by-cast K = record {
+    takes = subst (λ (x : Selector). Input x (K .input .tree)) (sym (stands-for (K .is))) i-cast;
+    shallow = cast-shallow (selected (stands-for (K .is)) (C .shallow));
+    typed = typed-for (K .is);
+  }
+
+  pub by-rename : {m : ℕ} (K : RenameAt plan (w .at) (C .standing .here) m) → Transforms (K .input .tree) (checkRename (K .name .bytes))
+  unfolding typeOf
+  by-rename K = record {
+    takes = subst (λ (x : Selector). Input x (K .input .tree)) (sym (stands-for (K .is))) i-rename;
+    shallow = rename-shallow (selected (stands-for (K .is)) (C .shallow));
+    typed = typed-for (K .is);
+  }
+
+  pub by-struct : {m : ℕ} (K : StructAt plan (w .at) (C .standing .here) m) → Transforms (K .input .tree) (checkStruct (λ fs. typesOf fs (K .fields .selectors .trees)))
+  unfolding typeOf
+  by-struct K = record {
+    takes = subst (λ (x : Selector). Input x (K .input .tree)) (sym (stands-for (K .is))) i-struct;
+    shallow = struct-shallow (selected (stands-for (K .is)) (C .shallow));
+    typed = typed-for (K .is);
+  }
+
+  pub by-list : {m : ℕ} (K : ListAt plan (w .at) (C .standing .here) m) → Transforms (K .input .tree) (checkList (λ fs. typeOf fs (K .element .tree)))
+  unfolding typeOf
+  by-list K = record {
+    takes = subst (λ (x : Selector). Input x (K .input .tree)) (sym (stands-for (K .is))) i-list;
+    shallow = list-shallow (selected (stands-for (K .is)) (C .shallow));
+    typed = typed-for (K .is);
+  }
+
+  pub by-array : {m : ℕ} (K : ArrayAt plan (w .at) (C .standing .here) m) → Transforms (K .input .tree) (checkArray (λ fs. typeOf fs (K .element .tree)))
+  unfolding typeOf
+  by-array K = record {
+    takes = subst (λ (x : Selector). Input x (K .input .tree)) (sym (stands-for (K .is))) i-array;
+    shallow = array-shallow (selected (stands-for (K .is)) (C .shallow));
+    typed = typed-for (K .is);
+  }
+
+  module _ {i : Selector} {f : Column → Result Column} (T : Transforms i f) {x : Walk} (g : ToInput w x) where
+    steps : StepsTo plan (state i (C .frames) []) w x
+    steps = g plan (state s (C .frames) []) i (C .standing) (T .takes)
+
+    checking-input : CheckingAt incoming v n plan x i Δ
+    checking-input = record { columns = C .columns; frames = C .frames; standing = steps .standing; shallow = T .shallow; scoped = C .scoped }
+
+    pub input-asks : (i : Selector) × (Δ : Fields) × CheckingAt incoming v n plan x i Δ
+    input-asks = (i, Δ, checking-input)
+
+    pub input-falls : rank x < rank w
+    input-falls = steps .falls
+
+    module _ {r : Checked} (h : Answers incoming v n plan x r) where
+      pub input-refused : {k : ℕ} → r ≡ Checked.Refused k → Checked.Refused k ≡ checkedOf (typeOf Δ s)
+      input-refused e = bind-refused (typeOf Δ i) f (sym (h i Δ checking-input) ∙ e) ∙ ap checkedOf (sym (T .typed))
+
+      module _ (e : r ≡ Checked.Passed) where
+        pub passed : (a : Column) × (typeOf Δ i ≡ gives a)
+        passed = passed-gives (typeOf Δ i) (sym (h i Δ checking-input) ∙ e)
+
+        pub input-typed : TypedAt incoming v n plan x (passed .0 .type)
+        input-typed = record {
+          columns = C .columns;
+          place = state i (C .frames) [];
+          standing = steps .standing;
+          shallow = T .shallow;
+          typed = record { scope = Δ; column = passed .0; scoped = C .scoped; passes = passed .1; along = a-here };
+        }
+
+        pub input-given : {q : Checked} → q ≡ checkedOf (f (passed .0)) → q ≡ checkedOf (typeOf Δ s)
+        input-given p = bind-gives (typeOf Δ i) f (passed .1) p ∙ ap checkedOf (sym (T .typed))
+
+        -- the mapping t, once the kind of its input is known
+        pub input-mapping : {t : Selector} {u : DataType} → C .standing .here .tree ≡ t → passed .0 .type ≡ u → MappingAt incoming v n plan w t i u
+        input-mapping {t} {u} p q = subst (λ (y : Selector). MappingAt incoming v n plan w y i u) (stands-for p)
+            (record { columns = C .columns; frames = C .frames; standing = C .standing; shallow = C .shallow; scope = Δ; scoped = C .scoped; column = passed .0; passes = passed .1; kind = q })
+
+-- ---- the kind of a mapping's input
+
+pub kind-code : {incoming plan : Bytes} {t : DataType} {h k : TypeHead} → TypeHeadIs incoming plan t h → h ≡ k → codeOf (headOf t) .code ≡ codeOf (headKind incoming plan k) .code
+kind-code {incoming} {plan} H e = ap (λ (j : Kind). codeOf j .code) (sym (H .kind)) ∙ ap (λ (x : TypeHead). codeOf (headKind incoming plan x) .code) e
+
+module _ (a : Column) where
+  pub no-struct : (f : Fields → Result Fields) → (codeOf (headOf (a .type)) .code ≡ 18 → ⊥) → Checked.Refused 32 ≡ checkedOf (checkStruct f a)
+  unfolding checkStruct structOf headOf _>>=_
+  no-struct f h = go (a .type) h
+    where
+      go : (t : DataType) → (codeOf (headOf t) .code ≡ 18 → ⊥) → Checked.Refused 32 ≡ checkedOf (structOf t >>= λ fs. f fs >>= λ gs. resulting (a .name) (struct gs))
+      go (leaf l) h = refl
+      go (struct fs) h = absurd (h refl)
+      go (list t) h = refl
+      go (array w t) h = refl
+
+  pub no-list : (f : Fields → Result Column) → (codeOf (headOf (a .type)) .code ≡ 19 → ⊥) → Checked.Refused 32 ≡ checkedOf (checkList f a)
+  unfolding checkList listOf headOf _>>=_
+  no-list f h = go (a .type) h
+    where
+      go : (t : DataType) → (codeOf (headOf t) .code ≡ 19 → ⊥) → Checked.Refused 32 ≡ checkedOf (listOf t >>= λ u. f (elementOf u) >>= λ d. resulting (a .name) (list (d .type)))
+      go (leaf l) h = refl
+      go (struct fs) h = refl
+      go (list t) h = absurd (h refl)
+      go (array w t) h = refl
+
+  pub no-array : (f : Fields → Result Column) → (codeOf (headOf (a .type)) .code ≡ 20 → ⊥) → Checked.Refused 32 ≡ checkedOf (checkArray f a)
+  unfolding checkArray arrayOf headOf _>>=_
+  no-array f h = go (a .type) h
+    where
+      go : (t : DataType) → (codeOf (headOf t) .code ≡ 20 → ⊥) → Checked.Refused 32 ≡ checkedOf (arrayOf t >>= λ b. f (elementOf (b .element)) >>= λ d. resulting (a .name) (array (b .width) (d .type)))
+      go (leaf l) h = refl
+      go (struct fs) h = refl
+      go (list t) h = refl
+      go (array w t) h = absurd (h refl)
+
+  pub a-rename : (n : Bytes) {r : Checked} → r ≡ checkedOf (resulting n (a .type)) → r ≡ checkedOf (checkRename n a)
+  unfolding checkRename
+  a-rename n e = e
+
+  pub a-struct : (ss : Selectors) {fs : Fields} → a .type ≡ struct fs → {r : Checked} → r ≡ checkedOf (fieldsResult fs ss (a .name)) → r ≡ checkedOf (checkStruct (λ fs. typesOf fs ss) a)
+  unfolding checkStruct structOf _>>=_
+  a-struct ss e f = rw e f
+
+  pub a-list : (e : Selector) {t : DataType} → a .type ≡ list t → {r : Checked} → r ≡ checkedOf (elementResult t e (λ u. list u) (a .name)) → r ≡ checkedOf (checkList (λ fs. typeOf fs e) a)
+  unfolding checkList listOf _>>=_
+  a-list s e f = rw e f
+
+  pub an-array : (e : Selector) {w : ℕ} {t : DataType} → a .type ≡ array w t → {r : Checked} → r ≡ checkedOf (elementResult t e (λ u. array w u) (a .name)) → r ≡ checkedOf (checkArray (λ fs. typeOf fs e) a)
+  unfolding checkArray arrayOf _>>=_
+  an-array s e f = rw e f
+
+module _ {incoming plan : Bytes} (a : Column) {h k : TypeHead} (H : TypeHeadIs incoming plan (a .type) h) (e : h ≡ k) where
+  pub head-no-struct : (f : Fields → Result Fields) → (codeOf (headKind incoming plan k) .code ≡ 18 → ⊥) → Checked.Refused 32 ≡ checkedOf (checkStruct f a)
+  head-no-struct f z = no-struct a f (λ q. z (sym (kind-code H e) ∙ q))
+
+  pub head-no-list : (f : Fields → Result Column) → (codeOf (headKind incoming plan k) .code ≡ 19 → ⊥) → Checked.Refused 32 ≡ checkedOf (checkList f a)
+  head-no-list f z = no-list a f (λ q. z (sym (kind-code H e) ∙ q))
+
+  pub head-no-array : (f : Fields → Result Column) → (codeOf (headKind incoming plan k) .code ≡ 20 → ⊥) → Checked.Refused 32 ≡ checkedOf (checkArray f a)
+  head-no-array f z = no-array a f (λ q. z (sym (kind-code H e) ∙ q))
+
+-- ---- a mapping is a level
+
+nests-struct : (i : Selector) (ss : Selectors) → 0 < nesting (structMapping i ss)
+unfolding nesting
+nests-struct i ss = omega arith
+
+nests-list : (i e : Selector) → 0 < nesting (listMapping i e)
+unfolding nesting
+nests-list i e = omega arith
+
+nests-array : (i e : Selector) → 0 < nesting (arrayMapping i e)
+unfolding nesting
+nests-array i e = omega arith
+
+-- the result of a mapping
+pub mapped-as : {incoming : Bytes} {v : Version} {n : ℕ} {plan : Bytes} {w : Walk} {c : Cursor} {q : Resolved} {t : DataType} → q ≡ record { source = Source.Mapped; at = c; walk = w } → MappedAt incoming v n plan w t → ResolvedAt incoming v n plan q t
+mapped-as {incoming} {v} {n} {plan} {t = t} e M = subst (λ (r : Resolved). ResolvedAt incoming v n plan r t) (sym e) (record { stands = M })
+
+-- ---- list and array mappings
+
+pub record ElementStep (incoming : Bytes) (v : Version) (n : ℕ) (plan : Bytes) (w : Walk) (t : DataType) (e : Selector) (x : Walk) : Type 0 where
+  pub checking : CheckingAt incoming v n plan x e (elementOf t)
+  pub falls : rank x < rank w
+
+module _ {incoming : Bytes} {v : Version} {n : ℕ} {plan : Bytes} {w : Walk} where
+  pub element-child-asks : {t : DataType} {e : Selector} {f : DataType → DataType} → Elements incoming v n plan w t e f → ((x : State) × WalkAt plan w x) × (w .deep < 64)
+  element-child-asks (of-list {i = i} {e = e} M) =
+      ((state (listMapping i e) (M .frames) [], M .standing), let a = entries-count (M .standing .entries) in let b = nests-list i e in omega (arith, M .shallow .here))
+  element-child-asks (of-array {i = i} {e = e} M) =
+      ((state (arrayMapping i e) (M .frames) [], M .standing), let a = entries-count (M .standing .entries) in let b = nests-array i e in omega (arith, M .shallow .here))
+
+  pub element-step : {t : DataType} {e : Selector} {f : DataType → DataType} {x : Walk} → Elements incoming v n plan w t e f → ToChild plan w 0 x → ElementStep incoming v n plan w t e x
+  element-step (of-list {i = i} {e = e} M) g =
+      let S = g (state (listMapping i e) (M .frames) []) (element i 0) e (M .standing) refl p-list in
+      record { checking = record { columns = M .columns; frames = element i 0 ∷ M .frames; standing = S .standing; shallow = element-shallow (M .shallow); scoped = c-list (M .scoped) (M .passes) (M .kind) }; falls = S .falls }
+  element-step (of-array {i = i} {e = e} M) g =
+      let S = g (state (arrayMapping i e) (M .frames) []) (element i 0) e (M .standing) refl p-array in
+      record { checking = record { columns = M .columns; frames = element i 0 ∷ M .frames; standing = S .standing; shallow = array-element-shallow (M .shallow); scoped = c-array (M .scoped) (M .passes) (M .kind) }; falls = S .falls }
+
+  pub element-made : {t : DataType} {e : Selector} {f : DataType → DataType} → Elements incoming v n plan w t e f → {d : Column} → typeOf (elementOf t) e ≡ gives d → MappedAt incoming v n plan w (f (d .type))
+  element-made (of-list M) h = record { columns = M .columns; place = _; standing = M .standing; shallow = M .shallow; made = made-list (M .scoped) (M .passes) (M .kind) h }
+  element-made (of-array M) h = record { columns = M .columns; place = _; standing = M .standing; shallow = M .shallow; made = made-array (M .scoped) (M .passes) (M .kind) h }
+
+  module _ {t : DataType} {e : Selector} {f : DataType → DataType} (E : Elements incoming v n plan w t e f) {x : Walk} (g : ToChild plan w 0 x) {r : Checked} (h : Answers incoming v n plan x r) where
+    pub element-refused : {k : ℕ} (name : Bytes) → r ≡ Checked.Refused k → Checked.Refused k ≡ checkedOf (elementResult t e f name)
+    element-refused name p = bind-refused (typeOf (elementOf t) e) (λ d. resulting name (f (d .type))) (sym (h e (elementOf t) (element-step E g .checking)) ∙ p)
+
+    module _ (p : r ≡ Checked.Passed) where
+      pub element-passed : (d : Column) × (typeOf (elementOf t) e ≡ gives d)
+      element-passed = passed-gives (typeOf (elementOf t) e) (sym (h e (elementOf t) (element-step E g .checking)) ∙ p)
+
+      pub element-given : (name : Bytes) {q : Checked} → q ≡ fittingOf (withinLimits (f (element-passed .0 .type))) → q ≡ checkedOf (elementResult t e f name)
+      element-given name o = bind-gives (typeOf (elementOf t) e) (λ d. resulting name (f (d .type))) (element-passed .1) (o ∙ result-is name (f (element-passed .0 .type)))
+
+-- ---- struct mappings
+
+unfoldable pub dropSelectors : ℕ → Selectors → Selectors
+dropSelectors zero ss = ss
+dropSelectors (suc k) snil = snil
+dropSelectors (suc k) (scons s ss) = dropSelectors k ss
+
+drop-nth : {ss : Selectors} {k : ℕ} {s : Selector} → Nth ss k s → dropSelectors k ss ≡ scons s (dropSelectors (suc k) ss)
+unfolding dropSelectors
+drop-nth s-here = refl
+drop-nth (s-there h) = drop-nth h
+
+drop-none : (ss : Selectors) (k : ℕ) → countSelectors ss ≤ k → dropSelectors k ss ≡ snil
+unfolding dropSelectors countSelectors
+drop-none snil zero h = refl
+drop-none snil (suc k) h = refl
+drop-none (scons s ss) zero h = absurd (omega arith)
+drop-none (scons s ss) (suc k) h = drop-none ss k (omega arith)
+
+-- the first refused, or passed
+types-refused : (fs : Fields) (s : Selector) (ss : Selectors) {n : ℕ} → checkedOf (typeOf fs s) ≡ Checked.Refused n → checkedOf (typesOf fs (scons s ss)) ≡ Checked.Refused n
+unfolding typesOf
+types-refused fs s ss e = sym (bind-refused (typeOf fs s) _ e)
+
+types-passed : (fs : Fields) (s : Selector) (ss : Selectors) → checkedOf (typeOf fs s) ≡ Checked.Passed → checkedOf (typesOf fs (scons s ss)) ≡ checkedOf (typesOf fs ss)
+unfolding typesOf _>>=_
+types-passed fs s ss e = let (a, q) = passed-gives (typeOf fs s) e in rw q (go a (typesOf fs ss))
+  where
+    go : (c : Column) (x : Result Fields) → checkedOf (x >>= λ gs. gives (fcons (c .name) (c .type) gs)) ≡ checkedOf x
+    go c (gives a) = refl
+    go c (refuses n) = refl
+
+pub record Passing (incoming : Bytes) (v : Version) (n : ℕ) (plan : Bytes) (w : Walk) (count k : ℕ) : Type 0 where
+  pub input : Selector
+  pub parts : Selectors
+  pub scope : Fields
+  pub start : MappingAt incoming v n plan w (structMapping input parts) input (struct scope)
+  pub counted : countSelectors parts ≡ count
+  pub within : k ≤ count
+  pub keeps : (i : Selector) (ss : Selectors) (fs : Fields) → MappingAt incoming v n plan w (structMapping i ss) i (struct fs) → countSelectors ss ≡ count
+      → checkedOf (typesOf fs ss) ≡ checkedOf (typesOf fs (dropSelectors k ss))
+
+module _ {incoming : Bytes} {v : Version} {n : ℕ} {plan : Bytes} {w : Walk} {count : ℕ} where
+  pub passing-start : {i : Selector} {ss : Selectors} {fs : Fields} → MappingAt incoming v n plan w (structMapping i ss) i (struct fs) → countSelectors ss ≡ count → Passing incoming v n plan w count 0
+  unfolding dropSelectors
+  passing-start {i} {ss} {fs} M c = record { input = i; parts = ss; scope = fs; start = M; counted = c; within = omega arith; keeps = λ j rs gs N d. refl }
+
+  module _ {k : ℕ} (O : Passing incoming v n plan w count k) where
+    pub passing-child-asks : ((x : State) × WalkAt plan w x) × (w .deep < 64)
+    passing-child-asks =
+        let M = O .start in
+        ((state (structMapping (O .input) (O .parts)) (M .frames) [], M .standing), let a = entries-count (M .standing .entries) in let b = nests-struct (O .input) (O .parts) in omega (arith, M .shallow .here))
+
+    module _ (h : k < count) {x : Walk} (g : ToChild plan w k x) where
+      record Child (ss : Selectors) (fs : Fields) : Type 0 where
+        part : Selector
+        nth : Nth ss k part
+        checking : CheckingAt incoming v n plan x part fs
+        falls : rank x < rank w
+
+      child : {i : Selector} {ss : Selectors} {fs : Fields} → MappingAt incoming v n plan w (structMapping i ss) i (struct fs) → countSelectors ss ≡ count → Child ss fs
+      child {i} {ss} {fs} M c =
+          let (s, N) = nth-there ss k (omega arith) in
+          let S = g (state (structMapping i ss) (M .frames) []) (fields i) s (M .standing) refl (p-field N) in
+          record {
+            part = s;
+            nth = N;
+            checking = record { columns = M .columns; frames = fields i ∷ M .frames; standing = S .standing; shallow = field-shallow N (M .shallow); scoped = c-fields (M .scoped) (M .passes) (M .kind) };
+            falls = S .falls;
+          }
+
+      pub passing-asks : (s : Selector) × (Δ : Fields) × CheckingAt incoming v n plan x s Δ
+      passing-asks = let N = child (O .start) (O .counted) in (N .part, O .scope, N .checking)
+
+      pub passing-falls : rank x < rank w
+      passing-falls = child (O .start) (O .counted) .falls
+
+      module _ {r : Checked} (f : Answers incoming v n plan x r) where
+        rest-is : {i : Selector} {ss : Selectors} {fs : Fields} (M : MappingAt incoming v n plan w (structMapping i ss) i (struct fs)) (c : countSelectors ss ≡ count)
+            → checkedOf (typesOf fs ss) ≡ checkedOf (typesOf fs (scons (child M c .part) (dropSelectors (suc k) ss)))
+        rest-is {i} {ss} {fs} M c = O .keeps i ss fs M c ∙ ap (λ (rs : Selectors). checkedOf (typesOf fs rs)) (drop-nth (child M c .nth))
+
+        pub passing-refused : {j : ℕ} → r ≡ Checked.Refused j → (i : Selector) (ss : Selectors) (fs : Fields) (name : Bytes) → MappingAt incoming v n plan w (structMapping i ss) i (struct fs) → countSelectors ss ≡ count
+            → Checked.Refused j ≡ checkedOf (fieldsResult fs ss name)
+        passing-refused e i ss fs name M c =
+            let N = child M c in
+            bind-refused (typesOf fs ss) (λ gs. resulting name (struct gs)) (rest-is M c ∙ types-refused fs (N .part) (dropSelectors (suc k) ss) (sym (f (N .part) fs (N .checking)) ∙ e))
+
+        pub passing-more : r ≡ Checked.Passed → Passing incoming v n plan w count (k + 1)
+        passing-more e = record {
+          input = O .input;
+          parts = O .parts;
+          scope = O .scope;
+          start = O .start;
+          counted = O .counted;
+          within = omega arith;
+          keeps = λ i ss fs M c.
+              let N = child M c in
+              let z : suc k ≡ k + 1 = omega arith in
+              rest-is M c ∙ types-passed fs (N .part) (dropSelectors (suc k) ss) (sym (f (N .part) fs (N .checking)) ∙ e) ∙ ap (λ (j : ℕ). checkedOf (typesOf fs (dropSelectors j ss))) z;
+        }
+
+    module _ (h : count ≤ k) where
+      all-passed : {i : Selector} {ss : Selectors} {fs : Fields} → MappingAt incoming v n plan w (structMapping i ss) i (struct fs) → countSelectors ss ≡ count → (gs : Fields) × (typesOf fs ss ≡ gives gs)
+      unfolding typesOf
+      all-passed {i} {ss} {fs} M c =
+          passed-gives (typesOf fs ss) (O .keeps i ss fs M c ∙ ap (λ (rs : Selectors). checkedOf (typesOf fs rs)) (drop-none ss k (omega arith)))
+
+      struct-made : {i : Selector} {ss : Selectors} {fs gs : Fields} → MappingAt incoming v n plan w (structMapping i ss) i (struct fs) → typesOf fs ss ≡ gives gs → MappedAt incoming v n plan w (struct gs)
+      struct-made M e = record { columns = M .columns; place = _; standing = M .standing; shallow = M .shallow; made = made-struct (M .scoped) (M .passes) (M .kind) e }
+
+      module _ {c : Cursor} {q : Resolved} (e : q ≡ record { source = Source.Mapped; at = c; walk = w }) where
+        pub passing-limits : (t : DataType) × ResolvedAt incoming v n plan q t
+        passing-limits = let (gs, p) = all-passed (O .start) (O .counted) in (struct gs, mapped-as e (struct-made (O .start) p))
+
+        pub passing-end : {r : Checked} {b : Bool} → r ≡ fittingOf b → ((t : DataType) → ResolvedAt incoming v n plan q t → b ≡ withinLimits t)
+            → (i : Selector) (ss : Selectors) (fs : Fields) (name : Bytes) → MappingAt incoming v n plan w (structMapping i ss) i (struct fs) → countSelectors ss ≡ count → r ≡ checkedOf (fieldsResult fs ss name)
+        passing-end f l i ss fs name M d =
+            let (gs, p) = all-passed M d in
+            bind-gives (typesOf fs ss) (λ gs. resulting name (struct gs)) p (f ∙ ap fittingOf (l (struct gs) (mapped-as e (struct-made M p))) ∙ result-is name (struct gs))

@@ -1,0 +1,31 @@
+-- `checker::head::width` meets its contract. Assumes nothing.
+use Rattle.checker.proofs.Headed.{Widening, mapped-before, widening-start, widening-asks, widening-incoming, widening-plan, widening-less, widening-again}
+use borrow.Author.Needs.{needs}
+use Rattle.walk.specs.Standing.{rank}
+use Rattle.checker.proofs.head.width.Statement.{statement}
+use Rattle.checker.proofs.head.width.Tie as tie
+
+abbrev Inv-loop : tie.InvT-loop
+Inv-loop incoming v n plan x₀ x = Widening incoming v n plan x₀ x
+
+abbrev μ-loop : tie.MeasureT-loop
+μ-loop incoming v n plan x₀ x = rank x
+
+pub width-spec : {M : Type 1} → statement M
+width-spec =
+    tie.close
+    (tie.spec
+    Inv-loop
+    μ-loop
+    (λ c. let (x, t, M) = c .before .before .pre in widening-start M)
+    (λ c κs. mapped-before (c .loop .inv .start))
+    (λ c κs. widening-asks (c .to-input .ensures) (c .before .loop .inv))
+    (λ c. search needs)
+    (λ c κs. search needs)
+    (λ c. widening-incoming (c .before .before .before .before .before .to-input .ensures) (c .before .before .before .before .before .before .loop .inv) (c .before .before .before .before .resolve .ensures) (c .before .enum-told .given .1) (c .raw-width .ensures))
+    (λ c. search needs)
+    (λ c κs. search needs)
+    (λ c. widening-plan (c .before .before .before .before .before .to-input .ensures) (c .before .before .before .before .before .before .loop .inv) (c .before .before .before .before .resolve .ensures) (c .before .enum-told2 .given .1) (c .raw-width2 .ensures))
+    (λ c. search needs)
+    (λ c. widening-less (c .before .before .before .before .before .to-input .ensures) (c .before .before .before .before .before .before .loop .inv) (c .before .before .before .before .resolve .ensures))
+    (λ c. widening-again (c .before .before .before .before .before .to-input .ensures) (c .before .before .before .before .before .before .loop .inv) (c .before .before .before .before .resolve .ensures) (c .before .enum-told3 .given .1)))

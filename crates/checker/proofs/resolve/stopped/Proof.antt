@@ -1,0 +1,32 @@
+-- `checker::resolve::stopped` meets its contract. Assumes nothing.
+use Rattle.walk.proofs.Heads.{is-cast, never-refused}
+use Rattle.checker.proofs.Resolving.{stop-column, stop-constant, stop-cast, stop-rename, stop-struct, stop-list, stop-array, stop-bounds}
+use borrow.Author.Needs.{needs}
+use Rattle.checker.proofs.resolve.stopped.Statement.{statement}
+use Rattle.checker.proofs.resolve.stopped.Tie as tie
+
+pub stopped-spec : {M : Type 1} → statement M
+stopped-spec =
+    tie.close
+    (tie.spec
+    (λ c κs. search needs)
+    (λ c. search needs)
+    (λ c κs. let (t, S) = c .before .before .before .before .before .before .before .pre in ((t, stop-column S (c .before .before .before .head .ensures (S .typed .standing .here)) (c .before .k .given .1)), stop-bounds S))
+    (λ c. search needs)
+    (λ c κs. let (t, S) = c .before .before .before .before .before .before .before .pre in ((t, stop-constant S (c .before .before .before .head .ensures (S .typed .standing .here)) (c .before .d .given .1)), stop-bounds S))
+    (λ c. search needs)
+    (λ c κs. search needs)
+    (λ c κs. let (t, S) = c .before .before .before .before .before .before .before .before .pre in let h = c .before .before .before .before .head .ensures (S .typed .standing .here) in ((t, stop-cast S h (c .before .before .d2 .given .1) (c .skip-selector .ensures (is-cast h (c .before .before .d2 .given .1) .input))), stop-bounds S))
+    (λ c. search needs)
+    (λ c. search needs)
+    (λ c. search needs)
+    (λ c. search needs)
+    (λ c. search needs)
+    (λ c. λ t S. record { answer = c .in-column .ensures t (stop-column S (c .before .before .before .before .head .ensures (S .typed .standing .here)) (c .before .before .k .given .1)) })
+    (λ c. λ t S. record { answer = c .type-at .ensures t (stop-constant S (c .before .before .before .before .head .ensures (S .typed .standing .here)) (c .before .before .d .given .1)) })
+    (λ c. λ t S. let h = c .before .before .before .before .before .head .ensures (S .typed .standing .here) in record { answer = c .type-at2 .ensures t (stop-cast S h (c .before .before .before .d2 .given .1) (c .before .skip-selector .ensures (is-cast h (c .before .before .before .d2 .given .1) .input))) })
+    (λ c. λ t S. stop-rename S (c .before .before .head .ensures (S .typed .standing .here)) (c .enum-told .given .1))
+    (λ c. λ t S. stop-struct S (c .before .before .head .ensures (S .typed .standing .here)) (c .enum-told2 .given .1))
+    (λ c. λ t S. stop-list S (c .before .before .head .ensures (S .typed .standing .here)) (c .enum-told3 .given .1))
+    (λ c. λ t S. stop-array S (c .before .before .head .ensures (S .typed .standing .here)) (c .enum-told4 .given .1))
+    (λ c. λ t S. never-refused (c .before .before .head .ensures (S .typed .standing .here)) (c .enum-told5 .given .1)))

@@ -1,0 +1,177 @@
+// The name of the column that a selector gives, where it has an effect: an element has none.
+ghost use mathlib.Core.Path.{_≡_};
+ghost use mathlib.Core.List.{[]};
+ghost use Prim.Native.Nat.{ℕ};
+ghost use Rattle.layout.specs.Bytes.{Bytes};
+ghost use Rattle.layout.specs.Tree.{DataType};
+ghost use Rattle.layout.specs.declared.version.Version.{Version as VersionOf};
+ghost use Rattle.plan.specs.Check.{Column};
+ghost use Rattle.nodes.specs.Typed.{TypeIs};
+ghost use Rattle.checker.specs.Standing.{bytesOf, NameAt, PartOf, ColumnOf, NamedAt, MappedAt, ResolvedAt, OwnNameIs, MappedNameIs};
+use crate::part::enclosing;
+use crate::place::Name;
+use crate::place::Place;
+use crate::resolve::Resolved;
+use crate::resolve::Source;
+use layout::bytes::Span;
+use layout::columns::Position;
+use layout::cursor::Cursor;
+use layout::find::Found;
+use layout::find::column_at;
+use layout::types::Head;
+use layout::version::Version;
+use walk::head::SelectorHead;
+use walk::head::head;
+use walk::head::rename_name;
+use walk::walk::Walk;
+
+// A selector's own name; that of its input; or that of a column or field, by its position.
+pub enum OwnName {
+    Is(Name),
+    Input,
+    Position(Position),
+}
+
+// A field's name; or that of the column that a mapping's selector for it gives.
+pub enum PartName {
+    Is(Name),
+    Child,
+}
+
+fn named(place: Place, span: Span) -> Name
+    ensures { λ r. ⌜ r ≡ record { place = place; span = span } ⌝ }
+{
+    Name { place, span }
+}
+
+fn no_name(place: Place) -> Name
+    ensures { λ r. ⌜ ((incoming plan : Bytes) → NameAt incoming plan r []) ⌝ }
+{
+    Name {
+        place,
+        span: Span { start: 0, len: 0 },
+    }
+}
+
+// Of part `k` of a type that stands in the bytes of a place.
+fn raw_name(s: &[u8], v: Version, place: Place, c: Cursor, k: u16) -> Name
+    requires { ⌜ ((t : DataType) × TypeIs v (now s) (c .at) t) ⌝ }
+    ensures { λ r. ⌜ ((incoming plan : Bytes) (t : DataType) (a : Column) → bytesOf incoming plan place ≡ now (s .entry) → TypeIs v (now (s .entry)) (c .at) t → PartOf t k a → NameAt incoming plan r (a .name)) ⌝ }
+{
+    match c.head(s) {
+        Head::Leaf(_, _) => no_name(place),
+        Head::Struct(n, d) => match column_at(s, v, 15, n, d, Position(k)) {
+            Found::At(_, l, _) => named(place, l.name),
+            Found::Absent => no_name(place),
+        },
+        Head::List(_) => no_name(place),
+        Head::Array(_, _) => no_name(place),
+        Head::Refused(_) => no_name(place),
+    }
+}
+
+// Of the column `k` of the incoming layout.
+fn column_name(incoming: &[u8], v: Version, n: u16, k: Position) -> Name
+    requires { ⌜ ((a : Column) × ColumnOf (now incoming) v n k a) ⌝ }
+    ensures { λ r. ⌜ ((plan : Bytes) (a : Column) → ColumnOf (now (incoming .entry)) v n k a → NameAt (now (incoming .entry)) plan r (a .name)) ⌝ }
+{
+    match column_at(incoming, v, 16, n, Cursor { at: 7 }, k) {
+        Found::At(_, l, _) => named(Place::Incoming, l.name),
+        Found::Absent => no_name(Place::Incoming),
+    }
+}
+
+// Of the selector where the walk stands.
+fn own_name(plan: &[u8], w: Walk) -> OwnName
+    ensures { λ r. ⌜ ((incoming : Bytes) (v : VersionOf) (n : ℕ) (a : Column) → NamedAt incoming v n (now (plan .entry)) w a → OwnNameIs incoming v n (now (plan .entry)) w a r) ⌝ }
+{
+    let c = Cursor { at: w.at };
+    match head(plan, c) {
+        SelectorHead::Position(k) => OwnName::Position(k),
+        SelectorHead::Constant(name, _) => OwnName::Is(named(Place::Plan, name)),
+        SelectorHead::Cast(_) => OwnName::Input,
+        SelectorHead::Rename(input) => {
+            let name = rename_name(plan, input);
+            OwnName::Is(named(Place::Plan, name))
+        }
+        SelectorHead::Struct(_) => OwnName::Input,
+        SelectorHead::List(_) => OwnName::Input,
+        SelectorHead::Array(_) => OwnName::Input,
+        SelectorHead::Refused => OwnName::Input,
+    }
+}
+
+// Of the part `k` of what a mapping makes.
+fn mapped_name(plan: &[u8], w: Walk) -> PartName
+    ensures { λ r. ⌜ ((incoming : Bytes) (v : VersionOf) (n : ℕ) (t : DataType) (k : ℕ) (a : Column) → MappedAt incoming v n (now (plan .entry)) w t → PartOf t k a → MappedNameIs incoming v n (now (plan .entry)) w k a r) ⌝ }
+{
+    let c = Cursor { at: w.at };
+    match head(plan, c) {
+        SelectorHead::Position(_) => PartName::Child,
+        SelectorHead::Constant(_, _) => PartName::Child,
+        SelectorHead::Cast(_) => PartName::Child,
+        SelectorHead::Rename(_) => PartName::Child,
+        SelectorHead::Struct(_) => PartName::Child,
+        SelectorHead::List(_) => PartName::Is(no_name(Place::Plan)),
+        SelectorHead::Array(_) => PartName::Is(no_name(Place::Plan)),
+        SelectorHead::Refused => PartName::Child,
+    }
+}
+
+// Of the part `k` of a type, where it stands there.
+fn direct_name(incoming: &[u8], v: Version, plan: &[u8], r: Resolved, k: u16) -> PartName
+    requires { ⌜ ((n : ℕ) × (t : DataType) × ResolvedAt (now incoming) v n (now plan) r t) ⌝ }
+    ensures { λ p. ⌜ ((n : ℕ) (t : DataType) (a : Column) → ResolvedAt (now (incoming .entry)) v n (now (plan .entry)) r t → PartOf t k a → MappedNameIs (now (incoming .entry)) v n (now (plan .entry)) (r .walk) k a p) ⌝ }
+{
+    let source = r.source;
+    let at = r.at;
+    let w = r.walk;
+    match source {
+        Source::Incoming => PartName::Is(raw_name(incoming, v, Place::Incoming, at, k)),
+        Source::Plan => PartName::Is(raw_name(plan, Version::ByName, Place::Plan, at, k)),
+        Source::Mapped => mapped_name(plan, w),
+    }
+}
+
+pub fn name_at(incoming: &[u8], v: Version, n: u16, plan: &[u8], w: Walk) -> Name
+    requires { ⌜ ((a : Column) × NamedAt (now incoming) v n (now plan) w a) ⌝ }
+    ensures { λ r. ⌜ ((a : Column) → NamedAt (now (incoming .entry)) v n (now (plan .entry)) w a → NameAt (now (incoming .entry)) (now (plan .entry)) r (a .name)) ⌝ }
+{
+    let mut x = w;
+    loop {
+        match own_name(plan, x) {
+            OwnName::Is(name) => return name,
+            OwnName::Input => {
+                x = x.to_input();
+            }
+            OwnName::Position(k) => {
+                if x.deep == 0 {
+                    return column_name(incoming, v, n, k);
+                }
+                let r = enclosing(incoming, v, n, plan, x);
+                let i = k.0;
+                match direct_name(incoming, v, plan, r, i) {
+                    PartName::Is(name) => return name,
+                    PartName::Child => {
+                        let z = r.walk;
+                        x = z.child(plan, i);
+                    }
+                }
+            }
+        }
+    }
+}
+
+// Of the part `k` of a type.
+pub fn part_name(incoming: &[u8], v: Version, n: u16, plan: &[u8], r: Resolved, k: u16) -> Name
+    requires { ⌜ ((t : DataType) × (a : Column) × ResolvedAt (now incoming) v n (now plan) r t × PartOf t k a) ⌝ }
+    ensures { λ m. ⌜ ((t : DataType) (a : Column) → ResolvedAt (now (incoming .entry)) v n (now (plan .entry)) r t → PartOf t k a → NameAt (now (incoming .entry)) (now (plan .entry)) m (a .name)) ⌝ }
+{
+    match direct_name(incoming, v, plan, r, k) {
+        PartName::Is(name) => name,
+        PartName::Child => {
+            let w = r.walk;
+            name_at(incoming, v, n, plan, w.child(plan, k))
+        }
+    }
+}

@@ -1,0 +1,133 @@
+// Where the type of what a selector gives stands.
+ghost use mathlib.Core.Path.{_≡_};
+ghost use mathlib.Core.List.{List, [], _∷_};
+ghost use Prim.Native.Nat.{_≤_};
+ghost use lib.ListN.{length};
+ghost use lib.Seq.{slice};
+ghost use Rattle.layout.specs.Bytes.{Bytes};
+ghost use Rattle.layout.specs.Tree.{DataType};
+ghost use Rattle.walk.specs.State.{Frame, State, state};
+ghost use Rattle.walk.specs.Standing.{WalkAt, StepsTo};
+ghost use Rattle.nodes.specs.Typed.{TypeIs};
+ghost use Rattle.checker.specs.Shallow.{inputOf};
+ghost use Rattle.checker.specs.Standing.{ColumnAlong, TypedAt, StoppedAt, StopIs, Resolves};
+use layout::columns::Position;
+use layout::cursor::Cursor;
+use layout::find::Found;
+use layout::find::column_at;
+use layout::version::Version;
+use nodes::types::type_at;
+use walk::head::SelectorHead;
+use walk::head::head;
+use walk::head::skip_selector;
+use walk::walk::Walk;
+
+// In the incoming layout or in the plan, or it is made by a mapping.
+pub enum Source {
+    Incoming,
+    Plan,
+    Mapped,
+}
+
+// Where the type begins; if a mapping makes it, the walk stands there, with no path left.
+pub struct Resolved {
+    pub source: Source,
+    pub at: Cursor,
+    pub walk: Walk,
+}
+
+pub fn found_in(source: Source, at: Cursor, walk: Walk) -> Resolved
+    ensures { λ r. ⌜ r ≡ record { source = source; at = at; walk = walk } ⌝ }
+{
+    Resolved { source, at, walk }
+}
+
+// Where a walk stops: a type in the incoming layout or in the plan, a rename or a mapping at the path's end.
+pub enum Stop {
+    Incoming(Cursor),
+    Plan(Cursor),
+    Rename,
+    Mapping,
+}
+
+// The input of the innermost mapping that was entered.
+pub fn outer(w: Walk) -> Walk
+    requires { ⌜ ((plan : Bytes) × (x : State) × (f : Frame) × (E : List Frame) × (x .frames ≡ f ∷ E) × WalkAt plan w x) ⌝ }
+    ensures { λ r. ⌜ ((plan : Bytes) (x : State) (f : Frame) (E : List Frame) → x .frames ≡ f ∷ E → WalkAt plan w x → StepsTo plan (state (inputOf f) E []) w r) ⌝ }
+{
+    let deep = w.deep - 1;
+    let at = (w.maps[deep] as usize) + 1;
+    Walk {
+        at,
+        lim: w.at,
+        deep,
+        len: deep,
+        maps: w.maps,
+        path: w.path,
+    }
+}
+
+// The type at the end of a path into the column `k` of the incoming layout.
+fn in_column(
+    incoming: &[u8],
+    v: Version,
+    n: u16,
+    k: Position,
+    path: [u16; 64],
+    from: usize,
+    len: usize,
+) -> Cursor
+    requires { ⌜ ((t : DataType) × ColumnAlong (now incoming) v n k (slice from len path) t) ⌝ }
+    requires { ⌜ (from ≤ len) × (len ≤ length path) ⌝ }
+    ensures { λ r. ⌜ ((t : DataType) → ColumnAlong (now (incoming .entry)) v n k (slice from len path) t → TypeIs v (now (incoming .entry)) (r .at) t) ⌝ }
+{
+    let columns = Cursor { at: 7 };
+    match column_at(incoming, v, 16, n, columns, k) {
+        Found::At(_, _, c) => type_at(incoming, v, c, path, from, len),
+        Found::Absent => columns,
+    }
+}
+
+// What stands where no move is left.
+fn stopped(incoming: &[u8], v: Version, n: u16, plan: &[u8], w: Walk) -> Stop
+    requires { ⌜ ((t : DataType) × StoppedAt (now incoming) v n (now plan) w t) ⌝ }
+    ensures { λ r. ⌜ ((t : DataType) → StoppedAt (now (incoming .entry)) v n (now (plan .entry)) w t → StopIs (now (incoming .entry)) v n (now (plan .entry)) w t r) ⌝ }
+{
+    let c = Cursor { at: w.at };
+    let path = w.path;
+    match head(plan, c) {
+        SelectorHead::Position(k) => {
+            Stop::Incoming(in_column(incoming, v, n, k, path, w.deep, w.len))
+        }
+        SelectorHead::Constant(_, d) => {
+            Stop::Plan(type_at(plan, Version::ByName, d, path, w.deep, w.len))
+        }
+        SelectorHead::Cast(d) => {
+            let e = skip_selector(plan, d);
+            Stop::Plan(type_at(plan, Version::ByName, e, path, w.deep, w.len))
+        }
+        SelectorHead::Rename(_) => Stop::Rename,
+        SelectorHead::Struct(_) => Stop::Mapping,
+        SelectorHead::List(_) => Stop::Mapping,
+        SelectorHead::Array(_) => Stop::Mapping,
+        SelectorHead::Refused => Stop::Mapping,
+    }
+}
+
+pub fn resolve(incoming: &[u8], v: Version, n: u16, plan: &[u8], w: Walk) -> Resolved
+    requires { ⌜ ((t : DataType) × TypedAt (now incoming) v n (now plan) w t) ⌝ }
+    ensures { λ r. ⌜ ((t : DataType) → TypedAt (now (incoming .entry)) v n (now (plan .entry)) w t → Resolves (now (incoming .entry)) v n (now (plan .entry)) w t r) ⌝ }
+{
+    let mut x = w;
+    loop {
+        let y = x.locate(plan);
+        match stopped(incoming, v, n, plan, y) {
+            Stop::Incoming(c) => return found_in(Source::Incoming, c, y),
+            Stop::Plan(c) => return found_in(Source::Plan, c, y),
+            Stop::Rename => {
+                x = y.to_input();
+            }
+            Stop::Mapping => return found_in(Source::Mapped, Cursor { at: 0 }, y),
+        }
+    }
+}

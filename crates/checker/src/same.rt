@@ -1,0 +1,267 @@
+// Refusal 33 for a type: whether the type of what a selector gives is the same as one of the target's, ids and element names dropped.
+ghost use mathlib.Core.Path.{_≡_};
+ghost use mathlib.Core.Bool.{_&&_};
+ghost use Prim.Native.Nat.{ℕ};
+ghost use Rattle.layout.specs.Bytes.{Bytes, sameBytes};
+ghost use Rattle.layout.specs.Tree.{DataType, struct, Fields, countFields, dtypeOf, fieldsOf};
+ghost use Rattle.layout.specs.Answers.{spanAt, spanIn};
+ghost use Rattle.layout.specs.Stands.{TypeAt, ColumnsAt};
+ghost use Rattle.layout.specs.declared.version.Version.{Version as VersionOf};
+ghost use Rattle.forms.specs.Form.{headOf};
+ghost use Rattle.forms.specs.Same.{sameDtype, sameFields};
+ghost use Rattle.forms.specs.Labelled.{ElementAt, ColumnAt};
+ghost use Rattle.plan.specs.Check.{Column};
+ghost use Rattle.checker.specs.declared.resolve.Source.{Source as SourceOf};
+ghost use Rattle.checker.specs.Standing.{NameAt, PartOf, ResolvedAt, headKind};
+ghost use Rattle.checker.specs.Same.{endsFrom, endsOf, codeOf};
+use crate::head::type_head;
+use crate::name::part_name;
+use crate::part::part;
+use crate::place::Name;
+use crate::place::Place;
+use crate::place::TypeHead;
+use crate::resolve::Resolved;
+use crate::resolve::Source;
+use forms::compare::Same;
+use forms::compare::same_text;
+use forms::compare::same_type;
+use forms::head::head_end;
+use layout::bytes::Span;
+use layout::columns::Labelled;
+use layout::cursor::Cursor;
+use layout::types::Head;
+use layout::version::Version;
+
+// Where the target's type ends, if it is the same.
+pub enum Ends {
+    At(Cursor),
+    Differ,
+}
+
+// A nested type's code, with a struct's count or an array's width; a leaf has code 0.
+pub struct HeadCode {
+    pub code: u8,
+    pub number: u32,
+}
+
+fn target_end(s: Same) -> Ends
+    ensures { λ r. ⌜ r ≡ endsFrom s ⌝ }
+{
+    match s {
+        Same::To(_, e) => Ends::At(e),
+        Same::No => Ends::Differ,
+    }
+}
+
+pub fn same_name(incoming: &[u8], plan: &[u8], name: Name, target: &[u8], q: Span) -> bool
+    requires { ⌜ ((b : Bytes) × NameAt (now incoming) (now plan) name b) ⌝ }
+    requires { ⌜ spanIn (now target) q ⌝ }
+    ensures { λ r. ⌜ ((b : Bytes) → NameAt (now (incoming .entry)) (now (plan .entry)) name b → r ≡ sameBytes b (spanAt (now (target .entry)) q)) ⌝ }
+{
+    let place = name.place;
+    let p = name.span;
+    match place {
+        Place::Incoming => same_text(incoming, p, target, q),
+        Place::Plan => same_text(plan, p, target, q),
+    }
+}
+
+fn code(h: TypeHead) -> HeadCode
+    ensures { λ r. ⌜ ((incoming plan : Bytes) → r ≡ codeOf (headKind incoming plan h)) ⌝ }
+{
+    match h {
+        TypeHead::Leaf(_, _) => HeadCode { code: 0, number: 0 },
+        TypeHead::Struct(n) => HeadCode {
+            code: 18,
+            number: n as u32,
+        },
+        TypeHead::List => HeadCode {
+            code: 19,
+            number: 0,
+        },
+        TypeHead::Array(w) => HeadCode {
+            code: 20,
+            number: w,
+        },
+    }
+}
+
+// Of the target's type at a cursor.
+fn target_code(s: &[u8], c: Cursor) -> HeadCode
+    ensures { λ r. ⌜ ((v : VersionOf) (d : ℕ) (Q : TypeAt v d (now (s .entry)) (c .at)) → r ≡ codeOf (headOf (dtypeOf (Q .tree)))) ⌝ }
+{
+    match c.head(s) {
+        Head::Leaf(_, _) => HeadCode { code: 0, number: 0 },
+        Head::Struct(n, _) => HeadCode {
+            code: 18,
+            number: n as u32,
+        },
+        Head::List(_) => HeadCode {
+            code: 19,
+            number: 0,
+        },
+        Head::Array(w, _) => HeadCode {
+            code: 20,
+            number: w,
+        },
+        Head::Refused(_) => HeadCode { code: 0, number: 0 },
+    }
+}
+
+pub fn same_as(
+    incoming: &[u8],
+    v: Version,
+    n: u16,
+    plan: &[u8],
+    r: Resolved,
+    target: &[u8],
+    vt: Version,
+    depth: u8,
+    c: Cursor,
+) -> Ends
+    requires { ⌜ ((t : DataType) × ResolvedAt (now incoming) v n (now plan) r t) ⌝ }
+    requires { ⌜ TypeAt vt depth (now target) (c .at) ⌝ }
+    ensures { λ e. ⌜ ((t : DataType) (Q : TypeAt vt depth (now (target .entry)) (c .at)) → ResolvedAt (now (incoming .entry)) v n (now (plan .entry)) r t → e ≡ endsOf (sameDtype t (dtypeOf (Q .tree))) (Q .end)) ⌝ }
+{
+    let source = r.source;
+    let at = r.at;
+    match source {
+        Source::Incoming => target_end(same_type(incoming, v, 16, at, target, vt, depth, c)),
+        Source::Plan => target_end(same_type(plan, Version::ByName, 16, at, target, vt, depth, c)),
+        Source::Mapped => same_mapped(incoming, v, n, plan, r, target, vt, depth, c),
+    }
+}
+
+// A type that a mapping makes.
+fn same_mapped(
+    incoming: &[u8],
+    v: Version,
+    n: u16,
+    plan: &[u8],
+    r: Resolved,
+    target: &[u8],
+    vt: Version,
+    depth: u8,
+    c: Cursor,
+) -> Ends
+    requires { ⌜ ((t : DataType) × ResolvedAt (now incoming) v n (now plan) r t) ⌝ }
+    requires { ⌜ r .source ≡ SourceOf.Mapped ⌝ }
+    requires { ⌜ TypeAt vt depth (now target) (c .at) ⌝ }
+    ensures { λ e. ⌜ ((t : DataType) (Q : TypeAt vt depth (now (target .entry)) (c .at)) → ResolvedAt (now (incoming .entry)) v n (now (plan .entry)) r t → e ≡ endsOf (sameDtype t (dtypeOf (Q .tree))) (Q .end)) ⌝ }
+{
+    let h = type_head(incoming, v, n, plan, r);
+    let a = code(h);
+    let b = target_code(target, c);
+    if a.code != b.code {
+        return Ends::Differ;
+    }
+    if a.number != b.number {
+        return Ends::Differ;
+    }
+    let e = head_end(target, c);
+    match h {
+        TypeHead::Leaf(_, _) => Ends::Differ,
+        TypeHead::Struct(count) => same_fields(
+            incoming,
+            v,
+            n,
+            plan,
+            r,
+            count,
+            target,
+            vt,
+            depth - 1,
+            e,
+        ),
+        TypeHead::List => same_element(incoming, v, n, plan, r, target, vt, depth - 1, e),
+        TypeHead::Array(_) => same_element(incoming, v, n, plan, r, target, vt, depth - 1, e),
+    }
+}
+
+// The element of a list or an array; the target's label is dropped.
+fn same_element(
+    incoming: &[u8],
+    v: Version,
+    n: u16,
+    plan: &[u8],
+    r: Resolved,
+    target: &[u8],
+    vt: Version,
+    depth: u8,
+    c: Cursor,
+) -> Ends
+    requires { ⌜ ((t : DataType) × (a : Column) × ResolvedAt (now incoming) v n (now plan) r t × PartOf t 0 a) ⌝ }
+    requires { ⌜ ElementAt vt depth (now target) (c .at) ⌝ }
+    ensures { λ e. ⌜ ((t : DataType) (a : Column) (E : ElementAt vt depth (now (target .entry)) (c .at)) → ResolvedAt (now (incoming .entry)) v n (now (plan .entry)) r t → PartOf t 0 a → e ≡ endsOf (sameDtype (a .type) (dtypeOf (E .inner .tree))) (E .inner .end)) ⌝ }
+{
+    match c.element_label(target, vt) {
+        Labelled::Is(_, d) => {
+            let p = part(incoming, v, n, plan, r, 0);
+            same_as(incoming, v, n, plan, p, target, vt, depth, d)
+        }
+        Labelled::Refused(_) => Ends::Differ,
+    }
+}
+
+// The field `k`, and the target's column at `c`.
+fn same_field(
+    incoming: &[u8],
+    v: Version,
+    n: u16,
+    plan: &[u8],
+    r: Resolved,
+    k: u16,
+    target: &[u8],
+    vt: Version,
+    depth: u8,
+    c: Cursor,
+) -> Ends
+    requires { ⌜ ((t : DataType) × (a : Column) × ResolvedAt (now incoming) v n (now plan) r t × PartOf t k a) ⌝ }
+    requires { ⌜ ColumnAt vt depth (now target) (c .at) ⌝ }
+    ensures { λ e. ⌜ ((t : DataType) (a : Column) (E : ColumnAt vt depth (now (target .entry)) (c .at)) → ResolvedAt (now (incoming .entry)) v n (now (plan .entry)) r t → PartOf t k a → e ≡ endsOf (sameBytes (a .name) (E .label .name) && sameDtype (a .type) (dtypeOf (E .inner .tree))) (E .inner .end)) ⌝ }
+{
+    match c.label(target, vt) {
+        Labelled::Is(l, d) => {
+            let name = part_name(incoming, v, n, plan, r, k);
+            let q = l.name;
+            if !same_name(incoming, plan, name, target, q) {
+                return Ends::Differ;
+            }
+            let p = part(incoming, v, n, plan, r, k);
+            same_as(incoming, v, n, plan, p, target, vt, depth, d)
+        }
+        Labelled::Refused(_) => Ends::Differ,
+    }
+}
+
+// `count` fields, and as many of the target's columns.
+fn same_fields(
+    incoming: &[u8],
+    v: Version,
+    n: u16,
+    plan: &[u8],
+    r: Resolved,
+    count: u16,
+    target: &[u8],
+    vt: Version,
+    depth: u8,
+    c: Cursor,
+) -> Ends
+    requires { ⌜ ((fs : Fields) × ResolvedAt (now incoming) v n (now plan) r (struct fs) × (countFields fs ≡ count)) ⌝ }
+    requires { ⌜ ColumnsAt vt depth (now target) count (c .at) ⌝ }
+    ensures { λ e. ⌜ ((fs : Fields) (Q : ColumnsAt vt depth (now (target .entry)) count (c .at)) → ResolvedAt (now (incoming .entry)) v n (now (plan .entry)) r (struct fs) → countFields fs ≡ count → e ≡ endsOf (sameFields fs (fieldsOf (Q .columns))) (Q .end)) ⌝ }
+{
+    let mut at = c.at;
+    let mut k: u16 = 0;
+    while k < count {
+        let d = Cursor { at };
+        match same_field(incoming, v, n, plan, r, k, target, vt, depth, d) {
+            Ends::At(e) => {
+                at = e.at;
+            }
+            Ends::Differ => return Ends::Differ,
+        }
+        k += 1;
+    }
+    Ends::At(Cursor { at })
+}

@@ -1,0 +1,203 @@
+// The check of a plan: the layouts, 30, each selector (31, 32), and 33 last.
+ghost use mathlib.Core.Path.{_≡_};
+ghost use mathlib.Core.Bool.{_&&_};
+ghost use Rattle.layout.specs.Bytes.{sameBytes};
+ghost use Rattle.layout.specs.Tree.{Fields, dtypeOf, fieldsOf};
+ghost use Rattle.layout.specs.Stands.{ColumnsAt};
+ghost use Rattle.forms.specs.Same.{sameDtype, sameFields};
+ghost use Rattle.forms.specs.Labelled.{ColumnAt};
+ghost use Rattle.plan.specs.Selector.{Selectors};
+ghost use Rattle.plan.specs.Check.{Column, topTypes, check};
+ghost use Rattle.checker.specs.Standing.{NamedAt};
+ghost use Rattle.checker.specs.Same.{endsOf};
+ghost use Rattle.checker.specs.Tops.{planChecked, TopsAt, TypedTops};
+ghost use Rattle.plan.specs.Calls.{checkPlan};
+use crate::name::name_at;
+use crate::resolve::resolve;
+use crate::same::Ends;
+use crate::same::same_as;
+use crate::same::same_name;
+use crate::selector::Checked;
+use crate::selector::check_selector;
+use layout::columns::Labelled;
+use layout::cursor::Cursor;
+use layout::read::LayoutRead;
+use layout::read::read_layout;
+use layout::version::Version;
+use plan::read::PlanRead;
+use plan::read::read_plan;
+use walk::head::skip_selector;
+use walk::walk::Walk;
+use walk::walk::top;
+
+// Passed, or the refusal's number and place.
+pub enum PlanChecked {
+    Passed,
+    Refused(u8, u16),
+}
+
+// Each of a plan's selectors; the place of a refusal is the selector's number.
+fn check_tops(
+    incoming: &[u8],
+    v: Version,
+    n: u16,
+    plan: &[u8],
+    count: u16,
+    c: Cursor,
+) -> PlanChecked
+    requires { ⌜ ((Γ : Fields) × (ss : Selectors) × TopsAt (now incoming) v n (now plan) count (c .at) Γ ss) ⌝ }
+    ensures { λ r. ⌜ ((Γ : Fields) (ss : Selectors) → TopsAt (now (incoming .entry)) v n (now (plan .entry)) count (c .at) Γ ss → r ≡ planChecked (topTypes Γ ss 0)) ⌝ }
+{
+    let mut at = c.at;
+    let mut k: u16 = 0;
+    while k < count {
+        let d = Cursor { at };
+        let e = skip_selector(plan, d);
+        let w = top(at, e.at);
+        match check_selector(incoming, v, n, plan, w) {
+            Checked::Passed => {
+                at = e.at;
+                k += 1;
+            }
+            Checked::Refused(j) => return PlanChecked::Refused(j, k),
+        }
+    }
+    PlanChecked::Passed
+}
+
+// The column that a selector gives, and the target's column at `c`: names and types.
+fn same_top(
+    incoming: &[u8],
+    v: Version,
+    n: u16,
+    plan: &[u8],
+    w: Walk,
+    target: &[u8],
+    vt: Version,
+    c: Cursor,
+) -> Ends
+    requires { ⌜ ((a : Column) × NamedAt (now incoming) v n (now plan) w a) ⌝ }
+    requires { ⌜ ColumnAt vt 16 (now target) (c .at) ⌝ }
+    ensures { λ r. ⌜ ((a : Column) (E : ColumnAt vt 16 (now (target .entry)) (c .at)) → NamedAt (now (incoming .entry)) v n (now (plan .entry)) w a → r ≡ endsOf (sameBytes (a .name) (E .label .name) && sameDtype (a .type) (dtypeOf (E .inner .tree))) (E .inner .end)) ⌝ }
+{
+    match c.label(target, vt) {
+        Labelled::Is(l, d) => {
+            let name = name_at(incoming, v, n, plan, w);
+            let q = l.name;
+            if !same_name(incoming, plan, name, target, q) {
+                return Ends::Differ;
+            }
+            let r = resolve(incoming, v, n, plan, w);
+            same_as(incoming, v, n, plan, r, target, vt, 16, d)
+        }
+        Labelled::Refused(_) => Ends::Differ,
+    }
+}
+
+// As many selectors, which have passed, and columns of the target.
+fn same_tops(
+    incoming: &[u8],
+    v: Version,
+    n: u16,
+    plan: &[u8],
+    count: u16,
+    c: Cursor,
+    target: &[u8],
+    vt: Version,
+    b: Cursor,
+) -> bool
+    requires { ⌜ ((fs : Fields) × TypedTops (now incoming) v n (now plan) count (c .at) fs) ⌝ }
+    requires { ⌜ ColumnsAt vt 16 (now target) count (b .at) ⌝ }
+    ensures { λ r. ⌜ ((fs : Fields) (Q : ColumnsAt vt 16 (now (target .entry)) count (b .at)) → TypedTops (now (incoming .entry)) v n (now (plan .entry)) count (c .at) fs → r ≡ sameFields fs (fieldsOf (Q .columns))) ⌝ }
+{
+    let mut at = c.at;
+    let mut bt = b.at;
+    let mut k: u16 = 0;
+    while k < count {
+        let d = Cursor { at };
+        let e = skip_selector(plan, d);
+        let w = top(at, e.at);
+        let f = Cursor { at: bt };
+        match same_top(incoming, v, n, plan, w, target, vt, f) {
+            Ends::At(g) => {
+                at = e.at;
+                bt = g.at;
+                k += 1;
+            }
+            Ends::Differ => return false,
+        }
+    }
+    true
+}
+
+// Refusal 33: names, types or count differ from the target's.
+fn same_plan(
+    incoming: &[u8],
+    v: Version,
+    n: u16,
+    plan: &[u8],
+    count: u16,
+    target: &[u8],
+    vt: Version,
+    m: u16,
+) -> bool
+    requires { ⌜ ((fs : Fields) × TypedTops (now incoming) v n (now plan) count 7 fs) ⌝ }
+    requires { ⌜ ColumnsAt vt 16 (now target) m 7 ⌝ }
+    ensures { λ r. ⌜ ((fs : Fields) (Q : ColumnsAt vt 16 (now (target .entry)) m 7) → TypedTops (now (incoming .entry)) v n (now (plan .entry)) count 7 fs → r ≡ sameFields fs (fieldsOf (Q .columns))) ⌝ }
+{
+    if count != m {
+        return false;
+    }
+    let c = Cursor { at: 7 };
+    same_tops(incoming, v, n, plan, count, c, target, vt, c)
+}
+
+// A plan that was read, over two layouts that were read.
+pub fn check_read(
+    incoming: &[u8],
+    v: Version,
+    n: u16,
+    plan: &[u8],
+    count: u16,
+    target: &[u8],
+    vt: Version,
+    m: u16,
+) -> PlanChecked
+    requires { ⌜ ((Γ : Fields) × (ss : Selectors) × TopsAt (now incoming) v n (now plan) count 7 Γ ss) ⌝ }
+    requires { ⌜ ColumnsAt vt 16 (now target) m 7 ⌝ }
+    ensures { λ r. ⌜ ((Γ : Fields) (ss : Selectors) (Q : ColumnsAt vt 16 (now (target .entry)) m 7) → TopsAt (now (incoming .entry)) v n (now (plan .entry)) count 7 Γ ss → r ≡ planChecked (check Γ (fieldsOf (Q .columns)) ss)) ⌝ }
+{
+    match check_tops(incoming, v, n, plan, count, Cursor { at: 7 }) {
+        PlanChecked::Passed => {
+            if same_plan(incoming, v, n, plan, count, target, vt, m) {
+                PlanChecked::Passed
+            } else {
+                PlanChecked::Refused(33, 0)
+            }
+        }
+        PlanChecked::Refused(j, k) => PlanChecked::Refused(j, k),
+    }
+}
+
+pub fn check_plan(incoming: &[u8], target: &[u8], plan: &[u8]) -> PlanChecked
+    ensures { λ r. ⌜ r ≡ planChecked (checkPlan (now (incoming .entry)) (now (target .entry)) (now (plan .entry))) ⌝ }
+{
+    match read_layout(incoming) {
+        LayoutRead::Read {
+            version: v,
+            count: n,
+            columns: _,
+        } => match read_layout(target) {
+            LayoutRead::Read {
+                version: vt,
+                count: m,
+                columns: _,
+            } => match read_plan(plan) {
+                PlanRead::Read(count, _) => check_read(incoming, v, n, plan, count, target, vt, m),
+                PlanRead::Refused(k) => PlanChecked::Refused(k, 0),
+            },
+            LayoutRead::Refused(k) => PlanChecked::Refused(k, 2),
+        },
+        LayoutRead::Refused(k) => PlanChecked::Refused(k, 1),
+    }
+}

@@ -1,0 +1,139 @@
+-- A value through casts, from the innermost outward. Assumes nothing.
+use Prim.Native.Nat.{ℕ, zero, suc, _+_, _-_, _<_, _≤_}
+use mathlib.Core.Path.{_≡_, refl, ap, sym, subst, _∙_}
+use mathlib.Core.Bool.{false}
+use mathlib.Core.List.{List, [], _∷_}
+use native.Mathlib.Omega.{arith}
+use native.Mathlib.Nat.{add-zero}
+use lib.ListN.{length, getD, take}
+use lib.Seq.{take-all}
+use Rattle.layout.specs.Bytes.{Bytes}
+use Rattle.layout.specs.declared.leaf.Leaf.{Leaf}
+use Rattle.layout.specs.declared.leaf.Leaf.the-variants.{Null, Boolean, Int8, Int16, Int32, Int64, UInt8, UInt16, UInt32, UInt64, Float16, Float32, Float64, Date, Datetime, String, Binary, Categorical}
+use Rattle.layout.proofs.Ways.{clash}
+use Rattle.store.specs.Overlay.{overlay}
+use Rattle.store.proofs.Overlay.{length-little}
+use Rattle.values.specs.Value.{Value, vnull, vnumber, vtext, voverflow, vstruct, vlist, varray}
+use Rattle.values.specs.Content.{widthOf}
+use Rattle.values.specs.Encode.{encodeValue}
+use Rattle.plan.specs.Convert.{convert}
+use Rattle.plan.specs.Run.{castLeaf}
+use Rattle.convert.specs.Converted.{valueOf}
+use Rattle.convert.specs.declared.leaf.Converted.{Converted}
+use Rattle.output.specs.Chain.{castAll}
+use Rattle.output.specs.Output.{Stores}
+use Rattle.output.specs.Answers.{isNumber, leafAnswer, LeafIs, castValueOf}
+use Rattle.output.specs.declared.leaf.CastValue.{CastValue}
+use Rattle.output.specs.declared.leaf.LeafValue.{LeafValue}
+
+-- ---- what no cast changes
+
+cast-kept : (k : Leaf) (v : Value) → isNumber v ≡ false → castLeaf k v ≡ v
+unfolding castLeaf isNumber
+cast-kept k vnull e = refl
+cast-kept k (vnumber i n) e = clash (cc)
+cast-kept k (vtext b) e = refl
+cast-kept k voverflow e = refl
+cast-kept k (vstruct vs) e = refl
+cast-kept k (vlist vs) e = refl
+cast-kept k (varray vs) e = refl
+
+pub casts-kept : (ks : List Leaf) (v : Value) → isNumber v ≡ false → castAll ks v ≡ v
+unfolding castAll
+casts-kept [] v e = refl
+casts-kept (k ∷ ks) v e = ap (castLeaf k) (casts-kept ks v e) ∙ cast-kept k v e
+
+no-casts : (ks : List Leaf) (v : Value) → length ks ≡ 0 → castAll ks v ≡ v
+unfolding castAll
+no-casts [] v e = refl
+no-casts (k ∷ ks) v e = absurd (omega arith)
+
+-- ---- one cast after another
+
+first-casts : (ks : List Leaf) (i : ℕ) (v : Value) → i < length ks → castAll (take (suc i) ks) v ≡ castAll (take i ks) (castLeaf (getD ks i Null) v)
+unfolding castAll
+first-casts [] i v h = absurd (omega arith)
+first-casts (k ∷ ks) zero v h = refl
+first-casts (k ∷ ks) (suc i) v h = ap (castLeaf k) (first-casts ks i v (omega arith))
+
+-- the casts ks of v₀ are the first i of them of v
+pub record Casting (ks : List Leaf) (v₀ : Value) (i : ℕ) (v : Value) : Type 0 where
+  pub within : i ≤ length ks
+  pub same : castAll ks v₀ ≡ castAll (take i ks) v
+
+pub casting-none : (ks : List Leaf) (v : Value) {i : ℕ} → length ks ≡ i → Casting ks v i v
+casting-none ks v {i} e = record { within = omega arith; same = ap (λ (l : List Leaf). castAll l v) (sym (take-all i ks (omega arith))) }
+
+module _ {ks : List Leaf} {v₀ : Value} {i : ℕ} {k : Leaf} {x : ℕ} (C : Casting ks v₀ i (vnumber k x)) where
+  pub casting-more : 0 < i → i - 1 < length ks
+  casting-more h = omega (arith, C .within)
+
+  module _ (h : 0 < i) {to : Leaf} (e : to ≡ getD ks (i - 1) Null) (r : Converted) (f : valueOf to r ≡ convert k to x) where
+    stepped : castAll ks v₀ ≡ castAll (take (i - 1) ks) (valueOf to r)
+    unfolding castLeaf
+    stepped =
+        let z : i ≡ suc (i - 1) = omega arith in
+        C .same ∙ ap (λ (j : ℕ). castAll (take j ks) (vnumber k x)) z ∙ first-casts ks (i - 1) (vnumber k x) (casting-more h)
+        ∙ ap (λ (l : Leaf). castAll (take (i - 1) ks) (castLeaf l (vnumber k x))) (sym e) ∙ ap (castAll (take (i - 1) ks)) (sym f)
+
+    pub casting-number : {m : ℕ} → r ≡ Converted.Number m → Casting ks v₀ (i - 1) (vnumber to m)
+    casting-number g = record { within = omega (arith, C .within); same = stepped ∙ ap (λ (q : Converted). castAll (take (i - 1) ks) (valueOf to q)) g }
+
+    pub casting-overflow : r ≡ Converted.Overflow → castValueOf CastValue.Overflow ≡ castAll ks v₀
+    unfolding isNumber
+    casting-overflow g = sym (stepped ∙ ap (λ (q : Converted). castAll (take (i - 1) ks) (valueOf to q)) g ∙ casts-kept (take (i - 1) ks) voverflow refl)
+
+  pub casting-all : i ≤ 0 → vnumber k x ≡ castAll ks v₀
+  casting-all h = sym (C .same ∙ no-casts (take i ks) (vnumber k x) (short (i) h ks))
+    where
+      short : (j : ℕ) → j ≤ 0 → (l : List Leaf) → length (take j l) ≡ 0
+      short zero h l = refl
+      short (suc j) h l = absurd (omega arith)
+
+-- ---- what is stored
+
+width-small : (k : Leaf) → widthOf k ≤ 8
+width-small Null = omega arith
+width-small Boolean = omega arith
+width-small Int8 = omega arith
+width-small Int16 = omega arith
+width-small Int32 = omega arith
+width-small Int64 = omega arith
+width-small UInt8 = omega arith
+width-small UInt16 = omega arith
+width-small UInt32 = omega arith
+width-small UInt64 = omega arith
+width-small Float16 = omega arith
+width-small Float32 = omega arith
+width-small Float64 = omega arith
+width-small Date = omega arith
+width-small (Datetime u) = omega arith
+width-small String = omega arith
+width-small Binary = omega arith
+width-small Categorical = omega arith
+
+pub number-short : (k : Leaf) (n : ℕ) → length (encodeValue (vnumber k n)) ≤ 9
+unfolding encodeValue
+number-short k n = omega (arith, length-little (widthOf k) n, width-small k)
+
+pub stores-as : {out : Bytes} {k : ℕ} {u v : Value} {r : ℕ} {new : Bytes} → u ≡ v → Stores out k (encodeValue u) r new → Stores out k (encodeValue v) r new
+stores-as {out} {k} {u} {v} {r} {new} e S = subst (λ (w : Value). Stores out k (encodeValue w) r new) e S
+
+pub stores-number : (out : Bytes) (k : ℕ) {j : Leaf} {m : ℕ} {u : Value} {q : CastValue} → castValueOf q ≡ u → q ≡ CastValue.Number j m
+    → {l : ℕ} {new : Bytes} → l ≡ length (encodeValue (vnumber j m)) → new ≡ overlay out k (encodeValue (vnumber j m)) → Stores out k (encodeValue u) (k + l) new
+stores-number out k e f g h = stores-as (ap castValueOf (sym f) ∙ e) (record { ends = ap (λ (i : ℕ). k + i) g; stored = h })
+
+pub stores-overflow : (out : Bytes) (k : ℕ) {u : Value} {q : CastValue} → castValueOf q ≡ u → q ≡ CastValue.Overflow → Stores out k (encodeValue u) k out
+unfolding encodeValue overlay
+stores-overflow out k e f = stores-as (ap castValueOf (sym f) ∙ e) (record { ends = sym (add-zero k); stored = refl })
+
+module _ {out : Bytes} {k : ℕ} (v : Value) {r : ℕ} {new : Bytes} (ks : List Leaf) (S : Stores out k (encodeValue v) r new) where
+  pub stores-uncast : length ks ≡ 0 → Stores out k (encodeValue (castAll ks v)) r new
+  stores-uncast e = stores-as (sym (no-casts ks v e)) S
+
+  pub stores-other : {q : LeafValue} → LeafIs v q → q ≡ LeafValue.Other → Stores out k (encodeValue (castAll ks v)) r new
+  stores-other L e = stores-as (sym (casts-kept ks v (subst (λ (q : LeafValue). leafAnswer v q) e (L .answer)))) S
+
+pub stores-cast : {out : Bytes} {k : ℕ} {v : Value} {r : ℕ} {new : Bytes} (ks : List Leaf) {j : Leaf} {n : ℕ} {q : LeafValue} → LeafIs v q → q ≡ LeafValue.Number j n
+    → Stores out k (encodeValue (castAll ks (vnumber j n))) r new → Stores out k (encodeValue (castAll ks v)) r new
+stores-cast {v = v} ks L e S = stores-as (ap (castAll ks) (sym (subst (λ (q : LeafValue). leafAnswer v q) e (L .answer)))) S

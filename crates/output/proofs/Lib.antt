@@ -1,0 +1,14 @@
+pub mod Within
+pub mod Given
+pub mod Chain
+pub mod Ends
+pub mod Writing
+pub mod Leaves
+pub mod Outward
+pub mod Asking
+pub mod Casting
+pub mod Emitting
+pub mod Whole
+pub mod Samples
+pub mod Passing
+pub mod Sources

@@ -1,0 +1,43 @@
+use Rattle.output.proofs.Casting.{Casting, casting-none, casting-more, casting-number, casting-overflow, casting-all}
+use Rattle.output.specs.Chain.{Passed}
+use Rattle.walk.specs.Standing.{WalkAt}
+use Rattle.walk.specs.State.{State}
+use Rattle.values.specs.Value.{vnumber}
+use Rattle.layout.specs.declared.leaf.Leaf.{Leaf}
+use lib.ListN.{length}
+use mathlib.Core.List.{List}
+use mathlib.Core.Path.{_≡_}
+use native.Mathlib.Omega.{arith}
+use borrow.Author.Needs.{needs}
+use Rattle.output.proofs.leaf.cast_number.Statement.{statement}
+use Rattle.output.proofs.leaf.cast_number.Tie as tie
+
+abbrev Inv-loop : tie.InvT-loop
+Inv-loop plan w casts n k₀ x₀ i₀ k x i = ((y : State) × WalkAt plan w y) × ((y z : State) (ks : List Leaf) → WalkAt plan w y → Passed y ks z → length ks ≡ i₀ → Casting ks (vnumber k₀ x₀) i (vnumber k x))
+
+abbrev μ-loop : tie.MeasureT-loop
+μ-loop plan w casts n k₀ x₀ i₀ k x i = i
+
+pub cast-number-spec : {M : Type 1} → statement M
+cast-number-spec =
+    tie.close
+    (tie.spec
+    Inv-loop
+    μ-loop
+    (λ c. (c .before .pre, λ y z ks W p e. casting-none ks _ e))
+    (λ c. search needs)
+    (λ c κs. c .before .loop .inv .0)
+    (λ c κs. search needs)
+    (λ c. search needs)
+    (λ c. omega (arith, c .before .before .before .before .before .loop-test .taken))
+    (λ c. let (R, f) = c .before .before .before .before .before .before .loop .inv in (
+      R,
+      λ y z ks W p e.
+          let C = f y z ks W p e in
+          casting-number C (c .before .before .before .before .before .loop-test .taken) (c .before .before .before .before .nth-cast .ensures y z ks W p (casting-more C (c .before .before .before .before .before .loop-test .taken))) _ (c .before .before .before .convert-leaf .ensures) (c .before .m .given .1),
+    ))
+    (λ c. search needs)
+    (λ c. λ y z ks W p e.
+    let C = c .before .before .before .before .before .loop .inv .1 y z ks W p e in
+    casting-overflow C (c .before .before .before .before .loop-test .taken) (c .before .before .before .nth-cast .ensures y z ks W p (casting-more C (c .before .before .before .before .loop-test .taken))) _ (c .before .before .convert-leaf .ensures) (c .enum-told .given .1))
+    (λ c. λ y z ks W p e. casting-all (c .before .loop .inv .1 y z ks W p e) (omega (arith, c .loop-test .left))))

@@ -1,0 +1,261 @@
+-- What each answer of the code stands for.
+use Prim.Native.Nat.{ℕ, _+_, _<_, _≤_}
+use mathlib.Core.Path.{_≡_}
+use mathlib.Core.Bool.{Bool, true, false}
+use mathlib.Core.List.{List, [], _∷_}
+use lib.ListN.{length}
+use Rattle.layout.specs.Bytes.{Bytes}
+use Rattle.layout.specs.Parser.{ok}
+use Rattle.layout.specs.Tree.{leafOf, DataType, leaf, struct, list, array, Fields, dtypeOf, fieldsOf}
+use Rattle.layout.specs.Layout.{deepest}
+use Rattle.layout.specs.Stands.{TypeAt}
+use Rattle.layout.specs.declared.leaf.Leaf.{Leaf}
+use Rattle.layout.specs.declared.version.Version.{Version}
+use Rattle.layout.specs.declared.version.Version.the-variants.{ByName}
+use Rattle.values.specs.Value.{Value, vnull, vnumber, vtext, voverflow, vstruct, vlist, varray, Values}
+use Rattle.values.specs.Stands.{ValueAt}
+use Rattle.values.specs.Reading.{leafContent}
+use Rattle.values.specs.Record.{longest}
+use Rattle.forms.specs.Readable.{depthOfFields}
+use Rattle.plan.specs.Read.{longestPlan}
+use Rattle.plan.specs.Result.{Answer, accepted, refusedAt}
+use Rattle.plan.specs.Check.{check}
+use Rattle.plan.specs.Selector.{Selector, position, constant, cast, rename, structMapping, listMapping, arrayMapping, Selectors, countSelectors}
+use Rattle.plan.specs.Run.{evals, clean, cleanAll}
+use Rattle.walk.specs.State.{Frame, fields, element, State, state}
+use Rattle.walk.specs.Moves.{Moves, Stopped, Input, Mapping}
+use Rattle.walk.specs.Stands.{SelectorAt, SelectorsAt}
+use Rattle.walk.specs.Standing.{WalkAt, rank}
+use Rattle.walk.specs.Values.{givens, within, stateValue}
+use Rattle.walk.specs.declared.walk.Walk.{Walk}
+use Rattle.nodes.specs.Raw.{RowAt, NodeIs, partsOf}
+use Rattle.nodes.specs.declared.raw.NodeAt.{NodeAt}
+use Rattle.nodes.specs.declared.raw.Parts.{Parts}
+use Rattle.output.specs.Chain.{ends, goes, casts, next, Passed}
+use Rattle.output.specs.Output.{levels, levelsAll, answer}
+use Rattle.output.specs.declared.casts.Pass.{Pass}
+use Rattle.output.specs.declared.casts.Origin.{Origin}
+use Rattle.output.specs.declared.leaf.CastValue.{CastValue}
+use Rattle.output.specs.declared.leaf.LeafValue.{LeafValue}
+use Rattle.output.specs.declared.parts.Asked.{Asked}
+use Rattle.output.specs.declared.source.Source.{Source}
+use Rattle.output.specs.declared.write.Written.{Written}
+
+-- what follows the presence byte of a leaf of a kind
+pub record LeafAt (k : Leaf) (s : Bytes) (at : ℕ) : Type 0 where
+  pub tree : Value
+  pub end : ℕ
+  pub reads : leafContent k s at ≡ ok tree end
+
+unfoldable pub isNumber : Value → Bool
+isNumber vnull = false
+isNumber (vnumber k n) = true
+isNumber (vtext b) = false
+isNumber voverflow = false
+isNumber (vstruct vs) = false
+isNumber (vlist vs) = false
+isNumber (varray vs) = false
+
+-- the answer is the number that v is, or that it is none
+abbrev pub leafAnswer : Value → LeafValue → Type 0
+leafAnswer v (LeafValue.Number k n) = v ≡ vnumber k n
+leafAnswer v LeafValue.Other = isNumber v ≡ false
+
+pub record LeafIs (v : Value) (r : LeafValue) : Type 0 where
+  pub answer : leafAnswer v r
+
+abbrev pub castValueOf : CastValue → Value
+castValueOf (CastValue.Number k n) = vnumber k n
+castValueOf CastValue.Overflow = voverflow
+
+-- ---- src/casts.rt
+
+-- a cast to a type, no path being left
+abbrev pub castPass : DataType → Pass
+castPass (leaf l) = Pass.Casts (leafOf l)
+castPass (struct fs) = Pass.Goes
+castPass (list t) = Pass.Goes
+castPass (array w t) = Pass.Goes
+
+-- the selector at x is a transform, whose input is next
+pub record GoesOn (x : State) : Type 0 where
+  pub input : Selector
+  pub is : Input (x .selector) input
+  pub next : next x ≡ goes (state input (x .frames) (x .path))
+
+pub record CastsOn (x : State) (k : Leaf) : Type 0 where
+  pub input : Selector
+  pub is : Input (x .selector) input
+  pub next : next x ≡ casts k (state input (x .frames) (x .path))
+
+abbrev pub passAnswer : State → Pass → Type 0
+passAnswer x Pass.Ends = next x ≡ ends
+passAnswer x Pass.Goes = GoesOn x
+passAnswer x (Pass.Casts k) = CastsOn x k
+
+pub record PassIs (x : State) (r : Pass) : Type 0 where
+  pub answer : passAnswer x r
+
+-- r stands where no move is left of the input s of the transform at x
+pub record OnwardTo (plan : Bytes) (x : State) (s : Selector) (w r : Walk) : Type 0 where
+  pub state : State
+  pub standing : WalkAt plan r state
+  pub moves : Moves (record { selector = s; frames = x .frames; path = x .path }) state
+  pub stopped : Stopped state
+  pub falls : rank r < rank w
+
+-- the value of x comes from where r stands, through as many casts as r says
+pub record OriginIs (plan : Bytes) (x : State) (w : Walk) (r : Origin) : Type 0 where
+  pub kinds : List Leaf
+  pub state : State
+  pub passed : Passed x kinds state
+  pub ended : next state ≡ ends
+  pub counted : length kinds ≡ r .casts
+  pub standing : WalkAt plan (r .walk) state
+  pub falls : rank (r .walk) ≤ rank w
+
+-- ---- src/source.rt
+
+-- a constant's type at t, and after it its value
+pub record ConstantRaw (plan : Bytes) (t : ℕ) : Type 0 where
+  pub type : TypeAt ByName 16 plan t
+  pub value : ValueAt (dtypeOf (type .tree)) plan (type .end)
+
+abbrev pub recordSource : NodeAt → Source
+recordSource NodeAt.Null = Source.Null
+recordSource (NodeAt.At t c) = Source.Record t c
+
+abbrev pub constantSource : NodeAt → Source
+constantSource NodeAt.Null = Source.Null
+constantSource (NodeAt.At t c) = Source.Constant t c
+
+-- the struct mapping P, if no path is left
+pub record StructSource (plan : Bytes) (w : Walk) (P : SelectorAt plan (w .at)) (r : Source) : Type 0 where
+  pub below : w .deep < w .len → r ≡ Source.Null
+  pub ended : w .len ≤ w .deep → (s : Selector) × (ss : Selectors) × (P .tree ≡ structMapping s ss) × (r ≡ Source.Struct (countSelectors ss))
+
+-- the constant's value u, wherever its selector is run
+pub record ConstantIs (ρ : Values) (plan : Bytes) (x : State) (t c : ℕ) : Type 0 where
+  pub value : Value
+  pub node : NodeIs ByName plan t plan c value
+  pub is : stateValue ρ x ≡ within ρ (x .frames) (λ σ. value)
+
+pub record StructIs (x : State) (n : ℕ) : Type 0 where
+  pub input : Selector
+  pub parts : Selectors
+  pub selector : x .selector ≡ structMapping input parts
+  pub path : x .path ≡ []
+  pub count : countSelectors parts ≡ n
+
+pub record ListIs (x : State) : Type 0 where
+  pub input : Selector
+  pub element : Selector
+  pub selector : x .selector ≡ listMapping input element
+  pub path : x .path ≡ []
+
+pub record ArrayIs (x : State) : Type 0 where
+  pub input : Selector
+  pub element : Selector
+  pub selector : x .selector ≡ arrayMapping input element
+  pub path : x .path ≡ []
+
+abbrev pub sourceAnswer : Values → Version → Bytes → Bytes → Bytes → State → Source → Type 0
+sourceAnswer ρ v lay rec plan x Source.Null = stateValue ρ x ≡ vnull
+sourceAnswer ρ v lay rec plan x (Source.Record t c) = NodeIs v lay (t .at) rec (c .at) (stateValue ρ x)
+sourceAnswer ρ v lay rec plan x (Source.Constant t c) = ConstantIs ρ plan x (t .at) (c .at)
+sourceAnswer ρ v lay rec plan x (Source.Struct n) = StructIs x n
+sourceAnswer ρ v lay rec plan x Source.List = ListIs x
+sourceAnswer ρ v lay rec plan x Source.Array = ArrayIs x
+
+-- where the value of x comes from
+pub record SourceIs (ρ : Values) (v : Version) (lay rec plan : Bytes) (x : State) (r : Source) : Type 0 where
+  pub answer : sourceAnswer ρ v lay rec plan x r
+
+-- ---- src/parts.rt
+
+-- an entered mapping's input; and how many parts that must have, for what is inside to be run
+unfoldable pub inputOf : Frame → Selector
+inputOf (fields s) = s
+inputOf (element s i) = s
+
+unfoldable pub leastOf : Frame → ℕ
+leastOf (fields s) = 0
+leastOf (element s i) = i + 1
+
+-- the same is asked of a transform's input
+pub record AskInput (ρ : Values) (x : State) (least : ℕ) (own : Parts) (m : ℕ) (k : Parts) : Type 0 where
+  pub input : Selector
+  pub is : Input (x .selector) input
+  pub same : answer least own (partsOf (stateValue ρ x)) ≡ answer m k (partsOf (stateValue ρ (state input (x .frames) (x .path))))
+
+-- the same is asked of the innermost mapping's input
+pub record AskOutward (ρ : Values) (x : State) (least : ℕ) (own : Parts) (m : ℕ) (k : Parts) : Type 0 where
+  pub frame : Frame
+  pub outer : List Frame
+  pub is : x .frames ≡ frame ∷ outer
+  pub same : answer least own (partsOf (stateValue ρ x)) ≡ answer m k (partsOf (stateValue ρ (state (inputOf frame) outer [])))
+
+abbrev pub askedAnswer : Values → State → ℕ → Parts → Asked → Type 0
+askedAnswer ρ x least own (Asked.Answer p) = p ≡ answer least own (partsOf (stateValue ρ x))
+askedAnswer ρ x least own (Asked.Input m k) = AskInput ρ x least own m k
+askedAnswer ρ x least own (Asked.Outward m k) = AskOutward ρ x least own m k
+
+pub record AskedIs (ρ : Values) (x : State) (least : ℕ) (own : Parts) (r : Asked) : Type 0 where
+  pub means : askedAnswer ρ x least own r
+
+-- ---- src/emit.rt
+
+-- how many mappings and path numbers a walk holds
+unfoldable pub size : State → ℕ
+size x = length (x .frames) + length (x .path)
+
+-- over the record's values, the value where w stands has no date-time that is too large, and its parts nest no deeper than a walk can follow
+pub record EmitAt (v : Version) (lay : Bytes) (n t : ℕ) (rec plan : Bytes) (w : Walk) : Type 0 where
+  pub row : RowAt v lay n t rec 0
+  pub state : State
+  pub standing : WalkAt plan w state
+  pub clean : clean (stateValue (row .values .values) state) ≡ true
+  pub low : size state + levels (stateValue (row .values .values) state) ≤ 64
+  pub short : length rec ≤ longest
+
+-- a mapping with no path left
+pub record Mapped (x : State) : Type 0 where
+  pub mapping : Mapping (x .selector)
+  pub path : x .path ≡ []
+
+abbrev pub isList : Selector → Bool
+isList (position k) = false
+isList (constant n t v) = false
+isList (cast s t o) = false
+isList (rename s n) = false
+isList (structMapping s ss) = false
+isList (listMapping s e) = true
+isList (arrayMapping s e) = false
+
+-- ---- src/write.rt
+
+-- the same of what count selectors give, the first of which stands at `first`
+pub record EmitAllAt (v : Version) (lay : Bytes) (n t : ℕ) (rec plan : Bytes) (count first : ℕ) : Type 0 where
+  pub row : RowAt v lay n t rec 0
+  pub selectors : SelectorsAt plan count first
+  pub clean : cleanAll (givens (row .values .values) (selectors .trees)) ≡ true
+  pub low : levelsAll (givens (row .values .values) (selectors .trees)) ≤ 64
+  pub short : length rec ≤ longest
+  pub small : length plan ≤ longestPlan
+
+-- a plan that passed the check from the columns of a layout, over a record that fits them, where no strict date-time is too large
+pub record OutputAt (v : Version) (lay : Bytes) (n t : ℕ) (rec plan : Bytes) (count first : ℕ) : Type 0 where
+  pub row : RowAt v lay n t rec 0
+  pub selectors : SelectorsAt plan count first
+  pub target : Fields
+  pub passes : check (fieldsOf (row .columns .columns)) target (selectors .trees) ≡ accepted tt
+  pub deep : depthOfFields target ≤ deepest
+  pub clean : cleanAll (evals (row .values .values) (selectors .trees)) ≡ true
+  pub short : length rec ≤ longest
+  pub small : length plan ≤ longestPlan
+  pub within : first ≤ length plan
+
+-- 45, or the output's length
+abbrev pub writtenOf : Answer Bytes → Written
+writtenOf (accepted b) = Written.Written (length b)
+writtenOf (refusedAt n k) = Written.TooLong

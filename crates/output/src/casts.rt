@@ -1,0 +1,128 @@
+// From a selector to where its value comes from, past casts and renames, and the casts that are passed. Nothing recurses: a chain of casts can be long.
+ghost use mathlib.Core.Path.{_≡_};
+ghost use mathlib.Core.List.{List};
+ghost use Prim.Native.Nat.{_<_};
+ghost use lib.ListN.{length, getD};
+ghost use Rattle.layout.specs.Stands.{TypeAt};
+ghost use Rattle.layout.specs.Tree.{dtypeOf};
+ghost use Rattle.layout.specs.declared.leaf.Leaf.{Leaf as LeafOf};
+ghost use Rattle.layout.specs.declared.version.Version.{Version as VersionOf};
+ghost use Rattle.plan.specs.Selector.{Selector};
+ghost use Rattle.walk.specs.State.{State};
+ghost use Rattle.walk.specs.Moves.{Stopped, Input};
+ghost use Rattle.walk.specs.Standing.{WalkAt};
+ghost use Rattle.output.specs.Chain.{Passed};
+ghost use Rattle.output.specs.Answers.{castPass, PassIs, OnwardTo, OriginIs};
+use layout::cursor::Cursor;
+use layout::leaf::Leaf;
+use layout::types::Head;
+use walk::head::SelectorHead;
+use walk::head::head;
+use walk::head::skip_selector;
+use walk::walk::Walk;
+
+// What a walk that no move is left of does next: it is where the value comes from, or goes on to the input, past a cast to a leaf kind or not.
+pub enum Pass {
+    Ends,
+    Goes,
+    Casts(Leaf),
+}
+
+// Where the value comes from, and how many casts to leaf kinds were passed.
+pub struct Origin {
+    pub casts: usize,
+    pub walk: Walk,
+}
+
+// At a cast whose type begins at `t`, and no path is left.
+fn pass_cast(plan: &[u8], t: Cursor) -> Pass
+    ensures { λ r. ⌜ ((T : TypeAt VersionOf.ByName 16 (now (plan .entry)) (t .at)) → r ≡ castPass (dtypeOf (T .tree))) ⌝ }
+{
+    match t.head(plan) {
+        Head::Leaf(l, _) => {
+            let leaf = l.leaf;
+            Pass::Casts(leaf)
+        }
+        Head::Struct(_, _) => Pass::Goes,
+        Head::List(_) => Pass::Goes,
+        Head::Array(_, _) => Pass::Goes,
+        Head::Refused(_) => Pass::Ends,
+    }
+}
+
+fn next_pass(plan: &[u8], w: Walk) -> Pass
+    ensures { λ r. ⌜ ((x : State) → WalkAt (now (plan .entry)) w x → Stopped x → PassIs x r) ⌝ }
+{
+    let c = Cursor { at: w.at };
+    match head(plan, c) {
+        SelectorHead::Position(_) => Pass::Ends,
+        SelectorHead::Constant(_, _) => Pass::Ends,
+        SelectorHead::Cast(input) => {
+            if w.deep < w.len {
+                return Pass::Goes;
+            }
+            pass_cast(plan, skip_selector(plan, input))
+        }
+        SelectorHead::Rename(_) => Pass::Goes,
+        SelectorHead::Struct(_) => Pass::Ends,
+        SelectorHead::List(_) => Pass::Ends,
+        SelectorHead::Array(_) => Pass::Ends,
+        SelectorHead::Refused => Pass::Ends,
+    }
+}
+
+// To the input of a transform, and on until no move is left.
+fn onward(plan: &[u8], w: Walk) -> Walk
+    requires { ⌜ ((x : State) × (s : Selector) × WalkAt (now plan) w x × Input (x .selector) s) ⌝ }
+    ensures { λ r. ⌜ ((x : State) (s : Selector) → WalkAt (now (plan .entry)) w x → Input (x .selector) s → OnwardTo (now (plan .entry)) x s w r) ⌝ }
+{
+    let input = w.to_input();
+    input.locate(plan)
+}
+
+pub fn find_origin(plan: &[u8], w: Walk) -> Origin
+    requires { ⌜ ((x : State) × WalkAt (now plan) w x) ⌝ }
+    ensures { λ r. ⌜ ((x : State) → WalkAt (now (plan .entry)) w x → OriginIs (now (plan .entry)) x w r) ⌝ }
+{
+    let mut at = w.locate(plan);
+    let mut casts: usize = 0;
+    loop {
+        match next_pass(plan, at) {
+            Pass::Ends => {
+                break;
+            }
+            Pass::Goes => {
+                at = onward(plan, at);
+            }
+            Pass::Casts(_) => {
+                at = onward(plan, at);
+                casts += 1;
+            }
+        }
+    }
+    Origin { casts, walk: at }
+}
+
+// The leaf kind of the cast `i` of those passed, from the outermost on.
+pub fn nth_cast(plan: &[u8], w: Walk, i: usize) -> Leaf
+    requires { ⌜ ((x : State) × WalkAt (now plan) w x) ⌝ }
+    ensures { λ r. ⌜ ((x z : State) (ks : List LeafOf) → WalkAt (now (plan .entry)) w x → Passed x ks z → i < length ks → r ≡ getD ks i LeafOf.Null) ⌝ }
+{
+    let mut at = w.locate(plan);
+    let mut left = i;
+    loop {
+        match next_pass(plan, at) {
+            Pass::Ends => return Leaf::Null,
+            Pass::Goes => {
+                at = onward(plan, at);
+            }
+            Pass::Casts(kind) => {
+                if left == 0 {
+                    return kind;
+                }
+                at = onward(plan, at);
+                left -= 1;
+            }
+        }
+    }
+}

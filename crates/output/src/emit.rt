@@ -1,0 +1,159 @@
+// Writing what a selector gives, no further than the limit. Recursion goes as deep as the output's parts nest; fields and elements are loops.
+ghost use mathlib.Core.Path.{_≡_};
+ghost use mathlib.Core.List.{List};
+ghost use Prim.Native.Nat.{_+_, _^_, _≤_, _<_};
+ghost use lib.ListN.{length};
+ghost use Rattle.layout.specs.declared.leaf.Leaf.{Leaf as LeafOf};
+ghost use Rattle.values.specs.Value.{countValues};
+ghost use Rattle.values.specs.Encode.{encodeValue, encodeValues};
+ghost use Rattle.plan.specs.Reach.{parts};
+ghost use Rattle.walk.specs.State.{State};
+ghost use Rattle.walk.specs.Standing.{WalkAt};
+ghost use Rattle.walk.specs.Values.{stateValue};
+ghost use Rattle.nodes.specs.Raw.{RowAt};
+ghost use Rattle.output.specs.Chain.{Passed, castAll};
+ghost use Rattle.output.specs.Output.{Stores, Emits, lead};
+ghost use Rattle.output.specs.Answers.{ConstantIs, EmitAt, Mapped, isList};
+use crate::casts::find_origin;
+use crate::leaf::is_null;
+use crate::leaf::put_null;
+use crate::leaf::put_raw;
+use crate::parts::is_run;
+use crate::parts::parts_count;
+use crate::source::Source;
+use crate::source::source_at;
+use layout::cursor::Cursor;
+use layout::version::Version;
+use nodes::raw::Parts;
+use store::put;
+use walk::walk::Walk;
+
+// What stands before the parts of a mapping that is present: of a list also their count.
+fn put_lead(counted: bool, m: u32, out: &mut [u8], k: usize) -> usize
+    requires { ⌜ k + 3 < 2 ^ 64 ⌝ }
+    ensures { λ r. ⌜ Stores (now (out .entry)) k (lead counted m) r (now (out .exit)) ⌝ }
+{
+    put(out, k, 1);
+    if counted {
+        store::put_number(out, k + 1, m as u64, 2);
+        return k + 3;
+    }
+    k + 1
+}
+
+// The constant at `t` and `c` where `at` stands, through the casts that `w` passes; null if it is not run.
+fn emit_constant(
+    lay: &[u8],
+    v: Version,
+    n: u16,
+    columns: Cursor,
+    rec: &[u8],
+    plan: &[u8],
+    at: Walk,
+    t: Cursor,
+    c: Cursor,
+    w: Walk,
+    casts: usize,
+    out: &mut [u8],
+    k: usize,
+) -> usize
+    requires { ⌜ ((X : RowAt v (now lay) n (columns .at) (now rec) 0) × (z : State) × WalkAt (now plan) at z × ConstantIs (X .values .values) (now plan) z (t .at) (c .at)) ⌝ }
+    requires { ⌜ ((x : State) × WalkAt (now plan) w x) ⌝ }
+    requires { ⌜ k ≤ 16384 ⌝ }
+    ensures { λ r. ⌜ ((X : RowAt v (now (lay .entry)) n (columns .at) (now (rec .entry)) 0) (x z : State) (ks : List LeafOf) → WalkAt (now (plan .entry)) w x → WalkAt (now (plan .entry)) at z → ConstantIs (X .values .values) (now (plan .entry)) z (t .at) (c .at) → Passed x ks z → length ks ≡ casts → Stores (now (out .entry)) k (encodeValue (castAll ks (stateValue (X .values .values) z))) r (now (out .exit))) ⌝ }
+{
+    if is_null(plan, c) {
+        return put_null(out, k);
+    }
+    if is_run(lay, v, n, columns, rec, plan, at) {
+        return put_raw(plan, Version::ByName, t, plan, c, plan, w, casts, out, k);
+    }
+    put_null(out, k)
+}
+
+// The `m` parts of the mapping where the walk stands.
+pub fn emit_parts(
+    lay: &[u8],
+    v: Version,
+    n: u16,
+    columns: Cursor,
+    rec: &[u8],
+    plan: &[u8],
+    w: Walk,
+    m: u32,
+    out: &mut [u8],
+    k: usize,
+) -> usize
+    requires { ⌜ ((A : EmitAt v (now lay) n (columns .at) (now rec) (now plan) w) × Mapped (A .state) × (m ≡ countValues (parts (stateValue (A .row .values .values) (A .state))))) ⌝ }
+    requires { ⌜ k ≤ 16387 ⌝ }
+    ensures { λ r. ⌜ ((A : EmitAt v (now (lay .entry)) n (columns .at) (now (rec .entry)) (now (plan .entry)) w) → Mapped (A .state) → m ≡ countValues (parts (stateValue (A .row .values .values) (A .state))) → Emits (now (out .entry)) k (encodeValues (parts (stateValue (A .row .values .values) (A .state)))) r (now (out .exit))) ⌝ }
+{
+    let mut at = k;
+    let mut i: u32 = 0;
+    while i < m {
+        if 16384 < at {
+            return at;
+        }
+        let part = w.child(plan, i as u16);
+        at = emit(lay, v, n, columns, rec, plan, part, out, at);
+        i += 1;
+    }
+    at
+}
+
+// A mapping with no path left: null, or its parts.
+fn emit_mapping(
+    lay: &[u8],
+    v: Version,
+    n: u16,
+    columns: Cursor,
+    rec: &[u8],
+    plan: &[u8],
+    w: Walk,
+    counted: bool,
+    out: &mut [u8],
+    k: usize,
+) -> usize
+    requires { ⌜ ((A : EmitAt v (now lay) n (columns .at) (now rec) (now plan) w) × Mapped (A .state) × (isList (A .state .selector) ≡ counted)) ⌝ }
+    requires { ⌜ k ≤ 16384 ⌝ }
+    ensures { λ r. ⌜ ((A : EmitAt v (now (lay .entry)) n (columns .at) (now (rec .entry)) (now (plan .entry)) w) → Mapped (A .state) → isList (A .state .selector) ≡ counted → Emits (now (out .entry)) k (encodeValue (stateValue (A .row .values .values) (A .state))) r (now (out .exit))) ⌝ }
+{
+    match parts_count(lay, v, n, columns, rec, plan, w) {
+        Parts::None => put_null(out, k),
+        Parts::Some(m) => {
+            let e = put_lead(counted, m, out, k);
+            emit_parts(lay, v, n, columns, rec, plan, w, m, out, e)
+        }
+    }
+}
+
+// What the selector where the walk stands gives, from an index on; where it ends, or past the limit.
+pub fn emit(
+    lay: &[u8],
+    v: Version,
+    n: u16,
+    columns: Cursor,
+    rec: &[u8],
+    plan: &[u8],
+    w: Walk,
+    out: &mut [u8],
+    k: usize,
+) -> usize
+    requires { ⌜ EmitAt v (now lay) n (columns .at) (now rec) (now plan) w ⌝ }
+    requires { ⌜ k ≤ 16384 ⌝ }
+    ensures { λ r. ⌜ ((A : EmitAt v (now (lay .entry)) n (columns .at) (now (rec .entry)) (now (plan .entry)) w) → Emits (now (out .entry)) k (encodeValue (stateValue (A .row .values .values) (A .state))) r (now (out .exit))) ⌝ }
+{
+    let o = find_origin(plan, w);
+    let at = o.walk;
+    let casts = o.casts;
+    match source_at(lay, v, n, columns, rec, plan, at) {
+        Source::Null => put_null(out, k),
+        Source::Record(t, c) => put_raw(lay, v, t, rec, c, plan, w, casts, out, k),
+        Source::Constant(t, c) => {
+            emit_constant(lay, v, n, columns, rec, plan, at, t, c, w, casts, out, k)
+        }
+        Source::Struct(_) => emit_mapping(lay, v, n, columns, rec, plan, at, false, out, k),
+        Source::List => emit_mapping(lay, v, n, columns, rec, plan, at, true, out, k),
+        Source::Array => emit_mapping(lay, v, n, columns, rec, plan, at, false, out, k),
+    }
+}

@@ -1,0 +1,230 @@
+// The number of parts of a value, and whether a selector inside entered mappings is run at all.
+ghost use mathlib.Core.Path.{_≡_};
+ghost use mathlib.Core.List.{List, [], _∷_};
+ghost use Prim.Native.Nat.{ℕ, _+_, _-_, _<_, _≤_};
+ghost use lib.ListN.{getD};
+ghost use Rattle.layout.specs.Bytes.{Bytes};
+ghost use Rattle.layout.specs.Parser.{choose};
+ghost use Rattle.values.specs.Value.{Value, vnull, Values};
+ghost use Rattle.walk.specs.State.{Frame, State, state};
+ghost use Rattle.walk.specs.Standing.{WalkAt, StepsTo};
+ghost use Rattle.walk.specs.Values.{within, stateValue};
+ghost use Rattle.nodes.specs.Raw.{RowAt, partsOf};
+ghost use Rattle.nodes.specs.declared.raw.Parts.{Parts as PartsOf};
+ghost use Rattle.output.specs.Chain.{ends, next};
+ghost use Rattle.output.specs.Output.{answer};
+ghost use Rattle.output.specs.Answers.{inputOf, leastOf, StructIs, AskedIs};
+use crate::casts::find_origin;
+use crate::source::Source;
+use crate::source::source_at;
+use layout::cursor::Cursor;
+use layout::version::Version;
+use nodes::raw::Parts;
+use nodes::raw::parts_at;
+use walk::walk::Walk;
+
+// An answer; or what to ask of the selector's input, or of the innermost mapping's input: none unless there are so many parts, else the count that is known already.
+pub enum Asked {
+    Answer(Parts),
+    Input(u32, Parts),
+    Outward(u32, Parts),
+}
+
+// What is asked of the parts `p`: none unless there are `least` of them; else their count, if none is known already.
+fn meet(least: u32, own: Parts, p: Parts) -> Parts
+    ensures { λ r. ⌜ r ≡ answer least own p ⌝ }
+{
+    match p {
+        Parts::None => Parts::None,
+        Parts::Some(c) => {
+            if c < least {
+                return Parts::None;
+            }
+            match own {
+                Parts::None => Parts::Some(c),
+                Parts::Some(d) => Parts::Some(d),
+            }
+        }
+    }
+}
+
+// To the input of the innermost mapping entered, all of it.
+fn outward(w: Walk) -> Walk
+    requires { ⌜ (0 < w .deep) × (w .deep ≤ 64) × (getD (w .maps) (w .deep - 1) 0 < w .at) ⌝ }
+    ensures { λ r. ⌜ ((plan : Bytes) (x : State) (f : Frame) (E : List Frame) → WalkAt plan w x → x .frames ≡ f ∷ E → StepsTo plan (state (inputOf f) E []) w r) ⌝ }
+{
+    let d = w.deep - 1;
+    let m = w.maps[d] as usize;
+    let mut next = w;
+    next.at = m + 1;
+    next.lim = w.at;
+    next.deep = d;
+    next.len = d;
+    next
+}
+
+// The elements up to `i`, and it.
+fn up_to(i: u16) -> u32
+    ensures { λ r. ⌜ r ≡ i + 1 ⌝ }
+{
+    (i as u32) + 1
+}
+
+// How many parts that input must have, for what is inside to be run.
+fn least_of(plan: &[u8], w: Walk) -> u32
+    requires { ⌜ ((x : State) × WalkAt (now plan) w x) × (0 < w .deep) ⌝ }
+    ensures { λ r. ⌜ ((x : State) (f : Frame) (E : List Frame) → WalkAt (now (plan .entry)) w x → x .frames ≡ f ∷ E → r ≡ leastOf f) ⌝ }
+{
+    let d = w.deep - 1;
+    let m = w.maps[d] as usize;
+    if plan[m] == 4 {
+        return 0;
+    }
+    up_to(w.path[d])
+}
+
+// At a constant of whose parts `p` is the answer.
+fn ask_constant(plan: &[u8], w: Walk, p: Parts) -> Asked
+    requires { ⌜ ((x : State) × WalkAt (now plan) w x) ⌝ }
+    ensures { λ r. ⌜ ((ρ : Values) (x : State) (u : Value) (least : ℕ) (own : PartsOf) → WalkAt (now (plan .entry)) w x → stateValue ρ x ≡ within ρ (x .frames) (λ σ. u) → p ≡ answer least own (partsOf u) → AskedIs ρ x least own r) ⌝ }
+{
+    match p {
+        Parts::None => Asked::Answer(Parts::None),
+        Parts::Some(c) => {
+            if w.deep == 0 {
+                return Asked::Answer(Parts::Some(c));
+            }
+            Asked::Outward(least_of(plan, w), Parts::Some(c))
+        }
+    }
+}
+
+// At a struct mapping of whose parts `p` is the answer, if its input has any.
+fn ask_struct(p: Parts) -> Asked
+    ensures { λ r. ⌜ ((ρ : Values) (x : State) (n least : ℕ) (own : PartsOf) → StructIs x n → p ≡ answer least own (PartsOf.Some n) → AskedIs ρ x least own r) ⌝ }
+{
+    match p {
+        Parts::None => Asked::Answer(Parts::None),
+        Parts::Some(c) => Asked::Input(0, Parts::Some(c)),
+    }
+}
+
+fn ask_step(
+    lay: &[u8],
+    v: Version,
+    n: u16,
+    columns: Cursor,
+    rec: &[u8],
+    plan: &[u8],
+    w: Walk,
+    least: u32,
+    own: Parts,
+) -> Asked
+    requires { ⌜ RowAt v (now lay) n (columns .at) (now rec) 0 ⌝ }
+    requires { ⌜ ((x : State) × WalkAt (now plan) w x × (next x ≡ ends)) ⌝ }
+    ensures { λ r. ⌜ ((X : RowAt v (now (lay .entry)) n (columns .at) (now (rec .entry)) 0) (x : State) → WalkAt (now (plan .entry)) w x → next x ≡ ends → AskedIs (X .values .values) x least own r) ⌝ }
+{
+    match source_at(lay, v, n, columns, rec, plan, w) {
+        Source::Null => Asked::Answer(Parts::None),
+        Source::Record(t, c) => {
+            let p = parts_at(lay, v, t, rec, c);
+            Asked::Answer(meet(least, own, p))
+        }
+        Source::Constant(t, c) => {
+            let p = parts_at(plan, Version::ByName, t, plan, c);
+            ask_constant(plan, w, meet(least, own, p))
+        }
+        Source::Struct(count) => ask_struct(meet(least, own, Parts::Some(count as u32))),
+        Source::List => Asked::Input(least, own),
+        Source::Array => Asked::Input(least, own),
+    }
+}
+
+// What is asked of the parts of the value where the walk stands.
+pub fn ask(
+    lay: &[u8],
+    v: Version,
+    n: u16,
+    columns: Cursor,
+    rec: &[u8],
+    plan: &[u8],
+    w: Walk,
+    least: u32,
+    own: Parts,
+) -> Parts
+    requires { ⌜ RowAt v (now lay) n (columns .at) (now rec) 0 ⌝ }
+    requires { ⌜ ((x : State) × WalkAt (now plan) w x) ⌝ }
+    ensures { λ r. ⌜ ((X : RowAt v (now (lay .entry)) n (columns .at) (now (rec .entry)) 0) (x : State) → WalkAt (now (plan .entry)) w x → r ≡ answer least own (partsOf (stateValue (X .values .values) x))) ⌝ }
+{
+    let mut at = w;
+    let mut m = least;
+    let mut known = own;
+    loop {
+        let o = find_origin(plan, at);
+        let z = o.walk;
+        match ask_step(lay, v, n, columns, rec, plan, z, m, known) {
+            Asked::Answer(p) => return p,
+            Asked::Input(l, k) => {
+                at = z.to_input();
+                m = l;
+                known = k;
+            }
+            Asked::Outward(l, k) => {
+                at = outward(z);
+                m = l;
+                known = k;
+            }
+        }
+    }
+}
+
+// The number of parts of the value where the walk stands.
+pub fn parts_count(
+    lay: &[u8],
+    v: Version,
+    n: u16,
+    columns: Cursor,
+    rec: &[u8],
+    plan: &[u8],
+    w: Walk,
+) -> Parts
+    requires { ⌜ RowAt v (now lay) n (columns .at) (now rec) 0 ⌝ }
+    requires { ⌜ ((x : State) × WalkAt (now plan) w x) ⌝ }
+    ensures { λ r. ⌜ ((X : RowAt v (now (lay .entry)) n (columns .at) (now (rec .entry)) 0) (x : State) → WalkAt (now (plan .entry)) w x → r ≡ partsOf (stateValue (X .values .values) x)) ⌝ }
+{
+    ask(lay, v, n, columns, rec, plan, w, 0, Parts::None)
+}
+
+// Whether the selector where the walk stands is run at all: inside entered mappings, whether the innermost one's input has the part.
+pub fn is_run(
+    lay: &[u8],
+    v: Version,
+    n: u16,
+    columns: Cursor,
+    rec: &[u8],
+    plan: &[u8],
+    w: Walk,
+) -> bool
+    requires { ⌜ RowAt v (now lay) n (columns .at) (now rec) 0 ⌝ }
+    requires { ⌜ ((x : State) × WalkAt (now plan) w x) ⌝ }
+    ensures { λ r. ⌜ ((X : RowAt v (now (lay .entry)) n (columns .at) (now (rec .entry)) 0) (x : State) (u : Value) → WalkAt (now (plan .entry)) w x → within (X .values .values) (x .frames) (λ σ. u) ≡ choose r u vnull) ⌝ }
+{
+    if w.deep == 0 {
+        return true;
+    }
+    let least = least_of(plan, w);
+    match ask(
+        lay,
+        v,
+        n,
+        columns,
+        rec,
+        plan,
+        outward(w),
+        least,
+        Parts::Some(0),
+    ) {
+        Parts::None => false,
+        Parts::Some(_) => true,
+    }
+}

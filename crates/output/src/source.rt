@@ -1,0 +1,127 @@
+// Where a value comes from: a column of the record, a constant of the plan, or a mapping.
+ghost use mathlib.Core.Path.{_≡_};
+ghost use Prim.Native.Nat.{_≤_};
+ghost use lib.ListN.{length};
+ghost use lib.Seq.{slice};
+ghost use Rattle.layout.specs.declared.version.Version.{Version as VersionOf};
+ghost use Rattle.plan.specs.Run.{valueAt};
+ghost use Rattle.walk.specs.State.{State};
+ghost use Rattle.walk.specs.Stands.{SelectorAt};
+ghost use Rattle.walk.specs.Parts.{StructAt};
+ghost use Rattle.walk.specs.Standing.{WalkAt};
+ghost use Rattle.walk.specs.Values.{valueNode};
+ghost use Rattle.nodes.specs.Raw.{RowAt, NodeOf};
+ghost use Rattle.output.specs.Chain.{ends, next};
+ghost use Rattle.output.specs.Answers.{ConstantRaw, recordSource, constantSource, StructSource, SourceIs};
+use layout::cursor::Cursor;
+use layout::version::Version;
+use layout::walk::skip_type;
+use nodes::raw::NodeAt;
+use nodes::raw::column_value;
+use nodes::raw::value_at;
+use walk::head::SelectorHead;
+use walk::head::head;
+use walk::head::struct_fields;
+use walk::walk::Walk;
+
+// A value in the record, by its type in the layout; a constant's value, by its type in the plan; a mapping, of a struct with the number of its selectors. Null: the
+// path leads nowhere.
+pub enum Source {
+    Null,
+    Record(Cursor, Cursor),
+    Constant(Cursor, Cursor),
+    Struct(u16),
+    List,
+    Array,
+}
+
+fn record_source(node: NodeAt) -> Source
+    ensures { λ r. ⌜ r ≡ recordSource node ⌝ }
+{
+    match node {
+        NodeAt::Null => Source::Null,
+        NodeAt::At(t, c) => Source::Record(t, c),
+    }
+}
+
+fn constant_source(node: NodeAt) -> Source
+    ensures { λ r. ⌜ r ≡ constantSource node ⌝ }
+{
+    match node {
+        NodeAt::Null => Source::Null,
+        NodeAt::At(t, c) => Source::Constant(t, c),
+    }
+}
+
+// The column `k` of the record, at what is left of the path.
+fn column_node(
+    lay: &[u8],
+    v: Version,
+    n: u16,
+    columns: Cursor,
+    rec: &[u8],
+    w: Walk,
+    k: u16,
+) -> NodeAt
+    requires { ⌜ RowAt v (now lay) n (columns .at) (now rec) 0 ⌝ }
+    requires { ⌜ (w .deep ≤ w .len) × (w .len ≤ length (w .path)) ⌝ }
+    ensures { λ r. ⌜ ((X : RowAt v (now (lay .entry)) n (columns .at) (now (rec .entry)) 0) → NodeOf v (now (lay .entry)) (now (rec .entry)) (valueNode (valueAt (X .values .values) k) (slice (w .deep) (w .len) (w .path))) r) ⌝ }
+{
+    let path = w.path;
+    match column_value(lay, v, n, columns, rec, k) {
+        NodeAt::Null => NodeAt::Null,
+        NodeAt::At(t, c) => value_at(lay, v, t, rec, c, path, w.deep, w.len),
+    }
+}
+
+// The constant whose type begins at `t`, at what is left of the path.
+fn constant_node(plan: &[u8], w: Walk, t: Cursor) -> NodeAt
+    requires { ⌜ ConstantRaw (now plan) (t .at) ⌝ }
+    requires { ⌜ (w .deep ≤ w .len) × (w .len ≤ length (w .path)) ⌝ }
+    ensures { λ r. ⌜ ((X : ConstantRaw (now (plan .entry)) (t .at)) → NodeOf VersionOf.ByName (now (plan .entry)) (now (plan .entry)) (valueNode (X .value .tree) (slice (w .deep) (w .len) (w .path))) r) ⌝ }
+{
+    let path = w.path;
+    let c = skip_type(plan, Version::ByName, 16, t);
+    value_at(plan, Version::ByName, t, plan, c, path, w.deep, w.len)
+}
+
+fn struct_source(plan: &[u8], w: Walk, input: Cursor) -> Source
+    ensures { λ r. ⌜ ((P : SelectorAt (now (plan .entry)) (w .at)) → StructAt (now (plan .entry)) (w .at) P (input .at) → StructSource (now (plan .entry)) w P r) ⌝ }
+{
+    if w.deep < w.len {
+        return Source::Null;
+    }
+    let f = struct_fields(plan, input);
+    Source::Struct(f.count)
+}
+
+pub fn source_at(
+    lay: &[u8],
+    v: Version,
+    n: u16,
+    columns: Cursor,
+    rec: &[u8],
+    plan: &[u8],
+    w: Walk,
+) -> Source
+    requires { ⌜ RowAt v (now lay) n (columns .at) (now rec) 0 ⌝ }
+    requires { ⌜ ((x : State) × WalkAt (now plan) w x) ⌝ }
+    ensures { λ r. ⌜ ((X : RowAt v (now (lay .entry)) n (columns .at) (now (rec .entry)) 0) (x : State) → WalkAt (now (plan .entry)) w x → next x ≡ ends → SourceIs (X .values .values) v (now (lay .entry)) (now (rec .entry)) (now (plan .entry)) x r) ⌝ }
+{
+    let c = Cursor { at: w.at };
+    match head(plan, c) {
+        SelectorHead::Position(k) => {
+            if w.deep == 0 {
+                return record_source(column_node(lay, v, n, columns, rec, w, k.0));
+            }
+            Source::Null
+        }
+        SelectorHead::Constant(_, t) => constant_source(constant_node(plan, w, t)),
+        SelectorHead::Cast(_) => Source::Null,
+        SelectorHead::Rename(_) => Source::Null,
+        SelectorHead::Struct(input) => struct_source(plan, w, input),
+        SelectorHead::List(_) => Source::List,
+        SelectorHead::Array(_) => Source::Array,
+        SelectorHead::Refused => Source::Null,
+    }
+}

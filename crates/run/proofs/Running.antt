@@ -1,0 +1,192 @@
+-- What the parts of a run answer, over variables. Assumes nothing.
+use Prim.Native.Nat.{ℕ, _≤_}
+use mathlib.Core.Path.{_≡_, refl, sym, ap, _∙_}
+use mathlib.Core.Bool.{Bool, true, false, not}
+use mathlib.Core.List.{[]}
+use native.Mathlib.Omega.{arith}
+use lib.ListN.{length}
+use Rattle.layout.specs.Bytes.{Bytes}
+use Rattle.layout.specs.Parser.{Res, refuse, ok}
+use Rattle.layout.specs.Tree.{Layout, Fields, fieldsOf}
+use Rattle.layout.specs.Layout.{layout, deepest}
+use Rattle.layout.specs.Stands.{ColumnsAt, LayoutAt}
+use Rattle.layout.specs.declared.columns.Siblings.the-variants.{Free}
+use Rattle.layout.specs.declared.version.Version.{Version}
+use Rattle.layout.proofs.Ways.{clash}
+use Rattle.forms.specs.Readable.{depthOfFields}
+use Rattle.forms.proofs.Read.{type→, columns→}
+use Rattle.forms.proofs.ReadBack.{columns-extent}
+use Rattle.values.specs.Value.{Values}
+use Rattle.values.specs.Encode.{encodeValues}
+use Rattle.values.specs.Record.{recordOf, RecordFits}
+use Rattle.values.specs.Answers.{recordRead}
+use Rattle.values.specs.declared.record.RecordRead.{RecordRead}
+use Rattle.values.proofs.Inside.{record-at, record-fitting}
+use Rattle.plan.specs.Result.{Answer, accepted, refusedAt, answered}
+use Rattle.plan.specs.Selector.{Selectors}
+use Rattle.plan.specs.Check.{check}
+use Rattle.plan.specs.Run.{evals, cleanAll, spacious, run}
+use Rattle.plan.specs.Read.{plan}
+use Rattle.plan.specs.Calls.{readAt, readPlan, runPlan, bufferAfter}
+use Rattle.plan.proofs.Theorems.{run-overflows, run-writes, run-exceeds}
+use Rattle.walk.proofs.View.{selectors-longer}
+use Rattle.nodes.specs.Raw.{RowAt}
+use Rattle.overflow.specs.Overflows.{PlanAt}
+use Rattle.output.specs.Answers.{OutputAt, writtenOf}
+use Rattle.output.specs.declared.write.Written.{Written}
+use Rattle.checker.specs.Tops.{planChecked, TopsAt}
+use Rattle.checker.specs.declared.tops.PlanChecked.{PlanChecked}
+use Rattle.run.specs.declared.run.Run.{Run}
+use Rattle.run.specs.Answers.{runOf, finished, recordRun, checkedRun, PassedAt}
+
+-- an answer and a buffer
+pub record Ran (x : Answer Bytes) (entry : Bytes) (r : Run) (exit : Bytes) : Type 0 where
+  pub answer : r ≡ runOf x
+  pub buffer : exit ≡ bufferAfter x entry
+
+-- a refusal leaves the buffer as it was
+pub ran-refused : {x : Answer Bytes} {entry : Bytes} {n k : ℕ} → x ≡ refusedAt n k → Ran x entry (Run.Refused n k) entry
+ran-refused e = record { answer = sym (ap runOf e); buffer = rw e }
+
+pub ran-as : {x y : Answer Bytes} {entry : Bytes} {r : Run} {exit : Bytes} → x ≡ y → Ran y entry r exit → Ran x entry r exit
+ran-as e R = rw e R
+
+-- ---- the record
+
+module _ (Γ : Fields) (ss : Selectors) (rec : Bytes) (room : ℕ) where
+  pub record-refused : {r : RecordRead} {k : ℕ} → r ≡ recordRead (recordOf Γ rec) → r ≡ RecordRead.Refused k → recordRun Γ ss rec room ≡ refusedAt k 0
+  unfolding recordRead readAt
+  record-refused {r} {k} e f = go (recordOf Γ rec) refl e
+    where
+      go : (x : Res Values) → recordOf Γ rec ≡ x → r ≡ recordRead x → readAt 0 (recordOf Γ rec) (λ ρ. run ρ ss room) ≡ refusedAt k 0
+      go (refuse n) p e = let q : n ≡ k = cc in rw (p, q)
+      go (ok vs m) p e = clash (cc)
+
+  module _ {ρ : Values} {e : ℕ} (reads : recordOf Γ rec ≡ ok ρ e) where
+    pub record-run : recordRun Γ ss rec room ≡ run ρ ss room
+    unfolding readAt
+    record-run = rw reads
+
+    pub run-overflowing : {b : Bool} → b ≡ not (cleanAll (evals ρ ss)) → b ≡ true → recordRun Γ ss rec room ≡ refusedAt 44 0
+    run-overflowing h t = record-run ∙ run-overflows ρ ss room (not-clean (cleanAll (evals ρ ss)) (sym h ∙ t))
+      where
+        not-clean : (c : Bool) → not c ≡ true → c ≡ false
+        not-clean true q = clash (cc)
+        not-clean false q = refl
+
+    pub run-finished : {w : Written} {r : Run} {entry exit : Bytes} → cleanAll (evals ρ ss) ≡ true → w ≡ writtenOf (run ρ ss room) → r ≡ finished w → exit ≡ bufferAfter (run ρ ss room) entry
+        → Ran (recordRun Γ ss rec room) entry r exit
+    run-finished {w} {r} {entry} {exit} c h f x = ran-as record-run (go (spacious room (encodeValues (evals ρ ss))) refl)
+      where
+        by : (y : Answer Bytes) → run ρ ss room ≡ y → finished (writtenOf y) ≡ runOf y → Ran (run ρ ss room) entry r exit
+        by y q z = record { answer = f ∙ ap finished h ∙ ap (λ (t : Answer Bytes). finished (writtenOf t)) q ∙ z ∙ sym (ap runOf q); buffer = x }
+
+        go : (s : Bool) → spacious room (encodeValues (evals ρ ss)) ≡ s → Ran (run ρ ss room) entry r exit
+        go true s = by _ (run-writes ρ ss room c s) refl
+        go false s = by _ (run-exceeds ρ ss room c s) refl
+
+pub clean-of : {b : Bool} (c : Bool) → b ≡ not c → b ≡ false → c ≡ true
+clean-of true e f = refl
+clean-of false e f = clash (cc)
+
+-- ---- what a plan that passed gives to the parts
+
+module _ {incoming : Bytes} {v : Version} {n : ℕ} {plan : Bytes} {count : ℕ} {target : Bytes} {vt : Version} {m : ℕ} (P : PassedAt incoming v n plan count target vt m) {rec : Bytes}
+    (F : RecordFits (fieldsOf (P .columns .columns)) rec) where
+  abbrev pub row-of : RowAt v incoming n 7 rec 0
+  row-of = record { columns = P .columns; values = record-at F .inner }
+
+  pub record-reads : recordOf (fieldsOf (P .columns .columns)) rec ≡ ok (row-of .values .values) (F .end)
+  record-reads = F .reads ∙ ap (λ (vs : Values). ok vs (F .end)) (record-at F .is)
+
+  abbrev pub output-of : cleanAll (evals (row-of .values .values) (P .selectors .trees)) ≡ true → OutputAt v incoming n 7 rec plan count 7
+  output-of c = record {
+    row = row-of;
+    selectors = P .selectors;
+    target = fieldsOf (P .targets .columns);
+    passes = P .passes;
+    deep = columns-extent (columns→ vt Free target deepest (λ at t e h. type→ vt Free target deepest at h) m [] 7 (P .targets .reads)) (P .wide) .0 .deep;
+    clean = c;
+    short = record-at F .short;
+    small = P .small;
+    within = P .starts;
+  }
+
+abbrev pub plan-of : {incoming : Bytes} {v : Version} {n : ℕ} {plan : Bytes} {count : ℕ} {target : Bytes} {vt : Version} {m : ℕ} (P : PassedAt incoming v n plan count target vt m)
+    → PlanAt plan 7 (fieldsOf (P .columns .columns)) (fieldsOf (P .targets .columns))
+plan-of {count = count} P = record { count = count; selectors = P .selectors; starts = P .starts; small = P .small; passes = P .passes }
+
+-- ---- the check
+
+module _ {incoming : Bytes} {v : Version} {n : ℕ} {plan : Bytes} {count : ℕ} {target : Bytes} {vt : Version} {m : ℕ} {Γ : Fields} {ss : Selectors}
+    (T : TopsAt incoming v n plan count 7 Γ ss) (Q : ColumnsAt vt deepest target m 7) where
+  pub check-passed : (x : Answer (Unit {0})) → planChecked x ≡ PlanChecked.Passed → x ≡ accepted tt
+  check-passed (accepted u) e = refl
+  check-passed (refusedAt a b) e = clash (cc)
+
+  over-record : (rec : Bytes) (room : ℕ) → planChecked (check Γ (fieldsOf (Q .columns)) ss) ≡ PlanChecked.Passed
+      → checkedRun Γ (fieldsOf (Q .columns)) ss rec room ≡ recordRun (fieldsOf (T .columns .columns)) (T .selectors .trees) rec room
+  unfolding answered
+  over-record rec room e = rw (check-passed (check Γ (fieldsOf (Q .columns)) ss) e) (sym (ap (λ (x : Fields). recordRun x (T .selectors .trees) rec room) (T .are) ∙ ap (λ (x : Selectors). recordRun Γ x rec room) (T .is)))
+
+  unfoldable pub passed-at : {r : PlanChecked} → 7 ≤ length target → r ≡ planChecked (check Γ (fieldsOf (Q .columns)) ss) → r ≡ PlanChecked.Passed → PassedAt incoming v n plan count target vt m
+  passed-at w h f = record {
+    columns = T .columns;
+    targets = Q;
+    selectors = T .selectors;
+    passes = ap (λ (x : Fields). check x (fieldsOf (Q .columns)) (T .selectors .trees)) (T .are) ∙ ap (check Γ (fieldsOf (Q .columns))) (T .is) ∙ check-passed (check Γ (fieldsOf (Q .columns)) ss) (sym h ∙ f);
+    starts = omega (arith, T .ends, selectors-longer (T .selectors));
+    small = T .small;
+    wide = w;
+  }
+
+  -- the run of what passed
+  pub run-passed : {r : PlanChecked} (w : 7 ≤ length target) (rec : Bytes) (room : ℕ) {entry : Bytes} {o : Run} {exit : Bytes} (h : r ≡ planChecked (check Γ (fieldsOf (Q .columns)) ss)) (f : r ≡ PlanChecked.Passed)
+      → (o ≡ runOf (recordRun (fieldsOf (passed-at w h f .columns .columns)) (passed-at w h f .selectors .trees) rec room))
+      × (exit ≡ bufferAfter (recordRun (fieldsOf (passed-at w h f .columns .columns)) (passed-at w h f .selectors .trees) rec room) entry)
+      → Ran (checkedRun Γ (fieldsOf (Q .columns)) ss rec room) entry o exit
+  unfolding answered passed-at
+  run-passed w rec room {entry} {o} {exit} h f (a, b) =
+      let y : checkedRun Γ (fieldsOf (Q .columns)) ss rec room ≡ recordRun (fieldsOf (T .columns .columns)) (T .selectors .trees) rec room = over-record rec room (sym h ∙ f) in
+      record { answer = a ∙ sym (ap runOf y); buffer = b ∙ sym (ap (λ (x : Answer Bytes). bufferAfter x entry) y) }
+
+  pub check-refused : {r : PlanChecked} {j k : ℕ} (rec : Bytes) (room : ℕ) → r ≡ planChecked (check Γ (fieldsOf (Q .columns)) ss) → r ≡ PlanChecked.Refused j k
+      → checkedRun Γ (fieldsOf (Q .columns)) ss rec room ≡ refusedAt j k
+  unfolding answered
+  check-refused {j = j} {k} rec room h f = go (check Γ (fieldsOf (Q .columns)) ss) (sym h ∙ f)
+    where
+      refused-eq : {a b : ℕ} → PlanChecked.Refused a b ≡ PlanChecked.Refused j k → _≡_ {A = Answer Bytes} (refusedAt a b) (refusedAt j k)
+      refused-eq e = cc
+
+      go : (x : Answer (Unit {0})) → planChecked x ≡ PlanChecked.Refused j k → answered x (λ y. recordRun Γ ss rec room) ≡ refusedAt j k
+      go (accepted u) e = clash (cc)
+      go (refusedAt a b) e = refused-eq e
+
+-- ---- the run over any bytes
+
+module _ (incoming target bytes rec : Bytes) (room : ℕ) where
+  pub run-first : {k : ℕ} → layout incoming ≡ refuse k → runPlan incoming target bytes rec room ≡ refusedAt k 1
+  unfolding runPlan readPlan readAt
+  run-first e = rw e
+
+  module _ {v : Version} {n : ℕ} (L : LayoutAt incoming v n) where
+    pub run-second : {k : ℕ} → layout target ≡ refuse k → runPlan incoming target bytes rec room ≡ refusedAt k 2
+    unfolding runPlan readPlan readAt
+    run-second e = rw (L .reads, e)
+
+    module _ {w : Version} {m : ℕ} (M : LayoutAt target w m) where
+      pub run-third : {k : ℕ} → plan bytes ≡ refuse k → runPlan incoming target bytes rec room ≡ refusedAt k 0
+      unfolding runPlan readPlan readAt
+      run-third e = rw (L .reads, M .reads, e)
+
+      pub run-checked : {ss : Selectors} {k : ℕ} → plan bytes ≡ ok ss k → runPlan incoming target bytes rec room ≡ checkedRun (fieldsOf (L .columns .columns)) (fieldsOf (M .columns .columns)) ss rec room
+      unfolding runPlan readPlan readAt
+      run-checked e = rw (L .reads, M .reads, e)
+
+-- ---- the last test
+
+pub finished-written : {w : Written} {n : ℕ} → w ≡ Written.Written n → Run.Written n ≡ finished w
+finished-written e = sym (ap finished e)
+
+pub finished-long : {w : Written} → w ≡ Written.TooLong → Run.Refused 45 0 ≡ finished w
+finished-long e = sym (ap finished e)

@@ -1,0 +1,47 @@
+-- Document 01, "Running": what an answer of the run stands for, and its parts.
+use Prim.Native.Nat.{ℕ, _≤_}
+use mathlib.Core.Path.{_≡_}
+use lib.ListN.{length}
+use Rattle.layout.specs.Bytes.{Bytes}
+use Rattle.layout.specs.Tree.{Fields, fieldsOf}
+use Rattle.layout.specs.Layout.{deepest}
+use Rattle.layout.specs.Stands.{ColumnsAt}
+use Rattle.layout.specs.declared.version.Version.{Version}
+use Rattle.values.specs.Record.{recordOf}
+use Rattle.plan.specs.Result.{Answer, accepted, refusedAt, answered}
+use Rattle.plan.specs.Selector.{Selectors}
+use Rattle.plan.specs.Read.{longestPlan}
+use Rattle.plan.specs.Check.{check}
+use Rattle.plan.specs.Run.{run}
+use Rattle.plan.specs.Calls.{readAt}
+use Rattle.walk.specs.Stands.{SelectorsAt}
+use Rattle.output.specs.declared.write.Written.{Written}
+use Rattle.run.specs.declared.run.Run.{Run}
+
+-- the output's length, or the refusal's number and place
+abbrev pub runOf : Answer Bytes → Run
+runOf (accepted b) = Run.Written (length b)
+runOf (refusedAt n k) = Run.Refused n k
+
+-- an output that is too long is 45
+abbrev pub finished : Written → Run
+finished (Written.Written len) = Run.Written len
+finished Written.TooLong = Run.Refused 45 0
+
+-- the record, then the run
+abbrev pub recordRun : Fields → Selectors → Bytes → ℕ → Answer Bytes
+recordRun Γ ss rec room = readAt 0 (recordOf Γ rec) (λ ρ. run ρ ss room)
+
+-- the check before them
+abbrev pub checkedRun : Fields → Fields → Selectors → Bytes → ℕ → Answer Bytes
+checkedRun Γ Δ ss rec room = answered (check Γ Δ ss) (λ x. recordRun Γ ss rec room)
+
+-- a plan that passed the check between two layouts, where all three stand
+pub record PassedAt (incoming : Bytes) (v : Version) (n : ℕ) (plan : Bytes) (count : ℕ) (target : Bytes) (vt : Version) (m : ℕ) : Type 0 where
+  pub columns : ColumnsAt v deepest incoming n 7
+  pub targets : ColumnsAt vt deepest target m 7
+  pub selectors : SelectorsAt plan count 7
+  pub passes : check (fieldsOf (columns .columns)) (fieldsOf (targets .columns)) (selectors .trees) ≡ accepted tt
+  pub starts : 7 ≤ length plan
+  pub wide : 7 ≤ length target
+  pub small : length plan ≤ longestPlan

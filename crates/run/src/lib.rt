@@ -1,0 +1,2 @@
+// Running a plan over a record (document 01, "Running"): the check, the record, 44, 45, the output.
+pub mod run;

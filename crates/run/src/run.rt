@@ -1,0 +1,137 @@
+// Each call is total: all of the check, then 43, 40, 41, 42, then 44 anywhere in the output, then 45.
+ghost use mathlib.Core.Path.{_≡_};
+ghost use Prim.Native.Nat.{_≤_};
+ghost use lib.ListN.{length};
+ghost use Rattle.layout.specs.Tree.{Fields, fieldsOf};
+ghost use Rattle.layout.specs.Stands.{ColumnsAt};
+ghost use Rattle.plan.specs.Selector.{Selectors};
+ghost use Rattle.plan.specs.Calls.{runPlan, bufferAfter};
+ghost use Rattle.checker.specs.Tops.{TopsAt};
+ghost use Rattle.run.specs.Answers.{runOf, finished, checkedRun, recordRun, PassedAt};
+use checker::tops::PlanChecked;
+use checker::tops::check_read;
+use layout::cursor::Cursor;
+use layout::read::LayoutRead;
+use layout::read::read_layout;
+use layout::version::Version;
+use output::write::Written;
+use output::write::write_output;
+use overflow::overflows::overflows;
+use plan::read::PlanRead;
+use plan::read::read_plan;
+use values::record::RecordRead;
+use values::record::read_record;
+
+// The output's length; or a refusal's number and place.
+pub enum Run {
+    Written(usize),
+    Refused(u8, u16),
+}
+
+// Refusal 45 where the output is too long.
+fn finish(w: Written) -> Run
+    ensures { λ r. ⌜ r ≡ finished w ⌝ }
+{
+    match w {
+        Written::Written(len) => Run::Written(len),
+        Written::TooLong => Run::Refused(45, 0),
+    }
+}
+
+// A plan that passed the check, over a record.
+fn run_record(
+    incoming: &[u8],
+    v: Version,
+    n: u16,
+    plan: &[u8],
+    count: u16,
+    target: &[u8],
+    vt: Version,
+    m: u16,
+    rec: &[u8],
+    output: &mut [u8],
+) -> Run
+    requires { ⌜ PassedAt (now incoming) v n (now plan) count (now target) vt m ⌝ }
+    ensures { λ r. ⌜ ((P : PassedAt (now (incoming .entry)) v n (now (plan .entry)) count (now (target .entry)) vt m) → (r ≡ runOf (recordRun (fieldsOf (P .columns .columns)) (P .selectors .trees) (now (rec .entry)) (length (now (output .entry))))) × (now (output .exit) ≡ bufferAfter (recordRun (fieldsOf (P .columns .columns)) (P .selectors .trees) (now (rec .entry)) (length (now (output .entry)))) (now (output .entry)))) ⌝ }
+{
+    let first = Cursor { at: 7 };
+    match read_record(incoming, v, n, first, rec) {
+        RecordRead::Fits => {
+            if overflows(
+                incoming,
+                v,
+                n,
+                first,
+                rec,
+                plan,
+                first,
+                target,
+                vt,
+                m,
+                first,
+            ) {
+                return Run::Refused(44, 0);
+            }
+            finish(write_output(incoming, v, n, first, rec, plan, count, first, output))
+        }
+        RecordRead::Refused(k) => Run::Refused(k, 0),
+    }
+}
+
+// A plan that was read, over two layouts that were read.
+fn run_read(
+    incoming: &[u8],
+    v: Version,
+    n: u16,
+    plan: &[u8],
+    count: u16,
+    target: &[u8],
+    vt: Version,
+    m: u16,
+    rec: &[u8],
+    output: &mut [u8],
+) -> Run
+    requires { ⌜ ((Γ : Fields) × (ss : Selectors) × TopsAt (now incoming) v n (now plan) count 7 Γ ss) ⌝ }
+    requires { ⌜ ColumnsAt vt 16 (now target) m 7 × (7 ≤ length (now target)) ⌝ }
+    ensures { λ r. ⌜ ((Γ : Fields) (ss : Selectors) (Q : ColumnsAt vt 16 (now (target .entry)) m 7) → TopsAt (now (incoming .entry)) v n (now (plan .entry)) count 7 Γ ss → (r ≡ runOf (checkedRun Γ (fieldsOf (Q .columns)) ss (now (rec .entry)) (length (now (output .entry))))) × (now (output .exit) ≡ bufferAfter (checkedRun Γ (fieldsOf (Q .columns)) ss (now (rec .entry)) (length (now (output .entry)))) (now (output .entry)))) ⌝ }
+{
+    match check_read(incoming, v, n, plan, count, target, vt, m) {
+        PlanChecked::Passed => run_record(incoming, v, n, plan, count, target, vt, m, rec, output),
+        PlanChecked::Refused(j, k) => Run::Refused(j, k),
+    }
+}
+
+pub fn run_plan(incoming: &[u8], target: &[u8], plan: &[u8], rec: &[u8], output: &mut [u8]) -> Run
+    ensures { λ r. ⌜ r ≡ runOf (runPlan (now (incoming .entry)) (now (target .entry)) (now (plan .entry)) (now (rec .entry)) (length (now (output .entry)))) ⌝ }
+    ensures { λ _. ⌜ now (output .exit) ≡ bufferAfter (runPlan (now (incoming .entry)) (now (target .entry)) (now (plan .entry)) (now (rec .entry)) (length (now (output .entry)))) (now (output .entry)) ⌝ }
+{
+    match read_layout(incoming) {
+        LayoutRead::Read {
+            version: v,
+            count: n,
+            columns: _,
+        } => match read_layout(target) {
+            LayoutRead::Read {
+                version: vt,
+                count: m,
+                columns: _,
+            } => match read_plan(plan) {
+                PlanRead::Read(count, _) => run_read(
+                    incoming,
+                    v,
+                    n,
+                    plan,
+                    count,
+                    target,
+                    vt,
+                    m,
+                    rec,
+                    output,
+                ),
+                PlanRead::Refused(k) => Run::Refused(k, 0),
+            },
+            LayoutRead::Refused(k) => Run::Refused(k, 2),
+        },
+        LayoutRead::Refused(k) => Run::Refused(k, 1),
+    }
+}
