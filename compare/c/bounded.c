@@ -67,10 +67,9 @@ static void record_of(text *t, int elements, int64_t last) {
     }
 }
 
-/* Each level maps a constant list; the one at `empty` has no elements. The innermost gives a cast of a constant in milliseconds. */
-static void plan_of(text *t, int levels, int empty, int64_t milliseconds) {
-    mark(t, "PLN", 1);
-    for (int i = 0; i < levels; i++) {
+/* Mappings of constant lists, one inside another, the one at `empty` without elements; inside stands a strict cast of a constant from milliseconds to nanoseconds. */
+static void nested_of(text *t, int from, int levels, int empty, int64_t milliseconds) {
+    for (int i = from; i < levels; i++) {
         put(t, 5, 1);
         constant_list(t, i == empty ? 0 : ELEMENTS);
     }
@@ -80,28 +79,22 @@ static void plan_of(text *t, int levels, int empty, int64_t milliseconds) {
     put(t, 0x00020E, 3);
     put(t, 1, 1);
     put(t, (uint64_t)milliseconds, 8);
-    put(t, 0x00000E, 3); /* to nanoseconds */
-    put(t, 1, 1);        /* Strict */
+    put(t, 0x00000E, 3);
+    put(t, 1, 1); /* Strict */
+}
+
+static void plan_of(text *t, int levels, int empty, int64_t milliseconds) {
+    mark(t, "PLN", 1);
+    nested_of(t, 0, levels, empty, milliseconds);
 }
 
 /* The outermost list is the incoming one. */
-static void driven_of(text *t, int levels) {
+static void driven_of(text *t, int levels, int64_t milliseconds) {
     mark(t, "PLN", 1);
     put(t, 5, 1);
     put(t, 0, 1); /* position 0 */
     put(t, 0, 2);
-    for (int i = 1; i < levels; i++) {
-        put(t, 5, 1);
-        constant_list(t, ELEMENTS);
-    }
-    put(t, 2, 1);
-    put(t, 1, 1);
-    put(t, 0, 1);
-    put(t, 0x00020E, 3);
-    put(t, 1, 1);
-    put(t, UINT64_C(9223372036855), 8);
-    put(t, 0x00000E, 3);
-    put(t, 1, 1);
+    nested_of(t, 1, levels, -1, milliseconds);
 }
 
 /* The incoming list's own elements, cast. */
@@ -147,7 +140,7 @@ int main(void) {
         snprintf(name, sizeof name, "an empty list at level %d, an overflow inside", empty);
         expect(name, empty == 0 ? 0 : 45);
     }
-    driven_of(&plan, LEVELS);
+    driven_of(&plan, LEVELS, exceeds);
     expect("driven by an incoming list", 44);
     record_of(&record, 0, 0);
     expect("driven by an empty incoming list", 0);

@@ -8,6 +8,7 @@
  * byte after its result, that the number is one of the call's, and that a plan which was built passes the check between its own layouts.
  * One line sums up; the exit status is 1 where anything differs. */
 #define _DEFAULT_SOURCE
+#include "list.h"
 #include "selector.h"
 
 #include <stdio.h>
@@ -85,17 +86,6 @@ static int is_filled(const uint8_t *bytes, size_t length) {
 
 static unsigned long differences, cases[KINDS];
 
-static size_t decode(const char *word, uint8_t *to) {
-    size_t n = 0;
-    if (strcmp(word, "-") == 0)
-        return 0;
-    for (; word[0] != 0 && word[1] != 0 && n < SPACE; word += 2) {
-        char pair[3] = {word[0], word[1], 0};
-        to[n++] = (uint8_t)strtoul(pair, NULL, 16);
-    }
-    return n;
-}
-
 /* The words of a line after the first; false where there are too few. */
 static int parse(enum kind kind, char *rest, call *c, char **number, char **last) {
     char *word = strtok(rest, " ");
@@ -118,7 +108,7 @@ static int parse(enum kind kind, char *rest, call *c, char **number, char **last
     for (int i = 0; i < c->inputs; i++) {
         if (word == NULL)
             return 0;
-        c->length[i] = decode(word, c->bytes[i]);
+        c->length[i] = decode(word, c->bytes[i], SPACE);
         word = strtok(NULL, " ");
     }
     *number = word;
@@ -138,7 +128,7 @@ static void replay(unsigned long line, const call *c, const char *number, const 
         } else if (c->kind == CHECK) {
             agrees = given == 0;
         } else {
-            size_t n = decode(last, result);
+            size_t n = decode(last, result, SPACE);
             agrees = given == n && n <= c->space && memcmp(out, result, n) == 0 && is_filled(out + n, c->space - n);
         }
         if (!agrees) {

@@ -4,6 +4,7 @@
  *   stack LIST
  */
 #define _DEFAULT_SOURCE
+#include "list.h"
 #include "selector.h"
 
 #include <pthread.h>
@@ -72,17 +73,6 @@ static void measure(void) {
 
 /* --- the list ----------------------------------------------------------------------------------------------------------------- */
 
-static size_t decode(const char *word, uint8_t *to) {
-    size_t n = 0;
-    if (strcmp(word, "-") == 0)
-        return 0;
-    for (; word[0] != 0 && word[1] != 0 && n < SPACE; word += 2) {
-        char pair[3] = {word[0], word[1], 0};
-        to[n++] = (uint8_t)strtoul(pair, NULL, 16);
-    }
-    return n;
-}
-
 static void one_case(enum kind k, char *rest) {
     char *word = strtok(rest, " ");
     int inputs = k == BUILD_NAME ? 2 : k == RUN ? 4 : 3;
@@ -100,7 +90,7 @@ static void one_case(enum kind k, char *rest) {
         word = strtok(NULL, " ");
     }
     for (int i = 0; i < inputs && word != NULL; i++) {
-        length[i] = decode(word, bytes[i]);
+        length[i] = decode(word, bytes[i], SPACE);
         word = strtok(NULL, " ");
     }
     if (space <= SPACE)
