@@ -1,8 +1,8 @@
 /* The column selector for C and C++: the functions of libselector.a, which is made by `rt staticlib selector` for x86-64 Linux.
  *
  * A controller receives its neighbour's record, laid out as the neighbour lays it out, and puts every reading into its own layout. A
- * plan, built once from the two layouts, says how; a run of the plan does it for one record. docs/01 of the works gives the rules and
- * byte forms; the numbers below are its refusals.
+ * plan, built once from the two layouts, says how; a run of the plan does it for one record. Document 01 of the project gives the rules
+ * and the byte forms; the numbers below are its refusals.
  *
  * Proved of every call, whatever the bytes that it is lent: it ends, reads nothing outside of them, writes nothing but the buffer that
  * is lent for its result, and answers as crates/selector/specs defines. A refused call changes no byte of that buffer. An accepted one
@@ -65,7 +65,7 @@ extern "C" {
 #define SELECTOR_REPEATED_NAME 12        /* a struct repeats a field's name (by name) */
 #define SELECTOR_EXTRA_FIELD 13          /* an incoming struct has a field that the target lacks, and such are not ignored */
 #define SELECTOR_MISSING_FIELD 14        /* a target struct's field has no counterpart, and missing fields are not inserted */
-#define SELECTOR_NULL_UPCAST 15          /* null to another type, and the flag is off; likewise to 23 */
+#define SELECTOR_NULL_UPCAST 15          /* null to another type, and the flag is off; likewise 16 and 18 to 23 */
 #define SELECTOR_INTEGER_UPCAST 16       /* between integers */
 #define SELECTOR_INTEGER_RANGE 17        /* the target's range lacks an incoming value */
 #define SELECTOR_FLOAT_UPCAST 18         /* to a wider float */
@@ -128,12 +128,13 @@ uint64_t selector_build_by_number(uint32_t policy, uint32_t source_index, const 
                                   size_t target_length, const uint8_t *defaults, size_t defaults_length, uint8_t *plan, size_t plan_length);
 
 /* Checks that a plan takes records of the incoming layout to the target layout; the layouts are of either version. Refusals: 1 to 6, 30 to 33.
- * Stack: SELECTOR_CHECK_STACK. */
+ * Stack: SELECTOR_CHECK_STACK. Time: bounded by a polynomial in the bytes (docs/ARCHITECTURE.md, "Work and stack"), however large the types that a plan asks for. */
 uint64_t selector_check_plan(const uint8_t *incoming, size_t incoming_length, const uint8_t *target, size_t target_length, const uint8_t *plan,
                              size_t plan_length);
 
 /* Runs a plan over one record of the incoming layout and writes the record of the target layout. All of the check is made first. Refusals: those of the
- * check, 40 to 45. A plan that passes the check, run over a record that fits, can only be refused with 44 or 45. Stack: SELECTOR_RUN_STACK. */
+ * check, 40 to 45. A plan that passes the check, run over a record that fits, can only be refused with 44 or 45. Stack: SELECTOR_RUN_STACK.
+ * Time: bounded likewise, however long the output that a plan asks for: 44 is decided without it, and it is written no further than the limit. */
 uint64_t selector_run(const uint8_t *incoming, size_t incoming_length, const uint8_t *target, size_t target_length, const uint8_t *plan, size_t plan_length,
                       const uint8_t *record, size_t record_length, uint8_t *output, size_t output_length);
 
