@@ -1,5 +1,5 @@
 pub mod Numbers
 pub mod Passed
 pub mod Built
-pub mod Demand3
+pub mod Demands
 pub mod Table

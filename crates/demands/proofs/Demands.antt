@@ -1,8 +1,9 @@
--- Demand 3, sentence by sentence, over bytes and in the terms of the exported calls' contracts: `checkPlan`, `runPlan` (crate plan, specs/Calls.antt), `buildByName`,
+-- Demands 1 and 3, sentence by sentence, over bytes and in the terms of the exported calls' contracts: `checkPlan`, `runPlan`, `bufferAfter` (crate plan, specs/Calls.antt), `buildByName`,
 -- `buildByNumber` (crate matching, specs/Calls.antt). `AllBytes` says that a list's numbers are below 256, as those of every lent slice are. Assumes nothing.
 use Prim.Native.Nat.{ℕ}
-use mathlib.Core.Path.{_≡_, sym, ap, _∙_, subst}
-use mathlib.Core.List.{List}
+use mathlib.Core.Path.{_≡_, refl, sym, ap, _∙_, subst}
+use lib.ListN.{length, drop}
+use mathlib.Core.List.{List, _++_}
 use mathlib.Core.Bool.{false}
 use mathlib.Core.Logic.{_↔_}
 use Rattle.layout.specs.Bytes.{Bytes, AllBytes}
@@ -12,7 +13,7 @@ use Rattle.plan.specs.Result.{accepted, refusedAt}
 use Rattle.plan.specs.Selector.{Selector, Selectors}
 use Rattle.plan.specs.Run.{spacious, written}
 use Rattle.plan.specs.Reach.{SelectorAt, ReachesOverflow}
-use Rattle.plan.specs.Calls.{checkPlan, runPlan}
+use Rattle.plan.specs.Calls.{checkPlan, runPlan, bufferAfter}
 use Rattle.matching.proofs.Calls.{by-name-built, by-number-built}
 use Rattle.matching.specs.Default.{noDefaults}
 use Rattle.matching.specs.Calls.{buildByName, buildByNumber}
@@ -29,7 +30,17 @@ use Rattle.demands.specs.Stated.{FitsLayout, SelectorsOf, LayoutOf, colu
 use Rattle.demands.proofs.Passed.{passed-runs, exceeds-exactly, ok-eq}
 use Rattle.demands.proofs.Built.{built-passes, built-due, by-name-past, by-name-back, by-number-past, by-number-back}
 
--- ---- "For every plan that passes the check from one layout to another, and every record that fits the first: the run refuses with 44 exactly when a strict cast that it
+-- ---- Demand 1: "No input, however broken, stops a call, and nothing is written by a refused one: it returns its number from document 01 and every lent buffer is unchanged."
+-- A call's contract (crate selector) has no `requires`, and gives its answer and its buffer at exit by these definitions for all bytes; `bufferAfter` is what stands in the buffer.
+
+pub refused-unchanged : (n k : ℕ) (buffer : Bytes) → bufferAfter (refusedAt n k) buffer ≡ buffer
+refused-unchanged n k buffer = refl
+
+-- "An accepted build or run .. writes the result from the buffer's start and changes no byte after it" (document 01).
+pub accepted-written : (result buffer : Bytes) → bufferAfter (accepted result) buffer ≡ result ++ drop (length result) buffer
+accepted-written result buffer = refl
+
+-- ---- Demand 3: "For every plan that passes the check from one layout to another, and every record that fits the first: the run refuses with 44 exactly when a strict cast that it
 -- reaches multiplies a non-null date-time beyond signed 64 bits. Otherwise, given space, it writes a record that fits the second; short of space it refuses with 45, and
 -- no other refusal is left." `ReachesOverflow` (crate plan, specs/Reach.antt) is the condition of 44; the defined output is `output`, and there is space for it where
 -- `spacious` says so: for the buffer and for 16,384 bytes.
