@@ -1,5 +1,6 @@
 #!/usr/bin/env python3
-# Makes the folders of examples/: two layouts, the plan that a builder writes for them, a record, and what the run writes.
+# Makes the folders of examples/: two layouts, the plan that a builder writes for them, a record, and what the run writes; and of the first also what the program `apply` is tried on
+# (crates/apply/data and stdout).
 #
 #   compare/examples.py
 #
@@ -10,6 +11,7 @@ import struct
 
 ROOT = os.path.dirname(os.path.dirname(os.path.abspath(__file__)))
 EXAMPLES = os.path.join(ROOT, "examples")
+PROGRAM = os.path.join(ROOT, "crates", "apply")
 
 INT8, INT16, INT32, INT64 = b"\x02", b"\x03", b"\x04", b"\x05"
 FLOAT32, FLOAT64 = b"\x0b", b"\x0c"
@@ -199,15 +201,22 @@ FOLDERS = {
 }
 
 
+def write(folder, name, data):
+    os.makedirs(folder, exist_ok=True)
+    with open(os.path.join(folder, name), "wb") as f:
+        f.write(data)
+
+
 def main():
     for name, (about, policy, files) in FOLDERS.items():
         folder = os.path.join(EXAMPLES, name)
-        os.makedirs(folder, exist_ok=True)
-        with open(os.path.join(folder, "about.txt"), "w") as f:
-            f.write("%s\nPolicy word: %d.\n" % (about, policy))
+        write(folder, "about.txt", ("%s\nPolicy word: %d.\n" % (about, policy)).encode())
         for file, data in files.items():
-            with open(os.path.join(folder, file), "wb") as f:
-                f.write(data)
+            write(folder, file, data)
+    files = FOLDERS["neighbour"][2]
+    for file in ("incoming.lay", "target.lay", "plan.pln", "record.bin"):
+        write(os.path.join(PROGRAM, "data"), file, files[file])
+    write(PROGRAM, "stdout", files["output.bin"])
 
 
 main()

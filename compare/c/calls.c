@@ -14,8 +14,6 @@
 #include <stdio.h>
 #include <stdlib.h>
 #include <string.h>
-#include <sys/mman.h>
-#include <unistd.h>
 
 enum { INPUTS = 4, SPACE = 73728, FILL = 165 };
 
@@ -24,15 +22,8 @@ enum { INPUTS = 4, SPACE = 73728, FILL = 165 };
 static uint8_t *rooms[INPUTS + 1]; /* SPACE bytes each; the last is the lent buffer */
 
 static void make_rooms(void) {
-    size_t page = (size_t)sysconf(_SC_PAGESIZE);
-    for (int i = 0; i <= INPUTS; i++) {
-        uint8_t *all = mmap(NULL, SPACE + 2 * page, PROT_READ | PROT_WRITE, MAP_PRIVATE | MAP_ANONYMOUS, -1, 0);
-        if (SPACE % page != 0 || all == MAP_FAILED || mprotect(all, page, PROT_NONE) != 0 || mprotect(all + page + SPACE, page, PROT_NONE) != 0) {
-            perror("calls: no guarded memory");
-            exit(2);
-        }
-        rooms[i] = all + page;
-    }
+    for (int i = 0; i <= INPUTS; i++)
+        rooms[i] = guarded(SPACE);
 }
 
 static uint8_t *place(int i, size_t length, int before_end) { return before_end ? rooms[i] + SPACE - length : rooms[i]; }
@@ -143,38 +134,33 @@ static void replay(unsigned long line, const call *c, const char *number, const 
 static uint64_t state;
 static unsigned long met[KINDS][64], accepted[KINDS];
 
-static uint32_t below(uint32_t n) {
-    state ^= state >> 12;
-    state ^= state << 25;
-    state ^= state >> 27;
-    return (uint32_t)((state * 2685821657736338717u >> 32) % n);
-}
+static uint32_t random_below(uint32_t n) { return below(&state, n); }
 
 static void damage(call *c) {
-    int i = (int)below((uint32_t)c->inputs);
+    int i = (int)random_below((uint32_t)c->inputs);
     uint8_t *bytes = c->bytes[i];
     size_t length = c->length[i];
-    uint32_t at = length == 0 ? 0 : below((uint32_t)length);
-    uint32_t run = 1 + below(8);
-    switch (below(9)) {
+    uint32_t at = length == 0 ? 0 : random_below((uint32_t)length);
+    uint32_t run = 1 + random_below(8);
+    switch (random_below(9)) {
     case 0:
         c->length[i] = at;
         break;
     case 1:
         if (length < SPACE)
-            bytes[c->length[i]++] = (uint8_t)below(256);
+            bytes[c->length[i]++] = (uint8_t)random_below(256);
         break;
     case 2:
-        bytes[at] ^= (uint8_t)(1u << below(8));
+        bytes[at] ^= (uint8_t)(1u << random_below(8));
         break;
     case 3:
-        bytes[at] = (uint8_t)below(256);
+        bytes[at] = (uint8_t)random_below(256);
         break;
     case 4:
-        bytes[at] = (uint8_t)(bytes[at] + (below(2) == 0 ? 1 : 255));
+        bytes[at] = (uint8_t)(bytes[at] + (random_below(2) == 0 ? 1 : 255));
         break;
     case 5:
-        bytes[at] = (uint8_t)"\x00\x01\x02\x03\x04\x05\x06\x0E\x12\x13\x14\x15\x3F\x40\xFF"[below(15)];
+        bytes[at] = (uint8_t)"\x00\x01\x02\x03\x04\x05\x06\x0E\x12\x13\x14\x15\x3F\x40\xFF"[random_below(15)];
         break;
     case 6:
         if (at + run <= length) {
@@ -189,8 +175,8 @@ static void damage(call *c) {
         }
         break;
     default:
-        c->policy ^= 1u << below(14);
-        c->space = below(4) == 0 ? below(64) : c->space;
+        c->policy ^= 1u << random_below(14);
+        c->space = random_below(4) == 0 ? random_below(64) : c->space;
     }
 }
 
@@ -233,7 +219,7 @@ static void try_damaged(unsigned long line, const call *c, unsigned long rounds)
     static call d;
     for (unsigned long i = 0; i < rounds; i++) {
         d = *c;
-        for (uint32_t n = 1 + below(3); n > 0; n--)
+        for (uint32_t n = 1 + random_below(3); n > 0; n--)
             damage(&d);
         if (!lawful(&d, (int)(i % 2))) {
             printf("line %lu, round %lu: a promise does not hold\n", line, i);

@@ -6,31 +6,18 @@
  * ends the program. Then ROUNDS layouts (default 300,000) are made at random and damaged; each answer is compared with that of a second
  * reader, below, which is written from document 01 alone. One line sums up; the exit status is 1 where anything differs. */
 #define _DEFAULT_SOURCE
+#include "list.h"
 #include "selector.h"
 
 #include <stdio.h>
 #include <stdlib.h>
 #include <string.h>
-#include <sys/mman.h>
-#include <unistd.h>
 
 enum { LIMIT = 16384, SPACE = 20480, MOST_DEPTH = 16 };
 
 /* --- inputs between pages that cannot be read --------------------------------------------------------------------------------- */
 
 static uint8_t *room; /* SPACE bytes, with a page that cannot be read on either side */
-
-static void make_room(void) {
-    size_t page = (size_t)sysconf(_SC_PAGESIZE);
-    size_t inside = (SPACE + page - 1) / page * page;
-    uint8_t *all = mmap(NULL, inside + 2 * page, PROT_READ | PROT_WRITE, MAP_PRIVATE | MAP_ANONYMOUS, -1, 0);
-    if (inside != SPACE || all == MAP_FAILED || mprotect(all, page, PROT_NONE) != 0 ||
-        mprotect(all + page + inside, page, PROT_NONE) != 0) {
-        perror("replay: no guarded memory");
-        exit(2);
-    }
-    room = all + page;
-}
 
 /* The bytes, right before the upper page or right after the lower one. */
 static const uint8_t *placed(const uint8_t *bytes, size_t length, int before_end) {
@@ -231,13 +218,7 @@ static unsigned long replay_list(const char *path) {
 
 static uint64_t state;
 
-/* xorshift64*, below n */
-static uint32_t below(uint32_t n) {
-    state ^= state >> 12;
-    state ^= state << 25;
-    state ^= state >> 27;
-    return (uint32_t)((state * 2685821657736338717u >> 32) % n);
-}
+static uint32_t random_below(uint32_t n) { return below(&state, n); }
 
 typedef struct {
     uint8_t bytes[SPACE];
@@ -252,16 +233,16 @@ static void put(text *t, uint32_t value, unsigned bytes) {
 }
 
 static void put_name(text *t) {
-    uint32_t length = below(40) == 0 ? 63 : below(5);
+    uint32_t length = random_below(40) == 0 ? 63 : random_below(5);
     put(t, length, 1);
     for (uint32_t i = 0; i < length; i++)
-        put(t, 'a' + below(length > 3 ? 26 : 8), 1);
+        put(t, 'a' + random_below(length > 3 ? 26 : 8), 1);
 }
 
 static void put_label(text *t) {
     put_name(t);
     if (t->version == 2)
-        put(t, below(10) == 0 ? below(4) << 24 : below(2000), 4);
+        put(t, random_below(10) == 0 ? random_below(4) << 24 : random_below(2000), 4);
 }
 
 static void put_type(text *t, int depth);
@@ -275,20 +256,20 @@ static void put_columns(text *t, int depth, uint32_t count) {
 }
 
 static void put_type(text *t, int depth) {
-    uint32_t code = below(21);
-    if (t->deep && depth < MOST_DEPTH + (int)below(2) && below(64) != 0)
-        code = 18 + below(3);
+    uint32_t code = random_below(21);
+    if (t->deep && depth < MOST_DEPTH + (int)random_below(2) && random_below(64) != 0)
+        code = 18 + random_below(3);
     if (depth > MOST_DEPTH || t->length > 12000)
-        code = below(18);
+        code = random_below(18);
     put(t, code, 1);
     if (code == 14) {
-        put(t, below(3), 1);
+        put(t, random_below(3), 1);
         put_name(t);
     } else if (code == 18) {
-        put_columns(t, depth + 1, t->deep ? 1 + (below(8) == 0) : below(4));
+        put_columns(t, depth + 1, t->deep ? 1 + (random_below(8) == 0) : random_below(4));
     } else if (code >= 19) {
         if (code == 20)
-            put(t, below(70000), 4);
+            put(t, random_below(70000), 4);
         if (t->version == 2)
             put_label(t);
         put_type(t, depth + 1);
@@ -297,38 +278,38 @@ static void put_type(text *t, int depth) {
 
 static void make(text *t) {
     t->length = 0;
-    t->version = 1 + (int)below(2);
-    t->deep = below(4) == 0;
+    t->version = 1 + (int)random_below(2);
+    t->deep = random_below(4) == 0;
     put(t, 'L' | 'A' << 8 | 'Y' << 16, 3);
     put(t, (uint32_t)t->version, 2);
-    put_columns(t, 1, below(50) == 0 ? below(600) : below(8));
-    if (below(500) == 0) /* about the limit of the whole */
-        for (size_t end = LIMIT - 4 + below(9); t->length < end;)
+    put_columns(t, 1, random_below(50) == 0 ? random_below(600) : random_below(8));
+    if (random_below(500) == 0) /* about the limit of the whole */
+        for (size_t end = LIMIT - 4 + random_below(9); t->length < end;)
             put(t, 0, 1);
 }
 
 /* One change: cut, lengthened, a bit or a byte changed, a run of bytes taken out or doubled. */
 static void damage(text *t) {
-    uint32_t at = t->length == 0 ? 0 : below((uint32_t)t->length);
-    uint32_t run = 1 + below(8);
-    switch (below(8)) {
+    uint32_t at = t->length == 0 ? 0 : random_below((uint32_t)t->length);
+    uint32_t run = 1 + random_below(8);
+    switch (random_below(8)) {
     case 0:
         t->length = at;
         break;
     case 1:
-        put(t, below(256), 1 + below(3));
+        put(t, random_below(256), 1 + random_below(3));
         break;
     case 2:
-        t->bytes[at] ^= (uint8_t)(1u << below(8));
+        t->bytes[at] ^= (uint8_t)(1u << random_below(8));
         break;
     case 3:
-        t->bytes[at] = (uint8_t)below(256);
+        t->bytes[at] = (uint8_t)random_below(256);
         break;
     case 4: /* a count or a length: one more, one less */
-        t->bytes[at] = (uint8_t)(t->bytes[at] + (below(2) == 0 ? 1 : 255));
+        t->bytes[at] = (uint8_t)(t->bytes[at] + (random_below(2) == 0 ? 1 : 255));
         break;
     case 5: /* a code or a limit */
-        t->bytes[at] = (uint8_t)"\x00\x01\x0E\x12\x13\x14\x15\x3F\x40\xFF"[below(10)];
+        t->bytes[at] = (uint8_t)"\x00\x01\x0E\x12\x13\x14\x15\x3F\x40\xFF"[random_below(10)];
         break;
     case 6:
         if (at + run <= t->length) {
@@ -350,7 +331,7 @@ static void try_random(unsigned long rounds) {
     static text t;
     for (unsigned long i = 0; i < rounds; i++) {
         make(&t);
-        for (uint32_t n = below(4); n > 0; n--)
+        for (uint32_t n = random_below(4); n > 0; n--)
             damage(&t);
         unsigned due = second_answer(t.bytes, t.length);
         uint64_t given = selector_read_layout(placed(t.bytes, t.length, (int)(i % 2)), t.length);
@@ -368,7 +349,7 @@ int main(int count, char **words) {
     }
     unsigned long rounds = count > 2 ? strtoul(words[2], NULL, 10) : 300000;
     state = count > 3 ? strtoull(words[3], NULL, 10) | 1 : 20261115;
-    make_room();
+    room = guarded(SPACE);
     unsigned long cases = replay_list(words[1]);
     try_random(rounds);
     printf("%lu cases, %lu random layouts (0 to 6: %lu %lu %lu %lu %lu %lu %lu), %lu differ\n", cases, rounds, met[0], met[1], met[2],
