@@ -43,7 +43,7 @@ extern "C" {
 #define SELECTOR_RECORD_MAX 16384
 
 /* The most stack that a call takes, in bytes, as compiled here; compare/c/stack measures it. */
-#define SELECTOR_READ_STACK 8192
+#define SELECTOR_READ_STACK 16384
 #define SELECTOR_BUILD_STACK 114688
 #define SELECTOR_CHECK_STACK 262144
 #define SELECTOR_RUN_STACK 262144

@@ -7,7 +7,7 @@ fn main() {
     println!("cargo::rerun-if-env-changed=SELECTOR_LIBRARY");
     let package = PathBuf::from(env::var_os("CARGO_MANIFEST_DIR").unwrap());
     let folder = match env::var_os("SELECTOR_LIBRARY") {
-        Some(folder) => PathBuf::from(folder),
+        Some(folder) => package.join(folder),
         None => package.join("../target/staticlib"),
     };
     let library = folder.join("libselector.a");

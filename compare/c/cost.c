@@ -11,7 +11,7 @@
 #include <sys/mman.h>
 #include <time.h>
 
-enum { LIMIT = 16384, STACK = 1 << 16, PAINT = 0xA5, SAID = 8192 };
+enum { LIMIT = 16384, STACK = 1 << 16, PAINT = 0xA5 };
 
 static uint8_t bytes[LIMIT];
 static size_t length;
@@ -144,6 +144,6 @@ int main(void) {
         widest(version, 1, 65535);
         widest(version, 15, 65535);
     }
-    printf("stack: %zu bytes, of %d\n", most, SAID);
-    return most > SAID;
+    printf("stack: %zu bytes, of %d\n", most, SELECTOR_READ_STACK);
+    return most > SELECTOR_READ_STACK;
 }

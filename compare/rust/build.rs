@@ -60,14 +60,4 @@ fn main() {
     // Arrays stand behind this feature in the original.
     println!("cargo::rustc-check-cfg=cfg(feature, values(\"dtype-array\"))");
     println!("cargo::rustc-cfg=feature=\"dtype-array\"");
-
-    if env::var_os("CARGO_FEATURE_LIBRARY").is_some() {
-        let library = folder("SELECTOR_LIBRARY", "../../target/staticlib");
-        println!(
-            "cargo::rerun-if-changed={}",
-            library.join("libselector.a").display()
-        );
-        println!("cargo::rustc-link-search=native={}", library.display());
-        println!("cargo::rustc-link-lib=static=selector");
-    }
 }

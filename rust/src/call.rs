@@ -1,4 +1,5 @@
-//! The functions of libselector.a, with slices for pointers and lengths.
+//! The functions of libselector.a, with slices for pointers and lengths, and any policy word. The answer of an accepted build or run is the result's
+//! length, that of any other accepted call 0.
 
 use crate::Refusal;
 
@@ -62,10 +63,12 @@ fn answered(answer: u64) -> Result<usize, Refusal> {
 // SAFETY of the calls below: a slice's pointer is not null and valid for its length; a buffer is lent for writing, so that nothing else refers to it and it
 // overlaps no other slice.
 
-pub fn read_layout(layout: &[u8]) -> Result<(), Refusal> {
-    answered(unsafe { selector_read_layout(layout.as_ptr(), layout.len()) }).map(drop)
+/// `selector_read_layout`.
+pub fn read_layout(layout: &[u8]) -> Result<usize, Refusal> {
+    answered(unsafe { selector_read_layout(layout.as_ptr(), layout.len()) })
 }
 
+/// `selector_build_by_name`.
 pub fn build_by_name(
     policy: u32,
     incoming: &[u8],
@@ -85,6 +88,7 @@ pub fn build_by_name(
     })
 }
 
+/// `selector_build_by_number`.
 pub fn build_by_number(
     policy: u32,
     source_index: u32,
@@ -109,7 +113,8 @@ pub fn build_by_number(
     })
 }
 
-pub fn check_plan(incoming: &[u8], target: &[u8], plan: &[u8]) -> Result<(), Refusal> {
+/// `selector_check_plan`.
+pub fn check_plan(incoming: &[u8], target: &[u8], plan: &[u8]) -> Result<usize, Refusal> {
     answered(unsafe {
         selector_check_plan(
             incoming.as_ptr(),
@@ -120,9 +125,9 @@ pub fn check_plan(incoming: &[u8], target: &[u8], plan: &[u8]) -> Result<(), Ref
             plan.len(),
         )
     })
-    .map(drop)
 }
 
+/// `selector_run`.
 pub fn run(
     incoming: &[u8],
     target: &[u8],

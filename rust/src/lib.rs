@@ -22,7 +22,7 @@
 
 extern crate alloc;
 
-mod call;
+pub mod call;
 mod policy;
 mod refusal;
 
@@ -41,7 +41,7 @@ pub const RECORD_MAX: usize = 16_384;
 
 /// Reads a layout of version 1 or 2 to its end.
 pub fn read_layout(layout: &[u8]) -> Result<(), Refusal> {
-    call::read_layout(layout)
+    call::read_layout(layout).map(drop)
 }
 
 /// A plan's bytes. That they are a plan, and one between two layouts, is what [`Plan::check`] says.
@@ -89,7 +89,7 @@ impl Plan {
 
     /// Whether the plan takes records of the one layout to the other.
     pub fn check(&self, incoming: &[u8], target: &[u8]) -> Result<(), Refusal> {
-        call::check_plan(incoming, target, &self.0)
+        call::check_plan(incoming, target, &self.0).map(drop)
     }
 
     /// Runs the plan over one record of the incoming layout: all of the check, then the record in the target layout.

@@ -1,13 +1,16 @@
-//! What a build costs in the library and in the original, measured in one run and printed as ratios.
+//! What the calls cost in the library and in plain Rust, measured side by side in one run and printed as ratios. The plain Rust of a build is the original over
+//! its stand-ins, that of the other calls compare/plain; all go from bytes to bytes, with their allocations.
 
 use crate::beside::Builder;
-use crate::form::{self, Column, Layout, Leaf, Type};
+use crate::clock;
 use crate::library::Library;
-use crate::oracle::{self, Case, Number};
+use crate::oracle::{self, Answer};
+use column_selector::call as library;
+use plain::call as plainly;
+use plain::case::{Case, Number};
+use plain::form::{self, Column, LAYOUT_LIMIT, Layout, Leaf, PLAN_LIMIT, RECORD_LIMIT, Type};
+use plain::generate::ALL;
 use std::hint::black_box;
-use std::time::Instant;
-
-const ALL_ON: u32 = 0x3FFF;
 
 /// A leaf of the incoming layout and what it becomes in the target.
 const LEAVES: [(u8, u8); 8] = [
@@ -21,134 +24,353 @@ const LEAVES: [(u8, u8); 8] = [
     (4, 12),
 ];
 
-fn leaf(index: usize, target: bool) -> Type {
+// Layouts.
+
+/// One of the two layouts of a case.
+#[derive(Clone, Copy, PartialEq, Eq)]
+enum Role {
+    Incoming,
+    Target,
+}
+
+/// The order of the target's columns.
+#[derive(Clone, Copy, PartialEq, Eq)]
+enum Order {
+    Same,
+    Reversed,
+}
+
+fn leaf(index: usize, role: Role) -> Type {
     if index % 9 == 8 {
-        let (unit, zone) = if target { (0, b"UTC".to_vec()) } else { (2, Vec::new()) };
+        let (unit, zone) = match role {
+            Role::Incoming => (2, Vec::new()),
+            Role::Target => (0, b"UTC".to_vec()),
+        };
         return Type::Leaf(Leaf::Datetime { unit, zone });
     }
-    let (incoming, wanted) = LEAVES[index % 9 % 8];
-    Type::Leaf(Leaf::Plain(if target { wanted } else { incoming }))
+    let (incoming, target) = LEAVES[index % 9];
+    Type::Leaf(Leaf::Plain(match role {
+        Role::Incoming => incoming,
+        Role::Target => target,
+    }))
 }
 
-/// Every fifth column is a struct of four fields, every seventh a list.
-fn type_of(index: usize, target: bool, ids: &mut u32) -> Type {
-    if index % 5 == 4 {
-        let mut fields: Vec<Column> = (0..4)
-            .map(|field| Column {
-                name: format!("part{field}").into_bytes(),
-                id: 10_000 + 10 * index as u32 + field as u32,
-                type_: leaf(index + field, target),
-            })
-            .collect();
-        if target {
-            fields.rotate_left(1);
+/// Every fifth column is a struct of four fields, every seventh a list, each tenth a list of such structs.
+fn type_of(index: usize, role: Role, order: Order) -> Type {
+    let structure = || {
+        let field = |field: usize| Column {
+            name: format!("part{field}").into_bytes(),
+            id: (10_000 + 10 * index + field) as u32,
+            type_: leaf(index + field, role),
+        };
+        let mut fields: Vec<Column> = (0..4).map(field).collect();
+        if role == Role::Target && order == Order::Reversed {
+            fields.reverse();
         }
-        return Type::Struct(fields);
-    }
-    if index % 7 == 6 {
-        *ids += 1;
-        return Type::List(Box::new(Column {
+        Type::Struct(fields)
+    };
+    let list = |type_: Type| {
+        Type::List(Box::new(Column {
             name: Vec::new(),
-            id: 4_294_967_295,
-            type_: leaf(index, target),
-        }));
+            id: u32::MAX,
+            type_,
+        }))
+    };
+    match index {
+        _ if index % 10 == 7 => list(structure()),
+        _ if index % 5 == 4 => structure(),
+        _ if index % 7 == 6 => list(leaf(index, role)),
+        _ => leaf(index, role),
     }
-    leaf(index, target)
 }
 
-/// `count` columns; the target has them in another order, converted, a tenth of them missing in the incoming layout.
-fn layout(version: u8, count: usize, target: bool) -> Vec<u8> {
-    let mut ids = 0;
+/// Of `count` columns the incoming layout lacks a tenth. By number the original's comparison has no missing top columns, so there the target does too.
+fn layout(version: u8, count: usize, role: Role, order: Order) -> Vec<u8> {
+    let missing = role == Role::Incoming || version == 2;
     let mut columns: Vec<Column> = (0..count)
-        .filter(|index| target || index % 10 != 9)
+        .filter(|index| !missing || index % 10 != 9)
         .map(|index| Column {
             name: format!("reading_{index}").into_bytes(),
             id: if version == 2 { 1 + index as u32 } else { 0 },
-            type_: type_of(index, target, &mut ids),
+            type_: type_of(index, role, order),
         })
         .collect();
-    if target {
+    if role == Role::Target && order == Order::Reversed {
         columns.reverse();
     }
     form::write_layout(&Layout { version, columns })
 }
 
-fn case(version: u8, count: usize) -> Case {
-    let incoming = layout(version, count, false);
-    // By number the original's comparison has no missing top columns.
-    let mut target = layout(version, count, true);
-    if version == 2 {
-        let read = form::read_layout(&target).unwrap();
-        let columns = read
-            .columns
-            .into_iter()
-            .filter(|column| (column.id - 1) % 10 != 9)
-            .collect();
-        target = form::write_layout(&Layout { version, columns });
-    }
+/// As many columns as a layout can have.
+fn widest(version: u8) -> (usize, Vec<u8>) {
+    let (name, bytes) = if version == 1 { (2, 4) } else { (0, 6) };
+    let count = (LAYOUT_LIMIT - 7) / bytes;
+    let column = |index: usize| Column {
+        name: index.to_le_bytes()[..name].to_vec(),
+        id: index as u32,
+        type_: Type::Leaf(Leaf::Plain(2)),
+    };
+    let columns = (0..count).map(column).collect();
+    (count, form::write_layout(&Layout { version, columns }))
+}
+
+fn case(version: u8, count: usize, order: Order) -> Case {
     let number = (version == 2).then(|| Number {
         source_index: 0,
-        defaults: b"DEF\x01\x00\x00\x00".to_vec(),
+        defaults: form::write_defaults(&[]),
     });
     Case {
-        policy: ALL_ON,
-        incoming,
-        target,
+        policy: ALL,
+        incoming: layout(version, count, Role::Incoming, order),
+        target: layout(version, count, Role::Target, order),
         number,
     }
 }
 
-/// The median of many rounds, in nanoseconds a call.
-fn median(mut call: impl FnMut()) -> f64 {
-    let start = Instant::now();
-    call();
-    let once = start.elapsed().as_nanos().max(1);
-    let calls = (2_000_000 / once).clamp(1, 20_000) as u32;
-    let mut rounds: Vec<f64> = (0..31)
-        .map(|_| {
-            let start = Instant::now();
-            for _ in 0..calls {
-                call();
-            }
-            start.elapsed().as_nanos() as f64 / f64::from(calls)
-        })
-        .collect();
-    rounds.sort_by(f64::total_cmp);
-    rounds[15]
+// Records.
+
+/// A present value, with texts of seven bytes and lists of two elements.
+fn write_value(bytes: &mut Vec<u8>, type_: &Type) {
+    bytes.push(1);
+    match type_ {
+        Type::Leaf(leaf) => match form::fixed_width(leaf) {
+            Some(width) => bytes.extend(&[5, 4, 3, 2, 1, 0, 0, 0][..width]),
+            None => bytes.extend(b"\x07\x00reading"),
+        },
+        Type::Struct(columns) => columns
+            .iter()
+            .for_each(|column| write_value(bytes, &column.type_)),
+        Type::List(element) => {
+            bytes.extend([2, 0]);
+            write_value(bytes, &element.type_);
+            write_value(bytes, &element.type_);
+        }
+        Type::Array(width, element) => {
+            (0..*width).for_each(|_| write_value(bytes, &element.type_));
+        }
+    }
 }
 
-/// One line: the library's time, and the original's over it, from bytes to bytes and for the selectors alone.
-fn line(name: &str, case: &Case) -> Result<(), String> {
-    let prepared = oracle::prepare(case).map_err(|aside| format!("{name}: {aside:?}"))?;
-    let mut plan = vec![0u8; form::PLAN_LIMIT];
-    let answer = Library.build(case, &mut plan);
-    if answer >> 32 != 0 {
-        return Err(format!("{name}: refused {}", answer >> 32));
+fn record(incoming: &[u8]) -> Vec<u8> {
+    let layout = form::read_layout(incoming).expect("the bench's layouts can be read");
+    let mut bytes = Vec::new();
+    for column in &layout.columns {
+        write_value(&mut bytes, &column.type_);
     }
-    let library = median(|| {
-        black_box(Library.build(black_box(case), black_box(&mut plan)));
-    });
-    let whole = median(|| {
-        black_box(oracle::original(black_box(case)).unwrap());
-    });
-    let selectors = median(|| {
-        black_box(black_box(&prepared).build());
-    });
-    println!(
-        "{name:26} {:6.2} {:10.2}",
-        library / whole,
-        library / selectors
+    bytes
+}
+
+// Measuring.
+
+/// A round of one side takes about so many seconds, unless a call takes longer.
+const ROUND: f64 = 0.003;
+/// A line takes about so many seconds, if that gives a few rounds.
+const LINE: f64 = 0.8;
+const FEWEST_ROUNDS: usize = 5;
+const MOST_ROUNDS: usize = 151;
+
+fn time(calls: u32, mut call: impl FnMut()) -> f64 {
+    let start = clock::now();
+    for _ in 0..calls {
+        call();
+    }
+    (clock::now() - start) / f64::from(calls)
+}
+
+/// How many calls make a round.
+fn calls(call: impl FnMut()) -> u32 {
+    let once = time(1, call).max(1e-9);
+    (ROUND / once).clamp(1.0, 100_000.0) as u32
+}
+
+fn median(mut values: Vec<f64>) -> f64 {
+    values.sort_by(f64::total_cmp);
+    values[values.len() / 2]
+}
+
+/// One line: the sides in turn, the median of their ratios, and the median of plain Rust's own time.
+fn line(name: &str, count: usize, mut library: impl FnMut(), mut plain: impl FnMut()) {
+    let (library_calls, plain_calls) = (calls(&mut library), calls(&mut plain));
+    let (mut ratios, mut times) = (Vec::new(), Vec::new());
+    let start = clock::now();
+    while ratios.len() < FEWEST_ROUNDS
+        || (ratios.len() < MOST_ROUNDS && clock::now() - start < LINE)
+    {
+        let (ours, theirs) = (
+            time(library_calls, &mut library),
+            time(plain_calls, &mut plain),
+        );
+        ratios.push(ours / theirs);
+        times.push(theirs * 1e6);
+    }
+    let (ratio, time) = (median(ratios), median(times));
+    println!("{name:32} {count:>7} {ratio:>13.2} {time:>14.1}");
+}
+
+fn differs(name: &str) -> String {
+    format!("{name}: the answers differ, or the call is refused")
+}
+
+fn reading(name: &str, count: usize, layout: &[u8]) -> Result<(), String> {
+    let ours = library::read_layout(layout);
+    if ours != Ok(0) || form::read_layout(layout).is_err() {
+        return Err(differs(name));
+    }
+    line(
+        name,
+        count,
+        || {
+            black_box(library::read_layout(black_box(layout))).ok();
+        },
+        || {
+            black_box(form::read_layout(black_box(layout))).ok();
+        },
     );
     Ok(())
 }
 
+fn building(name: &str, count: usize, case: &Case) -> Result<(), String> {
+    let mut plan = vec![0u8; PLAN_LIMIT];
+    let length = Library.build(case, &mut plan) as usize;
+    let built = plan.get(..length).map(|plan| Answer::Plan(plan.to_vec()));
+    if built != oracle::original(case).ok() {
+        return Err(differs(name));
+    }
+    line(
+        name,
+        count,
+        || {
+            black_box(Library.build(black_box(case), &mut plan));
+        },
+        || {
+            black_box(oracle::original(black_box(case))).ok();
+        },
+    );
+    Ok(())
+}
+
+/// A plan with a record for it, and what its run writes.
+struct Planned {
+    case: Case,
+    plan: Vec<u8>,
+    record: Vec<u8>,
+    output: Vec<u8>,
+}
+
+impl Planned {
+    /// None where a limit is passed.
+    fn new(count: usize, order: Order) -> Option<Planned> {
+        let case = case(1, count, order);
+        let Case {
+            incoming, target, ..
+        } = &case;
+        let Ok(Answer::Plan(plan)) = oracle::original(&case) else {
+            return None;
+        };
+        let record = record(incoming);
+        let output = plainly::run(incoming, target, &plan, &record, RECORD_LIMIT).ok()?;
+        Some(Planned {
+            case,
+            plan,
+            record,
+            output,
+        })
+    }
+
+    fn checking(&self, name: &str, count: usize) -> Result<(), String> {
+        let (incoming, target, plan) = (&self.case.incoming, &self.case.target, &self.plan);
+        let ours = library::check_plan(incoming, target, plan);
+        if ours != Ok(0) || plainly::check_plan(incoming, target, plan).is_err() {
+            return Err(differs(name));
+        }
+        let arguments = || black_box((incoming, target, plan));
+        line(
+            name,
+            count,
+            || {
+                let (incoming, target, plan) = arguments();
+                black_box(library::check_plan(incoming, target, plan)).ok();
+            },
+            || {
+                let (incoming, target, plan) = arguments();
+                black_box(plainly::check_plan(incoming, target, plan)).ok();
+            },
+        );
+        Ok(())
+    }
+
+    fn running(&self, name: &str, count: usize) -> Result<(), String> {
+        let (incoming, target, plan) = (&self.case.incoming, &self.case.target, &self.plan);
+        let record = &self.record;
+        let mut buffer = vec![0; RECORD_LIMIT];
+        let length = library::run(incoming, target, plan, record, &mut buffer);
+        if !length.is_ok_and(|length| buffer[..length] == self.output) {
+            return Err(differs(name));
+        }
+        let arguments = || black_box((incoming, target, plan, record));
+        line(
+            name,
+            count,
+            || {
+                let (incoming, target, plan, record) = arguments();
+                black_box(library::run(incoming, target, plan, record, &mut buffer)).ok();
+            },
+            || {
+                let (incoming, target, plan, record) = arguments();
+                black_box(plainly::run(incoming, target, plan, record, RECORD_LIMIT)).ok();
+            },
+        );
+        Ok(())
+    }
+}
+
+const SMALL: usize = 12;
+const MIDDLE: usize = 100;
+
+/// The largest count that is admitted, in steps of ten.
+fn largest(admitted: impl Fn(usize) -> bool) -> usize {
+    let counts = (MIDDLE..LAYOUT_LIMIT).step_by(10);
+    counts.take_while(|count| admitted(*count)).last().unwrap()
+}
+
 pub fn run() -> Result<(), String> {
-    println!("The library's time over the original's (compiled over stand-ins, with its allocations), medians of one run:");
-    println!("{:26} {:>6} {:>10}", "", "bytes to", "selectors");
-    println!("{:26} {:>6} {:>10}", "", "bytes", "alone");
-    for (size, count) in [("12 columns", 12), ("20 columns", 20), ("100 columns", 100), ("400 columns", 400)] {
-        line(&format!("by name, {size}"), &case(1, count))?;
-        line(&format!("by number, {size}"), &case(2, count))?;
+    println!(
+        "The library's time over plain Rust's, medians of one run (the builds' plain Rust is the original over stand-ins):"
+    );
+    println!(
+        "{:32} {:>7} {:>13} {:>14}",
+        "", "columns", "library/plain", "plain Rust, µs"
+    );
+    let readable = |version: u8| {
+        move |count: usize| {
+            let target = layout(version, count, Role::Target, Order::Reversed);
+            target.len() <= LAYOUT_LIMIT
+        }
+    };
+    for version in [1, 2] {
+        let name = format!("reading, version {version}");
+        for count in [SMALL, MIDDLE, largest(readable(version))] {
+            let layout = layout(version, count, Role::Target, Order::Reversed);
+            reading(&name, count, &layout)?;
+        }
+        let (count, layout) = widest(version);
+        reading(&format!("{name}, leaves alone"), count, &layout)?;
+    }
+    for (version, name) in [(1, "building by name"), (2, "building by number")] {
+        for count in [SMALL, MIDDLE, largest(readable(version))] {
+            building(name, count, &case(version, count, Order::Reversed))?;
+        }
+    }
+    for (order, order_name) in [(Order::Same, "same order"), (Order::Reversed, "reversed")] {
+        let most = largest(|count| Planned::new(count, order).is_some());
+        let counts = [SMALL, MIDDLE, most];
+        let planned = counts.map(|count| (count, Planned::new(count, order).unwrap()));
+        for (count, planned) in &planned {
+            planned.checking(&format!("checking, {order_name}"), *count)?;
+        }
+        for (count, planned) in &planned {
+            planned.running(&format!("running, {order_name}"), *count)?;
+        }
     }
     Ok(())
 }

@@ -1,7 +1,8 @@
 //! A builder beside the original: its answer and its buffer, with guard bytes around it.
 
 use crate::list;
-use crate::oracle::{Answer, Case};
+use crate::oracle::Answer;
+use plain::case::Case;
 
 /// The two build calls. The answer is number * 2^32 + rest.
 pub trait Builder {

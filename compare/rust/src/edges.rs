@@ -1,8 +1,8 @@
 //! Cases written by hand, at the edges of document 01's rules.
 
-use crate::form::{Column, Default, Entry, Layout, Leaf, LeafValue, Type};
-use crate::form::{write_defaults, write_layout};
-use crate::oracle::{Case, Number};
+use plain::case::{Case, Number};
+use plain::form::{Column, Default, Entry, Layout, Leaf, LeafValue, Type};
+use plain::form::{write_defaults, write_layout};
 
 /// Every flag on, and extra top columns ignored.
 const ALL: u32 = 0xBFFF;

@@ -1,8 +1,8 @@
 //! Every pair of leaf kinds, date-times with four zones, by name and by number.
 
-use crate::form::{Column, Layout, Leaf, Type, write_defaults, write_layout};
-use crate::generate::{ALL, POLICY_BITS};
-use crate::oracle::{Case, Number};
+use plain::case::{Case, Number};
+use plain::form::{Column, Layout, Leaf, Type, write_defaults, write_layout};
+use plain::generate::{ALL, POLICY_BITS};
 
 const ZONES: [&str; 4] = ["", "UTC", "Europe/Oslo", "Etc/UTC"];
 

@@ -5,9 +5,9 @@ include!(concat!(env!("OUT_DIR"), "/source.rs"));
 #[cfg(feature = "library")]
 pub mod bench;
 pub mod beside;
+#[cfg(feature = "library")]
+mod clock;
 pub mod edges;
-pub mod form;
-pub mod generate;
 pub mod json;
 pub mod leaves;
 #[cfg(feature = "library")]

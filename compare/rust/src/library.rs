@@ -1,32 +1,8 @@
-//! The calls of libselector.a.
+//! The two builds of the library.
 
 use crate::beside::Builder;
-use crate::oracle::Case;
-
-unsafe extern "C" {
-    fn selector_build_by_name(
-        policy: u32,
-        incoming: *const u8,
-        incoming_length: usize,
-        target: *const u8,
-        target_length: usize,
-        plan: *mut u8,
-        plan_length: usize,
-    ) -> u64;
-
-    fn selector_build_by_number(
-        policy: u32,
-        source_index: u32,
-        incoming: *const u8,
-        incoming_length: usize,
-        target: *const u8,
-        target_length: usize,
-        defaults: *const u8,
-        defaults_length: usize,
-        plan: *mut u8,
-        plan_length: usize,
-    ) -> u64;
-}
+use column_selector::call;
+use plain::case::Case;
 
 pub struct Library;
 
@@ -38,31 +14,20 @@ impl Builder for Library {
             target,
             number,
         } = case;
-        // SAFETY: each pointer is a slice's, which is not null and valid for its length; only `plan` is written.
-        unsafe {
-            match number {
-                None => selector_build_by_name(
-                    *policy,
-                    incoming.as_ptr(),
-                    incoming.len(),
-                    target.as_ptr(),
-                    target.len(),
-                    plan.as_mut_ptr(),
-                    plan.len(),
-                ),
-                Some(number) => selector_build_by_number(
-                    *policy,
-                    number.source_index,
-                    incoming.as_ptr(),
-                    incoming.len(),
-                    target.as_ptr(),
-                    target.len(),
-                    number.defaults.as_ptr(),
-                    number.defaults.len(),
-                    plan.as_mut_ptr(),
-                    plan.len(),
-                ),
-            }
+        let answer = match number {
+            None => call::build_by_name(*policy, incoming, target, plan),
+            Some(number) => call::build_by_number(
+                *policy,
+                number.source_index,
+                incoming,
+                target,
+                &number.defaults,
+                plan,
+            ),
+        };
+        match answer {
+            Ok(length) => length as u64,
+            Err(refusal) => u64::from(refusal.number) << 32 | u64::from(refusal.place),
         }
     }
 }

@@ -1,22 +1,8 @@
 //! Cases and answers as lines, in the form that the program `cases` replays.
 
-use crate::oracle::{Answer, Case};
-
-pub fn hex(bytes: &[u8]) -> String {
-    if bytes.is_empty() {
-        return "-".to_owned();
-    }
-    bytes.iter().map(|byte| format!("{byte:02x}")).collect()
-}
-
-pub fn from_hex(text: &str) -> Option<Vec<u8>> {
-    let digit = |byte: &u8| (*byte as char).to_digit(16);
-    let (pairs, []) = text.as_bytes().as_chunks::<2>() else {
-        return None;
-    };
-    let byte = |[high, low]: &[u8; 2]| Some((digit(high)? * 16 + digit(low)?) as u8);
-    pairs.iter().map(byte).collect()
-}
+use crate::oracle::Answer;
+use plain::case::Case;
+use plain::hex::hex;
 
 /// The answer as two words, its number and the rest.
 pub fn words(answer: &Answer) -> String {

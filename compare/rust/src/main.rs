@@ -1,8 +1,10 @@
-use compare::generate::{self, Random};
 use compare::leaves;
-use compare::oracle::{self, Answer, Aside, Case};
+use compare::oracle::{self, Answer, Aside};
 use compare::statistics::Statistics;
 use compare::{list, sample, vectors};
+use plain::case::Case;
+use plain::generate;
+use plain::random::Random;
 use std::collections::BTreeMap;
 use std::env;
 use std::fs;
@@ -14,7 +16,7 @@ compare oracle [--cases N] [--seed N] [--quiet]   generated cases with the origi
 compare leaves [--all-flags] [--quiet]            the same for every pair of leaf kinds
 compare compare [--cases N] [--seed N] [--all-flags]
                                                   these and the edges beside the library; built with --features library
-compare bench                                     what a build costs beside the original; built with --features library
+compare bench                                     what the calls cost beside plain Rust; built with --features library
 compare sample FILE [--seed N]                    writes the stored list
 compare vectors FILE                              the original beside stored answers, one JSON object a line";
 

@@ -1,11 +1,12 @@
 //! What the original answers to a case: its arguments turned into the original's types, its selectors into plan bytes, its errors
 //! into numbers.
 
-use crate::form::{self, Column, Default, Entry, Layout, Leaf, LeafValue, Type};
 use crate::nodes::io_sources::multi_scan::components::column_selector::ColumnSelector;
 use crate::nodes::io_sources::multi_scan::components::column_selector::builder::ColumnSelectorBuilder;
 use crate::nodes::io_sources::multi_scan::components::column_selector::transform::ColumnTransform;
 use crate::nodes::io_sources::multi_scan::components::default_field_values::IcebergDefaultValueProviderRef;
+use plain::case::Case;
+use plain::form::{self, Column, Default, Entry, Layout, Leaf, LeafValue, Type};
 use polars_core::chunked_array::cast::CastOptions;
 use polars_core::prelude::{DataType, Field, TimeUnit, TimeZone, Value};
 use polars_core::scalar::{self, Scalar};
@@ -15,22 +16,6 @@ use polars_error::{PolarsError, PolarsResult};
 use polars_plan::dsl::default_values::IcebergDefaultFieldValues;
 use polars_plan::dsl::{CastColumnsPolicy, ExtraColumnsPolicy, MissingColumnsPolicy};
 use polars_utils::pl_str::PlSmallStr;
-
-/// A build's arguments, but for the buffer.
-#[derive(Clone, Debug, PartialEq, Eq)]
-pub struct Case {
-    pub policy: u32,
-    pub incoming: Vec<u8>,
-    pub target: Vec<u8>,
-    /// What a build by number has besides.
-    pub number: Option<Number>,
-}
-
-#[derive(Clone, Debug, PartialEq, Eq)]
-pub struct Number {
-    pub source_index: u32,
-    pub defaults: Vec<u8>,
-}
 
 #[derive(Clone, Debug, PartialEq, Eq)]
 pub enum Answer {
@@ -86,53 +71,6 @@ pub fn original(case: &Case) -> Result<Answer, Aside> {
             let provider =
                 IcebergDefaultValueProviderRef::new(&defaults, number.source_index as usize);
             by_number(case.policy, &incoming, &target, provider)
-        }
-    }
-}
-
-/// A build's arguments in the original's types, for measuring what the matching alone costs.
-pub enum Prepared {
-    ByName(ColumnSelectorBuilder, Schema, Schema),
-    ByNumber(ColumnSelectorBuilder, IcebergSchema, IcebergSchema),
-}
-
-/// By number without defaults.
-pub fn prepare(case: &Case) -> Result<Prepared, Aside> {
-    let unreadable = |place: u32| move |number: u32| Aside::Unreadable { number, place };
-    let incoming = form::read_layout(&case.incoming).map_err(unreadable(1))?;
-    let target = form::read_layout(&case.target).map_err(unreadable(2))?;
-    let builder = builder(case.policy);
-    Ok(match case.number {
-        None => Prepared::ByName(builder, schema(&incoming)?, schema(&target)?),
-        Some(_) => Prepared::ByNumber(
-            builder,
-            iceberg_schema(&incoming.columns)?,
-            iceberg_schema(&target.columns)?,
-        ),
-    })
-}
-
-impl Prepared {
-    /// The selectors, as far as the original builds them.
-    pub fn build(&self) -> Vec<ColumnSelector> {
-        match self {
-            Prepared::ByName(builder, incoming, target) => target
-                .0
-                .iter()
-                .filter_map(|(name, dtype)| {
-                    builder.build_column_selector(incoming, name, dtype).ok()
-                })
-                .collect(),
-            Prepared::ByNumber(builder, incoming, target) => target
-                .iter()
-                .filter_map(|(id, column)| {
-                    let (index, _, counterpart) = incoming.get_full(id)?;
-                    let input = ColumnSelector::Position(index);
-                    builder
-                        .attach_iceberg_transforms(input, counterpart, column, None)
-                        .ok()
-                })
-                .collect(),
         }
     }
 }

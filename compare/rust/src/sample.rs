@@ -1,11 +1,13 @@
 //! The stored list: cases at the edges and a varied selection of short generated ones, with the original's answers.
 
 use crate::edges;
-use crate::form::{self, Type};
-use crate::generate::{self, Random};
 use crate::leaves;
 use crate::list;
-use crate::oracle::{self, Answer, Case};
+use crate::oracle::{self, Answer};
+use plain::case::Case;
+use plain::form::{self, Type};
+use plain::generate;
+use plain::random::Random;
 use std::collections::BTreeMap;
 
 const GENERATED: usize = 400_000;

@@ -1,9 +1,11 @@
 //! The original beside stored answers of a second implementation, one JSON object a line.
 
-use crate::form::PLAN_LIMIT;
 use crate::json::{self, Json};
 use crate::list;
-use crate::oracle::{self, Answer, Aside, Case, Number};
+use crate::oracle::{self, Answer, Aside};
+use plain::case::{Case, Number};
+use plain::form::PLAN_LIMIT;
+use plain::hex::from_hex;
 use std::collections::BTreeMap;
 
 #[derive(Default)]
@@ -30,7 +32,7 @@ pub fn run(text: &str) -> Outcome {
 
 fn vector(json: &Json) -> Option<(Case, usize, Answer)> {
     let (arguments, out) = (json.get("in")?, json.get("out")?);
-    let bytes = |key: &str| list::from_hex(arguments.text(key)?);
+    let bytes = |key: &str| from_hex(arguments.text(key)?);
     let number = match json.text("op")? {
         "build_name" => None,
         _ => Some(Number {
@@ -45,7 +47,7 @@ fn vector(json: &Json) -> Option<(Case, usize, Answer)> {
         number,
     };
     let answer = match out.text("ok") {
-        Some(plan) => Answer::Plan(list::from_hex(plan)?),
+        Some(plan) => Answer::Plan(from_hex(plan)?),
         None => Answer::Refused {
             number: out.number("refuse")? as u32,
             place: out.number("place")? as u32,

@@ -1,8 +1,10 @@
 //! The comparison sees wrong answers and bytes that should not have changed.
 
 use compare::beside::{Builder, compare};
-use compare::generate::{self, Random};
-use compare::oracle::{Answer, Case, answer};
+use compare::oracle::{Answer, answer};
+use plain::case::Case;
+use plain::generate;
+use plain::random::Random;
 
 /// Answers as the original does, given space, but for one fault.
 struct Faulty {

@@ -1,10 +1,11 @@
 //! Where the original differs from document 01, with the smallest inputs.
 
-use compare::form::{Column, Default, Entry, LAYOUT_LIMIT, Layout, Leaf, PLAN_LIMIT, Type};
-use compare::form::{write_defaults, write_layout};
-use compare::generate::ALL;
-use compare::list::hex;
-use compare::oracle::{Answer, Aside, Case, Number, answer, original};
+use compare::oracle::{Answer, Aside, answer, original};
+use plain::case::{Case, Number};
+use plain::form::{Column, Default, Entry, LAYOUT_LIMIT, Layout, Leaf, PLAN_LIMIT, Type};
+use plain::form::{write_defaults, write_layout};
+use plain::generate::ALL;
+use plain::hex::hex;
 
 const INT8: Leaf = Leaf::Plain(2);
 

@@ -40,7 +40,7 @@ use Rattle.values.proofs.Back.{value-back}
 use Rattle.defaults.specs.Lookup.{Taken, refused, nothing}
 use Rattle.defaults.proofs.Whole.{DefaultAt}
 use Rattle.plan.specs.Result.{Result, gives, refuses, _>>=_, demand}
-use Rattle.matching.specs.Default.{Defaults, Default, none, some, orNull, isSome, leafDefault, FieldDefaults, withField, structDefault, defaultOf, defaultsOf}
+use Rattle.matching.specs.Default.{Defaults, Default, none, some, orNull, isSome, leafDefault, FieldDefaults, withField, structDefault, buildIcebergDefaultValue, defaultsOf}
 use Rattle.builder.specs.Answers.{defaultMade, defaultsMade, isDefaultRefused, isSomeMade, valueLen, failedDefault, joinDefaults, WroteDefault, WroteDefaults, MakesDefault, MakesDefaults}
 use Rattle.builder.specs.declared.default.DefaultMade.{DefaultMade}
 use Rattle.builder.specs.declared.default.DefaultsMade.{DefaultsMade}
@@ -143,33 +143,33 @@ module _ {t : DataType} {s : Bytes} {at : ℕ} (P : ValueAt t s at) {r : Moved} 
 
 -- ---- a type's default, by its head
 
-no-default : (d : Defaults) (i : FieldId) (t : ColumnType) {k : Kind} → k ≡ headOf (dtypeOf t) → hasElement k ≡ true → defaultOf d i t ≡ gives none
-unfolding defaultOf dtypeOf headOf
+no-default : (d : Defaults) (i : FieldId) (t : ColumnType) {k : Kind} → k ≡ headOf (dtypeOf t) → hasElement k ≡ true → buildIcebergDefaultValue d i t ≡ gives none
+unfolding buildIcebergDefaultValue dtypeOf headOf
 no-default d i (cleaf l) e f = differ f refl (ap hasElement e)
 no-default d i (cstruct cs) e f = differ f refl (ap hasElement e)
 no-default d i (clist l t) e f = refl
 no-default d i (carray w l t) e f = refl
 
 module _ (d : Defaults) (i : FieldId) {v : Version} {n : ℕ} {s : Bytes} {at : ℕ} (P : TypeAt v n s at) where
-  pub of-leaf : {p : Head} {l : LeafSpan} {c : Cursor} → headRes s p ≡ kind s at → p ≡ Head.Leaf l c → defaultOf d i (P .tree) ≡ leafDefault (leafAt s l) (d i)
-  unfolding defaultOf
+  pub of-leaf : {p : Head} {l : LeafSpan} {c : Cursor} → headRes s p ≡ kind s at → p ≡ Head.Leaf l c → buildIcebergDefaultValue d i (P .tree) ≡ leafDefault (leafAt s l) (d i)
+  unfolding buildIcebergDefaultValue
   of-leaf e f = rw (leaf-at P e f .0)
 
-  pub of-struct : {m c : ℕ} (S : StructAt v n s at P m c) → defaultOf d i (P .tree) ≡ (defaultsOf d (S .inner .columns) >>= λ g. gives (structDefault g))
-  unfolding defaultOf
+  pub of-struct : {m c : ℕ} (S : StructAt v n s at P m c) → buildIcebergDefaultValue d i (P .tree) ≡ (defaultsOf d (S .inner .columns) >>= λ g. gives (structDefault g))
+  unfolding buildIcebergDefaultValue
   of-struct S = rw (S .is)
 
   -- the same up to the type's end
   pub struct-as : {m c : ℕ} (S : StructAt v n s at P m c) (b : ℕ) (out : Bytes) (k : ℕ) (r : DefaultMade) (o : Bytes)
-      → MakesDefault b (S .inner .end) out k (defaultsOf d (S .inner .columns) >>= λ g. gives (structDefault g)) r o → MakesDefault b (P .end) out k (defaultOf d i (P .tree)) r o
+      → MakesDefault b (S .inner .end) out k (defaultsOf d (S .inner .columns) >>= λ g. gives (structDefault g)) r o → MakesDefault b (P .end) out k (buildIcebergDefaultValue d i (P .tree)) r o
   struct-as S b out k r o A = default-as out k r o (of-struct S) (subst (λ (e : ℕ). MakesDefault b e out k (defaultsOf d (S .inner .columns) >>= λ g. gives (structDefault g)) r o) (S .ends) A)
 
   -- lists and arrays have none
   module _ {p : Head} (e : headRes s p ≡ kind s at) where
-    pub of-list : {c : Cursor} → p ≡ Head.List c → defaultOf d i (P .tree) ≡ gives none
+    pub of-list : {c : Cursor} → p ≡ Head.List c → buildIcebergDefaultValue d i (P .tree) ≡ gives none
     of-list f = no-default d i (P .tree) (head-is P aList (sym e ∙ ap (headRes s) f) .0) refl
 
-    pub of-array : {w : ℕ} {c : Cursor} → p ≡ Head.Array w c → defaultOf d i (P .tree) ≡ gives none
+    pub of-array : {w : ℕ} {c : Cursor} → p ≡ Head.Array w c → buildIcebergDefaultValue d i (P .tree) ≡ gives none
     of-array {w} f = no-default d i (P .tree) (head-is P (anArray w) (sym e ∙ ap (headRes s) f) .0) refl
 
 -- a struct's columns begin behind its code

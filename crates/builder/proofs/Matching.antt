@@ -36,7 +36,7 @@ use Rattle.rules.specs.declared.policy.Policy.{Policy}
 use Rattle.plan.specs.Result.{Result, gives, refuses, _>>=_}
 use Rattle.plan.specs.Selector.{Selector}
 use Rattle.matching.specs.Default.{Defaults, noDefaults}
-use Rattle.matching.specs.Build.{leafPart, structPart, isNullType, ruled, attach}
+use Rattle.matching.specs.Build.{leafPart, structPart, isNullType, ruled, attachTransforms}
 use Rattle.builder.specs.Answers.{LeafIs, LeafPartIs, StructIs, StructPartIs, Inner, noElement, listElement, arrayElement, elementOf, ElementIs, ElementPartIs, needsRename, madeOf, Wrote, Makes, byRule}
 use Rattle.builder.specs.declared.answer.Made.{Made}
 use Rattle.builder.specs.declared.parts.LeafPart.{LeafPart}
@@ -216,15 +216,15 @@ by-rule (refused n) k u = refl
 by-rule (casts o) k u = refl
 
 module _ (v : Version) (p : Policy) (d : Defaults) (k : Position) (t : ColumnType) {u : ColumnType} {m : LeafType} (is : u ≡ cleaf m) where
-  pub leaf-ruled : {l : LeafType} {x : Verdict} → leafPart t ≡ gives l → x ≡ pairRule p l m → attach v p d u k t ≡ byRule x k u
-  unfolding attach _>>=_
+  pub leaf-ruled : {l : LeafType} {x : Verdict} → leafPart t ≡ gives l → x ≡ pairRule p l m → attachTransforms v p d u k t ≡ byRule x k u
+  unfolding attachTransforms _>>=_
   leaf-ruled {l} {x} h e =
-      ap (λ (x : ColumnType). attach v p d x k t) is ∙ ap (λ (x : Result LeafType). x >>= λ a. ruled (pairRule p a m) k m) h
+      ap (λ (x : ColumnType). attachTransforms v p d x k t) is ∙ ap (λ (x : Result LeafType). x >>= λ a. ruled (pairRule p a m) k m) h
       ∙ by-rule (pairRule p l m) k m ∙ ap (λ (x : ColumnType). byRule (pairRule p l m) k x) (sym is) ∙ ap (λ (y : Verdict). byRule y k u) (sym e)
 
-  pub leaf-refused : leafPart t ≡ refuses 24 → attach v p d u k t ≡ refuses 24
-  unfolding attach _>>=_
-  leaf-refused h = ap (λ (x : ColumnType). attach v p d x k t) is ∙ ap (λ (x : Result LeafType). x >>= λ a. ruled (pairRule p a m) k m) h
+  pub leaf-refused : leafPart t ≡ refuses 24 → attachTransforms v p d u k t ≡ refuses 24
+  unfolding attachTransforms _>>=_
+  leaf-refused h = ap (λ (x : ColumnType). attachTransforms v p d x k t) is ∙ ap (λ (x : Result LeafType). x >>= λ a. ruled (pairRule p a m) k m) h
 
 -- a refusal, answered
 pub makes-refused : {X : Result Selector} {n : ℕ} (b e : ℕ) (out : Bytes) (k : ℕ) (o : Bytes) → X ≡ refuses n → Makes b e out k X (Made.Refused n) o

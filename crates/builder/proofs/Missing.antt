@@ -30,7 +30,7 @@ use Rattle.values.specs.Encode.{encodeValue, encodeValues}
 use Rattle.plan.specs.Result.{Result, gives, refuses, _>>=_}
 use Rattle.plan.specs.Selector.{constant}
 use Rattle.plan.specs.Encode.{encodeSelector}
-use Rattle.matching.specs.Default.{Defaults, Default, none, some, orNull, FieldDefaults, defaultOf, defaultsOf, missingValue}
+use Rattle.matching.specs.Default.{Defaults, Default, none, some, orNull, FieldDefaults, buildIcebergDefaultValue, defaultsOf, missingValue}
 use Rattle.matching.specs.Build.{missing}
 use Rattle.builder.specs.Answers.{madeOf, Wrote, Makes, defaultMade, defaultsMade, isDefaultRefused, isSomeMade, valueLen, failedDefault, joinDefaults, constantMade, constantHead, WroteDefault, WroteDefaults, MakesDefault, MakesDefaults}
 use Rattle.builder.specs.declared.answer.Made.{Made}
@@ -119,16 +119,16 @@ module _ (d : Defaults) {v : Version} {depth : ℕ} {s : Bytes} {n from : ℕ} {
       field-room = let r = W .room in let a = field-after in omega arith
 
       -- what the fields that are left come to
-      split : defaultsOf d (W .rest .columns) ≡ beforeDefaults (defaultOf d (l .id) (field .head .tree)) (defaultsOf d (field .tail .columns))
+      split : defaultsOf d (W .rest .columns) ≡ beforeDefaults (buildIcebergDefaultValue d (l .id) (field .head .tree)) (defaultsOf d (field .tail .columns))
       unfolding defaultsOf
       split = ap (defaultsOf d) (field .is)
 
-      module _ {r : DefaultMade} {o : Bytes} (A : MakesDefault (c .at) (field .head .end) out to (defaultOf d (l .id) (field .head .tree)) r o) where
+      module _ {r : DefaultMade} {o : Bytes} (A : MakesDefault (c .at) (field .head .end) out to (buildIcebergDefaultValue d (l .id) (field .head .tree)) r o) where
         pub defaulting-stop : {x : Bool} {y : DefaultsMade} → x ≡ isDefaultRefused r → x ≡ true → y ≡ failedDefault r → (P : ColumnsAt v depth s n from)
             → MakesDefaults from (P .end) out₀ k (defaultsOf d (P .columns)) y o
         defaulting-stop {x} {y} g h u P =
             let z = sym g ∙ h in
-            let X = defaultOf d (l .id) (field .head .tree) in
+            let X = buildIcebergDefaultValue d (l .id) (field .head .tree) in
             let Y = defaultsOf d (field .tail .columns) in
             let here : defaultsMade (defaultsOf d (W .rest .columns)) ≡ failedDefault r = ap defaultsMade split ∙ sym (fields-stop X Y A z) in
             record {
@@ -145,7 +145,7 @@ module _ (d : Defaults) {v : Version} {depth : ℕ} {s : Bytes} {n from : ℕ} {
               → Defaulting d v depth s n from out₀ k o (a .at) (to + m) more (i + 1)
           defaulting-more {a} {m} {b} {more} skip u p q len =
               let z = sym g ∙ h in
-              let X = defaultOf d (l .id) (field .head .tree) in
+              let X = buildIcebergDefaultValue d (l .id) (field .head .tree) in
               let Y = defaultsOf d (field .tail .columns) in
               let E : a .at ≡ field .head .end = skip (field .head) in
               let room = default-room X A z in
@@ -173,7 +173,7 @@ module _ (d : Defaults) {v : Version} {depth : ℕ} {s : Bytes} {n from : ℕ} {
               whole : (o′ : Bytes) {y m : ℕ} → y ≡ field .head .end → m ≡ valueLen r → WroteDefaults y (field .tail .end) o (to + m) (defaultsOf d (field .tail .columns)) o′
                   → WroteDefaults at (W .rest .end) out to (defaultsOf d (W .rest .columns)) o′
               whole o′ {y} {m} E u w =
-                  let X = defaultOf d (l .id) (field .head .tree) in
+                  let X = buildIcebergDefaultValue d (l .id) (field .head .tree) in
                   let Y = defaultsOf d (field .tail .columns) in
                   let w₁ : WroteDefaults (field .head .end) (field .tail .end) o (to + valueLen r) Y o′ =
                   subst (λ (j : ℕ). WroteDefaults (field .head .end) (field .tail .end) o (to + j) Y o′) u (subst (λ (j : ℕ). WroteDefaults j (field .tail .end) o (to + m) Y o′) E w) in
@@ -228,7 +228,7 @@ module _ (name : Bytes) (t : DataType) {h : ℕ} (long : h ≡ length (constantH
       record { answer = q ∙ ap (constantMade h) (A .answer) ∙ ap Made.Built (sym z); wrote = (constant-holds x out k o₁ o₂ p l (A .wrote .0), omega arith) }
 
 module _ (d : Defaults) (i : Bool) (n : ℕ) (l : Label) (u : ColumnType) where
-  pub missing-inserted : not i ≡ false → missing d i n l u ≡ ((defaultOf d (l .id) u >>= λ x. gives (orNull x)) >>= λ x. gives (constant (l .name) (dtypeOf u) x))
+  pub missing-inserted : not i ≡ false → missing d i n l u ≡ ((buildIcebergDefaultValue d (l .id) u >>= λ x. gives (orNull x)) >>= λ x. gives (constant (l .name) (dtypeOf u) x))
   unfolding missing missingValue
   missing-inserted h = demand-pass i n _ h
 

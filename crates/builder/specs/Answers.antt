@@ -28,7 +28,7 @@ use Rattle.plan.specs.Result.{Result, gives, refuses, _>>=_, demand}
 use Rattle.plan.specs.Selector.{Selector, position, constant, cast, rename, structMapping, listMapping, arrayMapping, Selectors}
 use Rattle.plan.specs.Encode.{encodeSelector, encodeSelectors}
 use Rattle.matching.specs.Default.{Defaults, noDefaults, Default, none, some, orNull, FieldDefaults}
-use Rattle.matching.specs.Build.{Element, structPart, listPart, arrayPart, counterpart, renamed, sameElement, distinct, noExtra, ignores, missing, isPosition, inPlace, structSelector, listSelector, arraySelector, first, sought, attach, attachFields}
+use Rattle.matching.specs.Build.{Element, structPart, listPart, arrayPart, counterpart, renamed, sameElement, distinct, noExtra, ignores, missing, isPosition, inPlace, structSelector, listSelector, arraySelector, first, sought, attachTransforms, attachFields}
 use Rattle.builder.specs.declared.answer.Made.{Made}
 use Rattle.builder.specs.declared.answer.Made.the-variants.{Refused, Bare, Built}
 use Rattle.builder.specs.declared.answer.Row.{Row}
@@ -188,7 +188,7 @@ defaultsAt dv T = getDefaultValue (T .entries) (dv .«source_index»)
 -- the type matcher: the incoming type at `at`, the target type at `bt`
 abbrev pub Attached : Policy → Version → ℕ → Bytes → DefaultFieldValues → Bytes → ℕ → Bytes → ℕ → Position → Bytes → ℕ → Made → Bytes → Type 0
 Attached p v d table dv incoming at target bt k out to r out′ =
-    (T : DefaultsAt table dv) (P : TypeAt v d incoming at) (Q : TypeAt v d target bt) → Makes bt (Q .end) out to (attach v p (defaultsAt dv T) (Q .tree) k (P .tree)) r out′
+    (T : DefaultsAt table dv) (P : TypeAt v d incoming at) (Q : TypeAt v d target bt) → Makes bt (Q .end) out to (attachTransforms v p (defaultsAt dv T) (Q .tree) k (P .tree)) r out′
 
 -- the field matcher: n incoming fields at `at`, m target fields at `bt`
 abbrev pub AttachedFields : Policy → Version → ℕ → Bytes → DefaultFieldValues → Bytes → ℕ → ℕ → Bytes → ℕ → ℕ → Bytes → ℕ → Row → Bytes → Type 0
@@ -196,11 +196,11 @@ AttachedFields p v d table dv incoming n at target m bt out to r out′ =
     (T : DefaultsAt table dv) (P : ColumnsAt v d incoming n at) (Q : ColumnsAt v d target m bt)
     → MakesRow bt (Q .end) out to (attachFields v p (defaultsAt dv T) (Q .columns) (P .columns)) r out′
 
--- ---- the parts of `attach` that have functions of their own
+-- ---- the parts of `attachTransforms` that have functions of their own
 
 -- with a rename outside, where the labels ask for one
 abbrev pub attachRenamed : Version → Policy → Defaults → Label → ColumnType → Position → Label → ColumnType → Result Selector
-attachRenamed v p d l u k m t = attach v p d u k t >>= λ s. gives (renamed v l m s)
+attachRenamed v p d l u k m t = attachTransforms v p d u k t >>= λ s. gives (renamed v l m s)
 
 -- a target column over its counterpart among fs; n is the refusal where it is missing
 abbrev pub attachField : Version → Policy → Defaults → Bool → ℕ → Label → ColumnType → Columns → Result Selector

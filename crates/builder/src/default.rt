@@ -14,7 +14,7 @@ ghost use Rattle.values.specs.Stands.{ValueAt};
 ghost use Rattle.defaults.specs.Lookup.{getDefaultValue};
 ghost use Rattle.defaults.specs.Stands.{TableAt};
 ghost use Rattle.plan.specs.Result.{gives, demand};
-ghost use Rattle.matching.specs.Default.{some, leafDefault, defaultOf, defaultsOf};
+ghost use Rattle.matching.specs.Default.{some, leafDefault, buildIcebergDefaultValue, defaultsOf};
 ghost use Rattle.matching.specs.Build.{missing};
 ghost use Rattle.builder.specs.Answers.{Makes, MakesDefault, MakesDefaults, isDefaultRefused, isSomeMade, valueLen, failedDefault, constantMade};
 use crate::answer::Made;
@@ -175,7 +175,7 @@ fn put_leaf_default(
 }
 
 // The default of a field of this id, whose type stands at `b`; where there is none, a null.
-pub fn put_default(
+pub fn build_iceberg_default_value(
     v: Version,
     depth: u8,
     table: &[u8],
@@ -189,7 +189,7 @@ pub fn put_default(
     requires { ⌜ TypeAt v depth (now target) (b .at) ⌝ }
     requires { ⌜ TableAt (now table) (defaults .count) (defaults .entries .at) ⌝ }
     requires { ⌜ (length (now table) ≤ 16384) × (k + 16384 * length (now target) < 2 ^ 64 + 16384 * b .at) ⌝ }
-    ensures { λ r. ⌜ ((T : TableAt (now (table .entry)) (defaults .count) (defaults .entries .at)) (Q : TypeAt v depth (now (target .entry)) (b .at)) → MakesDefault (b .at) (Q .end) (now (out .entry)) k (defaultOf (getDefaultValue (T .entries) (defaults .«source_index»)) id (Q .tree)) r (now (out .exit))) ⌝ }
+    ensures { λ r. ⌜ ((T : TableAt (now (table .entry)) (defaults .count) (defaults .entries .at)) (Q : TypeAt v depth (now (target .entry)) (b .at)) → MakesDefault (b .at) (Q .end) (now (out .entry)) k (buildIcebergDefaultValue (getDefaultValue (T .entries) (defaults .«source_index»)) id (Q .tree)) r (now (out .exit))) ⌝ }
 {
     match b.head(target) {
         Head::Leaf(u, _) => put_leaf_default(table, defaults, id, target, u, out, k),
@@ -237,7 +237,17 @@ fn put_defaults(
         match d.label(target, v) {
             Labelled::Is(l, b) => {
                 let id = l.id;
-                let made = put_default(v, depth, table, defaults, target, id, b, out, to);
+                let made = build_iceberg_default_value(
+                    v,
+                    depth,
+                    table,
+                    defaults,
+                    target,
+                    id,
+                    b,
+                    out,
+                    to,
+                );
                 if is_default_refused(made) {
                     return failed_default(made);
                 }
@@ -291,6 +301,6 @@ pub fn put_missing(
     let name = l.name;
     let id = l.id;
     let head = put_constant_head(target, v, depth, name, b, out, k);
-    let made = put_default(v, depth, table, defaults, target, id, b, out, k + head);
+    let made = build_iceberg_default_value(v, depth, table, defaults, target, id, b, out, k + head);
     constant_made(head, made)
 }

@@ -8,7 +8,7 @@ ghost use Rattle.layout.specs.Stands.{TypeAt};
 ghost use Rattle.rules.specs.Outcomes.{verdictOf};
 ghost use Rattle.rules.specs.Pairs.{pairRule};
 ghost use Rattle.matching.specs.Default.{Defaults};
-ghost use Rattle.matching.specs.Build.{attach};
+ghost use Rattle.matching.specs.Build.{attachTransforms};
 ghost use Rattle.builder.specs.Answers.{Makes, Ruled};
 use crate::answer::Made;
 use crate::parts::LeafPart;
@@ -89,7 +89,7 @@ pub fn attach_leaf(
     requires { ⌜ TypeAt v depth (now incoming) (c .at) × TypeAt v depth (now target) (b .at) ⌝ }
     requires { ⌜ (length (now target) ≤ 16384) × (k ≤ 65536 * b .at + 1) ⌝ }
     requires { ⌜ spanIn (now target) (u .zone) × ((Q : TypeAt v depth (now target) (b .at)) → Q .tree ≡ cleaf (leafAt (now target) u)) ⌝ }
-    ensures { λ r. ⌜ ((d : Defaults) (P : TypeAt v depth (now (incoming .entry)) (c .at)) (Q : TypeAt v depth (now (target .entry)) (b .at)) → Makes (b .at) (Q .end) (now (out .entry)) k (attach v policy d (Q .tree) position (P .tree)) r (now (out .exit))) ⌝ }
+    ensures { λ r. ⌜ ((d : Defaults) (P : TypeAt v depth (now (incoming .entry)) (c .at)) (Q : TypeAt v depth (now (target .entry)) (b .at)) → Makes (b .at) (Q .end) (now (out .entry)) k (attachTransforms v policy d (Q .tree) position (P .tree)) r (now (out .exit))) ⌝ }
 {
     let LeafPart::Is(l) = leaf_part(incoming, c) else {
         return Made::Refused(24);

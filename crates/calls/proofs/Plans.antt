@@ -44,7 +44,8 @@ use Rattle.plan.specs.Calls.{readAt}
 use Rattle.plan.specs.Calls.{bufferAfter}
 use Rattle.matching.specs.Calls.{sameVersion, ofVersion, bothLayouts, roomFor, writtenPlan, buildByName, buildByNumber}
 use Rattle.matching.proofs.Calls.{of-version}
-use Rattle.calls.specs.Answers.{answerOf, BothAt, BothIs, columnsMade, WroteColumns, MakesColumns, planHead, written}
+use Rattle.calls.specs.Answers.{answerOf, BothAt, BothIs, columnsMade, WroteColumns, MakesColumns, planHead, written, LongerThan, Attempted}
+use Rattle.calls.specs.declared.write.Attempt.{Attempt}
 use Rattle.calls.specs.declared.write.Build.{Build}
 use Rattle.calls.specs.declared.layouts.BothRead.{BothRead}
 use Rattle.calls.specs.declared.columns.ColumnsMade.{ColumnsMade}
@@ -202,28 +203,58 @@ columns-room (accepted ss) {n = n} Q {len = len} A q =
     let e = columns-end n Q in
     omega arith
 
-module _ (room : ℕ) (plan : Bytes) {b e : ℕ} {o₁ o₂ : Bytes} {r : ColumnsMade} where
+-- a stronger fact of a plan that is longer than the room
+attempt-as : {Long Longer : Type 0} (X : Answer Bytes) (out : Bytes) (y : Attempt) (o : Bytes) → (Longer → Long) → Attempted Longer X out y o → Attempted Long X out y o
+attempt-as X out (Attempt.Answer r) o f h = h
+attempt-as X out Attempt.Short o f (l, k) = (f l, k)
+
+module _ (plan : Bytes) {b e : ℕ} {o₁ o₂ : Bytes} {r : ColumnsMade} where
   pub plan-refused : (X : Answer Selectors) {n i : ℕ} → MakesColumns b e o₁ 7 X r o₂ → r ≡ ColumnsMade.Failed n i
-      → (Build.Refused n i ≡ answerOf (answered X (writtenPlan room))) × (plan ≡ bufferAfter (answered X (writtenPlan room)) plan)
+      → (Build.Refused n i ≡ answerOf (answered X (writtenPlan (length plan)))) × (plan ≡ bufferAfter (answered X (writtenPlan (length plan))) plan)
   unfolding answered columnsMade
   plan-refused (refusedAt m j) {n} {i} A q = let z : ColumnsMade.Failed m j ≡ ColumnsMade.Failed n i = sym (A .answer) ∙ q in let x : m ≡ n = cc in let y : j ≡ i = cc in (rw (x, y), refl)
   plan-refused (accepted ss) {n} {i} A q = let z : ColumnsMade.Done (length (encodeSelectors ss)) ≡ ColumnsMade.Failed n i = sym (A .answer) ∙ q in clash (cc)
 
   -- the plan that X is, where y and o are what `write_plan` made of its bytes
-  pub plan-written : (out : Bytes) (X : Answer Selectors) {m len : ℕ} {y : Build} {o : Bytes} → ((ss : Selectors) → X ≡ accepted ss → countSelectors ss ≡ m) → MakesColumns b e o₁ 7 X r o₂ → r ≡ ColumnsMade.Done len
-      → o₁ ≡ overlay out 0 (planHead m) → length o₁ ≡ length out → length out ≡ 65536
-      → ((p : Bytes) → 7 + len ≡ length p → (7 + len ≤ 65536 → take (7 + len) o₂ ≡ p) → (y ≡ answerOf (written room p)) × (o ≡ bufferAfter (written room p) plan))
-      → (y ≡ answerOf (answered X (writtenPlan room))) × (o ≡ bufferAfter (answered X (writtenPlan room)) plan)
+  pub plan-written : (room : Bytes) (X : Answer Selectors) {m len : ℕ} (y : Attempt) (o : Bytes) → ((ss : Selectors) → X ≡ accepted ss → countSelectors ss ≡ m) → MakesColumns b e o₁ 7 X r o₂ → r ≡ ColumnsMade.Done len
+      → o₁ ≡ overlay room 0 (planHead m) → length o₁ ≡ length room → length o₂ ≡ length room
+      → ((p : Bytes) → 7 + len ≡ length p → (7 + len ≤ length o₂ → take (7 + len) o₂ ≡ p) → Attempted (length o₂ < length p) (written (length plan) p) plan y o)
+      → Attempted (LongerThan (length room) X) (answered X (writtenPlan (length plan))) plan y o
   unfolding answered columnsMade WroteColumns writtenPlan encodePlan u16Bytes
-  plan-written out (refusedAt k j) {len = len} f A q h l z g = let x : ColumnsMade.Failed k j ≡ ColumnsMade.Done len = sym (A .answer) ∙ q in clash (cc)
-  plan-written out (accepted ss) {m} {len} f A q h l z g =
+  plan-written room (refusedAt k j) {len = len} y o f A q h l z g = let x : ColumnsMade.Failed k j ≡ ColumnsMade.Done len = sym (A .answer) ∙ q in clash (cc)
+  plan-written room (accepted ss) {m} {len} y o f A q h l z g =
       let x : ColumnsMade.Done (length (encodeSelectors ss)) ≡ ColumnsMade.Done len = sym (A .answer) ∙ q in
       let n : length (encodeSelectors ss) ≡ len = cc in
-      let w : Holds out 0 (planHead m ++ encodeSelectors ss) o₂ = holds-append out 0 (planHead m) (encodeSelectors ss) o₁ o₂ l (holds-exact out 0 (planHead m) h) (A .wrote .0) in
+      let w : Holds room 0 (planHead m ++ encodeSelectors ss) o₂ = holds-append room 0 (planHead m) (encodeSelectors ss) o₁ o₂ l (holds-exact room 0 (planHead m) h) (A .wrote .0) in
       let c : planHead m ++ encodeSelectors ss ≡ encodePlan ss = ap (λ (k : ℕ). planHead k ++ encodeSelectors ss) (sym (f ss refl)) in
       let u : 7 + len ≡ length (encodePlan ss) = let u : 7 + len ≡ suc (suc (suc (suc (suc (suc (suc (length (encodeSelectors ss)))))))) = omega arith in u in
-      let w′ : Holds out 0 (encodePlan ss) o₂ = subst (λ (k : Bytes). Holds out 0 k o₂) c w in
-      g (encodePlan ss) u (λ le. ap (λ (k : ℕ). take k o₂) u ∙ holds-front out (encodePlan ss) o₂ (omega arith) w′)
+      let w′ : Holds room 0 (encodePlan ss) o₂ = subst (λ (k : Bytes). Holds room 0 k o₂) c w in
+      attempt-as (written (length plan) (encodePlan ss)) plan y o (λ lt. record { selectors = ss; accepts = refl; longer = omega arith })
+      (g (encodePlan ss) u (λ le. ap (λ (k : ℕ). take k o₂) u ∙ holds-front room (encodePlan ss) o₂ (omega arith) w′))
+
+-- ---- the attempts
+
+module _ (Long : Type 0) (X : Answer Bytes) (out : Bytes) (y : Attempt) (o : Bytes) (A : Attempted Long X out y o) where
+  pub attempt-answered : {r : Build} → y ≡ Attempt.Answer r → (r ≡ answerOf X) × (o ≡ bufferAfter X out)
+  attempt-answered e = subst (λ (z : Attempt). Attempted Long X out z o) e A
+
+  pub attempt-short : y ≡ Attempt.Short → Long × (o ≡ out)
+  attempt-short e = subst (λ (z : Attempt). Attempted Long X out z o) e A
+
+-- 27 where the longest room is too short
+pub plan-long : (plan : Bytes) {X : Answer Selectors} {o : Bytes} → LongerThan longestPlan X → o ≡ plan
+    → (Build.Refused 27 0 ≡ answerOf (answered X (writtenPlan (length plan)))) × (o ≡ bufferAfter (answered X (writtenPlan (length plan))) plan)
+unfolding answered writtenPlan
+plan-long plan {X} W k =
+    let h : answered X (writtenPlan (length plan)) ≡ refusedAt 27 0 = ap (λ (x : Answer Selectors). answered x (writtenPlan (length plan))) (W .accepts) ∙ past-limit (length plan) (encodePlan (W .selectors)) refl (W .longer) in
+    let (a, b) = plan-kept plan h in
+    (a, k ∙ b)
+
+-- a second attempt, with the buffer as it was
+pub plan-again : (X : Answer Selectors) {plan same : Bytes} {y : Build} {o : Bytes} → same ≡ plan
+    → (y ≡ answerOf (answered X (writtenPlan (length same)))) × (o ≡ bufferAfter (answered X (writtenPlan (length same))) same)
+    → (y ≡ answerOf (answered X (writtenPlan (length plan)))) × (o ≡ bufferAfter (answered X (writtenPlan (length plan))) plan)
+plan-again X {y = y} {o = o} e h = subst (λ (p : Bytes). (y ≡ answerOf (answered X (writtenPlan (length p)))) × (o ≡ bufferAfter (answered X (writtenPlan (length p))) p)) e h
 
 -- ---- the calls
 

@@ -1,7 +1,7 @@
 -- What the answers of the two calls stand for (document 01, "A refusal is a number and a place"), and what their parts ask and write.
 use mathlib.Core.Path.{_≡_}
 use mathlib.Core.List.{_++_}
-use Prim.Native.Nat.{ℕ, _+_, _*_, _≤_}
+use Prim.Native.Nat.{ℕ, _+_, _*_, _≤_, _<_}
 use lib.ListN.{length}
 use Rattle.store.specs.Overlay.{Holds}
 use Rattle.layout.specs.Bytes.{Bytes}
@@ -13,9 +13,11 @@ use Rattle.layout.specs.declared.version.Version.{Version}
 use Rattle.forms.specs.Form.{u16Bytes}
 use Rattle.plan.specs.Result.{Answer, accepted, refusedAt, placed, demand, gives}
 use Rattle.plan.specs.Selector.{Selectors}
-use Rattle.plan.specs.Encode.{planMark, encodeSelectors}
+use Rattle.plan.specs.Encode.{planMark, encodeSelectors, encodePlan}
+use Rattle.plan.specs.Calls.{bufferAfter}
 use Rattle.matching.specs.Calls.{bothLayouts, roomFor}
 use Rattle.builder.specs.declared.answer.Made.{Made}
+use Rattle.calls.specs.declared.write.Attempt.{Attempt}
 use Rattle.calls.specs.declared.write.Build.{Build}
 use Rattle.calls.specs.declared.columns.ColumnsMade.{ColumnsMade}
 use Rattle.calls.specs.declared.layouts.BothRead.{BothRead}
@@ -73,3 +75,14 @@ planHead n = planMark ++ u16Bytes n
 -- "Last, 27: the plan is longer than the buffer or 65,536 bytes"
 abbrev pub written : ℕ → Bytes → Answer Bytes
 written room b = placed 0 (demand (roomFor room b) 27 (gives b)) (λ b. accepted b)
+
+-- X accepts selectors whose plan is longer than that many bytes
+pub record LongerThan (room : ℕ) (X : Answer Selectors) : Type 0 where
+  pub selectors : Selectors
+  pub accepts : X ≡ accepted selectors
+  pub longer : room < length (encodePlan selectors)
+
+-- an attempt at X with the lent buffer out: X's answer and buffer, or Long, and the buffer as it was
+abbrev pub Attempted : Type 0 → Answer Bytes → Bytes → Attempt → Bytes → Type 0
+Attempted Long X out (Attempt.Answer r) out′ = (r ≡ answerOf X) × (out′ ≡ bufferAfter X out)
+Attempted Long X out Attempt.Short out′ = Long × (out′ ≡ out)

@@ -1,6 +1,6 @@
-// The plan's bytes. They are built in a local buffer and copied once, so that a refusal changes no lent buffer.
+// The plan's bytes. They are built in a local buffer, the room, and copied once, so that a refusal changes no lent buffer.
 ghost use mathlib.Core.Path.{_≡_};
-ghost use Prim.Native.Nat.{_+_, _≤_};
+ghost use Prim.Native.Nat.{_+_, _≤_, _<_};
 ghost use lib.ListN.{length, take};
 ghost use Rattle.store.specs.Overlay.{overlay};
 ghost use Rattle.layout.specs.Bytes.{Bytes};
@@ -12,7 +12,7 @@ ghost use Rattle.matching.specs.Build.{build};
 ghost use Rattle.plan.specs.Calls.{bufferAfter};
 ghost use Rattle.matching.specs.Calls.{writtenPlan};
 ghost use Rattle.builder.specs.Answers.{DefaultsAt, defaultsAt};
-ghost use Rattle.calls.specs.Answers.{answerOf, planHead, written};
+ghost use Rattle.calls.specs.Answers.{answerOf, Attempted, LongerThan, planHead, written};
 use crate::columns::ColumnsMade;
 use crate::columns::build_columns;
 use builder::default::DefaultFieldValues;
@@ -29,11 +29,10 @@ pub enum Build {
     Refused(u8, u16),
 }
 
-// The buffer that a plan is built in: as long as a plan may be.
-fn scratch() -> [u8; 65536]
-    ensures { λ r. ⌜ 65536 ≡ length r ⌝ }
-{
-    [0; 65536]
+// The answer of a build; or Short: the plan is longer than the room that it was built in.
+pub enum Attempt {
+    Answer(Build),
+    Short,
 }
 
 // The mark `PLN`, version 1 and the count.
@@ -47,22 +46,138 @@ fn put_plan_head(out: &mut [u8], n: u16)
     put_short(out, 5, n);
 }
 
-// The first `len` bytes of what was built, unless the plan is too long: 27.
-fn write_plan(room: &[u8], len: usize, plan: &mut [u8]) -> Build
-    requires { ⌜ length (now room) ≡ 65536 ⌝ }
-    ensures { λ r. ⌜ ((p : Bytes) → len ≡ length p → (len ≤ 65536 → take len (now (room .entry)) ≡ p) → (r ≡ answerOf (written (length (now (plan .entry))) p)) × (now (plan .exit) ≡ bufferAfter (written (length (now (plan .entry))) p) (now (plan .entry)))) ⌝ }
+// The first `len` bytes of what was built; 27 where the lent buffer is shorter.
+fn write_plan(room: &[u8], len: usize, plan: &mut [u8]) -> Attempt
+    requires { ⌜ length (now room) ≤ 65536 ⌝ }
+    ensures { λ r. ⌜ ((p : Bytes) → len ≡ length p → (len ≤ length (now (room .entry)) → take len (now (room .entry)) ≡ p) → Attempted (length (now (room .entry)) < length p) (written (length (now (plan .entry))) p) (now (plan .entry)) r (now (plan .exit))) ⌝ }
 {
-    if 65536 < len {
-        return Build::Refused(27, 0);
-    }
     if plan.len() < len {
-        return Build::Refused(27, 0);
+        return Attempt::Answer(Build::Refused(27, 0));
+    }
+    if room.len() < len {
+        return Attempt::Short;
     }
     copy(room, 0, len, plan, 0);
-    Build::Written(len)
+    Attempt::Answer(Build::Written(len))
 }
 
-// The plan between two layouts that were read.
+// The plan between two layouts that were read, built in a room.
+fn build_in(
+    policy: Policy,
+    v: Version,
+    incoming: &[u8],
+    n: u16,
+    c: Cursor,
+    table: &[u8],
+    defaults: DefaultFieldValues,
+    target: &[u8],
+    m: u16,
+    b: Cursor,
+    room: &mut [u8],
+    plan: &mut [u8],
+) -> Attempt
+    requires { ⌜ ColumnsAt v deepest (now incoming) n (c .at) × ColumnsAt v deepest (now target) m (b .at) ⌝ }
+    requires { ⌜ TableAt (now table) (defaults .count) (defaults .entries .at) ⌝ }
+    requires { ⌜ (length (now target) ≤ 16384) × (length (now table) ≤ 16384) × (b .at ≡ 7) ⌝ }
+    requires { ⌜ length (now room) ≤ 65536 ⌝ }
+    ensures { λ r. ⌜ ((T : DefaultsAt (now (table .entry)) defaults) (P : ColumnsAt v deepest (now (incoming .entry)) n (c .at)) (Q : ColumnsAt v deepest (now (target .entry)) m (b .at)) → Attempted (LongerThan (length (now (room .entry))) (build v policy (defaultsAt defaults T) (P .columns) (Q .columns))) (answered (build v policy (defaultsAt defaults T) (P .columns) (Q .columns)) (writtenPlan (length (now (plan .entry))))) (now (plan .entry)) r (now (plan .exit))) ⌝ }
+{
+    put_plan_head(room, m);
+    match build_columns(
+        policy,
+        v,
+        incoming,
+        n,
+        c,
+        table,
+        defaults,
+        target,
+        m,
+        b,
+        room,
+        7,
+    ) {
+        ColumnsMade::Failed(x, i) => Attempt::Answer(Build::Refused(x, i)),
+        ColumnsMade::Done(len) => write_plan(room, 7 + len, plan),
+    }
+}
+
+// In a room of 4,096 bytes, which takes less time to clear.
+fn build_small(
+    policy: Policy,
+    v: Version,
+    incoming: &[u8],
+    n: u16,
+    c: Cursor,
+    table: &[u8],
+    defaults: DefaultFieldValues,
+    target: &[u8],
+    m: u16,
+    b: Cursor,
+    plan: &mut [u8],
+) -> Attempt
+    requires { ⌜ ColumnsAt v deepest (now incoming) n (c .at) × ColumnsAt v deepest (now target) m (b .at) ⌝ }
+    requires { ⌜ TableAt (now table) (defaults .count) (defaults .entries .at) ⌝ }
+    requires { ⌜ (length (now target) ≤ 16384) × (length (now table) ≤ 16384) × (b .at ≡ 7) ⌝ }
+    ensures { λ r. ⌜ ((T : DefaultsAt (now (table .entry)) defaults) (P : ColumnsAt v deepest (now (incoming .entry)) n (c .at)) (Q : ColumnsAt v deepest (now (target .entry)) m (b .at)) → Attempted (LongerThan 4096 (build v policy (defaultsAt defaults T) (P .columns) (Q .columns))) (answered (build v policy (defaultsAt defaults T) (P .columns) (Q .columns)) (writtenPlan (length (now (plan .entry))))) (now (plan .entry)) r (now (plan .exit))) ⌝ }
+{
+    let mut room = [0u8; 4096];
+    build_in(
+        policy,
+        v,
+        incoming,
+        n,
+        c,
+        table,
+        defaults,
+        target,
+        m,
+        b,
+        &mut room,
+        plan,
+    )
+}
+
+// In a room as long as a plan may be: what is longer is refused with 27.
+fn build_large(
+    policy: Policy,
+    v: Version,
+    incoming: &[u8],
+    n: u16,
+    c: Cursor,
+    table: &[u8],
+    defaults: DefaultFieldValues,
+    target: &[u8],
+    m: u16,
+    b: Cursor,
+    plan: &mut [u8],
+) -> Build
+    requires { ⌜ ColumnsAt v deepest (now incoming) n (c .at) × ColumnsAt v deepest (now target) m (b .at) ⌝ }
+    requires { ⌜ TableAt (now table) (defaults .count) (defaults .entries .at) ⌝ }
+    requires { ⌜ (length (now target) ≤ 16384) × (length (now table) ≤ 16384) × (b .at ≡ 7) ⌝ }
+    ensures { λ r. ⌜ ((T : DefaultsAt (now (table .entry)) defaults) (P : ColumnsAt v deepest (now (incoming .entry)) n (c .at)) (Q : ColumnsAt v deepest (now (target .entry)) m (b .at)) → (r ≡ answerOf (answered (build v policy (defaultsAt defaults T) (P .columns) (Q .columns)) (writtenPlan (length (now (plan .entry)))))) × (now (plan .exit) ≡ bufferAfter (answered (build v policy (defaultsAt defaults T) (P .columns) (Q .columns)) (writtenPlan (length (now (plan .entry))))) (now (plan .entry)))) ⌝ }
+{
+    let mut room = [0u8; 65536];
+    match build_in(
+        policy,
+        v,
+        incoming,
+        n,
+        c,
+        table,
+        defaults,
+        target,
+        m,
+        b,
+        &mut room,
+        plan,
+    ) {
+        Attempt::Answer(r) => r,
+        Attempt::Short => Build::Refused(27, 0),
+    }
+}
+
+// The plan between two layouts that were read. For a small target the small room is tried first, and the large one where that was too short.
 pub fn build_plan(
     policy: Policy,
     v: Version,
@@ -81,9 +196,24 @@ pub fn build_plan(
     requires { ⌜ (length (now target) ≤ 16384) × (length (now table) ≤ 16384) × (b .at ≡ 7) ⌝ }
     ensures { λ r. ⌜ ((T : DefaultsAt (now (table .entry)) defaults) (P : ColumnsAt v deepest (now (incoming .entry)) n (c .at)) (Q : ColumnsAt v deepest (now (target .entry)) m (b .at)) → (r ≡ answerOf (answered (build v policy (defaultsAt defaults T) (P .columns) (Q .columns)) (writtenPlan (length (now (plan .entry)))))) × (now (plan .exit) ≡ bufferAfter (answered (build v policy (defaultsAt defaults T) (P .columns) (Q .columns)) (writtenPlan (length (now (plan .entry))))) (now (plan .entry)))) ⌝ }
 {
-    let mut room = scratch();
-    put_plan_head(&mut room, m);
-    match build_columns(
+    if target.len() <= 1024 {
+        if let Attempt::Answer(r) = build_small(
+            policy,
+            v,
+            incoming,
+            n,
+            c,
+            table,
+            defaults,
+            target,
+            m,
+            b,
+            plan,
+        ) {
+            return r;
+        }
+    }
+    build_large(
         policy,
         v,
         incoming,
@@ -94,10 +224,6 @@ pub fn build_plan(
         target,
         m,
         b,
-        &mut room,
-        7,
-    ) {
-        ColumnsMade::Failed(x, i) => Build::Refused(x, i),
-        ColumnsMade::Done(len) => write_plan(&room, 7 + len, plan),
-    }
+        plan,
+    )
 }

@@ -8,13 +8,12 @@ use Rattle.layout.specs.Bytes.{Bytes, sameBytes}
 use Rattle.layout.specs.Parser.{ok}
 use Rattle.layout.specs.Tree.{Label, Columns, DataType, struct, list, array, Fields, fcons, countFields, dtypeOf, fieldsOf}
 use Rattle.layout.specs.Layout.{Kind, kind, aLeaf, aStruct, aList, anArray, label, columns as columnsOf, type}
-use Rattle.layout.specs.Answers.{spanAt, spanIn, headRes, labelRes}
+use Rattle.layout.specs.Answers.{spanAt, labelRes}
 use Rattle.layout.specs.Stands.{TypeAt, ColumnsAt}
 use Rattle.layout.specs.declared.columns.Label.{Label as LabelSpan}
 use Rattle.layout.specs.declared.columns.Labelled.{Labelled}
 use Rattle.layout.specs.declared.columns.Siblings.the-variants.{Free}
 use Rattle.layout.specs.declared.cursor.Cursor.{Cursor}
-use Rattle.layout.specs.declared.types.Head.{Head}
 use Rattle.layout.specs.declared.version.Version.{Version}
 use borrow.Author.Tests.{eq-eqb}
 use Rattle.layout.proofs.Ways.{clash}
@@ -31,12 +30,10 @@ use Rattle.forms.proofs.Comparing.{struct-known, list-known, array-known, Struc
 use Rattle.plan.specs.Check.{Column, column}
 use Rattle.plan.proofs.Results.{true≠false}
 use Rattle.nodes.specs.Typed.{TypeIs}
-use Rattle.checker.specs.Standing.{bytesOf, NameAt, PartOf, ResolvedAt, headKind, TypeHeadIs}
+use Rattle.checker.specs.Standing.{PartOf, ResolvedAt, headKind, TypeHeadIs}
 use Rattle.checker.specs.Same.{endsFrom, endsOf, codeOf}
 use Rattle.checker.specs.declared.same.Ends.{Ends}
 use Rattle.checker.specs.declared.same.HeadCode.{HeadCode}
-use Rattle.checker.specs.declared.place.Name.{Name}
-use Rattle.checker.specs.declared.place.Place.{Place}
 use Rattle.checker.specs.declared.place.TypeHead.{TypeHead}
 use Rattle.checker.specs.declared.resolve.Resolved.{Resolved}
 use Rattle.checker.proofs.Fields.{column-there}
@@ -72,21 +69,6 @@ differ t u e f = go (sameDtype t u) refl
 pub raw-ends : {v : Version} {s : Bytes} {at : ℕ} {t : DataType} (T : TypeIs v s at t) {w : Version} {d : ℕ} {b : Bytes} {bt : ℕ} (Q : TypeAt w d b bt) {x : Same} {r : Ends}
     → x ≡ sameOf (sameDtype (dtypeOf (T .type .tree)) (dtypeOf (Q .tree))) (T .type .end) (Q .end) → r ≡ endsFrom x → r ≡ endsOf (sameDtype t (dtypeOf (Q .tree))) (Q .end)
 raw-ends T Q e f = f ∙ ap endsFrom e ∙ ends-from _ _ _ ∙ ap (λ (u : DataType). endsOf (sameDtype u (dtypeOf (Q .tree))) (Q .end)) (T .is)
-
--- ---- same_name
-
-module _ {incoming plan : Bytes} {m : Name} {b : Bytes} (N : NameAt incoming plan m b) where
-  name-placed : {p : Place} → m .place ≡ p → spanIn (bytesOf incoming plan p) (m .span) × (spanAt (bytesOf incoming plan p) (m .span) ≡ b)
-  name-placed e = (subst (λ (p : Place). spanIn (bytesOf incoming plan p) (m .span)) e (N .inside), ap (λ (p : Place). spanAt (bytesOf incoming plan p) (m .span)) (sym e) ∙ N .is)
-
-  pub name-incoming : m .place ≡ Place.Incoming → spanIn incoming (m .span) × (spanAt incoming (m .span) ≡ b)
-  name-incoming e = name-placed e
-
-  pub name-plan : m .place ≡ Place.Plan → spanIn plan (m .span) × (spanAt plan (m .span) ≡ b)
-  name-plan e = name-placed e
-
-pub named-same : {a b : Bytes} (c : Bytes) {r : Bool} → r ≡ sameBytes a c → a ≡ b → r ≡ sameBytes b c
-named-same c e f = e ∙ ap (λ (x : Bytes). sameBytes x c) f
 
 -- ---- heads
 
@@ -302,10 +284,3 @@ module _ {incoming : Bytes} {v : Version} {n : ℕ} {plan : Bytes} {r : Resolved
             all true true z p j = refl
             all true false z p j = true≠false p refl
             all false y z p j = true≠false p refl
-
--- by what the head was
-pub kind-of : {v : Version} {d : ℕ} {s : Bytes} {at : ℕ} (Q : TypeAt v d s at) {p q : Head} → headRes s p ≡ kind s at → p ≡ q → {k : Kind} {m : ℕ} → headRes s q ≡ ok k m → k ≡ headOf (dtypeOf (Q .tree))
-kind-of {s = s} {at = at} Q {p} {q} e i {k} {m} g =
-    let H = head-at Q {c = record { at = at }} {x = endOf (kind s at) (record { at = at })} refl refl in
-    let z : ok k m ≡ ok (headOf (dtypeOf (Q .tree))) _ = sym (ap (headRes s) i ∙ g) ∙ e ∙ H .reads in
-    ok-eq z .0

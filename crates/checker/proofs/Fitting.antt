@@ -21,11 +21,12 @@ use Rattle.plan.specs.Check.{Column, column, columnAt, withinLimits}
 use Rattle.plan.proofs.Results.{never-refused, gives-eq}
 use Rattle.nodes.specs.Typed.{TypeIs, SizeOf}
 use Rattle.nodes.specs.declared.types.FormSize.{FormSize}
-use Rattle.checker.specs.Standing.{bytesOf, NameAt, partsOf, PartOf, Made, made-struct, made-list, made-array, ResolvedAt, headKind, TypeHeadIs}
+use Rattle.direct.specs.Places.{bytesOf, NameAt}
+use Rattle.checker.specs.Standing.{partsOf, PartOf, Made, made-struct, made-list, made-array, ResolvedAt, headKind, TypeHeadIs}
 use Rattle.checker.specs.Limits.{fitOf, typeFit, fieldsFit, isWithin}
 use Rattle.checker.specs.declared.limits.Fit.{Fit}
-use Rattle.checker.specs.declared.place.Name.{Name}
-use Rattle.checker.specs.declared.place.Place.{Place}
+use Rattle.direct.specs.declared.place.Name.{Name}
+use Rattle.direct.specs.declared.place.Place.{Place}
 use Rattle.checker.specs.declared.place.TypeHead.{TypeHead}
 use Rattle.checker.specs.declared.resolve.Source.{Source}
 use Rattle.checker.specs.declared.resolve.Resolved.{Resolved}

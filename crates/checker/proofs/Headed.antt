@@ -31,8 +31,9 @@ use Rattle.walk.specs.declared.head.StructFields.{StructFields}
 use Rattle.walk.proofs.Heads.{is-position, is-constant, is-cast, is-rename, is-struct, is-list, is-array}
 use Rattle.walk.proofs.View.{selectors-counted}
 use Rattle.nodes.specs.Typed.{TypeIs}
-use Rattle.checker.specs.Standing.{bytesOf, TypeHeadIs, TypedAt, MappedAt, SourceAt, ResolvedAt, Resolves}
-use Rattle.checker.specs.declared.place.Place.{Place}
+use Rattle.direct.specs.Places.{bytesOf}
+use Rattle.checker.specs.Standing.{TypeHeadIs, TypedAt, MappedAt, SourceAt, ResolvedAt, Resolves}
+use Rattle.direct.specs.declared.place.Place.{Place}
 use Rattle.checker.specs.declared.place.TypeHead.{TypeHead}
 use Rattle.checker.specs.declared.resolve.Source.{Source}
 use Rattle.checker.specs.declared.resolve.Resolved.{Resolved}

@@ -36,9 +36,10 @@ use Rattle.walk.specs.declared.head.SelectorHead.{SelectorHead}
 use Rattle.walk.proofs.Heads.{is-position, is-constant, is-cast, is-rename, is-struct, is-list, is-array}
 use Rattle.nodes.specs.Typed.{TypeIs}
 use Rattle.checker.specs.Shallow.{Shallow}
-use Rattle.checker.specs.Standing.{bytesOf, partsOf, NameAt, PartOf, ColumnOf, NamedAt, Made, made-struct, made-list, made-array, MappedAt, ResolvedAt, ScopedAt, EnclosingIs, InputNamed, ownNameAnswer, OwnNameIs, mappedNameAnswer, MappedNameIs}
-use Rattle.checker.specs.declared.place.Place.{Place}
-use Rattle.checker.specs.declared.place.Name.{Name}
+use Rattle.direct.specs.Places.{bytesOf, NameAt}
+use Rattle.checker.specs.Standing.{partsOf, PartOf, ColumnOf, NamedAt, Made, made-struct, made-list, made-array, MappedAt, ResolvedAt, ScopedAt, EnclosingIs, InputNamed, ownNameAnswer, OwnNameIs, mappedNameAnswer, MappedNameIs}
+use Rattle.direct.specs.declared.place.Place.{Place}
+use Rattle.direct.specs.declared.place.Name.{Name}
 use Rattle.checker.specs.declared.name.OwnName.{OwnName}
 use Rattle.checker.specs.declared.name.PartName.{PartName}
 use Rattle.checker.specs.declared.resolve.Resolved.{Resolved}

@@ -355,6 +355,10 @@ counts-apart {count = count} {fs = fs} {vt = vt} {target = target} {m = m} {bt =
 
 -- ---- check_read
 
+pub read-direct : {incoming : Bytes} {v : Version} {n : ℕ} {plan : Bytes} {count at : ℕ} {Γ : Fields} {ss : Selectors} (T : TopsAt incoming v n plan count at Γ ss) (Δ : Fields)
+    → check (fieldsOf (T .columns .columns)) Δ (T .selectors .trees) ≡ accepted tt → PlanChecked.Passed ≡ planChecked (check Γ Δ ss)
+read-direct T Δ e = ap planChecked (sym ((λ i. check (sym (T .are) i) Δ (sym (T .is) i)) ∙ e))
+
 module _ {incoming : Bytes} {v : Version} {n : ℕ} {plan : Bytes} {count at : ℕ} {Γ : Fields} {ss : Selectors} (T : TopsAt incoming v n plan count at Γ ss) {r : PlanChecked} (e : r ≡ planChecked (topTypes Γ ss 0)) where
   module _ (p : r ≡ PlanChecked.Passed) where
     pub given : (fs : Fields) × (topTypes Γ ss 0 ≡ accepted fs)

@@ -20,26 +20,16 @@ use Rattle.walk.specs.Types.{ScopeOf, Along, Gives}
 use Rattle.walk.specs.Standing.{WalkAt, rank}
 use Rattle.walk.specs.declared.walk.Walk.{Walk}
 use Rattle.nodes.specs.Typed.{TypeIs}
+use Rattle.direct.specs.Places.{bytesOf, NameAt}
 use Rattle.checker.specs.Shallow.{Shallow}
-use Rattle.checker.specs.declared.place.Place.{Place}
-use Rattle.checker.specs.declared.place.Name.{Name}
+use Rattle.direct.specs.declared.place.Place.{Place}
+use Rattle.direct.specs.declared.place.Name.{Name}
 use Rattle.checker.specs.declared.place.TypeHead.{TypeHead}
 use Rattle.checker.specs.declared.resolve.Source.{Source}
 use Rattle.checker.specs.declared.resolve.Resolved.{Resolved}
 use Rattle.checker.specs.declared.resolve.Stop.{Stop}
 use Rattle.checker.specs.declared.name.OwnName.{OwnName}
 use Rattle.checker.specs.declared.name.PartName.{PartName}
-
--- ---- places
-
-abbrev pub bytesOf : Bytes → Bytes → Place → Bytes
-bytesOf incoming plan Place.Incoming = incoming
-bytesOf incoming plan Place.Plan = plan
-
--- the name b stands where n says
-pub record NameAt (incoming plan : Bytes) (n : Name) (b : Bytes) : Type 0 where
-  pub inside : spanIn (bytesOf incoming plan (n .place)) (n .span)
-  pub is : spanAt (bytesOf incoming plan (n .place)) (n .span) ≡ b
 
 -- what an answer for a type's head stands for
 abbrev pub headKind : Bytes → Bytes → TypeHead → Kind

@@ -7,12 +7,14 @@ ghost use Rattle.layout.specs.Tree.{DataType};
 ghost use Rattle.layout.specs.declared.version.Version.{Version as VersionOf};
 ghost use Rattle.plan.specs.Check.{Column};
 ghost use Rattle.nodes.specs.Typed.{TypeIs};
-ghost use Rattle.checker.specs.Standing.{bytesOf, NameAt, PartOf, ColumnOf, NamedAt, MappedAt, ResolvedAt, OwnNameIs, MappedNameIs};
+ghost use Rattle.direct.specs.Places.{bytesOf, NameAt};
+ghost use Rattle.checker.specs.Standing.{PartOf, ColumnOf, NamedAt, MappedAt, ResolvedAt, OwnNameIs, MappedNameIs};
 use crate::part::enclosing;
-use crate::place::Name;
-use crate::place::Place;
 use crate::resolve::Resolved;
 use crate::resolve::Source;
+use direct::place::Name;
+use direct::place::Place;
+use direct::place::named;
 use layout::bytes::Span;
 use layout::columns::Position;
 use layout::cursor::Cursor;
@@ -36,12 +38,6 @@ pub enum OwnName {
 pub enum PartName {
     Is(Name),
     Child,
-}
-
-fn named(place: Place, span: Span) -> Name
-    ensures { λ r. ⌜ r ≡ record { place = place; span = span } ⌝ }
-{
-    Name { place, span }
 }
 
 fn no_name(place: Place) -> Name

@@ -4,7 +4,6 @@ ghost use mathlib.Core.Bool.{_&&_};
 ghost use Prim.Native.Nat.{ℕ};
 ghost use Rattle.layout.specs.Bytes.{Bytes, sameBytes};
 ghost use Rattle.layout.specs.Tree.{DataType, struct, Fields, countFields, dtypeOf, fieldsOf};
-ghost use Rattle.layout.specs.Answers.{spanAt, spanIn};
 ghost use Rattle.layout.specs.Stands.{TypeAt, ColumnsAt};
 ghost use Rattle.layout.specs.declared.version.Version.{Version as VersionOf};
 ghost use Rattle.forms.specs.Form.{headOf};
@@ -12,21 +11,18 @@ ghost use Rattle.forms.specs.Same.{sameDtype, sameFields};
 ghost use Rattle.forms.specs.Labelled.{ElementAt, ColumnAt};
 ghost use Rattle.plan.specs.Check.{Column};
 ghost use Rattle.checker.specs.declared.resolve.Source.{Source as SourceOf};
-ghost use Rattle.checker.specs.Standing.{NameAt, PartOf, ResolvedAt, headKind};
+ghost use Rattle.checker.specs.Standing.{PartOf, ResolvedAt, headKind};
 ghost use Rattle.checker.specs.Same.{endsFrom, endsOf, codeOf};
 use crate::head::type_head;
 use crate::name::part_name;
 use crate::part::part;
-use crate::place::Name;
-use crate::place::Place;
 use crate::place::TypeHead;
 use crate::resolve::Resolved;
 use crate::resolve::Source;
+use direct::place::same_name;
 use forms::compare::Same;
-use forms::compare::same_text;
 use forms::compare::same_type;
 use forms::head::head_end;
-use layout::bytes::Span;
 use layout::columns::Labelled;
 use layout::cursor::Cursor;
 use layout::types::Head;
@@ -50,19 +46,6 @@ fn target_end(s: Same) -> Ends
     match s {
         Same::To(_, e) => Ends::At(e),
         Same::No => Ends::Differ,
-    }
-}
-
-pub fn same_name(incoming: &[u8], plan: &[u8], name: Name, target: &[u8], q: Span) -> bool
-    requires { ⌜ ((b : Bytes) × NameAt (now incoming) (now plan) name b) ⌝ }
-    requires { ⌜ spanIn (now target) q ⌝ }
-    ensures { λ r. ⌜ ((b : Bytes) → NameAt (now (incoming .entry)) (now (plan .entry)) name b → r ≡ sameBytes b (spanAt (now (target .entry)) q)) ⌝ }
-{
-    let place = name.place;
-    let p = name.span;
-    match place {
-        Place::Incoming => same_text(incoming, p, target, q),
-        Place::Plan => same_text(plan, p, target, q),
     }
 }
 

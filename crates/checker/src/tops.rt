@@ -16,9 +16,10 @@ use crate::name::name_at;
 use crate::resolve::resolve;
 use crate::same::Ends;
 use crate::same::same_as;
-use crate::same::same_name;
 use crate::selector::Checked;
 use crate::selector::check_selector;
+use direct::place::same_name;
+use direct::target::fits_target;
 use layout::columns::Labelled;
 use layout::cursor::Cursor;
 use layout::read::LayoutRead;
@@ -167,6 +168,9 @@ pub fn check_read(
     requires { ⌜ ColumnsAt vt 16 (now target) m 7 ⌝ }
     ensures { λ r. ⌜ ((Γ : Fields) (ss : Selectors) (Q : ColumnsAt vt 16 (now (target .entry)) m 7) → TopsAt (now (incoming .entry)) v n (now (plan .entry)) count 7 Γ ss → r ≡ planChecked (check Γ (fieldsOf (Q .columns)) ss)) ⌝ }
 {
+    if fits_target(incoming, v, n, plan, count, target, vt, m) {
+        return PlanChecked::Passed;
+    }
     match check_tops(incoming, v, n, plan, count, Cursor { at: 7 }) {
         PlanChecked::Passed => {
             if same_plan(incoming, v, n, plan, count, target, vt, m) {

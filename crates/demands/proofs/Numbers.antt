@@ -26,8 +26,8 @@ use Rattle.plan.specs.Result.{Result, gives, refuses, _>>=_, demand, Answer, ac
 use Rattle.plan.specs.Selector.{Selector, Selectors}
 use Rattle.defaults.specs.Table.{Given, initial, partition, failed, Entry}
 use Rattle.defaults.specs.Lookup.{Taken, refused as refusedTaken, nothing, taken, isNullValue, unlessNull, ofSource, givenTo, firstEntry, isPartitionOf, isInitialOf, getDefaultValue}
-use Rattle.matching.specs.Default.{Defaults, noDefaults, leafDefault, defaultOf, defaultsOf, missingValue}
-use Rattle.matching.specs.Build.{leafPart, structPart, listPart, arrayPart, unlessNullType, renamed, missing, ruled, sought, attach, attachFields, buildColumnSelector, buildFrom, build}
+use Rattle.matching.specs.Default.{Defaults, noDefaults, leafDefault, buildIcebergDefaultValue, defaultsOf, missingValue}
+use Rattle.matching.specs.Build.{leafPart, structPart, listPart, arrayPart, unlessNullType, renamed, missing, ruled, sought, attachTransforms, attachFields, buildColumnSelector, buildFrom, build}
 
 -- the number of a refusal is not 27
 abbrev pub Other : {A : Type 0} → Result A → Type 0
@@ -156,9 +156,9 @@ other-leaf l nothing o = tt
 other-leaf l (taken m v) o = tested (sameDtype (leaf m) (leaf l)) 28 _ refl tt
 
 mutual
-  unfolding defaultOf defaultsOf OtherDefaults
+  unfolding buildIcebergDefaultValue defaultsOf OtherDefaults
 
-  other-default : (t : ColumnType) (d : Defaults) (i : FieldId) → OtherDefaults d → Other (defaultOf d i t)
+  other-default : (t : ColumnType) (d : Defaults) (i : FieldId) → OtherDefaults d → Other (buildIcebergDefaultValue d i t)
   other-default (cleaf l) d i o = other-leaf l (d i) (o i)
   other-default (cstruct cs) d i o = bound (defaultsOf d cs) _ (other-defaults cs d o) (λ g. tt)
   other-default (clist l t) d i o = tt
@@ -166,11 +166,11 @@ mutual
 
   other-defaults : (cs : Columns) (d : Defaults) → OtherDefaults d → Other (defaultsOf d cs)
   other-defaults cnil d o = tt
-  other-defaults (ccons l t cs) d o = bound (defaultOf d (l .id) t) _ (other-default t d (l .id) o) (λ x. bound (defaultsOf d cs) _ (other-defaults cs d o) (λ g. tt))
+  other-defaults (ccons l t cs) d o = bound (buildIcebergDefaultValue d (l .id) t) _ (other-default t d (l .id) o) (λ x. bound (defaultsOf d cs) _ (other-defaults cs d o) (λ g. tt))
 
 other-missing : (d : Defaults) (insert : Bool) (n : ℕ) (l : Label) (u : ColumnType) → OtherDefaults d → eqb n 27 ≡ false → Other (missing d insert n l u)
 unfolding missing missingValue
-other-missing d insert n l u o e = tested insert n _ e (bound _ _ (bound (defaultOf d (l .id) u) _ (other-default u d (l .id) o) (λ x. tt)) (λ x. tt))
+other-missing d insert n l u o e = tested insert n _ e (bound _ _ (bound (buildIcebergDefaultValue d (l .id) u) _ (other-default u d (l .id) o) (λ x. tt)) (λ x. tt))
 
 -- ---- the matchers
 
@@ -212,9 +212,9 @@ other-sought absent r f o g = o
 other-sought (at k l t) r f o g = g k l t
 
 mutual
-  unfolding attach attachFields
+  unfolding attachTransforms attachFields
 
-  other-attach : (u : ColumnType) (v : Version) (p : Policy) (d : Defaults) (k : Position) (t : ColumnType) → OtherDefaults d → Other (attach v p d u k t)
+  other-attach : (u : ColumnType) (v : Version) (p : Policy) (d : Defaults) (k : Position) (t : ColumnType) → OtherDefaults d → Other (attachTransforms v p d u k t)
   other-attach (cleaf u) v p d k t o = bound (leafPart t) _ (other-leaf-part t) (λ l. other-ruled (pairRule p l u) k u (other-pair p l u))
   other-attach (cstruct gs) v p d k t o =
       other-unless-null v p k (cstruct gs) t _
@@ -222,16 +222,16 @@ mutual
       (λ fs. tested _ 12 _ refl (tested _ 12 _ refl (tested _ 13 _ refl (bound (attachFields v p d gs fs) _ (other-fields gs v p d fs o) (λ ss. tt))))))
   other-attach (clist l u) v p d k t o =
       other-unless-null v p k (clist l u) t _
-      (bound (listPart t) _ (other-list-part t) (λ e. tested _ 25 _ refl (bound (attach v p noDefaults u _ (e .type)) _ (other-attach u v p noDefaults _ (e .type) other-none) (λ s. tt))))
+      (bound (listPart t) _ (other-list-part t) (λ e. tested _ 25 _ refl (bound (attachTransforms v p noDefaults u _ (e .type)) _ (other-attach u v p noDefaults _ (e .type) other-none) (λ s. tt))))
   other-attach (carray w l u) v p d k t o =
       other-unless-null v p k (carray w l u) t _
-      (bound (arrayPart w t) _ (other-array-part w t) (λ e. tested _ 25 _ refl (bound (attach v p noDefaults u _ (e .type)) _ (other-attach u v p noDefaults _ (e .type) other-none) (λ s. tt))))
+      (bound (arrayPart w t) _ (other-array-part w t) (λ e. tested _ 25 _ refl (bound (attachTransforms v p noDefaults u _ (e .type)) _ (other-attach u v p noDefaults _ (e .type) other-none) (λ s. tt))))
 
   other-fields : (gs : Columns) (v : Version) (p : Policy) (d : Defaults) (fs : Columns) → OtherDefaults d → Other (attachFields v p d gs fs)
   other-fields cnil v p d fs o = tt
   other-fields (ccons l u gs) v p d fs o =
       bound (sought _ _ _) _
-      (other-sought _ _ _ (other-missing d _ 14 l u o refl) (λ k m t. bound (attach v p d u k t) _ (other-attach u v p d k t o) (λ s. tt)))
+      (other-sought _ _ _ (other-missing d _ 14 l u o refl) (λ k m t. bound (attachTransforms v p d u k t) _ (other-attach u v p d k t o) (λ s. tt)))
       (λ s. bound (attachFields v p d gs fs) _ (other-fields gs v p d fs o) (λ ss. tt))
 
 -- ---- the build
@@ -248,7 +248,7 @@ other-answered (refusedAt n k) f o g = o
 
 other-column : (v : Version) (p : Policy) (d : Defaults) (l : Label) (u : ColumnType) (fs : Columns) → OtherDefaults d → Other (buildColumnSelector v p d l u fs)
 unfolding buildColumnSelector
-other-column v p d l u fs o = other-sought _ _ _ (other-missing d _ 11 l u o refl) (λ k m t. bound (attach v p d u k t) _ (other-attach u v p d k t o) (λ s. tt))
+other-column v p d l u fs o = other-sought _ _ _ (other-missing d _ 11 l u o refl) (λ k m t. bound (attachTransforms v p d u k t) _ (other-attach u v p d k t o) (λ s. tt))
 
 other-from : (gs : Columns) (v : Version) (p : Policy) (d : Defaults) (fs : Columns) (i : ℕ) → OtherDefaults d → OtherAnswer (buildFrom v p d gs fs i)
 unfolding buildFrom

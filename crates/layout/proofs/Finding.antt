@@ -1,19 +1,20 @@
 -- The scan for a column: what holds after i of n columns, and what is answered on each way out. Assumes nothing.
 use Prim.Native.Nat.{ℕ, zero, suc, _+_, _-_, _≤_, _<_}
 use mathlib.Core.Path.{_≡_, refl, sym, ap, _∙_, subst}
-use mathlib.Core.List.{List, []}
+use mathlib.Core.List.{List, [], _∷_, _++_}
 use mathlib.Core.Bool.{Bool, true, false}
 use native.Mathlib.Omega.{arith}
 use native.Mathlib.Nat.{add-sub-cancel-left}
 use lib.ListN.{take, drop}
 use lib.Dec.{eqb}
+use borrow.Author.Tests.{eq-eqb, ne-eqb}
 use Rattle.layout.specs.Bytes.{Bytes, sameBytes}
 use Rattle.layout.specs.Parser.{ok, choose}
 use Rattle.layout.specs.Tree.{Label, ColumnType, Columns, cnil, ccons}
 use Rattle.layout.specs.Layout.{label, columns, type}
 use Rattle.layout.specs.Answers.{labelRes, labelAt, labelIn, spanIn, movedOf}
 use Rattle.layout.specs.Stands.{TypeAt, ColumnsAt}
-use Rattle.layout.specs.Find.{Lookup, absent, at, findFrom, FoundAt, Finds, wantedBy}
+use Rattle.layout.specs.Find.{Lookup, absent, at, findFrom, columnAt, FoundAt, Finds, wantedBy}
 use Rattle.layout.specs.declared.columns.Position.{Position}
 use Rattle.layout.specs.declared.columns.Label.{Label as LabelSpan}
 use Rattle.layout.specs.declared.columns.Labelled.{Labelled}
@@ -23,7 +24,10 @@ use Rattle.layout.specs.declared.cursor.Moved.{Moved}
 use Rattle.layout.specs.declared.find.Found.{Found}
 use Rattle.layout.specs.declared.find.Wanted.{Wanted}
 use Rattle.layout.specs.declared.version.Version.{Version}
-use Rattle.layout.proofs.View.{FirstAt, first-at, first-labelled, no-column, same-columns, type-ends, never-stuck}
+use Rattle.layout.proofs.Ways.{clash}
+use Rattle.layout.proofs.FreeRule.{repeats-free}
+use Rattle.layout.proofs.Reading.{columns-suc}
+use Rattle.layout.proofs.View.{FirstAt, first-at, head-at, columns-any, first-labelled, no-column, same-columns, type-ends, never-stuck}
 
 pub record Seeking (v : Version) (d : ℕ) (s : Bytes) (f : ℕ → Label → Bool) (n from i here : ℕ) : Type 0 where
   pub whole : ColumnsAt v d s n from
@@ -95,8 +99,84 @@ module _ {v : Version} {d : ℕ} {s : Bytes} (f : ℕ → Label → Bool) {n fro
           is = a .is ∙ step (sym e ∙ t);
         }
 
+-- ---- the column at a position
+
+-- after the first k columns, which f does not want
+record After (v : Version) (d : ℕ) (s : Bytes) (f : ℕ → Label → Bool) (j n here : ℕ) (P : ColumnsAt v d s n here) (k : ℕ) : Type 0 where
+  end : ℕ
+  passes : movedOf (columns v Free (type v Free d) k [] s here) ≡ Moved.To (record { at = end })
+  rest : ColumnsAt v d s (n - k) end
+  is : findFrom f j (P .columns) ≡ findFrom f (j + k) (rest .columns)
+
+after : {v : Version} {d : ℕ} {s : Bytes} (f : ℕ → Label → Bool) (k j : ℕ) {n here : ℕ} (P : ColumnsAt v d s n here) → k ≤ n
+    → ((i : ℕ) (l : Label) → i < j + k → f i l ≡ false) → After v d s f j n here P k
+unfolding columns movedOf findFrom choose
+after f zero j {n} {here} P le un = record {
+  end = here;
+  passes = refl;
+  rest = record { columns = P .columns; end = P .end; reads = renamed P (let e : n ≡ n - 0 = omega arith in e) refl };
+  is = ap (λ (i : ℕ). findFrom f i (P .columns)) (let e : j ≡ j + 0 = omega arith in e);
+}
+after {v} {d} {s} f (suc k) j {n} {here} P le un =
+    let H = head-at P (λ z. omega arith) in
+    let A = after f k (j + 1) (H .first .tail) (omega arith) (λ i l h. un i l (omega arith)) in
+    let x : ℕ = H .first .head .end in
+    record {
+      end = A .end;
+      passes = columns-suc v Free (type v Free d) k [] s here (H .labelled) (H .first .head .reads) (repeats-free (H .label) [])
+          ∙ ap movedOf (columns-any v (type v Free d) k ([] ++ (H .label ∷ [])) [] s x) ∙ A .passes;
+      rest = record {
+        columns = A .rest .columns;
+        end = A .rest .end;
+        reads = renamed (A .rest) (let e : n - 1 - k ≡ n - suc k = omega arith in e) refl;
+      };
+      is = ap (findFrom f j) (H .first .is)
+          ∙ ap (λ (b : Bool). choose b (at (record { 0 = j }) (H .label) (H .first .head .tree)) (findFrom f (j + 1) (H .first .tail .columns))) (un j (H .label) (omega arith))
+          ∙ A .is ∙ ap (λ (i : ℕ). findFrom f i (A .rest .columns)) (let e : j + 1 + k ≡ j + suc k = omega arith in e);
+    }
+
+-- before the position k
+before : (k : ℕ) {m : ℕ} → m ≤ k → (i : ℕ) (l : Label) → i < 0 + m → eqb i k ≡ false
+before k h i l lt = ne-eqb i k (λ z. omega arith)
+
+module _ {v : Version} {d : ℕ} {s : Bytes} {n from : ℕ} (k : Position) (P : ColumnsAt v d s n from) where
+  pub position-past : n ≤ k .0 → (Q : ColumnsAt v d s n from) → Finds v d s (columnAt k (Q .columns)) Found.Absent
+  position-past h =
+      let f : ℕ → Label → Bool = λ i l. eqb i (k .0) in
+      let A = after f n 0 P (omega arith) (before (k .0) h) in
+      seeking-none f (record { whole = P; within = omega arith; rest = A .rest; is = A .is ∙ ap (λ (i : ℕ). findFrom f i (A .rest .columns)) (let e : 0 + n ≡ n = omega arith in e) }) (omega arith)
+
+  module _ (lt : k .0 < n) {r : Moved} (e : r ≡ movedOf (columns v Free (type v Free d) (k .0) [] s from)) where
+    pub position-stuck : {B : Type 0} {m : ℕ} → r ≡ Moved.Refused m → B
+    position-stuck {m = m} f =
+        let A = after (λ i l. eqb i (k .0)) (k .0) 0 P (omega arith) (before (k .0) (omega arith)) in
+        let z : Moved.Refused m ≡ Moved.To (record { at = A .end }) = sym f ∙ e ∙ A .passes in
+        clash (cc)
+
+    module _ {c : Cursor} (f : r ≡ Moved.To c) where
+      reached : Seeking v d s (λ i l. eqb i (k .0)) n from (k .0) (c .at)
+      reached =
+          let g : ℕ → Label → Bool = λ i l. eqb i (k .0) in
+          let A = after g (k .0) 0 P (omega arith) (before (k .0) (omega arith)) in
+          let z : Moved.To (record { at = A .end }) ≡ Moved.To c = sym (A .passes) ∙ sym e ∙ f in
+          let y : A .end ≡ c .at = cc in
+          record {
+            whole = P;
+            within = omega arith;
+            rest = record { columns = A .rest .columns; end = A .rest .end; reads = renamed (A .rest) refl y };
+            is = A .is ∙ ap (λ (i : ℕ). findFrom g i (A .rest .columns)) (let e : 0 + k .0 ≡ k .0 = omega arith in e);
+          }
+
+      module _ {p : Labelled} (g : labelRes s p ≡ label v s (c .at)) where
+        pub position-unlabelled : {B : Type 0} {m : ℕ} → p ≡ Labelled.Refused m → B
+        position-unlabelled h = seeking-unlabelled _ reached lt g h
+
+        pub position-found : {l : LabelSpan} {b : Cursor} → labelIn s p → p ≡ Labelled.Is l b
+            → (Q : ColumnsAt v d s n from) → Finds v d s (columnAt k (Q .columns)) (Found.At k l b)
+        position-found inn h = seeking-found _ reached lt g h inn (sym (eq-eqb (k .0) (k .0) refl)) refl
+
 -- the tests of a column
-module _ (s name : Bytes) (i : ℕ) (l : LabelSpan) where
+module _ (s name : Bytes) (l : LabelSpan) where
   pub wanted-name : {w : Wanted} {b : Bool} → w ≡ Wanted.Name → b ≡ sameBytes (take (l .name .start + l .name .len - l .name .start) (drop (l .name .start) s)) name
-      → b ≡ wantedBy w name i (labelAt s l)
+      → b ≡ wantedBy w name (labelAt s l)
   wanted-name h e = rw h (rw (add-sub-cancel-left (l .name .start) (l .name .len)) at e)

@@ -2,10 +2,12 @@ pub mod Same
 pub mod Keys
 pub mod Ways
 pub mod FreeRule
+pub mod OfBytes
+pub mod Marking
 pub mod Reading
 pub mod Top
 pub mod View
+pub mod Passing
 pub mod Finding
 pub mod Whole
 pub mod Samples
-pub mod OfBytes

@@ -8,6 +8,7 @@ use Rattle.layout.specs.Parser.{Res, refuse, ok, next, choose, Parser}
 use Rattle.layout.specs.Tree.{Label, ColumnType, ccons}
 use Rattle.layout.specs.Layout.{label, columns, type, repeats, repeatsAny}
 use Rattle.layout.specs.Scan.{scan, found}
+use Rattle.layout.specs.Seen.{labelHash, Marked, Keeps, Noted}
 use Rattle.layout.specs.Answers.{movedOf, labelRes, labelAt}
 use Rattle.layout.specs.declared.cursor.Cursor.{Cursor}
 use Rattle.layout.specs.declared.cursor.Moved.{Moved}
@@ -15,8 +16,9 @@ use Rattle.layout.specs.declared.columns.Labelled.{Labelled}
 use Rattle.layout.specs.declared.columns.Label.{Label as LabelSpan}
 use Rattle.layout.specs.declared.version.Version.{Version}
 use Rattle.layout.specs.declared.columns.Siblings.{Siblings}
-use Rattle.layout.proofs.Ways.{moved-to, moved-refused, to-pure}
+use Rattle.layout.proofs.Ways.{clash, moved-to, moved-refused, to-pure}
 use Rattle.layout.proofs.FreeRule.{type-free}
+use Rattle.layout.proofs.Marking.{keeps-same, keeps-on, marked-as, same-hash}
 
 -- what a label's answer says of the parser
 label-got : (s : List ℕ) (x : Res Label) {p : Labelled} {k : LabelSpan} {c : Cursor} → labelRes s p ≡ x → p ≡ Labelled.Is k c → x ≡ ok (labelAt s k) (c .at)
@@ -37,47 +39,64 @@ unfolding scan
 scan-suc v r d l n s at h g = rw (h, g)
 
 -- one more column read
-columns-suc : (v : Version) (r : Siblings) (p : Parser ColumnType) (n : ℕ) (ms : List Label) (s : List ℕ) (at : ℕ) {l : Label} {m e : ℕ} {t : ColumnType}
+pub columns-suc : (v : Version) (r : Siblings) (p : Parser ColumnType) (n : ℕ) (ms : List Label) (s : List ℕ) (at : ℕ) {l : Label} {m e : ℕ} {t : ColumnType}
     → label v s at ≡ ok l m → p s m ≡ ok t e → repeatsAny r l ms ≡ false
     → movedOf (columns v r p (suc n) ms s at) ≡ movedOf (columns v r p n (ms ++ (l ∷ [])) s e)
 unfolding columns next choose
 columns-suc v r p n ms s at {l} {m} {e} {t} h g z = rw (h, g, z) (sym (to-pure (ccons l t) (columns v r p n (ms ++ (l ∷ [])) s e) refl))
 
-pub record Reading (v : Version) (r inner : Siblings) (d : ℕ) (s : List ℕ) (n from i at : ℕ) : Type 0 where
+-- whether one of the earlier labels or the one after them is repeated
+snoc-marked : (r : Siblings) (from : ℕ) (l k : Label) (ms : List Label) {t u : List ℕ} → ((l : Label) → repeatsAny r l ms ≡ true → Marked t (labelHash r from l)) → Keeps t u
+    → Marked u (labelHash r from k) → repeatsAny r l (ms ++ (k ∷ [])) ≡ true → Marked u (labelHash r from l)
+snoc-marked r from l k ms {t} {u} f a m e = go (repeatsAny r l ms) refl (sym (repeatsAny-snoc r l ms k) ∙ e)
+  where
+    go : (b : Bool) → repeatsAny r l ms ≡ b → (b || repeats r l k) ≡ true → Marked u (labelHash r from l)
+    go true q h = a .kept (labelHash r from l) (f l q)
+    go false q h = marked-as (sym (same-hash r from l k h)) m
+
+-- after i of n columns; the table was t₀ and is t
+pub record Reading (v : Version) (r inner : Siblings) (d : ℕ) (s : List ℕ) (n from : ℕ) (t₀ : List ℕ) (i at : ℕ) (t : List ℕ) : Type 0 where
   pub within : i ≤ n
   pub earlier : List Label
   pub rest : movedOf (columns v r (type v inner d) n [] s from) ≡ movedOf (columns v r (type v inner d) (n - i) earlier s at)
   pub passed : (l : Label) (m : ℕ) → scan v r d l (i + m) s from ≡ (repeatsAny r l earlier || scan v r d l m s at)
+  pub kept : Keeps t₀ t
+  pub marked : (l : Label) → repeatsAny r l earlier ≡ true → Marked t (labelHash r from l)
 
-module _ (v : Version) (r inner : Siblings) (d : ℕ) (s : List ℕ) (n from : ℕ) where
-  pub reading-none : Reading v r inner d s n from 0 from
+module _ (v : Version) (r inner : Siblings) (d : ℕ) (s : List ℕ) (n from : ℕ) (t₀ : List ℕ) where
+  pub reading-none : Reading v r inner d s n from t₀ 0 from t₀
   unfolding repeatsAny
   reading-none = record {
     within = omega arith;
     earlier = [];
     rest = ap (λ (k : ℕ). movedOf (columns v r (type v inner d) k [] s from)) (let e : n ≡ n - 0 = omega arith in e);
     passed = λ l m. ap (λ (k : ℕ). scan v r d l k s from) (let e : 0 + m ≡ m = omega arith in e);
+    kept = keeps-same t₀;
+    marked = λ l e. clash (cc);
   }
 
-  module _ (i at : ℕ) (a : Reading v r inner d s n from i at) where
-    pub reading-all : n ≤ i → Moved.To (record { at = at }) ≡ movedOf (columns v r (type v inner d) n [] s from)
+  module _ (i at : ℕ) {t : List ℕ} (a : Reading v r inner d s n from t₀ i at t) where
+    pub reading-all : n ≤ i → (Moved.To (record { at = at }) ≡ movedOf (columns v r (type v inner d) n [] s from)) × Keeps t₀ t
     unfolding columns next choose movedOf
-    reading-all h = let e : n - i ≡ 0 = omega arith in rw (a .rest, e)
+    reading-all h = let e : n - i ≡ 0 = omega arith in (rw (a .rest, e), a .kept)
 
     module _ (lt : i < n) where
       step : n - i ≡ suc (n - (i + 1))
       step = omega arith
 
       pub reading-no-label : {p : Labelled} {k : ℕ} → labelRes s p ≡ label v s at → p ≡ Labelled.Refused k
-          → Moved.Refused k ≡ movedOf (columns v r (type v inner d) n [] s from)
+          → (Moved.Refused k ≡ movedOf (columns v r (type v inner d) n [] s from)) × Keeps t₀ t
       unfolding columns next choose movedOf
-      reading-no-label e f = rw (a .rest, step) (rw (label-none s (label v s at) e f))
+      reading-no-label e f = (rw (a .rest, step) (rw (label-none s (label v s at) e f)), a .kept)
 
-      module _ {p : Labelled} {k : LabelSpan} {c : Cursor} (e : labelRes s p ≡ label v s at) (f : p ≡ Labelled.Is k c) where
-        pub reading-no-type : {q : Moved} {o : ℕ} → q ≡ movedOf (type v inner d s (c .at)) → q ≡ Moved.Refused o
-            → Moved.Refused o ≡ movedOf (columns v r (type v inner d) n [] s from)
+      module _ {p : Labelled} {k : LabelSpan} {c : Cursor} (e : labelRes s p ≡ label v s at) (f : p ≡ Labelled.Is k c)
+          {q : Moved} {t₁ : List ℕ} (g : (q ≡ movedOf (type v inner d s (c .at))) × Keeps t t₁) where
+        pub reading-no-type : {o : ℕ} → q ≡ Moved.Refused o → (Moved.Refused o ≡ movedOf (columns v r (type v inner d) n [] s from)) × Keeps t₀ t₁
         unfolding columns next choose movedOf
-        reading-no-type g h = rw (a .rest, step) (rw (label-got s (label v s at) e f, moved-refused (type v inner d s (c .at)) g h))
+        reading-no-type h = (
+          rw (a .rest, step) (rw (label-got s (label v s at) e f, moved-refused (type v inner d s (c .at)) (g .0) h)),
+          keeps-on (a .kept) (g .1),
+        )
 
         -- the code's test is the definition's
         tested : {b : Bool} → b ≡ scan v r d (labelAt s k) i s from → b ≡ repeatsAny r (labelAt s k) (a .earlier)
@@ -85,30 +104,37 @@ module _ (v : Version) (r inner : Siblings) (d : ℕ) (s : List ℕ) (n from : �
         tested h = h ∙ ap (λ (j : ℕ). scan v r d (labelAt s k) j s from) (let z : i ≡ i + 0 = omega arith in z)
             ∙ a .passed (labelAt s k) 0 ∙ or-false (repeatsAny r (labelAt s k) (a .earlier))
 
-        pub reading-repeated : {q : Moved} {j : Cursor} {b : Bool} → q ≡ movedOf (type v inner d s (c .at)) → q ≡ Moved.To j
-            → b ≡ scan v r d (labelAt s k) i s from → b ≡ true → Moved.Refused 5 ≡ movedOf (columns v r (type v inner d) n [] s from)
-        unfolding columns next choose movedOf
-        reading-repeated g h x y =
-            let z : repeatsAny r (labelAt s k) (a .earlier) ≡ true = sym (tested x) ∙ y in
-            rw (a .rest, step) (rw (label-got s (label v s at) e f, moved-to (type v inner d s (c .at)) g h .1, z))
+        pub reading-noted : Noted v r d (labelAt s k) i s from t₁
+        reading-noted = record { noted = λ h. g .1 .kept (labelHash r from (labelAt s k)) (a .marked (labelAt s k) (sym (tested (sym h)))) }
 
-        pub reading-more : {q : Moved} {j : Cursor} {b : Bool} → q ≡ movedOf (type v inner d s (c .at)) → q ≡ Moved.To j
-            → b ≡ scan v r d (labelAt s k) i s from → b ≡ false → Reading v r inner d s n from (i + 1) (j .at)
-        reading-more {j = j} g h x y =
-            let z : repeatsAny r (labelAt s k) (a .earlier) ≡ false = sym (tested x) ∙ y in
-            let w = label-got s (label v s at) e f in
-            let t = moved-to (type v inner d s (c .at)) g h in
-            let u = type-free v inner s d (c .at) (t .0) (j .at) (t .1) in
-            record {
-              within = omega arith;
-              earlier = a .earlier ++ (labelAt s k ∷ []);
-              rest = a .rest ∙ rw step (columns-suc v r (type v inner d) (n - (i + 1)) (a .earlier) s at w (t .1) z);
-              passed = λ l m.
-                  ap (λ (o : ℕ). scan v r d l o s from) (let z : i + 1 + m ≡ i + suc m = omega arith in z)
-                  ∙ a .passed l (suc m)
-                  ∙ rw (scan-suc v r d l m s at w u, repeatsAny-snoc r l (a .earlier) (labelAt s k))
-                  (sym (or-assoc (repeatsAny r l (a .earlier)) (repeats r l (labelAt s k)) (scan v r d l m s (j .at))));
-            }
+        module _ {j : Cursor} (h : q ≡ Moved.To j) {b : Bool} {t₂ : List ℕ}
+            (x : (b ≡ scan v r d (labelAt s k) i s from) × (Keeps t₁ t₂ × Marked t₂ (labelHash r from (labelAt s k)))) where
+          pub reading-repeated : b ≡ true → (Moved.Refused 5 ≡ movedOf (columns v r (type v inner d) n [] s from)) × Keeps t₀ t₂
+          unfolding columns next choose movedOf
+          reading-repeated y =
+              let z : repeatsAny r (labelAt s k) (a .earlier) ≡ true = sym (tested (x .0)) ∙ y in (
+                rw (a .rest, step) (rw (label-got s (label v s at) e f, moved-to (type v inner d s (c .at)) (g .0) h .1, z)),
+                keeps-on (a .kept) (keeps-on (g .1) (x .1 .0)),
+              )
+
+          pub reading-more : b ≡ false → Reading v r inner d s n from t₀ (i + 1) (j .at) t₂
+          reading-more y =
+              let z : repeatsAny r (labelAt s k) (a .earlier) ≡ false = sym (tested (x .0)) ∙ y in
+              let w = label-got s (label v s at) e f in
+              let u = moved-to (type v inner d s (c .at)) (g .0) h in
+              let o = type-free v inner s d (c .at) (u .0) (j .at) (u .1) in
+              record {
+                within = omega arith;
+                earlier = a .earlier ++ (labelAt s k ∷ []);
+                rest = a .rest ∙ rw step (columns-suc v r (type v inner d) (n - (i + 1)) (a .earlier) s at w (u .1) z);
+                passed = λ l m.
+                    ap (λ (o : ℕ). scan v r d l o s from) (let z : i + 1 + m ≡ i + suc m = omega arith in z)
+                    ∙ a .passed l (suc m)
+                    ∙ rw (scan-suc v r d l m s at w o, repeatsAny-snoc r l (a .earlier) (labelAt s k))
+                    (sym (or-assoc (repeatsAny r l (a .earlier)) (repeats r l (labelAt s k)) (scan v r d l m s (j .at))));
+                kept = keeps-on (a .kept) (keeps-on (g .1) (x .1 .0));
+                marked = λ l y. snoc-marked r from l (labelAt s k) (a .earlier) (a .marked) (keeps-on (g .1) (x .1 .0)) (x .1 .1) y;
+              }
 
 -- a scan for a label
 pub record Scanning (v : Version) (r : Siblings) (d : ℕ) (l : Label) (s : List ℕ) (n from i at : ℕ) : Type 0 where

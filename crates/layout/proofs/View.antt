@@ -7,7 +7,7 @@ use native.Mathlib.Omega.{arith}
 use Rattle.layout.specs.Bytes.{Bytes}
 use Rattle.layout.specs.Parser.{Res, refuse, ok, next, choose, Parser, test}
 use Rattle.layout.specs.Tree.{LeafType, Label, ColumnType, cleaf, cstruct, clist, carray, Columns, cnil, ccons}
-use Rattle.layout.specs.Layout.{Kind, kind, body, structType, listType, arrayType, label, elementLabel, columns, type, repeatsAny}
+use Rattle.layout.specs.Layout.{Kind, kind, body, structType, listType, arrayType, label, label as labelOf, elementLabel, columns, type, repeatsAny}
 use Rattle.layout.specs.Answers.{headRes, leafAt, labelRes, labelAt, movedOf}
 use Rattle.layout.specs.Stands.{TypeAt, ColumnsAt}
 use Rattle.layout.specs.declared.cursor.Cursor.{Cursor}
@@ -167,6 +167,13 @@ pub record FirstAt (v : Version) (d : ℕ) (s : Bytes) (n at : ℕ) (P : Columns
   pub is : P .columns ≡ ccons l (head .tree) (tail .columns)
   pub ends : tail .end ≡ P .end
 
+-- the first column, with its label
+pub record HeadAt (v : Version) (d : ℕ) (s : Bytes) (n at : ℕ) (P : ColumnsAt v d s n at) : Type 0 where
+  pub label : Label
+  pub start : ℕ
+  pub labelled : labelOf v s at ≡ ok label start
+  pub first : FirstAt v d s n at P label start
+
 module _ {v : Version} {d : ℕ} {s : Bytes} {n at : ℕ} (P : ColumnsAt v d s n at) where
   pub no-column : n ≡ 0 → (P .columns ≡ cnil) × (P .end ≡ at)
   unfolding columns
@@ -175,23 +182,38 @@ module _ {v : Version} {d : ℕ} {s : Bytes} {n at : ℕ} (P : ColumnsAt v d s n
   whole : (n ≡ 0 → ⊥) → columns v Free (type v Free d) (suc (n - 1)) [] s at ≡ ok (P .columns) (P .end)
   whole h = ap (λ (k : ℕ). columns v Free (type v Free d) k [] s at) (let e : suc (n - 1) ≡ n = omega arith in e) ∙ P .reads
 
-  module _ (h : n ≡ 0 → ⊥) {q : Labelled} (g : labelRes s q ≡ label v s at) where
-    pub first-at : {l : LabelSpan} {c : Cursor} → q ≡ Labelled.Is l c → FirstAt v d s n at P (labelAt s l) (c .at)
-    unfolding columns
-    first-at {l} {c} k =
-        let (m, i, h₁, g₁) = next-ok _ _ (whole h) in
-        let (t, j, h₂, g₂) = next-ok _ _ g₁ in
-        let (u, o, h₃, g₃) = next-ok (test (not (repeatsAny Free m [])) 5 s j) _ g₂ in
-        let (cs, e, h₄, g₄) = next-ok _ _ g₃ in
-        let z : ok m i ≡ ok (labelAt s l) (c .at) = sym h₁ ∙ label-got s g k in
-        let y : i ≡ c .at = cc in
-        let x : m ≡ labelAt s l = cc in
-        let w : j ≡ o = tested (not (repeatsAny Free m [])) s h₃ in
-        record {
-          head = record { tree = t; end = j; reads = ap (λ (o : ℕ). type v Free d s o) (sym y) ∙ h₂ };
+  pub head-at : (n ≡ 0 → ⊥) → HeadAt v d s n at P
+  unfolding columns
+  head-at h =
+      let (m, i, h₁, g₁) = next-ok _ _ (whole h) in
+      let (t, j, h₂, g₂) = next-ok _ _ g₁ in
+      let (u, o, h₃, g₃) = next-ok (test (not (repeatsAny Free m [])) 5 s j) _ g₂ in
+      let (cs, e, h₄, g₄) = next-ok _ _ g₃ in
+      let w : j ≡ o = tested (not (repeatsAny Free m [])) s h₃ in
+      record {
+        label = m;
+        start = i;
+        labelled = h₁;
+        first = record {
+          head = record { tree = t; end = j; reads = h₂ };
           tail = record { columns = cs; end = e; reads = columns-any v (type v Free d) (n - 1) [] ([] ++ (m ∷ [])) s j ∙ ap (λ (b : ℕ). columns v Free (type v Free d) (n - 1) ([] ++ (m ∷ [])) s b) w ∙ h₄ };
           is = cc;
           ends = cc;
+        };
+      }
+
+  module _ (h : n ≡ 0 → ⊥) {q : Labelled} (g : labelRes s q ≡ label v s at) where
+    pub first-at : {l : LabelSpan} {c : Cursor} → q ≡ Labelled.Is l c → FirstAt v d s n at P (labelAt s l) (c .at)
+    first-at {l} {c} k =
+        let H = head-at h in
+        let z : ok (H .label) (H .start) ≡ ok (labelAt s l) (c .at) = sym (H .labelled) ∙ label-got s g k in
+        let y : H .start ≡ c .at = cc in
+        let x : H .label ≡ labelAt s l = cc in
+        record {
+          head = record { tree = H .first .head .tree; end = H .first .head .end; reads = ap (λ (o : ℕ). type v Free d s o) (sym y) ∙ H .first .head .reads };
+          tail = H .first .tail;
+          is = H .first .is ∙ ap (λ (b : Label). ccons b (H .first .head .tree) (H .first .tail .columns)) x;
+          ends = H .first .ends;
         }
 
     pub first-labelled : {B : Type 0} {k : ℕ} → q ≡ Labelled.Refused k → B

@@ -1,17 +1,16 @@
 -- Rules for `search`: each way through a parser, from what the callees answered and what the tests said.
-use Prim.Native.Nat.{ℕ, suc, _+_, _-_, _≤_, _<_}
-use mathlib.Core.Path.{_≡_, refl, sym, ap, _∙_}
+use Prim.Native.Nat.{ℕ, _+_, _-_, _≤_, _<_}
+use mathlib.Core.Path.{_≡_, refl, sym, _∙_}
 use mathlib.Core.List.{List, []}
 use mathlib.Core.Bool.{Bool, true, false}
 use native.Mathlib.Omega.{arith}
 use lib.ListN.{length, take, drop}
 use lib.Dec.{eqb, leb}
 use borrow.Author.Tests.{lt-ltb, le-ltb, le-leb, lt-leb, eq-eqb, ne-eqb}
-use Rattle.layout.specs.Bytes.{Bytes}
-use Rattle.layout.specs.Parser.{Res, refuse, ok, next, choose, chunk, u32, Parser}
-use Rattle.layout.specs.Tree.{LeafType, leafType, Label, ColumnType, cleaf, cstruct, clist, carray}
-use Rattle.layout.specs.Layout.{Kind, aLeaf, aStruct, aList, anArray, label, fieldId, elementLabel, plainLeaf, leafKind, kind, body, structType, listType, arrayType, columns, type}
-use Rattle.layout.specs.Answers.{stepRes, shortRes, longRes, unitRes, spanAt, spanIn, textRes, headRes, headIn, labelRes, labelAt, leafAt, textIn, labelIn, movedOf}
+use Rattle.layout.specs.Parser.{Res, refuse, ok, next, choose, chunk, u32}
+use Rattle.layout.specs.Tree.{leafType, Label}
+use Rattle.layout.specs.Layout.{aLeaf, label, fieldId, elementLabel, plainLeaf, leafKind, type}
+use Rattle.layout.specs.Answers.{stepRes, shortRes, longRes, unitRes, spanAt, spanIn, textRes, headIn, labelRes, labelAt, textIn, labelIn, movedOf}
 use Rattle.layout.specs.declared.bytes.Span.{Span}
 use Rattle.layout.specs.declared.cursor.Cursor.{Cursor}
 use Rattle.layout.specs.declared.cursor.Step.{Step}
@@ -166,10 +165,6 @@ module _ {B : Type 0} where
 pub ruleset ways = (step-on, step-off, short-on, short-off, long-on, long-off, unit-on, unit-off, text-on, text-off, label-on, label-off, choose-true, choose-false, chunk-fits, chunk-past, chunk-short, id-none-on, id-some, eqb-from, leb-from, element-none, element-some, leaf-known, leaf-unknown, text-in, flag, lt-ltb, le-ltb, le-leb, lt-leb, eq-eqb, ne-eqb)
 
 -- where only the position is answered
-pub to-ok : {A : Type 0} (a : A) (c : Cursor) → Moved.To c ≡ movedOf (ok a (c .at))
-unfolding movedOf
-to-ok a c = refl
-
 module _ {A : Type 0} {o : Moved} where
   pub to-pure : {B : Type 0} (f : A → B) (x : Res A) → o ≡ movedOf x → o ≡ movedOf (next x (λ a m. ok (f a) m))
   unfolding movedOf next
@@ -185,70 +180,7 @@ pub to-off : {A B : Type 0} (x : Res A) (k : A → ℕ → Res B) {p : Moved} {n
 unfolding next movedOf
 to-off x k e f = rw (moved-refused x e f)
 
-module _ {B : Type 0} (s : List ℕ) (x : Res Kind) (k : Kind → ℕ → Res B) {p : Head} (e : headRes s p ≡ x) where
-  pub head-leaf : {o : Moved} {l : LeafSpan} {c : Cursor} → p ≡ Head.Leaf l c → o ≡ movedOf (k (aLeaf (leafAt s l)) (c .at)) → o ≡ movedOf (next x k)
-  unfolding next
-  head-leaf f g = rw (← e, f) g
-
-  pub head-struct : {o : Moved} {n : ℕ} {c : Cursor} → p ≡ Head.Struct n c → o ≡ movedOf (k (aStruct n) (c .at)) → o ≡ movedOf (next x k)
-  unfolding next
-  head-struct f g = rw (← e, f) g
-
-  pub head-list : {o : Moved} {c : Cursor} → p ≡ Head.List c → o ≡ movedOf (k aList (c .at)) → o ≡ movedOf (next x k)
-  unfolding next
-  head-list f g = rw (← e, f) g
-
-  pub head-array : {o : Moved} {n : ℕ} {c : Cursor} → p ≡ Head.Array n c → o ≡ movedOf (k (anArray n) (c .at)) → o ≡ movedOf (next x k)
-  unfolding next
-  head-array f g = rw (← e, f) g
-
-  pub head-refused : {n : ℕ} → p ≡ Head.Refused n → Moved.Refused n ≡ movedOf (next x k)
-  unfolding next movedOf
-  head-refused f = rw (← e, f)
-
 module _ (v : Version) (r : Siblings) (s : List ℕ) (at d : ℕ) where
   pub type-deep : d ≡ 0 → Moved.Refused 4 ≡ movedOf (type v r d s at)
   unfolding type movedOf
   type-deep z = rw z
-
-  pub type-level : {o : Moved} → (d ≡ 0 → ⊥) → o ≡ movedOf (next (kind s at) (λ k m. body v r (type v r (d - 1)) k s m)) → o ≡ movedOf (type v r d s at)
-  unfolding type
-  type-level z e = e ∙ ap (λ (k : ℕ). movedOf (type v r k s at)) (let e : suc (d - 1) ≡ d = omega arith in e)
-
-module _ (v : Version) (r : Siblings) (p : Parser ColumnType) (s : List ℕ) where
-  pub body-leaf : (l : LeafType) (c : Cursor) → Moved.To c ≡ movedOf (body v r p (aLeaf l) s (c .at))
-  unfolding body movedOf
-  body-leaf l c = refl
-
-  pub body-struct : (n at : ℕ) {o : Moved} → o ≡ movedOf (columns v r p n [] s at) → o ≡ movedOf (body v r p (aStruct n) s at)
-  unfolding body structType
-  body-struct n at e = to-pure cstruct (columns v r p n [] s at) e
-
-  pub body-list : (at : ℕ) {o : Moved} → o ≡ movedOf (listType v p s at) → o ≡ movedOf (body v r p aList s at)
-  unfolding body
-  body-list at e = e
-
-  pub body-array : (w at : ℕ) {o : Moved} → o ≡ movedOf (arrayType v w p s at) → o ≡ movedOf (body v r p (anArray w) s at)
-  unfolding body
-  body-array w at e = e
-
-  pub list-on : (at : ℕ) {o : Moved} {q : Labelled} {l : LabelSpan} {c : Cursor} → labelRes s q ≡ elementLabel v s at → q ≡ Labelled.Is l c
-      → o ≡ movedOf (p s (c .at)) → o ≡ movedOf (listType v p s at)
-  unfolding listType next
-  list-on at {l = l} {c = c} e f g = rw (← e, f) (to-pure (clist (labelAt s l)) (p s (c .at)) g)
-
-  pub list-off : (at : ℕ) {q : Labelled} {n : ℕ} → labelRes s q ≡ elementLabel v s at → q ≡ Labelled.Refused n → Moved.Refused n ≡ movedOf (listType v p s at)
-  unfolding listType next movedOf
-  list-off at e f = rw (← e, f)
-
-  pub array-on : (w at : ℕ) {o : Moved} {q : Labelled} {l : LabelSpan} {c : Cursor} → labelRes s q ≡ elementLabel v s at → q ≡ Labelled.Is l c
-      → o ≡ movedOf (p s (c .at)) → o ≡ movedOf (arrayType v w p s at)
-  unfolding arrayType next
-  array-on w at {l = l} {c = c} e f g = rw (← e, f) (to-pure (carray w (labelAt s l)) (p s (c .at)) g)
-
-  pub array-off : (w at : ℕ) {q : Labelled} {n : ℕ} → labelRes s q ≡ elementLabel v s at → q ≡ Labelled.Refused n
-      → Moved.Refused n ≡ movedOf (arrayType v w p s at)
-  unfolding arrayType next movedOf
-  array-off w at e f = rw (← e, f)
-
-pub ruleset type-ways = (type-deep, type-level, body-leaf, body-struct, body-list, body-array, list-on, list-off, array-on, array-off, head-leaf, head-struct, head-list, head-array, head-refused)

@@ -37,10 +37,9 @@ abbrev pub columnAt : Position → Columns → Lookup
 columnAt k = findFrom (λ i l. eqb i (k .0)) 0
 
 -- what the code looks for; the name stands beside it
-abbrev pub wantedBy : Wanted → Bytes → ℕ → Label → Bool
-wantedBy Wanted.Name name i l = sameBytes (l .name) name
-wantedBy (Wanted.Id id) name i l = eqb (l .id .0) (id .0)
-wantedBy (Wanted.At k) name i l = eqb i (k .0)
+abbrev pub wantedBy : Wanted → Bytes → Label → Bool
+wantedBy Wanted.Name name l = sameBytes (l .name) name
+wantedBy (Wanted.Id id) name l = eqb (l .id .0) (id .0)
 
 -- the answer r is the column k with the label l, whose type t stands where r says
 pub record FoundAt (v : Version) (d : ℕ) (s : Bytes) (k : Position) (l : Label) (t : ColumnType) (r : Found) : Type 0 where

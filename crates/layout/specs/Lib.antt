@@ -4,5 +4,7 @@ pub mod Tree
 pub mod Layout
 pub mod Answers
 pub mod Scan
+pub mod Pass
+pub mod Seen
 pub mod Stands
 pub mod Find

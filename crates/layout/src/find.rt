@@ -8,10 +8,10 @@ use crate::columns::FieldId;
 use crate::columns::Label;
 use crate::columns::Labelled;
 use crate::columns::Position;
-use crate::columns::Siblings;
 use crate::cursor::Cursor;
 use crate::cursor::Moved;
-use crate::read::read_type;
+use crate::pass::pass_columns;
+use crate::pass::pass_type;
 use crate::version::Version;
 
 pub enum Found {
@@ -23,12 +23,11 @@ pub enum Found {
 pub enum Wanted {
     Name,
     Id(FieldId),
-    At(Position),
 }
 
-fn is_wanted(s: &[u8], wanted: Wanted, name: &[u8], i: u16, l: Label) -> bool
+fn is_wanted(s: &[u8], wanted: Wanted, name: &[u8], l: Label) -> bool
     requires { ⌜ spanIn (now s) (l .name) ⌝ }
-    ensures { λ r. ⌜ r ≡ wantedBy wanted (now (name .entry)) i (labelAt (now (s .entry)) l) ⌝ }
+    ensures { λ r. ⌜ r ≡ wantedBy wanted (now (name .entry)) (labelAt (now (s .entry)) l) ⌝ }
 {
     match wanted {
         Wanted::Name => {
@@ -36,7 +35,6 @@ fn is_wanted(s: &[u8], wanted: Wanted, name: &[u8], i: u16, l: Label) -> bool
             same_bytes(&s[a..a + l.name.len], name)
         }
         Wanted::Id(id) => l.id.0 == id.0,
-        Wanted::At(k) => i == k.0,
     }
 }
 
@@ -51,7 +49,7 @@ pub fn find_column(
     name: &[u8],
 ) -> Found
     requires { ⌜ ColumnsAt v depth (now s) n (c .at) ⌝ }
-    ensures { λ r. ⌜ ((P : ColumnsAt v depth (now (s .entry)) n (c .at)) → Finds v depth (now (s .entry)) (findFrom (wantedBy wanted (now (name .entry))) 0 (P .columns)) r) ⌝ }
+    ensures { λ r. ⌜ ((P : ColumnsAt v depth (now (s .entry)) n (c .at)) → Finds v depth (now (s .entry)) (findFrom (λ i. wantedBy wanted (now (name .entry))) 0 (P .columns)) r) ⌝ }
 {
     let mut at = c.at;
     let mut i: u16 = 0;
@@ -59,10 +57,10 @@ pub fn find_column(
         let d = Cursor { at };
         match d.label(s, v) {
             Labelled::Is(l, next) => {
-                if is_wanted(s, wanted, name, i, l) {
+                if is_wanted(s, wanted, name, l) {
                     return Found::At(Position(i), l, next);
                 }
-                match read_type(s, v, Siblings::Free, depth, next) {
+                match pass_type(s, v, depth, next) {
                     Moved::To(e) => {
                         at = e.at;
                     }
@@ -94,5 +92,14 @@ pub fn column_at(s: &[u8], v: Version, depth: u8, n: u16, c: Cursor, k: Position
     requires { ⌜ ColumnsAt v depth (now s) n (c .at) ⌝ }
     ensures { λ r. ⌜ ((P : ColumnsAt v depth (now (s .entry)) n (c .at)) → Finds v depth (now (s .entry)) (columnAt k (P .columns)) r) ⌝ }
 {
-    find_column(s, v, depth, n, c, Wanted::At(k), &s[..0])
+    if n <= k.0 {
+        return Found::Absent;
+    }
+    match pass_columns(s, v, depth, k.0, c) {
+        Moved::To(d) => match d.label(s, v) {
+            Labelled::Is(l, next) => Found::At(k, l, next),
+            Labelled::Refused(_) => Found::Absent,
+        },
+        Moved::Refused(_) => Found::Absent,
+    }
 }

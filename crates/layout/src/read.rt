@@ -3,9 +3,12 @@ ghost use mathlib.Core.Path.{_≡_};
 ghost use mathlib.Core.List.{[]};
 ghost use Prim.Native.Nat.{_+_, _≤_};
 ghost use lib.ListN.{length};
-ghost use Rattle.layout.specs.Layout.{type, columns, counted, layout};
+ghost use Rattle.layout.specs.Layout.{plainLeaf, listType, type, columns, counted, layout};
+ghost use Rattle.layout.specs.Pass.{typeRest};
 ghost use Rattle.layout.specs.Scan.{scan};
+ghost use Rattle.layout.specs.Seen.{labelHash, Marked, Keeps, Noted};
 ghost use Rattle.layout.specs.Answers.{movedOf, labelAt, layoutOf};
+ghost use Rattle.layout.specs.declared.types.PlainLeaf.{PlainLeaf as PlainLeafOf};
 use crate::columns::Label;
 use crate::columns::Labelled;
 use crate::columns::Siblings;
@@ -13,7 +16,15 @@ use crate::columns::same_label;
 use crate::cursor::Cursor;
 use crate::cursor::Moved;
 use crate::cursor::Short;
-use crate::types::Head;
+use crate::cursor::Step;
+use crate::pass::pass_datetime;
+use crate::pass::pass_label;
+use crate::pass::pass_long;
+use crate::pass::pass_type;
+use crate::seen::label_hash;
+use crate::seen::mark;
+use crate::types::PlainLeaf;
+use crate::types::plain_leaf;
 use crate::version::Version;
 use crate::version::VersionRead;
 use crate::version::inner_rule;
@@ -30,30 +41,88 @@ pub enum LayoutRead {
     Refused(u8),
 }
 
-// One type of at most `depth` levels, whose inner columns keep to the rule.
-pub fn read_type(s: &[u8], v: Version, rule: Siblings, depth: u8, c: Cursor) -> Moved
+// One type of at most `depth` levels, whose inner columns keep to the rule. `seen` is the table of the labels that may have been read.
+fn read_type(
+    s: &[u8],
+    v: Version,
+    rule: Siblings,
+    depth: u8,
+    c: Cursor,
+    seen: &mut [u64; 512],
+) -> Moved
+    requires { ⌜ 512 ≡ length (now seen) ⌝ }
     ensures { λ r. ⌜ r ≡ movedOf (type v rule depth (now (s .entry)) (c .at)) ⌝ }
+    ensures { λ _. ⌜ Keeps (now (seen .entry)) (now (seen .exit)) ⌝ }
 {
+    if let Siblings::Free = rule {
+        return pass_type(s, v, depth, c);
+    }
     if depth == 0 {
         return Moved::Refused(4);
     }
-    match c.head(s) {
-        Head::Leaf(_, d) => Moved::To(d),
-        Head::Struct(n, d) => read_columns(s, v, rule, rule, depth - 1, n, d),
-        Head::List(d) => match d.element_label(s, v) {
-            Labelled::Is(_, e) => read_type(s, v, rule, depth - 1, e),
-            Labelled::Refused(k) => Moved::Refused(k),
+    match c.byte(s) {
+        Step::Byte(code, d) => match plain_leaf(code) {
+            PlainLeaf::Known(_) => Moved::To(d),
+            PlainLeaf::Unknown => read_rest(s, v, rule, depth - 1, code, d, seen),
         },
-        Head::Array(_, d) => match d.element_label(s, v) {
-            Labelled::Is(_, e) => read_type(s, v, rule, depth - 1, e),
-            Labelled::Refused(k) => Moved::Refused(k),
+        Step::Refused(k) => Moved::Refused(k),
+    }
+}
+
+// What follows a code that is not a whole type; the types inside have at most `depth` levels.
+fn read_rest(
+    s: &[u8],
+    v: Version,
+    rule: Siblings,
+    depth: u8,
+    code: u8,
+    c: Cursor,
+    seen: &mut [u64; 512],
+) -> Moved
+    requires { ⌜ plainLeaf code ≡ PlainLeafOf.Unknown ⌝ }
+    requires { ⌜ 512 ≡ length (now seen) ⌝ }
+    ensures { λ r. ⌜ r ≡ movedOf (typeRest v rule depth code (now (s .entry)) (c .at)) ⌝ }
+    ensures { λ _. ⌜ Keeps (now (seen .entry)) (now (seen .exit)) ⌝ }
+{
+    match code {
+        14 => pass_datetime(s, c),
+        18 => match c.short(s) {
+            Short::Is(n, d) => read_columns(s, v, rule, rule, depth, n, d, seen),
+            Short::Refused(k) => Moved::Refused(k),
         },
-        Head::Refused(k) => Moved::Refused(k),
+        19 => read_element(s, v, rule, depth, c, seen),
+        20 => match pass_long(s, c) {
+            Moved::To(d) => read_element(s, v, rule, depth, d, seen),
+            Moved::Refused(k) => Moved::Refused(k),
+        },
+        _ => Moved::Refused(3),
+    }
+}
+
+// The element of a list or an array.
+fn read_element(
+    s: &[u8],
+    v: Version,
+    rule: Siblings,
+    depth: u8,
+    c: Cursor,
+    seen: &mut [u64; 512],
+) -> Moved
+    requires { ⌜ 512 ≡ length (now seen) ⌝ }
+    ensures { λ r. ⌜ r ≡ movedOf (listType v (type v rule depth) (now (s .entry)) (c .at)) ⌝ }
+    ensures { λ _. ⌜ Keeps (now (seen .entry)) (now (seen .exit)) ⌝ }
+{
+    match v {
+        Version::ByName => read_type(s, v, rule, depth, c, seen),
+        Version::ByNumber => match pass_label(s, v, c) {
+            Moved::To(d) => read_type(s, v, rule, depth, d, seen),
+            Moved::Refused(k) => Moved::Refused(k),
+        },
     }
 }
 
 // `n` columns that keep to a rule among themselves, and to another inside their types.
-pub fn read_columns(
+fn read_columns(
     s: &[u8],
     v: Version,
     rule: Siblings,
@@ -61,17 +130,20 @@ pub fn read_columns(
     depth: u8,
     n: u16,
     c: Cursor,
+    seen: &mut [u64; 512],
 ) -> Moved
+    requires { ⌜ 512 ≡ length (now seen) ⌝ }
     ensures { λ r. ⌜ r ≡ movedOf (columns v rule (type v inner depth) n [] (now (s .entry)) (c .at)) ⌝ }
+    ensures { λ _. ⌜ Keeps (now (seen .entry)) (now (seen .exit)) ⌝ }
 {
     let mut at = c.at;
     let mut i: u16 = 0;
     while i < n {
         let d = Cursor { at };
         match d.label(s, v) {
-            Labelled::Is(l, next) => match read_type(s, v, inner, depth, next) {
+            Labelled::Is(l, next) => match read_type(s, v, inner, depth, next, seen) {
                 Moved::To(e) => {
-                    if repeats(s, v, rule, depth, i, c, l) {
+                    if is_repeated(s, v, rule, depth, i, c, l, seen) {
                         return Moved::Refused(5);
                     }
                     at = e.at;
@@ -83,6 +155,32 @@ pub fn read_columns(
         i += 1;
     }
     Moved::To(Cursor { at })
+}
+
+// Whether one of the `n` columns from a cursor repeats a label, which is marked. They are scanned only where it may be marked already.
+fn is_repeated(
+    s: &[u8],
+    v: Version,
+    rule: Siblings,
+    depth: u8,
+    n: u16,
+    c: Cursor,
+    l: Label,
+    seen: &mut [u64; 512],
+) -> bool
+    requires { ⌜ l .name .start + l .name .len ≤ length (now s) ⌝ }
+    requires { ⌜ 512 ≡ length (now seen) ⌝ }
+    requires { ⌜ Noted v rule depth (labelAt (now s) l) n (now s) (c .at) (now seen) ⌝ }
+    ensures { λ r. ⌜ r ≡ scan v rule depth (labelAt (now (s .entry)) l) n (now (s .entry)) (c .at) ⌝ }
+    ensures { λ _. ⌜ Keeps (now (seen .entry)) (now (seen .exit)) ⌝ }
+    ensures { λ _. ⌜ Marked (now (seen .exit)) (labelHash rule (c .at) (labelAt (now (s .entry)) l)) ⌝ }
+{
+    let h = label_hash(s, rule, c.at, l);
+    if mark(seen, h) {
+        repeats(s, v, rule, depth, n, c, l)
+    } else {
+        false
+    }
 }
 
 // Whether one of the `n` columns from a cursor repeats a label. Their types are passed over with no such test inside, else the
@@ -103,7 +201,7 @@ fn repeats(s: &[u8], v: Version, rule: Siblings, depth: u8, n: u16, c: Cursor, l
                 if same_label(s, rule, l, m) {
                     return true;
                 }
-                match read_type(s, v, Siblings::Free, depth, next) {
+                match pass_type(s, v, depth, next) {
                     Moved::To(e) => {
                         at = e.at;
                     }
@@ -121,9 +219,12 @@ fn repeats(s: &[u8], v: Version, rule: Siblings, depth: u8, n: u16, c: Cursor, l
 fn read_counted(s: &[u8], v: Version) -> LayoutRead
     ensures { λ r. ⌜ r ≡ layoutOf (counted v (now (s .entry)) 5) ⌝ }
 {
+    let mut seen = [0u64; 512];
+    let top = top_rule(v);
+    let inner = inner_rule(v);
     let c = Cursor { at: 5 };
     match c.short(s) {
-        Short::Is(n, d) => match read_columns(s, v, top_rule(v), inner_rule(v), 16, n, d) {
+        Short::Is(n, d) => match read_columns(s, v, top, inner, 16, n, d, &mut seen) {
             Moved::To(e) => {
                 if e.at == s.len() {
                     LayoutRead::Read {

@@ -63,7 +63,7 @@ pub fn plain_leaf(code: u8) -> PlainLeaf
 }
 
 impl Cursor {
-    fn unit(self, s: &[u8]) -> Unit
+    pub fn unit(self, s: &[u8]) -> Unit
         ensures { λ r. ⌜ unitRes r ≡ unit (now (s .entry)) (self .at) ⌝ }
     {
         match self.byte(s) {

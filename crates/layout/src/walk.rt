@@ -1,10 +1,9 @@
 // Walking over a layout that was read: `head` and `element_label` step into a type's parts; a type is passed over here.
 ghost use mathlib.Core.Path.{_≡_};
 ghost use Rattle.layout.specs.Stands.{TypeAt};
-use crate::columns::Siblings;
 use crate::cursor::Cursor;
 use crate::cursor::Moved;
-use crate::read::read_type;
+use crate::pass::pass_type;
 use crate::version::Version;
 
 // The end of a type, without the tests for repeated siblings that reading makes.
@@ -12,7 +11,7 @@ pub fn skip_type(s: &[u8], v: Version, depth: u8, c: Cursor) -> Cursor
     requires { ⌜ TypeAt v depth (now s) (c .at) ⌝ }
     ensures { λ r. ⌜ ((P : TypeAt v depth (now (s .entry)) (c .at)) → r .at ≡ P .end) ⌝ }
 {
-    match read_type(s, v, Siblings::Free, depth, c) {
+    match pass_type(s, v, depth, c) {
         Moved::To(e) => e,
         Moved::Refused(_) => c,
     }

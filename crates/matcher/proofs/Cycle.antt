@@ -30,7 +30,7 @@ use Rattle.plan.specs.Result.{Result, gives, refuses, _>>=_, demand}
 use Rattle.plan.specs.Selector.{Selector, position, rename, Selectors}
 use Rattle.plan.specs.Encode.{encodeSelector, encodeSelectors}
 use Rattle.matching.specs.Default.{Defaults, noDefaults}
-use Rattle.matching.specs.Build.{leafPart, structPart, Element, listPart, arrayPart, isByName, isNullType, unlessNullType, renamed, sameElement, distinct, noExtra, ignores, missing, inPlace, structSelector, listSelector, arraySelector, first, sought, attach, attachFields}
+use Rattle.matching.specs.Build.{leafPart, structPart, Element, listPart, arrayPart, isByName, isNullType, unlessNullType, renamed, sameElement, distinct, noExtra, ignores, missing, inPlace, structSelector, listSelector, arraySelector, first, sought, attachTransforms, attachFields}
 use Rattle.builder.specs.Answers.{rowOf, isRefused, isBare, lenOf, refusedRow, Wrote, WroteRow, Makes, MakesRow, Maps, Inner, noElement, listElement, arrayElement, elementOf, needsRename, faultOf, nullCast, attachRenamed, attachStruct, attachElement, attachInner, attachNested}
 use Rattle.builder.specs.declared.answer.Made.{Made}
 use Rattle.builder.specs.declared.answer.Made.the-variants.{Bare, Built}
@@ -71,12 +71,12 @@ makes-to {b} out k r o {X} h g m = makes-as b _ r out k o g (subst (λ (i : ℕ)
 -- ---- a target that is no leaf
 
 inner-is : (v : Version) (p : Policy) (f : Selector → Selector) (l : Label) (u : ColumnType) (x : Element)
-    → demand (sameElement v (x .label) l) 25 (attach v p noDefaults u first (x .type) >>= λ s. gives (f (renamed v l (x .label) s))) ≡ attachElement v p f l u (x .label) (x .type)
-inner-is v p f l u x = ap (demand (sameElement v (x .label) l) 25) (bind-bind (attach v p noDefaults u first (x .type)) (renamed v l (x .label)) f)
+    → demand (sameElement v (x .label) l) 25 (attachTransforms v p noDefaults u first (x .type) >>= λ s. gives (f (renamed v l (x .label) s))) ≡ attachElement v p f l u (x .label) (x .type)
+inner-is v p f l u x = ap (demand (sameElement v (x .label) l) 25) (bind-bind (attachTransforms v p noDefaults u first (x .type)) (renamed v l (x .label)) f)
 
 pub nested-is : (v : Version) (p : Policy) (d : Defaults) (u : ColumnType) (k : Position) (t : ColumnType) → leafPart u ≡ refuses 24
-    → attach v p d u k t ≡ unlessNullType v p k u t (attachNested v p d u k t)
-unfolding attach leafPart attachNested
+    → attachTransforms v p d u k t ≡ unlessNullType v p k u t (attachNested v p d u k t)
+unfolding attachTransforms leafPart attachNested
 nested-is v p d (cleaf l) k t h = clash (cc)
 nested-is v p d (cstruct gs) k t h = refl
 nested-is v p d (clist l u) k t h = ap (unlessNullType v p k (clist l u) t) (bind-each (listPart t) _ _ (inner-is v p (listSelector k) l u))
@@ -184,32 +184,32 @@ row-room (gives ss) {same = same} {len} A q =
 -- ---- a rename
 
 module _ (v : Version) (p : Policy) (d : Defaults) (l : Label) (u : ColumnType) (k : Position) (m : Label) (t : ColumnType) {b : Bool} (e : b ≡ needsRename v l m) where
-  pub rename-none : not b ≡ true → attachRenamed v p d l u k m t ≡ attach v p d u k t
+  pub rename-none : not b ≡ true → attachRenamed v p d l u k m t ≡ attachTransforms v p d u k t
   unfolding choose
-  rename-none h = bind-each (attach v p d u k t) _ _ (λ s. ap gives (renamed-is v l m s ∙ ap (λ (c : Bool). choose c (rename s (l .name)) s) (sym e ∙ not-true b h))) ∙ bind-gives (attach v p d u k t)
+  rename-none h = bind-each (attachTransforms v p d u k t) _ _ (λ s. ap gives (renamed-is v l m s ∙ ap (λ (c : Bool). choose c (rename s (l .name)) s) (sym e ∙ not-true b h))) ∙ bind-gives (attachTransforms v p d u k t)
 
-  pub rename-some : not b ≡ false → attachRenamed v p d l u k m t ≡ (attach v p d u k t >>= λ s. gives (rename s (l .name)))
+  pub rename-some : not b ≡ false → attachRenamed v p d l u k m t ≡ (attachTransforms v p d u k t >>= λ s. gives (rename s (l .name)))
   unfolding choose
-  rename-some h = bind-each (attach v p d u k t) _ _ (λ s. ap gives (renamed-is v l m s ∙ ap (λ (c : Bool). choose c (rename s (l .name)) s) (sym e ∙ not-false b h)))
+  rename-some h = bind-each (attachTransforms v p d u k t) _ _ (λ s. ap gives (renamed-is v l m s ∙ ap (λ (c : Bool). choose c (rename s (l .name)) s) (sym e ∙ not-false b h)))
 
 pub rename-on : (v : Version) (l m : Label) {b : Bool} → b ≡ needsRename v l m → not b ≡ false → needsRename v l m ≡ true
 rename-on v l m {b} e h = sym e ∙ not-false b h
 
 module _ (v : Version) (p : Policy) (d : Defaults) (l : Label) (u : ColumnType) (k : Position) (m : Label) (t : ColumnType) {b : Bool} (z : b ≡ needsRename v l m)
     {at e : ℕ} (out : Bytes) (to from : ℕ) where
-  pub renamed-plain : {r : Made} {o : Bytes} → not b ≡ true → from ≤ at → Makes at e out to (attach v p d u k t) r o → Makes from e out to (attachRenamed v p d l u k m t) r o
-  renamed-plain {r} {o} h le A = makes-as from e r out to o (rename-none v p d l u k m t z h) (makes-from out to r o (attach v p d u k t) le A)
+  pub renamed-plain : {r : Made} {o : Bytes} → not b ≡ true → from ≤ at → Makes at e out to (attachTransforms v p d u k t) r o → Makes from e out to (attachRenamed v p d l u k m t) r o
+  renamed-plain {r} {o} h le A = makes-as from e r out to o (rename-none v p d l u k m t z h) (makes-from out to r o (attachTransforms v p d u k t) le A)
 
-  pub renamed-stopped : {r : Made} {o₁ o₂ : Bytes} {j : ℕ} → Makes at e o₁ j (attach v p d u k t) r o₂ → isRefused r ≡ true → Makes from e out to (attachRenamed v p d l u k m t) r o₂
-  renamed-stopped {r} {o₁} {o₂} A h = makes-stopped (attach v p d u k t) (λ s. gives (renamed v l m s)) from e out to o₂ A h
+  pub renamed-stopped : {r : Made} {o₁ o₂ : Bytes} {j : ℕ} → Makes at e o₁ j (attachTransforms v p d u k t) r o₂ → isRefused r ≡ true → Makes from e out to (attachRenamed v p d l u k m t) r o₂
+  renamed-stopped {r} {o₁} {o₂} A h = makes-stopped (attachTransforms v p d u k t) (λ s. gives (renamed v l m s)) from e out to o₂ A h
 
   pub renamed-made : {r : Made} (o₁ o₂ : Bytes) {o₃ : Bytes} {len n : ℕ} → not b ≡ false → length o₁ ≡ length out → length o₂ ≡ length out → o₁ ≡ set out to 3
-      → Makes at e o₁ (to + 1) (attach v p d u k t) r o₂ → isRefused r ≡ false → len ≡ lenOf r → n ≡ length (textBytes (l .name)) → o₃ ≡ overlay o₂ (to + 1 + len) (textBytes (l .name)) → n ≤ 64
+      → Makes at e o₁ (to + 1) (attachTransforms v p d u k t) r o₂ → isRefused r ≡ false → len ≡ lenOf r → n ≡ length (textBytes (l .name)) → o₃ ≡ overlay o₂ (to + 1 + len) (textBytes (l .name)) → n ≤ 64
       → from < at → Makes from e out to (attachRenamed v p d l u k m t) (Built (1 + len + n)) o₃
   renamed-made {r} o₁ o₂ {o₃} {len} {n} h l₁ l₂ g A a y en w short lt =
       makes-as from e _ out to o₃ (rename-some v p d l u k m t z h)
-      (subst (λ (x : ℕ). Makes from e out to (attach v p d u k t >>= λ s. gives (rename s (l .name))) (Built (1 + x + n)) o₃) (sym y)
-      (renamed-around out to (attach v p d u k t) (l .name) from o₁ o₂ l₁ l₂ g A a en (w ∙ ap (λ (x : ℕ). overlay o₂ (to + 1 + x) (textBytes (l .name))) y) short lt))
+      (subst (λ (x : ℕ). Makes from e out to (attachTransforms v p d u k t >>= λ s. gives (rename s (l .name))) (Built (1 + x + n)) o₃) (sym y)
+      (renamed-around out to (attachTransforms v p d u k t) (l .name) from o₁ o₂ l₁ l₂ g A a en (w ∙ ap (λ (x : ℕ). overlay o₂ (to + 1 + x) (textBytes (l .name))) y) short lt))
 
 -- ---- an element
 

@@ -52,7 +52,7 @@ use rules::policy::Policy;
 use store::put;
 
 // The type matcher: the target type at `b` over the incoming type at `c`, which has that position.
-pub fn attach(
+pub fn attach_transforms(
     policy: Policy,
     v: Version,
     depth: u8,
@@ -386,7 +386,7 @@ fn attach_renamed(
     ensures { λ r. ⌜ ((from : ℕ) (T : DefaultsAt (now (table .entry)) defaults) (P : TypeAt v depth (now (incoming .entry)) (c .at)) (Q : TypeAt v depth (now (target .entry)) (b .at)) → from ≤ b .at → (needsRename v (labelAt (now (target .entry)) l) (labelAt (now (incoming .entry)) m) ≡ true → from < b .at) → Makes from (Q .end) (now (out .entry)) k (attachRenamed v policy (defaultsAt defaults T) (labelAt (now (target .entry)) l) (Q .tree) position (labelAt (now (incoming .entry)) m) (P .tree)) r (now (out .exit))) ⌝ }
 {
     if !needs_rename(v, incoming, m, target, l) {
-        return attach(
+        return attach_transforms(
             policy,
             v,
             depth,
@@ -402,7 +402,7 @@ fn attach_renamed(
         );
     }
     put(out, k, 3);
-    let made = attach(
+    let made = attach_transforms(
         policy,
         v,
         depth,

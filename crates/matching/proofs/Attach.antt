@@ -23,7 +23,7 @@ use Rattle.plan.specs.Selector.{Selector, position, constant, cast, Selectors, 
 use Rattle.plan.specs.Check.{castFits, fromNull}
 use Rattle.plan.proofs.Results.{never-refused, gives-eq, accepted-eq, both, bind-gives, demand-gives, placed-accepted, answered-accepted}
 use Rattle.matching.specs.Default.{Defaults, noDefaults, missingValue}
-use Rattle.matching.specs.Build.{leafPart, structPart, Element, listPart, arrayPart, isNullType, isByName, counterpart, unlessNullType, renamed, sameElement, distinct, inserts, missing, ruled, structSelector, listSelector, arraySelector, first, sought, attach, attachFields, buildColumnSelector, buildFrom, build}
+use Rattle.matching.specs.Build.{leafPart, structPart, Element, listPart, arrayPart, isNullType, isByName, counterpart, unlessNullType, renamed, sameElement, distinct, inserts, missing, ruled, structSelector, listSelector, arraySelector, first, sought, attachTransforms, attachFields, buildColumnSelector, buildFrom, build}
 
 module _ (v : Version) where
   mutual
@@ -140,36 +140,36 @@ module _ (v : Version) (p : Policy) where
         a-found q (step k t s p) (gives-eq e) rest
 
   mutual
-    unfolding attach attachFields
+    unfolding attachTransforms attachFields
 
-    pub attach→ : (u : ColumnType) (d : Defaults) (k : Position) (t : ColumnType) {s : Selector} → attach v p d u k t ≡ gives s → Attach v d u k t s
-    attach→ (cleaf b) d k t e =
+    pub attachTransforms→ : (u : ColumnType) (d : Defaults) (k : Position) (t : ColumnType) {s : Selector} → attachTransforms v p d u k t ≡ gives s → Attach v d u k t s
+    attachTransforms→ (cleaf b) d k t e =
         let (a, q, r) = bind-gives _ _ e in
         rw (leaf-is t q) (leaf-attached d k b a r)
-    attach→ (cstruct gs) d k t e = unless-null d k (cstruct gs) t _ e (null-struct gs) (λ e.
+    attachTransforms→ (cstruct gs) d k t e = unless-null d k (cstruct gs) t _ e (null-struct gs) (λ e.
         let (fs, q, e) = bind-gives (structPart t) _ e in
         let (c, e) = demand-gives _ _ _ e in
         let (c, e) = demand-gives _ _ _ e in
         let (x, e) = demand-gives _ _ _ e in
         let (ss, r, e) = bind-gives (attachFields v p d gs fs) _ e in
         rw (struct-is t q) (a-struct c (attachFields→ gs d fs r) (gives-eq e)))
-    attach→ (clist b u) d k t e = unless-null d k (clist b u) t _ e (null-list b u) (λ e.
+    attachTransforms→ (clist b u) d k t e = unless-null d k (clist b u) t _ e (null-list b u) (λ e.
         let (x, q, e) = bind-gives (listPart t) _ e in
         let (c, e) = demand-gives _ _ _ e in
-        let (s, r, e) = bind-gives (attach v p noDefaults u first (x .type)) _ e in
-        rw (list-is t q) (a-list c (attach→ u noDefaults first (x .type) r) (gives-eq e)))
-    attach→ (carray w b u) d k t e = unless-null d k (carray w b u) t _ e (null-array w b u) (λ e.
+        let (s, r, e) = bind-gives (attachTransforms v p noDefaults u first (x .type)) _ e in
+        rw (list-is t q) (a-list c (attachTransforms→ u noDefaults first (x .type) r) (gives-eq e)))
+    attachTransforms→ (carray w b u) d k t e = unless-null d k (carray w b u) t _ e (null-array w b u) (λ e.
         let (x, q, e) = bind-gives (arrayPart w t) _ e in
         let (c, e) = demand-gives _ _ _ e in
-        let (s, r, e) = bind-gives (attach v p noDefaults u first (x .type)) _ e in
-        rw (array-is w t q) (a-array c (attach→ u noDefaults first (x .type) r) (gives-eq e)))
+        let (s, r, e) = bind-gives (attachTransforms v p noDefaults u first (x .type)) _ e in
+        rw (array-is w t q) (a-array c (attachTransforms→ u noDefaults first (x .type) r) (gives-eq e)))
 
     pub attachFields→ : (gs : Columns) (d : Defaults) (fs : Columns) {ss : Selectors} → attachFields v p d gs fs ≡ gives ss → AttachAll v d gs fs ss
     attachFields→ cnil d fs e = rw (← gives-eq e) a-nil
     attachFields→ (ccons b u gs) d fs e =
         let (s, q, e) = bind-gives _ _ e in
         let (ss, r, e) = bind-gives (attachFields v p d gs fs) _ e in
-        rw (← gives-eq e) (column-attached d (inserts (p .«missing_struct_fields»)) 14 b u (λ k t. attach v p d u k t) (λ k t s h. attach→ u d k t h) (counterpart v b fs) refl q (attachFields→ gs d fs r))
+        rw (← gives-eq e) (column-attached d (inserts (p .«missing_struct_fields»)) 14 b u (λ k t. attachTransforms v p d u k t) (λ k t s h. attachTransforms→ u d k t h) (counterpart v b fs) refl q (attachFields→ gs d fs r))
 
   buildFrom→ : (gs : Columns) (d : Defaults) (fs : Columns) (i : ℕ) {ss : Selectors} → buildFrom v p d gs fs i ≡ accepted ss → AttachAll v d gs fs ss
   unfolding buildFrom buildColumnSelector
@@ -177,7 +177,7 @@ module _ (v : Version) (p : Policy) where
   buildFrom→ (ccons b u gs) d fs i e =
       let (s, q, e) = placed-accepted _ _ _ e in
       let (ss, r, e) = answered-accepted (buildFrom v p d gs fs (i + 1)) _ e in
-      rw (← accepted-eq e) (column-attached d (inserts (p .«missing_columns»)) 11 b u (λ k t. attach v p d u k t) (λ k t s h. attach→ u d k t h) (counterpart v b fs) refl q (buildFrom→ gs d fs (i + 1) r))
+      rw (← accepted-eq e) (column-attached d (inserts (p .«missing_columns»)) 11 b u (λ k t. attachTransforms v p d u k t) (λ k t s h. attachTransforms→ u d k t h) (counterpart v b fs) refl q (buildFrom→ gs d fs (i + 1) r))
 
   pub build→ : (d : Defaults) (Γ Δ : Columns) {ss : Selectors} → build v p d Γ Δ ≡ accepted ss → AttachAll v d Δ Γ ss
   unfolding build

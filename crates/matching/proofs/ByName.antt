@@ -8,7 +8,7 @@ use Rattle.layout.specs.declared.columns.FieldId.{FieldId}
 use Rattle.values.specs.Value.{vnull, vnil, vcons}
 use Rattle.plan.specs.Result.{gives, _>>=_, demand}
 use Rattle.plan.specs.Selector.{constant}
-use Rattle.matching.specs.Default.{noDefaults, none, leafDefault, FieldDefaults, withField, structDefault, defaultOf, defaultsOf, missingValue}
+use Rattle.matching.specs.Default.{noDefaults, none, leafDefault, FieldDefaults, withField, structDefault, buildIcebergDefaultValue, defaultsOf, missingValue}
 use Rattle.matching.specs.Build.{missing}
 
 -- a struct's fields have none
@@ -18,9 +18,9 @@ record NoneOf (cs : Columns) : Type 0 where
   none : fields .any ≡ false
 
 mutual
-  unfolding defaultOf defaultsOf leafDefault withField structDefault choose _>>=_
+  unfolding buildIcebergDefaultValue defaultsOf leafDefault withField structDefault choose _>>=_
 
-  default-none : (t : ColumnType) (i : FieldId) → defaultOf noDefaults i t ≡ gives none
+  default-none : (t : ColumnType) (i : FieldId) → buildIcebergDefaultValue noDefaults i t ≡ gives none
   default-none (cleaf l) i = refl
   default-none (cstruct cs) i = let N = defaults-none cs in rw (N .is, N .none)
   default-none (clist l t) i = refl

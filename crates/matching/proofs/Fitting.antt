@@ -19,7 +19,7 @@ use Rattle.plan.specs.Result.{gives}
 use Rattle.plan.proofs.Results.{never-refused, gives-eq, bind-gives, demand-gives}
 use Rattle.defaults.specs.Table.{Given, initial, partition, failed, Entry, repeatsAnyEntry, initialEntry, loadedEntry, partitionEntry, givenOf, entry, entries, tableFrom, table}
 use Rattle.defaults.specs.Lookup.{Taken, refused, nothing, taken, isNullValue, unlessNull, ofSource, givenTo, isPartitionOf, isInitialOf, firstEntry, getDefaultValue}
-use Rattle.matching.specs.Default.{Defaults, noDefaults, Default, none, some, orNull, leafDefault, FieldDefaults, structDefault, withField, defaultOf, defaultsOf, missingValue}
+use Rattle.matching.specs.Default.{Defaults, noDefaults, Default, none, some, orNull, leafDefault, FieldDefaults, structDefault, withField, buildIcebergDefaultValue, defaultsOf, missingValue}
 use Rattle.matching.proofs.Entries.{Match, unmatched, matched, matchOf, ofMatch, first-match}
 
 -- every value that is found fits the type that it is found with
@@ -49,9 +49,9 @@ struct-fits {fs} g w = go (g .any)
 
 module _ (d : Defaults) (g : Good d) where
   mutual
-    unfolding defaultOf defaultsOf dtypeOf fieldsOf withField
+    unfolding buildIcebergDefaultValue defaultsOf dtypeOf fieldsOf withField
 
-    default-fits : (t : ColumnType) (i : FieldId) {x : Default} → defaultOf d i t ≡ gives x → Fits (dtypeOf t) (orNull x)
+    default-fits : (t : ColumnType) (i : FieldId) {x : Default} → buildIcebergDefaultValue d i t ≡ gives x → Fits (dtypeOf t) (orNull x)
     default-fits (cleaf l) i e = leaf-fits l (d i) (λ m z r. g .fits i m z r) e
     default-fits (cstruct cs) i e =
         let (y, p, q) = bind-gives _ _ e in

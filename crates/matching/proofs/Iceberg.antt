@@ -25,7 +25,7 @@ use Rattle.plan.specs.Run.{castLeaf, mapValues, onStruct, onList, onArray, eval
 use Rattle.plan.proofs.Results.{never-refused, gives-eq, true≠false, bind-gives, demand-gives}
 use Rattle.defaults.specs.Table.{initial, partition, failed, Entry}
 use Rattle.defaults.specs.Lookup.{Taken, refused, nothing, taken, unlessNull, ofSource, givenTo, isPartitionOf, isInitialOf, getDefaultValue}
-use Rattle.matching.specs.Default.{Defaults, noDefaults, Default, none, some, orNull, leafDefault, FieldDefaults, withField, structDefault, defaultOf, defaultsOf, missingValue}
+use Rattle.matching.specs.Default.{Defaults, noDefaults, Default, none, some, orNull, leafDefault, FieldDefaults, withField, structDefault, buildIcebergDefaultValue, defaultsOf, missingValue}
 use Rattle.matching.specs.Build.{sameElement, elementDefaultId, counterpart, build}
 use Rattle.matching.specs.Due.{dueLeaf, orElseNull, fromCounterpart, due, dues}
 use Rattle.matching.specs.Iceberg.{noValue, undefined, empty, Metadata, HasId, id-here, id-there, Lacks, lacks-nil, lacks-cons, Missing, by-partition, by-default, by-empty-struct, by-null, MissingAll, missing-nil, missing-cons, Reads, reads-leaf, reads-null, reads-struct, reads-list, reads-array, ReadsAll, reads-nil, reads-selected, reads-missing, ReadsEach, reads-none, reads-more}
@@ -167,9 +167,9 @@ unfolding withField
 none-added x g p q = rw (p, q)
 
 mutual
-  unfolding defaultOf defaultsOf leafDefault withField structDefault choose
+  unfolding buildIcebergDefaultValue defaultsOf leafDefault withField structDefault choose
 
-  no-default : (t : ColumnType) (i : FieldId) {x : Default} → defaultOf noDefaults i t ≡ gives x → x ≡ none
+  no-default : (t : ColumnType) (i : FieldId) {x : Default} → buildIcebergDefaultValue noDefaults i t ≡ gives x → x ≡ none
   no-default (cleaf l) i e = sym (gives-eq e)
   no-default (cstruct cs) i e = let (g, p, q) = bind-gives _ _ e in sym (gives-eq q) ∙ rw (no-defaults cs p)
   no-default (clist l t) i e = sym (gives-eq e)
@@ -225,9 +225,9 @@ struct-missing M {i} {cs} g p q h = go (g .any) q
 
 module _ (M : Metadata) where
   mutual
-    unfolding defaultOf defaultsOf withField
+    unfolding buildIcebergDefaultValue defaultsOf withField
 
-    default-missing : {d : Defaults} {i : FieldId} {t : ColumnType} {x : Default} → Agrees M d i t → defaultOf d i t ≡ gives x → Missing M i t (orNull x)
+    default-missing : {d : Defaults} {i : FieldId} {t : ColumnType} {x : Default} → Agrees M d i t → buildIcebergDefaultValue d i t ≡ gives x → Missing M i t (orNull x)
     default-missing {d = d} {i = i} (g-leaf {l = l} h) e = h (d i) refl _ (leaf-finds l (d i) e)
     default-missing (g-struct p h hs) e = let (g, q, e) = bind-gives _ _ e in rw (← gives-eq e) (struct-missing M g p (h g q) (defaults-missing hs q))
     default-missing (g-list n h) e = rw (← gives-eq e) (by-null (n .0) (n .1))

@@ -23,8 +23,8 @@ use Rattle.plan.specs.Result.{accepted, _>>=_, demand, placed, answered}
 use Rattle.plan.specs.Selector.{position, constant, structMapping, Selectors, snil, scons, countSelectors}
 use Rattle.plan.specs.Run.{valueAt, onStruct, eval, evals}
 use Rattle.plan.proofs.Results.{gives-eq}
-use Rattle.matching.specs.Default.{leafDefault, FieldDefaults, withField, defaultOf, defaultsOf, missingValue}
-use Rattle.matching.specs.Build.{structPart, isNullType, unlessNullType, renamed, distinct, noExtra, missing, isPosition, inPlace, structSelector, sought, attach, attachFields, buildColumnSelector, buildFrom, build}
+use Rattle.matching.specs.Default.{leafDefault, FieldDefaults, withField, buildIcebergDefaultValue, defaultsOf, missingValue}
+use Rattle.matching.specs.Build.{structPart, isNullType, unlessNullType, renamed, distinct, noExtra, missing, isPosition, inPlace, structSelector, sought, attachTransforms, attachFields, buildColumnSelector, buildFrom, build}
 use Rattle.matching.specs.Due.{dueLeaf}
 use Rattle.matching.specs.Iceberg.{InitialDefault, undefined, ReadsAll}
 use Rattle.matching.specs.Stated.{partitionOf, emptyIf, initialOf, stated, NoneHidden, ComposedAll}
@@ -51,7 +51,7 @@ abbrev ss : Selectors
 ss = scons (structMapping (position (record { 0 = 0 })) (scons (constant (0x61 ∷ []) (leaf int8) (vnumber Int8 7)) snil)) snil
 
 built : build ByNumber allOn (getDefaultValue es 0) Γ Δ ≡ accepted ss
-unfolding build buildFrom buildColumnSelector attach attachFields sought missing missingValue defaultOf leafDefault getDefaultValue firstEntry givenTo unlessNull structPart isNullType unlessNullType renamed distinct noExtra isPosition inPlace structSelector findFrom sameBytes sameDtype sameLeaf leafForm dtypeOf fieldsOf countColumns countSelectors choose _>>=_ demand placed answered
+unfolding build buildFrom buildColumnSelector attachTransforms attachFields sought missing missingValue buildIcebergDefaultValue leafDefault getDefaultValue firstEntry givenTo unlessNull structPart isNullType unlessNullType renamed distinct noExtra isPosition inPlace structSelector findFrom sameBytes sameDtype sameLeaf leafForm dtypeOf fieldsOf countColumns countSelectors choose _>>=_ demand placed answered
 built = refl
 
 hidden : NoneHidden es (stated es 0 structs)
@@ -63,7 +63,7 @@ hidden i e p = go (eqb 2 (i .0)) e
     go false e = clash (cc)
 
 composed : ComposedAll (stated es 0 structs) (getDefaultValue es 0) Δ
-unfolding stated partitionOf initialOf firstEntry choose unlessNull getDefaultValue givenTo defaultOf defaultsOf leafDefault withField sameDtype sameLeaf leafForm sameBytes _>>=_ demand
+unfolding stated partitionOf initialOf firstEntry choose unlessNull getDefaultValue givenTo buildIcebergDefaultValue defaultsOf leafDefault withField sameDtype sameLeaf leafForm sameBytes _>>=_ demand
 composed = ((refl, (λ g e. ap (λ (g : FieldDefaults). emptyOf g) (gives-eq e), ((λ e. clash (cc)), tt))), tt)
   where
     emptyOf : FieldDefaults → InitialDefault

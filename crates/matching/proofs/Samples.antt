@@ -24,8 +24,8 @@ use Rattle.plan.specs.Selector.{countSelectors}
 use Rattle.plan.specs.Encode.{encodeSelector, encodeSelectors, encodePlan}
 use Rattle.defaults.specs.Table.{initial, partition, Entry, sameKind, repeatsAnyEntry, onlyLeaf, defaultType, initialEntry, loadedEntry, partitionEntry, givenOf, entry, entries, tableVersion, tableFrom, table}
 use Rattle.defaults.specs.Lookup.{unlessNull, ofSource, givenTo, firstEntry, getDefaultValue}
-use Rattle.matching.specs.Default.{leafDefault, withField, structDefault, defaultOf, defaultsOf, missingValue}
-use Rattle.matching.specs.Build.{leafPart, structPart, listPart, arrayPart, isNullType, unlessNullType, renamed, sameElement, distinctNames, distinct, noExtra, missing, ruled, isPosition, inPlace, structSelector, listSelector, arraySelector, sought, attach, attachFields, buildColumnSelector, buildFrom, build}
+use Rattle.matching.specs.Default.{leafDefault, withField, structDefault, buildIcebergDefaultValue, defaultsOf, missingValue}
+use Rattle.matching.specs.Build.{leafPart, structPart, listPart, arrayPart, isNullType, unlessNullType, renamed, sameElement, distinctNames, distinct, noExtra, missing, ruled, isPosition, inPlace, structSelector, listSelector, arraySelector, sought, attachTransforms, attachFields, buildColumnSelector, buildFrom, build}
 use Rattle.plan.specs.Calls.{readAt}
 use Rattle.matching.specs.Calls.{ofVersion, bothLayouts, roomFor, writtenPlan, buildByName, buildByNumber}
 
@@ -39,7 +39,7 @@ unfolding laidOut table tableFrom tableVersion entries entry givenOf partitionEn
 tabled s = table s
 
 unfoldable pub built : Policy → ℕ → Bytes → Bytes → Bytes → ℕ → Answer Bytes
-unfolding tabled buildByName buildByNumber bothLayouts readAt ofVersion roomFor writtenPlan build buildFrom buildColumnSelector attach attachFields sought missing missingValue defaultOf defaultsOf structDefault withField leafDefault getDefaultValue firstEntry givenTo ofSource unlessNull leafPart structPart listPart arrayPart isNullType unlessNullType renamed sameElement distinctNames distinct noExtra ruled isPosition inPlace structSelector listSelector arraySelector findFrom pairRule chain zonesOf readZone isUtc sameDtype sameLeaf dtypeOf fieldsOf countColumns countFields countSelectors encodePlan encodeSelector encodeSelectors u16Bytes u32Bytes textBytes unitCode leafForm kindForm form formFields encodeValue encodeValues littleBytes _>>=_ demand placed answered
+unfolding tabled buildByName buildByNumber bothLayouts readAt ofVersion roomFor writtenPlan build buildFrom buildColumnSelector attachTransforms attachFields sought missing missingValue buildIcebergDefaultValue defaultsOf structDefault withField leafDefault getDefaultValue firstEntry givenTo ofSource unlessNull leafPart structPart listPart arrayPart isNullType unlessNullType renamed sameElement distinctNames distinct noExtra ruled isPosition inPlace structSelector listSelector arraySelector findFrom pairRule chain zonesOf readZone isUtc sameDtype sameLeaf dtypeOf fieldsOf countColumns countFields countSelectors encodePlan encodeSelector encodeSelectors u16Bytes u32Bytes textBytes unitCode leafForm kindForm form formFields encodeValue encodeValues littleBytes _>>=_ demand placed answered
 built p k a b d room = buildByNumber p k a b d room
 
 -- ---- layouts, tables and plans

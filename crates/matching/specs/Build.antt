@@ -163,40 +163,40 @@ unfoldable pub sought : Lookup → Result Selector → (Position → Label → C
 sought absent r f = r
 sought (at k l t) r f = f k l t
 
--- `attach v p d u k t`: the selector that takes position k, of the incoming type t, to the target type u
+-- `attachTransforms v p d u k t`: the selector that takes position k, of the incoming type t, to the target type u
 unfoldable mutual
-  pub attach : Version → Policy → Defaults → ColumnType → Position → ColumnType → Result Selector
-  attach v p d (cleaf u) k t = leafPart t >>= λ l. ruled (pairRule p l u) k u
-  attach v p d (cstruct gs) k t =
+  pub attachTransforms : Version → Policy → Defaults → ColumnType → Position → ColumnType → Result Selector
+  attachTransforms v p d (cleaf u) k t = leafPart t >>= λ l. ruled (pairRule p l u) k u
+  attachTransforms v p d (cstruct gs) k t =
       unlessNullType v p k (cstruct gs) t
       (structPart t >>= λ fs.
       demand (distinct v gs) 12
       (demand (distinct v fs) 12
       (demand (ignores (p .«extra_struct_fields») || noExtra v fs gs) 13
       (attachFields v p d gs fs >>= λ ss. gives (structSelector k fs ss)))))
-  attach v p d (clist l u) k t =
+  attachTransforms v p d (clist l u) k t =
       unlessNullType v p k (clist l u) t
       (listPart t >>= λ e.
       demand (sameElement v (e .label) l) 25
-      (attach v p noDefaults u first (e .type) >>= λ s. gives (listSelector k (renamed v l (e .label) s))))
-  attach v p d (carray w l u) k t =
+      (attachTransforms v p noDefaults u first (e .type) >>= λ s. gives (listSelector k (renamed v l (e .label) s))))
+  attachTransforms v p d (carray w l u) k t =
       unlessNullType v p k (carray w l u) t
       (arrayPart w t >>= λ e.
       demand (sameElement v (e .label) l) 25
-      (attach v p noDefaults u first (e .type) >>= λ s. gives (arraySelector k (renamed v l (e .label) s))))
+      (attachTransforms v p noDefaults u first (e .type) >>= λ s. gives (arraySelector k (renamed v l (e .label) s))))
 
   -- each target field in order, 14 where it is missing under Raise
   pub attachFields : Version → Policy → Defaults → Columns → Columns → Result Selectors
   attachFields v p d cnil fs = gives snil
   attachFields v p d (ccons l u gs) fs =
-      sought (counterpart v l fs) (missing d (inserts (p .«missing_struct_fields»)) 14 l u) (λ k m t. attach v p d u k t >>= λ s. gives (renamed v l m s)) >>= λ s.
+      sought (counterpart v l fs) (missing d (inserts (p .«missing_struct_fields»)) 14 l u) (λ k m t. attachTransforms v p d u k t >>= λ s. gives (renamed v l m s)) >>= λ s.
       attachFields v p d gs fs >>= λ ss.
       gives (scons s ss)
 
 -- `build_column_selector`: a target column, 11 where it is missing under Raise
 unfoldable pub buildColumnSelector : Version → Policy → Defaults → Label → ColumnType → Columns → Result Selector
 buildColumnSelector v p d l u fs =
-    sought (counterpart v l fs) (missing d (inserts (p .«missing_columns»)) 11 l u) (λ k m t. attach v p d u k t >>= λ s. gives (renamed v l m s))
+    sought (counterpart v l fs) (missing d (inserts (p .«missing_columns»)) 11 l u) (λ k m t. attachTransforms v p d u k t >>= λ s. gives (renamed v l m s))
 
 -- target columns in order; the place of a refusal is the column's position, i that of the first
 unfoldable pub buildFrom : Version → Policy → Defaults → Columns → Columns → ℕ → Answer Selectors

@@ -49,16 +49,16 @@ structDefault g = choose (g .any) (some (vstruct (g .values))) none
 
 -- `build_iceberg_default_value`: "lists and arrays have none"; only a leaf's id is looked up. The first 26 or 28, in the order of the fields, stays.
 unfoldable mutual
-  pub defaultOf : Defaults → FieldId → ColumnType → Result Default
-  defaultOf d i (cleaf l) = leafDefault l (d i)
-  defaultOf d i (cstruct cs) = defaultsOf d cs >>= λ g. gives (structDefault g)
-  defaultOf d i (clist l t) = gives none
-  defaultOf d i (carray w l t) = gives none
+  pub buildIcebergDefaultValue : Defaults → FieldId → ColumnType → Result Default
+  buildIcebergDefaultValue d i (cleaf l) = leafDefault l (d i)
+  buildIcebergDefaultValue d i (cstruct cs) = defaultsOf d cs >>= λ g. gives (structDefault g)
+  buildIcebergDefaultValue d i (clist l t) = gives none
+  buildIcebergDefaultValue d i (carray w l t) = gives none
 
   pub defaultsOf : Defaults → Columns → Result FieldDefaults
   defaultsOf d cnil = gives (record { any = false; values = vnil })
-  defaultsOf d (ccons l t cs) = defaultOf d (l .id) t >>= λ x. defaultsOf d cs >>= λ g. gives (withField x g)
+  defaultsOf d (ccons l t cs) = buildIcebergDefaultValue d (l .id) t >>= λ x. defaultsOf d cs >>= λ g. gives (withField x g)
 
 -- what stands for a column with no counterpart: its default, or else null
 unfoldable pub missingValue : Defaults → Label → ColumnType → Result Value
-missingValue d l t = defaultOf d (l .id) t >>= λ x. gives (orNull x)
+missingValue d l t = buildIcebergDefaultValue d (l .id) t >>= λ x. gives (orNull x)

@@ -29,7 +29,7 @@ tested true s e = cc
 tested false s e = clash (cc)
 
 -- the first column
-record First (v : Version) (d : ℕ) (s : Bytes) (n at : ℕ) (cs : Columns) (end : ℕ) : Type 0 where
+pub record First (v : Version) (d : ℕ) (s : Bytes) (n at : ℕ) (cs : Columns) (end : ℕ) : Type 0 where
   pub label : Label
   pub start : ℕ
   pub labelled : labelOf v s at ≡ ok label start
@@ -38,7 +38,7 @@ record First (v : Version) (d : ℕ) (s : Bytes) (n at : ℕ) (cs : Columns) (en
   pub is : cs ≡ ccons label (head .tree) (tail .columns)
   pub ends : tail .end ≡ end
 
-first-column : (v : Version) (d : ℕ) (s : Bytes) (n at : ℕ) (cs : Columns) (end : ℕ) → columnsOf v Free (typeOf v Free d) (suc n) [] s at ≡ ok cs end → First v d s n at cs end
+pub first-column : (v : Version) (d : ℕ) (s : Bytes) (n at : ℕ) (cs : Columns) (end : ℕ) → columnsOf v Free (typeOf v Free d) (suc n) [] s at ≡ ok cs end → First v d s n at cs end
 unfolding columnsOf
 first-column v d s n at cs end e =
     let (m, i, h₁, g₁) = next-ok _ _ e in
@@ -57,12 +57,12 @@ first-column v d s n at cs end e =
     }
 
 -- a column before others
-column-before : (v : Version) (d : ℕ) (s : Bytes) (n at : ℕ) {l : Label} {m : ℕ} → labelOf v s at ≡ ok l m → (H : TypeAt v d s m) (T : ColumnsAt v d s n (H .end))
+pub column-before : (v : Version) (d : ℕ) (s : Bytes) (n at : ℕ) {l : Label} {m : ℕ} → labelOf v s at ≡ ok l m → (H : TypeAt v d s m) (T : ColumnsAt v d s n (H .end))
     → columnsOf v Free (typeOf v Free d) (suc n) [] s at ≡ ok (ccons l (H .tree) (T .columns)) (T .end)
 unfolding columnsOf next choose repeatsAny
 column-before v d s n at {l} e H T = rw (e, H .reads, columns-any v (typeOf v Free d) n ([] ++ (l ∷ [])) [] s (H .end), T .reads)
 
-value-before : (l : Label) (cs : Columns) {v : Version} {d : ℕ} {s : Bytes} {m : ℕ} (H : TypeAt v d s m) (rec : Bytes) (c : ℕ) (X : ValueAt (dtypeOf (H .tree)) rec c) (Y : ValuesAt (fieldsOf cs) rec (X .end))
+pub value-before : (l : Label) (cs : Columns) {v : Version} {d : ℕ} {s : Bytes} {m : ℕ} (H : TypeAt v d s m) (rec : Bytes) (c : ℕ) (X : ValueAt (dtypeOf (H .tree)) rec c) (Y : ValuesAt (fieldsOf cs) rec (X .end))
     → valuesOf (fieldsOf (ccons l (H .tree) cs)) rec c ≡ ok (vcons (X .tree) (Y .values)) (Y .end)
 unfolding fieldsOf valuesOf value next
 value-before l cs H rec c X Y = rw (X .reads, Y .reads)
@@ -102,7 +102,7 @@ pub record SplitOf (v : Version) (lay : Bytes) (n t : ℕ) (rec : Bytes) (c : �
   pub back : RowAt v lay (n - k) (front .columns .end) rec (front .values .end)
   pub is : valueAt (X .values .values) k ≡ valueAt (back .values .values) 0
 
-pub split-of : (k : ℕ) {v : Version} {lay : Bytes} {n t : ℕ} {rec : Bytes} {c : ℕ} (X : RowAt v lay n t rec c) → k ≤ n → SplitOf v lay n t rec c X k
+unfoldable pub split-of : (k : ℕ) {v : Version} {lay : Bytes} {n t : ℕ} {rec : Bytes} {c : ℕ} (X : RowAt v lay n t rec c) → k ≤ n → SplitOf v lay n t rec c X k
 unfolding columnsOf valuesOf fieldsOf valueAt
 split-of zero {v} {lay} {n} {t} {rec} {c} X h =
     record {

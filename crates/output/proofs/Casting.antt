@@ -9,34 +9,23 @@ use lib.ListN.{length, getD, take}
 use lib.Seq.{take-all}
 use Rattle.layout.specs.Bytes.{Bytes}
 use Rattle.layout.specs.declared.leaf.Leaf.{Leaf}
-use Rattle.layout.specs.declared.leaf.Leaf.the-variants.{Null, Boolean, Int8, Int16, Int32, Int64, UInt8, UInt16, UInt32, UInt64, Float16, Float32, Float64, Date, Datetime, String, Binary, Categorical}
-use Rattle.layout.proofs.Ways.{clash}
+use Rattle.layout.specs.declared.leaf.Leaf.the-variants.{Null}
 use Rattle.store.specs.Overlay.{overlay}
-use Rattle.store.proofs.Overlay.{length-little}
-use Rattle.values.specs.Value.{Value, vnull, vnumber, vtext, voverflow, vstruct, vlist, varray}
-use Rattle.values.specs.Content.{widthOf}
+use Rattle.values.specs.Value.{Value, vnumber, voverflow}
 use Rattle.values.specs.Encode.{encodeValue}
 use Rattle.plan.specs.Convert.{convert}
 use Rattle.plan.specs.Run.{castLeaf}
 use Rattle.convert.specs.Converted.{valueOf}
 use Rattle.convert.specs.declared.leaf.Converted.{Converted}
+use Rattle.raw.specs.Number.{isNumber, leafAnswer, LeafIs}
+use Rattle.raw.specs.Stored.{Stores}
+use Rattle.raw.specs.declared.leaf.LeafValue.{LeafValue}
+use Rattle.raw.proofs.Storing.{cast-kept, stores-as}
 use Rattle.output.specs.Chain.{castAll}
-use Rattle.output.specs.Output.{Stores}
-use Rattle.output.specs.Answers.{isNumber, leafAnswer, LeafIs, castValueOf}
+use Rattle.output.specs.Answers.{castValueOf}
 use Rattle.output.specs.declared.leaf.CastValue.{CastValue}
-use Rattle.output.specs.declared.leaf.LeafValue.{LeafValue}
 
 -- ---- what no cast changes
-
-cast-kept : (k : Leaf) (v : Value) → isNumber v ≡ false → castLeaf k v ≡ v
-unfolding castLeaf isNumber
-cast-kept k vnull e = refl
-cast-kept k (vnumber i n) e = clash (cc)
-cast-kept k (vtext b) e = refl
-cast-kept k voverflow e = refl
-cast-kept k (vstruct vs) e = refl
-cast-kept k (vlist vs) e = refl
-cast-kept k (varray vs) e = refl
 
 pub casts-kept : (ks : List Leaf) (v : Value) → isNumber v ≡ false → castAll ks v ≡ v
 unfolding castAll
@@ -91,33 +80,6 @@ module _ {ks : List Leaf} {v₀ : Value} {i : ℕ} {k : Leaf} {x : ℕ} (C : Cas
       short (suc j) h l = absurd (omega arith)
 
 -- ---- what is stored
-
-width-small : (k : Leaf) → widthOf k ≤ 8
-width-small Null = omega arith
-width-small Boolean = omega arith
-width-small Int8 = omega arith
-width-small Int16 = omega arith
-width-small Int32 = omega arith
-width-small Int64 = omega arith
-width-small UInt8 = omega arith
-width-small UInt16 = omega arith
-width-small UInt32 = omega arith
-width-small UInt64 = omega arith
-width-small Float16 = omega arith
-width-small Float32 = omega arith
-width-small Float64 = omega arith
-width-small Date = omega arith
-width-small (Datetime u) = omega arith
-width-small String = omega arith
-width-small Binary = omega arith
-width-small Categorical = omega arith
-
-pub number-short : (k : Leaf) (n : ℕ) → length (encodeValue (vnumber k n)) ≤ 9
-unfolding encodeValue
-number-short k n = omega (arith, length-little (widthOf k) n, width-small k)
-
-pub stores-as : {out : Bytes} {k : ℕ} {u v : Value} {r : ℕ} {new : Bytes} → u ≡ v → Stores out k (encodeValue u) r new → Stores out k (encodeValue v) r new
-stores-as {out} {k} {u} {v} {r} {new} e S = subst (λ (w : Value). Stores out k (encodeValue w) r new) e S
 
 pub stores-number : (out : Bytes) (k : ℕ) {j : Leaf} {m : ℕ} {u : Value} {q : CastValue} → castValueOf q ≡ u → q ≡ CastValue.Number j m
     → {l : ℕ} {new : Bytes} → l ≡ length (encodeValue (vnumber j m)) → new ≡ overlay out k (encodeValue (vnumber j m)) → Stores out k (encodeValue u) (k + l) new

@@ -14,8 +14,7 @@ use Rattle.layout.specs.Tree.{leaf, struct, list, array}
 use Rattle.layout.specs.declared.leaf.Leaf.{Leaf}
 use Rattle.layout.specs.declared.version.Version.{Version}
 use Rattle.layout.proofs.Ways.{clash}
-use Rattle.store.specs.Overlay.{overlay, littleBytes}
-use Rattle.store.proofs.Overlay.{length-little}
+use Rattle.store.specs.Overlay.{overlay}
 use Rattle.values.specs.Value.{Value, vnull, vnumber, vtext, voverflow, vstruct, vlist, varray, Values, vnil, vcons, countValues}
 use Rattle.values.specs.Encode.{encodeValue, encodeValues}
 use Rattle.values.specs.Record.{longest}
@@ -30,13 +29,16 @@ use Rattle.walk.specs.declared.walk.Walk.{Walk}
 use Rattle.walk.proofs.View.{nth-exists}
 use Rattle.nodes.specs.Raw.{NodeIs, partsOf}
 use Rattle.nodes.specs.declared.raw.Parts.{Parts}
+use Rattle.raw.specs.Number.{isNumber}
 use Rattle.output.specs.Chain.{ends, goes, nextOut, nextCast, nextField, nextPart, nextElement, nextOf, Passed, p-here, p-goes, p-casts, castAll}
-use Rattle.output.specs.Output.{Emits, Stores, levels, lead}
-use Rattle.output.specs.Answers.{isNumber, OriginIs, ConstantIs, StructIs, ListIs, ArrayIs, size, EmitAt, Mapped, isList}
+use Rattle.raw.specs.Stored.{Stores, lead}
+use Rattle.output.specs.Output.{Emits, levels}
+use Rattle.output.specs.Answers.{OriginIs, ConstantIs, StructIs, ListIs, ArrayIs, size, EmitAt, Mapped, isList}
 use Rattle.output.specs.declared.casts.Origin.{Origin}
 use Rattle.output.proofs.Chain.{goes-eq, casts-same, passed-value}
 use Rattle.output.proofs.Ends.{within-null, count-givens, struct-value, list-value, array-value, part-value}
-use Rattle.output.proofs.Casting.{casts-kept, stores-as}
+use Rattle.raw.proofs.Storing.{stores-as}
+use Rattle.output.proofs.Casting.{casts-kept}
 use Rattle.output.proofs.Asking.{state-by}
 use Rattle.output.proofs.Writing.{emits-exact, emits-append, emits-past, emits-after, within-limit, front, behind, front-none, front-all, front-more, front-behind, front-long, parts-clean, part-clean, part-levels}
 
@@ -242,20 +244,6 @@ module _ (ρ : Values) {plan : Bytes} {z : State} {t c : ℕ} (C : ConstantIs ρ
   unfolding choose isNumber
   constant-skipped e S =
       stores-as (sym (ap (castAll ks) (C .is ∙ h (C .value) ∙ ap (λ (q : Bool). choose q (C .value) vnull) e) ∙ casts-kept ks vnull refl)) S
-
--- ---- what stands before the parts
-
-pub lead-counted : (out : Bytes) (k m : ℕ) {c : Bool} → c ≡ true → {new : Bytes} → new ≡ overlay out k (1 ∷ littleBytes 2 m) → Stores out k (lead c m) (k + 3) new
-lead-counted out k m e {new} g =
-    subst (λ (c : Bool). Stores out k (lead c m) (k + 3) new) (sym e)
-    (record { ends = ap (λ (i : ℕ). k + i) (let z : 3 ≡ suc (length (littleBytes 2 m)) = omega (arith, length-little 2 m) in z); stored = g })
-
-pub lead-plain : (out : Bytes) (k m : ℕ) {c : Bool} → c ≡ false → {new : Bytes} → new ≡ overlay out k (1 ∷ []) → Stores out k (lead c m) (k + 1) new
-lead-plain out k m e {new} g = subst (λ (c : Bool). Stores out k (lead c m) (k + 1) new) (sym e) (record { ends = refl; stored = g })
-
-pub lead-short : (c : Bool) (m : ℕ) → length (lead c m) ≤ 3
-lead-short true m = omega (arith, length-little 2 m)
-lead-short false m = omega arith
 
 -- ---- a mapping
 

@@ -3,7 +3,6 @@ pub mod Given
 pub mod Chain
 pub mod Ends
 pub mod Writing
-pub mod Leaves
 pub mod Outward
 pub mod Asking
 pub mod Casting

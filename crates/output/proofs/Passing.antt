@@ -1,14 +1,15 @@
 -- The walk past casts and renames, step by step. Assumes nothing.
 use Prim.Native.Nat.{ℕ, zero, suc, _+_, _-_, _<_, _≤_}
 use mathlib.Core.Path.{_≡_, refl, ap, sym, subst, _∙_}
+use mathlib.Core.Bool.{true}
 use mathlib.Core.List.{List, [], _∷_, _++_}
 use native.Mathlib.Omega.{arith}
 use lib.ListN.{length, getD, length-append}
 use borrow.Author.Tests.{ne-eqb}
 use Rattle.layout.specs.Bytes.{Bytes}
-use Rattle.layout.specs.Parser.{ok, next as nextRes, choose}
-use Rattle.layout.specs.Tree.{DataType, leaf, struct, list, array, ColumnType, cstruct, clist, carray, dtypeOf}
-use Rattle.layout.specs.Layout.{Kind, kind, type, body, structType, listType, arrayType}
+use Rattle.layout.specs.Parser.{choose}
+use Rattle.layout.specs.Tree.{DataType, leaf, struct, list, array, ColumnType, dtypeOf}
+use Rattle.layout.specs.Layout.{kind, type}
 use Rattle.layout.specs.Answers.{headRes}
 use Rattle.layout.specs.Stands.{TypeAt}
 use Rattle.layout.specs.declared.columns.Siblings.the-variants.{Free}
@@ -19,7 +20,7 @@ use Rattle.layout.specs.declared.version.Version.{Version}
 use Rattle.layout.specs.declared.leaf.Leaf.{Leaf}
 use Rattle.layout.specs.declared.leaf.Leaf.the-variants.{Null}
 use Rattle.layout.proofs.Ways.{clash}
-use Rattle.layout.proofs.View.{next-ok, leaf-at}
+use Rattle.layout.proofs.View.{leaf-at}
 use Rattle.rules.specs.declared.outcome.CastOption.{CastOption}
 use Rattle.plan.specs.Selector.{Selector, position, constant, cast, rename, structMapping, listMapping, arrayMapping, Selectors, snil, scons, countSelectors}
 use Rattle.walk.specs.State.{Frame, fields, State, state}
@@ -31,16 +32,17 @@ use Rattle.output.specs.Chain.{ends, goes, casts, nextField, nextOut, ne
 use Rattle.output.specs.Answers.{castPass, GoesOn, CastsOn, passAnswer, PassIs, OnwardTo, OriginIs}
 use Rattle.output.specs.declared.casts.Pass.{Pass}
 use Rattle.output.proofs.Chain.{moves-passed, passed-on, passed-moves}
-use Rattle.output.proofs.Leaves.{leaf-kind}
+use Rattle.raw.proofs.Leaves.{isNested, leaf-kind, struct-nested, list-nested, array-nested}
 
 -- ---- a cast's type, by what it begins with
 
-module _ {v : Version} {s : Bytes} {at : ℕ} (T : TypeAt v 16 s at) where
-  -- a type, after what it begins with
-  behind : {k : Kind} {m : ℕ} → kind s at ≡ ok k m → body v Free (type v Free 15) k s m ≡ ok (T .tree) (T .end)
-  unfolding type nextRes
-  behind q = rw q at (T .reads)
+goes-nested : (t : DataType) → isNested t ≡ true → Pass.Goes ≡ castPass t
+goes-nested (leaf l) e = clash (cc)
+goes-nested (struct fs) e = refl
+goes-nested (list t) e = refl
+goes-nested (array w t) e = refl
 
+module _ {v : Version} {s : Bytes} {at : ℕ} (T : TypeAt v 16 s at) where
   cast-by : {c : ColumnType} → c ≡ T .tree → castPass (dtypeOf c) ≡ castPass (dtypeOf (T .tree))
   cast-by e = ap (λ (c : ColumnType). castPass (dtypeOf c)) e
 
@@ -49,27 +51,13 @@ module _ {v : Version} {s : Bytes} {at : ℕ} (T : TypeAt v 16 s at) where
   type-leaf {l = l} h q = ap Pass.Casts (sym (leaf-kind (l .leaf) _)) ∙ cast-by (sym (leaf-at T h q .0))
 
   pub type-struct : {p : Head} {n : ℕ} {c : Cursor} → headRes s p ≡ kind s at → p ≡ Head.Struct n c → Pass.Goes ≡ castPass (dtypeOf (T .tree))
-  unfolding body structType dtypeOf
-  type-struct h q =
-      let (cs, i, h₁, g₁) = next-ok _ _ (behind (sym h ∙ ap (headRes s) q)) in
-      let z : cstruct cs ≡ T .tree = cc in
-      cast-by z
+  type-struct h q = goes-nested (dtypeOf (T .tree)) (struct-nested T h q)
 
   pub type-list : {p : Head} {c : Cursor} → headRes s p ≡ kind s at → p ≡ Head.List c → Pass.Goes ≡ castPass (dtypeOf (T .tree))
-  unfolding body listType dtypeOf
-  type-list h q =
-      let (l, i, h₁, g₁) = next-ok _ _ (behind (sym h ∙ ap (headRes s) q)) in
-      let (u, j, h₂, g₂) = next-ok _ _ g₁ in
-      let z : clist l u ≡ T .tree = cc in
-      cast-by z
+  type-list h q = goes-nested (dtypeOf (T .tree)) (list-nested T h q)
 
   pub type-array : {p : Head} {w : ℕ} {c : Cursor} → headRes s p ≡ kind s at → p ≡ Head.Array w c → Pass.Goes ≡ castPass (dtypeOf (T .tree))
-  unfolding body arrayType dtypeOf
-  type-array {w = w} h q =
-      let (l, i, h₁, g₁) = next-ok _ _ (behind (sym h ∙ ap (headRes s) q)) in
-      let (u, j, h₂, g₂) = next-ok _ _ g₁ in
-      let z : carray w l u ≡ T .tree = cc in
-      cast-by z
+  type-array h q = goes-nested (dtypeOf (T .tree)) (array-nested T h q)
 
 -- the answer at the type's place under another name
 pub type-as : {v : Version} {s : Bytes} {at to : ℕ} (T : TypeAt v 16 s at) {r : Pass} → to ≡ at → ((U : TypeAt v 16 s to) → r ≡ castPass (dtypeOf (U .tree))) → r ≡ castPass (dtypeOf (T .tree))

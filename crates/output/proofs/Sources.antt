@@ -6,8 +6,7 @@ use native.Mathlib.Omega.{arith}
 use native.Mathlib.Decide.{decLt}
 use lib.Seq.{slice}
 use Rattle.layout.specs.Bytes.{Bytes}
-use Rattle.layout.specs.Tree.{DataType, leaf, struct, list, array, dtypeOf}
-use Rattle.layout.specs.declared.bytes.Span.{Span}
+use Rattle.layout.specs.Tree.{DataType, leaf, struct, list, array}
 use Rattle.layout.specs.declared.columns.Position.{Position}
 use Rattle.layout.specs.declared.cursor.Cursor.{Cursor}
 use Rattle.layout.specs.declared.version.Version.{Version}
@@ -20,7 +19,7 @@ use Rattle.plan.specs.Selector.{Selector, position, constant, cast, rename, str
 use Rattle.plan.specs.Run.{valueAt}
 use Rattle.walk.specs.State.{Frame, State, state}
 use Rattle.walk.specs.Stands.{SelectorAt}
-use Rattle.walk.specs.Parts.{ConstantAt, StructAt, CountedIs}
+use Rattle.walk.specs.Parts.{StructAt, CountedIs}
 use Rattle.walk.specs.Standing.{WalkAt}
 use Rattle.walk.specs.Values.{valueNode, within, given, stateValue}
 use Rattle.walk.specs.declared.head.StructFields.{StructFields}
@@ -31,7 +30,7 @@ use Rattle.nodes.specs.Raw.{NodeIs, NodeOf}
 use Rattle.nodes.specs.declared.raw.NodeAt.{NodeAt}
 use Rattle.nodes.proofs.Node.{node-as}
 use Rattle.output.specs.Chain.{ends, nextOut, nextCast, nextPart, nextElement, nextOf, next}
-use Rattle.output.specs.Answers.{ConstantRaw, recordSource, constantSource, StructSource, ConstantIs, StructIs, ListIs, ArrayIs, sourceAnswer, SourceIs}
+use Rattle.output.specs.Answers.{recordSource, constantSource, StructSource, ConstantIs, StructIs, ListIs, ArrayIs, sourceAnswer, SourceIs}
 use Rattle.output.specs.declared.source.Source.{Source}
 use Rattle.output.proofs.Within.{node-null}
 use Rattle.output.proofs.Ends.{within-null, position-null, field-null}
@@ -43,16 +42,6 @@ null-node N e p = record { none = λ q. ap (λ (y : Value). valueNode y p) (N .n
 
 pub node-valued : {v : Version} {lay rec : Bytes} {x y : Value} → x ≡ y → (p : List ℕ) {r : NodeAt} → NodeOf v lay rec (valueNode x p) r → NodeOf v lay rec (valueNode y p) r
 node-valued e p N = node-as (ap (λ (z : Value). valueNode z p) e) N
-
-pub constant-part : {s : Bytes} {at : ℕ} {P : SelectorAt s at} {n : Span} {m : ℕ} → ConstantAt s at P n m → ConstantRaw s m
-constant-part A = record { type = A .type; value = A .value }
-
--- where a constant's value stands
-pub constant-raw : {plan : Bytes} {t c : ℕ} (X : ConstantRaw plan t) → c ≡ X .type .end → NodeIs ByName plan t plan c (X .value .tree)
-constant-raw {plan} {t} {c} X e = record {
-  raw = record { type = X .type; value = record { tree = X .value .tree; end = X .value .end; reads = ap (λ (i : ℕ). value (dtypeOf (X .type .tree)) plan i) e ∙ X .value .reads } };
-  is = refl;
-}
 
 module _ {plan : Bytes} {w : Walk} {P : SelectorAt plan (w .at)} {m : ℕ} (A : StructAt plan (w .at) P m) where
   pub struct-below : w .deep < w .len → StructSource plan w P Source.Null

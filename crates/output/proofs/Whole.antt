@@ -171,6 +171,41 @@ over-limit {b = b} {r = r} E h = go (decLt longest (length b))
 length-take-most : (n : ℕ) (s : Bytes) → length (take n s) ≤ length s
 length-take-most n s = simp length-take (omega arith)
 
+-- ---- what was written aside
+
+module _ (σ : Values) (ss : Selectors) (x : cleanAll (evals σ ss) ≡ true) {aside₀ : Bytes} (size : 16384 ≡ length aside₀) {len : ℕ} {aside : Bytes} (W : Emits aside₀ 0 (encodeValues (evals σ ss)) len aside) where
+  -- 45
+  refused : (out : Bytes) → spacious (length out) (encodeValues (evals σ ss)) ≡ false
+      → (Written.TooLong ≡ writtenOf (run σ ss (length out))) × (out ≡ bufferAfter (run σ ss (length out)) out)
+  refused out h = let e = run-exceeds σ ss (length out) x h in (sym (ap writtenOf e), sym (ap (λ (r : Answer Bytes). bufferAfter r out) e))
+
+  pub aside-exceeds : (out : Bytes) → 16384 < len → (Written.TooLong ≡ writtenOf (run σ ss (length out))) × (out ≡ bufferAfter (run σ ss (length out)) out)
+  aside-exceeds out h = refused out (not-short (length out) (encodeValues (evals σ ss)) (over-limit W h))
+
+  module _ (l : len ≤ 16384) where
+    length-is : len ≡ length (encodeValues (evals σ ss))
+    length-is = let (e, H) = W .fits (within-limit W l) in e ∙ zero-add (length (encodeValues (evals σ ss)))
+
+    pub aside-tight : (out : Bytes) → length out < len → (Written.TooLong ≡ writtenOf (run σ ss (length out))) × (out ≡ bufferAfter (run σ ss (length out)) out)
+    aside-tight out h = refused out (not-room (length out) (encodeValues (evals σ ss)) (omega (arith, length-is)))
+
+    front-is : take len aside ≡ encodeValues (evals σ ss)
+    front-is =
+        let (e, H) = W .fits (within-limit W l) in
+        ap (λ (m : ℕ). take m aside) length-is ∙ holds-front aside₀ (encodeValues (evals σ ss)) aside (omega (arith, length-is, size)) H
+
+    pub aside-inside : len ≤ length aside
+    aside-inside = let z : length (take len aside) ≡ length (encodeValues (evals σ ss)) = ap length front-is in omega (arith, z, length-is, length-take-most len aside)
+
+    pub aside-fits : (out : Bytes) {new : Bytes} → len ≤ length out → new ≡ overlay out 0 (slice 0 len aside)
+        → (Written.Written len ≡ writtenOf (run σ ss (length out))) × (new ≡ bufferAfter (run σ ss (length out)) out)
+    aside-fits out h g =
+        let b = encodeValues (evals σ ss) in
+        let e = run-writes σ ss (length out) x (is-spacious (length out) b (omega (arith, length-is)) (omega (arith, length-is))) in (
+          ap Written.Written length-is ∙ sym (ap writtenOf e),
+          g ∙ ap (overlay out 0) front-is ∙ overlay-front out b (omega (arith, length-is)) ∙ sym (ap (λ (r : Answer Bytes). bufferAfter r out) e),
+        )
+
 -- ---- the output
 
 module _ {v : Version} {lay : Bytes} {n t : ℕ} {rec plan : Bytes} {count first : ℕ} (A : OutputAt v lay n t rec plan count first) (ro : AllBytes rec) (po : AllBytes plan) where
@@ -212,34 +247,16 @@ module _ {v : Version} {lay : Bytes} {n t : ℕ} {rec plan : Bytes} {count first
           small = A .small;
         }))
 
-    -- 45
-    refused : (out : Bytes) → spacious (length out) (encodeValues (evals σ ss)) ≡ false
-        → (Written.TooLong ≡ writtenOf (run σ ss (length out))) × (out ≡ bufferAfter (run σ ss (length out)) out)
-    refused out h = let e = run-exceeds σ ss (length out) (A .clean) h in (sym (ap writtenOf e), sym (ap (λ (r : Answer Bytes). bufferAfter r out) e))
-
     pub output-exceeds : (out : Bytes) → 16384 < len → (Written.TooLong ≡ writtenOf (run σ ss (length out))) × (out ≡ bufferAfter (run σ ss (length out)) out)
-    output-exceeds out h = refused out (not-short (length out) (encodeValues (evals σ ss)) (over-limit written h))
+    output-exceeds out h = aside-exceeds σ ss (A .clean) size written out h
 
     module _ (l : len ≤ 16384) where
-      length-is : len ≡ length (encodeValues (evals σ ss))
-      length-is = let (e, H) = written .fits (within-limit written l) in e ∙ zero-add (length (encodeValues (evals σ ss)))
-
       pub output-tight : (out : Bytes) → length out < len → (Written.TooLong ≡ writtenOf (run σ ss (length out))) × (out ≡ bufferAfter (run σ ss (length out)) out)
-      output-tight out h = refused out (not-room (length out) (encodeValues (evals σ ss)) (omega (arith, length-is)))
-
-      front-is : take len aside ≡ encodeValues (evals σ ss)
-      front-is =
-          let (e, H) = written .fits (within-limit written l) in
-          ap (λ (m : ℕ). take m aside) length-is ∙ holds-front aside₀ (encodeValues (evals σ ss)) aside (omega (arith, length-is, size)) H
+      output-tight out h = aside-tight σ ss (A .clean) size written l out h
 
       pub output-inside : len ≤ length aside
-      output-inside = let z : length (take len aside) ≡ length (encodeValues (evals σ ss)) = ap length front-is in omega (arith, z, length-is, length-take-most len aside)
+      output-inside = aside-inside σ ss (A .clean) size written l
 
       pub output-fits : (out : Bytes) {new : Bytes} → len ≤ length out → new ≡ overlay out 0 (slice 0 len aside)
           → (Written.Written len ≡ writtenOf (run σ ss (length out))) × (new ≡ bufferAfter (run σ ss (length out)) out)
-      output-fits out h g =
-          let b = encodeValues (evals σ ss) in
-          let e = run-writes σ ss (length out) (A .clean) (is-spacious (length out) b (omega (arith, length-is)) (omega (arith, length-is))) in (
-            ap Written.Written length-is ∙ sym (ap writtenOf e),
-            g ∙ ap (overlay out 0) front-is ∙ overlay-front out b (omega (arith, length-is)) ∙ sym (ap (λ (r : Answer Bytes). bufferAfter r out) e),
-          )
+      output-fits out h g = aside-fits σ ss (A .clean) size written l out h g

@@ -5,16 +5,12 @@ use mathlib.Core.Bool.{Bool, true, false}
 use mathlib.Core.List.{List, [], _∷_}
 use lib.ListN.{length}
 use Rattle.layout.specs.Bytes.{Bytes}
-use Rattle.layout.specs.Parser.{ok}
-use Rattle.layout.specs.Tree.{leafOf, DataType, leaf, struct, list, array, Fields, dtypeOf, fieldsOf}
+use Rattle.layout.specs.Tree.{leafOf, DataType, leaf, struct, list, array, Fields, fieldsOf}
 use Rattle.layout.specs.Layout.{deepest}
-use Rattle.layout.specs.Stands.{TypeAt}
 use Rattle.layout.specs.declared.leaf.Leaf.{Leaf}
 use Rattle.layout.specs.declared.version.Version.{Version}
 use Rattle.layout.specs.declared.version.Version.the-variants.{ByName}
-use Rattle.values.specs.Value.{Value, vnull, vnumber, vtext, voverflow, vstruct, vlist, varray, Values}
-use Rattle.values.specs.Stands.{ValueAt}
-use Rattle.values.specs.Reading.{leafContent}
+use Rattle.values.specs.Value.{Value, vnull, vnumber, voverflow, Values}
 use Rattle.values.specs.Record.{longest}
 use Rattle.forms.specs.Readable.{depthOfFields}
 use Rattle.plan.specs.Read.{longestPlan}
@@ -36,33 +32,9 @@ use Rattle.output.specs.Output.{levels, levelsAll, answer}
 use Rattle.output.specs.declared.casts.Pass.{Pass}
 use Rattle.output.specs.declared.casts.Origin.{Origin}
 use Rattle.output.specs.declared.leaf.CastValue.{CastValue}
-use Rattle.output.specs.declared.leaf.LeafValue.{LeafValue}
 use Rattle.output.specs.declared.parts.Asked.{Asked}
 use Rattle.output.specs.declared.source.Source.{Source}
 use Rattle.output.specs.declared.write.Written.{Written}
-
--- what follows the presence byte of a leaf of a kind
-pub record LeafAt (k : Leaf) (s : Bytes) (at : ℕ) : Type 0 where
-  pub tree : Value
-  pub end : ℕ
-  pub reads : leafContent k s at ≡ ok tree end
-
-unfoldable pub isNumber : Value → Bool
-isNumber vnull = false
-isNumber (vnumber k n) = true
-isNumber (vtext b) = false
-isNumber voverflow = false
-isNumber (vstruct vs) = false
-isNumber (vlist vs) = false
-isNumber (varray vs) = false
-
--- the answer is the number that v is, or that it is none
-abbrev pub leafAnswer : Value → LeafValue → Type 0
-leafAnswer v (LeafValue.Number k n) = v ≡ vnumber k n
-leafAnswer v LeafValue.Other = isNumber v ≡ false
-
-pub record LeafIs (v : Value) (r : LeafValue) : Type 0 where
-  pub answer : leafAnswer v r
 
 abbrev pub castValueOf : CastValue → Value
 castValueOf (CastValue.Number k n) = vnumber k n
@@ -115,11 +87,6 @@ pub record OriginIs (plan : Bytes) (x : State) (w : Walk) (r : Origin) : Type 0 
   pub falls : rank (r .walk) ≤ rank w
 
 -- ---- src/source.rt
-
--- a constant's type at t, and after it its value
-pub record ConstantRaw (plan : Bytes) (t : ℕ) : Type 0 where
-  pub type : TypeAt ByName 16 plan t
-  pub value : ValueAt (dtypeOf (type .tree)) plan (type .end)
 
 abbrev pub recordSource : NodeAt → Source
 recordSource NodeAt.Null = Source.Null

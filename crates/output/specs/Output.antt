@@ -1,13 +1,12 @@
 -- Document 01, "Running", 45: an output that stops where it passes the limit.
 use Prim.Native.Nat.{ℕ, suc, _+_, _≤_, _<_, max}
 use mathlib.Core.Path.{_≡_}
-use mathlib.Core.Bool.{Bool, true, false}
-use mathlib.Core.List.{[], _∷_}
+use mathlib.Core.Bool.{Bool, false}
 use lib.Dec.{leb}
 use lib.ListN.{length}
 use Rattle.layout.specs.Bytes.{Bytes}
 use Rattle.layout.specs.Parser.{choose}
-use Rattle.store.specs.Overlay.{overlay, littleBytes, Holds}
+use Rattle.store.specs.Overlay.{Holds}
 use Rattle.values.specs.Value.{Value, vnull, vnumber, vtext, voverflow, vstruct, vlist, varray, Values, vnil, vcons}
 use Rattle.values.specs.Record.{longest}
 use Rattle.nodes.specs.declared.raw.Parts.{Parts}
@@ -16,11 +15,6 @@ use Rattle.nodes.specs.declared.raw.Parts.{Parts}
 pub record Emits (out : Bytes) (k : ℕ) (b : Bytes) (r : ℕ) (out′ : Bytes) : Type 0 where
   pub fits : k + length b ≤ longest → (r ≡ k + length b) × Holds out k b out′
   pub exceeds : longest < k + length b → longest < r
-
--- the bytes b were stored from index k on, and r is where they end
-pub record Stores (out : Bytes) (k : ℕ) (b : Bytes) (r : ℕ) (out′ : Bytes) : Type 0 where
-  pub ends : r ≡ k + length b
-  pub stored : out′ ≡ overlay out k b
 
 -- how deep the parts of a value nest
 unfoldable mutual
@@ -50,8 +44,3 @@ known (Parts.Some c) p = Parts.Some c
 -- what is asked of the parts p: none unless there are m of them; else their count, if none is known already
 unfoldable pub answer : ℕ → Parts → Parts → Parts
 answer m own p = choose (has m p) (known own p) Parts.None
-
--- what stands before the parts of a struct or an array, and of a list of m
-abbrev pub lead : Bool → ℕ → Bytes
-lead false m = 1 ∷ []
-lead true m = 1 ∷ littleBytes 2 m

@@ -12,11 +12,10 @@ ghost use Rattle.walk.specs.Standing.{WalkAt};
 ghost use Rattle.walk.specs.Values.{stateValue};
 ghost use Rattle.nodes.specs.Raw.{RowAt};
 ghost use Rattle.output.specs.Chain.{Passed, castAll};
-ghost use Rattle.output.specs.Output.{Stores, Emits, lead};
+ghost use Rattle.raw.specs.Stored.{Stores};
+ghost use Rattle.output.specs.Output.{Emits};
 ghost use Rattle.output.specs.Answers.{ConstantIs, EmitAt, Mapped, isList};
 use crate::casts::find_origin;
-use crate::leaf::is_null;
-use crate::leaf::put_null;
 use crate::leaf::put_raw;
 use crate::parts::is_run;
 use crate::parts::parts_count;
@@ -25,21 +24,10 @@ use crate::source::source_at;
 use layout::cursor::Cursor;
 use layout::version::Version;
 use nodes::raw::Parts;
-use store::put;
+use raw::copy::is_null;
+use raw::copy::put_lead;
+use raw::copy::put_null;
 use walk::walk::Walk;
-
-// What stands before the parts of a mapping that is present: of a list also their count.
-fn put_lead(counted: bool, m: u32, out: &mut [u8], k: usize) -> usize
-    requires { ⌜ k + 3 < 2 ^ 64 ⌝ }
-    ensures { λ r. ⌜ Stores (now (out .entry)) k (lead counted m) r (now (out .exit)) ⌝ }
-{
-    put(out, k, 1);
-    if counted {
-        store::put_number(out, k + 1, m as u64, 2);
-        return k + 3;
-    }
-    k + 1
-}
 
 // The constant at `t` and `c` where `at` stands, through the casts that `w` passes; null if it is not run.
 fn emit_constant(

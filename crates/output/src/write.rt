@@ -54,7 +54,8 @@ pub fn emit_all(
     at
 }
 
-fn scratch() -> [u8; 16384]
+// Where an output is written before it is known to fit.
+pub fn scratch() -> [u8; 16384]
     ensures { λ r. ⌜ 16384 ≡ length r ⌝ }
 {
     [0u8; 16384]

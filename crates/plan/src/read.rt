@@ -5,13 +5,12 @@ ghost use Rattle.layout.specs.Layout.{text};
 ghost use Rattle.plan.specs.Read.{dataType, castOption, positionRest, constantRest, castRest, renameRest, structRest, listRest, arrayRest, selectorRest, selector, selectors, planCounted, faulty, plan};
 ghost use Rattle.plan.specs.Answers.{valueEnd, planRead};
 use layout::bytes::same_bytes;
-use layout::columns::Siblings;
 use layout::cursor::Cursor;
 use layout::cursor::Moved;
 use layout::cursor::Short;
 use layout::cursor::Step;
 use layout::cursor::Text;
-use layout::read::read_type;
+use layout::pass::pass_type;
 use layout::version::Version;
 use rules::outcome::OptionCode;
 use rules::outcome::option_of_code;
@@ -37,7 +36,7 @@ fn read_text(s: &[u8], c: Cursor) -> Moved
 fn read_data_type(s: &[u8], c: Cursor) -> Moved
     ensures { λ r. ⌜ r ≡ movedOf (dataType (now (s .entry)) (c .at)) ⌝ }
 {
-    read_type(s, Version::ByName, Siblings::Free, 16, c)
+    pass_type(s, Version::ByName, 16, c)
 }
 
 fn read_option(s: &[u8], c: Cursor) -> Moved
@@ -75,7 +74,7 @@ fn read_constant(s: &[u8], c: Cursor) -> Moved
     ensures { λ r. ⌜ r ≡ movedOf (constantRest (now (s .entry)) (c .at)) ⌝ }
 {
     match c.text(s) {
-        Text::Is(_, d) => match read_type(s, Version::ByName, Siblings::Free, 16, d) {
+        Text::Is(_, d) => match pass_type(s, Version::ByName, 16, d) {
             Moved::To(e) => value_end(read_value(s, Version::ByName, 16, d, s, e)),
             Moved::Refused(k) => Moved::Refused(k),
         },

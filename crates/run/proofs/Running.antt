@@ -1,10 +1,11 @@
 -- What the parts of a run answer, over variables. Assumes nothing.
-use Prim.Native.Nat.{ℕ, _≤_}
-use mathlib.Core.Path.{_≡_, refl, sym, ap, _∙_}
+use Prim.Native.Nat.{ℕ, _<_, _≤_}
+use mathlib.Core.Path.{_≡_, refl, sym, ap, subst, _∙_}
 use mathlib.Core.Bool.{Bool, true, false, not}
 use mathlib.Core.List.{[]}
 use native.Mathlib.Omega.{arith}
 use lib.ListN.{length}
+use lib.Seq.{slice}
 use Rattle.layout.specs.Bytes.{Bytes}
 use Rattle.layout.specs.Parser.{Res, refuse, ok}
 use Rattle.layout.specs.Tree.{Layout, Fields, fieldsOf}
@@ -16,6 +17,7 @@ use Rattle.layout.proofs.Ways.{clash}
 use Rattle.forms.specs.Readable.{depthOfFields}
 use Rattle.forms.proofs.Read.{type→, columns→}
 use Rattle.forms.proofs.ReadBack.{columns-extent}
+use Rattle.store.specs.Overlay.{overlay}
 use Rattle.values.specs.Value.{Values}
 use Rattle.values.specs.Encode.{encodeValues}
 use Rattle.values.specs.Record.{recordOf, RecordFits}
@@ -31,13 +33,19 @@ use Rattle.plan.specs.Calls.{readAt, readPlan, runPlan, bufferAfter}
 use Rattle.plan.proofs.Theorems.{run-overflows, run-writes, run-exceeds}
 use Rattle.walk.proofs.View.{selectors-longer}
 use Rattle.nodes.specs.Raw.{RowAt}
+use Rattle.transfer.specs.Reaching.{Kept, transferredAnswer, TransferredIs}
+use Rattle.transfer.specs.declared.whole.Transferred.{Transferred}
 use Rattle.overflow.specs.Overflows.{PlanAt}
+use Rattle.output.specs.Output.{Emits}
 use Rattle.output.specs.Answers.{OutputAt, writtenOf}
 use Rattle.output.specs.declared.write.Written.{Written}
+use Rattle.output.proofs.Writing.{emits-exact}
+use Rattle.output.proofs.Whole.{aside-tight, aside-inside, aside-fits}
 use Rattle.checker.specs.Tops.{planChecked, TopsAt}
 use Rattle.checker.specs.declared.tops.PlanChecked.{PlanChecked}
 use Rattle.run.specs.declared.run.Run.{Run}
-use Rattle.run.specs.Answers.{runOf, finished, recordRun, checkedRun, PassedAt}
+use Rattle.run.specs.declared.single_pass.Direct.{Direct}
+use Rattle.run.specs.Answers.{runOf, finished, recordRun, checkedRun, PassedAt, Settled, directAnswer, DirectIs}
 
 -- an answer and a buffer
 pub record Ran (x : Answer Bytes) (entry : Bytes) (r : Run) (exit : Bytes) : Type 0 where
@@ -88,6 +96,42 @@ module _ (Γ : Fields) (ss : Selectors) (rec : Bytes) (room : ℕ) where
 pub clean-of : {b : Bool} (c : Bool) → b ≡ not c → b ≡ false → c ≡ true
 clean-of true e f = refl
 clean-of false e f = clash (cc)
+
+-- ---- one pass
+
+module _ {ρ : Values} {ss : Selectors} {out : Bytes} {r : Direct} {out′ : Bytes} (D : DirectIs ρ ss out r out′) where
+  direct-as : {q : Direct} → r ≡ q → directAnswer ρ ss out q out′
+  direct-as e = subst (λ (z : Direct). directAnswer ρ ss out z out′) e (D .answer)
+
+  pub direct-settled : {w : Written} → r ≡ Direct.Is w → Settled ρ ss out w out′
+  direct-settled e = direct-as e
+
+  -- the buffer is as it was
+  pub direct-unknown : r ≡ Direct.Unknown → out′ ≡ out
+  direct-unknown e = direct-as e
+
+-- a run over the same buffer
+pub same-buffer : (Γ : Fields) (ss : Selectors) (rec : Bytes) {out out′ : Bytes} {o : Run} {exit : Bytes} → out′ ≡ out
+    → (o ≡ runOf (recordRun Γ ss rec (length out′))) × (exit ≡ bufferAfter (recordRun Γ ss rec (length out′)) out′) → (o ≡ runOf (recordRun Γ ss rec (length out))) × (exit ≡ bufferAfter (recordRun Γ ss rec (length out)) out)
+same-buffer Γ ss rec {o = o} {exit} e R =
+    subst (λ (b : Bytes). (o ≡ runOf (recordRun Γ ss rec (length b))) × (exit ≡ bufferAfter (recordRun Γ ss rec (length b)) b)) e R
+
+module _ (ρ : Values) (ss : Selectors) {aside₀ : Bytes} (size : 16384 ≡ length aside₀) {r : Transferred} {aside : Bytes}
+    (T : TransferredIs (cleanAll (evals ρ ss)) (encodeValues (evals ρ ss)) aside₀ r aside) {len : ℕ} (e : r ≡ Transferred.To len) where
+  kept : Kept (cleanAll (evals ρ ss)) (encodeValues (evals ρ ss)) aside₀ 0 len aside
+  kept = subst (λ (z : Transferred). transferredAnswer (cleanAll (evals ρ ss)) (encodeValues (evals ρ ss)) aside₀ z aside) e (T .answer)
+
+  emits : Emits aside₀ 0 (encodeValues (evals ρ ss)) len aside
+  emits = emits-exact aside₀ 0 (encodeValues (evals ρ ss)) (kept .stores .ends) (kept .stores .stored)
+
+  pub direct-tight : (out : Bytes) → length out < len → DirectIs ρ ss out (Direct.Is Written.TooLong) out
+  direct-tight out h = let (a, b) = aside-tight ρ ss (kept .clean) size emits (kept .within) out h in record { answer = record { clean = kept .clean; answer = a; buffer = b } }
+
+  pub direct-inside : (len ≤ 16384) × (len ≤ length aside)
+  direct-inside = (kept .within, aside-inside ρ ss (kept .clean) size emits (kept .within))
+
+  pub direct-fits : (out : Bytes) {new : Bytes} → len ≤ length out → new ≡ overlay out 0 (slice 0 len aside) → DirectIs ρ ss out (Direct.Is (Written.Written len)) new
+  direct-fits out h g = let (a, b) = aside-fits ρ ss (kept .clean) size emits (kept .within) out h g in record { answer = record { clean = kept .clean; answer = a; buffer = b } }
 
 -- ---- what a plan that passed gives to the parts
 

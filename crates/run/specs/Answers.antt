@@ -1,21 +1,25 @@
 -- Document 01, "Running": what an answer of the run stands for, and its parts.
 use Prim.Native.Nat.{ℕ, _≤_}
 use mathlib.Core.Path.{_≡_}
+use mathlib.Core.Bool.{true}
 use lib.ListN.{length}
 use Rattle.layout.specs.Bytes.{Bytes}
 use Rattle.layout.specs.Tree.{Fields, fieldsOf}
 use Rattle.layout.specs.Layout.{deepest}
 use Rattle.layout.specs.Stands.{ColumnsAt}
 use Rattle.layout.specs.declared.version.Version.{Version}
+use Rattle.values.specs.Value.{Values}
 use Rattle.values.specs.Record.{recordOf}
 use Rattle.plan.specs.Result.{Answer, accepted, refusedAt, answered}
 use Rattle.plan.specs.Selector.{Selectors}
 use Rattle.plan.specs.Read.{longestPlan}
 use Rattle.plan.specs.Check.{check}
-use Rattle.plan.specs.Run.{run}
-use Rattle.plan.specs.Calls.{readAt}
+use Rattle.plan.specs.Run.{evals, cleanAll, run}
+use Rattle.plan.specs.Calls.{readAt, bufferAfter}
 use Rattle.walk.specs.Stands.{SelectorsAt}
+use Rattle.output.specs.Answers.{writtenOf}
 use Rattle.output.specs.declared.write.Written.{Written}
+use Rattle.run.specs.declared.single_pass.Direct.{Direct}
 use Rattle.run.specs.declared.run.Run.{Run}
 
 -- the output's length, or the refusal's number and place
@@ -45,3 +49,18 @@ pub record PassedAt (incoming : Bytes) (v : Version) (n : ℕ) (plan : Bytes) (c
   pub starts : 7 ≤ length plan
   pub wide : 7 ≤ length target
   pub small : length plan ≤ longestPlan
+
+-- ---- src/single_pass.rt
+
+-- the run's answer, of an output in which no strict date-time is too large, and the buffer after it
+pub record Settled (ρ : Values) (ss : Selectors) (out : Bytes) (w : Written) (out′ : Bytes) : Type 0 where
+  pub clean : cleanAll (evals ρ ss) ≡ true
+  pub answer : w ≡ writtenOf (run ρ ss (length out))
+  pub buffer : out′ ≡ bufferAfter (run ρ ss (length out)) out
+
+abbrev pub directAnswer : Values → Selectors → Bytes → Direct → Bytes → Type 0
+directAnswer ρ ss out (Direct.Is w) out′ = Settled ρ ss out w out′
+directAnswer ρ ss out Direct.Unknown out′ = out′ ≡ out
+
+pub record DirectIs (ρ : Values) (ss : Selectors) (out : Bytes) (r : Direct) (out′ : Bytes) : Type 0 where
+  pub answer : directAnswer ρ ss out r out′

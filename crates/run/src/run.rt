@@ -4,10 +4,13 @@ ghost use Prim.Native.Nat.{_≤_};
 ghost use lib.ListN.{length};
 ghost use Rattle.layout.specs.Tree.{Fields, fieldsOf};
 ghost use Rattle.layout.specs.Stands.{ColumnsAt};
+ghost use Rattle.values.specs.Record.{RecordFits};
 ghost use Rattle.plan.specs.Selector.{Selectors};
 ghost use Rattle.plan.specs.Calls.{runPlan, bufferAfter};
 ghost use Rattle.checker.specs.Tops.{TopsAt};
 ghost use Rattle.run.specs.Answers.{runOf, finished, checkedRun, recordRun, PassedAt};
+use crate::single_pass::Direct;
+use crate::single_pass::write_direct;
 use checker::tops::PlanChecked;
 use checker::tops::check_read;
 use layout::cursor::Cursor;
@@ -38,7 +41,42 @@ fn finish(w: Written) -> Run
     }
 }
 
-// A plan that passed the check, over a record.
+// A plan that passed the check, over a record that fits: every selector through paths.
+fn run_general(
+    incoming: &[u8],
+    v: Version,
+    n: u16,
+    plan: &[u8],
+    count: u16,
+    target: &[u8],
+    vt: Version,
+    m: u16,
+    rec: &[u8],
+    output: &mut [u8],
+) -> Run
+    requires { ⌜ ((P : PassedAt (now incoming) v n (now plan) count (now target) vt m) × RecordFits (fieldsOf (P .columns .columns)) (now rec)) ⌝ }
+    ensures { λ r. ⌜ ((P : PassedAt (now (incoming .entry)) v n (now (plan .entry)) count (now (target .entry)) vt m) → RecordFits (fieldsOf (P .columns .columns)) (now (rec .entry)) → (r ≡ runOf (recordRun (fieldsOf (P .columns .columns)) (P .selectors .trees) (now (rec .entry)) (length (now (output .entry))))) × (now (output .exit) ≡ bufferAfter (recordRun (fieldsOf (P .columns .columns)) (P .selectors .trees) (now (rec .entry)) (length (now (output .entry)))) (now (output .entry)))) ⌝ }
+{
+    let first = Cursor { at: 7 };
+    if overflows(
+        incoming,
+        v,
+        n,
+        first,
+        rec,
+        plan,
+        first,
+        target,
+        vt,
+        m,
+        first,
+    ) {
+        return Run::Refused(44, 0);
+    }
+    finish(write_output(incoming, v, n, first, rec, plan, count, first, output))
+}
+
+// A plan that passed the check, over a record: in one pass, where that settles it.
 fn run_record(
     incoming: &[u8],
     v: Version,
@@ -54,26 +92,13 @@ fn run_record(
     requires { ⌜ PassedAt (now incoming) v n (now plan) count (now target) vt m ⌝ }
     ensures { λ r. ⌜ ((P : PassedAt (now (incoming .entry)) v n (now (plan .entry)) count (now (target .entry)) vt m) → (r ≡ runOf (recordRun (fieldsOf (P .columns .columns)) (P .selectors .trees) (now (rec .entry)) (length (now (output .entry))))) × (now (output .exit) ≡ bufferAfter (recordRun (fieldsOf (P .columns .columns)) (P .selectors .trees) (now (rec .entry)) (length (now (output .entry)))) (now (output .entry)))) ⌝ }
 {
-    let first = Cursor { at: 7 };
-    match read_record(incoming, v, n, first, rec) {
-        RecordRead::Fits => {
-            if overflows(
-                incoming,
-                v,
-                n,
-                first,
-                rec,
-                plan,
-                first,
-                target,
-                vt,
-                m,
-                first,
-            ) {
-                return Run::Refused(44, 0);
+    match read_record(incoming, v, n, Cursor { at: 7 }, rec) {
+        RecordRead::Fits => match write_direct(incoming, v, n, rec, plan, count, output) {
+            Direct::Is(w) => finish(w),
+            Direct::Unknown => {
+                run_general(incoming, v, n, plan, count, target, vt, m, rec, output)
             }
-            finish(write_output(incoming, v, n, first, rec, plan, count, first, output))
-        }
+        },
         RecordRead::Refused(k) => Run::Refused(k, 0),
     }
 }

@@ -8,13 +8,12 @@ ghost use Rattle.walk.specs.Stands.{SelectorAt, SelectorsAt};
 ghost use Rattle.walk.specs.Parts.{TextAt, OptionAt, CountedAt, NameIs, CountedIs, NthIs, HeadIs};
 use layout::bytes::Span;
 use layout::columns::Position;
-use layout::columns::Siblings;
 use layout::cursor::Cursor;
 use layout::cursor::Moved;
 use layout::cursor::Short;
 use layout::cursor::Step;
 use layout::cursor::Text;
-use layout::read::read_type;
+use layout::pass::pass_type;
 use layout::version::Version;
 use plan::read::read_selector;
 use plan::read::read_selectors;
@@ -88,7 +87,7 @@ pub fn nth_selector(plan: &[u8], first: Cursor, k: u16) -> Cursor
 pub fn cast_option(plan: &[u8], c: Cursor) -> CastOption
     ensures { λ r. ⌜ ((T : TypeAt VersionOf.ByName 16 (now (plan .entry)) (c .at)) (O : OptionAt (now (plan .entry)) (T .end)) → r ≡ O .option) ⌝ }
 {
-    match read_type(plan, Version::ByName, Siblings::Free, 16, c) {
+    match pass_type(plan, Version::ByName, 16, c) {
         Moved::To(d) => match d.byte(plan) {
             Step::Byte(b, _) => match option_of_code(b) {
                 OptionCode::Known(o) => o,

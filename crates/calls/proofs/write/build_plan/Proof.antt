@@ -1,12 +1,24 @@
 -- `calls::write::build_plan` meets its contract. Assumes nothing.
-use Rattle.calls.proofs.Plans.{count-is, columns-room, plan-refused, plan-written}
-use Rattle.matching.specs.Build.{buildFrom, build}
+use Rattle.calls.proofs.Plans.{attempt-answered, attempt-short, plan-again}
+use Rattle.matching.specs.Build.{build}
 use Rattle.defaults.specs.Lookup.{getDefaultValue}
-use mathlib.Core.Path.{sym, _∙_}
-use native.Mathlib.Omega.{arith}
+use mathlib.Core.Logic.{⊎-elim}
+use mathlib.Core.Path.{_≡_, ap, _∙_}
+use lib.ListN.{length}
 use borrow.Author.Needs.{needs}
 use Rattle.calls.proofs.write.build_plan.Statement.{statement}
 use Rattle.calls.proofs.write.build_plan.Tie as tie
+
+-- an attempt in a room that was too short left the buffer as it was
+kept : (c : tie.Joined1) → c .if1 .plan ≡ c .before .before .before .before .before .args .plan .now
+kept c =
+    ⊎-elim
+    (λ w.
+    let (i, a, s, p, k, m, t, e) = w in
+    let (l, q) = attempt-short _ _ _ (s .result) _ (s .ensures (c .before .before .before .before .before .pre .1 .0) (c .before .before .before .before .before .pre .0 .0) (c .before .before .before .before .before .pre .0 .1)) (t .given .1) in
+    e ∙ q)
+    (λ w. w .1)
+    (c .if1 .came)
 
 pub build-plan-spec : {M : Type 1} → statement M
 build-plan-spec =
@@ -14,18 +26,10 @@ build-plan-spec =
     (tie.spec
     (λ c κs. search needs)
     (λ c. search needs)
+    (λ c. search needs)
+    (λ c. λ T P Q. attempt-answered _ _ _ (c .before .before .before .before .before .build-small .result) _ (c .before .before .before .before .before .build-small .ensures T P Q) (c .before .r .given .1))
+    (λ c. search needs)
     (λ c κs. search needs)
-    (λ c. search needs)
-    (λ c κs. (c .before .before .before .before .before .before .before .before .before .pre .0, (c .before .before .before .before .before .before .before .before .before .pre .1 .0, (c .before .before .before .before .before .before .before .before .before .pre .1 .1 .0, c .before .before .before .before .before .before .before .before .before .pre .1 .1 .1, omega (arith, c .before .before .before .before .before .before .before .before .before .pre .1 .1)))))
-    (λ c. search needs)
-    (λ c. search needs)
-    (λ c. search needs)
-    (λ c. let P = c .before .before .before .before .before .before .before .before .before .before .before .before .before .before .before .pre .0 .0 in
-    let Q = c .before .before .before .before .before .before .before .before .before .before .before .before .before .before .before .pre .0 .1 in
-    let T = c .before .before .before .before .before .before .before .before .before .before .before .before .before .before .before .pre .1 .0 in
-    omega (arith, columns-room (buildFrom (c .before .before .before .before .before .before .before .before .before .before .before .before .before .before .before .args .v) (c .before .before .before .before .before .before .before .before .before .before .before .before .before .before .before .args .policy) (getDefaultValue (T .entries) (c .before .before .before .before .before .before .before .before .before .before .before .before .before .before .before .args .defaults .«source_index»)) (Q .columns) (P .columns) 0) Q (c .before .before .before .before .before .build-columns .ensures T P Q) (c .before .before .len .given .1), c .before .before .before .before .before .before .before .before .before .before .before .before .before .before .before .pre .1 .1))
-    (λ c κs. c .before .before .before .before .before .before .build-columns .kept .1 .1 .1 .1 .1 .1 .1 .1 .1 .1 .0 ∙ c .before .before .before .before .before .before .before .before .before .put-plan-head .kept .0 ∙ sym (c .before .before .before .before .before .before .before .before .before .before .before .scratch .ensures))
-    (λ c. unfold build in λ T P Q. plan-refused _ _ (buildFrom (c .before .before .before .before .before .before .before .before .before .before .before .before .before .before .args .v) (c .before .before .before .before .before .before .before .before .before .before .before .before .before .before .args .policy) (getDefaultValue (T .entries) (c .before .before .before .before .before .before .before .before .before .before .before .before .before .before .args .defaults .«source_index»)) (Q .columns) (P .columns) 0) (c .before .before .before .before .build-columns .ensures T P Q) (c .before .x .given .1))
-    (λ c. search needs)
-    (λ c. unfold build in λ T P Q.
-    plan-written _ _ (c .before .before .before .before .before .before .before .before .before .before .before .before .before .before .scratch .result) (buildFrom (c .before .before .before .before .before .before .before .before .before .before .before .before .before .before .before .before .before .before .before .args .v) (c .before .before .before .before .before .before .before .before .before .before .before .before .before .before .before .before .before .before .before .args .policy) (getDefaultValue (T .entries) (c .before .before .before .before .before .before .before .before .before .before .before .before .before .before .before .before .before .before .before .args .defaults .«source_index»)) (Q .columns) (P .columns) 0) (count-is (c .before .before .before .before .before .before .before .before .before .before .before .before .before .before .before .before .before .before .before .args .v) (c .before .before .before .before .before .before .before .before .before .before .before .before .before .before .before .before .before .before .before .args .policy) (getDefaultValue (T .entries) (c .before .before .before .before .before .before .before .before .before .before .before .before .before .before .before .before .before .before .before .args .defaults .«source_index»)) (P .columns) Q) (c .before .before .before .before .before .before .before .before .before .build-columns .ensures T P Q) (c .before .before .before .before .before .before .len .given .1) (c .before .before .before .before .before .before .before .before .before .before .before .before .put-plan-head .ensures) (c .before .before .before .before .before .before .before .before .before .before .before .before .put-plan-head .kept .0) (sym (c .before .before .before .before .before .before .before .before .before .before .before .before .before .before .scratch .ensures)) (c .before .before .write-plan .ensures)))
+    (λ c. c .before .before .build-large .kept .1 .1 .1 .1 .1 .1 .1 .1 .1 .1 .0 ∙ ap length (kept (c .before .before .before .before)))
+    (λ c. λ T P Q.
+    plan-again (build (c .before .before .before .before .before .before .before .before .before .args .v) (c .before .before .before .before .before .before .before .before .before .args .policy) (getDefaultValue (T .entries) (c .before .before .before .before .before .before .before .before .before .args .defaults .«source_index»)) (P .columns) (Q .columns)) (kept (c .before .before .before .before)) (c .before .before .build-large .ensures T P Q)))

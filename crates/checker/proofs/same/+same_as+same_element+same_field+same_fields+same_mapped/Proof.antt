@@ -31,7 +31,7 @@ use Rattle.checker.proofs.head.type_head.Reads as type-head-reads
 use Rattle.checker.proofs.name.part_name.Reads as part-name-reads
 use Rattle.checker.proofs.part.part.Reads as part-reads
 use Rattle.checker.proofs.same.code.Reads as code-reads
-use Rattle.checker.proofs.same.same_name.Reads as same-name-reads
+use Rattle.direct.proofs.place.same_name.Reads as same-name-reads
 use Rattle.checker.proofs.same.target_code.Reads as target-code-reads
 use Rattle.checker.proofs.same.target_end.Reads as target-end-reads
 use Rattle.forms.proofs.compare.same_type.Reads as same-type-reads

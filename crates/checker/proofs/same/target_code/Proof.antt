@@ -1,5 +1,5 @@
 -- `checker::same::target_code` meets its contract. Assumes nothing.
-use Rattle.checker.proofs.Alike.{kind-of}
+use Rattle.direct.proofs.Casting.{kind-of}
 use Rattle.checker.specs.Same.{codeOf}
 use Rattle.layout.proofs.View.{never-headless}
 use mathlib.Core.Path.{refl, ap}

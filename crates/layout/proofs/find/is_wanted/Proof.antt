@@ -15,7 +15,5 @@ is-wanted-spec =
     (λ c. search needs)
     (λ c κs. search needs)
     (λ c. search needs)
-    (λ c. search needs)
     (λ c. search wanted-name)
-    (λ c. rw (c .before .before .before .wanted .given .1))
-    (λ c. rw (c .before .before .wanted2 .given .1)))
+    (λ c. rw (c .before .before .before .wanted .given .1)))

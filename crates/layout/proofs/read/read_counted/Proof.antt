@@ -9,14 +9,14 @@ read-counted-spec =
     tie.close
     (tie.spec
     (λ c κs. search needs)
-    (λ c. search needs)
     (λ c κs. search needs)
     (λ c κs. search needs)
+    (λ c. search needs)
     (λ c κs. search needs)
     (λ c. search needs)
     (λ c. search needs)
     (λ c. search needs)
-    (λ c. let e = c .before .before .before in let r = e .before .before in let n = r .before .before .before .before in layout-read _ _ (n .before .before .short .ensures) (n .n .given .1) (r .before .before .top-rule .ensures) (r .before .inner-rule .ensures) (r .read-columns .ensures) (e .e .given .1) (c .if1 .taken))
+    (λ c. layout-read _ _ (c .before .before .before .before .before .before .before .before .before .before .short .ensures) (c .before .before .before .before .before .before .before .before .n .given .1) (c .before .before .before .before .before .before .before .before .before .before .before .before .top-rule .ensures) (c .before .before .before .before .before .before .before .before .before .before .before .inner-rule .ensures) (c .before .before .before .before .before .read-columns .ensures .0) (c .before .before .before .e .given .1) (c .if1 .taken))
     (λ c. search layout-longer)
     (λ c. search layout-broken)
     (λ c. search layout-uncounted))

@@ -1,4 +1,5 @@
-use Rattle.output.proofs.Emitting.{emitted, emitted-null, emitted-node, mapped-asks, mapped-emits, struct-mapped, list-mapped, array-mapped, lead-short, mapping-null, mapping-counted, mapping-parts, Rowing, rowing-none, rowing-past, rowing-all, rowing-small, rowing-more, all-clean, part-room, part-emit, part-falls, part-emits}
+use Rattle.output.proofs.Emitting.{emitted, emitted-null, emitted-node, mapped-asks, mapped-emits, struct-mapped, list-mapped, array-mapped, mapping-null, mapping-counted, mapping-parts, Rowing, rowing-none, rowing-past, rowing-all, rowing-small, rowing-more, all-clean, part-room, part-emit, part-falls, part-emits}
+use Rattle.raw.proofs.Storing.{lead-short}
 use Rattle.output.proofs.Sources.{from-null, from-record, from-constant, from-struct, from-list, from-array}
 use Rattle.output.specs.Answers.{EmitAt, Mapped}
 use Rattle.walk.specs.Standing.{rank}
@@ -23,8 +24,8 @@ use Rattle.output.proofs.emit.emit_parts.Kinds as emit-parts-kinds
 use Rattle.output.proofs.emit.+emit+emit_mapping+emit_parts.Lts-emit_parts as emit-parts-lts
 use Rattle.output.proofs.casts.find_origin.Reads as find-origin-reads
 use Rattle.output.proofs.emit.emit_constant.Reads as emit-constant-reads
-use Rattle.output.proofs.emit.put_lead.Reads as put-lead-reads
-use Rattle.output.proofs.leaf.put_null.Reads as put-null-reads
+use Rattle.raw.proofs.copy.put_lead.Reads as put-lead-reads
+use Rattle.raw.proofs.copy.put_null.Reads as put-null-reads
 use Rattle.output.proofs.leaf.put_raw.Reads as put-raw-reads
 use Rattle.output.proofs.parts.parts_count.Reads as parts-count-reads
 use Rattle.output.proofs.source.source_at.Reads as source-at-reads

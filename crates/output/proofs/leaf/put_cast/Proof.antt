@@ -1,4 +1,5 @@
-use Rattle.output.proofs.Casting.{number-short, stores-number, stores-overflow}
+use Rattle.raw.proofs.Storing.{number-short}
+use Rattle.output.proofs.Casting.{stores-number, stores-overflow}
 use native.Mathlib.Omega.{arith}
 use borrow.Author.Needs.{needs}
 use Rattle.output.proofs.leaf.put_cast.Statement.{statement}

@@ -1,4 +1,5 @@
-use Rattle.output.proofs.Sources.{constant-raw, node-valued}
+use Rattle.raw.proofs.Constants.{constant-raw}
+use Rattle.output.proofs.Sources.{node-valued}
 use Rattle.output.proofs.source.constant_node.Statement.{statement}
 use Rattle.output.proofs.source.constant_node.Tie as tie
 

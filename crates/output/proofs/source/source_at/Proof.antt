@@ -1,4 +1,5 @@
-use Rattle.output.proofs.Sources.{source-column, source-lost, source-constant, never-cast, never-rename, source-struct, source-list, source-array, constant-part}
+use Rattle.output.proofs.Sources.{source-column, source-lost, source-constant, never-cast, never-rename, source-struct, source-list, source-array}
+use Rattle.raw.proofs.Constants.{constant-part}
 use Rattle.walk.proofs.Heads.{is-position, is-constant, is-cast, is-rename, is-struct, is-list, is-array, never-refused}
 use native.Mathlib.Omega.{arith}
 use borrow.Author.Needs.{needs}

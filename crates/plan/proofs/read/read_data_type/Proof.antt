@@ -5,4 +5,4 @@ use Rattle.plan.proofs.read.read_data_type.Statement.{statement}
 use Rattle.plan.proofs.read.read_data_type.Tie as tie
 
 pub read-data-type-spec : {M : Type 1} → statement M
-read-data-type-spec = tie.close (tie.spec (λ c κs. search needs) (λ c. type-to _ _ (c .read-type .ensures)))
+read-data-type-spec = tie.close (tie.spec (λ c κs. search needs) (λ c. type-to _ _ (c .pass-type .ensures)))

@@ -1,9 +1,9 @@
-use lib.ListN.{length}
-use denote.Ref.{now}
+use Rattle.run.proofs.Running.{ran-refused, record-refused, run-finished, direct-settled, direct-unknown, same-buffer, row-of, record-reads}
+use Rattle.values.proofs.Inside.{record-at, record-fitting}
 use Rattle.layout.specs.Tree.{fieldsOf}
-use Rattle.plan.specs.Run.{cleanAll, evals}
-use Rattle.values.proofs.Inside.{record-fitting}
-use Rattle.run.proofs.Running.{ran-refused, record-refused, run-overflowing, run-finished, clean-of, row-of, record-reads, output-of, plan-of}
+use denote.Ref.{now}
+use lib.ListN.{length}
+use native.Mathlib.Omega.{arith}
 use borrow.Author.Needs.{needs}
 use Rattle.run.proofs.run.run_record.Statement.{statement}
 use Rattle.run.proofs.run.run_record.Tie as tie
@@ -14,11 +14,25 @@ run-record-spec =
     (tie.spec
     (λ c κs. search needs)
     (λ c. search needs)
-    (λ c κs. let P = c .before .before .before .before .before .before .before .before .pre in let F = record-fitting (fieldsOf (P .columns .columns)) (now (c .before .before .before .before .before .before .before .before .args .rec)) (c .before .before .read-record .ensures (P .columns)) (c .enum-told .given .1) in (row-of P F, P .targets, plan-of P))
-    (λ c. λ P. let F = record-fitting (fieldsOf (P .columns .columns)) (now (c .before .before .before .before .before .before .before .before .before .before .args .rec)) (c .before .before .before .before .read-record .ensures (P .columns)) (c .before .before .enum-told .given .1) in let R = ran-refused (run-overflowing (fieldsOf (P .columns .columns)) (P .selectors .trees) (now (c .before .before .before .before .before .before .before .before .before .before .args .rec)) (length (now (c .before .before .before .before .before .before .before .before .before .before .args .output))) (record-reads P F) (c .before .overflows .ensures (row-of P F) (P .targets) (plan-of P)) (c .if1 .taken)) in (R .answer, R .buffer))
-    (λ c κs. let P = c .before .before .before .before .before .before .before .before .before .before .before .pre in let F = record-fitting (fieldsOf (P .columns .columns)) (now (c .before .before .before .before .before .before .before .before .before .before .before .args .rec)) (c .before .before .before .before .before .read-record .ensures (P .columns)) (c .before .before .before .enum-told .given .1) in output-of P F (clean-of (cleanAll (evals (row-of P F .values .values) (P .selectors .trees))) (c .before .before .overflows .ensures (row-of P F) (P .targets) (plan-of P)) (c .before .if1 .left)))
+    (λ c κs. let P = c .before .before .before .before .before .before .before .before .before .pre in
+    let F = record-fitting (fieldsOf (P .columns .columns)) (now (c .before .before .before .before .before .before .before .before .before .args .rec)) (c .before .before .before .read-record .ensures (P .columns)) (c .before .enum-told .given .1) in
+    (row-of P F, (P .selectors, (omega (arith, record-at F .short), P .small))))
+    (λ c. search needs)
     (λ c κs. search needs)
     (λ c. search needs)
+    (λ c κs. let P = c .before .before .before .before .before .before .before .before .before .before .before .before .before .before .before .pre in
+    (P, record-fitting (fieldsOf (P .columns .columns)) (now (c .before .before .before .before .before .before .before .before .before .before .before .before .before .before .before .args .rec)) (c .before .before .before .before .before .before .before .before .before .read-record .ensures (P .columns)) (c .before .before .before .before .before .before .before .enum-told .given .1)))
     (λ c. search needs)
-    (λ c. λ P. let F = record-fitting (fieldsOf (P .columns .columns)) (now (c .before .before .before .before .before .before .before .before .before .before .before .before .before .before .before .args .rec)) (c .before .before .before .before .before .before .before .before .before .read-record .ensures (P .columns)) (c .before .before .before .before .before .before .before .enum-told .given .1) in let x = clean-of (cleanAll (evals (row-of P F .values .values) (P .selectors .trees))) (c .before .before .before .before .before .before .overflows .ensures (row-of P F) (P .targets) (plan-of P)) (c .before .before .before .before .before .if1 .left) in let A = output-of P F x in let R = run-finished (fieldsOf (P .columns .columns)) (P .selectors .trees) (now (c .before .before .before .before .before .before .before .before .before .before .before .before .before .before .before .args .rec)) (length (now (c .before .before .before .before .before .before .before .before .before .before .before .before .before .before .before .args .output))) (record-reads P F) x (c .before .before .before .write-output .ensures .0 A) (c .finish .ensures) (c .before .before .before .write-output .ensures .1 A) in (R .answer, R .buffer))
-    (λ c. λ P. let R = ran-refused (record-refused (fieldsOf (P .columns .columns)) (P .selectors .trees) (now (c .before .before .before .before .before .before .before .before .before .args .rec)) (length (now (c .before .before .before .before .before .before .before .before .before .args .output))) (c .before .before .before .read-record .ensures (P .columns)) (c .before .k .given .1)) in (R .answer, R .buffer)))
+    (λ c. search needs)
+    (λ c. λ P.
+    let F = record-fitting (fieldsOf (P .columns .columns)) (now (c .before .before .before .before .before .before .before .before .before .before .before .before .before .before .before .before .args .rec)) (c .before .before .before .before .before .before .before .before .before .before .read-record .ensures (P .columns)) (c .before .before .before .before .before .before .before .before .enum-told .given .1) in
+    let D = direct-settled (c .before .before .before .before .before .before .write-direct .ensures (row-of P F) (P .selectors)) (c .before .before .w .given .1) in
+    let R = run-finished (fieldsOf (P .columns .columns)) (P .selectors .trees) (now (c .before .before .before .before .before .before .before .before .before .before .before .before .before .before .before .before .args .rec)) (length (now (c .before .before .before .before .before .before .before .before .before .before .before .before .before .before .before .before .args .output))) (record-reads P F) (D .clean) (D .answer) (c .finish .ensures) (D .buffer) in
+    (R .answer, R .buffer))
+    (λ c. search needs)
+    (λ c. λ P.
+    let F = record-fitting (fieldsOf (P .columns .columns)) (now (c .before .before .before .before .before .before .before .before .before .before .before .before .before .before .before .before .before .before .args .rec)) (c .before .before .before .before .before .before .before .before .before .before .before .before .read-record .ensures (P .columns)) (c .before .before .before .before .before .before .before .before .before .before .enum-told .given .1) in
+    same-buffer (fieldsOf (P .columns .columns)) (P .selectors .trees) (now (c .before .before .before .before .before .before .before .before .before .before .before .before .before .before .before .before .before .before .args .rec)) (direct-unknown (c .before .before .before .before .before .before .before .before .write-direct .ensures (row-of P F) (P .selectors)) (c .before .before .before .before .enum-told2 .given .1)) (c .before .before .run-general .ensures P F))
+    (λ c. λ P.
+    let R = ran-refused (record-refused (fieldsOf (P .columns .columns)) (P .selectors .trees) (now (c .before .before .before .before .before .before .before .before .before .args .rec)) (length (now (c .before .before .before .before .before .before .before .before .before .args .output))) (c .before .before .before .read-record .ensures (P .columns)) (c .before .k .given .1)) in
+    (R .answer, R .buffer)))

@@ -1,0 +1,20 @@
+//! The rules of document 01 in plain Rust: reading layouts, checking and running plans, and the record due to a build. It shares nothing with the proved
+//! library: `trial` holds the one against the other, and it is what the library's time is measured against.
+//!
+//! Also here is what makes inputs for both: layouts, tables, records and plans at random, and how they are damaged.
+
+pub mod call;
+pub mod case;
+pub mod check;
+pub mod due;
+pub mod form;
+pub mod generate;
+pub mod hex;
+pub mod number;
+pub mod random;
+mod reader;
+pub mod rules;
+pub mod run;
+pub mod selector;
+pub mod value;
+pub mod write;

@@ -1,0 +1,357 @@
+//! One trial: a call of the library in guarded memory, and what must hold of its answer.
+
+use crate::guard::{Buffer, Room, Side};
+use crate::tally::Tally;
+use column_selector::call as library;
+use plain::call::{self as plain_call, Refusal};
+use plain::due::{Pairing, due};
+use plain::form::{self, Entry, Layout, PLAN_LIMIT};
+use plain::hex::hex;
+use plain::value::{Value, read_record};
+use std::fmt;
+
+#[derive(Clone, Copy, Debug, PartialEq, Eq)]
+pub enum Call {
+    ReadLayout,
+    BuildByName,
+    BuildByNumber,
+    CheckPlan,
+    Run,
+}
+
+impl Call {
+    pub const ALL: [Call; 5] = [
+        Call::ReadLayout,
+        Call::BuildByName,
+        Call::BuildByNumber,
+        Call::CheckPlan,
+        Call::Run,
+    ];
+
+    pub fn name(self) -> &'static str {
+        match self {
+            Call::ReadLayout => "layout",
+            Call::BuildByName => "build_name",
+            Call::BuildByNumber => "build_number",
+            Call::CheckPlan => "check",
+            Call::Run => "run",
+        }
+    }
+
+    /// Whether document 01 has that refusal for the call.
+    fn has(self, number: u32) -> bool {
+        let reading = matches!(number, 1..=6);
+        match self {
+            Call::ReadLayout => reading,
+            Call::BuildByName => reading || matches!(number, 10..=24 | 27),
+            Call::BuildByNumber => reading || matches!(number, 10 | 11 | 13..=28),
+            Call::CheckPlan => reading || matches!(number, 30..=33),
+            Call::Run => reading || matches!(number, 30..=33 | 40..=45),
+        }
+    }
+}
+
+/// A call's arguments. Those that a call doesn't have are empty; the record of a build is for running its plan.
+#[derive(Clone, Debug)]
+pub struct Trial {
+    pub call: Call,
+    pub policy: u32,
+    pub source_index: u32,
+    /// The length of the buffer for the result.
+    pub space: usize,
+    pub incoming: Vec<u8>,
+    pub target: Vec<u8>,
+    pub defaults: Vec<u8>,
+    pub plan: Vec<u8>,
+    pub record: Vec<u8>,
+}
+
+impl Trial {
+    pub fn new(call: Call) -> Trial {
+        Trial {
+            call,
+            policy: 0,
+            source_index: 0,
+            space: 0,
+            incoming: Vec::new(),
+            target: Vec::new(),
+            defaults: Vec::new(),
+            plan: Vec::new(),
+            record: Vec::new(),
+        }
+    }
+
+    pub fn inputs_mut(&mut self) -> [&mut Vec<u8>; 5] {
+        [
+            &mut self.incoming,
+            &mut self.target,
+            &mut self.defaults,
+            &mut self.plan,
+            &mut self.record,
+        ]
+    }
+
+    /// With a buffer of another length.
+    fn resized(&self, space: usize) -> Trial {
+        Trial {
+            space,
+            ..self.clone()
+        }
+    }
+
+    pub fn length(&self) -> usize {
+        let inputs = [
+            &self.incoming,
+            &self.target,
+            &self.defaults,
+            &self.plan,
+            &self.record,
+        ];
+        inputs.into_iter().map(Vec::len).sum()
+    }
+}
+
+/// As a line of crates/cases/stdin, without the answer; a build's record stands after it.
+impl fmt::Display for Trial {
+    fn fmt(&self, f: &mut fmt::Formatter<'_>) -> fmt::Result {
+        let Trial {
+            policy,
+            source_index,
+            space,
+            ..
+        } = self;
+        let (incoming, target) = (hex(&self.incoming), hex(&self.target));
+        let (defaults, plan) = (hex(&self.defaults), hex(&self.plan));
+        let record = hex(&self.record);
+        write!(f, "{} ", self.call.name())?;
+        match self.call {
+            Call::ReadLayout => write!(f, "{incoming}"),
+            Call::BuildByName => write!(f, "{policy} {space} {incoming} {target}, record {record}"),
+            Call::BuildByNumber => write!(
+                f,
+                "{policy} {source_index} {space} {incoming} {target} {defaults}, record {record}"
+            ),
+            Call::CheckPlan => write!(f, "{incoming} {target} {plan}"),
+            Call::Run => write!(f, "{space} {incoming} {target} {plan} {record}"),
+        }
+    }
+}
+
+pub type Answer = Result<Vec<u8>, Refusal>;
+
+/// 0 where it is accepted.
+pub fn number(answer: &Answer) -> u32 {
+    answer.as_ref().err().map_or(0, |refusal| refusal.number)
+}
+
+/// What is wrong with an answer.
+pub type Difference = String;
+
+fn same(what: &str, given: &Answer, due: &Answer) -> Result<(), Difference> {
+    let words = |answer: &Answer| match answer {
+        Ok(bytes) => format!("0 {}", hex(bytes)),
+        Err(refusal) => format!("{} {}", refusal.number, refusal.place),
+    };
+    match given == due {
+        true => Ok(()),
+        false => Err(format!(
+            "{what}: the library answers {}, due is {}",
+            words(given),
+            words(due)
+        )),
+    }
+}
+
+/// The library in guarded memory.
+pub struct Judge {
+    rooms: [Room; 5],
+    buffer: Buffer,
+    pub tally: Tally,
+}
+
+impl Judge {
+    pub fn new() -> Judge {
+        Judge {
+            rooms: std::array::from_fn(|_| Room::new()),
+            buffer: Buffer::new(),
+            tally: Tally::default(),
+        }
+    }
+
+    /// Makes the call, inputs and buffer at that side of their rooms.
+    fn library(&mut self, trial: &Trial, side: Side) -> Result<Answer, Difference> {
+        let [a, b, c, d, e] = &mut self.rooms;
+        let incoming = a.copy(&trial.incoming, side);
+        let target = b.copy(&trial.target, side);
+        let defaults = c.copy(&trial.defaults, side);
+        let plan = d.copy(&trial.plan, side);
+        let record = e.copy(&trial.record, side);
+        let Trial {
+            policy,
+            source_index,
+            ..
+        } = *trial;
+        let given = self
+            .buffer
+            .lend(trial.space, side, |out| match trial.call {
+                Call::ReadLayout => library::read_layout(incoming),
+                Call::BuildByName => library::build_by_name(policy, incoming, target, out),
+                Call::BuildByNumber => {
+                    library::build_by_number(policy, source_index, incoming, target, defaults, out)
+                }
+                Call::CheckPlan => library::check_plan(incoming, target, plan),
+                Call::Run => library::run(incoming, target, plan, record, out),
+            })?;
+        let given = given.map_err(|refusal| Refusal {
+            number: refusal.number,
+            place: refusal.place,
+        });
+        let number = number(&given);
+        self.tally.add(trial.call, number);
+        match number == 0 || trial.call.has(number) {
+            true => Ok(given),
+            false => Err(format!("{number} is no answer of this call")),
+        }
+    }
+
+    /// The library's answer, if that is the one due, and a build keeps what it promises.
+    pub fn judge(&mut self, trial: &Trial, side: Side) -> Result<Answer, Difference> {
+        let nothing = |()| Vec::new();
+        let Trial {
+            incoming,
+            target,
+            plan,
+            record,
+            ..
+        } = trial;
+        let due = match trial.call {
+            Call::ReadLayout => plain_call::read_layout(incoming).map(nothing),
+            Call::CheckPlan => plain_call::check_plan(incoming, target, plan).map(nothing),
+            Call::Run => plain_call::run(incoming, target, plan, record, trial.space),
+            Call::BuildByName | Call::BuildByNumber => {
+                let given = self.library(trial, side)?;
+                self.judge_build(trial, &given, side)?;
+                return Ok(given);
+            }
+        };
+        let given = self.library(trial, side)?;
+        same(trial.call.name(), &given, &due)?;
+        Ok(given)
+    }
+
+    fn judge_build(&mut self, trial: &Trial, given: &Answer, side: Side) -> Result<(), Difference> {
+        let arguments = match Arguments::read(trial) {
+            Ok(arguments) => arguments,
+            Err(refusal) => return same("reading", given, &Err(refusal)),
+        };
+        let Ok(plan) = given else {
+            return self.judge_refused(trial, given, side);
+        };
+        let (exact, short) = (plan.len(), plan.len() - 1);
+        let refused = Err(Refusal::of(27));
+        self.expect("exact space", &trial.resized(exact), given, side)?;
+        self.expect("a byte too short", &trial.resized(short), &refused, side)?;
+        let check = Trial {
+            call: Call::CheckPlan,
+            plan: plan.clone(),
+            ..trial.clone()
+        };
+        let passed = Ok(Vec::new());
+        same("a built plan's check", &self.judge(&check, side)?, &passed)?;
+        let run = Trial {
+            call: Call::Run,
+            space: form::RECORD_LIMIT,
+            ..check
+        };
+        self.judge_run(&run, &arguments.due(trial, run.space), side)
+    }
+
+    /// A build whose arguments can be read, but that is refused.
+    fn judge_refused(
+        &mut self,
+        trial: &Trial,
+        given: &Answer,
+        side: Side,
+    ) -> Result<(), Difference> {
+        match number(given) {
+            1..=10 => Err("refused as if it could not be read".to_owned()),
+            27 => match self.library(&trial.resized(PLAN_LIMIT), side)? {
+                Ok(plan) if plan.len() <= trial.space => Err("27 for a plan that fits".to_owned()),
+                Ok(_) => Ok(()),
+                other => same("given space", &other, given),
+            },
+            // Space is the last test.
+            _ => self.expect("without space", &trial.resized(0), given, side),
+        }
+    }
+
+    /// The run of a built plan, with the answer due.
+    fn judge_run(&mut self, run: &Trial, due: &Answer, side: Side) -> Result<(), Difference> {
+        same("a built plan's run", &self.judge(run, side)?, due)?;
+        let Ok(output) = due else {
+            return Ok(());
+        };
+        self.expect("exact space", &run.resized(output.len()), due, side)?;
+        match output.len().checked_sub(1) {
+            None => Ok(()),
+            Some(short) => {
+                let refused = Err(Refusal::of(45));
+                self.expect("a byte too short", &run.resized(short), &refused, side)
+            }
+        }
+    }
+
+    fn expect(
+        &mut self,
+        what: &str,
+        trial: &Trial,
+        due: &Answer,
+        side: Side,
+    ) -> Result<(), Difference> {
+        same(what, &self.library(trial, side)?, due)
+    }
+}
+
+/// A build's arguments, read.
+struct Arguments {
+    incoming: Layout,
+    target: Layout,
+    entries: Vec<Entry>,
+}
+
+impl Arguments {
+    /// 1 to 6 and 10 in their order.
+    fn read(trial: &Trial) -> Result<Arguments, Refusal> {
+        let at = |place: u32| move |number: u32| Refusal { number, place };
+        let incoming = form::read_layout(&trial.incoming).map_err(at(1))?;
+        let target = form::read_layout(&trial.target).map_err(at(2))?;
+        let version = if trial.call == Call::BuildByName {
+            1
+        } else {
+            2
+        };
+        if incoming.version != version || target.version != version {
+            return Err(Refusal::of(10));
+        }
+        let entries = match trial.call {
+            Call::BuildByNumber => form::read_defaults(&trial.defaults).map_err(at(3))?,
+            _ => Vec::new(),
+        };
+        Ok(Arguments {
+            incoming,
+            target,
+            entries,
+        })
+    }
+
+    /// The record due, for a buffer of that length; where the record doesn't fit, why.
+    fn due(&self, trial: &Trial, space: usize) -> Answer {
+        let pairing = match trial.call {
+            Call::BuildByNumber => Pairing::ByNumber(&self.entries, trial.source_index),
+            _ => Pairing::ByName,
+        };
+        let record = read_record(&self.incoming.columns, &trial.record);
+        let due = |record: Vec<Value>| due(pairing, &self.incoming, &self.target, &record, space);
+        record.and_then(due).map_err(Refusal::of)
+    }
+}

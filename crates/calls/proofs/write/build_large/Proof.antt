@@ -1,0 +1,12 @@
+-- `calls::write::build_large` meets its contract. Assumes nothing.
+use Rattle.calls.proofs.Plans.{attempt-answered, attempt-short, plan-long}
+use native.Mathlib.Omega.{arith}
+use borrow.Author.Needs.{needs}
+use Rattle.calls.proofs.write.build_large.Statement.{statement}
+use Rattle.calls.proofs.write.build_large.Tie as tie
+
+pub build-large-spec : {M : Type 1} → statement M
+build-large-spec =
+    tie.close (tie.spec (λ c. search needs) (λ c κs. (c .before .before .before .before .before .before .pre .0, (c .before .before .before .before .before .before .pre .1 .0, (c .before .before .before .before .before .before .pre .1 .1, omega arith)))) (λ c. search needs) (λ c. search needs) (λ c. search needs) (λ c. λ T P Q. attempt-answered _ _ _ (c .before .before .before .before .before .before .build-in .result) _ (c .before .before .before .before .before .before .build-in .ensures T P Q) (c .before .r .given .1)) (λ c. search needs) (λ c. λ T P Q.
+    let (w, k) = attempt-short _ _ _ (c .before .before .before .before .before .build-in .result) _ (c .before .before .before .before .before .build-in .ensures T P Q) (c .enum-told .given .1) in
+    plan-long _ w k))

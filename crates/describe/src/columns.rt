@@ -1,0 +1,108 @@
+// Columns, one to a line, with the columns inside their types indented below.
+use crate::types::put_type;
+use layout::columns::Label;
+use layout::columns::Labelled;
+use layout::cursor::Cursor;
+use layout::cursor::Moved;
+use layout::pass::pass_type;
+use layout::types::Head;
+use layout::version::Version;
+use text::out::deeper;
+use text::out::put;
+use text::out::put_count;
+use text::out::put_indent;
+use text::out::put_number;
+use text::out::put_span;
+
+// A column's name, in version 2 its id, and its type at `c`.
+pub fn put_column(s: &[u8], v: Version, l: Label, c: Cursor) {
+    put_span(s, l.name);
+    if let Version::ByNumber = v {
+        put(b" id ");
+        put_number(l.id.0 as u64);
+    }
+    put(b" ");
+    put_type(s, v, 16, c);
+}
+
+// What a line of number `i` begins with.
+pub fn put_start(i: u64, level: u8) {
+    put_indent(level);
+    put_number(i);
+    put(b"  ");
+}
+
+// An element has a name and an id in version 2 only.
+fn put_element(s: &[u8], v: Version, l: Label, c: Cursor, level: u8) {
+    if let Version::ByNumber = v {
+        put_indent(level);
+        put(b"element ");
+        put_column(s, v, l, c);
+        put(b"\n");
+    }
+}
+
+// The level of what is inside an element: below the element's line, where it has one.
+fn element_level(v: Version, level: u8) -> u8 {
+    match v {
+        Version::ByName => level,
+        Version::ByNumber => deeper(level),
+    }
+}
+
+// The columns inside the type at `c`.
+pub fn put_inner(s: &[u8], v: Version, depth: u8, c: Cursor, level: u8) {
+    if depth == 0 {
+        return;
+    }
+    match c.head(s) {
+        Head::Leaf(_, _) => {}
+        Head::Struct(n, d) => put_columns(s, v, depth - 1, n, d, level),
+        Head::List(d) => put_inner_element(s, v, depth - 1, d, level),
+        Head::Array(_, d) => put_inner_element(s, v, depth - 1, d, level),
+        Head::Refused(_) => {}
+    }
+}
+
+fn put_inner_element(s: &[u8], v: Version, depth: u8, c: Cursor, level: u8) {
+    if let Labelled::Is(l, d) = c.element_label(s, v) {
+        put_element(s, v, l, d, level);
+        put_inner(s, v, depth, d, element_level(v, level));
+    }
+}
+
+// `n` columns from `c`.
+pub fn put_columns(s: &[u8], v: Version, depth: u8, n: u16, c: Cursor, level: u8) {
+    let mut at = c.at;
+    let mut i: u16 = 0;
+    while i < n {
+        let d = Cursor { at };
+        let Labelled::Is(l, e) = d.label(s, v) else {
+            return;
+        };
+        put_start(i as u64, level);
+        put_column(s, v, l, e);
+        put(b"\n");
+        put_inner(s, v, depth, e, deeper(level));
+        let Moved::To(end) = pass_type(s, v, depth, e) else {
+            return;
+        };
+        at = end.at;
+        i += 1;
+    }
+}
+
+fn put_version(v: Version) {
+    match v {
+        Version::ByName => put(b"layout, version 1, "),
+        Version::ByNumber => put(b"layout, version 2, "),
+    }
+}
+
+// A layout that was read.
+pub fn put_layout(s: &[u8], v: Version, n: u16, c: Cursor) {
+    put_version(v);
+    put_count(n as u64, b"column");
+    put(b"\n");
+    put_columns(s, v, 16, n, c, 0);
+}

@@ -1,0 +1,68 @@
+// Where the parts of a type stand.
+ghost use Rattle.layout.specs.Stands.{TypeAt};
+ghost use Rattle.direct.specs.Insides.{InsideIs, BothIs};
+use layout::columns::Labelled;
+use layout::cursor::Cursor;
+use layout::types::Head;
+use layout::version::Version;
+
+// A struct's columns, a list's or array's element; a leaf has none.
+pub enum Inside {
+    Leaf,
+    Struct(u16, Cursor),
+    List(Cursor),
+    Array(u32, Cursor),
+}
+
+// The parts of two types of one kind, arrays of one width.
+pub enum Both {
+    Structs(u16, Cursor, u16, Cursor),
+    Lists(Cursor, Cursor),
+    Arrays(Cursor, Cursor),
+    Apart,
+}
+
+fn inside_of(s: &[u8], v: Version, c: Cursor) -> Inside
+    ensures { λ r. ⌜ ((T : TypeAt v 16 (now (s .entry)) (c .at)) → InsideIs v (now (s .entry)) (c .at) T r) ⌝ }
+{
+    match c.head(s) {
+        Head::Leaf(_, _) => Inside::Leaf,
+        Head::Struct(n, d) => Inside::Struct(n, d),
+        Head::List(d) => match d.element_label(s, v) {
+            Labelled::Is(_, e) => Inside::List(e),
+            Labelled::Refused(_) => Inside::Leaf,
+        },
+        Head::Array(w, d) => match d.element_label(s, v) {
+            Labelled::Is(_, e) => Inside::Array(w, e),
+            Labelled::Refused(_) => Inside::Leaf,
+        },
+        Head::Refused(_) => Inside::Leaf,
+    }
+}
+
+// The types at `c` and at `d`, each in its own bytes.
+pub fn both_inside(a: &[u8], va: Version, c: Cursor, b: &[u8], vb: Version, d: Cursor) -> Both
+    ensures { λ r. ⌜ ((T : TypeAt va 16 (now (a .entry)) (c .at)) (Q : TypeAt vb 16 (now (b .entry)) (d .at)) → BothIs va (now (a .entry)) (c .at) T vb (now (b .entry)) (d .at) Q r) ⌝ }
+{
+    match inside_of(a, va, c) {
+        Inside::Leaf => Both::Apart,
+        Inside::Struct(n, x) => match inside_of(b, vb, d) {
+            Inside::Struct(m, y) => Both::Structs(n, x, m, y),
+            _ => Both::Apart,
+        },
+        Inside::List(x) => match inside_of(b, vb, d) {
+            Inside::List(y) => Both::Lists(x, y),
+            _ => Both::Apart,
+        },
+        Inside::Array(w, x) => match inside_of(b, vb, d) {
+            Inside::Array(u, y) => {
+                if w == u {
+                    Both::Arrays(x, y)
+                } else {
+                    Both::Apart
+                }
+            }
+            _ => Both::Apart,
+        },
+    }
+}

@@ -1,0 +1,93 @@
+// What positions take from, in the bytes of the incoming layout.
+ghost use mathlib.Core.Path.{_≡_};
+ghost use Rattle.layout.specs.Tree.{dtypeOf};
+ghost use Rattle.layout.specs.Stands.{TypeAt};
+ghost use Rattle.plan.specs.Check.{columnAt, elementOf, typeOf};
+ghost use Rattle.walk.specs.Stands.{SelectorAt};
+ghost use Rattle.direct.specs.Scopes.{takenFrom, ScopeAt, TakenIs};
+use index::columns::indexed_column;
+use layout::bytes::Span;
+use layout::columns::Position;
+use layout::cursor::Cursor;
+use layout::find::Found;
+use layout::find::column_at;
+use layout::version::Version;
+use walk::head::SelectorHead;
+use walk::head::head;
+
+// The layout's columns, which have an index; a struct's columns; a list's or an array's element.
+pub enum Scope {
+    Top(u16),
+    Columns(u16, Cursor),
+    Element(Cursor),
+}
+
+// The name's place and where the type begins.
+pub enum Taken {
+    At(Span, Cursor),
+    Absent,
+}
+
+fn taken_from(f: Found) -> Taken
+    ensures { λ r. ⌜ r ≡ takenFrom f ⌝ }
+{
+    match f {
+        Found::At(_, l, c) => {
+            let name = l.name;
+            Taken::At(name, c)
+        }
+        Found::Absent => Taken::Absent,
+    }
+}
+
+// An element has position 0 and no name.
+fn take_element(incoming: &[u8], v: Version, c: Cursor, k: Position) -> Taken
+    ensures { λ r. ⌜ ((T : TypeAt v 16 (now (incoming .entry)) (c .at)) → TakenIs (now (incoming .entry)) v (columnAt (elementOf (dtypeOf (T .tree))) (k .0)) r) ⌝ }
+{
+    if k.0 == 0 {
+        Taken::At(Span { start: 0, len: 0 }, c)
+    } else {
+        Taken::Absent
+    }
+}
+
+// The column at a position.
+fn take_column(
+    incoming: &[u8],
+    v: Version,
+    scope: Scope,
+    index: &[u16],
+    stride: u16,
+    k: Position,
+) -> Taken
+    requires { ⌜ ScopeAt (now incoming) v scope (now index) stride ⌝ }
+    ensures { λ r. ⌜ ((X : ScopeAt (now (incoming .entry)) v scope (now (index .entry)) stride) → TakenIs (now (incoming .entry)) v (columnAt (X .fields) (k .0)) r) ⌝ }
+{
+    match scope {
+        Scope::Top(n) => {
+            let first = Cursor { at: 7 };
+            taken_from(indexed_column(incoming, v, n, first, index, stride, k))
+        }
+        Scope::Columns(n, c) => taken_from(column_at(incoming, v, 16, n, c, k)),
+        Scope::Element(c) => take_element(incoming, v, c, k),
+    }
+}
+
+// The column that the selector at `c` takes, if it is a position.
+pub fn take_position(
+    incoming: &[u8],
+    v: Version,
+    scope: Scope,
+    index: &[u16],
+    stride: u16,
+    plan: &[u8],
+    c: Cursor,
+) -> Taken
+    requires { ⌜ ScopeAt (now incoming) v scope (now index) stride ⌝ }
+    ensures { λ r. ⌜ ((X : ScopeAt (now (incoming .entry)) v scope (now (index .entry)) stride) (S : SelectorAt (now (plan .entry)) (c .at)) → TakenIs (now (incoming .entry)) v (typeOf (X .fields) (S .tree)) r) ⌝ }
+{
+    match head(plan, c) {
+        SelectorHead::Position(k) => take_column(incoming, v, scope, index, stride, k),
+        _ => Taken::Absent,
+    }
+}

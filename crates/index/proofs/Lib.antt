@@ -1,0 +1,4 @@
+pub mod Empty
+pub mod Drop
+pub mod Passing
+pub mod Rows

@@ -1,0 +1,118 @@
+// Where every stride-th column stands in a layout.
+ghost use mathlib.Core.Path.{_≡_};
+ghost use mathlib.Core.List.{[]};
+ghost use Prim.Native.Nat.{ℕ, _≤_, _<_};
+ghost use lib.ListN.{length, take};
+ghost use Rattle.layout.specs.Answers.{movedOf};
+ghost use Rattle.layout.specs.Find.{columnAt, Finds};
+ghost use Rattle.layout.specs.Layout.{columns, type};
+ghost use Rattle.layout.specs.Stands.{ColumnsAt};
+ghost use Rattle.layout.specs.declared.columns.Siblings.the-variants.{Free};
+ghost use Rattle.index.specs.Indexed.{strideOf, Indexed, dropColumns, firstAs};
+use layout::columns::Labelled;
+use layout::columns::Position;
+use layout::cursor::Cursor;
+use layout::cursor::Moved;
+use layout::find::Found;
+use layout::pass::pass_columns;
+use layout::version::Version;
+
+// A stride at which 256 entries do for `n` columns.
+pub fn stride_of(n: u16) -> u16
+    ensures { λ r. ⌜ r ≡ strideOf n ⌝ }
+    ensures { λ r. ⌜ 0 < r ⌝ }
+{
+    n / 256 + 1
+}
+
+// A function of its own, since an element of a slice that is cast where it is read has to be shown to fit.
+pub fn wide(x: u16) -> usize
+    ensures { λ r. ⌜ r ≡ x ⌝ }
+{
+    x as usize
+}
+
+// Passes over `m` columns.
+fn pass(s: &[u8], v: Version, m: u16, c: Cursor) -> Moved
+    ensures { λ r. ⌜ r ≡ movedOf (columns v Free (type v Free 16) m [] (now (s .entry)) (c .at)) ⌝ }
+{
+    pass_columns(s, v, 16, m, c)
+}
+
+// Fills the table and answers how many entries it got. An offset that an entry can't hold ends the table: lookups then pass over the
+// columns themselves.
+pub fn index_columns(
+    s: &[u8],
+    v: Version,
+    n: u16,
+    first: Cursor,
+    stride: u16,
+    starts: &mut [u16],
+) -> usize
+    ensures { λ r. ⌜ r ≤ length (now (starts .exit)) ⌝ }
+    ensures { λ r. ⌜ Indexed v (now (s .entry)) n (first .at) stride (take r (now (starts .exit))) ⌝ }
+{
+    let mut at = first.at;
+    let mut i: u16 = 0;
+    let mut j: usize = 0;
+    while j < starts.len() {
+        if 65535 < at {
+            return j;
+        }
+        starts[j] = at as u16;
+        j += 1;
+        if n - i <= stride {
+            return j;
+        }
+        let d = Cursor { at };
+        match pass(s, v, stride, d) {
+            Moved::To(e) => {
+                at = e.at;
+            }
+            Moved::Refused(_) => return j,
+        }
+        i += stride;
+    }
+    j
+}
+
+// The column after `m` others, whose position is `k`.
+fn column_after(s: &[u8], v: Version, m: u16, c: Cursor, k: Position) -> Found
+    ensures { λ r. ⌜ ((n : ℕ) (P : ColumnsAt v 16 (now (s .entry)) n (c .at)) → m < n → Finds v 16 (now (s .entry)) (firstAs k (dropColumns m (P .columns))) r) ⌝ }
+{
+    match pass(s, v, m, c) {
+        Moved::To(d) => match d.label(s, v) {
+            Labelled::Is(l, e) => Found::At(k, l, e),
+            Labelled::Refused(_) => Found::Absent,
+        },
+        Moved::Refused(_) => Found::Absent,
+    }
+}
+
+// Column `k` of `n`, as `layout::find::column_at` finds it.
+pub fn indexed_column(
+    s: &[u8],
+    v: Version,
+    n: u16,
+    first: Cursor,
+    index: &[u16],
+    stride: u16,
+    k: Position,
+) -> Found
+    requires { ⌜ ColumnsAt v 16 (now s) n (first .at) ⌝ }
+    requires { ⌜ Indexed v (now s) n (first .at) stride (now index) ⌝ }
+    requires { ⌜ 0 < stride ⌝ }
+    ensures { λ r. ⌜ ((P : ColumnsAt v 16 (now (s .entry)) n (first .at)) → Finds v 16 (now (s .entry)) (columnAt k (P .columns)) r) ⌝ }
+{
+    let p = k.0;
+    if n <= p {
+        return Found::Absent;
+    }
+    let j = wide(p / stride);
+    if j < index.len() {
+        let at = wide(index[j]);
+        column_after(s, v, p % stride, Cursor { at }, k)
+    } else {
+        column_after(s, v, p, first, k)
+    }
+}

@@ -1,0 +1,44 @@
+// The output of a plan that one pass settles.
+ghost use Prim.Native.Nat.{_≤_};
+ghost use lib.ListN.{length};
+ghost use Rattle.walk.specs.Stands.{SelectorsAt};
+ghost use Rattle.nodes.specs.Raw.{RowAt};
+ghost use Rattle.run.specs.Answers.{DirectIs};
+use layout::version::Version;
+use output::write::Written;
+use output::write::scratch;
+use transfer::whole::Transferred;
+use transfer::whole::transfer_record;
+
+// What was written; or one pass does not say, and nothing was.
+pub enum Direct {
+    Is(Written),
+    Unknown,
+}
+
+pub fn write_direct(
+    lay: &[u8],
+    v: Version,
+    n: u16,
+    rec: &[u8],
+    plan: &[u8],
+    count: u16,
+    out: &mut [u8],
+) -> Direct
+    requires { ⌜ RowAt v (now lay) n 7 (now rec) 0 ⌝ }
+    requires { ⌜ SelectorsAt (now plan) count 7 ⌝ }
+    requires { ⌜ (length (now rec) ≤ 65536) × (length (now plan) ≤ 65536) ⌝ }
+    ensures { λ r. ⌜ ((X : RowAt v (now (lay .entry)) n 7 (now (rec .entry)) 0) (S : SelectorsAt (now (plan .entry)) count 7) → DirectIs (X .values .values) (S .trees) (now (out .entry)) r (now (out .exit))) ⌝ }
+{
+    let mut aside = scratch();
+    match transfer_record(lay, v, n, rec, plan, count, &mut aside) {
+        Transferred::To(len) => {
+            if out.len() < len {
+                return Direct::Is(Written::TooLong);
+            }
+            store::copy(&aside, 0, len, out, 0);
+            Direct::Is(Written::Written(len))
+        }
+        Transferred::Unknown => Direct::Unknown,
+    }
+}

@@ -1,0 +1,160 @@
+// Leaf types, and values of them.
+ghost use Prim.Native.Nat.{_+_, _*_, _≤_, _<_};
+ghost use mathlib.Core.Path.{_≡_};
+ghost use lib.ListN.{length, take, drop};
+ghost use Rattle.values.specs.Reading.{little};
+use crate::out::put;
+use crate::out::put_hex;
+use crate::out::put_number;
+use crate::out::put_span;
+use layout::bytes::Span;
+use layout::cursor::Cursor;
+use layout::cursor::Short;
+use layout::cursor::Step;
+use layout::leaf::Leaf;
+use layout::leaf::TimeUnit;
+use layout::types::LeafType;
+use values::content::Content;
+use values::content::content_of;
+use values::leaf::number_at;
+
+pub fn put_unit(unit: TimeUnit) {
+    match unit {
+        TimeUnit::Nanoseconds => put(b"ns"),
+        TimeUnit::Microseconds => put(b"us"),
+        TimeUnit::Milliseconds => put(b"ms"),
+    }
+}
+
+fn put_leaf(leaf: Leaf) {
+    match leaf {
+        Leaf::Null => put(b"null"),
+        Leaf::Boolean => put(b"boolean"),
+        Leaf::Int8 => put(b"int8"),
+        Leaf::Int16 => put(b"int16"),
+        Leaf::Int32 => put(b"int32"),
+        Leaf::Int64 => put(b"int64"),
+        Leaf::UInt8 => put(b"uint8"),
+        Leaf::UInt16 => put(b"uint16"),
+        Leaf::UInt32 => put(b"uint32"),
+        Leaf::UInt64 => put(b"uint64"),
+        Leaf::Float16 => put(b"float16"),
+        Leaf::Float32 => put(b"float32"),
+        Leaf::Float64 => put(b"float64"),
+        Leaf::Date => put(b"date"),
+        Leaf::Datetime(unit) => {
+            put(b"date-time ");
+            put_unit(unit);
+        }
+        Leaf::String => put(b"string"),
+        Leaf::Binary => put(b"binary"),
+        Leaf::Categorical => put(b"category"),
+    }
+}
+
+// The zone stands in `s`.
+pub fn put_leaf_type(s: &[u8], l: LeafType) {
+    let leaf = l.leaf;
+    let zone = l.zone;
+    put_leaf(leaf);
+    if zone.len != 0 {
+        put(b" ");
+        put_span(s, zone);
+    }
+}
+
+// The bit pattern of a number of `w` bytes; 0 where they are not there.
+fn pattern(s: &[u8], at: usize, w: usize) -> u64
+    ensures { λ r. ⌜ (w ≤ 8 → at + w ≤ length (now (s .entry)) → r ≡ little (take w (drop at (now (s .entry))))) ⌝ }
+{
+    if 8 < w {
+        return 0;
+    }
+    if s.len() < at {
+        return 0;
+    }
+    if s.len() - at < w {
+        return 0;
+    }
+    number_at(s, at, w)
+}
+
+// A signed number by its bit pattern, of which `half` is the first negative one.
+fn put_signed(x: u64, half: u64) {
+    if x < half {
+        return put_number(x);
+    }
+    if x - half < half {
+        put(b"-");
+        put_number(magnitude(x, half));
+    }
+}
+
+// Of a negative number, whose pattern is below twice `half`.
+fn magnitude(x: u64, half: u64) -> u64
+    requires { ⌜ half ≤ x ⌝ }
+    requires { ⌜ x < 2 * half ⌝ }
+    ensures { λ r. ⌜ x + r ≡ 2 * half ⌝ }
+{
+    half - (x - half)
+}
+
+// A float is written by its bits.
+fn put_bits(x: u64, digits: usize) {
+    put(b"bits 0x");
+    put_hex(x, digits);
+}
+
+fn put_pattern(leaf: Leaf, x: u64) {
+    match leaf {
+        Leaf::Int8 => put_signed(x, 0x80),
+        Leaf::Int16 => put_signed(x, 0x8000),
+        Leaf::Int32 => put_signed(x, 0x8000_0000),
+        Leaf::Int64 => put_signed(x, 0x8000_0000_0000_0000),
+        Leaf::Float16 => put_bits(x, 4),
+        Leaf::Float32 => put_bits(x, 8),
+        Leaf::Float64 => put_bits(x, 16),
+        Leaf::Date => {
+            put(b"day ");
+            put_signed(x, 0x8000_0000);
+        }
+        Leaf::Datetime(unit) => {
+            put_signed(x, 0x8000_0000_0000_0000);
+            put(b" ");
+            put_unit(unit);
+        }
+        _ => put_number(x),
+    }
+}
+
+fn put_flag(s: &[u8], c: Cursor) {
+    if let Step::Byte(b, _) = c.byte(s) {
+        if b == 0 {
+            put(b"false");
+        } else {
+            put(b"true");
+        }
+    }
+}
+
+fn put_long_text(s: &[u8], c: Cursor) {
+    if let Short::Is(n, d) = c.short(s) {
+        put_span(
+            s,
+            Span {
+                start: d.at,
+                len: n as usize,
+            },
+        );
+    }
+}
+
+// What follows the presence byte of a leaf that is present.
+pub fn put_leaf_value(s: &[u8], leaf: Leaf, c: Cursor) {
+    match content_of(leaf) {
+        Content::Nothing => put(b"null"),
+        Content::Flag => put_flag(s, c),
+        Content::Number(w) => put_pattern(leaf, pattern(s, c.at, w as usize)),
+        Content::Text => put_long_text(s, c),
+    }
+}

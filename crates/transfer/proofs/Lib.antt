@@ -1,0 +1,4 @@
+pub mod Reaching
+pub mod Origins
+pub mod Opening
+pub mod Rows

@@ -1,0 +1,99 @@
+-- What the functions that store a value answer on each way. Assumes nothing.
+use Prim.Native.Nat.{ℕ}
+use mathlib.Core.Path.{_≡_, refl, ap, sym, subst, _∙_}
+use mathlib.Core.Bool.{Bool, true}
+use Rattle.layout.specs.Bytes.{Bytes, AllBytes}
+use Rattle.layout.specs.Tree.{DataType, leaf, struct, list, array, ColumnType, dtypeOf}
+use Rattle.layout.specs.Answers.{headRes}
+use Rattle.layout.specs.Layout.{kind}
+use Rattle.layout.specs.Stands.{TypeAt}
+use Rattle.layout.specs.declared.cursor.Cursor.{Cursor}
+use Rattle.layout.specs.declared.leaf.Leaf.{Leaf}
+use Rattle.layout.specs.declared.types.Head.{Head}
+use Rattle.layout.specs.declared.types.LeafType.{LeafType as LeafSpan}
+use Rattle.layout.specs.declared.version.Version.{Version}
+use Rattle.layout.proofs.Ways.{clash}
+use Rattle.layout.proofs.View.{leaf-at}
+use Rattle.values.specs.Value.{Value, vnull, vnumber}
+use Rattle.values.specs.Encode.{encodeValue}
+use Rattle.values.proofs.Back.{value-back}
+use Rattle.plan.specs.Convert.{convert}
+use Rattle.plan.specs.Run.{castLeaf, castValue, clean}
+use Rattle.plan.proofs.Over.{fits-clean}
+use Rattle.convert.specs.Converted.{valueOf}
+use Rattle.convert.specs.declared.leaf.Converted.{Converted}
+use Rattle.nodes.specs.Raw.{RawAt}
+use Rattle.raw.specs.Number.{leafAnswer, LeafIs}
+use Rattle.raw.specs.declared.leaf.LeafValue.{LeafValue}
+use Rattle.raw.proofs.Leaves.{isNested, leaf-kind}
+use Rattle.raw.proofs.Storing.{cast-kept}
+use Rattle.transfer.specs.Reaching.{Kept, reachedAnswer, ReachedIs}
+use Rattle.transfer.specs.declared.leaf.Reached.{Reached}
+
+pub unknown : {ok : Bool} {b : Bytes} {e : ℕ} {out : Bytes} {k : ℕ} {new : Bytes} → ReachedIs ok b e out k Reached.Unknown new
+unknown = record { answer = tt }
+
+-- the same answer, by an equation of the value
+pub reached-as : {x y : Value} {e : ℕ} {out : Bytes} {k : ℕ} {r : Reached} {new : Bytes} → x ≡ y
+    → ReachedIs (clean x) (encodeValue x) e out k r new → ReachedIs (clean y) (encodeValue y) e out k r new
+reached-as {e = e} {out} {k} {r} {new} q R = subst (λ (z : Value). ReachedIs (clean z) (encodeValue z) e out k r new) q R
+
+-- by an equation of where the selector ends
+pub reached-end : {ok : Bool} {b : Bytes} {e f : ℕ} {out : Bytes} {k : ℕ} {r : Reached} {new : Bytes} → e ≡ f → ReachedIs ok b e out k r new → ReachedIs ok b f out k r new
+reached-end {ok} {b} {out = out} {k} {r} {new} q R = subst (λ (z : ℕ). ReachedIs ok b z out k r new) q R
+
+-- what an answer says
+pub reached-to : {ok : Bool} {b : Bytes} {e : ℕ} {out : Bytes} {k : ℕ} {r : Reached} {new : Bytes} {c : Cursor} {m : ℕ} → ReachedIs ok b e out k r new → r ≡ Reached.To c m
+    → (c .at ≡ e) × Kept ok b out k m new
+reached-to {ok} {b} {e} {out} {k} {r} {new} R q = subst (λ (z : Reached). reachedAnswer ok b e out k z new) q (R .answer)
+
+pub reached-null : {x : Value} {e : ℕ} {out : Bytes} {k : ℕ} {r : Reached} {new : Bytes} → x ≡ vnull → ReachedIs true (encodeValue vnull) e out k r new
+    → ReachedIs (clean x) (encodeValue x) e out k r new
+unfolding clean
+reached-null q R = reached-as (sym q) R
+
+-- what was read has no date-time that is too large
+pub raw-clean : {v : Version} {lay : Bytes} {t : ℕ} {rec : Bytes} {c : ℕ} → AllBytes rec → (X : RawAt v lay t rec c) → clean (X .value .tree) ≡ true
+raw-clean {rec = rec} {c = c} o X = fits-clean (value-back (dtypeOf (X .type .tree)) rec o c (X .value .tree) (X .value .end) (X .value .reads) .fits)
+
+-- ---- casts
+
+module _ (kind to : Leaf) (n : ℕ) {q : Converted} (h : valueOf to q ≡ convert kind to n) {m : ℕ} (f : q ≡ Converted.Number m) where
+  converted : vnumber to m ≡ castLeaf to (vnumber kind n)
+  unfolding castLeaf
+  converted = ap (valueOf to) (sym f) ∙ h
+
+  pub converted-reached : {e : ℕ} {out : Bytes} {k : ℕ} {r : Reached} {new : Bytes} → ReachedIs true (encodeValue (vnumber to m)) e out k r new
+      → ReachedIs (clean (castLeaf to (vnumber kind n))) (encodeValue (castLeaf to (vnumber kind n))) e out k r new
+  unfolding clean
+  converted-reached R = reached-as converted R
+
+module _ {x : Value} {q : LeafValue} (L : LeafIs x q) (to : Leaf) {e : ℕ} {out : Bytes} {k : ℕ} {r : Reached} {new : Bytes} where
+  pub number-reached : {kind : Leaf} {n : ℕ} → q ≡ LeafValue.Number kind n
+      → ReachedIs (clean (castLeaf to (vnumber kind n))) (encodeValue (castLeaf to (vnumber kind n))) e out k r new → ReachedIs (clean (castLeaf to x)) (encodeValue (castLeaf to x)) e out k r new
+  number-reached f R = reached-as (ap (castLeaf to) (sym (subst (λ (z : LeafValue). leafAnswer x z) f (L .answer)))) R
+
+  pub other-reached : q ≡ LeafValue.Other → ReachedIs (clean x) (encodeValue x) e out k r new → ReachedIs (clean (castLeaf to x)) (encodeValue (castLeaf to x)) e out k r new
+  other-reached f R = reached-as (sym (cast-kept to x (subst (λ (z : LeafValue). leafAnswer x z) f (L .answer)))) R
+
+pub cast-null : (to : Leaf) {x : Value} → x ≡ vnull → vnull ≡ castLeaf to x
+unfolding castLeaf
+cast-null to q = sym (ap (castLeaf to) q)
+
+cast-nested : (t : DataType) (x : Value) → isNested t ≡ true → x ≡ castValue t x
+unfolding castValue
+cast-nested (leaf l) x e = clash (cc)
+cast-nested (struct fs) x e = refl
+cast-nested (list t) x e = refl
+cast-nested (array w t) x e = refl
+
+module _ {v : Version} {s : Bytes} {at : ℕ} (T : TypeAt v 16 s at) (x : Value) {e : ℕ} {out : Bytes} {k : ℕ} {r : Reached} {new : Bytes} where
+  pub nested-reached : isNested (dtypeOf (T .tree)) ≡ true → ReachedIs (clean x) (encodeValue x) e out k r new
+      → ReachedIs (clean (castValue (dtypeOf (T .tree)) x)) (encodeValue (castValue (dtypeOf (T .tree)) x)) e out k r new
+  nested-reached n R = reached-as (cast-nested (dtypeOf (T .tree)) x n) R
+
+  pub leaf-reached : {p : Head} {l : LeafSpan} {c : Cursor} → headRes s p ≡ kind s at → p ≡ Head.Leaf l c → ReachedIs (clean (castLeaf (l .leaf) x)) (encodeValue (castLeaf (l .leaf) x)) e out k r new
+      → ReachedIs (clean (castValue (dtypeOf (T .tree)) x)) (encodeValue (castValue (dtypeOf (T .tree)) x)) e out k r new
+  unfolding dtypeOf castValue
+  leaf-reached {l = l} h q R =
+      reached-as (ap (λ (k : Leaf). castLeaf k x) (sym (leaf-kind (l .leaf) _)) ∙ ap (λ (c : ColumnType). castValue (dtypeOf c) x) (sym (leaf-at T h q .0))) R

@@ -1,0 +1,19 @@
+use Rattle.transfer.proofs.Reaching.{reached-as, reached-null, cast-null}
+use Rattle.plan.specs.Run.{castLeaf}
+use mathlib.Core.Path.{refl, ap}
+use borrow.Author.Needs.{needs}
+use Rattle.transfer.proofs.leaf.cast_node.Statement.{statement}
+use Rattle.transfer.proofs.leaf.cast_node.Tie as tie
+
+pub cast-node-spec : {M : Type 1} → statement M
+cast-node-spec =
+    tie.close
+    (tie.spec
+    (λ c. search needs)
+    (λ c κs. search needs)
+    (λ c. search needs)
+    (λ c κs. let (x, N) = c .before .before .before .before .before .before .before .pre .0 in (N .here _ _ (c .before .before .node .given .1) .raw, c .before .before .before .before .before .before .before .pre .1))
+    (λ c. search needs)
+    (λ c. λ x N. reached-as (cast-null _ (N .none (c .before .before .before .before .enum-told .given .1))) (reached-null refl (c .before .before .put-nothing .ensures)))
+    (λ c. search needs)
+    (λ c. λ x N. let I = N .here _ _ (c .before .before .before .before .before .node .given .1) in reached-as (ap (castLeaf (c .before .before .before .before .before .before .before .before .before .before .args .to)) (I .is)) (c .before .before .put-leaf .ensures (I .raw))))

@@ -1,0 +1,19 @@
+use Rattle.transfer.proofs.Opening.{opened-as}
+use Rattle.nodes.proofs.Node.{raw-present}
+use Rattle.values.proofs.Inside.{null-at}
+use borrow.Author.Needs.{needs}
+use Rattle.transfer.proofs.opened.open_value.Statement.{statement}
+use Rattle.transfer.proofs.opened.open_value.Tie as tie
+
+pub open-value-spec : {M : Type 1} → statement M
+open-value-spec =
+    tie.close
+    (tie.spec
+    (λ c κs. search needs)
+    (λ c. search needs)
+    (λ c. search needs)
+    (λ c κs. search needs)
+    (λ c. search needs)
+    (λ c. λ X. record { answer = null-at (X .value) (c .before .before .read-presence .ensures) (c .enum-told .given .1) .0 })
+    (λ c. λ X. let I = raw-present X (c .before .before .before .before .read-presence .ensures) (c .before .before .d .given .1) in opened-as (I .is) (c .open-present .ensures (I .inner)))
+    (λ c. search needs))

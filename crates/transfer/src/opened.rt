@@ -1,0 +1,92 @@
+// What a value is made of: the values of a struct's columns, the elements of a list or an array.
+ghost use Rattle.layout.specs.Bytes.{Bytes};
+ghost use Rattle.layout.specs.declared.version.Version.{Version as VersionOf};
+ghost use Rattle.values.specs.Value.{Value, Values};
+ghost use Rattle.plan.specs.Run.{valueAt, eval};
+ghost use Rattle.walk.specs.Stands.{SelectorAt};
+ghost use Rattle.nodes.specs.Raw.{RawAt, PresentAt, ListOf, NodeOf};
+ghost use Rattle.transfer.specs.Reaching.{takes};
+ghost use Rattle.transfer.specs.Opening.{OpenedIs};
+use crate::origin::is_position;
+use layout::columns::Labelled;
+use layout::cursor::Cursor;
+use layout::cursor::Short;
+use layout::types::Head;
+use layout::version::Version;
+use nodes::raw::NodeAt;
+use values::leaf::Presence;
+use values::leaf::read_presence;
+
+// How many columns or elements there are, where their types begin and where their values do.
+pub enum Opened {
+    Null,
+    Other,
+    Row(u16, Cursor, Cursor),
+    List(u32, Cursor, Cursor),
+    Array(u32, Cursor, Cursor),
+}
+
+// A list that is present, from its count on.
+fn open_list(t: Cursor, rec: &[u8], c: Cursor) -> Opened
+    ensures { λ r. ⌜ ((v : VersionOf) (lay : Bytes) (X : ListOf v lay (t .at) (now (rec .entry)) (c .at)) → OpenedIs v lay (now (rec .entry)) (X .content .tree) r) ⌝ }
+{
+    match c.short(rec) {
+        Short::Is(n, d) => Opened::List(n as u32, t, d),
+        Short::Refused(_) => Opened::Other,
+    }
+}
+
+// A value that is present, after its presence byte.
+fn open_present(lay: &[u8], v: Version, t: Cursor, rec: &[u8], c: Cursor) -> Opened
+    ensures { λ r. ⌜ ((X : PresentAt v (now (lay .entry)) (t .at) (now (rec .entry)) (c .at)) → OpenedIs v (now (lay .entry)) (now (rec .entry)) (X .content .tree) r) ⌝ }
+{
+    match t.head(lay) {
+        Head::Leaf(_, _) => Opened::Other,
+        Head::Struct(n, e) => Opened::Row(n, e, c),
+        Head::List(e) => match e.element_label(lay, v) {
+            Labelled::Is(_, f) => open_list(f, rec, c),
+            Labelled::Refused(_) => Opened::Other,
+        },
+        Head::Array(w, e) => match e.element_label(lay, v) {
+            Labelled::Is(_, f) => Opened::Array(w, f, c),
+            Labelled::Refused(_) => Opened::Other,
+        },
+        Head::Refused(_) => Opened::Other,
+    }
+}
+
+fn open_value(lay: &[u8], v: Version, t: Cursor, rec: &[u8], c: Cursor) -> Opened
+    ensures { λ r. ⌜ ((X : RawAt v (now (lay .entry)) (t .at) (now (rec .entry)) (c .at)) → OpenedIs v (now (lay .entry)) (now (rec .entry)) (X .value .tree) r) ⌝ }
+{
+    match read_presence(rec, c) {
+        Presence::Null(_) => Opened::Null,
+        Presence::Present(d) => open_present(lay, v, t, rec, d),
+        Presence::Refused(_) => Opened::Other,
+    }
+}
+
+fn open_node(lay: &[u8], v: Version, rec: &[u8], node: NodeAt) -> Opened
+    ensures { λ r. ⌜ ((x : Value) → NodeOf v (now (lay .entry)) (now (rec .entry)) x node → OpenedIs v (now (lay .entry)) (now (rec .entry)) x r) ⌝ }
+{
+    match node {
+        NodeAt::Null => Opened::Null,
+        NodeAt::At(t, c) => open_value(lay, v, t, rec, c),
+    }
+}
+
+// The input of a mapping, if it is a position: the node is the value that it takes.
+pub fn open_input(
+    lay: &[u8],
+    v: Version,
+    rec: &[u8],
+    node: NodeAt,
+    plan: &[u8],
+    input: Cursor,
+) -> Opened
+    ensures { λ r. ⌜ ((ρ : Values) (P : SelectorAt (now (plan .entry)) (input .at)) → NodeOf v (now (lay .entry)) (now (rec .entry)) (valueAt ρ (takes (P .tree))) node → OpenedIs v (now (lay .entry)) (now (rec .entry)) (eval ρ (P .tree)) r) ⌝ }
+{
+    if is_position(plan, input) {
+        return open_node(lay, v, rec, node);
+    }
+    Opened::Other
+}

@@ -1,0 +1,334 @@
+// What selectors give, in one pass over the plan. Recursion goes as deep as selectors nest; columns and elements are loops.
+ghost use mathlib.Core.Path.{_≡_};
+ghost use mathlib.Core.Bool.{Bool, true};
+ghost use Prim.Native.Nat.{ℕ, _≤_, _<_};
+ghost use lib.ListN.{length};
+ghost use Rattle.layout.specs.Bytes.{Bytes};
+ghost use Rattle.layout.specs.declared.version.Version.{Version as VersionOf};
+ghost use Rattle.values.specs.Value.{Value, Values, vnil, vcons};
+ghost use Rattle.values.specs.Encode.{encodeValue, encodeValues};
+ghost use Rattle.plan.specs.Run.{valueAt, mapValues, eval, evals, clean, cleanAll};
+ghost use Rattle.walk.specs.Stands.{SelectorAt, SelectorsAt};
+ghost use Rattle.walk.specs.Parts.{TextAt, CastAt, StructAt, ListAt, ArrayAt};
+ghost use Rattle.nodes.specs.Raw.{RawAt, RowAt, ElementsAt, NodeOf};
+ghost use Rattle.index.specs.Indexed.{IndexedRow};
+ghost use Rattle.transfer.specs.Reaching.{takes, ReachedIs};
+use crate::leaf::Reached;
+use crate::leaf::limited;
+use crate::leaf::put_cast;
+use crate::leaf::put_constant;
+use crate::leaf::put_node;
+use crate::leaf::put_nothing;
+use crate::opened::Opened;
+use crate::opened::open_input;
+use crate::origin::is_position;
+use crate::origin::taken_position;
+use index::row::indexed_value;
+use layout::cursor::Cursor;
+use layout::cursor::Moved;
+use layout::cursor::Text;
+use layout::version::Version;
+use nodes::raw::NodeAt;
+use raw::copy::put_lead;
+use values::read::read_element;
+use walk::head::SelectorHead;
+use walk::head::head;
+use walk::head::skip_selector;
+use walk::head::struct_fields;
+
+// A cast of a position.
+fn transfer_cast(
+    lay: &[u8],
+    v: Version,
+    rec: &[u8],
+    node: NodeAt,
+    plan: &[u8],
+    c: Cursor,
+    input: Cursor,
+    out: &mut [u8],
+    k: usize,
+) -> Reached
+    requires { ⌜ ((x : Value) × NodeOf v (now lay) (now rec) x node) ⌝ }
+    requires { ⌜ (length (now rec) ≤ 65536) × (k ≤ 16384) ⌝ }
+    ensures { λ r. ⌜ ((ρ : Values) (P : SelectorAt (now (plan .entry)) (c .at)) → CastAt (now (plan .entry)) (c .at) P (input .at) → NodeOf v (now (lay .entry)) (now (rec .entry)) (valueAt ρ (takes (P .tree))) node → ReachedIs (clean (eval ρ (P .tree))) (encodeValue (eval ρ (P .tree))) (P .end) (now (out .entry)) k r (now (out .exit))) ⌝ }
+{
+    if is_position(plan, input) {
+        let t = skip_selector(plan, input);
+        let end = skip_selector(plan, c);
+        return put_cast(lay, v, rec, node, plan, t, end, out, k);
+    }
+    Reached::Unknown
+}
+
+// What a rename's input gave, and past the name.
+fn past_name(plan: &[u8], r: Reached) -> Reached
+    ensures { λ q. ⌜ ((ok : Bool) (b : Bytes) (e : ℕ) (out : Bytes) (k : ℕ) (new : Bytes) (N : TextAt (now (plan .entry)) e) → ReachedIs ok b e out k r new → ReachedIs ok b (N .end) out k q new) ⌝ }
+{
+    match r {
+        Reached::To(c, at) => match c.text(plan) {
+            Text::Is(_, d) => Reached::To(d, at),
+            Text::Refused(_) => Reached::Unknown,
+        },
+        Reached::Unknown => Reached::Unknown,
+    }
+}
+
+// The one value that an element's selector can take.
+fn element_node(p: u16, t: Cursor, c: Cursor) -> NodeAt
+    ensures { λ r. ⌜ ((v : VersionOf) (lay rec : Bytes) (X : RawAt v lay (t .at) rec (c .at)) → NodeOf v lay rec (valueAt (vcons (X .value .tree) vnil) p) r) ⌝ }
+{
+    if p == 0 {
+        return NodeAt::At(t, c);
+    }
+    NodeAt::Null
+}
+
+fn skip_value(lay: &[u8], v: Version, t: Cursor, rec: &[u8], c: Cursor) -> Cursor
+    requires { ⌜ RawAt v (now lay) (t .at) (now rec) (c .at) ⌝ }
+    ensures { λ r. ⌜ ((X : RawAt v (now (lay .entry)) (t .at) (now (rec .entry)) (c .at)) → r .at ≡ X .value .end) ⌝ }
+{
+    match read_element(lay, v, 16, t, rec, c) {
+        Moved::To(d) => d,
+        Moved::Refused(_) => c,
+    }
+}
+
+// The `count` selectors from `first` on, over the values from `d` on of the `n` columns at `t`.
+pub fn transfer_row(
+    lay: &[u8],
+    v: Version,
+    n: u16,
+    t: Cursor,
+    rec: &[u8],
+    d: Cursor,
+    types: &[u16],
+    values: &[u16],
+    stride: u16,
+    plan: &[u8],
+    count: u16,
+    first: Cursor,
+    levels: u8,
+    out: &mut [u8],
+    k: usize,
+) -> Reached
+    requires { ⌜ RowAt v (now lay) n (t .at) (now rec) (d .at) ⌝ }
+    requires { ⌜ IndexedRow v (now lay) n (t .at) (now rec) (d .at) stride (now types) (now values) × (0 < stride) ⌝ }
+    requires { ⌜ SelectorsAt (now plan) count (first .at) ⌝ }
+    requires { ⌜ (length (now rec) ≤ 65536) × (length (now plan) ≤ 65536) × (k ≤ 16387) ⌝ }
+    ensures { λ r. ⌜ ((X : RowAt v (now (lay .entry)) n (t .at) (now (rec .entry)) (d .at)) (S : SelectorsAt (now (plan .entry)) count (first .at)) → ReachedIs (cleanAll (evals (X .values .values) (S .trees))) (encodeValues (evals (X .values .values) (S .trees))) (S .end) (now (out .entry)) k r (now (out .exit))) ⌝ }
+{
+    let mut at = k;
+    let mut from = first.at;
+    let mut i: u16 = 0;
+    while i < count {
+        let c = Cursor { at: from };
+        let p = taken_position(plan, c);
+        let node = indexed_value(lay, v, n, t, rec, d, types, values, stride, p);
+        match transfer(lay, v, rec, node, plan, c, levels, out, at) {
+            Reached::To(e, r) => {
+                from = e.at;
+                at = r;
+            }
+            Reached::Unknown => return Reached::Unknown,
+        }
+        i += 1;
+    }
+    limited(Cursor { at: from }, at)
+}
+
+// The selector `element` over each of `m` values from `d` on of the type at `t`; the mapping ends at `end`.
+fn transfer_elements(
+    lay: &[u8],
+    v: Version,
+    m: u32,
+    t: Cursor,
+    rec: &[u8],
+    d: Cursor,
+    plan: &[u8],
+    element: Cursor,
+    end: Cursor,
+    levels: u8,
+    out: &mut [u8],
+    k: usize,
+) -> Reached
+    requires { ⌜ ElementsAt v (now lay) m (t .at) (now rec) (d .at) ⌝ }
+    requires { ⌜ SelectorAt (now plan) (element .at) ⌝ }
+    requires { ⌜ (length (now rec) ≤ 65536) × (length (now plan) ≤ 65536) × (k ≤ 16387) ⌝ }
+    ensures { λ r. ⌜ ((X : ElementsAt v (now (lay .entry)) m (t .at) (now (rec .entry)) (d .at)) (P : SelectorAt (now (plan .entry)) (element .at)) → ReachedIs (cleanAll (mapValues (λ x. eval (vcons x vnil) (P .tree)) (X .values .values))) (encodeValues (mapValues (λ x. eval (vcons x vnil) (P .tree)) (X .values .values))) (end .at) (now (out .entry)) k r (now (out .exit))) ⌝ }
+{
+    let p = taken_position(plan, element);
+    let mut at = k;
+    let mut from = d.at;
+    let mut i: u32 = 0;
+    while i < m {
+        let c = Cursor { at: from };
+        let next = skip_value(lay, v, t, rec, c);
+        let node = element_node(p, t, c);
+        match transfer(lay, v, rec, node, plan, element, levels, out, at) {
+            Reached::To(_, r) => {
+                from = next.at;
+                at = r;
+            }
+            Reached::Unknown => return Reached::Unknown,
+        }
+        i += 1;
+    }
+    limited(end, at)
+}
+
+// A struct mapping at `c`, over a column that is a struct.
+fn transfer_struct(
+    lay: &[u8],
+    v: Version,
+    rec: &[u8],
+    node: NodeAt,
+    plan: &[u8],
+    c: Cursor,
+    input: Cursor,
+    levels: u8,
+    out: &mut [u8],
+    k: usize,
+) -> Reached
+    requires { ⌜ ((x : Value) × NodeOf v (now lay) (now rec) x node) ⌝ }
+    requires { ⌜ ((P : SelectorAt (now plan) (c .at)) × StructAt (now plan) (c .at) P (input .at)) ⌝ }
+    requires { ⌜ (length (now rec) ≤ 65536) × (length (now plan) ≤ 65536) × (k ≤ 16384) ⌝ }
+    ensures { λ r. ⌜ ((ρ : Values) (P : SelectorAt (now (plan .entry)) (c .at)) → StructAt (now (plan .entry)) (c .at) P (input .at) → NodeOf v (now (lay .entry)) (now (rec .entry)) (valueAt ρ (takes (P .tree))) node → ReachedIs (clean (eval ρ (P .tree))) (encodeValue (eval ρ (P .tree))) (P .end) (now (out .entry)) k r (now (out .exit))) ⌝ }
+{
+    let none = [0u16; 1];
+    match open_input(lay, v, rec, node, plan, input) {
+        Opened::Null => put_nothing(skip_selector(plan, c), out, k),
+        Opened::Row(n, t, d) => {
+            let at = put_lead(false, 0, out, k);
+            let f = struct_fields(plan, input);
+            let index = &none[..0];
+            transfer_row(
+                lay,
+                v,
+                n,
+                t,
+                rec,
+                d,
+                index,
+                index,
+                1,
+                plan,
+                f.count,
+                f.first,
+                levels,
+                out,
+                at,
+            )
+        }
+        Opened::List(_, _, _) => Reached::Unknown,
+        Opened::Array(_, _, _) => Reached::Unknown,
+        Opened::Other => Reached::Unknown,
+    }
+}
+
+// A list mapping at `c`, over a column that is a list.
+fn transfer_list(
+    lay: &[u8],
+    v: Version,
+    rec: &[u8],
+    node: NodeAt,
+    plan: &[u8],
+    c: Cursor,
+    input: Cursor,
+    levels: u8,
+    out: &mut [u8],
+    k: usize,
+) -> Reached
+    requires { ⌜ ((x : Value) × NodeOf v (now lay) (now rec) x node) ⌝ }
+    requires { ⌜ ((P : SelectorAt (now plan) (c .at)) × ListAt (now plan) (c .at) P (input .at)) ⌝ }
+    requires { ⌜ (length (now rec) ≤ 65536) × (length (now plan) ≤ 65536) × (k ≤ 16384) ⌝ }
+    ensures { λ r. ⌜ ((ρ : Values) (P : SelectorAt (now (plan .entry)) (c .at)) → ListAt (now (plan .entry)) (c .at) P (input .at) → NodeOf v (now (lay .entry)) (now (rec .entry)) (valueAt ρ (takes (P .tree))) node → ReachedIs (clean (eval ρ (P .tree))) (encodeValue (eval ρ (P .tree))) (P .end) (now (out .entry)) k r (now (out .exit))) ⌝ }
+{
+    let end = skip_selector(plan, c);
+    match open_input(lay, v, rec, node, plan, input) {
+        Opened::Null => put_nothing(end, out, k),
+        Opened::List(m, t, d) => {
+            let at = put_lead(true, m, out, k);
+            let element = skip_selector(plan, input);
+            transfer_elements(lay, v, m, t, rec, d, plan, element, end, levels, out, at)
+        }
+        Opened::Row(_, _, _) => Reached::Unknown,
+        Opened::Array(_, _, _) => Reached::Unknown,
+        Opened::Other => Reached::Unknown,
+    }
+}
+
+// An array mapping at `c`, over a column that is an array.
+fn transfer_array(
+    lay: &[u8],
+    v: Version,
+    rec: &[u8],
+    node: NodeAt,
+    plan: &[u8],
+    c: Cursor,
+    input: Cursor,
+    levels: u8,
+    out: &mut [u8],
+    k: usize,
+) -> Reached
+    requires { ⌜ ((x : Value) × NodeOf v (now lay) (now rec) x node) ⌝ }
+    requires { ⌜ ((P : SelectorAt (now plan) (c .at)) × ArrayAt (now plan) (c .at) P (input .at)) ⌝ }
+    requires { ⌜ (length (now rec) ≤ 65536) × (length (now plan) ≤ 65536) × (k ≤ 16384) ⌝ }
+    ensures { λ r. ⌜ ((ρ : Values) (P : SelectorAt (now (plan .entry)) (c .at)) → ArrayAt (now (plan .entry)) (c .at) P (input .at) → NodeOf v (now (lay .entry)) (now (rec .entry)) (valueAt ρ (takes (P .tree))) node → ReachedIs (clean (eval ρ (P .tree))) (encodeValue (eval ρ (P .tree))) (P .end) (now (out .entry)) k r (now (out .exit))) ⌝ }
+{
+    let end = skip_selector(plan, c);
+    match open_input(lay, v, rec, node, plan, input) {
+        Opened::Null => put_nothing(end, out, k),
+        Opened::Array(m, t, d) => {
+            let at = put_lead(false, m, out, k);
+            let element = skip_selector(plan, input);
+            transfer_elements(lay, v, m, t, rec, d, plan, element, end, levels, out, at)
+        }
+        Opened::Row(_, _, _) => Reached::Unknown,
+        Opened::List(_, _, _) => Reached::Unknown,
+        Opened::Other => Reached::Unknown,
+    }
+}
+
+// The selector at `c`: the node is the value that it takes.
+pub fn transfer(
+    lay: &[u8],
+    v: Version,
+    rec: &[u8],
+    node: NodeAt,
+    plan: &[u8],
+    c: Cursor,
+    levels: u8,
+    out: &mut [u8],
+    k: usize,
+) -> Reached
+    requires { ⌜ ((x : Value) × NodeOf v (now lay) (now rec) x node) ⌝ }
+    requires { ⌜ SelectorAt (now plan) (c .at) ⌝ }
+    requires { ⌜ (length (now rec) ≤ 65536) × (length (now plan) ≤ 65536) × (k ≤ 16387) ⌝ }
+    ensures { λ r. ⌜ ((ρ : Values) (P : SelectorAt (now (plan .entry)) (c .at)) → NodeOf v (now (lay .entry)) (now (rec .entry)) (valueAt ρ (takes (P .tree))) node → ReachedIs (clean (eval ρ (P .tree))) (encodeValue (eval ρ (P .tree))) (P .end) (now (out .entry)) k r (now (out .exit))) ⌝ }
+{
+    if levels == 0 {
+        return Reached::Unknown;
+    }
+    if 16384 < k {
+        return Reached::Unknown;
+    }
+    match head(plan, c) {
+        SelectorHead::Position(_) => { put_node(lay, v, rec, node, skip_selector(plan, c), out, k) }
+        SelectorHead::Constant(_, t) => put_constant(plan, t, skip_selector(plan, c), out, k),
+        SelectorHead::Cast(input) => transfer_cast(lay, v, rec, node, plan, c, input, out, k),
+        SelectorHead::Rename(input) => {
+            let r = transfer(lay, v, rec, node, plan, input, levels - 1, out, k);
+            past_name(plan, r)
+        }
+        SelectorHead::Struct(input) => {
+            transfer_struct(lay, v, rec, node, plan, c, input, levels - 1, out, k)
+        }
+        SelectorHead::List(input) => {
+            transfer_list(lay, v, rec, node, plan, c, input, levels - 1, out, k)
+        }
+        SelectorHead::Array(input) => {
+            transfer_array(lay, v, rec, node, plan, c, input, levels - 1, out, k)
+        }
+        SelectorHead::Refused => Reached::Unknown,
+    }
+}
