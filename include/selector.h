@@ -113,8 +113,8 @@ extern "C" {
 #define SELECTOR_ALLOW_ALL UINT32_C(0x3FFF)
 
 /* Reads a layout of version 1 or 2 to its end. The answer is 0 where it is accepted, else one of the numbers above with place 1.
- * Stack: SELECTOR_READ_STACK. Time: repeated names and ids are looked for by scanning earlier siblings again, so that it grows as the square of the
- * number of columns. */
+ * Stack: SELECTOR_READ_STACK. Time: grows with the bytes; earlier siblings are scanned for a repeated name or id only where a table of bits says that there
+ * may be one, so that only layouts made for it take the square of the number of columns. */
 uint64_t selector_read_layout(const uint8_t *layout, size_t length);
 
 /* Builds the plan that takes records of the incoming layout to the target layout, columns matched by name. Both are of version 1.

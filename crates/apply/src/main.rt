@@ -1,26 +1,7 @@
 // Document 01's program: reads incoming.lay, target.lay, plan.pln and record.bin in the current folder and writes the output record's bytes, or `refused`, the
-// refusal's number and a line feed. A file that can't be opened counts as empty; of a longer one, a byte past its limit is read, which is enough to refuse it.
-ghost use Rattle.io.specs.Counts.{Counts};
+// refusal's number and a line feed. Of a file that is too long, a byte past its limit is read, which is enough to refuse it.
+use files::read_file;
 use libc::STDOUT_FILENO;
-
-// Puts a file at the start of `buffer`, as far as it fits, and answers how many bytes.
-fn read_file(path: &[u8], buffer: &mut [u8]) -> usize
-    ensures { λ r. ⌜ Counts r (now (buffer .exit)) ⌝ }
-{
-    let file = os::open_read(path);
-    if file < 0 {
-        return none(buffer);
-    }
-    let n = io::read_full(file, buffer);
-    libc::close(file);
-    n
-}
-
-fn none(buffer: &[u8]) -> usize
-    ensures { λ r. ⌜ Counts r (now (buffer .entry)) ⌝ }
-{
-    io::count(-1, buffer)
-}
 
 // `answer` is that of `selector_run`.
 fn report(answer: u64, output: &[u8]) {

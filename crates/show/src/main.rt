@@ -13,6 +13,7 @@ ghost use Rattle.layout.specs.Bytes.{sameBytes};
 use describe::columns::put_layout;
 use describe::records::put_record;
 use describe::tables::put_table;
+use files::read_file;
 use layout::bytes::same_bytes;
 use layout::read::LayoutRead;
 use layout::read::read_layout;
@@ -21,25 +22,6 @@ use plans::put_plan_alone;
 use plans::put_plan_over;
 use text::out::put;
 use text::words::put_refusal;
-
-fn none(buffer: &[u8]) -> usize
-    ensures { λ r. ⌜ Counts r (now (buffer .entry)) ⌝ }
-{
-    io::count(-1, buffer)
-}
-
-// Puts a file at the start of `buffer`, as far as it fits, and answers how many bytes.
-fn read_file(path: &[u8], buffer: &mut [u8]) -> usize
-    ensures { λ r. ⌜ Counts r (now (buffer .exit)) ⌝ }
-{
-    let file = os::open_read(path);
-    if file < 0 {
-        return none(buffer);
-    }
-    let n = io::read_full(file, buffer);
-    libc::close(file);
-    n
-}
 
 // The file that argument `i` names.
 fn read_argument(i: usize, buffer: &mut [u8]) -> usize
