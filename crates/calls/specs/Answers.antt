@@ -11,12 +11,16 @@ use Rattle.layout.specs.Stands.{ColumnsAt}
 use Rattle.layout.specs.declared.cursor.Cursor.{Cursor}
 use Rattle.layout.specs.declared.version.Version.{Version}
 use Rattle.forms.specs.Form.{u16Bytes}
+use Rattle.rules.specs.declared.policy.Policy.{Policy}
 use Rattle.plan.specs.Result.{Answer, accepted, refusedAt, placed, demand, gives}
 use Rattle.plan.specs.Selector.{Selectors}
 use Rattle.plan.specs.Encode.{planMark, encodeSelectors, encodePlan}
 use Rattle.plan.specs.Calls.{bufferAfter}
+use Rattle.matching.specs.Build.{buildFrom}
 use Rattle.matching.specs.Calls.{bothLayouts, roomFor}
+use Rattle.builder.specs.Answers.{DefaultsAt, defaultsAt}
 use Rattle.builder.specs.declared.answer.Made.{Made}
+use Rattle.builder.specs.declared.default.DefaultFieldValues.{DefaultFieldValues}
 use Rattle.calls.specs.declared.write.Attempt.{Attempt}
 use Rattle.calls.specs.declared.write.Build.{Build}
 use Rattle.calls.specs.declared.columns.ColumnsMade.{ColumnsMade}
@@ -65,6 +69,12 @@ WroteColumns b e out k (refusedAt n i) out′ = Unit {0}
 pub record MakesColumns (b e : ℕ) (out : Bytes) (k : ℕ) (X : Answer Selectors) (r : ColumnsMade) (out′ : Bytes) : Type 0 where
   pub answer : r ≡ columnsMade X
   pub wrote : WroteColumns b e out k X out′
+
+-- n incoming columns at `at`, m target columns at `bt`
+abbrev pub BuiltColumns : Policy → Version → Bytes → DefaultFieldValues → Bytes → ℕ → ℕ → Bytes → ℕ → ℕ → Bytes → ℕ → ColumnsMade → Bytes → Type 0
+BuiltColumns p v table dv incoming n at target m bt out k r out′ =
+    (T : DefaultsAt table dv) (P : ColumnsAt v deepest incoming n at) (Q : ColumnsAt v deepest target m bt)
+    → MakesColumns bt (Q .end) out k (buildFrom v p (defaultsAt dv T) (Q .columns) (P .columns) 0) r out′
 
 -- ---- the plan
 

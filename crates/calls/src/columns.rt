@@ -1,20 +1,28 @@
-// The selectors of the target columns.
+// The selectors of the target columns. Where these are many, their counterparts are found through a table of the incoming columns.
 ghost use mathlib.Core.Path.{_≡_};
+ghost use mathlib.Core.Bool.{true};
 ghost use Prim.Native.Nat.{_*_, _≤_};
 ghost use lib.ListN.{length};
+ghost use Rattle.layout.specs.Answers.{labelAt, spanIn};
+ghost use Rattle.layout.specs.Find.{Finds};
 ghost use Rattle.layout.specs.Layout.{deepest};
 ghost use Rattle.layout.specs.Stands.{ColumnsAt};
 ghost use Rattle.defaults.specs.Stands.{TableAt};
-ghost use Rattle.matching.specs.Build.{buildFrom};
-ghost use Rattle.builder.specs.Answers.{DefaultsAt, defaultsAt};
-ghost use Rattle.calls.specs.Answers.{failedColumn, MakesColumns};
+ghost use Rattle.labels.specs.Table.{Table};
+ghost use Rattle.matching.specs.Build.{counterpart};
+ghost use Rattle.calls.specs.Answers.{failedColumn, BuiltColumns};
 use builder::answer::Made;
 use builder::answer::is_refused;
 use builder::answer::len_of;
 use builder::conditions::inserts;
 use builder::default::DefaultFieldValues;
+use builder::fields::find_counterpart;
+use labels::counterpart_in;
+use labels::fill;
+use layout::columns::Label;
 use layout::columns::Labelled;
 use layout::cursor::Cursor;
+use layout::find::Found;
 use layout::version::Version;
 use layout::walk::skip_type;
 use matcher::attach::attach_field;
@@ -36,13 +44,39 @@ fn failed_column(made: Made, position: u16) -> ColumnsMade
     }
 }
 
+// Among the `n` incoming columns, the counterpart of the label `l`, which stands in `target`: through the table, where it is whole.
+fn find_top(
+    incoming: &[u8],
+    v: Version,
+    n: u16,
+    c: Cursor,
+    whole: bool,
+    starts: &[u16],
+    positions: &[u16],
+    target: &[u8],
+    l: Label,
+) -> Found
+    requires { ⌜ ColumnsAt v deepest (now incoming) n (c .at) ⌝ }
+    requires { ⌜ (whole ≡ true → Table v (now incoming) n (c .at) (now starts) (now positions)) ⌝ }
+    requires { ⌜ spanIn (now target) (l .name) ⌝ }
+    ensures { λ r. ⌜ ((P : ColumnsAt v deepest (now (incoming .entry)) n (c .at)) → Finds v deepest (now (incoming .entry)) (counterpart v (labelAt (now (target .entry)) l) (P .columns)) r) ⌝ }
+{
+    if whole {
+        return counterpart_in(incoming, v, n, c, starts, positions, target, l);
+    }
+    find_counterpart(incoming, v, 16, n, c, target, l)
+}
+
 // The selectors of the `m` target columns, in order; the place of a refusal is the column's position.
-pub fn build_columns(
+fn build_each(
     policy: Policy,
     v: Version,
     incoming: &[u8],
     n: u16,
     c: Cursor,
+    whole: bool,
+    starts: &[u16],
+    positions: &[u16],
     table: &[u8],
     defaults: DefaultFieldValues,
     target: &[u8],
@@ -54,7 +88,8 @@ pub fn build_columns(
     requires { ⌜ ColumnsAt v deepest (now incoming) n (c .at) × ColumnsAt v deepest (now target) m (b .at) ⌝ }
     requires { ⌜ TableAt (now table) (defaults .count) (defaults .entries .at) ⌝ }
     requires { ⌜ (length (now target) ≤ 16384) × (length (now table) ≤ 16384) × (k ≤ 65536 * b .at) ⌝ }
-    ensures { λ r. ⌜ ((T : DefaultsAt (now (table .entry)) defaults) (P : ColumnsAt v deepest (now (incoming .entry)) n (c .at)) (Q : ColumnsAt v deepest (now (target .entry)) m (b .at)) → MakesColumns (b .at) (Q .end) (now (out .entry)) k (buildFrom v policy (defaultsAt defaults T) (Q .columns) (P .columns) 0) r (now (out .exit))) ⌝ }
+    requires { ⌜ (whole ≡ true → Table v (now incoming) n (c .at) (now starts) (now positions)) ⌝ }
+    ensures { λ r. ⌜ BuiltColumns policy v (now (table .entry)) defaults (now (incoming .entry)) n (c .at) (now (target .entry)) m (b .at) (now (out .entry)) k r (now (out .exit)) ⌝ }
 {
     let missing = policy.missing_columns;
     let insert = inserts(missing);
@@ -65,13 +100,13 @@ pub fn build_columns(
         let d = Cursor { at };
         match d.label(target, v) {
             Labelled::Is(l, e) => {
+                let found = find_top(incoming, v, n, c, whole, starts, positions, target, l);
                 let made = attach_field(
                     policy,
                     v,
                     16,
                     incoming,
-                    n,
-                    c,
+                    found,
                     table,
                     defaults,
                     target,
@@ -94,4 +129,139 @@ pub fn build_columns(
         i += 1;
     }
     ColumnsMade::Done(to - k)
+}
+
+// The same for few columns: a scan takes less time than a table.
+fn build_few(
+    policy: Policy,
+    v: Version,
+    incoming: &[u8],
+    n: u16,
+    c: Cursor,
+    table: &[u8],
+    defaults: DefaultFieldValues,
+    target: &[u8],
+    m: u16,
+    b: Cursor,
+    out: &mut [u8],
+    k: usize,
+) -> ColumnsMade
+    requires { ⌜ ColumnsAt v deepest (now incoming) n (c .at) × ColumnsAt v deepest (now target) m (b .at) ⌝ }
+    requires { ⌜ TableAt (now table) (defaults .count) (defaults .entries .at) ⌝ }
+    requires { ⌜ (length (now target) ≤ 16384) × (length (now table) ≤ 16384) × (k ≤ 65536 * b .at) ⌝ }
+    ensures { λ r. ⌜ BuiltColumns policy v (now (table .entry)) defaults (now (incoming .entry)) n (c .at) (now (target .entry)) m (b .at) (now (out .entry)) k r (now (out .exit)) ⌝ }
+{
+    let array = [0u16; 1];
+    let none = &array[..];
+    build_each(
+        policy,
+        v,
+        incoming,
+        n,
+        c,
+        false,
+        none,
+        none,
+        table,
+        defaults,
+        target,
+        m,
+        b,
+        out,
+        k,
+    )
+}
+
+// The same for many columns.
+fn build_many(
+    policy: Policy,
+    v: Version,
+    incoming: &[u8],
+    n: u16,
+    c: Cursor,
+    table: &[u8],
+    defaults: DefaultFieldValues,
+    target: &[u8],
+    m: u16,
+    b: Cursor,
+    out: &mut [u8],
+    k: usize,
+) -> ColumnsMade
+    requires { ⌜ ColumnsAt v deepest (now incoming) n (c .at) × ColumnsAt v deepest (now target) m (b .at) ⌝ }
+    requires { ⌜ TableAt (now table) (defaults .count) (defaults .entries .at) ⌝ }
+    requires { ⌜ (length (now target) ≤ 16384) × (length (now table) ≤ 16384) × (k ≤ 65536 * b .at) ⌝ }
+    ensures { λ r. ⌜ BuiltColumns policy v (now (table .entry)) defaults (now (incoming .entry)) n (c .at) (now (target .entry)) m (b .at) (now (out .entry)) k r (now (out .exit)) ⌝ }
+{
+    let mut starts = [0u16; 1024];
+    let mut positions = [0u16; 1024];
+    let whole = fill(incoming, v, n, c, &mut starts, &mut positions);
+    build_each(
+        policy,
+        v,
+        incoming,
+        n,
+        c,
+        whole,
+        &starts,
+        &positions,
+        table,
+        defaults,
+        target,
+        m,
+        b,
+        out,
+        k,
+    )
+}
+
+// The selectors of the `m` target columns, in order; the place of a refusal is the column's position.
+pub fn build_columns(
+    policy: Policy,
+    v: Version,
+    incoming: &[u8],
+    n: u16,
+    c: Cursor,
+    table: &[u8],
+    defaults: DefaultFieldValues,
+    target: &[u8],
+    m: u16,
+    b: Cursor,
+    out: &mut [u8],
+    k: usize,
+) -> ColumnsMade
+    requires { ⌜ ColumnsAt v deepest (now incoming) n (c .at) × ColumnsAt v deepest (now target) m (b .at) ⌝ }
+    requires { ⌜ TableAt (now table) (defaults .count) (defaults .entries .at) ⌝ }
+    requires { ⌜ (length (now target) ≤ 16384) × (length (now table) ≤ 16384) × (k ≤ 65536 * b .at) ⌝ }
+    ensures { λ r. ⌜ BuiltColumns policy v (now (table .entry)) defaults (now (incoming .entry)) n (c .at) (now (target .entry)) m (b .at) (now (out .entry)) k r (now (out .exit)) ⌝ }
+{
+    if m <= 16 {
+        return build_few(
+            policy,
+            v,
+            incoming,
+            n,
+            c,
+            table,
+            defaults,
+            target,
+            m,
+            b,
+            out,
+            k,
+        );
+    }
+    build_many(
+        policy,
+        v,
+        incoming,
+        n,
+        c,
+        table,
+        defaults,
+        target,
+        m,
+        b,
+        out,
+        k,
+    )
 }

@@ -5,10 +5,12 @@ ghost use mathlib.Core.Bool.{true};
 ghost use Prim.Native.Nat.{ℕ, _+_, _-_, _*_, _≤_, _<_};
 ghost use lib.ListN.{length};
 ghost use Rattle.layout.specs.Answers.{labelAt, spanIn};
+ghost use Rattle.layout.specs.Find.{Finds};
 ghost use Rattle.layout.specs.Stands.{TypeAt, ColumnsAt};
+ghost use Rattle.layout.specs.Tree.{Columns};
 ghost use Rattle.defaults.specs.Stands.{TableAt};
 ghost use Rattle.plan.specs.Selector.{Selector};
-ghost use Rattle.matching.specs.Build.{unlessNullType};
+ghost use Rattle.matching.specs.Build.{counterpart, unlessNullType};
 ghost use Rattle.builder.specs.Answers.{Makes, Maps, elementOf, needsRename, DefaultsAt, defaultsAt, Attached, AttachedFields, attachRenamed, attachField, attachStruct, attachElement, attachInner, attachNested};
 use builder::answer::Made;
 use builder::answer::Row;
@@ -272,13 +274,13 @@ fn attach_fields(
         let f = Cursor { at: from };
         match f.label(target, v) {
             Labelled::Is(l, next) => {
+                let found = find_counterpart(incoming, v, depth, n, c, target, l);
                 let first = attach_field(
                     policy,
                     v,
                     depth,
                     incoming,
-                    n,
-                    c,
+                    found,
                     table,
                     defaults,
                     target,
@@ -304,15 +306,14 @@ fn attach_fields(
     Row::Done(same, to - k)
 }
 
-// One target column, whose label is `l` and whose type stands at `b`, over its counterpart among `n` incoming columns, or the column that is missing
-// (`number`: 14 in a struct, 11 at the top). `build_column_selector` is this with 11.
+// One target column, whose label is `l` and whose type stands at `b`, over its counterpart among the incoming columns, which the caller has looked up, or
+// the column that is missing (`number`: 14 in a struct, 11 at the top). `build_column_selector` is this with 11.
 pub fn attach_field(
     policy: Policy,
     v: Version,
     depth: u8,
     incoming: &[u8],
-    n: u16,
-    c: Cursor,
+    found: Found,
     table: &[u8],
     defaults: DefaultFieldValues,
     target: &[u8],
@@ -323,13 +324,13 @@ pub fn attach_field(
     out: &mut [u8],
     k: usize,
 ) -> Made
-    requires { ⌜ ColumnsAt v depth (now incoming) n (c .at) × TypeAt v depth (now target) (b .at) ⌝ }
+    requires { ⌜ ((fs : Columns) × Finds v depth (now incoming) (counterpart v (labelAt (now target) l) fs) found) × TypeAt v depth (now target) (b .at) ⌝ }
     requires { ⌜ TableAt (now table) (defaults .count) (defaults .entries .at) ⌝ }
     requires { ⌜ spanIn (now target) (l .name) × (l .name .len ≤ 63) ⌝ }
     requires { ⌜ (length (now target) ≤ 16384) × (length (now table) ≤ 16384) × (k ≤ 65536 * b .at) ⌝ }
-    ensures { λ r. ⌜ ((from : ℕ) (T : DefaultsAt (now (table .entry)) defaults) (P : ColumnsAt v depth (now (incoming .entry)) n (c .at)) (Q : TypeAt v depth (now (target .entry)) (b .at)) → from < b .at → Makes from (Q .end) (now (out .entry)) k (attachField v policy (defaultsAt defaults T) insert number (labelAt (now (target .entry)) l) (Q .tree) (P .columns)) r (now (out .exit))) ⌝ }
+    ensures { λ r. ⌜ ((from : ℕ) (T : DefaultsAt (now (table .entry)) defaults) (fs : Columns) (Q : TypeAt v depth (now (target .entry)) (b .at)) → Finds v depth (now (incoming .entry)) (counterpart v (labelAt (now (target .entry)) l) fs) found → from < b .at → Makes from (Q .end) (now (out .entry)) k (attachField v policy (defaultsAt defaults T) insert number (labelAt (now (target .entry)) l) (Q .tree) fs) r (now (out .exit))) ⌝ }
 {
-    match find_counterpart(incoming, v, depth, n, c, target, l) {
+    match found {
         Found::At(position, m, d) => attach_renamed(
             policy,
             v,

@@ -208,10 +208,10 @@ abbrev attach-element-claims : ℕ → attach-element-lts.Claims
 attach-element-claims t = (same-element-reads.Asked, same-element-reads.Learnt, put-head-reads.Asked, put-head-reads.Learnt, attach-renamed-below t, attach-renamed.Post, is-refused-reads.Asked, is-refused-reads.Learnt, is-bare-reads.Asked, is-bare-reads.Learnt, put-position-reads.Asked, put-position-reads.Learnt, len-of-reads.Asked, len-of-reads.Learnt)
 
 abbrev attach-field-claims : ℕ → attach-field-lts.Claims
-attach-field-claims t = (find-counterpart-reads.Asked, find-counterpart-reads.Learnt, attach-renamed-below t, attach-renamed.Post, put-missing-reads.Asked, put-missing-reads.Learnt)
+attach-field-claims t = (attach-renamed-below t, attach-renamed.Post, put-missing-reads.Asked, put-missing-reads.Learnt)
 
 abbrev attach-fields-claims : ℕ → attach-fields-lts.Claims
-attach-fields-claims t = (inserts-reads.Asked, inserts-reads.Learnt, label-reads.Asked, label-reads.Learnt, attach-field-below t, attach-field.Post, is-refused-reads.Asked, is-refused-reads.Learnt, failed-reads.Asked, failed-reads.Learnt, is-bare-reads.Asked, is-bare-reads.Learnt, both-reads.Asked, both-reads.Learnt, len-of-reads.Asked, len-of-reads.Learnt, skip-type-reads.Asked, skip-type-reads.Learnt)
+attach-fields-claims t = (inserts-reads.Asked, inserts-reads.Learnt, label-reads.Asked, label-reads.Learnt, find-counterpart-reads.Asked, find-counterpart-reads.Learnt, attach-field-below t, attach-field.Post, is-refused-reads.Asked, is-refused-reads.Learnt, failed-reads.Asked, failed-reads.Learnt, is-bare-reads.Asked, is-bare-reads.Learnt, both-reads.Asked, both-reads.Learnt, len-of-reads.Asked, len-of-reads.Learnt, skip-type-reads.Asked, skip-type-reads.Learnt)
 
 abbrev attach-inner-claims : ℕ → attach-inner-lts.Claims
 attach-inner-claims t = (element-part-reads.Asked, element-part-reads.Learnt, list-part-reads.Asked, list-part-reads.Learnt, attach-element-below t, attach-element.Post, array-part-reads.Asked, array-part-reads.Learnt)
@@ -280,26 +280,25 @@ pub +attach-element+attach-field+attach-fields+attach-inner+attach-nested+attach
     (λ t. attach-field-lts.spec (attach-field-claims t)
     (attach-field-at t)
     attach-field.Post
-    (λ c κs. search needs)
     (λ c. search needs)
-    (λ c κs. let a = c .before .before .before .before .before .before .before .before .before .args in
-    let w = c .before .before .before .before .before .before .before .before .before .pre .1 in
-    let P = w .0 .0 in
-    let H = found-here (a .v) (a .depth) (now (a .incoming)) (counterpart (a .v) (labelAt (now (a .target)) (a .l)) (P .columns)) (c .before .before .before .before .find-counterpart .ensures P) (c .before .before .position .given .1) in
-    (omega (arith, c .before .before .before .before .before .before .before .before .before .pre .0), ((H .inner, w .0 .1), (w .1 .0, ((H .inside, w .1 .1 .0 .0, w .1 .1 .0 .1), w .1 .1 .1)))))
+    (λ c κs. let a = c .before .before .before .before .before .before .before .before .args in
+    let w = c .before .before .before .before .before .before .before .before .pre .1 in
+    let fs = w .0 .0 .0 in
+    let H = found-here (a .v) (a .depth) (now (a .incoming)) (counterpart (a .v) (labelAt (now (a .target)) (a .l)) fs) (w .0 .0 .1) (c .before .before .found .given .1) in
+    (omega (arith, c .before .before .before .before .before .before .before .before .pre .0), ((H .inner, w .0 .1), (w .1 .0, ((H .inside, w .1 .1 .0 .0, w .1 .1 .0 .1), w .1 .1 .1)))))
     (λ c. search needs)
-    (λ c κs. let w = c .before .before .before .before .before .before .before .before .pre .1 in
+    (λ c κs. let w = c .before .before .before .before .before .before .before .pre .1 in
     (w .1 .1 .0, (w .0 .1, (w .1 .0, w .1 .1 .1))))
     (λ c. search needs)
-    (λ c. λ from T P Q lt.
-    let a = c .before .before .before .before .before .before .before .before .before .before .before .before .args in
-    let H = found-here (a .v) (a .depth) (now (a .incoming)) (counterpart (a .v) (labelAt (now (a .target)) (a .l)) (P .columns)) (c .before .before .before .before .before .before .before .find-counterpart .ensures P) (c .before .before .before .before .before .position .given .1) in
-    makes-as _ _ _ _ _ _ (sought-at (a .v) (a .policy) (defaultsAt (a .defaults) T) (a .insert) (a .number) (labelAt (now (a .target)) (a .l)) (Q .tree) (counterpart (a .v) (labelAt (now (a .target)) (a .l)) (P .columns)) (H .is)) (c .before .before .attach-renamed .ensures from T (H .inner) Q (omega (arith, lt)) (λ n. lt)))
-    (λ c. search needs)
-    (λ c. λ from T P Q lt.
+    (λ c. λ from T fs Q F lt.
     let a = c .before .before .before .before .before .before .before .before .before .before .before .args in
-    let X = counterpart (a .v) (labelAt (now (a .target)) (a .l)) (P .columns) in
-    makes-as _ _ _ _ _ _ (sought-absent (a .v) (a .policy) (defaultsAt (a .defaults) T) (a .insert) (a .number) (labelAt (now (a .target)) (a .l)) (Q .tree) X (found-absent (a .v) (a .depth) (now (a .incoming)) X (c .before .before .before .before .before .before .find-counterpart .ensures P) (c .before .before .before .before .enum-told .given .1))) (c .before .before .put-missing .ensures from T Q lt)))
+    let H = found-here (a .v) (a .depth) (now (a .incoming)) (counterpart (a .v) (labelAt (now (a .target)) (a .l)) fs) F (c .before .before .before .before .before .found .given .1) in
+    makes-as _ _ _ _ _ _ (sought-at (a .v) (a .policy) (defaultsAt (a .defaults) T) (a .insert) (a .number) (labelAt (now (a .target)) (a .l)) (Q .tree) (counterpart (a .v) (labelAt (now (a .target)) (a .l)) fs) (H .is)) (c .before .before .attach-renamed .ensures from T (H .inner) Q (omega (arith, lt)) (λ n. lt)))
+    (λ c. search needs)
+    (λ c. λ from T fs Q F lt.
+    let a = c .before .before .before .before .before .before .before .before .before .before .args in
+    let X = counterpart (a .v) (labelAt (now (a .target)) (a .l)) fs in
+    makes-as _ _ _ _ _ _ (sought-absent (a .v) (a .policy) (defaultsAt (a .defaults) T) (a .insert) (a .number) (labelAt (now (a .target)) (a .l)) (Q .tree) X (found-absent (a .v) (a .depth) (now (a .incoming)) X F (c .before .before .before .before .enum-told .given .1))) (c .before .before .put-missing .ensures from T Q lt)))
     (λ t. attach-fields-lts.spec (attach-fields-claims t)
     (attach-fields-at t)
     attach-fields.Post
@@ -309,26 +308,27 @@ pub +attach-element+attach-field+attach-fields+attach-inner+attach-nested+attach
     (λ c. remaining-all (c .before .before .before .before .before .pre .1 .0 .1) (c .before .before .before .before .before .pre .1 .1 .1 .2))
     (λ c κs. search needs)
     (λ c. search needs)
-    (λ c κs. let w = c .before .before .before .before .before .before .before .before .before .before .before .before .pre .1 in
-    (omega (arith, c .before .before .before .before .before .before .before .before .before .before .before .before .pre .0), ((w .0 .0, field (c .before .before .before .before .before .before .loop .inv) (c .before .before .before .before .before .loop-test .taken) (c .before .before .before .before .label .ensures .0) (c .before .before .l .given .1) .head), (w .1 .0, (field-name (c .before .before .before .before .before .before .loop .inv) (c .before .before .before .before .before .loop-test .taken) (c .before .before .before .before .label .ensures .0) (c .before .before .l .given .1) (c .before .before .before .before .label .ensures .1), (w .1 .1 .0, w .1 .1 .1, omega (arith, c .before .before .before .before .before .before .loop .inv .room, field-after (c .before .before .before .before .before .before .loop .inv) (c .before .before .before .before .before .loop-test .taken) (c .before .before .before .before .label .ensures .0) (c .before .before .l .given .1))))))))
+    (λ c κs. (c .before .before .before .before .before .before .before .before .before .before .before .pre .1 .0 .0, field-name (c .before .before .before .before .before .loop .inv) (c .before .before .before .before .loop-test .taken) (c .before .before .before .label .ensures .0) (c .before .l .given .1) (c .before .before .before .label .ensures .1) .0))
+    (λ c κs. let w = c .before .before .before .before .before .before .before .before .before .before .before .before .before .pre .1 in
+    (omega (arith, c .before .before .before .before .before .before .before .before .before .before .before .before .before .pre .0), (((w .0 .0 .columns, c .before .find-counterpart .ensures (w .0 .0)), field (c .before .before .before .before .before .before .before .loop .inv) (c .before .before .before .before .before .before .loop-test .taken) (c .before .before .before .before .before .label .ensures .0) (c .before .before .before .l .given .1) .head), (w .1 .0, (field-name (c .before .before .before .before .before .before .before .loop .inv) (c .before .before .before .before .before .before .loop-test .taken) (c .before .before .before .before .before .label .ensures .0) (c .before .before .before .l .given .1) (c .before .before .before .before .before .label .ensures .1), (w .1 .1 .0, w .1 .1 .1, omega (arith, c .before .before .before .before .before .before .before .loop .inv .room, field-after (c .before .before .before .before .before .before .before .loop .inv) (c .before .before .before .before .before .before .loop-test .taken) (c .before .before .before .before .before .label .ensures .0) (c .before .before .before .l .given .1))))))))
     (λ c κs. search needs)
     (λ c κs. search needs)
     (λ c. search needs)
-    (λ c. remaining-stop (c .before .before .before .before .before .before .before .before .before .before .before .before .loop .inv) (c .before .before .before .before .before .before .before .before .before .before .before .loop-test .taken) (c .before .before .before .before .before .before .before .before .before .before .label .ensures .0) (c .before .before .before .before .before .before .before .before .l .given .1) (c .before .before .before .before .before .before .before .before .before .before .before .before .before .inserts .ensures) _ (λ T P. c .before .before .before .before .before .attach-field .ensures (c .before .before .before .before .before .before .before .before .before .before .before .before .loop .from) T P (field (c .before .before .before .before .before .before .before .before .before .before .before .before .loop .inv) (c .before .before .before .before .before .before .before .before .before .before .before .loop-test .taken) (c .before .before .before .before .before .before .before .before .before .before .label .ensures .0) (c .before .before .before .before .before .before .before .before .l .given .1) .head) (field-after (c .before .before .before .before .before .before .before .before .before .before .before .before .loop .inv) (c .before .before .before .before .before .before .before .before .before .before .before .loop-test .taken) (c .before .before .before .before .before .before .before .before .before .before .label .ensures .0) (c .before .before .before .before .before .before .before .before .l .given .1))) (c .failed .ensures) (sym (c .before .before .is-refused .ensures) ∙ c .before .if1 .taken))
+    (λ c. remaining-stop (c .before .before .before .before .before .before .before .before .before .before .before .before .before .loop .inv) (c .before .before .before .before .before .before .before .before .before .before .before .before .loop-test .taken) (c .before .before .before .before .before .before .before .before .before .before .before .label .ensures .0) (c .before .before .before .before .before .before .before .before .before .l .given .1) (c .before .before .before .before .before .before .before .before .before .before .before .before .before .before .inserts .ensures) _ (λ T P. c .before .before .before .before .before .attach-field .ensures (c .before .before .before .before .before .before .before .before .before .before .before .before .before .loop .from) T (P .columns) (field (c .before .before .before .before .before .before .before .before .before .before .before .before .before .loop .inv) (c .before .before .before .before .before .before .before .before .before .before .before .before .loop-test .taken) (c .before .before .before .before .before .before .before .before .before .before .before .label .ensures .0) (c .before .before .before .before .before .before .before .before .before .l .given .1) .head) (c .before .before .before .before .before .before .before .find-counterpart .ensures P) (field-after (c .before .before .before .before .before .before .before .before .before .before .before .before .before .loop .inv) (c .before .before .before .before .before .before .before .before .before .before .before .before .loop-test .taken) (c .before .before .before .before .before .before .before .before .before .before .before .label .ensures .0) (c .before .before .before .before .before .before .before .before .before .l .given .1))) (c .failed .ensures) (sym (c .before .before .is-refused .ensures) ∙ c .before .if1 .taken))
     (λ c κs. search needs)
     (λ c κs. search needs)
     (λ c κs. search needs)
-    (λ c. let w = c .before .before .before .before .before .before .before .before .before .before .before .before .before .before .before .before .before .before .before .before .pre .1 in
-    omega (arith, remaining-room (c .before .before .before .before .before .before .before .before .before .before .before .before .before .before .loop .inv) (c .before .before .before .before .before .before .before .before .before .before .before .before .before .loop-test .taken) (c .before .before .before .before .before .before .before .before .before .before .before .before .label .ensures .0) (c .before .before .before .before .before .before .before .before .before .before .l .given .1) (c .before .before .before .before .before .before .before .before .before .before .before .before .before .before .before .inserts .ensures) _ (λ T P. c .before .before .before .before .before .before .before .attach-field .ensures (c .before .before .before .before .before .before .before .before .before .before .before .before .before .before .loop .from) T P (field (c .before .before .before .before .before .before .before .before .before .before .before .before .before .before .loop .inv) (c .before .before .before .before .before .before .before .before .before .before .before .before .before .loop-test .taken) (c .before .before .before .before .before .before .before .before .before .before .before .before .label .ensures .0) (c .before .before .before .before .before .before .before .before .before .before .l .given .1) .head) (field-after (c .before .before .before .before .before .before .before .before .before .before .before .before .before .before .loop .inv) (c .before .before .before .before .before .before .before .before .before .before .before .before .before .loop-test .taken) (c .before .before .before .before .before .before .before .before .before .before .before .before .label .ensures .0) (c .before .before .before .before .before .before .before .before .before .before .l .given .1))) (sym (c .before .before .before .before .is-refused .ensures) ∙ c .before .before .before .if1 .left) (w .1 .0) (w .0 .0), extent (field (c .before .before .before .before .before .before .before .before .before .before .before .before .before .before .loop .inv) (c .before .before .before .before .before .before .before .before .before .before .before .before .before .loop-test .taken) (c .before .before .before .before .before .before .before .before .before .before .before .before .label .ensures .0) (c .before .before .before .before .before .before .before .before .before .before .l .given .1) .head), w .1 .1, c .len-of .ensures))
-    (λ c κs. field (c .before .before .before .before .before .before .before .before .before .before .before .before .before .before .loop .inv) (c .before .before .before .before .before .before .before .before .before .before .before .before .before .loop-test .taken) (c .before .before .before .before .before .before .before .before .before .before .before .before .label .ensures .0) (c .before .before .before .before .before .before .before .before .before .before .l .given .1) .head)
+    (λ c. let w = c .before .before .before .before .before .before .before .before .before .before .before .before .before .before .before .before .before .before .before .before .before .pre .1 in
+    omega (arith, remaining-room (c .before .before .before .before .before .before .before .before .before .before .before .before .before .before .before .loop .inv) (c .before .before .before .before .before .before .before .before .before .before .before .before .before .before .loop-test .taken) (c .before .before .before .before .before .before .before .before .before .before .before .before .before .label .ensures .0) (c .before .before .before .before .before .before .before .before .before .before .before .l .given .1) (c .before .before .before .before .before .before .before .before .before .before .before .before .before .before .before .before .inserts .ensures) _ (λ T P. c .before .before .before .before .before .before .before .attach-field .ensures (c .before .before .before .before .before .before .before .before .before .before .before .before .before .before .before .loop .from) T (P .columns) (field (c .before .before .before .before .before .before .before .before .before .before .before .before .before .before .before .loop .inv) (c .before .before .before .before .before .before .before .before .before .before .before .before .before .before .loop-test .taken) (c .before .before .before .before .before .before .before .before .before .before .before .before .before .label .ensures .0) (c .before .before .before .before .before .before .before .before .before .before .before .l .given .1) .head) (c .before .before .before .before .before .before .before .before .before .find-counterpart .ensures P) (field-after (c .before .before .before .before .before .before .before .before .before .before .before .before .before .before .before .loop .inv) (c .before .before .before .before .before .before .before .before .before .before .before .before .before .before .loop-test .taken) (c .before .before .before .before .before .before .before .before .before .before .before .before .before .label .ensures .0) (c .before .before .before .before .before .before .before .before .before .before .before .l .given .1))) (sym (c .before .before .before .before .is-refused .ensures) ∙ c .before .before .before .if1 .left) (w .1 .0) (w .0 .0), extent (field (c .before .before .before .before .before .before .before .before .before .before .before .before .before .before .before .loop .inv) (c .before .before .before .before .before .before .before .before .before .before .before .before .before .before .loop-test .taken) (c .before .before .before .before .before .before .before .before .before .before .before .before .before .label .ensures .0) (c .before .before .before .before .before .before .before .before .before .before .before .l .given .1) .head), w .1 .1, c .len-of .ensures))
+    (λ c κs. field (c .before .before .before .before .before .before .before .before .before .before .before .before .before .before .before .loop .inv) (c .before .before .before .before .before .before .before .before .before .before .before .before .before .before .loop-test .taken) (c .before .before .before .before .before .before .before .before .before .before .before .before .before .label .ensures .0) (c .before .before .before .before .before .before .before .before .before .before .before .l .given .1) .head)
     (λ c. search needs)
     (λ c. search needs)
     (λ c. λ T P Q. remaining-unlabelled (c .before .before .before .before .loop .inv) (c .before .before .before .loop-test .taken) (c .before .before .label .ensures .0) (c .enum-told .given .1))
-    (λ c. omega (arith, c .before .before .before .before .before .before .before .before .before .before .before .before .before .before .before .before .before .before .before .before .before .fits .m, c .before .before .before .before .before .before .before .before .before .before .before .before .before .before .loop-test .taken))
+    (λ c. omega (arith, c .before .before .before .before .before .before .before .before .before .before .before .before .before .before .before .before .before .before .before .before .before .before .fits .m, c .before .before .before .before .before .before .before .before .before .before .before .before .before .before .before .loop-test .taken))
     (λ c. search needs)
-    (λ c. let w = c .before .before .before .before .before .before .before .before .before .before .before .before .before .before .before .before .before .before .before .before .before .pre .1 in
-    remaining-more (c .before .before .before .before .before .before .before .before .before .before .before .before .before .before .before .loop .inv) (c .before .before .before .before .before .before .before .before .before .before .before .before .before .before .loop-test .taken) (c .before .before .before .before .before .before .before .before .before .before .before .before .before .label .ensures .0) (c .before .before .before .before .before .before .before .before .before .before .before .l .given .1) (c .before .before .before .before .before .before .before .before .before .before .before .before .before .before .before .before .inserts .ensures) _ (λ T P. c .before .before .before .before .before .before .before .before .attach-field .ensures (c .before .before .before .before .before .before .before .before .before .before .before .before .before .before .before .loop .from) T P (field (c .before .before .before .before .before .before .before .before .before .before .before .before .before .before .before .loop .inv) (c .before .before .before .before .before .before .before .before .before .before .before .before .before .before .loop-test .taken) (c .before .before .before .before .before .before .before .before .before .before .before .before .before .label .ensures .0) (c .before .before .before .before .before .before .before .before .before .before .before .l .given .1) .head) (field-after (c .before .before .before .before .before .before .before .before .before .before .before .before .before .before .before .loop .inv) (c .before .before .before .before .before .before .before .before .before .before .before .before .before .before .loop-test .taken) (c .before .before .before .before .before .before .before .before .before .before .before .before .before .label .ensures .0) (c .before .before .before .before .before .before .before .before .before .before .before .l .given .1))) (sym (c .before .before .before .before .before .is-refused .ensures) ∙ c .before .before .before .before .if1 .left) (w .1 .0) (w .0 .0) (c .before .before .before .before .before .before .before .before .attach-field .kept .1 .1 .1 .1 .1 .1 .1 .1 .1 .1 .1 .1 .1 .0)
-    (c .skip-type .ensures (field (c .before .before .before .before .before .before .before .before .before .before .before .before .before .before .before .loop .inv) (c .before .before .before .before .before .before .before .before .before .before .before .before .before .before .loop-test .taken) (c .before .before .before .before .before .before .before .before .before .before .before .before .before .label .ensures .0) (c .before .before .before .before .before .before .before .before .before .before .before .l .given .1) .head)) (c .before .len-of .ensures) (c .before .before .both .ensures ∙ ap (λ (b : Bool). c .before .before .before .before .before .before .before .before .before .before .before .before .before .before .before .loop .same && b) (c .before .before .before .is-bare .ensures)))
+    (λ c. let w = c .before .before .before .before .before .before .before .before .before .before .before .before .before .before .before .before .before .before .before .before .before .before .pre .1 in
+    remaining-more (c .before .before .before .before .before .before .before .before .before .before .before .before .before .before .before .before .loop .inv) (c .before .before .before .before .before .before .before .before .before .before .before .before .before .before .before .loop-test .taken) (c .before .before .before .before .before .before .before .before .before .before .before .before .before .before .label .ensures .0) (c .before .before .before .before .before .before .before .before .before .before .before .before .l .given .1) (c .before .before .before .before .before .before .before .before .before .before .before .before .before .before .before .before .before .inserts .ensures) _ (λ T P. c .before .before .before .before .before .before .before .before .attach-field .ensures (c .before .before .before .before .before .before .before .before .before .before .before .before .before .before .before .before .loop .from) T (P .columns) (field (c .before .before .before .before .before .before .before .before .before .before .before .before .before .before .before .before .loop .inv) (c .before .before .before .before .before .before .before .before .before .before .before .before .before .before .before .loop-test .taken) (c .before .before .before .before .before .before .before .before .before .before .before .before .before .before .label .ensures .0) (c .before .before .before .before .before .before .before .before .before .before .before .before .l .given .1) .head) (c .before .before .before .before .before .before .before .before .before .before .find-counterpart .ensures P) (field-after (c .before .before .before .before .before .before .before .before .before .before .before .before .before .before .before .before .loop .inv) (c .before .before .before .before .before .before .before .before .before .before .before .before .before .before .before .loop-test .taken) (c .before .before .before .before .before .before .before .before .before .before .before .before .before .before .label .ensures .0) (c .before .before .before .before .before .before .before .before .before .before .before .before .l .given .1))) (sym (c .before .before .before .before .before .is-refused .ensures) ∙ c .before .before .before .before .if1 .left) (w .1 .0) (w .0 .0) (c .before .before .before .before .before .before .before .before .attach-field .kept .1 .1 .1 .1 .1 .1 .1 .1 .1 .1 .1 .1 .0)
+    (c .skip-type .ensures (field (c .before .before .before .before .before .before .before .before .before .before .before .before .before .before .before .before .loop .inv) (c .before .before .before .before .before .before .before .before .before .before .before .before .before .before .before .loop-test .taken) (c .before .before .before .before .before .before .before .before .before .before .before .before .before .before .label .ensures .0) (c .before .before .before .before .before .before .before .before .before .before .before .before .l .given .1) .head)) (c .before .len-of .ensures) (c .before .before .both .ensures ∙ ap (λ (b : Bool). c .before .before .before .before .before .before .before .before .before .before .before .before .before .before .before .before .loop .same && b) (c .before .before .before .is-bare .ensures)))
     (λ c. search needs)
     (λ c. search needs)
     (λ c. remaining-none (c .before .loop .inv) (c .loop-test .left)))

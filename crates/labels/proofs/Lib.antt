@@ -1,0 +1,4 @@
+pub mod Empty
+pub mod First
+pub mod Entries
+pub mod Filling

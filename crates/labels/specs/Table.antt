@@ -1,0 +1,63 @@
+-- A table of a layout's top columns: for each hash of a label the first column that has it, by where it begins and by its position.
+use Prim.Native.Nat.{ℕ, _%_, _<_}
+use mathlib.Core.Path.{_≡_}
+use mathlib.Core.List.{List}
+use lib.ListN.{length, getD}
+use lib.Dec.{eqb}
+use Rattle.layout.specs.Bytes.{Bytes}
+use Rattle.layout.specs.Parser.{ok}
+use Rattle.layout.specs.Tree.{Label, ColumnType, Columns}
+use Rattle.layout.specs.Layout.{label, type, deepest, topRule}
+use Rattle.layout.specs.Seen.{labelHash}
+use Rattle.layout.specs.Stands.{ColumnsAt}
+use Rattle.layout.specs.Find.{Lookup, absent, at as found, findFrom, columnNamed, columnOfId}
+use Rattle.layout.specs.declared.columns.Position.{Position}
+use Rattle.layout.specs.declared.columns.Siblings.the-variants.{Free}
+use Rattle.layout.specs.declared.version.Version.{Version}
+use Rattle.layout.specs.declared.version.Version.the-variants.{ByName, ByNumber}
+
+-- the column of the same name; by number, of the same id
+abbrev pub counterpart : Version → Label → Columns → Lookup
+counterpart ByName l cs = columnNamed (l .name) cs
+counterpart ByNumber l cs = columnOfId (l .id) cs
+
+-- the entry of a label in a table of 1,024 entries
+abbrev pub slotOf : Version → Label → ℕ
+slotOf v l = labelHash (topRule v) 0 l % 1024
+
+-- the first column of the entry h, where the first of these columns has the position i
+abbrev pub firstOf : Version → ℕ → ℕ → Columns → Lookup
+firstOf v h = findFrom (λ i l. eqb (slotOf v l) h)
+
+-- the column p with the label l and the type t begins at o; its position is k
+pub record EntryAt (v : Version) (s : Bytes) (o k : ℕ) (p : Position) (l : Label) (t : ColumnType) : Type 0 where
+  pub begins : o ≡ 0 → ⊥
+  pub position : p ≡ record { 0 = k }
+  pub start : ℕ
+  pub labelled : label v s o ≡ ok l start
+  pub end : ℕ
+  pub reads : type v Free deepest s start ≡ ok t end
+
+-- the numbers of an entry are those of what was looked up; 0 where there is none
+abbrev pub Entry : Version → Bytes → ℕ → ℕ → Lookup → Type 0
+Entry v s o k absent = o ≡ 0
+Entry v s o k (found p l t) = EntryAt v s o k p l t
+
+-- each entry is that of the first column whose label has its hash
+pub record Table (v : Version) (s : Bytes) (n at : ℕ) (starts positions : List ℕ) : Type 0 where
+  pub long : length starts ≡ 1024
+  pub paired : length positions ≡ 1024
+  pub entries : (P : ColumnsAt v deepest s n at) (h : ℕ) → h < 1024 → Entry v s (getD starts h 0) (getD positions h 0) (firstOf v h 0 (P .columns))
+
+-- no entry is set
+pub record Empty (starts : List ℕ) : Type 0 where
+  pub unset : (h : ℕ) → getD starts h 0 ≡ 0
+
+-- the entry j was set to a column that begins at o and has the position k, unless it was set before
+pub record Entered (starts positions : List ℕ) (j o k : ℕ) (starts′ positions′ : List ℕ) : Type 0 where
+  pub begins : o ≡ 0 → ⊥
+  pub long : length starts′ ≡ length starts
+  pub paired : length positions′ ≡ length positions
+  pub first : getD starts j 0 ≡ 0 → (getD starts′ j 0 ≡ o) × (getD positions′ j 0 ≡ k)
+  pub later : (getD starts j 0 ≡ 0 → ⊥) → (getD starts′ j 0 ≡ getD starts j 0) × (getD positions′ j 0 ≡ getD positions j 0)
+  pub other : (h : ℕ) → (h ≡ j → ⊥) → (getD starts′ h 0 ≡ getD starts h 0) × (getD positions′ h 0 ≡ getD positions h 0)

@@ -1,0 +1,169 @@
+// The counterpart of a label among the top columns of a layout, found by the label's hash: a table of 1,024 entries holds for each hash
+// where the first column that has it begins, and its position.
+ghost use mathlib.Core.Bool.{true};
+ghost use mathlib.Core.Path.{_≡_};
+ghost use Prim.Native.Nat.{_<_};
+ghost use lib.ListN.{length};
+ghost use Rattle.layout.specs.Answers.{labelAt, spanIn};
+ghost use Rattle.layout.specs.Find.{Finds};
+ghost use Rattle.layout.specs.Layout.{repeats, topRule};
+ghost use Rattle.layout.specs.Stands.{ColumnsAt};
+ghost use Rattle.labels.specs.Table.{counterpart, slotOf, Empty, Entered, Table};
+use layout::bytes::same_bytes;
+use layout::columns::Label;
+use layout::columns::Labelled;
+use layout::columns::Position;
+use layout::cursor::Cursor;
+use layout::cursor::Moved;
+use layout::find::Found;
+use layout::find::column_named;
+use layout::find::column_of_id;
+use layout::pass::pass_type;
+use layout::seen::label_hash;
+use layout::version::Version;
+use layout::version::top_rule;
+
+// A function of its own, since an element of a slice that is cast where it is read has to be shown to fit.
+fn wide(x: u16) -> usize
+    ensures { λ r. ⌜ r ≡ x ⌝ }
+{
+    x as usize
+}
+
+// A label's entry.
+fn slot(s: &[u8], v: Version, l: Label) -> usize
+    requires { ⌜ spanIn (now s) (l .name) ⌝ }
+    ensures { λ r. ⌜ r ≡ slotOf v (labelAt (now (s .entry)) l) ⌝ }
+    ensures { λ r. ⌜ r < 1024 ⌝ }
+{
+    let rule = top_rule(v);
+    (label_hash(s, rule, 0, l) % 1024) as usize
+}
+
+// Whether the label `m`, which stands in `s`, has the name of `l`, which stands in `t`; by number, its id.
+fn matches(s: &[u8], v: Version, m: Label, t: &[u8], l: Label) -> bool
+    requires { ⌜ spanIn (now s) (m .name) ⌝ }
+    requires { ⌜ spanIn (now t) (l .name) ⌝ }
+    ensures { λ r. ⌜ r ≡ repeats (topRule v) (labelAt (now (s .entry)) m) (labelAt (now (t .entry)) l) ⌝ }
+{
+    match v {
+        Version::ByName => {
+            let a = m.name.start;
+            let b = l.name.start;
+            same_bytes(&s[a..a + m.name.len], &t[b..b + l.name.len])
+        }
+        Version::ByNumber => m.id.0 == l.id.0,
+    }
+}
+
+// Sets the entry `h` to a column that begins at `at` and has the position `i`, unless an earlier column has the entry. False where an
+// entry can't hold the offset.
+fn enter(starts: &mut [u16], positions: &mut [u16], h: usize, at: usize, i: u16) -> bool
+    requires { ⌜ h < length (now starts) ⌝ }
+    requires { ⌜ h < length (now positions) ⌝ }
+    ensures { λ r. ⌜ (r ≡ true → Entered (now (starts .entry)) (now (positions .entry)) h at i (now (starts .exit)) (now (positions .exit))) ⌝ }
+{
+    if at == 0 {
+        return false;
+    }
+    if 65535 < at {
+        return false;
+    }
+    if starts[h] != 0 {
+        return true;
+    }
+    starts[h] = at as u16;
+    positions[h] = i;
+    true
+}
+
+// Fills an empty table for `n` columns. False says nothing of what it then holds.
+pub fn fill(
+    s: &[u8],
+    v: Version,
+    n: u16,
+    first: Cursor,
+    starts: &mut [u16],
+    positions: &mut [u16],
+) -> bool
+    requires { ⌜ Empty (now starts) ⌝ }
+    ensures { λ r. ⌜ (r ≡ true → Table v (now (s .entry)) n (first .at) (now (starts .exit)) (now (positions .exit))) ⌝ }
+{
+    if starts.len() != 1024 {
+        return false;
+    }
+    if positions.len() != 1024 {
+        return false;
+    }
+    let mut at = first.at;
+    let mut i: u16 = 0;
+    while i < n {
+        let d = Cursor { at };
+        match d.label(s, v) {
+            Labelled::Is(l, next) => {
+                let h = slot(s, v, l);
+                if !enter(starts, positions, h, at, i) {
+                    return false;
+                }
+                match pass_type(s, v, 16, next) {
+                    Moved::To(e) => {
+                        at = e.at;
+                    }
+                    Moved::Refused(_) => return false,
+                }
+            }
+            Labelled::Refused(_) => return false,
+        }
+        i += 1;
+    }
+    true
+}
+
+// Without a table.
+fn scan(s: &[u8], v: Version, n: u16, c: Cursor, t: &[u8], l: Label) -> Found
+    requires { ⌜ ColumnsAt v 16 (now s) n (c .at) ⌝ }
+    requires { ⌜ spanIn (now t) (l .name) ⌝ }
+    ensures { λ r. ⌜ ((P : ColumnsAt v 16 (now (s .entry)) n (c .at)) → Finds v 16 (now (s .entry)) (counterpart v (labelAt (now (t .entry)) l) (P .columns)) r) ⌝ }
+{
+    match v {
+        Version::ByName => {
+            let a = l.name.start;
+            column_named(s, v, 16, n, c, &t[a..a + l.name.len])
+        }
+        Version::ByNumber => column_of_id(s, v, 16, n, c, l.id),
+    }
+}
+
+// Among `n` columns, the one of the name of the label `l`, which stands in `t`; by number, of its id. Where another label has the hash
+// of `l`, the columns are scanned.
+pub fn counterpart_in(
+    s: &[u8],
+    v: Version,
+    n: u16,
+    c: Cursor,
+    starts: &[u16],
+    positions: &[u16],
+    t: &[u8],
+    l: Label,
+) -> Found
+    requires { ⌜ ColumnsAt v 16 (now s) n (c .at) ⌝ }
+    requires { ⌜ Table v (now s) n (c .at) (now starts) (now positions) ⌝ }
+    requires { ⌜ spanIn (now t) (l .name) ⌝ }
+    ensures { λ r. ⌜ ((P : ColumnsAt v 16 (now (s .entry)) n (c .at)) → Finds v 16 (now (s .entry)) (counterpart v (labelAt (now (t .entry)) l) (P .columns)) r) ⌝ }
+{
+    let h = slot(t, v, l);
+    let at = wide(starts[h]);
+    if at == 0 {
+        return Found::Absent;
+    }
+    let d = Cursor { at };
+    match d.label(s, v) {
+        Labelled::Is(m, next) => {
+            if matches(s, v, m, t, l) {
+                return Found::At(Position(positions[h]), m, next);
+            }
+            scan(s, v, n, c, t, l)
+        }
+        Labelled::Refused(_) => Found::Absent,
+    }
+}
