@@ -131,7 +131,7 @@ fn build_each(
     ColumnsMade::Done(to - k)
 }
 
-// The same for few columns: a scan takes less time than a table.
+// The same for few columns: counterparts are scanned for.
 fn build_few(
     policy: Policy,
     v: Version,
@@ -172,7 +172,7 @@ fn build_few(
     )
 }
 
-// The same for many columns.
+// The same for many columns: the table is filled once.
 fn build_many(
     policy: Policy,
     v: Version,
