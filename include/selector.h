@@ -45,8 +45,8 @@ extern "C" {
 /* The most stack that a call takes, in bytes, as compiled here; compare/c/stack measures it. */
 #define SELECTOR_READ_STACK 16384
 #define SELECTOR_BUILD_STACK 114688
-#define SELECTOR_CHECK_STACK 262144
-#define SELECTOR_RUN_STACK 262144
+#define SELECTOR_CHECK_STACK 163840
+#define SELECTOR_RUN_STACK 163840
 
 /* Refusals of a layout or a table of defaults. First its length is tested (4), then its mark and version (1). Then it is read forward
  * by byte, and the first of 2 to 5 that applies is the answer; 6 comes last. */

@@ -1,7 +1,7 @@
 -- The check of a selector from that of its input and its parts. Assumes nothing.
-use Prim.Native.Nat.{ℕ, zero, suc, _+_, _-_, _≤_, _<_}
+use Prim.Native.Nat.{ℕ, zero, suc, _+_, _≤_, _<_}
 use mathlib.Core.Path.{_≡_, refl, sym, ap, _∙_, subst}
-use mathlib.Core.Bool.{Bool}
+use mathlib.Core.Bool.{Bool, true, false, true≢false}
 use mathlib.Core.List.{[], _∷_}
 use native.Mathlib.Omega.{arith}
 use Rattle.layout.specs.Bytes.{Bytes}
@@ -13,7 +13,8 @@ use Rattle.layout.specs.declared.cursor.Cursor.{Cursor}
 use Rattle.layout.specs.declared.version.Version.{Version}
 use Rattle.forms.specs.Form.{headOf}
 use Rattle.plan.specs.Result.{Result, gives, refuses, _>>=_}
-use Rattle.plan.specs.Selector.{Selector, structMapping, listMapping, arrayMapping, Selectors, snil, scons, countSelectors, nesting}
+use Rattle.rules.specs.declared.outcome.CastOption.{CastOption}
+use Rattle.plan.specs.Selector.{Selector, position, constant, cast, rename, structMapping, listMapping, arrayMapping, Selectors, snil, scons, countSelectors, nesting}
 use Rattle.plan.specs.Check.{Column, columnAt, elementOf, structOf, listOf, arrayOf, withinLimits, resulting, checkCast, checkRename, checkStruct, checkList, checkArray, typeOf, typesOf}
 use Rattle.plan.specs.Reach.{SelectorAt as Nth, s-here, s-there}
 use Rattle.walk.specs.State.{Frame, fields, element, State, state}
@@ -26,9 +27,10 @@ use Rattle.walk.specs.declared.head.SelectorHead.{SelectorHead}
 use Rattle.walk.proofs.Heads.{is-position, is-constant}
 use Rattle.checker.specs.Shallow.{Shallow}
 use Rattle.checker.specs.Same.{codeOf}
-use Rattle.checker.specs.Standing.{headKind, TypeHeadIs, TypedAt, made-struct, made-list, made-array, MappedAt, ResolvedAt, ScopedAt}
-use Rattle.checker.specs.Checking.{checkedOf, fittingOf, CheckingAt, MappingAt, Elements, of-list, of-array, fieldsResult, elementResult}
+use Rattle.checker.specs.Standing.{headKind, TypeHeadIs, made-struct, made-list, made-array, MappedAt, ResolvedAt, ScopedAt}
+use Rattle.checker.specs.Checking.{checkedOf, fittingOf, isTransform, CheckingAt, PassedInput, nothingLeft, fieldsLeft, listedLeft, arrayedLeft, restAnswer, RestIs, MappingAt, Elements, of-list, of-array, fieldsResult, elementResult}
 use Rattle.checker.specs.declared.selector.Checked.{Checked}
+use Rattle.checker.specs.declared.selector.Rest.{Rest}
 use Rattle.checker.specs.declared.place.TypeHead.{TypeHead}
 use Rattle.checker.specs.declared.resolve.Source.{Source}
 use Rattle.checker.specs.declared.resolve.Resolved.{Resolved}
@@ -37,6 +39,7 @@ use Rattle.checker.proofs.Resolving.{selected}
 use Rattle.checker.proofs.Making.{nth-there}
 use Rattle.checker.proofs.Checks.{result-is, bind-refused, bind-gives, passed-gives}
 use Rattle.checker.proofs.Outer.{behind}
+use Rattle.checker.proofs.Fitting.{is-struct, is-list, is-array}
 
 abbrev ToInput : Walk → Walk → Type 0
 ToInput w x = (p : Bytes) (z : State) (s : Selector) → WalkAt p w z → Input (z .selector) s → StepsTo p (state s (z .frames) (z .path)) w x
@@ -62,6 +65,13 @@ module _ {incoming : Bytes} {v : Version} {n : ℕ} {plan : Bytes} {w : Walk} {s
   typed-for : {t : Selector} → C .standing .here .tree ≡ t → typeOf Δ s ≡ typeOf Δ t
   typed-for e = ap (λ (x : Selector). typeOf Δ x) (stands-for e)
 
+  -- whether it is a transform
+  pub transform-is : {r b : Bool} → r ≡ isTransform (C .standing .here .tree) → r ≡ b → isTransform s ≡ b
+  transform-is e f = ap isTransform (sym (C .standing .selector)) ∙ sym e ∙ f
+
+  pub no-transform : {B : Type 0} {t : Selector} → isTransform s ≡ false → C .standing .here .tree ≡ t → isTransform t ≡ true → B
+  no-transform f e h = absurd (true≢false (sym h ∙ ap isTransform (sym (stands-for e)) ∙ f))
+
   module _ {r : SelectorHead} (h : HeadIs plan (w .at) (C .standing .here) r) where
     pub checks-position : {k : Position} {q : Checked} → r ≡ SelectorHead.Position k → q ≡ checkedOf (columnAt Δ (k .0)) → q ≡ checkedOf (typeOf Δ s)
     unfolding typeOf
@@ -79,45 +89,57 @@ module _ {incoming : Bytes} {v : Version} {n : ℕ} {plan : Bytes} {w : Walk} {s
     pub shallow : Shallow (state i (C .frames) [])
     pub typed : typeOf Δ s ≡ (typeOf Δ i >>= f)
 
-  pub by-cast : {m : ℕ} (K : CastAt plan (w .at) (C .standing .here) m) → Transforms (K .input .tree) (checkCast (dtypeOf (K .type .tree)) (K .option .option))
+  of-cast : {i : Selector} {t : DataType} {o : CastOption} → s ≡ cast i t o → Transforms i (checkCast t o)
   unfolding typeOf
-  by-cast K = record {
-    takes = subst (λ (x : Selector). Input x (K .input .tree)) (sym (stands-for (K .is))) i-cast;
-    shallow = cast-shallow (selected (stands-for (K .is)) (C .shallow));
-    typed = typed-for (K .is);
-  }
+  of-cast {i} e = record { takes = subst (λ (x : Selector). Input x i) (sym e) i-cast; shallow = cast-shallow (selected e (C .shallow)); typed = ap (λ (x : Selector). typeOf Δ x) e }
+
+  of-rename : {i : Selector} {name : Bytes} → s ≡ rename i name → Transforms i (checkRename name)
+  unfolding typeOf
+  of-rename {i} e = record { takes = subst (λ (x : Selector). Input x i) (sym e) i-rename; shallow = rename-shallow (selected e (C .shallow)); typed = ap (λ (x : Selector). typeOf Δ x) e }
+
+  of-struct : {i : Selector} {ss : Selectors} → s ≡ structMapping i ss → Transforms i (checkStruct (λ fs. typesOf fs ss))
+  unfolding typeOf
+  of-struct {i} e = record { takes = subst (λ (x : Selector). Input x i) (sym e) i-struct; shallow = struct-shallow (selected e (C .shallow)); typed = ap (λ (x : Selector). typeOf Δ x) e }
+
+  of-list-mapping : {i d : Selector} → s ≡ listMapping i d → Transforms i (checkList (λ fs. typeOf fs d))
+  unfolding typeOf
+  of-list-mapping {i} e = record { takes = subst (λ (x : Selector). Input x i) (sym e) i-list; shallow = list-shallow (selected e (C .shallow)); typed = ap (λ (x : Selector). typeOf Δ x) e }
+
+  of-array-mapping : {i d : Selector} → s ≡ arrayMapping i d → Transforms i (checkArray (λ fs. typeOf fs d))
+  unfolding typeOf
+  of-array-mapping {i} e = record { takes = subst (λ (x : Selector). Input x i) (sym e) i-array; shallow = array-shallow (selected e (C .shallow)); typed = ap (λ (x : Selector). typeOf Δ x) e }
+
+  pub record Transform : Type 0 where
+    pub input : Selector
+    pub result : Column → Result Column
+    pub transforms : Transforms input result
+
+  pub a-transform : isTransform s ≡ true → Transform
+  a-transform h = go s refl h
+    where
+      go : (t : Selector) → s ≡ t → isTransform t ≡ true → Transform
+      go (position k) e h = absurd (true≢false (sym h))
+      go (constant name t v) e h = absurd (true≢false (sym h))
+      go (cast i t o) e h = record { input = i; result = _; transforms = of-cast e }
+      go (rename i name) e h = record { input = i; result = _; transforms = of-rename e }
+      go (structMapping i ss) e h = record { input = i; result = _; transforms = of-struct e }
+      go (listMapping i d) e h = record { input = i; result = _; transforms = of-list-mapping e }
+      go (arrayMapping i d) e h = record { input = i; result = _; transforms = of-array-mapping e }
+
+  pub by-cast : {m : ℕ} (K : CastAt plan (w .at) (C .standing .here) m) → Transforms (K .input .tree) (checkCast (dtypeOf (K .type .tree)) (K .option .option))
+  by-cast K = of-cast (stands-for (K .is))
 
   pub by-rename : {m : ℕ} (K : RenameAt plan (w .at) (C .standing .here) m) → Transforms (K .input .tree) (checkRename (K .name .bytes))
-  unfolding typeOf
-  by-rename K = record {
-    takes = subst (λ (x : Selector). Input x (K .input .tree)) (sym (stands-for (K .is))) i-rename;
-    shallow = rename-shallow (selected (stands-for (K .is)) (C .shallow));
-    typed = typed-for (K .is);
-  }
+  by-rename K = of-rename (stands-for (K .is))
 
   pub by-struct : {m : ℕ} (K : StructAt plan (w .at) (C .standing .here) m) → Transforms (K .input .tree) (checkStruct (λ fs. typesOf fs (K .fields .selectors .trees)))
-  unfolding typeOf
-  by-struct K = record {
-    takes = subst (λ (x : Selector). Input x (K .input .tree)) (sym (stands-for (K .is))) i-struct;
-    shallow = struct-shallow (selected (stands-for (K .is)) (C .shallow));
-    typed = typed-for (K .is);
-  }
+  by-struct K = of-struct (stands-for (K .is))
 
   pub by-list : {m : ℕ} (K : ListAt plan (w .at) (C .standing .here) m) → Transforms (K .input .tree) (checkList (λ fs. typeOf fs (K .element .tree)))
-  unfolding typeOf
-  by-list K = record {
-    takes = subst (λ (x : Selector). Input x (K .input .tree)) (sym (stands-for (K .is))) i-list;
-    shallow = list-shallow (selected (stands-for (K .is)) (C .shallow));
-    typed = typed-for (K .is);
-  }
+  by-list K = of-list-mapping (stands-for (K .is))
 
   pub by-array : {m : ℕ} (K : ArrayAt plan (w .at) (C .standing .here) m) → Transforms (K .input .tree) (checkArray (λ fs. typeOf fs (K .element .tree)))
-  unfolding typeOf
-  by-array K = record {
-    takes = subst (λ (x : Selector). Input x (K .input .tree)) (sym (stands-for (K .is))) i-array;
-    shallow = array-shallow (selected (stands-for (K .is)) (C .shallow));
-    typed = typed-for (K .is);
-  }
+  by-array K = of-array-mapping (stands-for (K .is))
 
   module _ {i : Selector} {f : Column → Result Column} (T : Transforms i f) {x : Walk} (g : ToInput w x) where
     steps : StepsTo plan (state i (C .frames) []) w x
@@ -137,25 +159,60 @@ module _ {incoming : Bytes} {v : Version} {n : ℕ} {plan : Bytes} {w : Walk} {s
       input-refused e = bind-refused (typeOf Δ i) f (sym (h i Δ checking-input) ∙ e) ∙ ap checkedOf (sym (T .typed))
 
       module _ (e : r ≡ Checked.Passed) where
-        pub passed : (a : Column) × (typeOf Δ i ≡ gives a)
+        passed : (a : Column) × (typeOf Δ i ≡ gives a)
         passed = passed-gives (typeOf Δ i) (sym (h i Δ checking-input) ∙ e)
 
-        pub input-typed : TypedAt incoming v n plan x (passed .0 .type)
-        input-typed = record {
-          columns = C .columns;
-          place = state i (C .frames) [];
-          standing = steps .standing;
-          shallow = T .shallow;
-          typed = record { scope = Δ; column = passed .0; scoped = C .scoped; passes = passed .1; along = a-here };
+        pub input-passed : PassedInput incoming v n plan w x s Δ
+        input-passed = record {
+          checking = C;
+          input = i;
+          takes = T .takes;
+          column = passed .0;
+          passes = passed .1;
+          typed = record {
+            columns = C .columns;
+            place = state i (C .frames) [];
+            standing = steps .standing;
+            shallow = T .shallow;
+            typed = record { scope = Δ; column = passed .0; scoped = C .scoped; passes = passed .1; along = a-here };
+          };
         }
 
-        pub input-given : {q : Checked} → q ≡ checkedOf (f (passed .0)) → q ≡ checkedOf (typeOf Δ s)
-        input-given p = bind-gives (typeOf Δ i) f (passed .1) p ∙ ap checkedOf (sym (T .typed))
+-- ---- a transform has one input
 
-        -- the mapping t, once the kind of its input is known
-        pub input-mapping : {t : Selector} {u : DataType} → C .standing .here .tree ≡ t → passed .0 .type ≡ u → MappingAt incoming v n plan w t i u
-        input-mapping {t} {u} p q = subst (λ (y : Selector). MappingAt incoming v n plan w y i u) (stands-for p)
-            (record { columns = C .columns; frames = C .frames; standing = C .standing; shallow = C .shallow; scope = Δ; scoped = C .scoped; column = passed .0; passes = passed .1; kind = q })
+input-same : {s i j : Selector} → Input s i → Input s j → i ≡ j
+input-same i-cast i-cast = refl
+input-same i-rename i-rename = refl
+input-same i-struct i-struct = refl
+input-same i-list i-list = refl
+input-same i-array i-array = refl
+
+takes-input : {s i : Selector} → Input s i → isTransform s ≡ true
+takes-input i-cast = refl
+takes-input i-rename = refl
+takes-input i-struct = refl
+takes-input i-list = refl
+takes-input i-array = refl
+
+module _ {incoming : Bytes} {v : Version} {n : ℕ} {plan : Bytes} {w x : Walk} {s : Selector} {Δ : Fields} (R : PassedInput incoming v n plan w x s Δ) where
+  abbrev C : CheckingAt incoming v n plan w s Δ
+  C = R .checking
+
+  -- neither a position nor a constant
+  pub no-source : {B : Type 0} {t : Selector} → C .standing .here .tree ≡ t → isTransform t ≡ false → B
+  no-source e f = absurd (true≢false (sym (takes-input (R .takes)) ∙ ap isTransform (sym (C .standing .selector) ∙ e) ∙ f))
+
+  module _ {i : Selector} {f : Column → Result Column} (T : Transforms C i f) where
+    passes : typeOf Δ i ≡ gives (R .column)
+    passes = subst (λ (j : Selector). typeOf Δ j ≡ gives (R .column)) (input-same (R .takes) (T .takes)) (R .passes)
+
+    pub input-given : {q : Checked} → q ≡ checkedOf (f (R .column)) → q ≡ checkedOf (typeOf Δ s)
+    input-given p = bind-gives (typeOf Δ i) f passes p ∙ ap checkedOf (sym (T .typed))
+
+    -- the mapping t, once the kind of its input is known
+    pub input-mapping : {t : Selector} {u : DataType} → C .standing .here .tree ≡ t → R .column .type ≡ u → MappingAt incoming v n plan w t i u
+    input-mapping {t} {u} p q = subst (λ (y : Selector). MappingAt incoming v n plan w y i u) (sym (C .standing .selector) ∙ p)
+        (record { columns = C .columns; frames = C .frames; standing = C .standing; shallow = C .shallow; scope = Δ; scoped = C .scoped; column = R .column; passes = passes; kind = q })
 
 -- ---- the kind of a mapping's input
 
@@ -218,6 +275,100 @@ module _ {incoming plan : Bytes} (a : Column) {h k : TypeHead} (H : TypeHeadIs i
 
   pub head-no-array : (f : Fields → Result Column) → (codeOf (headKind incoming plan k) .code ≡ 20 → ⊥) → Checked.Refused 32 ≡ checkedOf (checkArray f a)
   head-no-array f z = no-array a f (λ q. z (sym (kind-code H e) ∙ q))
+
+-- ---- what is left once the input has passed
+
+module _ {incoming : Bytes} {v : Version} {n : ℕ} {plan : Bytes} {w : Walk} {s : Selector} {Δ : Fields} where
+  rest-as : {r q : Rest} → r ≡ q → restAnswer incoming v n plan w s Δ q → RestIs incoming v n plan w s Δ r
+  rest-as e a = subst (λ (x : Rest). RestIs incoming v n plan w s Δ x) (sym e) (record { answer = a })
+
+  pub rest-of : {r q : Rest} → RestIs incoming v n plan w s Δ r → r ≡ q → restAnswer incoming v n plan w s Δ q
+  rest-of R e = subst (λ (x : Rest). restAnswer incoming v n plan w s Δ x) e (R .answer)
+
+  pub none-left : {r : Rest} {q : Checked} → r ≡ nothingLeft q → q ≡ checkedOf (typeOf Δ s) → RestIs incoming v n plan w s Δ r
+  none-left {r} {q} e f = go q e f
+    where
+      go : (q : Checked) → r ≡ nothingLeft q → q ≡ checkedOf (typeOf Δ s) → RestIs incoming v n plan w s Δ r
+      go Checked.Passed e f = rest-as e f
+      go (Checked.Refused k) e f = rest-as e f
+
+module _ {incoming : Bytes} {v : Version} {n : ℕ} {plan : Bytes} {w x : Walk} {s : Selector} {Δ : Fields} (R : PassedInput incoming v n plan w x s Δ) where
+  abbrev D : CheckingAt incoming v n plan w s Δ
+  D = R .checking
+
+  pub some-fields : {m : ℕ} (K : StructAt plan (w .at) (D .standing .here) m) {h : TypeHead} {r : Rest} {count : ℕ} → TypeHeadIs incoming plan (R .column .type) h
+      → countSelectors (K .fields .selectors .trees) ≡ count → r ≡ fieldsLeft h count → RestIs incoming v n plan w s Δ r
+  some-fields K {h} {r} {count} H c e = go h H e
+    where
+      T : Transforms D (K .input .tree) (checkStruct (λ fs. typesOf fs (K .fields .selectors .trees)))
+      T = by-struct D K
+
+      refused : {k : TypeHead} → TypeHeadIs incoming plan (R .column .type) k → (codeOf (headKind incoming plan k) .code ≡ 18 → ⊥) → Checked.Refused 32 ≡ checkedOf (typeOf Δ s)
+      refused H z = input-given R T (head-no-struct (R .column) H refl _ z)
+
+      go : (h : TypeHead) → TypeHeadIs incoming plan (R .column .type) h → r ≡ fieldsLeft h count → RestIs incoming v n plan w s Δ r
+      go (TypeHead.Leaf p l) H e = rest-as e (refused H (λ z. omega arith))
+      go (TypeHead.Struct k) H e =
+          let (fs, (q, j)) = is-struct H refl in
+          rest-as e (record {
+            input = K .input .tree;
+            parts = K .fields .selectors .trees;
+            scope = fs;
+            name = R .column .name;
+            mapping = input-mapping R T (K .is) q;
+            counted = c;
+            left = sym (input-given R T (a-struct (R .column) (K .fields .selectors .trees) q refl));
+          })
+      go TypeHead.List H e = rest-as e (refused H (λ z. omega arith))
+      go (TypeHead.Array k) H e = rest-as e (refused H (λ z. omega arith))
+
+  pub some-list : {m : ℕ} (K : ListAt plan (w .at) (D .standing .here) m) {h : TypeHead} {r : Rest} → TypeHeadIs incoming plan (R .column .type) h → r ≡ listedLeft h → RestIs incoming v n plan w s Δ r
+  some-list K {h} {r} H e = go h H e
+    where
+      T : Transforms D (K .input .tree) (checkList (λ fs. typeOf fs (K .element .tree)))
+      T = by-list D K
+
+      refused : {k : TypeHead} → TypeHeadIs incoming plan (R .column .type) k → (codeOf (headKind incoming plan k) .code ≡ 19 → ⊥) → Checked.Refused 32 ≡ checkedOf (typeOf Δ s)
+      refused H z = input-given R T (head-no-list (R .column) H refl _ z)
+
+      go : (h : TypeHead) → TypeHeadIs incoming plan (R .column .type) h → r ≡ listedLeft h → RestIs incoming v n plan w s Δ r
+      go (TypeHead.Leaf p l) H e = rest-as e (refused H (λ z. omega arith))
+      go (TypeHead.Struct k) H e = rest-as e (refused H (λ z. omega arith))
+      go TypeHead.List H e =
+          let (u, q) = is-list H refl in
+          rest-as e (record {
+            element = u;
+            selector = K .element .tree;
+            makes = λ t. list t;
+            name = R .column .name;
+            elements = of-list (input-mapping R T (K .is) q);
+            left = sym (input-given R T (a-list (R .column) (K .element .tree) q refl));
+          })
+      go (TypeHead.Array k) H e = rest-as e (refused H (λ z. omega arith))
+
+  pub some-array : {m : ℕ} (K : ArrayAt plan (w .at) (D .standing .here) m) {h : TypeHead} {r : Rest} → TypeHeadIs incoming plan (R .column .type) h → r ≡ arrayedLeft h → RestIs incoming v n plan w s Δ r
+  some-array K {h} {r} H e = go h H e
+    where
+      T : Transforms D (K .input .tree) (checkArray (λ fs. typeOf fs (K .element .tree)))
+      T = by-array D K
+
+      refused : {k : TypeHead} → TypeHeadIs incoming plan (R .column .type) k → (codeOf (headKind incoming plan k) .code ≡ 20 → ⊥) → Checked.Refused 32 ≡ checkedOf (typeOf Δ s)
+      refused H z = input-given R T (head-no-array (R .column) H refl _ z)
+
+      go : (h : TypeHead) → TypeHeadIs incoming plan (R .column .type) h → r ≡ arrayedLeft h → RestIs incoming v n plan w s Δ r
+      go (TypeHead.Leaf p l) H e = rest-as e (refused H (λ z. omega arith))
+      go (TypeHead.Struct k) H e = rest-as e (refused H (λ z. omega arith))
+      go TypeHead.List H e = rest-as e (refused H (λ z. omega arith))
+      go (TypeHead.Array k) H e =
+          let (u, q) = is-array H refl in
+          rest-as e (record {
+            element = u;
+            selector = K .element .tree;
+            makes = λ t. array k t;
+            name = R .column .name;
+            elements = of-array (input-mapping R T (K .is) q);
+            left = sym (input-given R T (an-array (R .column) (K .element .tree) q refl));
+          })
 
 -- ---- a mapping is a level
 

@@ -9,14 +9,18 @@ use Rattle.layout.specs.Layout.{deepest}
 use Rattle.layout.specs.Stands.{ColumnsAt}
 use Rattle.layout.specs.declared.version.Version.{Version}
 use Rattle.plan.specs.Result.{Result, gives, refuses, _>>=_}
-use Rattle.plan.specs.Selector.{Selector, Selectors, listMapping, arrayMapping}
+use Rattle.plan.specs.Selector.{Selector, position, constant, cast, rename, structMapping, listMapping, arrayMapping, Selectors, countSelectors}
 use Rattle.plan.specs.Check.{Column, elementOf, typeOf, typesOf, resulting}
 use Rattle.walk.specs.State.{Frame, state}
+use Rattle.walk.specs.Moves.{Input}
 use Rattle.walk.specs.Types.{ScopeOf}
 use Rattle.walk.specs.Standing.{WalkAt}
 use Rattle.walk.specs.declared.walk.Walk.{Walk}
 use Rattle.checker.specs.Shallow.{Shallow}
+use Rattle.checker.specs.Standing.{TypedAt}
+use Rattle.checker.specs.declared.place.TypeHead.{TypeHead}
 use Rattle.checker.specs.declared.selector.Checked.{Checked}
+use Rattle.checker.specs.declared.selector.Rest.{Rest}
 
 -- what an answer stands for: the check passes, or the refusal's number
 abbrev pub checkedOf : {A : Type 0} → Result A → Checked
@@ -35,6 +39,25 @@ pub record CheckingAt (incoming : Bytes) (v : Version) (n : ℕ) (plan : Bytes) 
   pub standing : WalkAt plan w (state s frames [])
   pub shallow : Shallow (state s frames [])
   pub scoped : ScopeOf (fieldsOf (columns .columns)) frames Δ
+
+-- whether a selector transforms what another gives
+abbrev pub isTransform : Selector → Bool
+isTransform (position k) = false
+isTransform (constant name t v) = false
+isTransform (cast i t o) = true
+isTransform (rename i name) = true
+isTransform (structMapping i ss) = true
+isTransform (listMapping i e) = true
+isTransform (arrayMapping i e) = true
+
+-- at the transform s, whose input, at which x stands, has passed and gives a column
+pub record PassedInput (incoming : Bytes) (v : Version) (n : ℕ) (plan : Bytes) (w x : Walk) (s : Selector) (Δ : Fields) : Type 0 where
+  pub checking : CheckingAt incoming v n plan w s Δ
+  pub input : Selector
+  pub takes : Input s input
+  pub column : Column
+  pub passes : typeOf Δ input ≡ gives column
+  pub typed : TypedAt incoming v n plan x (column .type)
 
 -- at the mapping s, whose input i has passed and gives the type t
 pub record MappingAt (incoming : Bytes) (v : Version) (n : ℕ) (plan : Bytes) (w : Walk) (s i : Selector) (t : DataType) : Type 0 where
@@ -59,3 +82,55 @@ fieldsResult fs ss name = typesOf fs ss >>= λ gs. resulting name (struct gs)
 
 abbrev pub elementResult : DataType → Selector → (DataType → DataType) → Bytes → Result Column
 elementResult t e f name = typeOf (elementOf t) e >>= λ d. resulting name (f (d .type))
+
+-- what is left of a transform's check once its input has passed: nothing, where the answer is known
+abbrev pub nothingLeft : Checked → Rest
+nothingLeft Checked.Passed = Rest.Passed
+nothingLeft (Checked.Refused k) = Rest.Refused k
+
+-- a mapping's selectors, where its input has its kind
+abbrev pub fieldsLeft : TypeHead → ℕ → Rest
+fieldsLeft (TypeHead.Leaf p l) count = Rest.Refused 32
+fieldsLeft (TypeHead.Struct n) count = Rest.Fields count
+fieldsLeft TypeHead.List count = Rest.Refused 32
+fieldsLeft (TypeHead.Array w) count = Rest.Refused 32
+
+abbrev pub listedLeft : TypeHead → Rest
+listedLeft (TypeHead.Leaf p l) = Rest.Refused 32
+listedLeft (TypeHead.Struct n) = Rest.Refused 32
+listedLeft TypeHead.List = Rest.Element
+listedLeft (TypeHead.Array w) = Rest.Refused 32
+
+abbrev pub arrayedLeft : TypeHead → Rest
+arrayedLeft (TypeHead.Leaf p l) = Rest.Refused 32
+arrayedLeft (TypeHead.Struct n) = Rest.Refused 32
+arrayedLeft TypeHead.List = Rest.Refused 32
+arrayedLeft (TypeHead.Array w) = Rest.Element
+
+-- the check of s is that of a struct mapping's selectors, and then of its result
+pub record FieldsLeft (incoming : Bytes) (v : Version) (n : ℕ) (plan : Bytes) (w : Walk) (s : Selector) (Δ : Fields) (count : ℕ) : Type 0 where
+  pub input : Selector
+  pub parts : Selectors
+  pub scope : Fields
+  pub name : Bytes
+  pub mapping : MappingAt incoming v n plan w (structMapping input parts) input (struct scope)
+  pub counted : countSelectors parts ≡ count
+  pub left : checkedOf (typeOf Δ s) ≡ checkedOf (fieldsResult scope parts name)
+
+-- of the selector of a list or array mapping
+pub record ElementLeft (incoming : Bytes) (v : Version) (n : ℕ) (plan : Bytes) (w : Walk) (s : Selector) (Δ : Fields) : Type 0 where
+  pub element : DataType
+  pub selector : Selector
+  pub makes : DataType → DataType
+  pub name : Bytes
+  pub elements : Elements incoming v n plan w element selector makes
+  pub left : checkedOf (typeOf Δ s) ≡ checkedOf (elementResult element selector makes name)
+
+abbrev pub restAnswer : Bytes → Version → ℕ → Bytes → Walk → Selector → Fields → Rest → Type 0
+restAnswer incoming v n plan w s Δ Rest.Passed = Checked.Passed ≡ checkedOf (typeOf Δ s)
+restAnswer incoming v n plan w s Δ (Rest.Refused k) = Checked.Refused k ≡ checkedOf (typeOf Δ s)
+restAnswer incoming v n plan w s Δ (Rest.Fields count) = FieldsLeft incoming v n plan w s Δ count
+restAnswer incoming v n plan w s Δ Rest.Element = ElementLeft incoming v n plan w s Δ
+
+pub record RestIs (incoming : Bytes) (v : Version) (n : ℕ) (plan : Bytes) (w : Walk) (s : Selector) (Δ : Fields) (r : Rest) : Type 0 where
+  pub answer : restAnswer incoming v n plan w s Δ r

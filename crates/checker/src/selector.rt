@@ -1,6 +1,7 @@
 // The check of one selector: 31 no such position, 32 a transform that doesn't fit. "Selectors in order, input before transform (a mapping's input kind, then its selectors, then its
 // result)."
 ghost use mathlib.Core.Path.{_≡_};
+ghost use mathlib.Core.Bool.{true, false};
 ghost use Rattle.layout.specs.Bytes.{Bytes};
 ghost use Rattle.layout.specs.Tree.{Fields, struct, countFields, DataType, dtypeOf};
 ghost use Rattle.layout.specs.Stands.{TypeAt};
@@ -8,9 +9,9 @@ ghost use Rattle.layout.specs.declared.version.Version.{Version as VersionOf};
 ghost use Rattle.plan.specs.Selector.{Selector, Selectors, countSelectors, structMapping};
 ghost use Rattle.plan.specs.Check.{Column, columnAt, typeOf, resulting, checkCast};
 ghost use Rattle.walk.specs.Stands.{SelectorAt};
-ghost use Rattle.walk.specs.Parts.{OptionAt, CastAt, RenameAt, StructAt, ListAt, ArrayAt};
+ghost use Rattle.walk.specs.Parts.{OptionAt};
 ghost use Rattle.checker.specs.Standing.{TypeHeadIs, ScopedAt, TypedAt};
-ghost use Rattle.checker.specs.Checking.{checkedOf, fittingOf, CheckingAt, MappingAt, Elements, fieldsResult, elementResult};
+ghost use Rattle.checker.specs.Checking.{checkedOf, fittingOf, isTransform, CheckingAt, PassedInput, nothingLeft, fieldsLeft, listedLeft, arrayedLeft, RestIs, MappingAt, Elements, fieldsResult, elementResult};
 use crate::cast::cast_fits;
 use crate::head::type_head;
 use crate::limits::within_limits;
@@ -108,60 +109,139 @@ fn input_head(incoming: &[u8], v: Version, n: u16, plan: &[u8], x: Walk) -> Type
     type_head(incoming, v, n, plan, r)
 }
 
-// The selector at which the walk stands.
-pub fn check_selector(incoming: &[u8], v: Version, n: u16, plan: &[u8], w: Walk) -> Checked
-    requires { ⌜ ((s : Selector) × (Δ : Fields) × CheckingAt (now incoming) v n (now plan) w s Δ) ⌝ }
-    ensures { λ r. ⌜ ((s : Selector) (Δ : Fields) → CheckingAt (now (incoming .entry)) v n (now (plan .entry)) w s Δ → r ≡ checkedOf (typeOf Δ s)) ⌝ }
+// Whether the selector at `c` transforms what another gives.
+fn is_transform(plan: &[u8], c: Cursor) -> bool
+    ensures { λ r. ⌜ ((P : SelectorAt (now (plan .entry)) (c .at)) → r ≡ isTransform (P .tree)) ⌝ }
+{
+    match head(plan, c) {
+        SelectorHead::Position(_) => false,
+        SelectorHead::Constant(_, _) => false,
+        SelectorHead::Cast(_) => true,
+        SelectorHead::Rename(_) => true,
+        SelectorHead::Struct(_) => true,
+        SelectorHead::List(_) => true,
+        SelectorHead::Array(_) => true,
+        SelectorHead::Refused => false,
+    }
+}
+
+// A position or a constant.
+fn check_source(incoming: &[u8], v: Version, n: u16, plan: &[u8], w: Walk) -> Checked
+    requires { ⌜ ((s : Selector) × (Δ : Fields) × CheckingAt (now incoming) v n (now plan) w s Δ × (isTransform s ≡ false)) ⌝ }
+    ensures { λ r. ⌜ ((s : Selector) (Δ : Fields) → CheckingAt (now (incoming .entry)) v n (now (plan .entry)) w s Δ → isTransform s ≡ false → r ≡ checkedOf (typeOf Δ s)) ⌝ }
 {
     let c = Cursor { at: w.at };
     match head(plan, c) {
         SelectorHead::Position(k) => check_position(incoming, v, n, plan, w, k),
         SelectorHead::Constant(_, _) => Checked::Passed,
-        SelectorHead::Cast(input) => check_cast(incoming, v, n, plan, w, input),
-        SelectorHead::Rename(input) => check_rename(incoming, v, n, plan, w, input),
-        SelectorHead::Struct(input) => check_struct(incoming, v, n, plan, w, input),
-        SelectorHead::List(input) => check_list(incoming, v, n, plan, w, input),
-        SelectorHead::Array(input) => check_array(incoming, v, n, plan, w, input),
+        SelectorHead::Cast(_) => Checked::Passed,
+        SelectorHead::Rename(_) => Checked::Passed,
+        SelectorHead::Struct(_) => Checked::Passed,
+        SelectorHead::List(_) => Checked::Passed,
+        SelectorHead::Array(_) => Checked::Passed,
         SelectorHead::Refused => Checked::Passed,
     }
 }
 
-fn check_cast(incoming: &[u8], v: Version, n: u16, plan: &[u8], w: Walk, input: Cursor) -> Checked
-    requires { ⌜ ((s : Selector) × (Δ : Fields) × (C : CheckingAt (now incoming) v n (now plan) w s Δ) × CastAt (now plan) (w .at) (C .standing .here) (input .at)) ⌝ }
-    ensures { λ r. ⌜ ((s : Selector) (Δ : Fields) (C : CheckingAt (now (incoming .entry)) v n (now (plan .entry)) w s Δ) → CastAt (now (plan .entry)) (w .at) (C .standing .here) (input .at) → r ≡ checkedOf (typeOf Δ s)) ⌝ }
+// What is left of a transform's check once its input has passed: nothing; or the selectors of a struct mapping, so many of them; or the
+// selector of a list or array mapping.
+pub enum Rest {
+    Passed,
+    Refused(u8),
+    Fields(u16),
+    Element,
+}
+
+fn nothing_left(checked: Checked) -> Rest
+    ensures { λ r. ⌜ r ≡ nothingLeft checked ⌝ }
 {
-    let x = w.to_input();
-    match check_selector(incoming, v, n, plan, x) {
-        Checked::Passed => cast_result(incoming, v, n, plan, x, input),
-        Checked::Refused(k) => Checked::Refused(k),
+    match checked {
+        Checked::Passed => Rest::Passed,
+        Checked::Refused(k) => Rest::Refused(k),
     }
 }
 
-fn check_rename(incoming: &[u8], v: Version, n: u16, plan: &[u8], w: Walk, input: Cursor) -> Checked
-    requires { ⌜ ((s : Selector) × (Δ : Fields) × (C : CheckingAt (now incoming) v n (now plan) w s Δ) × RenameAt (now plan) (w .at) (C .standing .here) (input .at)) ⌝ }
-    ensures { λ r. ⌜ ((s : Selector) (Δ : Fields) (C : CheckingAt (now (incoming .entry)) v n (now (plan .entry)) w s Δ) → RenameAt (now (plan .entry)) (w .at) (C .standing .here) (input .at) → r ≡ checkedOf (typeOf Δ s)) ⌝ }
+// Of a struct mapping of `count` selectors, by what the type of its input begins with.
+fn fields_left(h: TypeHead, count: u16) -> Rest
+    ensures { λ r. ⌜ r ≡ fieldsLeft h count ⌝ }
 {
-    let x = w.to_input();
-    match check_selector(incoming, v, n, plan, x) {
-        Checked::Passed => rename_result(incoming, v, n, plan, x),
-        Checked::Refused(k) => Checked::Refused(k),
+    match h {
+        TypeHead::Leaf(_, _) => Rest::Refused(32),
+        TypeHead::Struct(_) => Rest::Fields(count),
+        TypeHead::List => Rest::Refused(32),
+        TypeHead::Array(_) => Rest::Refused(32),
     }
 }
 
-fn check_struct(incoming: &[u8], v: Version, n: u16, plan: &[u8], w: Walk, input: Cursor) -> Checked
-    requires { ⌜ ((s : Selector) × (Δ : Fields) × (C : CheckingAt (now incoming) v n (now plan) w s Δ) × StructAt (now plan) (w .at) (C .standing .here) (input .at)) ⌝ }
-    ensures { λ r. ⌜ ((s : Selector) (Δ : Fields) (C : CheckingAt (now (incoming .entry)) v n (now (plan .entry)) w s Δ) → StructAt (now (plan .entry)) (w .at) (C .standing .here) (input .at) → r ≡ checkedOf (typeOf Δ s)) ⌝ }
+// Of a list mapping.
+fn listed_left(h: TypeHead) -> Rest
+    ensures { λ r. ⌜ r ≡ listedLeft h ⌝ }
+{
+    match h {
+        TypeHead::Leaf(_, _) => Rest::Refused(32),
+        TypeHead::Struct(_) => Rest::Refused(32),
+        TypeHead::List => Rest::Element,
+        TypeHead::Array(_) => Rest::Refused(32),
+    }
+}
+
+// Of an array mapping.
+fn arrayed_left(h: TypeHead) -> Rest
+    ensures { λ r. ⌜ r ≡ arrayedLeft h ⌝ }
+{
+    match h {
+        TypeHead::Leaf(_, _) => Rest::Refused(32),
+        TypeHead::Struct(_) => Rest::Refused(32),
+        TypeHead::List => Rest::Refused(32),
+        TypeHead::Array(_) => Rest::Element,
+    }
+}
+
+// A transform whose input, at which `x` stands, has passed: the result of a cast or rename, the kind of a mapping's input.
+fn check_input(incoming: &[u8], v: Version, n: u16, plan: &[u8], w: Walk, x: Walk) -> Rest
+    requires { ⌜ ((s : Selector) × (Δ : Fields) × PassedInput (now incoming) v n (now plan) w x s Δ) ⌝ }
+    ensures { λ r. ⌜ ((s : Selector) (Δ : Fields) → PassedInput (now (incoming .entry)) v n (now (plan .entry)) w x s Δ → RestIs (now (incoming .entry)) v n (now (plan .entry)) w s Δ r) ⌝ }
+{
+    let c = Cursor { at: w.at };
+    match head(plan, c) {
+        SelectorHead::Position(_) => Rest::Passed,
+        SelectorHead::Constant(_, _) => Rest::Passed,
+        SelectorHead::Cast(input) => nothing_left(cast_result(incoming, v, n, plan, x, input)),
+        SelectorHead::Rename(_) => nothing_left(rename_result(incoming, v, n, plan, x)),
+        SelectorHead::Struct(input) => {
+            let f = struct_fields(plan, input);
+            fields_left(input_head(incoming, v, n, plan, x), f.count)
+        }
+        SelectorHead::List(_) => listed_left(input_head(incoming, v, n, plan, x)),
+        SelectorHead::Array(_) => arrayed_left(input_head(incoming, v, n, plan, x)),
+        SelectorHead::Refused => Rest::Passed,
+    }
+}
+
+// The selector at which the walk stands.
+pub fn check_selector(incoming: &[u8], v: Version, n: u16, plan: &[u8], w: Walk) -> Checked
+    requires { ⌜ ((s : Selector) × (Δ : Fields) × CheckingAt (now incoming) v n (now plan) w s Δ) ⌝ }
+    ensures { λ r. ⌜ ((s : Selector) (Δ : Fields) → CheckingAt (now (incoming .entry)) v n (now (plan .entry)) w s Δ → r ≡ checkedOf (typeOf Δ s)) ⌝ }
+{
+    if is_transform(plan, Cursor { at: w.at }) {
+        return check_transform(incoming, v, n, plan, w);
+    }
+    check_source(incoming, v, n, plan, w)
+}
+
+// The input of a transform, then what is left. What a level of nesting keeps on the stack is here and in the two functions below; the
+// larger work is done in functions that return before the next level.
+fn check_transform(incoming: &[u8], v: Version, n: u16, plan: &[u8], w: Walk) -> Checked
+    requires { ⌜ ((s : Selector) × (Δ : Fields) × CheckingAt (now incoming) v n (now plan) w s Δ × (isTransform s ≡ true)) ⌝ }
+    ensures { λ r. ⌜ ((s : Selector) (Δ : Fields) → CheckingAt (now (incoming .entry)) v n (now (plan .entry)) w s Δ → isTransform s ≡ true → r ≡ checkedOf (typeOf Δ s)) ⌝ }
 {
     let x = w.to_input();
     match check_selector(incoming, v, n, plan, x) {
-        Checked::Passed => match input_head(incoming, v, n, plan, x) {
-            TypeHead::Leaf(_, _) => Checked::Refused(32),
-            TypeHead::Struct(_) => {
-                let f = struct_fields(plan, input);
-                check_fields(incoming, v, n, plan, w, f.count)
-            }
-            TypeHead::List => Checked::Refused(32),
-            TypeHead::Array(_) => Checked::Refused(32),
+        Checked::Passed => match check_input(incoming, v, n, plan, w, x) {
+            Rest::Passed => Checked::Passed,
+            Rest::Refused(k) => Checked::Refused(k),
+            Rest::Fields(count) => check_fields(incoming, v, n, plan, w, count),
+            Rest::Element => check_element(incoming, v, n, plan, w),
         },
         Checked::Refused(k) => Checked::Refused(k),
     }
@@ -184,38 +264,6 @@ fn check_fields(incoming: &[u8], v: Version, n: u16, plan: &[u8], w: Walk, count
     }
     let r = found_in(Source::Mapped, Cursor { at: 0 }, w);
     fitting(within_limits(incoming, v, n, plan, r))
-}
-
-fn check_list(incoming: &[u8], v: Version, n: u16, plan: &[u8], w: Walk, input: Cursor) -> Checked
-    requires { ⌜ ((s : Selector) × (Δ : Fields) × (C : CheckingAt (now incoming) v n (now plan) w s Δ) × ListAt (now plan) (w .at) (C .standing .here) (input .at)) ⌝ }
-    ensures { λ r. ⌜ ((s : Selector) (Δ : Fields) (C : CheckingAt (now (incoming .entry)) v n (now (plan .entry)) w s Δ) → ListAt (now (plan .entry)) (w .at) (C .standing .here) (input .at) → r ≡ checkedOf (typeOf Δ s)) ⌝ }
-{
-    let x = w.to_input();
-    match check_selector(incoming, v, n, plan, x) {
-        Checked::Passed => match input_head(incoming, v, n, plan, x) {
-            TypeHead::Leaf(_, _) => Checked::Refused(32),
-            TypeHead::Struct(_) => Checked::Refused(32),
-            TypeHead::List => check_element(incoming, v, n, plan, w),
-            TypeHead::Array(_) => Checked::Refused(32),
-        },
-        Checked::Refused(k) => Checked::Refused(k),
-    }
-}
-
-fn check_array(incoming: &[u8], v: Version, n: u16, plan: &[u8], w: Walk, input: Cursor) -> Checked
-    requires { ⌜ ((s : Selector) × (Δ : Fields) × (C : CheckingAt (now incoming) v n (now plan) w s Δ) × ArrayAt (now plan) (w .at) (C .standing .here) (input .at)) ⌝ }
-    ensures { λ r. ⌜ ((s : Selector) (Δ : Fields) (C : CheckingAt (now (incoming .entry)) v n (now (plan .entry)) w s Δ) → ArrayAt (now (plan .entry)) (w .at) (C .standing .here) (input .at) → r ≡ checkedOf (typeOf Δ s)) ⌝ }
-{
-    let x = w.to_input();
-    match check_selector(incoming, v, n, plan, x) {
-        Checked::Passed => match input_head(incoming, v, n, plan, x) {
-            TypeHead::Leaf(_, _) => Checked::Refused(32),
-            TypeHead::Struct(_) => Checked::Refused(32),
-            TypeHead::List => Checked::Refused(32),
-            TypeHead::Array(_) => check_element(incoming, v, n, plan, w),
-        },
-        Checked::Refused(k) => Checked::Refused(k),
-    }
 }
 
 // The selector of a list or array mapping, then its result.

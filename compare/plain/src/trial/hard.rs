@@ -1,6 +1,7 @@
 //! Trials made by hand, with what is due.
 
 mod builds;
+mod collisions;
 mod large;
 mod limits;
 mod transforms;
@@ -183,6 +184,7 @@ pub fn trials(random: &mut Random) -> Vec<(Trial, Due)> {
     trials.records();
     trials.limits();
     trials.layouts();
+    trials.collisions();
     trials.long_plans();
     trials.made
 }

@@ -1,0 +1,106 @@
+//! Names and ids that fall together in the library's tables of labels (crates/layout/src/seen.rt, crates/labels): no answer may change by that.
+
+use super::values::{column, int8};
+use super::{Trials, layout};
+use crate::judge::{Call, Trial};
+use plain::form::{self, Column, Type};
+use plain::generate;
+use plain::random::Random;
+use std::collections::HashMap;
+
+/// Of the library's hash, which goes from `h` to `(h + x) * FACTOR` by 2^32.
+const FACTOR: u32 = 0x5BD1_E995;
+/// Where the top columns begin, which goes into the hash when they are read.
+const TOP: u32 = 7;
+const COUNT: u32 = 300;
+
+fn hash(from: u32, numbers: impl IntoIterator<Item = u32>) -> u32 {
+    let step = |h: u32, x: u32| h.wrapping_add(x).wrapping_mul(FACTOR);
+    numbers.into_iter().fold(from, step)
+}
+
+/// By 2^32: each step doubles the number of low bits that are right, 3 of them at first.
+fn inverse(odd: u32) -> u32 {
+    let step = |x: u32, _| x.wrapping_mul(2u32.wrapping_sub(odd.wrapping_mul(x)));
+    (0..4).fold(odd, step)
+}
+
+/// Two blocks with the same hash. From any hash on they lead to the same one.
+fn equal_blocks() -> [[u8; 5]; 2] {
+    let mut random = Random::new(1);
+    let mut seen = HashMap::new();
+    loop {
+        let [block @ .., _, _, _] = random.next().to_le_bytes();
+        match seen.insert(hash(0, block.map(u32::from)), block) {
+            Some(other) if other != block => return [block, other],
+            _ => (),
+        }
+    }
+}
+
+/// Columns whose names all have one hash.
+fn equal_names() -> Vec<Column> {
+    let blocks = equal_blocks();
+    let name = |n: u32| (0..9).flat_map(move |bit| blocks[(n >> bit & 1) as usize]);
+    let column = |n: u32| Column {
+        name: name(n).collect(),
+        ..column("", int8())
+    };
+    (0..COUNT).map(column).collect()
+}
+
+/// Columns whose ids have the hashes, after `from`.
+fn numbered(from: u32, hashes: impl Iterator<Item = u32>) -> Vec<Column> {
+    let id = |h: u32| h.wrapping_mul(inverse(FACTOR)).wrapping_sub(from);
+    let column = |h: u32| Column {
+        id: id(h),
+        ..column("", int8())
+    };
+    hashes.map(column).collect()
+}
+
+impl Trials<'_> {
+    /// The columns read, at the top and in a struct; 5 with one of them repeated at the end.
+    fn siblings(&mut self, version: u8, columns: &[Column]) {
+        let repeated = [columns, &columns[columns.len() / 2..][..1]].concat();
+        for (columns, number) in [(columns.to_vec(), 0), (repeated, 5)] {
+            let inside = column("", Type::Struct(columns.clone()));
+            for columns in [columns, vec![inside]] {
+                let trial = Trial {
+                    incoming: layout(version, columns),
+                    ..Trial::new(Call::ReadLayout)
+                };
+                self.add(trial, number);
+            }
+        }
+    }
+
+    /// From all columns but some to all of them in the other order.
+    fn turned_round(&mut self, call: Call, version: u8, columns: &[Column]) {
+        let (incoming, _) = columns.split_at(columns.len() - 20);
+        let target = columns.iter().rev().cloned().collect();
+        let trial = Trial {
+            policy: generate::ALL,
+            space: 70_000,
+            incoming: layout(version, incoming.to_vec()),
+            target: layout(version, target),
+            defaults: form::write_defaults(&[]),
+            record: (0..incoming.len()).flat_map(|n| [1, n as u8]).collect(),
+            ..Trial::new(call)
+        };
+        self.add(trial, 0);
+    }
+
+    pub(super) fn collisions(&mut self) {
+        let names = equal_names();
+        self.siblings(1, &names);
+        self.turned_round(Call::BuildByName, 1, &names);
+        // The table of bits leaves the lowest 5 bits of a hash out, the table of labels all but the lowest.
+        let bits = numbered(hash(0, [TOP]), (0..COUNT).map(|n| n % 32 + n / 32 * 0x0100_0000));
+        let labels = numbered(0, (1..=COUNT).map(|n| n << 16));
+        for columns in [bits, labels] {
+            self.siblings(2, &columns);
+            self.turned_round(Call::BuildByNumber, 2, &columns);
+        }
+    }
+}
