@@ -135,6 +135,22 @@ static void widest(uint32_t version, int lists, uint32_t count) {
     printf("version %u, %u columns of %d lists: %.3f ms, answer %llx\n", version, columns, lists, taken, (unsigned long long)answer);
 }
 
+/* As many columns as there may be whose names have one hash: from any hash on, either block leads to the same one. */
+static void colliding(void) {
+    static const uint8_t blocks[2][5] = {{0x05, 0x34, 0x6C, 0xC7, 0xAC}, {0xF5, 0x8A, 0x1B, 0x40, 0xBA}};
+    const uint32_t columns = (LIMIT - 7) / 47;
+    head(1, columns);
+    for (uint32_t n = 0; n < columns; n++) {
+        put(45, 1);
+        for (int bit = 0; bit < 9; bit++)
+            for (int i = 0; i < 5; i++)
+                put(blocks[n >> bit & 1][i], 1);
+        put(2, 1);
+    }
+    double taken = milliseconds();
+    printf("version 1, %u columns with names of one hash: %.3f ms, answer %llx\n", columns, taken, (unsigned long long)answer);
+}
+
 int main(void) {
     for (uint32_t version = 1; version <= 2; version++) {
         deepest(version);
@@ -144,6 +160,7 @@ int main(void) {
         widest(version, 1, 65535);
         widest(version, 15, 65535);
     }
+    colliding();
     printf("stack: %zu bytes, of %d\n", most, SELECTOR_READ_STACK);
     return most > SELECTOR_READ_STACK;
 }

@@ -60,19 +60,21 @@ fn numbered(from: u32, hashes: impl Iterator<Item = u32>) -> Vec<Column> {
 }
 
 impl Trials<'_> {
-    /// The columns read, at the top and in a struct; 5 with one of them repeated at the end.
+    /// The columns read, at the top and in a struct; 5 with one of them repeated at the end, but for names in a struct, which may repeat.
     fn siblings(&mut self, version: u8, columns: &[Column]) {
         let repeated = [columns, &columns[columns.len() / 2..][..1]].concat();
-        for (columns, number) in [(columns.to_vec(), 0), (repeated, 5)] {
-            let inside = column("", Type::Struct(columns.clone()));
-            for columns in [columns, vec![inside]] {
-                let trial = Trial {
-                    incoming: layout(version, columns),
-                    ..Trial::new(Call::ReadLayout)
-                };
-                self.add(trial, number);
-            }
-        }
+        let mut read = |columns: Vec<Column>, number: u32| {
+            let trial = Trial {
+                incoming: layout(version, columns),
+                ..Trial::new(Call::ReadLayout)
+            };
+            self.add(trial, number);
+        };
+        let inside = |columns: &[Column]| vec![column("", Type::Struct(columns.to_vec()))];
+        read(inside(columns), 0);
+        read(inside(&repeated), if version == 1 { 0 } else { 5 });
+        read(columns.to_vec(), 0);
+        read(repeated, 5);
     }
 
     /// From all columns but some to all of them in the other order.
@@ -96,7 +98,10 @@ impl Trials<'_> {
         self.siblings(1, &names);
         self.turned_round(Call::BuildByName, 1, &names);
         // The table of bits leaves the lowest 5 bits of a hash out, the table of labels all but the lowest.
-        let bits = numbered(hash(0, [TOP]), (0..COUNT).map(|n| n % 32 + n / 32 * 0x0100_0000));
+        let bits = numbered(
+            hash(0, [TOP]),
+            (0..COUNT).map(|n| n % 32 + n / 32 * 0x0100_0000),
+        );
         let labels = numbered(0, (1..=COUNT).map(|n| n << 16));
         for columns in [bits, labels] {
             self.siblings(2, &columns);
