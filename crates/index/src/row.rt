@@ -33,24 +33,25 @@ fn storable(j: usize, types: usize, values: usize, at: usize, to: usize) -> bool
     true
 }
 
-// Fills the two tables for a record and answers how many entries each got.
+// Fills the two tables for the values from `c` on and answers how many entries each got.
 pub fn index_row(
     lay: &[u8],
     v: Version,
     n: u16,
     columns: Cursor,
     rec: &[u8],
+    c: Cursor,
     stride: u16,
     types: &mut [u16],
     values: &mut [u16],
 ) -> usize
-    requires { ⌜ RowAt v (now lay) n (columns .at) (now rec) 0 ⌝ }
+    requires { ⌜ RowAt v (now lay) n (columns .at) (now rec) (c .at) ⌝ }
     ensures { λ r. ⌜ r ≤ length (now (types .exit)) ⌝ }
     ensures { λ r. ⌜ r ≤ length (now (values .exit)) ⌝ }
-    ensures { λ r. ⌜ IndexedRow v (now (lay .entry)) n (columns .at) (now (rec .entry)) 0 stride (take r (now (types .exit))) (take r (now (values .exit))) ⌝ }
+    ensures { λ r. ⌜ IndexedRow v (now (lay .entry)) n (columns .at) (now (rec .entry)) (c .at) stride (take r (now (types .exit))) (take r (now (values .exit))) ⌝ }
 {
     let mut at = columns.at;
-    let mut to: usize = 0;
+    let mut to = c.at;
     let mut i: u16 = 0;
     let mut j: usize = 0;
     while storable(j, types.len(), values.len(), at, to) {
@@ -61,8 +62,8 @@ pub fn index_row(
             return j;
         }
         let t = Cursor { at };
-        let c = Cursor { at: to };
-        match read_fields(lay, v, 16, stride, t, rec, c) {
+        let from = Cursor { at: to };
+        match read_fields(lay, v, 16, stride, t, rec, from) {
             ValueRead::To(d, e) => {
                 at = d.at;
                 to = e.at;

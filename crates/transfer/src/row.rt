@@ -2,7 +2,7 @@
 ghost use mathlib.Core.Path.{_≡_};
 ghost use mathlib.Core.Bool.{Bool, true};
 ghost use Prim.Native.Nat.{ℕ, _≤_, _<_};
-ghost use lib.ListN.{length};
+ghost use lib.ListN.{length, take};
 ghost use Rattle.layout.specs.Bytes.{Bytes};
 ghost use Rattle.layout.specs.declared.version.Version.{Version as VersionOf};
 ghost use Rattle.values.specs.Value.{Value, Values, vnil, vcons};
@@ -23,6 +23,7 @@ use crate::opened::Opened;
 use crate::opened::open_input;
 use crate::origin::is_position;
 use crate::origin::taken_position;
+use index::row::index_row;
 use index::row::indexed_value;
 use layout::cursor::Cursor;
 use layout::cursor::Moved;
@@ -176,6 +177,80 @@ fn transfer_elements(
     limited(end, at)
 }
 
+// A stride at which 64 entries do for `n` fields.
+fn field_stride(n: u16) -> u16
+    ensures { λ r. ⌜ 0 < r ⌝ }
+{
+    n / 64 + 1
+}
+
+// Fills the tables of a struct's fields, of which `count` are taken; where these are few, it would take longer than passing over fields.
+fn index_fields(
+    lay: &[u8],
+    v: Version,
+    n: u16,
+    t: Cursor,
+    rec: &[u8],
+    d: Cursor,
+    count: u16,
+    stride: u16,
+    types: &mut [u16],
+    values: &mut [u16],
+) -> usize
+    requires { ⌜ RowAt v (now lay) n (t .at) (now rec) (d .at) ⌝ }
+    ensures { λ r. ⌜ r ≤ length (now (types .exit)) ⌝ }
+    ensures { λ r. ⌜ r ≤ length (now (values .exit)) ⌝ }
+    ensures { λ r. ⌜ IndexedRow v (now (lay .entry)) n (t .at) (now (rec .entry)) (d .at) stride (take r (now (types .exit))) (take r (now (values .exit))) ⌝ }
+{
+    if count <= 8 {
+        return 0;
+    }
+    index_row(lay, v, n, t, rec, d, stride, types, values)
+}
+
+// The selectors of a struct mapping: as `transfer_row`, with tables of the struct's own fields.
+fn transfer_fields(
+    lay: &[u8],
+    v: Version,
+    n: u16,
+    t: Cursor,
+    rec: &[u8],
+    d: Cursor,
+    plan: &[u8],
+    count: u16,
+    first: Cursor,
+    levels: u8,
+    out: &mut [u8],
+    k: usize,
+) -> Reached
+    requires { ⌜ RowAt v (now lay) n (t .at) (now rec) (d .at) ⌝ }
+    requires { ⌜ SelectorsAt (now plan) count (first .at) ⌝ }
+    requires { ⌜ (length (now rec) ≤ 65536) × (length (now plan) ≤ 65536) × (k ≤ 16387) ⌝ }
+    ensures { λ r. ⌜ ((X : RowAt v (now (lay .entry)) n (t .at) (now (rec .entry)) (d .at)) (S : SelectorsAt (now (plan .entry)) count (first .at)) → ReachedIs (cleanAll (evals (X .values .values) (S .trees))) (encodeValues (evals (X .values .values) (S .trees))) (S .end) (now (out .entry)) k r (now (out .exit))) ⌝ }
+{
+    let stride = field_stride(n);
+    let mut types = [0u16; 64];
+    let mut values = [0u16; 64];
+    let m = index_fields(lay, v, n, t, rec, d, count, stride, &mut types, &mut values);
+    transfer_row(
+        lay,
+        v,
+        n,
+        t,
+        rec,
+        d,
+        &types[..m],
+        &values[..m],
+        stride,
+        plan,
+        count,
+        first,
+        levels,
+        out,
+        k,
+    )
+}
+
 // A struct mapping at `c`, over a column that is a struct.
 fn transfer_struct(
     lay: &[u8],
@@ -194,23 +269,18 @@ fn transfer_struct(
     requires { ⌜ (length (now rec) ≤ 65536) × (length (now plan) ≤ 65536) × (k ≤ 16384) ⌝ }
     ensures { λ r. ⌜ ((ρ : Values) (P : SelectorAt (now (plan .entry)) (c .at)) → StructAt (now (plan .entry)) (c .at) P (input .at) → NodeOf v (now (lay .entry)) (now (rec .entry)) (valueAt ρ (takes (P .tree))) node → ReachedIs (clean (eval ρ (P .tree))) (encodeValue (eval ρ (P .tree))) (P .end) (now (out .entry)) k r (now (out .exit))) ⌝ }
 {
-    let none = [0u16; 1];
     match open_input(lay, v, rec, node, plan, input) {
         Opened::Null => put_nothing(skip_selector(plan, c), out, k),
         Opened::Row(n, t, d) => {
             let at = put_lead(false, 0, out, k);
             let f = struct_fields(plan, input);
-            let index = &none[..0];
-            transfer_row(
+            transfer_fields(
                 lay,
                 v,
                 n,
                 t,
                 rec,
                 d,
-                index,
-                index,
-                1,
                 plan,
                 f.count,
                 f.first,

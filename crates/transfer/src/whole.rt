@@ -39,7 +39,17 @@ pub fn transfer_record(
     let stride = stride_of(n);
     let mut types = [0u16; 256];
     let mut values = [0u16; 256];
-    let m = index_row(lay, v, n, first, rec, stride, &mut types, &mut values);
+    let m = index_row(
+        lay,
+        v,
+        n,
+        first,
+        rec,
+        start,
+        stride,
+        &mut types,
+        &mut values,
+    );
     match transfer_row(
         lay,
         v,

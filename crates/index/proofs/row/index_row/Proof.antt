@@ -9,7 +9,7 @@ use Rattle.index.proofs.row.index_row.Statement.{statement}
 use Rattle.index.proofs.row.index_row.Tie as tie
 
 abbrev Inv-loop : tie.InvT-loop
-Inv-loop lay v n rec stride types₀ values₀ at₀ to₀ i₀ j₀ types values at to i j = Filling v lay n at₀ rec 0 stride at to i j types values × (length types ≡ length types₀) × (length values ≡ length values₀)
+Inv-loop lay v n rec stride types₀ values₀ at₀ to₀ i₀ j₀ types values at to i j = Filling v lay n at₀ rec to₀ stride at to i j types values × (length types ≡ length types₀) × (length values ≡ length values₀)
 
 abbrev μ-loop : tie.MeasureT-loop
 μ-loop lay v n rec stride types₀ values₀ at₀ to₀ i₀ j₀ types values at to i j = length types₀ - j

@@ -1,40 +1,46 @@
-use Rattle.transfer.proofs.Rows.{Running, running-none, running-ends, running-all, running-head, running-more, Going, going-none, going-all, going-value, going-more, selector-moved, constant-reached, rename-reached, struct-null, struct-row, struct-reached, list-null, list-row, list-reached, array-null, array-row, array-reached, fields-at, rename-takes, struct-takes, list-takes, array-takes, taken-node, some-values}
-use Rattle.transfer.proofs.Reaching.{unknown, reached-as, reached-end, reached-to, reached-null}
-use Rattle.transfer.proofs.Origins.{position-value}
-use Rattle.raw.proofs.Storing.{lead-short}
-use Rattle.index.proofs.Empty.{row-indexed-none}
-use Rattle.nodes.specs.Raw.{RowAt, ElementsAt}
-use Rattle.walk.proofs.Heads.{is-position, is-constant, is-cast, is-rename, is-struct, is-list, is-array}
-use Rattle.walk.specs.Stands.{SelectorAt, SelectorsAt}
-use Rattle.plan.specs.Run.{eval}
-use Rattle.values.specs.Value.{vcons, vnil}
-use borrow.Author.Needs.{needs}
-use lib.ListN.{length}
-use native.Mathlib.Omega.{arith}
-use mathlib.Core.Bool.{true, false}
-use mathlib.Core.Path.{_≡_, refl, _∙_}
+-- The functions of `transfer::row` that call each other meet their contracts, by the falling measures below. Assumes nothing.
+use mathlib.Core.Path.{sym}
+use lib.Seq.{length-take-le}
 use Prim.Native.Nat.{_+_, _*_, _-_, _≤_}
+use mathlib.Core.Path.{_≡_, refl, _∙_}
+use mathlib.Core.Bool.{true, false}
+use native.Mathlib.Omega.{arith}
+use lib.ListN.{length}
+use Rattle.values.specs.Value.{vcons, vnil}
+use Rattle.plan.specs.Run.{eval}
+use Rattle.walk.specs.Stands.{SelectorAt, SelectorsAt}
+use Rattle.walk.proofs.Heads.{is-position, is-constant, is-cast, is-rename, is-struct, is-list, is-array}
+use Rattle.nodes.specs.Raw.{RowAt, ElementsAt}
+use Rattle.index.proofs.Empty.{row-indexed-none}
+use Rattle.raw.proofs.Storing.{lead-short}
+use Rattle.transfer.proofs.Origins.{position-value}
+use Rattle.transfer.proofs.Reaching.{unknown, reached-as, reached-end, reached-to, reached-null}
+use Rattle.transfer.proofs.Rows.{Running, running-none, running-ends, running-all, running-head, running-more, Going, going-none, going-all, going-value, going-more, selector-moved, constant-reached, rename-reached, struct-null, struct-row, struct-reached, list-null, list-row, list-reached, array-null, array-row, array-reached, fields-at, rename-takes, struct-takes, list-takes, array-takes, taken-node, some-values}
+use borrow.Author.Needs.{needs}
 use Prim.Native.Nat.{ℕ, _<_}
 use borrow.Fn.Kinds.{In}
 use borrow.Fn.PlainCycle.{Measures, is, falls, and}
 use Rattle.transfer.proofs.row.transfer.Reads as transfer
 use Rattle.transfer.proofs.row.transfer.Kinds as transfer-kinds
-use Rattle.transfer.proofs.row.+transfer+transfer_array+transfer_elements+transfer_list+transfer_row+transfer_struct.Lts-transfer as transfer-lts
+use Rattle.transfer.proofs.row.+transfer+transfer_array+transfer_elements+transfer_fields+transfer_list+transfer_row+transfer_struct.Lts-transfer as transfer-lts
 use Rattle.transfer.proofs.row.transfer_array.Reads as transfer-array
 use Rattle.transfer.proofs.row.transfer_array.Kinds as transfer-array-kinds
-use Rattle.transfer.proofs.row.+transfer+transfer_array+transfer_elements+transfer_list+transfer_row+transfer_struct.Lts-transfer_array as transfer-array-lts
+use Rattle.transfer.proofs.row.+transfer+transfer_array+transfer_elements+transfer_fields+transfer_list+transfer_row+transfer_struct.Lts-transfer_array as transfer-array-lts
 use Rattle.transfer.proofs.row.transfer_elements.Reads as transfer-elements
 use Rattle.transfer.proofs.row.transfer_elements.Kinds as transfer-elements-kinds
-use Rattle.transfer.proofs.row.+transfer+transfer_array+transfer_elements+transfer_list+transfer_row+transfer_struct.Lts-transfer_elements as transfer-elements-lts
+use Rattle.transfer.proofs.row.+transfer+transfer_array+transfer_elements+transfer_fields+transfer_list+transfer_row+transfer_struct.Lts-transfer_elements as transfer-elements-lts
+use Rattle.transfer.proofs.row.transfer_fields.Reads as transfer-fields
+use Rattle.transfer.proofs.row.transfer_fields.Kinds as transfer-fields-kinds
+use Rattle.transfer.proofs.row.+transfer+transfer_array+transfer_elements+transfer_fields+transfer_list+transfer_row+transfer_struct.Lts-transfer_fields as transfer-fields-lts
 use Rattle.transfer.proofs.row.transfer_list.Reads as transfer-list
 use Rattle.transfer.proofs.row.transfer_list.Kinds as transfer-list-kinds
-use Rattle.transfer.proofs.row.+transfer+transfer_array+transfer_elements+transfer_list+transfer_row+transfer_struct.Lts-transfer_list as transfer-list-lts
+use Rattle.transfer.proofs.row.+transfer+transfer_array+transfer_elements+transfer_fields+transfer_list+transfer_row+transfer_struct.Lts-transfer_list as transfer-list-lts
 use Rattle.transfer.proofs.row.transfer_row.Reads as transfer-row
 use Rattle.transfer.proofs.row.transfer_row.Kinds as transfer-row-kinds
-use Rattle.transfer.proofs.row.+transfer+transfer_array+transfer_elements+transfer_list+transfer_row+transfer_struct.Lts-transfer_row as transfer-row-lts
+use Rattle.transfer.proofs.row.+transfer+transfer_array+transfer_elements+transfer_fields+transfer_list+transfer_row+transfer_struct.Lts-transfer_row as transfer-row-lts
 use Rattle.transfer.proofs.row.transfer_struct.Reads as transfer-struct
 use Rattle.transfer.proofs.row.transfer_struct.Kinds as transfer-struct-kinds
-use Rattle.transfer.proofs.row.+transfer+transfer_array+transfer_elements+transfer_list+transfer_row+transfer_struct.Lts-transfer_struct as transfer-struct-lts
+use Rattle.transfer.proofs.row.+transfer+transfer_array+transfer_elements+transfer_fields+transfer_list+transfer_row+transfer_struct.Lts-transfer_struct as transfer-struct-lts
 use Rattle.index.proofs.row.indexed_value.Reads as indexed-value-reads
 use Rattle.raw.proofs.copy.put_lead.Reads as put-lead-reads
 use Rattle.transfer.proofs.leaf.limited.Reads as limited-reads
@@ -44,16 +50,18 @@ use Rattle.transfer.proofs.leaf.put_nothing.Reads as put-nothing-reads
 use Rattle.transfer.proofs.opened.open_input.Reads as open-input-reads
 use Rattle.transfer.proofs.origin.taken_position.Reads as taken-position-reads
 use Rattle.transfer.proofs.row.element_node.Reads as element-node-reads
+use Rattle.transfer.proofs.row.field_stride.Reads as field-stride-reads
+use Rattle.transfer.proofs.row.index_fields.Reads as index-fields-reads
 use Rattle.transfer.proofs.row.past_name.Reads as past-name-reads
 use Rattle.transfer.proofs.row.skip_value.Reads as skip-value-reads
 use Rattle.transfer.proofs.row.transfer_cast.Reads as transfer-cast-reads
 use Rattle.walk.proofs.head.head.Reads as head-reads
 use Rattle.walk.proofs.head.skip_selector.Reads as skip-selector-reads
 use Rattle.walk.proofs.head.struct_fields.Reads as struct-fields-reads
-use Rattle.transfer.proofs.row.+transfer+transfer_array+transfer_elements+transfer_list+transfer_row+transfer_struct.{
+use Rattle.transfer.proofs.row.+transfer+transfer_array+transfer_elements+transfer_fields+transfer_list+transfer_row+transfer_struct.{
   statement,
 }
-use Rattle.transfer.proofs.row.+transfer+transfer_array+transfer_elements+transfer_list+transfer_row+transfer_struct.Tie.{
+use Rattle.transfer.proofs.row.+transfer+transfer_array+transfer_elements+transfer_fields+transfer_list+transfer_row+transfer_struct.Tie.{
   close,
 }
 
@@ -66,6 +74,9 @@ abbrev μ-transfer-array : Measures 4 transfer-array-kinds.ps ℕ
 abbrev μ-transfer-elements : Measures 4 transfer-elements-kinds.ps ℕ
 μ-transfer-elements κs a = 4 * (a .1 .1 .1 .1 .1 .1 .1 .1 .1 .0) + 1
 
+abbrev μ-transfer-fields : Measures 4 transfer-fields-kinds.ps ℕ
+μ-transfer-fields κs a = 4 * (a .1 .1 .1 .1 .1 .1 .1 .1 .1 .0) + 2
+
 abbrev μ-transfer-list : Measures 4 transfer-list-kinds.ps ℕ
 μ-transfer-list κs a = 4 * (a .1 .1 .1 .1 .1 .1 .1 .0) + 2
 
@@ -73,7 +84,7 @@ abbrev μ-transfer-row : Measures 6 transfer-row-kinds.ps ℕ
 μ-transfer-row κs a = 4 * (a .1 .1 .1 .1 .1 .1 .1 .1 .1 .1 .1 .1 .0) + 1
 
 abbrev μ-transfer-struct : Measures 4 transfer-struct-kinds.ps ℕ
-μ-transfer-struct κs a = 4 * (a .1 .1 .1 .1 .1 .1 .1 .0) + 2
+μ-transfer-struct κs a = 4 * (a .1 .1 .1 .1 .1 .1 .1 .0) + 3
 
 abbrev transfer-at : ℕ → In 4 transfer-kinds.ps
 transfer-at t = and 4 transfer-kinds.ps (is 4 transfer-kinds.ps μ-transfer t) transfer.Pre
@@ -113,6 +124,22 @@ transfer-elements-below t =
     transfer-elements-kinds.ps
     (falls 4 transfer-elements-kinds.ps _<_ μ-transfer-elements t)
     transfer-elements.Pre
+
+abbrev transfer-fields-at : ℕ → In 4 transfer-fields-kinds.ps
+transfer-fields-at t =
+    and
+    4
+    transfer-fields-kinds.ps
+    (is 4 transfer-fields-kinds.ps μ-transfer-fields t)
+    transfer-fields.Pre
+
+abbrev transfer-fields-below : ℕ → In 4 transfer-fields-kinds.ps
+transfer-fields-below t =
+    and
+    4
+    transfer-fields-kinds.ps
+    (falls 4 transfer-fields-kinds.ps _<_ μ-transfer-fields t)
+    transfer-fields.Pre
 
 abbrev transfer-list-at : ℕ → In 4 transfer-list-kinds.ps
 transfer-list-at t =
@@ -163,6 +190,9 @@ transfer-array-claims t = (skip-selector-reads.Asked, skip-selector-reads.Learnt
 abbrev transfer-elements-claims : ℕ → transfer-elements-lts.Claims
 transfer-elements-claims t = (taken-position-reads.Asked, taken-position-reads.Learnt, skip-value-reads.Asked, skip-value-reads.Learnt, element-node-reads.Asked, element-node-reads.Learnt, transfer-below t, transfer.Post, limited-reads.Asked, limited-reads.Learnt)
 
+abbrev transfer-fields-claims : ℕ → transfer-fields-lts.Claims
+transfer-fields-claims t = (field-stride-reads.Asked, field-stride-reads.Learnt, index-fields-reads.Asked, index-fields-reads.Learnt, transfer-row-below t, transfer-row.Post)
+
 abbrev transfer-list-claims : ℕ → transfer-list-lts.Claims
 transfer-list-claims t = (skip-selector-reads.Asked, skip-selector-reads.Learnt, open-input-reads.Asked, open-input-reads.Learnt, put-nothing-reads.Asked, put-nothing-reads.Learnt, put-lead-reads.Asked, put-lead-reads.Learnt, transfer-elements-below t, transfer-elements.Post)
 
@@ -170,7 +200,7 @@ abbrev transfer-row-claims : ℕ → transfer-row-lts.Claims
 transfer-row-claims t = (taken-position-reads.Asked, taken-position-reads.Learnt, indexed-value-reads.Asked, indexed-value-reads.Learnt, transfer-below t, transfer.Post, limited-reads.Asked, limited-reads.Learnt)
 
 abbrev transfer-struct-claims : ℕ → transfer-struct-lts.Claims
-transfer-struct-claims t = (open-input-reads.Asked, open-input-reads.Learnt, skip-selector-reads.Asked, skip-selector-reads.Learnt, put-nothing-reads.Asked, put-nothing-reads.Learnt, put-lead-reads.Asked, put-lead-reads.Learnt, struct-fields-reads.Asked, struct-fields-reads.Learnt, transfer-row-below t, transfer-row.Post)
+transfer-struct-claims t = (open-input-reads.Asked, open-input-reads.Learnt, skip-selector-reads.Asked, skip-selector-reads.Learnt, put-nothing-reads.Asked, put-nothing-reads.Learnt, put-lead-reads.Asked, put-lead-reads.Learnt, struct-fields-reads.Asked, struct-fields-reads.Learnt, transfer-fields-below t, transfer-fields.Post)
 
 transfer-returns : (t : ℕ) → transfer-lts.Need-returns (transfer-claims t) (transfer-at t) transfer.Post
 transfer-returns t c = λ ρ P N. unknown
@@ -484,6 +514,45 @@ transfer-elements-returns-2 t c =
     let (a, b) = going-all (λ x. eval (vcons x vnil) (P .tree)) X (c .before .before .loop .inv .2 X P) (c .before .loop-test .left) in
     c .limited .ensures _ _ _ _ _ a b
 
+transfer-fields-field-stride-requires : (t : ℕ) → transfer-fields-lts.Need-field-stride-requires (transfer-fields-claims t) (transfer-fields-at t) transfer-fields.Post
+transfer-fields-field-stride-requires t c κs = search needs
+
+transfer-fields-slice-aggregate-index-fields :
+    (t : ℕ) → transfer-fields-lts.Need-slice-aggregate-index-fields (transfer-fields-claims t) (transfer-fields-at t) transfer-fields.Post
+transfer-fields-slice-aggregate-index-fields t c = search needs
+
+transfer-fields-slice-aggregate-index-fields-2 :
+    (t : ℕ) → transfer-fields-lts.Need-slice-aggregate-index-fields-2 (transfer-fields-claims t) (transfer-fields-at t) transfer-fields.Post
+transfer-fields-slice-aggregate-index-fields-2 t c = search needs
+
+transfer-fields-index-fields-requires : (t : ℕ) → transfer-fields-lts.Need-index-fields-requires (transfer-fields-claims t) (transfer-fields-at t) transfer-fields.Post
+transfer-fields-index-fields-requires t c κs = c .before .before .before .before .before .before .before .pre .1 .0
+
+transfer-fields-array-share-prefix-types :
+    (t : ℕ) → transfer-fields-lts.Need-array-share-prefix-types (transfer-fields-claims t) (transfer-fields-at t) transfer-fields.Post
+transfer-fields-array-share-prefix-types t c = search needs
+
+transfer-fields-slice-aggregate-transfer-row :
+    (t : ℕ) → transfer-fields-lts.Need-slice-aggregate-transfer-row (transfer-fields-claims t) (transfer-fields-at t) transfer-fields.Post
+transfer-fields-slice-aggregate-transfer-row t c = sym (length-take-le _ _ (c .before .before .before .index-fields .ensures .0))
+
+transfer-fields-array-share-prefix-values :
+    (t : ℕ) → transfer-fields-lts.Need-array-share-prefix-values (transfer-fields-claims t) (transfer-fields-at t) transfer-fields.Post
+transfer-fields-array-share-prefix-values t c = search needs
+
+transfer-fields-slice-aggregate-transfer-row-2 :
+    (t : ℕ) → transfer-fields-lts.Need-slice-aggregate-transfer-row-2 (transfer-fields-claims t) (transfer-fields-at t) transfer-fields.Post
+transfer-fields-slice-aggregate-transfer-row-2 t c = sym (length-take-le _ _ (c .before .before .before .before .index-fields .ensures .1 .0))
+
+transfer-fields-transfer-row-requires : (t : ℕ) → transfer-fields-lts.Need-transfer-row-requires (transfer-fields-claims t) (transfer-fields-at t) transfer-fields.Post
+transfer-fields-transfer-row-requires t c κs = (omega (arith, c .before .before .before .before .before .before .before .before .before .before .before .before .before .pre .0), (c .before .before .before .before .before .before .before .before .before .before .before .before .before .pre .1 .0, ((c .before .before .before .before .before .index-fields .ensures .1 .1, c .before .before .before .before .before .before .before .before .field-stride .ensures), (c .before .before .before .before .before .before .before .before .before .before .before .before .before .pre .1 .1 .0, c .before .before .before .before .before .before .before .before .before .before .before .before .before .pre .1 .1 .1))))
+
+transfer-fields-same-length : (t : ℕ) → transfer-fields-lts.Need-same-length (transfer-fields-claims t) (transfer-fields-at t) transfer-fields.Post
+transfer-fields-same-length t c = search needs
+
+transfer-fields-returns : (t : ℕ) → transfer-fields-lts.Need-returns (transfer-fields-claims t) (transfer-fields-at t) transfer-fields.Post
+transfer-fields-returns t c = λ X S. c .before .before .transfer-row .ensures X S
+
 transfer-list-skip-selector-requires : (t : ℕ) → transfer-list-lts.Need-skip-selector-requires (transfer-list-claims t) (transfer-list-at t) transfer-list.Post
 transfer-list-skip-selector-requires t c κs = search needs
 
@@ -642,21 +711,15 @@ transfer-struct-put-lead-requires t c κs = omega (arith, c .before .before .bef
 transfer-struct-struct-fields-requires : (t : ℕ) → transfer-struct-lts.Need-struct-fields-requires (transfer-struct-claims t) (transfer-struct-at t) transfer-struct.Post
 transfer-struct-struct-fields-requires t c κs = search needs
 
-transfer-struct-array-share-prefix-none :
-    (t : ℕ) → transfer-struct-lts.Need-array-share-prefix-none (transfer-struct-claims t) (transfer-struct-at t) transfer-struct.Post
-transfer-struct-array-share-prefix-none t c = search needs
-
-transfer-struct-slice-aggregate-index : (t : ℕ) → transfer-struct-lts.Need-slice-aggregate-index (transfer-struct-claims t) (transfer-struct-at t) transfer-struct.Post
-transfer-struct-slice-aggregate-index t c = search needs
-
-transfer-struct-transfer-row-requires : (t : ℕ) → transfer-struct-lts.Need-transfer-row-requires (transfer-struct-claims t) (transfer-struct-at t) transfer-struct.Post
-transfer-struct-transfer-row-requires t c κs =
-    let (x, N) = c .before .before .before .before .before .before .before .before .before .before .before .before .before .before .before .pre .1 .0 in
-    let (P, K) = c .before .before .before .before .before .before .before .before .before .before .before .before .before .before .before .pre .1 .1 .0 in
-    let B = c .before .before .before .before .before .before .before .before .before .before .before .before .before .before .before .pre .1 .1 .1 in
+transfer-struct-transfer-fields-requires :
+    (t : ℕ) → transfer-struct-lts.Need-transfer-fields-requires (transfer-struct-claims t) (transfer-struct-at t) transfer-struct.Post
+transfer-struct-transfer-fields-requires t c κs =
+    let (x, N) = c .before .before .before .before .before .before .before .before .before .before .before .before .before .before .pre .1 .0 in
+    let (P, K) = c .before .before .before .before .before .before .before .before .before .before .before .before .before .before .pre .1 .1 .0 in
+    let B = c .before .before .before .before .before .before .before .before .before .before .before .before .before .before .pre .1 .1 .1 in
     let (ρ, M) = some-values _ N in
-    let D = struct-row ρ K (c .before .before .before .before .before .before .before .before .before .before .open-input .ensures ρ (K .input) M) (c .before .before .before .before .before .before .before .before .n .given .1) in
-    (omega (arith, c .before .before .before .before .before .before .before .before .before .before .before .before .before .before .before .pre .0), (D .row, ((row-indexed-none refl, omega arith), (fields-at K (c .before .before .struct-fields .ensures (K .input) (K .fields)), (B .0, B .1, omega (arith, c .before .before .before .before .before .put-lead .ensures .ends, B .2))))))
+    let D = struct-row ρ K (c .before .before .before .before .before .before .before .before .before .open-input .ensures ρ (K .input) M) (c .before .before .before .before .before .before .before .n .given .1) in
+    (omega (arith, c .before .before .before .before .before .before .before .before .before .before .before .before .before .before .pre .0), (D .row, (fields-at K (c .before .struct-fields .ensures (K .input) (K .fields)), (B .0, B .1, omega (arith, c .before .before .before .before .put-lead .ensures .ends, B .2)))))
 
 transfer-struct-enum-told-2 : (t : ℕ) → transfer-struct-lts.Need-enum-told-2 (transfer-struct-claims t) (transfer-struct-at t) transfer-struct.Post
 transfer-struct-enum-told-2 t c = search needs
@@ -679,9 +742,9 @@ transfer-struct-same-length-2 t c = search needs
 transfer-struct-returns-2 : (t : ℕ) → transfer-struct-lts.Need-returns-2 (transfer-struct-claims t) (transfer-struct-at t) transfer-struct.Post
 transfer-struct-returns-2 t c =
     λ ρ P K N.
-    let O = c .before .before .before .before .before .before .before .before .before .before .before .before .before .open-input .ensures ρ (K .input) (struct-takes ρ N K) in
-    let f = c .before .before .before .before .before .before .before .before .before .before .before .n .given .1 in
-    reached-end (K .ends .1) (struct-reached ρ K O f (c .before .before .before .before .before .before .before .before .put-lead .ensures) (c .before .before .transfer-row .ensures (struct-row ρ K O f .row) (fields-at K (c .before .before .before .before .before .struct-fields .ensures (K .input) (K .fields)))))
+    let O = c .before .before .before .before .before .before .before .before .before .before .before .before .open-input .ensures ρ (K .input) (struct-takes ρ N K) in
+    let f = c .before .before .before .before .before .before .before .before .before .before .n .given .1 in
+    reached-end (K .ends .1) (struct-reached ρ K O f (c .before .before .before .before .before .before .before .put-lead .ensures) (c .before .before .transfer-fields .ensures (struct-row ρ K O f .row) (fields-at K (c .before .before .before .before .struct-fields .ensures (K .input) (K .fields)))))
 
 transfer-struct-returns-3 : (t : ℕ) → transfer-struct-lts.Need-returns-3 (transfer-struct-claims t) (transfer-struct-at t) transfer-struct.Post
 transfer-struct-returns-3 t c = λ ρ P K N. unknown
@@ -692,13 +755,14 @@ transfer-struct-returns-4 t c = λ ρ P K N. unknown
 transfer-struct-returns-5 : (t : ℕ) → transfer-struct-lts.Need-returns-5 (transfer-struct-claims t) (transfer-struct-at t) transfer-struct.Post
 transfer-struct-returns-5 t c = λ ρ P K N. unknown
 
-pub +transfer+transfer-array+transfer-elements+transfer-list+transfer-row+transfer-struct-spec :
+pub +transfer+transfer-array+transfer-elements+transfer-fields+transfer-list+transfer-row+transfer-struct-spec :
     {M : Type 1} → statement M
-+transfer+transfer-array+transfer-elements+transfer-list+transfer-row+transfer-struct-spec =
++transfer+transfer-array+transfer-elements+transfer-fields+transfer-list+transfer-row+transfer-struct-spec =
     close
     μ-transfer
     μ-transfer-array
     μ-transfer-elements
+    μ-transfer-fields
     μ-transfer-list
     μ-transfer-row
     μ-transfer-struct
@@ -786,6 +850,20 @@ pub +transfer+transfer-array+transfer-elements+transfer-list+transfer-row+transf
     (transfer-elements-limited-requires t)
     (transfer-elements-same-length-2 t)
     (transfer-elements-returns-2 t))
+    (λ t. transfer-fields-lts.spec (transfer-fields-claims t)
+    (transfer-fields-at t)
+    transfer-fields.Post
+    (transfer-fields-field-stride-requires t)
+    (transfer-fields-slice-aggregate-index-fields t)
+    (transfer-fields-slice-aggregate-index-fields-2 t)
+    (transfer-fields-index-fields-requires t)
+    (transfer-fields-array-share-prefix-types t)
+    (transfer-fields-slice-aggregate-transfer-row t)
+    (transfer-fields-array-share-prefix-values t)
+    (transfer-fields-slice-aggregate-transfer-row-2 t)
+    (transfer-fields-transfer-row-requires t)
+    (transfer-fields-same-length t)
+    (transfer-fields-returns t))
     (λ t. transfer-list-lts.spec (transfer-list-claims t)
     (transfer-list-at t)
     transfer-list.Post
@@ -836,9 +914,7 @@ pub +transfer+transfer-array+transfer-elements+transfer-list+transfer-row+transf
     (transfer-struct-enum-known-n t)
     (transfer-struct-put-lead-requires t)
     (transfer-struct-struct-fields-requires t)
-    (transfer-struct-array-share-prefix-none t)
-    (transfer-struct-slice-aggregate-index t)
-    (transfer-struct-transfer-row-requires t)
+    (transfer-struct-transfer-fields-requires t)
     (transfer-struct-enum-told-2 t)
     (transfer-struct-enum-told-3 t)
     (transfer-struct-enum-told-4 t)
