@@ -40,6 +40,13 @@ enum Order {
     Reversed,
 }
 
+/// Where the columns stand: at the top, or as the fields of one struct.
+#[derive(Clone, Copy, PartialEq, Eq)]
+enum Place {
+    Top,
+    Struct,
+}
+
 fn leaf(index: usize, role: Role) -> Type {
     if index % 9 == 8 {
         let (unit, zone) = match role {
@@ -85,7 +92,7 @@ fn type_of(index: usize, role: Role, order: Order) -> Type {
 }
 
 /// Of `count` columns the incoming layout lacks a tenth. By number the original's comparison has no missing top columns, so there the target does too.
-fn layout(version: u8, count: usize, role: Role, order: Order) -> Vec<u8> {
+fn layout(version: u8, count: usize, role: Role, order: Order, place: Place) -> Vec<u8> {
     let missing = role == Role::Incoming || version == 2;
     let mut columns: Vec<Column> = (0..count)
         .filter(|index| !missing || index % 10 != 9)
@@ -97,6 +104,13 @@ fn layout(version: u8, count: usize, role: Role, order: Order) -> Vec<u8> {
         .collect();
     if role == Role::Target && order == Order::Reversed {
         columns.reverse();
+    }
+    if place == Place::Struct {
+        columns = vec![Column {
+            name: b"readings".to_vec(),
+            id: if version == 2 { u32::MAX - 1 } else { 0 },
+            type_: Type::Struct(columns),
+        }];
     }
     form::write_layout(&Layout { version, columns })
 }
@@ -114,15 +128,15 @@ fn widest(version: u8) -> (usize, Vec<u8>) {
     (count, form::write_layout(&Layout { version, columns }))
 }
 
-fn case(version: u8, count: usize, order: Order) -> Case {
+fn case(version: u8, count: usize, order: Order, place: Place) -> Case {
     let number = (version == 2).then(|| Number {
         source_index: 0,
         defaults: form::write_defaults(&[]),
     });
     Case {
         policy: ALL,
-        incoming: layout(version, count, Role::Incoming, order),
-        target: layout(version, count, Role::Target, order),
+        incoming: layout(version, count, Role::Incoming, order, place),
+        target: layout(version, count, Role::Target, order, place),
         number,
     }
 }
@@ -259,8 +273,8 @@ struct Planned {
 
 impl Planned {
     /// None where a limit is passed.
-    fn new(count: usize, order: Order) -> Option<Planned> {
-        let case = case(1, count, order);
+    fn new(count: usize, order: Order, place: Place) -> Option<Planned> {
+        let case = case(1, count, order, place);
         let Case {
             incoming, target, ..
         } = &case;
@@ -333,6 +347,20 @@ fn largest(admitted: impl Fn(usize) -> bool) -> usize {
     counts.take_while(|count| admitted(*count)).last().unwrap()
 }
 
+/// Checking and running the plans of three sizes.
+fn planned(name: &str, order: Order, place: Place) -> Result<(), String> {
+    let most = largest(|count| Planned::new(count, order, place).is_some());
+    let counts = [SMALL, MIDDLE, most];
+    let planned = counts.map(|count| (count, Planned::new(count, order, place).unwrap()));
+    for (count, planned) in &planned {
+        planned.checking(&format!("checking, {name}"), *count)?;
+    }
+    for (count, planned) in &planned {
+        planned.running(&format!("running, {name}"), *count)?;
+    }
+    Ok(())
+}
+
 pub fn run() -> Result<(), String> {
     println!(
         "The library's time over plain Rust's, medians of one run (the builds' plain Rust is the original over stand-ins):"
@@ -343,14 +371,14 @@ pub fn run() -> Result<(), String> {
     );
     let readable = |version: u8| {
         move |count: usize| {
-            let target = layout(version, count, Role::Target, Order::Reversed);
+            let target = layout(version, count, Role::Target, Order::Reversed, Place::Struct);
             target.len() <= LAYOUT_LIMIT
         }
     };
     for version in [1, 2] {
         let name = format!("reading, version {version}");
         for count in [SMALL, MIDDLE, largest(readable(version))] {
-            let layout = layout(version, count, Role::Target, Order::Reversed);
+            let layout = layout(version, count, Role::Target, Order::Reversed, Place::Top);
             reading(&name, count, &layout)?;
         }
         let (count, layout) = widest(version);
@@ -358,19 +386,25 @@ pub fn run() -> Result<(), String> {
     }
     for (version, name) in [(1, "building by name"), (2, "building by number")] {
         for count in [SMALL, MIDDLE, largest(readable(version))] {
-            building(name, count, &case(version, count, Order::Reversed))?;
+            building(
+                name,
+                count,
+                &case(version, count, Order::Reversed, Place::Top),
+            )?;
         }
     }
-    for (order, order_name) in [(Order::Same, "same order"), (Order::Reversed, "reversed")] {
-        let most = largest(|count| Planned::new(count, order).is_some());
-        let counts = [SMALL, MIDDLE, most];
-        let planned = counts.map(|count| (count, Planned::new(count, order).unwrap()));
-        for (count, planned) in &planned {
-            planned.checking(&format!("checking, {order_name}"), *count)?;
-        }
-        for (count, planned) in &planned {
-            planned.running(&format!("running, {order_name}"), *count)?;
+    planned("same order", Order::Same, Place::Top)?;
+    planned("reversed", Order::Reversed, Place::Top)?;
+    // The same columns as the fields of one struct.
+    for (version, name) in [(1, "building by name"), (2, "building by number")] {
+        let name = format!("{name}, struct");
+        for count in [SMALL, MIDDLE, largest(readable(version))] {
+            building(
+                &name,
+                count,
+                &case(version, count, Order::Reversed, Place::Struct),
+            )?;
         }
     }
-    Ok(())
+    planned("struct", Order::Reversed, Place::Struct)
 }
