@@ -1,5 +1,5 @@
 -- What the functions of src/fit.rt answer on each way for one selector. Assumes nothing.
-use Prim.Native.Nat.{ℕ}
+use Prim.Native.Nat.{ℕ, _<_}
 use mathlib.Core.Path.{_≡_, refl, sym, ap, _∙_, subst}
 use mathlib.Core.Bool.{Bool, true}
 use mathlib.Core.List.{List}
@@ -29,6 +29,7 @@ use Rattle.plan.specs.Check.{Column, column, elementOf, castFits, withinLimits,
 use Rattle.walk.specs.Parts.{ConstantAt, CastAt, RenameAt, StructAt, ListAt, ArrayAt, CountedIs}
 use Rattle.walk.specs.declared.head.StructFields.{StructFields}
 use Rattle.walk.proofs.View.{selector-moved, selectors-moved}
+use Rattle.index.specs.Indexed.{Indexed}
 use Rattle.direct.specs.declared.fit.Fit.{Fit}
 use Rattle.direct.specs.declared.place.Place.{Place}
 use Rattle.direct.specs.declared.place.Name.{Name}
@@ -145,9 +146,10 @@ module _ {incoming : Bytes} {v : Version} {scope : Scope} {index : List ℕ} {st
 
   module _ {m : ℕ} (S : StructAt plan at (A .selector) m) {n : Span} {d : ℕ} (K : TakenAt incoming v (typeOf (A .scoped .fields) (S .input .tree)) n d) {i j : ℕ} {x y : Cursor}
       (I : StructIn v incoming d (K .type) i (x .at)) (J : StructIn vt target bt (A .type) j (y .at)) where
-    abbrev pub struct-asks : {w : StructFields} → CountedIs plan (S .input .end) (S .fields) w → w .count ≡ j → FieldsFitAt incoming v (Scope.Columns i x) index stride plan j (w .first .at) target vt (y .at)
-    struct-asks W h = record {
-      scoped = record { fields = fieldsOf (I .columns .columns); parts = record { columns = I .columns; are = refl } };
+    abbrev pub struct-asks : {w : StructFields} {starts : List ℕ} {step : ℕ} → CountedIs plan (S .input .end) (S .fields) w → w .count ≡ j → Indexed v incoming i (x .at) step starts → 0 < step
+        → FieldsFitAt incoming v (Scope.Columns i x) starts step plan j (w .first .at) target vt (y .at)
+    struct-asks W h X z = record {
+      scoped = record { fields = fieldsOf (I .columns .columns); parts = record { columns = I .columns; are = refl; indexed = X; strides = z } };
       selectors = selectors-moved (sym (W .count) ∙ h) (sym (W .first)) (S .fields .selectors);
       columns = J .columns;
       small = A .small;

@@ -130,9 +130,9 @@ module _ {incoming : Bytes} {v : Version} {scope : Scope} {index : List ℕ} {st
 
 abbrev pub plan-asks : {incoming : Bytes} {v : Version} {n : ℕ} {index : List ℕ} {stride : ℕ} {plan : Bytes} {count : ℕ} {target : Bytes} {vt : Version} {m : ℕ}
     → (P : ColumnsAt v 16 incoming n 7) → SelectorsAt plan count 7 → ColumnsAt vt 16 target m 7 → Indexed v incoming n 7 stride index → 0 < stride → count ≡ m → length target ≤ 16384
-    → FieldsFitAt incoming v (Scope.Top n) index stride plan m 7 target vt 7
+    → FieldsFitAt incoming v (Scope.Columns n (record { at = 7 })) index stride plan m 7 target vt 7
 plan-asks P S Q I h e l = record {
-  scoped = record { fields = fieldsOf (P .columns); parts = record { top = record { columns = P; are = refl }; indexed = I; strides = h } };
+  scoped = record { fields = fieldsOf (P .columns); parts = record { columns = P; are = refl; indexed = I; strides = h } };
   selectors = selectors-moved e refl S;
   columns = Q;
   small = l;

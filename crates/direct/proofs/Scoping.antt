@@ -21,7 +21,7 @@ use Rattle.plan.specs.Selector.{Selector, position}
 use Rattle.plan.specs.Check.{Column, column, columnAt, elementOf, typeOf}
 use Rattle.direct.specs.declared.scope.Scope.{Scope}
 use Rattle.direct.specs.declared.scope.Taken.{Taken}
-use Rattle.direct.specs.Scopes.{ColumnsAre, TopAre, ElementIs, scopeParts, ScopeAt, takenFrom, TakenAt, takenParts, TakenIs}
+use Rattle.direct.specs.Scopes.{ColumnsAre, ElementIs, scopeParts, ScopeAt, takenFrom, TakenAt, takenParts, TakenIs}
 
 -- ---- the lookup by position
 
@@ -52,7 +52,7 @@ module _ {s : Bytes} {v : Version} {r : Result Column} {q : Taken} where
 pub nothing-taken : {s : Bytes} {v : Version} {r : Result Column} → TakenIs s v r Taken.Absent
 nothing-taken = record { parts = tt }
 
-pub column-taken : {v : Version} {s : Bytes} {n from : ℕ} {Γ : Fields} (C : ColumnsAre s v n from Γ) (k : Position) (f : Found) {r : Taken} → Finds v 16 s (lookupAt k (C .columns .columns)) f → r ≡ takenFrom f
+pub column-taken : {v : Version} {s : Bytes} {n from : ℕ} {index : List ℕ} {stride : ℕ} {Γ : Fields} (C : ColumnsAre s v n from index stride Γ) (k : Position) (f : Found) {r : Taken} → Finds v 16 s (lookupAt k (C .columns .columns)) f → r ≡ takenFrom f
     → TakenIs s v (columnAt Γ (k .0)) r
 column-taken {v} {s} {Γ = Γ} C k f {r} F e = go (lookupAt k (C .columns .columns)) refl F
   where
@@ -76,10 +76,7 @@ module _ {s : Bytes} {v : Version} {scope : Scope} {index : List ℕ} {stride : 
   in-scope : {x : Scope} → scope ≡ x → scopeParts s v x index stride (X .fields)
   in-scope e = subst (λ (y : Scope). scopeParts s v y index stride (X .fields)) e (X .parts)
 
-  pub scope-top : {n : ℕ} → scope ≡ Scope.Top n → TopAre s v n index stride (X .fields)
-  scope-top e = in-scope e
-
-  pub scope-columns : {n : ℕ} {c : Cursor} → scope ≡ Scope.Columns n c → ColumnsAre s v n (c .at) (X .fields)
+  pub scope-columns : {n : ℕ} {c : Cursor} → scope ≡ Scope.Columns n c → ColumnsAre s v n (c .at) index stride (X .fields)
   scope-columns e = in-scope e
 
   pub scope-element : {c : Cursor} → scope ≡ Scope.Element c → ElementIs s v (c .at) (X .fields)

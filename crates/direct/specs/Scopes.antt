@@ -19,15 +19,11 @@ use Rattle.direct.specs.declared.scope.Taken.{Taken}
 
 -- ---- scopes
 
--- n columns Γ at an offset
-pub record ColumnsAre (s : Bytes) (v : Version) (n at : ℕ) (Γ : Fields) : Type 0 where
+-- n columns Γ at an offset, with an index
+pub record ColumnsAre (s : Bytes) (v : Version) (n at : ℕ) (index : List ℕ) (stride : ℕ) (Γ : Fields) : Type 0 where
   pub columns : ColumnsAt v deepest s n at
   pub are : fieldsOf (columns .columns) ≡ Γ
-
--- the n columns Γ of a layout, with an index
-pub record TopAre (s : Bytes) (v : Version) (n : ℕ) (index : List ℕ) (stride : ℕ) (Γ : Fields) : Type 0 where
-  pub top : ColumnsAre s v n 7 Γ
-  pub indexed : Indexed v s n 7 stride index
+  pub indexed : Indexed v s n at stride index
   pub strides : 0 < stride
 
 -- the type of an element, at an offset
@@ -36,8 +32,7 @@ pub record ElementIs (s : Bytes) (v : Version) (at : ℕ) (Γ : Fields) : Type 0
   pub are : elementOf (dtypeOf (type .tree)) ≡ Γ
 
 abbrev pub scopeParts : Bytes → Version → Scope → List ℕ → ℕ → Fields → Type 0
-scopeParts s v (Scope.Top n) index stride Γ = TopAre s v n index stride Γ
-scopeParts s v (Scope.Columns n c) index stride Γ = ColumnsAre s v n (c .at) Γ
+scopeParts s v (Scope.Columns n c) index stride Γ = ColumnsAre s v n (c .at) index stride Γ
 scopeParts s v (Scope.Element c) index stride Γ = ElementIs s v (c .at) Γ
 
 -- what positions take from

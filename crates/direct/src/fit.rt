@@ -11,6 +11,8 @@ use crate::place::named;
 use crate::place::same_name;
 use crate::scope::Scope;
 use crate::scope::Taken;
+use crate::scope::field_stride;
+use crate::scope::index_fields;
 use crate::scope::take_position;
 use forms::compare::Same;
 use forms::compare::same_type;
@@ -272,12 +274,16 @@ fn fit_struct(
                 }
                 let first = fields.first;
                 let columns = Scope::Columns(n, x);
+                let inner_stride = field_stride(n);
+                let mut starts: [u16; 64] = [0; 64];
+                let len = index_fields(incoming, v, n, x, m, inner_stride, &mut starts);
+                let inner_index = &starts[..len];
                 match fit_fields(
                     incoming,
                     v,
                     columns,
-                    index,
-                    stride,
+                    inner_index,
+                    inner_stride,
                     plan,
                     first,
                     m,

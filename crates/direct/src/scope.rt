@@ -1,23 +1,25 @@
 // What positions take from, in the bytes of the incoming layout.
 ghost use mathlib.Core.Path.{_≡_};
+ghost use Prim.Native.Nat.{_≤_, _<_};
+ghost use lib.ListN.{length, take};
 ghost use Rattle.layout.specs.Tree.{dtypeOf};
 ghost use Rattle.layout.specs.Stands.{TypeAt};
 ghost use Rattle.plan.specs.Check.{columnAt, elementOf, typeOf};
 ghost use Rattle.walk.specs.Stands.{SelectorAt};
+ghost use Rattle.index.specs.Indexed.{Indexed};
 ghost use Rattle.direct.specs.Scopes.{takenFrom, ScopeAt, TakenIs};
+use index::columns::index_columns;
 use index::columns::indexed_column;
 use layout::bytes::Span;
 use layout::columns::Position;
 use layout::cursor::Cursor;
 use layout::find::Found;
-use layout::find::column_at;
 use layout::version::Version;
 use walk::head::SelectorHead;
 use walk::head::head;
 
-// The layout's columns, which have an index; a struct's columns; a list's or an array's element.
+// The columns of the layout or of a struct, which have an index; a list's or an array's element.
 pub enum Scope {
-    Top(u16),
     Columns(u16, Cursor),
     Element(Cursor),
 }
@@ -64,11 +66,7 @@ fn take_column(
     ensures { λ r. ⌜ ((X : ScopeAt (now (incoming .entry)) v scope (now (index .entry)) stride) → TakenIs (now (incoming .entry)) v (columnAt (X .fields) (k .0)) r) ⌝ }
 {
     match scope {
-        Scope::Top(n) => {
-            let first = Cursor { at: 7 };
-            taken_from(indexed_column(incoming, v, n, first, index, stride, k))
-        }
-        Scope::Columns(n, c) => taken_from(column_at(incoming, v, 16, n, c, k)),
+        Scope::Columns(n, c) => taken_from(indexed_column(incoming, v, n, c, index, stride, k)),
         Scope::Element(c) => take_element(incoming, v, c, k),
     }
 }
@@ -90,4 +88,30 @@ pub fn take_position(
         SelectorHead::Position(k) => take_column(incoming, v, scope, index, stride, k),
         _ => Taken::Absent,
     }
+}
+
+// A stride at which 64 entries do for `n` fields.
+pub fn field_stride(n: u16) -> u16
+    ensures { λ r. ⌜ 0 < r ⌝ }
+{
+    n / 64 + 1
+}
+
+// Fills a table of the `n` fields from `c` on, of which `m` are taken, and answers how many entries it got. Where few are taken, that would take more time than it saves.
+pub fn index_fields(
+    incoming: &[u8],
+    v: Version,
+    n: u16,
+    c: Cursor,
+    m: u16,
+    stride: u16,
+    starts: &mut [u16],
+) -> usize
+    ensures { λ r. ⌜ r ≤ length (now (starts .exit)) ⌝ }
+    ensures { λ r. ⌜ Indexed v (now (incoming .entry)) n (c .at) stride (take r (now (starts .exit))) ⌝ }
+{
+    if m <= 8 {
+        return 0;
+    }
+    index_columns(incoming, v, n, c, stride, starts)
 }

@@ -41,7 +41,7 @@ pub fn fits_target(
     let mut starts: [u16; 256] = [0; 256];
     let len = index_columns(incoming, v, n, first, stride, &mut starts);
     let index = &starts[..len];
-    let top = Scope::Top(n);
+    let top = Scope::Columns(n, first);
     match fit_fields(
         incoming,
         v,

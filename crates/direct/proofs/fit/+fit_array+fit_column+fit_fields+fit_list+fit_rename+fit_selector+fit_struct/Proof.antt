@@ -7,6 +7,8 @@ use Rattle.direct.proofs.Scoping.{taken-at}
 use Rattle.walk.proofs.Heads.{is-constant, is-cast, is-rename, is-struct, is-list, is-array}
 use Rattle.layout.proofs.Ways.{label-in}
 use borrow.Author.Needs.{needs}
+use lib.Seq.{length-take-le}
+use mathlib.Core.Path.{sym}
 use native.Mathlib.Omega.{arith}
 use Prim.Native.Nat.{ℕ, _<_, _+_, _-_, _*_}
 use Prim.Native.Nat.{ℕ, _<_}
@@ -40,6 +42,8 @@ use Rattle.direct.proofs.fit.fit_position.Reads as fit-position-reads
 use Rattle.direct.proofs.inside.both_inside.Reads as both-inside-reads
 use Rattle.direct.proofs.place.named.Reads as named-reads
 use Rattle.direct.proofs.place.same_name.Reads as same-name-reads
+use Rattle.direct.proofs.scope.field_stride.Reads as field-stride-reads
+use Rattle.direct.proofs.scope.index_fields.Reads as index-fields-reads
 use Rattle.direct.proofs.scope.take_position.Reads as take-position-reads
 use Rattle.layout.proofs.cursor.Cursor.label.Reads as label-reads
 use Rattle.layout.proofs.cursor.Cursor.text.Reads as text-reads
@@ -151,7 +155,7 @@ abbrev fit-selector-claims : ℕ → fit-selector-lts.Claims
 fit-selector-claims t = (head-reads.Asked, head-reads.Learnt, fit-position-reads.Asked, fit-position-reads.Learnt, fit-constant-reads.Asked, fit-constant-reads.Learnt, fit-cast-reads.Asked, fit-cast-reads.Learnt, fit-rename-below t, fit-rename.Post, fit-struct-below t, fit-struct.Post, fit-list-below t, fit-list.Post, fit-array-below t, fit-array.Post)
 
 abbrev fit-struct-claims : ℕ → fit-struct-lts.Claims
-fit-struct-claims t = (take-position-reads.Asked, take-position-reads.Learnt, both-inside-reads.Asked, both-inside-reads.Learnt, struct-fields-reads.Asked, struct-fields-reads.Learnt, fit-fields-below t, fit-fields.Post, named-reads.Asked, named-reads.Learnt)
+fit-struct-claims t = (take-position-reads.Asked, take-position-reads.Learnt, both-inside-reads.Asked, both-inside-reads.Learnt, struct-fields-reads.Asked, struct-fields-reads.Learnt, field-stride-reads.Asked, field-stride-reads.Learnt, index-fields-reads.Asked, index-fields-reads.Learnt, fit-fields-below t, fit-fields.Post, named-reads.Asked, named-reads.Learnt)
 
 fit-array-take-position-requires : (t : ℕ) → fit-array-lts.Need-take-position-requires (fit-array-claims t) (fit-array-at t) fit-array.Post
 fit-array-take-position-requires t c κs = c .before .before .before .before .pre .1 .0 .scoped
@@ -449,12 +453,27 @@ fit-struct-struct-fields-requires t c κs = search needs
 fit-struct-returns : (t : ℕ) → fit-struct-lts.Need-returns (fit-struct-claims t) (fit-struct-at t) fit-struct.Post
 fit-struct-returns t c = λ A S. unknown
 
+fit-struct-field-stride-requires : (t : ℕ) → fit-struct-lts.Need-field-stride-requires (fit-struct-claims t) (fit-struct-at t) fit-struct.Post
+fit-struct-field-stride-requires t c κs = search needs
+
+fit-struct-slice-aggregate-index-fields : (t : ℕ) → fit-struct-lts.Need-slice-aggregate-index-fields (fit-struct-claims t) (fit-struct-at t) fit-struct.Post
+fit-struct-slice-aggregate-index-fields t c = search needs
+
+fit-struct-index-fields-requires : (t : ℕ) → fit-struct-lts.Need-index-fields-requires (fit-struct-claims t) (fit-struct-at t) fit-struct.Post
+fit-struct-index-fields-requires t c κs = search needs
+
+fit-struct-array-share-prefix-starts : (t : ℕ) → fit-struct-lts.Need-array-share-prefix-starts (fit-struct-claims t) (fit-struct-at t) fit-struct.Post
+fit-struct-array-share-prefix-starts t c = search needs
+
+fit-struct-slice-aggregate-inner-index : (t : ℕ) → fit-struct-lts.Need-slice-aggregate-inner-index (fit-struct-claims t) (fit-struct-at t) fit-struct.Post
+fit-struct-slice-aggregate-inner-index t c = sym (length-take-le _ _ (c .before .before .index-fields .ensures .0))
+
 fit-struct-fit-fields-requires : (t : ℕ) → fit-struct-lts.Need-fit-fields-requires (fit-struct-claims t) (fit-struct-at t) fit-struct.Post
 fit-struct-fit-fields-requires t c κs =
-    let (A, S) = c .before .before .before .before .before .before .before .before .before .before .before .before .before .before .before .before .pre .1 in
-    let K = taken-at (c .before .before .before .before .before .before .before .before .before .before .before .take-position .ensures (A .scoped) (S .input)) (c .before .before .before .before .before .before .before .before .before .name .given .1) in
-    let (I, J) = both-structs (c .before .before .before .before .before .before .before .both-inside .ensures (K .type) (A .type)) (c .before .before .before .before .before .n .given .1) in
-    (omega (arith, c .before .before .before .before .before .before .before .before .before .before .before .before .before .before .before .before .pre .0), struct-asks A S K I J (c .before .before .before .struct-fields .ensures (S .input) (S .fields)) (c .before .if1 .left))
+    let (A, S) = c .before .before .before .before .before .before .before .before .before .before .before .before .before .before .before .before .before .before .before .before .before .pre .1 in
+    let K = taken-at (c .before .before .before .before .before .before .before .before .before .before .before .before .before .before .before .before .take-position .ensures (A .scoped) (S .input)) (c .before .before .before .before .before .before .before .before .before .before .before .before .before .before .name .given .1) in
+    let (I, J) = both-structs (c .before .before .before .before .before .before .before .before .before .before .before .before .both-inside .ensures (K .type) (A .type)) (c .before .before .before .before .before .before .before .before .before .before .n .given .1) in
+    (omega (arith, c .before .before .before .before .before .before .before .before .before .before .before .before .before .before .before .before .before .before .before .before .before .pre .0), struct-asks A S K I J (c .before .before .before .before .before .before .before .before .struct-fields .ensures (S .input) (S .fields)) (c .before .before .before .before .before .before .if1 .left) (c .before .before .index-fields .ensures .1) (c .before .before .before .before .field-stride .ensures))
 
 fit-struct-enum-known-e : (t : ℕ) → fit-struct-lts.Need-enum-known-e (fit-struct-claims t) (fit-struct-at t) fit-struct.Post
 fit-struct-enum-known-e t c = search needs
@@ -471,9 +490,9 @@ fit-struct-enum-told-2 t c = search needs
 fit-struct-returns-2 : (t : ℕ) → fit-struct-lts.Need-returns-2 (fit-struct-claims t) (fit-struct-at t) fit-struct.Post
 fit-struct-returns-2 t c =
     λ A S.
-    let K = taken-at (c .before .before .before .before .before .before .before .before .before .before .before .before .before .before .before .before .take-position .ensures (A .scoped) (S .input)) (c .before .before .before .before .before .before .before .before .before .before .before .before .before .before .name .given .1) in
-    let (I, J) = both-structs (c .before .before .before .before .before .before .before .before .before .before .before .before .both-inside .ensures (K .type) (A .type)) (c .before .before .before .before .before .before .before .before .before .before .n .given .1) in
-    struct-fits A S K I J (gives-to (c .before .before .before .before .fit-fields .ensures (struct-asks A S K I J (c .before .before .before .before .before .before .before .before .struct-fields .ensures (S .input) (S .fields)) (c .before .before .before .before .before .before .if1 .left))) (c .before .before .e .given .1)) (c .named .ensures)
+    let K = taken-at (c .before .before .before .before .before .before .before .before .before .before .before .before .before .before .before .before .before .before .before .before .before .take-position .ensures (A .scoped) (S .input)) (c .before .before .before .before .before .before .before .before .before .before .before .before .before .before .before .before .before .before .before .name .given .1) in
+    let (I, J) = both-structs (c .before .before .before .before .before .before .before .before .before .before .before .before .before .before .before .before .before .both-inside .ensures (K .type) (A .type)) (c .before .before .before .before .before .before .before .before .before .before .before .before .before .before .before .n .given .1) in
+    struct-fits A S K I J (gives-to (c .before .before .before .before .fit-fields .ensures (struct-asks A S K I J (c .before .before .before .before .before .before .before .before .before .before .before .before .before .struct-fields .ensures (S .input) (S .fields)) (c .before .before .before .before .before .before .before .before .before .before .before .if1 .left) (c .before .before .before .before .before .before .before .index-fields .ensures .1) (c .before .before .before .before .before .before .before .before .before .field-stride .ensures))) (c .before .before .e .given .1)) (c .named .ensures)
 
 fit-struct-returns-3 : (t : ℕ) → fit-struct-lts.Need-returns-3 (fit-struct-claims t) (fit-struct-at t) fit-struct.Post
 fit-struct-returns-3 t c = λ A S. unknown
@@ -602,6 +621,11 @@ pub +fit-array+fit-column+fit-fields+fit-list+fit-rename+fit-selector+fit-struct
     (fit-struct-enum-known-n t)
     (fit-struct-struct-fields-requires t)
     (fit-struct-returns t)
+    (fit-struct-field-stride-requires t)
+    (fit-struct-slice-aggregate-index-fields t)
+    (fit-struct-index-fields-requires t)
+    (fit-struct-array-share-prefix-starts t)
+    (fit-struct-slice-aggregate-inner-index t)
     (fit-struct-fit-fields-requires t)
     (fit-struct-enum-known-e t)
     (fit-struct-named-requires t)

@@ -1,5 +1,5 @@
 -- `direct::scope::take_column` meets its contract. Assumes nothing.
-use Rattle.direct.proofs.Scoping.{scope-top, scope-columns, scope-element, column-taken, in-element}
+use Rattle.direct.proofs.Scoping.{scope-columns, scope-element, column-taken, in-element}
 use borrow.Author.Needs.{needs}
 use Rattle.direct.proofs.scope.take_column.Statement.{statement}
 use Rattle.direct.proofs.scope.take_column.Tie as tie
@@ -9,13 +9,9 @@ take-column-spec =
     tie.close
     (tie.spec
     (λ c. search needs)
-    (λ c κs. let T = scope-top (c .before .before .before .before .before .pre) (c .before .scope .given .1) in (T .top .columns, (T .indexed, T .strides)))
-    (λ c κs. search needs)
-    (λ c. search needs)
-    (λ c κs. scope-columns (c .before .before .before .before .before .pre) (c .before .scope2 .given .1) .columns)
+    (λ c κs. let T = scope-columns (c .before .before .before .before .before .pre) (c .before .scope .given .1) in (T .columns, (T .indexed, T .strides)))
     (λ c κs. search needs)
     (λ c. search needs)
     (λ c κs. search needs)
-    (λ c. λ X. let T = scope-top X (c .before .before .before .scope .given .1) in column-taken (T .top) (c .before .before .before .before .before .before .before .args .k) _ (c .before .indexed-column .ensures (T .top .columns)) (c .taken-from .ensures))
-    (λ c. λ X. let T = scope-columns X (c .before .before .before .scope2 .given .1) in column-taken T (c .before .before .before .before .before .before .before .args .k) _ (c .before .column-at .ensures (T .columns)) (c .taken-from2 .ensures))
-    (λ c. λ X. let T = scope-element X (c .before .before .scope3 .given .1) in in-element T (c .before .before .before .before .before .before .args .k) (c .take-element .ensures (T .type))))
+    (λ c. λ X. let T = scope-columns X (c .before .before .before .scope .given .1) in column-taken T (c .before .before .before .before .before .before .before .args .k) _ (c .before .indexed-column .ensures (T .columns)) (c .taken-from .ensures))
+    (λ c. λ X. let T = scope-element X (c .before .before .scope2 .given .1) in in-element T (c .before .before .before .before .before .before .args .k) (c .take-element .ensures (T .type))))
