@@ -1,6 +1,6 @@
 // What positions take from, in the bytes of the incoming layout.
 ghost use mathlib.Core.Path.{_≡_};
-ghost use Prim.Native.Nat.{_≤_, _<_};
+ghost use Prim.Native.Nat.{_≤_};
 ghost use lib.ListN.{length, take};
 ghost use Rattle.layout.specs.Tree.{dtypeOf};
 ghost use Rattle.layout.specs.Stands.{TypeAt};
@@ -88,13 +88,6 @@ pub fn take_position(
         SelectorHead::Position(k) => take_column(incoming, v, scope, index, stride, k),
         _ => Taken::Absent,
     }
-}
-
-// A stride at which 64 entries do for `n` fields.
-pub fn field_stride(n: u16) -> u16
-    ensures { λ r. ⌜ 0 < r ⌝ }
-{
-    n / 64 + 1
 }
 
 // Fills a table of the `n` fields from `c` on, of which `m` are taken, and answers how many entries it got. Where few are taken, that would take more time than it saves.

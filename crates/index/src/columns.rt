@@ -25,6 +25,13 @@ pub fn stride_of(n: u16) -> u16
     n / 256 + 1
 }
 
+// A stride at which 64 entries do for `n` fields of a struct.
+pub fn field_stride(n: u16) -> u16
+    ensures { λ r. ⌜ 0 < r ⌝ }
+{
+    n / 64 + 1
+}
+
 // A function of its own, since an element of a slice that is cast where it is read has to be shown to fit.
 pub fn wide(x: u16) -> usize
     ensures { λ r. ⌜ r ≡ x ⌝ }

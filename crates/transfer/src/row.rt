@@ -23,6 +23,7 @@ use crate::opened::Opened;
 use crate::opened::open_input;
 use crate::origin::is_position;
 use crate::origin::taken_position;
+use index::columns::field_stride;
 use index::row::index_row;
 use index::row::indexed_value;
 use layout::cursor::Cursor;
@@ -175,13 +176,6 @@ fn transfer_elements(
         i += 1;
     }
     limited(end, at)
-}
-
-// A stride at which 64 entries do for `n` fields.
-fn field_stride(n: u16) -> u16
-    ensures { λ r. ⌜ 0 < r ⌝ }
-{
-    n / 64 + 1
 }
 
 // Fills the tables of a struct's fields, of which `count` are taken; where these are few, it would take longer than passing over fields.

@@ -42,7 +42,7 @@ use Rattle.direct.proofs.fit.fit_position.Reads as fit-position-reads
 use Rattle.direct.proofs.inside.both_inside.Reads as both-inside-reads
 use Rattle.direct.proofs.place.named.Reads as named-reads
 use Rattle.direct.proofs.place.same_name.Reads as same-name-reads
-use Rattle.direct.proofs.scope.field_stride.Reads as field-stride-reads
+use Rattle.index.proofs.columns.field_stride.Reads as field-stride-reads
 use Rattle.direct.proofs.scope.index_fields.Reads as index-fields-reads
 use Rattle.direct.proofs.scope.take_position.Reads as take-position-reads
 use Rattle.layout.proofs.cursor.Cursor.label.Reads as label-reads

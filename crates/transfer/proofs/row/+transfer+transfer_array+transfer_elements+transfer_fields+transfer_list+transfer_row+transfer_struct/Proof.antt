@@ -50,7 +50,7 @@ use Rattle.transfer.proofs.leaf.put_nothing.Reads as put-nothing-reads
 use Rattle.transfer.proofs.opened.open_input.Reads as open-input-reads
 use Rattle.transfer.proofs.origin.taken_position.Reads as taken-position-reads
 use Rattle.transfer.proofs.row.element_node.Reads as element-node-reads
-use Rattle.transfer.proofs.row.field_stride.Reads as field-stride-reads
+use Rattle.index.proofs.columns.field_stride.Reads as field-stride-reads
 use Rattle.transfer.proofs.row.index_fields.Reads as index-fields-reads
 use Rattle.transfer.proofs.row.past_name.Reads as past-name-reads
 use Rattle.transfer.proofs.row.skip_value.Reads as skip-value-reads
