@@ -1,26 +1,20 @@
 // A plan: alone, over the incoming layout, or over both layouts, when it is checked first.
-use crate::scope::Column;
 use crate::scope::Scope;
 use crate::scope::Source;
-use crate::scope::find_column;
-use crate::selectors::put_selector;
+use crate::selectors::put_selectors;
+use crate::target::MadeColumns;
+use crate::target::top_columns;
 use checker::tops::PlanChecked;
 use checker::tops::check_plan;
-use describe::columns::put_column;
-use describe::columns::put_start;
-use layout::columns::Position;
-use layout::cursor::Cursor;
-use layout::cursor::Moved;
 use layout::read::LayoutRead;
 use layout::read::read_layout;
 use plan::read::PlanRead;
 use plan::read::read_plan;
-use plan::read::read_selector;
 use text::out::put;
 use text::out::put_count;
 use text::words::put_refusal;
 
-// The top columns of a layout; of one that is not read nothing is known.
+// The top columns of the incoming layout; of one that is not read nothing is known.
 fn top_scope(lay: &[u8]) -> Scope {
     match read_layout(lay) {
         LayoutRead::Read {
@@ -32,55 +26,20 @@ fn top_scope(lay: &[u8]) -> Scope {
     }
 }
 
-// The column of the target that selector `i` makes, if the target is known.
-fn put_target(target: &[u8], made: Scope, i: u16) {
-    if let Scope::Columns(_, v, n, c) = made {
-        if let Column::Is(l, d) = find_column(target, v, n, c, Position(i)) {
-            put_column(target, v, l, d);
-            put(b" <- ");
-        }
-    }
-}
-
-// `n` selectors from `c`; positions take columns of `taken`, and the columns of `made` are made.
-fn put_tops(
-    plan: &[u8],
-    n: u16,
-    c: Cursor,
-    incoming: &[u8],
-    taken: Scope,
-    target: &[u8],
-    made: Scope,
-) {
-    let mut at = c.at;
-    let mut i: u16 = 0;
-    while i < n {
-        let d = Cursor { at };
-        put_start(i as u64, 0);
-        put_target(target, made, i);
-        put_selector(plan, incoming, taken, 64, d, 0);
-        let Moved::To(end) = read_selector(plan, 64, d) else {
-            return;
-        };
-        at = end.at;
-        i += 1;
-    }
-}
-
-fn put_plan(plan: &[u8], incoming: &[u8], taken: Scope, target: &[u8], made: Scope) {
+fn put_plan(plan: &[u8], incoming: &[u8], taken: Scope, target: &[u8], made: MadeColumns) {
     match read_plan(plan) {
         PlanRead::Read(n, c) => {
             put(b"plan, ");
             put_count(n as u64, b"selector");
             put(b"\n");
-            put_tops(plan, n, c, incoming, taken, target, made);
+            put_selectors(plan, incoming, taken, target, made, 64, n, c, 0);
         }
         PlanRead::Refused(k) => put_refusal(k, 0),
     }
 }
 
 pub fn put_plan_alone(plan: &[u8]) {
-    put_plan(plan, b"", Scope::Unknown, b"", Scope::Unknown);
+    put_plan(plan, b"", Scope::Unknown, b"", MadeColumns::Unknown);
 }
 
 pub fn put_plan_over(plan: &[u8], incoming: &[u8]) {
@@ -94,7 +53,7 @@ pub fn put_plan_over(plan: &[u8], incoming: &[u8]) {
             incoming,
             Scope::Columns(Source::Incoming, v, n, c),
             b"",
-            Scope::Unknown,
+            MadeColumns::Unknown,
         ),
         LayoutRead::Refused(k) => put_refusal(k, 1),
     }
@@ -116,6 +75,6 @@ pub fn put_checked_plan(plan: &[u8], incoming: &[u8], target: &[u8]) {
         incoming,
         top_scope(incoming),
         target,
-        top_scope(target),
+        top_columns(target),
     );
 }

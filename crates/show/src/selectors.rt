@@ -3,6 +3,13 @@ use crate::scope::Scope;
 use crate::scope::inside;
 use crate::scope::put_position;
 use crate::scope::type_of;
+use crate::target::Made;
+use crate::target::MadeColumns;
+use crate::target::made_fields;
+use crate::target::put_array;
+use crate::target::put_list;
+use crate::target::put_made_column;
+use crate::target::put_made_element;
 use describe::columns::put_inner;
 use describe::columns::put_start;
 use describe::records::put_value;
@@ -63,8 +70,17 @@ fn put_constant(plan: &[u8], name: Span, t: Cursor, level: u8) {
     }
 }
 
-// The selector at `c`, whose line has begun.
-pub fn put_selector(plan: &[u8], incoming: &[u8], scope: Scope, depth: u8, c: Cursor, level: u8) {
+// The selector at `c`, whose line has begun; positions take from `scope`.
+fn put_selector(
+    plan: &[u8],
+    incoming: &[u8],
+    scope: Scope,
+    target: &[u8],
+    made: Made,
+    depth: u8,
+    c: Cursor,
+    level: u8,
+) {
     if depth == 0 {
         return;
     }
@@ -73,72 +89,146 @@ pub fn put_selector(plan: &[u8], incoming: &[u8], scope: Scope, depth: u8, c: Cu
         SelectorHead::Constant(name, t) => put_constant(plan, name, t, level),
         SelectorHead::Cast(input) => {
             put_cast(plan, input, level);
-            put_input(plan, incoming, scope, depth - 1, input, deeper(level));
+            put_input(plan, incoming, scope, target, depth - 1, input, level);
         }
         SelectorHead::Rename(input) => {
-            put(b"rename to ");
-            put_span(plan, rename_name(plan, input));
-            put(b"\n");
-            put_input(plan, incoming, scope, depth - 1, input, deeper(level));
+            put_rename(plan, incoming, scope, target, made, depth - 1, input, level)
         }
         SelectorHead::Struct(input) => {
-            put_struct(plan, incoming, scope, depth - 1, input, deeper(level))
+            put_struct(plan, incoming, scope, target, made, depth - 1, input, level)
         }
         SelectorHead::List(input) => {
-            put(b"list mapping\n");
-            put_element(plan, incoming, scope, depth - 1, input, deeper(level));
+            let item = put_list(target, made);
+            put_element(plan, incoming, scope, target, item, depth - 1, input, level);
         }
         SelectorHead::Array(input) => {
-            put(b"array mapping\n");
-            put_element(plan, incoming, scope, depth - 1, input, deeper(level));
+            let item = put_array(target, made);
+            put_element(plan, incoming, scope, target, item, depth - 1, input, level);
         }
         SelectorHead::Refused => {}
     }
 }
 
-fn put_input(plan: &[u8], incoming: &[u8], scope: Scope, depth: u8, input: Cursor, level: u8) {
+fn put_from(level: u8) {
     put_indent(level);
     put(b"from ");
-    put_selector(plan, incoming, scope, depth, input, level);
 }
 
-// A list or array mapping's input and its element's selector.
-fn put_element(plan: &[u8], incoming: &[u8], scope: Scope, depth: u8, input: Cursor, level: u8) {
-    put_input(plan, incoming, scope, depth, input, level);
-    let inner = inside(plan, incoming, type_of(plan, incoming, scope, depth, input));
-    put_indent(level);
-    put(b"element ");
+// The input of a cast or a mapping at `level`. It makes nothing that the target has.
+fn put_input(
+    plan: &[u8],
+    incoming: &[u8],
+    scope: Scope,
+    target: &[u8],
+    depth: u8,
+    input: Cursor,
+    level: u8,
+) {
+    let below = deeper(level);
+    put_from(below);
     put_selector(
         plan,
         incoming,
-        inner,
+        scope,
+        target,
+        Made::Unknown,
         depth,
-        skip_selector(plan, input),
-        level,
+        input,
+        below,
     );
 }
 
-// A struct mapping's input and its fields' selectors.
-fn put_struct(plan: &[u8], incoming: &[u8], scope: Scope, depth: u8, input: Cursor, level: u8) {
+// The rest of a rename's line, and its input, which makes the same but for the name.
+fn put_rename(
+    plan: &[u8],
+    incoming: &[u8],
+    scope: Scope,
+    target: &[u8],
+    made: Made,
+    depth: u8,
+    input: Cursor,
+    level: u8,
+) {
+    put(b"rename to ");
+    put_span(plan, rename_name(plan, input));
+    put(b"\n");
+    let below = deeper(level);
+    put_from(below);
+    put_selector(plan, incoming, scope, target, made, depth, input, below);
+}
+
+// The input of a list or array mapping at `level`, and the selector that makes its element.
+fn put_element(
+    plan: &[u8],
+    incoming: &[u8],
+    scope: Scope,
+    target: &[u8],
+    made: Made,
+    depth: u8,
+    input: Cursor,
+    level: u8,
+) {
+    put_input(plan, incoming, scope, target, depth, input, level);
+    let inner = inside(plan, incoming, type_of(plan, incoming, scope, depth, input));
+    let next = skip_selector(plan, input);
+    let below = deeper(level);
+    put_indent(below);
+    put(b"element ");
+    put_made_element(target, made);
+    put_selector(plan, incoming, inner, target, made, depth, next, below);
+}
+
+// The rest of a struct mapping's line, its input and its fields' selectors.
+fn put_struct(
+    plan: &[u8],
+    incoming: &[u8],
+    scope: Scope,
+    target: &[u8],
+    made: Made,
+    depth: u8,
+    input: Cursor,
+    level: u8,
+) {
     let fields = struct_fields(plan, input);
     let count = fields.count;
     let first = fields.first;
     put(b"struct mapping of ");
     put_count(count as u64, b"field");
     put(b"\n");
-    put_input(plan, incoming, scope, depth, input, level);
+    put_input(plan, incoming, scope, target, depth, input, level);
     let inner = inside(plan, incoming, type_of(plan, incoming, scope, depth, input));
-    put_parts(plan, incoming, inner, depth, count, first, level);
+    put_selectors(
+        plan,
+        incoming,
+        inner,
+        target,
+        made_fields(target, made),
+        depth,
+        count,
+        first,
+        deeper(level),
+    );
 }
 
-// `n` selectors from `c`.
-fn put_parts(plan: &[u8], incoming: &[u8], scope: Scope, depth: u8, n: u16, c: Cursor, level: u8) {
+// `n` selectors from `c`; positions take from `scope`, and `columns` are made.
+pub fn put_selectors(
+    plan: &[u8],
+    incoming: &[u8],
+    scope: Scope,
+    target: &[u8],
+    columns: MadeColumns,
+    depth: u8,
+    n: u16,
+    c: Cursor,
+    level: u8,
+) {
     let mut at = c.at;
     let mut i: u16 = 0;
     while i < n {
         let d = Cursor { at };
         put_start(i as u64, level);
-        put_selector(plan, incoming, scope, depth, d, level);
+        let made = put_made_column(target, columns, i);
+        put_selector(plan, incoming, scope, target, made, depth, d, level);
         let Moved::To(end) = read_selector(plan, depth, d) else {
             return;
         };

@@ -3,8 +3,8 @@ ghost use Prim.Native.Nat.{_+_, _*_, _≤_, _<_};
 ghost use mathlib.Core.Path.{_≡_};
 ghost use lib.ListN.{length, take, drop};
 ghost use Rattle.values.specs.Reading.{little};
+use crate::floats::put_float;
 use crate::out::put;
-use crate::out::put_hex;
 use crate::out::put_number;
 use crate::out::put_span;
 use layout::bytes::Span;
@@ -14,6 +14,7 @@ use layout::cursor::Step;
 use layout::leaf::Leaf;
 use layout::leaf::TimeUnit;
 use layout::types::LeafType;
+use numeric::floats::Format;
 use values::content::Content;
 use values::content::content_of;
 use values::leaf::number_at;
@@ -99,21 +100,16 @@ fn magnitude(x: u64, half: u64) -> u64
     half - (x - half)
 }
 
-// A float is written by its bits.
-fn put_bits(x: u64, digits: usize) {
-    put(b"bits 0x");
-    put_hex(x, digits);
-}
-
+// Floats have as many significant digits as IEEE 754 asks for to tell any two of a format apart.
 fn put_pattern(leaf: Leaf, x: u64) {
     match leaf {
         Leaf::Int8 => put_signed(x, 0x80),
         Leaf::Int16 => put_signed(x, 0x8000),
         Leaf::Int32 => put_signed(x, 0x8000_0000),
         Leaf::Int64 => put_signed(x, 0x8000_0000_0000_0000),
-        Leaf::Float16 => put_bits(x, 4),
-        Leaf::Float32 => put_bits(x, 8),
-        Leaf::Float64 => put_bits(x, 16),
+        Leaf::Float16 => put_float(x, Format::Binary16, 5, 4),
+        Leaf::Float32 => put_float(x, Format::Binary32, 9, 8),
+        Leaf::Float64 => put_float(x, Format::Binary64, 17, 16),
         Leaf::Date => {
             put(b"day ");
             put_signed(x, 0x8000_0000);
