@@ -1,19 +1,16 @@
 -- Tests of a struct's fields: what a lookup says, and the loops over columns. Assumes nothing.
-use Prim.Native.Nat.{ℕ, _+_, _-_, _≤_, _<_}
-use mathlib.Core.Path.{_≡_, refl, sym, ap, _∙_, subst}
+use Prim.Native.Nat.{ℕ, _-_, _≤_, _<_}
+use mathlib.Core.Path.{_≡_, refl, sym, ap, _∙_}
 use mathlib.Core.Bool.{Bool, true, false, not, _&&_}
 use mathlib.Core.List.{[]}
 use native.Mathlib.Omega.{arith}
-use native.Mathlib.Nat.{add-sub-cancel-left}
-use lib.ListN.{take, drop}
 use Rattle.layout.specs.Bytes.{Bytes}
 use Rattle.layout.specs.Tree.{Label, ColumnType, Columns, cnil, ccons}
 use Rattle.layout.specs.Layout.{label, columns, type}
 use Rattle.layout.specs.declared.columns.Siblings.the-variants.{Free}
-use Rattle.layout.specs.Answers.{labelRes, labelAt, labelIn, spanAt, spanIn}
-use Rattle.layout.specs.Find.{Lookup, absent, at, columnNamed, columnOfId, Finds}
+use Rattle.layout.specs.Answers.{labelRes, labelAt, spanAt}
+use Rattle.layout.specs.Find.{Lookup, absent, at, columnNamed, counterpart, Finds}
 use Rattle.layout.specs.Stands.{TypeAt, ColumnsAt}
-use Rattle.layout.specs.declared.bytes.Span.{Span}
 use Rattle.layout.specs.declared.columns.Position.{Position}
 use Rattle.layout.specs.declared.columns.Label.{Label as LabelSpan}
 use Rattle.layout.specs.declared.columns.Labelled.{Labelled}
@@ -23,7 +20,7 @@ use Rattle.layout.specs.declared.version.Version.{Version}
 use Rattle.layout.specs.declared.version.Version.the-variants.{ByName, ByNumber}
 use Rattle.layout.proofs.Ways.{clash}
 use Rattle.layout.proofs.View.{FirstAt, first-at, first-labelled, no-column, same-columns, columns-moved}
-use Rattle.matching.specs.Build.{counterpart, isAbsent, distinctNames, distinct, noExtra}
+use Rattle.matching.specs.Build.{isAbsent, distinctNames, distinct, noExtra}
 
 -- ---- lookups
 
@@ -35,18 +32,6 @@ module _ (v : Version) (d : ℕ) (s : Bytes) where
   pub found-none : (x : Lookup) {r : Found} → Finds v d s x r → r ≡ Found.Absent → false ≡ not (isAbsent x)
   found-none absent f e = refl
   found-none (at k l t) f e = let z : Found.At k (f .span) (f .start) ≡ Found.Absent = sym (f .is) ∙ e in clash (cc)
-
-  -- a name, by the part of the bytes that was lent
-  pub by-name : (r : Found) (t : Bytes) (p : Span) (cs : Columns) → Finds v d s (columnNamed (take (p .start + p .len - p .start) (drop (p .start) t)) cs) r
-      → Finds v d s (columnNamed (spanAt t p) cs) r
-  by-name r t p cs f = subst (λ (n : ℕ). Finds v d s (columnNamed (take n (drop (p .start) t)) cs) r) (add-sub-cancel-left (p .start) (p .len)) f
-
-  pub counterpart-name : (r : Found) (t : Bytes) (l : LabelSpan) (cs : Columns) → v ≡ ByName
-      → Finds v d s (columnNamed (take (l .name .start + l .name .len - l .name .start) (drop (l .name .start) t)) cs) r → Finds v d s (counterpart v (labelAt t l) cs) r
-  counterpart-name r t l cs h f = subst (λ (w : Version). Finds v d s (counterpart w (labelAt t l) cs) r) (sym h) (by-name r t (l .name) cs f)
-
-  pub counterpart-id : (r : Found) (t : Bytes) (l : LabelSpan) (cs : Columns) → v ≡ ByNumber → Finds v d s (columnOfId (l .id) cs) r → Finds v d s (counterpart v (labelAt t l) cs) r
-  counterpart-id r t l cs h f = subst (λ (w : Version). Finds v d s (counterpart w (labelAt t l) cs) r) (sym h) f
 
 -- ---- 12
 

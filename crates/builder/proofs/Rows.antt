@@ -11,13 +11,14 @@ use Rattle.store.proofs.Overlay.{overlay-append, length-overlay}
 use Rattle.store.proofs.Holds.{holds-exact, holds-before, holds-append, holds-over, agree-less}
 use Rattle.layout.specs.Bytes.{Bytes}
 use Rattle.layout.specs.Parser.{choose}
+use Rattle.layout.specs.Find.{counterpart}
 use Rattle.layout.specs.declared.columns.Position.{Position}
 use Rattle.layout.proofs.Ways.{clash}
 use Rattle.forms.specs.Form.{u16Bytes, textBytes}
 use Rattle.plan.specs.Result.{Result, gives, refuses, _>>=_}
 use Rattle.plan.specs.Selector.{Selector, position, constant, cast, rename, structMapping, listMapping, arrayMapping, Selectors, snil, scons, countSelectors}
 use Rattle.plan.specs.Encode.{encodeSelector, encodeSelectors}
-use Rattle.matching.specs.Build.{isPosition, inPlace, listSelector, arraySelector, structSelector, attachFields, counterpart, sought, missing, attachTransforms, renamed, inserts}
+use Rattle.matching.specs.Build.{isPosition, inPlace, listSelector, arraySelector, structSelector, attachFields, sought, missing, attachTransforms, renamed, inserts}
 use Rattle.builder.specs.Answers.{madeOf, rowOf, isRefused, isBare, lenOf, failedOf, refusedRow, joinRow, Wrote, WroteRow, Makes, MakesRow, Maps}
 use Rattle.builder.specs.declared.answer.Made.{Made}
 use Rattle.builder.specs.declared.answer.Made.the-variants.{Refused, Bare, Built}

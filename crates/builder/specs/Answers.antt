@@ -10,6 +10,7 @@ use Rattle.layout.specs.Bytes.{Bytes, sameBytes}
 use Rattle.layout.specs.Parser.{choose}
 use Rattle.layout.specs.Tree.{LeafType, Label, ColumnType, cleaf, cstruct, clist, carray, Columns, DataType, dtypeOf}
 use Rattle.layout.specs.Answers.{leafAt, labelAt, spanIn}
+use Rattle.layout.specs.Find.{counterpart}
 use Rattle.layout.specs.Stands.{TypeAt, ColumnsAt}
 use Rattle.layout.specs.declared.columns.Position.{Position}
 use Rattle.layout.specs.declared.columns.Label.{Label as LabelSpan}
@@ -28,7 +29,7 @@ use Rattle.plan.specs.Result.{Result, gives, refuses, _>>=_, demand}
 use Rattle.plan.specs.Selector.{Selector, position, constant, cast, rename, structMapping, listMapping, arrayMapping, Selectors}
 use Rattle.plan.specs.Encode.{encodeSelector, encodeSelectors}
 use Rattle.matching.specs.Default.{Defaults, noDefaults, Default, none, some, orNull, FieldDefaults}
-use Rattle.matching.specs.Build.{Element, structPart, listPart, arrayPart, counterpart, renamed, sameElement, distinct, noExtra, ignores, missing, isPosition, inPlace, structSelector, listSelector, arraySelector, first, sought, attachTransforms, attachFields}
+use Rattle.matching.specs.Build.{Element, structPart, listPart, arrayPart, renamed, sameElement, distinct, noExtra, ignores, missing, isPosition, inPlace, structSelector, listSelector, arraySelector, first, sought, attachTransforms, attachFields}
 use Rattle.builder.specs.declared.answer.Made.{Made}
 use Rattle.builder.specs.declared.answer.Made.the-variants.{Refused, Bare, Built}
 use Rattle.builder.specs.declared.answer.Row.{Row}

@@ -1,42 +1,19 @@
-// Tests of a struct's fields, and the counterpart of a field. Hash lookups become scans.
+// Tests of a struct's fields. Hash lookups become scans.
 ghost use mathlib.Core.Path.{_≡_};
 ghost use mathlib.Core.Bool.{not};
 ghost use Rattle.layout.specs.Answers.{spanAt, spanIn, labelAt};
-ghost use Rattle.layout.specs.Find.{columnNamed, Finds};
+ghost use Rattle.layout.specs.Find.{columnNamed, counterpart};
 ghost use Rattle.layout.specs.Stands.{ColumnsAt};
-ghost use Rattle.matching.specs.Build.{counterpart, isAbsent, distinctNames, distinct as distinctBy, noExtra};
+ghost use Rattle.matching.specs.Build.{isAbsent, distinctNames, distinct as distinctBy, noExtra};
 use layout::bytes::Span;
 use layout::columns::Label;
 use layout::columns::Labelled;
 use layout::cursor::Cursor;
 use layout::find::Found;
 use layout::find::column_named;
-use layout::find::column_of_id;
+use layout::find::find_counterpart;
 use layout::version::Version;
 use layout::walk::skip_type;
-
-// Among `n` columns, the one of the name of the label `l`, which stands in `t`; by number, of its id.
-pub fn find_counterpart(
-    s: &[u8],
-    v: Version,
-    depth: u8,
-    n: u16,
-    c: Cursor,
-    t: &[u8],
-    l: Label,
-) -> Found
-    requires { ⌜ ColumnsAt v depth (now s) n (c .at) ⌝ }
-    requires { ⌜ spanIn (now t) (l .name) ⌝ }
-    ensures { λ r. ⌜ ((P : ColumnsAt v depth (now (s .entry)) n (c .at)) → Finds v depth (now (s .entry)) (counterpart v (labelAt (now (t .entry)) l) (P .columns)) r) ⌝ }
-{
-    match v {
-        Version::ByName => {
-            let a = l.name.start;
-            column_named(s, v, depth, n, c, &t[a..a + l.name.len])
-        }
-        Version::ByNumber => column_of_id(s, v, depth, n, c, l.id),
-    }
-}
 
 // Whether one of `n` columns has a name, which stands in `t`.
 fn name_among(s: &[u8], v: Version, depth: u8, n: u16, c: Cursor, t: &[u8], name: Span) -> bool

@@ -40,13 +40,12 @@ use Rattle.plan.specs.Encode.{encodeSelectors, encodePlan}
 use Rattle.plan.specs.Read.{longestPlan}
 use Rattle.matching.specs.Default.{Defaults, noDefaults}
 use Rattle.matching.specs.Build.{buildFrom, build}
-use Rattle.plan.specs.Calls.{readAt}
-use Rattle.plan.specs.Calls.{bufferAfter}
+use Rattle.plan.specs.Calls.{readAt, writeResult, bufferAfter}
 use Rattle.matching.specs.Calls.{sameVersion, ofVersion, bothLayouts, roomFor, writtenPlan, buildByName, buildByNumber}
 use Rattle.matching.proofs.Calls.{of-version}
-use Rattle.calls.specs.Answers.{answerOf, BothAt, BothIs, columnsMade, WroteColumns, MakesColumns, planHead, written, LongerThan, Attempted}
+use Rattle.calls.specs.Answers.{BothAt, BothIs, columnsMade, WroteColumns, MakesColumns, planHead, written, LongerThan, Attempted}
 use Rattle.calls.specs.declared.write.Attempt.{Attempt}
-use Rattle.calls.specs.declared.write.Build.{Build}
+use Rattle.plan.specs.declared.answer.WriteResult.{WriteResult}
 use Rattle.calls.specs.declared.layouts.BothRead.{BothRead}
 use Rattle.calls.specs.declared.columns.ColumnsMade.{ColumnsMade}
 
@@ -153,15 +152,15 @@ module _ (room : ℕ) (p : Bytes) where
     within-both h g = fits (ap (λ (b : Bool). b && leb (length p) longestPlan) (le-leb (length p) room (omega arith)) ∙ le-leb (length p) longestPlan (omega arith))
 
 -- a refusal changes nothing
-pub plan-kept : {X : Answer Bytes} {n k : ℕ} (out : Bytes) → X ≡ refusedAt n k → (Build.Refused n k ≡ answerOf X) × (out ≡ bufferAfter X out)
-plan-kept out h = (sym (ap answerOf h), sym (ap (λ (x : Answer Bytes). bufferAfter x out) h))
+pub plan-kept : {X : Answer Bytes} {n k : ℕ} (out : Bytes) → X ≡ refusedAt n k → (WriteResult.Refused n k ≡ writeResult X) × (out ≡ bufferAfter X out)
+plan-kept out h = (sym (ap writeResult h), sym (ap (λ (x : Answer Bytes). bufferAfter x out) h))
 
 -- the front of what was built, copied
 pub plan-copied : (s : Bytes) {len : ℕ} (p : Bytes) (X : Answer Bytes) (out : Bytes) {o : Bytes} → len ≡ length p → take len s ≡ p → X ≡ accepted p → len ≤ length s → len ≤ length out → o ≡ overlay out 0 (slice 0 len s)
-    → (Build.Written len ≡ answerOf X) × (o ≡ bufferAfter X out)
+    → (WriteResult.Written len ≡ writeResult X) × (o ≡ bufferAfter X out)
 plan-copied s {len} p X out {o} e t h l m w =
     let z : slice 0 len s ≡ p = ap (λ (j : ℕ). slice 0 j s) (sym (zero-add len)) ∙ slice-take s 0 len (omega arith) ∙ t in
-    (ap Build.Written e ∙ sym (ap answerOf h), w ∙ ap (overlay out 0) z ∙ overlay-front out p (omega arith) ∙ sym (ap (λ (x : Answer Bytes). bufferAfter x out) h))
+    (ap WriteResult.Written e ∙ sym (ap writeResult h), w ∙ ap (overlay out 0) z ∙ overlay-front out p (omega arith) ∙ sym (ap (λ (x : Answer Bytes). bufferAfter x out) h))
 
 -- ---- the plan
 
@@ -210,7 +209,7 @@ attempt-as X out Attempt.Short o f (l, k) = (f l, k)
 
 module _ (plan : Bytes) {b e : ℕ} {o₁ o₂ : Bytes} {r : ColumnsMade} where
   pub plan-refused : (X : Answer Selectors) {n i : ℕ} → MakesColumns b e o₁ 7 X r o₂ → r ≡ ColumnsMade.Failed n i
-      → (Build.Refused n i ≡ answerOf (answered X (writtenPlan (length plan)))) × (plan ≡ bufferAfter (answered X (writtenPlan (length plan))) plan)
+      → (WriteResult.Refused n i ≡ writeResult (answered X (writtenPlan (length plan)))) × (plan ≡ bufferAfter (answered X (writtenPlan (length plan))) plan)
   unfolding answered columnsMade
   plan-refused (refusedAt m j) {n} {i} A q = let z : ColumnsMade.Failed m j ≡ ColumnsMade.Failed n i = sym (A .answer) ∙ q in let x : m ≡ n = cc in let y : j ≡ i = cc in (rw (x, y), refl)
   plan-refused (accepted ss) {n} {i} A q = let z : ColumnsMade.Done (length (encodeSelectors ss)) ≡ ColumnsMade.Failed n i = sym (A .answer) ∙ q in clash (cc)
@@ -235,7 +234,7 @@ module _ (plan : Bytes) {b e : ℕ} {o₁ o₂ : Bytes} {r : ColumnsMade} where
 -- ---- the attempts
 
 module _ (Long : Type 0) (X : Answer Bytes) (out : Bytes) (y : Attempt) (o : Bytes) (A : Attempted Long X out y o) where
-  pub attempt-answered : {r : Build} → y ≡ Attempt.Answer r → (r ≡ answerOf X) × (o ≡ bufferAfter X out)
+  pub attempt-answered : {r : WriteResult} → y ≡ Attempt.Answer r → (r ≡ writeResult X) × (o ≡ bufferAfter X out)
   attempt-answered e = subst (λ (z : Attempt). Attempted Long X out z o) e A
 
   pub attempt-short : y ≡ Attempt.Short → Long × (o ≡ out)
@@ -243,7 +242,7 @@ module _ (Long : Type 0) (X : Answer Bytes) (out : Bytes) (y : Attempt) (o : Byt
 
 -- 27 where the longest room is too short
 pub plan-long : (plan : Bytes) {X : Answer Selectors} {o : Bytes} → LongerThan longestPlan X → o ≡ plan
-    → (Build.Refused 27 0 ≡ answerOf (answered X (writtenPlan (length plan)))) × (o ≡ bufferAfter (answered X (writtenPlan (length plan))) plan)
+    → (WriteResult.Refused 27 0 ≡ writeResult (answered X (writtenPlan (length plan)))) × (o ≡ bufferAfter (answered X (writtenPlan (length plan))) plan)
 unfolding answered writtenPlan
 plan-long plan {X} W k =
     let h : answered X (writtenPlan (length plan)) ≡ refusedAt 27 0 = ap (λ (x : Answer Selectors). answered x (writtenPlan (length plan))) (W .accepts) ∙ past-limit (length plan) (encodePlan (W .selectors)) refl (W .longer) in
@@ -251,10 +250,10 @@ plan-long plan {X} W k =
     (a, k ∙ b)
 
 -- a second attempt, with the buffer as it was
-pub plan-again : (X : Answer Selectors) {plan same : Bytes} {y : Build} {o : Bytes} → same ≡ plan
-    → (y ≡ answerOf (answered X (writtenPlan (length same)))) × (o ≡ bufferAfter (answered X (writtenPlan (length same))) same)
-    → (y ≡ answerOf (answered X (writtenPlan (length plan)))) × (o ≡ bufferAfter (answered X (writtenPlan (length plan))) plan)
-plan-again X {y = y} {o = o} e h = subst (λ (p : Bytes). (y ≡ answerOf (answered X (writtenPlan (length p)))) × (o ≡ bufferAfter (answered X (writtenPlan (length p))) p)) e h
+pub plan-again : (X : Answer Selectors) {plan same : Bytes} {y : WriteResult} {o : Bytes} → same ≡ plan
+    → (y ≡ writeResult (answered X (writtenPlan (length same)))) × (o ≡ bufferAfter (answered X (writtenPlan (length same))) same)
+    → (y ≡ writeResult (answered X (writtenPlan (length plan)))) × (o ≡ bufferAfter (answered X (writtenPlan (length plan))) plan)
+plan-again X {y = y} {o = o} e h = subst (λ (p : Bytes). (y ≡ writeResult (answered X (writtenPlan (length p)))) × (o ≡ bufferAfter (answered X (writtenPlan (length p))) p)) e h
 
 -- ---- the calls
 
@@ -293,5 +292,5 @@ module _ (p : Policy) (index : ℕ) (incoming target defaults : Bytes) (room : �
     by-number-built h = B .is _ ∙ rw h
 
 -- an answer and a buffer, under another name of what they are
-pub plan-as : {X Y : Answer Bytes} {y : Build} {o : Bytes} (out : Bytes) → X ≡ Y → (y ≡ answerOf Y) × (o ≡ bufferAfter Y out) → (y ≡ answerOf X) × (o ≡ bufferAfter X out)
-plan-as out h (a, b) = (a ∙ sym (ap answerOf h), b ∙ sym (ap (λ (x : Answer Bytes). bufferAfter x out) h))
+pub plan-as : {X Y : Answer Bytes} {y : WriteResult} {o : Bytes} (out : Bytes) → X ≡ Y → (y ≡ writeResult Y) × (o ≡ bufferAfter Y out) → (y ≡ writeResult X) × (o ≡ bufferAfter X out)
+plan-as out h (a, b) = (a ∙ sym (ap writeResult h), b ∙ sym (ap (λ (x : Answer Bytes). bufferAfter x out) h))

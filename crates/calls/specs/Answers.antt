@@ -1,4 +1,4 @@
--- What the answers of the two calls stand for (document 01, "A refusal is a number and a place"), and what their parts ask and write.
+-- What the parts of the two calls ask, answer and write.
 use mathlib.Core.Path.{_≡_}
 use mathlib.Core.List.{_++_}
 use Prim.Native.Nat.{ℕ, _+_, _*_, _≤_, _<_}
@@ -15,21 +15,15 @@ use Rattle.rules.specs.declared.policy.Policy.{Policy}
 use Rattle.plan.specs.Result.{Answer, accepted, refusedAt, placed, demand, gives}
 use Rattle.plan.specs.Selector.{Selectors}
 use Rattle.plan.specs.Encode.{planMark, encodeSelectors, encodePlan}
-use Rattle.plan.specs.Calls.{bufferAfter}
+use Rattle.plan.specs.Calls.{bufferAfter, writeResult}
 use Rattle.matching.specs.Build.{buildFrom}
 use Rattle.matching.specs.Calls.{bothLayouts, roomFor}
 use Rattle.builder.specs.Answers.{DefaultsAt, defaultsAt}
 use Rattle.builder.specs.declared.answer.Made.{Made}
 use Rattle.builder.specs.declared.default.DefaultFieldValues.{DefaultFieldValues}
 use Rattle.calls.specs.declared.write.Attempt.{Attempt}
-use Rattle.calls.specs.declared.write.Build.{Build}
 use Rattle.calls.specs.declared.columns.ColumnsMade.{ColumnsMade}
 use Rattle.calls.specs.declared.layouts.BothRead.{BothRead}
-
--- a refusal's number and place, or the length of the plan
-abbrev pub answerOf : Answer Bytes → Build
-answerOf (accepted b) = Build.Written (length b)
-answerOf (refusedAt n k) = Build.Refused n k
 
 -- ---- the two layouts
 
@@ -94,5 +88,5 @@ pub record LongerThan (room : ℕ) (X : Answer Selectors) : Type 0 where
 
 -- an attempt at X with the lent buffer out: X's answer and buffer, or Long, and the buffer as it was
 abbrev pub Attempted : Type 0 → Answer Bytes → Bytes → Attempt → Bytes → Type 0
-Attempted Long X out (Attempt.Answer r) out′ = (r ≡ answerOf X) × (out′ ≡ bufferAfter X out)
+Attempted Long X out (Attempt.Answer r) out′ = (r ≡ writeResult X) × (out′ ≡ bufferAfter X out)
 Attempted Long X out Attempt.Short out′ = Long × (out′ ≡ out)

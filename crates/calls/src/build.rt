@@ -1,23 +1,22 @@
 // Building by name and by number: each call is total, and states its answer and the buffer by equation.
 ghost use mathlib.Core.Path.{_≡_};
 ghost use lib.ListN.{length};
-ghost use Rattle.plan.specs.Calls.{bufferAfter};
+ghost use Rattle.plan.specs.Calls.{bufferAfter, writeResult};
 ghost use Rattle.matching.specs.Calls.{buildByName, buildByNumber};
-ghost use Rattle.calls.specs.Answers.{answerOf};
 use crate::layouts::BothRead;
 use crate::layouts::read_both;
-use crate::write::Build;
 use crate::write::build_plan;
 use builder::default::DefaultFieldValues;
 use defaults::read::TableRead;
 use defaults::read::read_table;
 use layout::cursor::Cursor;
 use layout::version::Version;
+use plan::answer::WriteResult;
 use rules::policy::Policy;
 
 // By name there are no defaults: a table of no entries, which stands in any bytes.
-pub fn build_by_name(policy: Policy, incoming: &[u8], target: &[u8], plan: &mut [u8]) -> Build
-    ensures { λ r. ⌜ r ≡ answerOf (buildByName policy (now (incoming .entry)) (now (target .entry)) (length (now (plan .entry)))) ⌝ }
+pub fn build_by_name(policy: Policy, incoming: &[u8], target: &[u8], plan: &mut [u8]) -> WriteResult
+    ensures { λ r. ⌜ r ≡ writeResult (buildByName policy (now (incoming .entry)) (now (target .entry)) (length (now (plan .entry)))) ⌝ }
     ensures { λ _. ⌜ now (plan .exit) ≡ bufferAfter (buildByName policy (now (incoming .entry)) (now (target .entry)) (length (now (plan .entry)))) (now (plan .entry)) ⌝ }
 {
     match read_both(Version::ByName, incoming, target) {
@@ -41,7 +40,7 @@ pub fn build_by_name(policy: Policy, incoming: &[u8], target: &[u8], plan: &mut 
                 plan,
             )
         }
-        BothRead::Refused(k, place) => Build::Refused(k, place),
+        BothRead::Refused(k, place) => WriteResult::Refused(k, place),
     }
 }
 
@@ -53,8 +52,8 @@ pub fn build_by_number(
     target: &[u8],
     defaults: &[u8],
     plan: &mut [u8],
-) -> Build
-    ensures { λ r. ⌜ r ≡ answerOf (buildByNumber policy «source_index» (now (incoming .entry)) (now (target .entry)) (now (defaults .entry)) (length (now (plan .entry)))) ⌝ }
+) -> WriteResult
+    ensures { λ r. ⌜ r ≡ writeResult (buildByNumber policy «source_index» (now (incoming .entry)) (now (target .entry)) (now (defaults .entry)) (length (now (plan .entry)))) ⌝ }
     ensures { λ _. ⌜ now (plan .exit) ≡ bufferAfter (buildByNumber policy «source_index» (now (incoming .entry)) (now (target .entry)) (now (defaults .entry)) (length (now (plan .entry)))) (now (plan .entry)) ⌝ }
 {
     match read_both(Version::ByNumber, incoming, target) {
@@ -79,8 +78,8 @@ pub fn build_by_number(
                     plan,
                 )
             }
-            TableRead::Refused(k) => Build::Refused(k, 3),
+            TableRead::Refused(k) => WriteResult::Refused(k, 3),
         },
-        BothRead::Refused(k, place) => Build::Refused(k, place),
+        BothRead::Refused(k, place) => WriteResult::Refused(k, place),
     }
 }

@@ -4,25 +4,25 @@ ghost use mathlib.Core.Bool.{true};
 ghost use Prim.Native.Nat.{_*_, _≤_};
 ghost use lib.ListN.{length};
 ghost use Rattle.layout.specs.Answers.{labelAt, spanIn};
-ghost use Rattle.layout.specs.Find.{Finds};
+ghost use Rattle.layout.specs.Find.{counterpart, Finds};
 ghost use Rattle.layout.specs.Layout.{deepest};
 ghost use Rattle.layout.specs.Stands.{ColumnsAt};
 ghost use Rattle.defaults.specs.Stands.{TableAt};
 ghost use Rattle.labels.specs.Table.{Table};
-ghost use Rattle.matching.specs.Build.{counterpart};
 ghost use Rattle.calls.specs.Answers.{failedColumn, BuiltColumns};
 use builder::answer::Made;
 use builder::answer::is_refused;
 use builder::answer::len_of;
 use builder::conditions::inserts;
 use builder::default::DefaultFieldValues;
-use builder::fields::find_counterpart;
+use labels::TABLE_SIZE;
 use labels::counterpart_in;
 use labels::fill;
 use layout::columns::Label;
 use layout::columns::Labelled;
 use layout::cursor::Cursor;
 use layout::find::Found;
+use layout::find::find_counterpart;
 use layout::version::Version;
 use layout::walk::skip_type;
 use matcher::attach::attach_field;
@@ -192,8 +192,8 @@ fn build_many(
     requires { ⌜ (length (now target) ≤ 16384) × (length (now table) ≤ 16384) × (k ≤ 65536 * b .at) ⌝ }
     ensures { λ r. ⌜ BuiltColumns policy v (now (table .entry)) defaults (now (incoming .entry)) n (c .at) (now (target .entry)) m (b .at) (now (out .entry)) k r (now (out .exit)) ⌝ }
 {
-    let mut starts = [0u16; 1024];
-    let mut positions = [0u16; 1024];
+    let mut starts = [0u16; TABLE_SIZE];
+    let mut positions = [0u16; TABLE_SIZE];
     let whole = fill(incoming, v, n, c, &mut starts, &mut positions);
     build_each(
         policy,

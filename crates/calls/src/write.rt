@@ -9,29 +9,24 @@ ghost use Rattle.layout.specs.Stands.{ColumnsAt};
 ghost use Rattle.defaults.specs.Stands.{TableAt};
 ghost use Rattle.plan.specs.Result.{answered};
 ghost use Rattle.matching.specs.Build.{build};
-ghost use Rattle.plan.specs.Calls.{bufferAfter};
+ghost use Rattle.plan.specs.Calls.{bufferAfter, writeResult};
 ghost use Rattle.matching.specs.Calls.{writtenPlan};
 ghost use Rattle.builder.specs.Answers.{DefaultsAt, defaultsAt};
-ghost use Rattle.calls.specs.Answers.{answerOf, Attempted, LongerThan, planHead, written};
+ghost use Rattle.calls.specs.Answers.{Attempted, LongerThan, planHead, written};
 use crate::columns::ColumnsMade;
 use crate::columns::build_columns;
 use builder::default::DefaultFieldValues;
 use builder::write::put_short;
 use layout::cursor::Cursor;
 use layout::version::Version;
+use plan::answer::WriteResult;
 use rules::policy::Policy;
 use store::copy;
 use store::put;
 
-// The plan's length; or a refusal's number and place.
-pub enum Build {
-    Written(usize),
-    Refused(u8, u16),
-}
-
 // The answer of a build; or Short: the plan is longer than the room that it was built in.
 pub enum Attempt {
-    Answer(Build),
+    Answer(WriteResult),
     Short,
 }
 
@@ -52,13 +47,13 @@ fn write_plan(room: &[u8], len: usize, plan: &mut [u8]) -> Attempt
     ensures { λ r. ⌜ ((p : Bytes) → len ≡ length p → (len ≤ length (now (room .entry)) → take len (now (room .entry)) ≡ p) → Attempted (length (now (room .entry)) < length p) (written (length (now (plan .entry))) p) (now (plan .entry)) r (now (plan .exit))) ⌝ }
 {
     if plan.len() < len {
-        return Attempt::Answer(Build::Refused(27, 0));
+        return Attempt::Answer(WriteResult::Refused(27, 0));
     }
     if room.len() < len {
         return Attempt::Short;
     }
     copy(room, 0, len, plan, 0);
-    Attempt::Answer(Build::Written(len))
+    Attempt::Answer(WriteResult::Written(len))
 }
 
 // The plan between two layouts that were read, built in a room.
@@ -97,7 +92,7 @@ fn build_in(
         room,
         7,
     ) {
-        ColumnsMade::Failed(x, i) => Attempt::Answer(Build::Refused(x, i)),
+        ColumnsMade::Failed(x, i) => Attempt::Answer(WriteResult::Refused(x, i)),
         ColumnsMade::Done(len) => write_plan(room, 7 + len, plan),
     }
 }
@@ -151,11 +146,11 @@ fn build_large(
     m: u16,
     b: Cursor,
     plan: &mut [u8],
-) -> Build
+) -> WriteResult
     requires { ⌜ ColumnsAt v deepest (now incoming) n (c .at) × ColumnsAt v deepest (now target) m (b .at) ⌝ }
     requires { ⌜ TableAt (now table) (defaults .count) (defaults .entries .at) ⌝ }
     requires { ⌜ (length (now target) ≤ 16384) × (length (now table) ≤ 16384) × (b .at ≡ 7) ⌝ }
-    ensures { λ r. ⌜ ((T : DefaultsAt (now (table .entry)) defaults) (P : ColumnsAt v deepest (now (incoming .entry)) n (c .at)) (Q : ColumnsAt v deepest (now (target .entry)) m (b .at)) → (r ≡ answerOf (answered (build v policy (defaultsAt defaults T) (P .columns) (Q .columns)) (writtenPlan (length (now (plan .entry)))))) × (now (plan .exit) ≡ bufferAfter (answered (build v policy (defaultsAt defaults T) (P .columns) (Q .columns)) (writtenPlan (length (now (plan .entry))))) (now (plan .entry)))) ⌝ }
+    ensures { λ r. ⌜ ((T : DefaultsAt (now (table .entry)) defaults) (P : ColumnsAt v deepest (now (incoming .entry)) n (c .at)) (Q : ColumnsAt v deepest (now (target .entry)) m (b .at)) → (r ≡ writeResult (answered (build v policy (defaultsAt defaults T) (P .columns) (Q .columns)) (writtenPlan (length (now (plan .entry)))))) × (now (plan .exit) ≡ bufferAfter (answered (build v policy (defaultsAt defaults T) (P .columns) (Q .columns)) (writtenPlan (length (now (plan .entry))))) (now (plan .entry)))) ⌝ }
 {
     let mut room = [0u8; 65536];
     match build_in(
@@ -173,7 +168,7 @@ fn build_large(
         plan,
     ) {
         Attempt::Answer(r) => r,
-        Attempt::Short => Build::Refused(27, 0),
+        Attempt::Short => WriteResult::Refused(27, 0),
     }
 }
 
@@ -190,11 +185,11 @@ pub fn build_plan(
     m: u16,
     b: Cursor,
     plan: &mut [u8],
-) -> Build
+) -> WriteResult
     requires { ⌜ ColumnsAt v deepest (now incoming) n (c .at) × ColumnsAt v deepest (now target) m (b .at) ⌝ }
     requires { ⌜ TableAt (now table) (defaults .count) (defaults .entries .at) ⌝ }
     requires { ⌜ (length (now target) ≤ 16384) × (length (now table) ≤ 16384) × (b .at ≡ 7) ⌝ }
-    ensures { λ r. ⌜ ((T : DefaultsAt (now (table .entry)) defaults) (P : ColumnsAt v deepest (now (incoming .entry)) n (c .at)) (Q : ColumnsAt v deepest (now (target .entry)) m (b .at)) → (r ≡ answerOf (answered (build v policy (defaultsAt defaults T) (P .columns) (Q .columns)) (writtenPlan (length (now (plan .entry)))))) × (now (plan .exit) ≡ bufferAfter (answered (build v policy (defaultsAt defaults T) (P .columns) (Q .columns)) (writtenPlan (length (now (plan .entry))))) (now (plan .entry)))) ⌝ }
+    ensures { λ r. ⌜ ((T : DefaultsAt (now (table .entry)) defaults) (P : ColumnsAt v deepest (now (incoming .entry)) n (c .at)) (Q : ColumnsAt v deepest (now (target .entry)) m (b .at)) → (r ≡ writeResult (answered (build v policy (defaultsAt defaults T) (P .columns) (Q .columns)) (writtenPlan (length (now (plan .entry)))))) × (now (plan .exit) ≡ bufferAfter (answered (build v policy (defaultsAt defaults T) (P .columns) (Q .columns)) (writtenPlan (length (now (plan .entry))))) (now (plan .entry)))) ⌝ }
 {
     if target.len() <= 1024 {
         if let Attempt::Answer(r) = build_small(

@@ -1,14 +1,11 @@
 // Where every stride-th column stands in a layout.
 ghost use mathlib.Core.Path.{_≡_};
-ghost use mathlib.Core.List.{[]};
 ghost use Prim.Native.Nat.{ℕ, _≤_, _<_};
 ghost use lib.ListN.{length, take};
-ghost use Rattle.layout.specs.Answers.{movedOf};
 ghost use Rattle.layout.specs.Find.{columnAt, Finds};
-ghost use Rattle.layout.specs.Layout.{columns, type};
 ghost use Rattle.layout.specs.Stands.{ColumnsAt};
-ghost use Rattle.layout.specs.declared.columns.Siblings.the-variants.{Free};
 ghost use Rattle.index.specs.Indexed.{strideOf, Indexed, dropColumns, firstAs};
+use layout::bytes::wide;
 use layout::columns::Labelled;
 use layout::columns::Position;
 use layout::cursor::Cursor;
@@ -30,20 +27,6 @@ pub fn field_stride(n: u16) -> u16
     ensures { λ r. ⌜ 0 < r ⌝ }
 {
     n / 64 + 1
-}
-
-// A function of its own, since an element of a slice that is cast where it is read has to be shown to fit.
-pub fn wide(x: u16) -> usize
-    ensures { λ r. ⌜ r ≡ x ⌝ }
-{
-    x as usize
-}
-
-// Passes over `m` columns.
-fn pass(s: &[u8], v: Version, m: u16, c: Cursor) -> Moved
-    ensures { λ r. ⌜ r ≡ movedOf (columns v Free (type v Free 16) m [] (now (s .entry)) (c .at)) ⌝ }
-{
-    pass_columns(s, v, 16, m, c)
 }
 
 // Fills the table and answers how many entries it got. An offset that an entry can't hold ends the table: lookups then pass over the
@@ -72,7 +55,7 @@ pub fn index_columns(
             return j;
         }
         let d = Cursor { at };
-        match pass(s, v, stride, d) {
+        match pass_columns(s, v, 16, stride, d) {
             Moved::To(e) => {
                 at = e.at;
             }
@@ -87,7 +70,7 @@ pub fn index_columns(
 fn column_after(s: &[u8], v: Version, m: u16, c: Cursor, k: Position) -> Found
     ensures { λ r. ⌜ ((n : ℕ) (P : ColumnsAt v 16 (now (s .entry)) n (c .at)) → m < n → Finds v 16 (now (s .entry)) (firstAs k (dropColumns m (P .columns))) r) ⌝ }
 {
-    match pass(s, v, m, c) {
+    match pass_columns(s, v, 16, m, c) {
         Moved::To(d) => match d.label(s, v) {
             Labelled::Is(l, e) => Found::At(k, l, e),
             Labelled::Refused(_) => Found::Absent,

@@ -6,7 +6,7 @@ ghost use lib.ListN.{length, take};
 ghost use Rattle.plan.specs.Run.{valueAt};
 ghost use Rattle.nodes.specs.Raw.{RowAt, NodeOf};
 ghost use Rattle.index.specs.Indexed.{IndexedRow};
-use crate::columns::wide;
+use layout::bytes::wide;
 use layout::cursor::Cursor;
 use layout::version::Version;
 use nodes::raw::NodeAt;

@@ -1,20 +1,19 @@
--- What an entry of a table says of the counterpart of a label, and the laws of the small functions. Assumes nothing.
-use Prim.Native.Nat.{ℕ, _+_, _-_, _%_, _<_}
+-- What an entry of a table says of the counterpart of a label. Assumes nothing.
+use Prim.Native.Nat.{ℕ, _%_, _<_}
 use mathlib.Core.Path.{_≡_, refl, sym, ap, _∙_, subst}
 use mathlib.Core.List.{List}
 use mathlib.Core.Bool.{Bool, true}
 use native.Mathlib.Omega.{arith}
-use native.Mathlib.Nat.{add-sub-cancel-left}
 use lib.Dec.{eqb}
-use lib.ListN.{getD, take, drop}
-use Rattle.layout.specs.Bytes.{Bytes, sameBytes}
+use lib.ListN.{getD}
+use Rattle.layout.specs.Bytes.{Bytes}
 use Rattle.layout.specs.Parser.{refuse, ok}
-use Rattle.layout.specs.Tree.{Label, ColumnType, Columns}
+use Rattle.layout.specs.Tree.{Label, ColumnType}
 use Rattle.layout.specs.Layout.{label, type, deepest, repeats, topRule}
 use Rattle.layout.specs.Seen.{labelHash}
 use Rattle.layout.specs.Answers.{labelRes, labelAt, labelIn}
 use Rattle.layout.specs.Stands.{ColumnsAt}
-use Rattle.layout.specs.Find.{Lookup, absent, at, findFrom, columnNamed, columnOfId, Finds}
+use Rattle.layout.specs.Find.{Lookup, absent, at, counterpart, Finds}
 use Rattle.layout.specs.declared.columns.Position.{Position}
 use Rattle.layout.specs.declared.columns.Label.{Label as LabelSpan}
 use Rattle.layout.specs.declared.columns.Labelled.{Labelled}
@@ -23,11 +22,11 @@ use Rattle.layout.specs.declared.columns.Siblings.the-variants.{Free}
 use Rattle.layout.specs.declared.cursor.Cursor.{Cursor}
 use Rattle.layout.specs.declared.find.Found.{Found}
 use Rattle.layout.specs.declared.version.Version.{Version}
-use Rattle.layout.specs.declared.version.Version.the-variants.{ByName, ByNumber}
 use Rattle.layout.proofs.Ways.{clash}
 use Rattle.layout.proofs.View.{label-got, label-none}
-use Rattle.labels.specs.Table.{counterpart, slotOf, firstOf, EntryAt, Entry, Table}
-use Rattle.labels.proofs.First.{none-of, first-of, same-slot, counterpart-first}
+use Rattle.layout.proofs.Finding.{counterpart-first}
+use Rattle.labels.specs.Table.{tableSize, slotOf, firstOf, EntryAt, Entry, Table}
+use Rattle.labels.proofs.First.{none-of, first-of, same-slot}
 
 -- ---- an entry
 
@@ -44,7 +43,7 @@ entry-some v s o k (at p l t) E z = (p, l, t, refl, E)
 module _ {v : Version} {s : Bytes} {n from : ℕ} {starts positions : List ℕ} (T : Table v s n from starts positions) (w : Label) {h o : ℕ} (e : h ≡ slotOf v w) (g : o ≡ getD starts h 0) where
   entry : (P : ColumnsAt v deepest s n from) → Entry v s o (getD positions h 0) (firstOf v (slotOf v w) 0 (P .columns))
   entry P =
-      let lt : slotOf v w < 1024 = omega arith in
+      let lt : slotOf v w < tableSize = omega arith in
       subst (λ (b : ℕ). Entry v s b (getD positions h 0) (firstOf v (slotOf v w) 0 (P .columns))) (sym g)
       (subst (λ (b : ℕ). Entry v s (getD starts b 0) (getD positions b 0) (firstOf v (slotOf v w) 0 (P .columns))) (sym e) (T .entries P (slotOf v w) lt))
 
@@ -61,14 +60,14 @@ module _ {v : Version} {s : Bytes} {n from : ℕ} {starts positions : List ℕ} 
         let y : refuse a ≡ ok l (E .start) = sym (label-none s f q) ∙ E .labelled in
         clash (cc)
 
-    pub entry-found : {m : LabelSpan} {c : Cursor} {b : Bool} → labelIn s p → p ≡ Labelled.Is m c → b ≡ repeats (topRule v) (labelAt s m) w → b ≡ true
+    pub entry-found : {m : LabelSpan} {c : Cursor} {rule : Siblings} {b : Bool} → labelIn s p → p ≡ Labelled.Is m c → rule ≡ topRule v → b ≡ repeats rule (labelAt s m) w → b ≡ true
         → (P : ColumnsAt v deepest s n from) → Finds v deepest s (counterpart v w (P .columns)) (Found.At (record { 0 = getD positions h 0 }) m c)
-    entry-found {m} {c} inn q x y P =
+    entry-found {m} {c} inn q top x y P =
         let (k, l, t, r, E) = entry-some v s o (getD positions h 0) (firstOf v (slotOf v w) 0 (P .columns)) (entry P) z in
         let u : ok l (E .start) ≡ ok (labelAt s m) (c .at) = sym (E .labelled) ∙ label-got s f q in
         let i : l ≡ labelAt s m = cc in
         let j : E .start ≡ c .at = cc in
-        let a : repeats (topRule v) l w ≡ true = ap (λ (b : Label). repeats (topRule v) b w) i ∙ sym x ∙ y in
+        let a : repeats (topRule v) l w ≡ true = ap (λ (b : Label). repeats (topRule v) b w) i ∙ sym (x ∙ ap (λ (r : Siblings). repeats r (labelAt s m) w) top) ∙ y in
         let d = first-of (λ l. repeats (topRule v) l w) (λ l. eqb (slotOf v l) (slotOf v w)) (same-slot v w) 0 (P .columns) r a in
         subst (λ (x : Lookup). Finds v deepest s x (Found.At (record { 0 = getD positions h 0 }) m c)) (sym (counterpart-first v w (P .columns) ∙ d))
         (record {
@@ -81,28 +80,7 @@ module _ {v : Version} {s : Bytes} {n from : ℕ} {starts positions : List ℕ} 
           reads = ap (λ (o : ℕ). type v Free deepest s o) (sym j) ∙ E .reads;
         })
 
--- ---- labels
+-- ---- the entry of a label
 
-pub slot-is : (v : Version) (l : Label) {r : Siblings} {h : ℕ} → r ≡ topRule v → h ≡ labelHash r 0 l → h % 1024 ≡ slotOf v l
-slot-is v l e f = ap (λ (h : ℕ). h % 1024) (f ∙ ap (λ (r : Siblings). labelHash r 0 l) e)
-
-module _ (s t : Bytes) (m l : LabelSpan) {v : Version} where
-  pub matches-name : {b : Bool} → v ≡ ByName
-      → b ≡ sameBytes (take (m .name .start + m .name .len - m .name .start) (drop (m .name .start) s)) (take (l .name .start + l .name .len - l .name .start) (drop (l .name .start) t))
-      → b ≡ repeats (topRule v) (labelAt s m) (labelAt t l)
-  matches-name h e = rw h (rw (add-sub-cancel-left (m .name .start) (m .name .len), add-sub-cancel-left (l .name .start) (l .name .len)) at e)
-
-  pub matches-id : v ≡ ByNumber → eqb (m .id .0) (l .id .0) ≡ repeats (topRule v) (labelAt s m) (labelAt t l)
-  matches-id h = rw h
-
--- ---- the scan
-
-module _ (v : Version) (s : Bytes) (r : Found) (t : Bytes) (l : LabelSpan) (cs : Columns) where
-  pub scan-name : v ≡ ByName → Finds v deepest s (columnNamed (take (l .name .start + l .name .len - l .name .start) (drop (l .name .start) t)) cs) r
-      → Finds v deepest s (counterpart v (labelAt t l) cs) r
-  scan-name h f =
-      subst (λ (w : Version). Finds v deepest s (counterpart w (labelAt t l) cs) r) (sym h)
-      (subst (λ (n : ℕ). Finds v deepest s (columnNamed (take n (drop (l .name .start) t)) cs) r) (add-sub-cancel-left (l .name .start) (l .name .len)) f)
-
-  pub scan-id : v ≡ ByNumber → Finds v deepest s (columnOfId (l .id) cs) r → Finds v deepest s (counterpart v (labelAt t l) cs) r
-  scan-id h f = subst (λ (w : Version). Finds v deepest s (counterpart w (labelAt t l) cs) r) (sym h) f
+pub slot-is : (v : Version) (l : Label) {r : Siblings} {h : ℕ} → r ≡ topRule v → h ≡ labelHash r 0 l → h % tableSize ≡ slotOf v l
+slot-is v l e f = ap (λ (h : ℕ). h % tableSize) (f ∙ ap (λ (r : Siblings). labelHash r 0 l) e)

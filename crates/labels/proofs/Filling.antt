@@ -24,7 +24,7 @@ use Rattle.layout.specs.declared.cursor.Cursor.{Cursor}
 use Rattle.layout.specs.declared.cursor.Moved.{Moved}
 use Rattle.layout.specs.declared.version.Version.{Version}
 use Rattle.layout.proofs.View.{FirstAt, first-at, label-got, no-column, type-ends}
-use Rattle.labels.specs.Table.{slotOf, firstOf, EntryAt, Entry, Table, Empty, Entered}
+use Rattle.labels.specs.Table.{tableSize, slotOf, firstOf, EntryAt, Entry, Table, Empty, Entered}
 
 -- ---- one entry
 
@@ -86,11 +86,11 @@ module _ {v : Version} {s : Bytes} {o k : ℕ} {x y : Lookup} (a : Pending v s o
 -- the columns that are left, and the entries
 pub record Rest (v : Version) (s : Bytes) (n from : ℕ) (P : ColumnsAt v deepest s n from) (i at : ℕ) (starts positions : List ℕ) : Type 0 where
   pub rest : ColumnsAt v deepest s (n - i) at
-  pub entries : (h : ℕ) → h < 1024 → Pending v s (getD starts h 0) (getD positions h 0) (firstOf v h 0 (P .columns)) (firstOf v h i (rest .columns))
+  pub entries : (h : ℕ) → h < tableSize → Pending v s (getD starts h 0) (getD positions h 0) (firstOf v h 0 (P .columns)) (firstOf v h i (rest .columns))
 
 pub record Filling (v : Version) (s : Bytes) (n from i at : ℕ) (starts positions : List ℕ) : Type 0 where
-  pub long : length starts ≡ 1024
-  pub paired : length positions ≡ 1024
+  pub long : length starts ≡ tableSize
+  pub paired : length positions ≡ tableSize
   pub here : (P : ColumnsAt v deepest s n from) → Rest v s n from P i at starts positions
 
 -- as many columns, under another name of their number and place
@@ -102,7 +102,7 @@ abbrev placed : ℕ → Position
 placed k = record { 0 = k }
 
 module _ {v : Version} {s : Bytes} {n from : ℕ} {starts positions : List ℕ} where
-  pub filling-start : Empty starts → length starts ≡ 1024 → length positions ≡ 1024 → Filling v s n from 0 from starts positions
+  pub filling-start : Empty starts → length starts ≡ tableSize → length positions ≡ tableSize → Filling v s n from 0 from starts positions
   filling-start E l m = record {
     long = l;
     paired = m;
@@ -149,18 +149,18 @@ module _ {v : Version} {s : Bytes} {n from : ℕ} {starts positions : List ℕ} 
               reads = first P .head .reads;
             }
 
-        own : (P : ColumnsAt v deepest s n from) → j < 1024 → Dec (getD starts j 0 ≡ 0)
+        own : (P : ColumnsAt v deepest s n from) → j < tableSize → Dec (getD starts j 0 ≡ 0)
             → Pending v s (getD starts′ j 0) (getD positions′ j 0) (firstOf v j 0 (P .columns)) (firstOf v j (i + 1) (first P .tail .columns))
         unfolding choose
         own P m (yes z) = pending-first (a .here P .entries j m) z (step P j (eq-eqb (slotOf v (labelAt s l)) j (sym e))) (added P z)
         own P m (no z) = let (x, y) = E .later z in pending-later (a .here P .entries j m) z x y
 
-        pending : (P : ColumnsAt v deepest s n from) (k : ℕ) → k < 1024 → Dec (k ≡ j)
+        pending : (P : ColumnsAt v deepest s n from) (k : ℕ) → k < tableSize → Dec (k ≡ j)
             → Pending v s (getD starts′ k 0) (getD positions′ k 0) (firstOf v k 0 (P .columns)) (firstOf v k (i + 1) (first P .tail .columns))
         unfolding choose
         pending P k m (yes q) =
             subst (λ (b : ℕ). Pending v s (getD starts′ b 0) (getD positions′ b 0) (firstOf v b 0 (P .columns)) (firstOf v b (i + 1) (first P .tail .columns))) (sym q)
-            (own P (let w : j < 1024 = omega arith in w) (ℕ-discrete (getD starts j 0) 0))
+            (own P (let w : j < tableSize = omega arith in w) (ℕ-discrete (getD starts j 0) 0))
         pending P k m (no q) =
             let (x, y) = E .other k q in
             pending-other (a .here P .entries k m) x y (step P k (ne-eqb (slotOf v (labelAt s l)) k (λ z. q (sym (e ∙ z)))))

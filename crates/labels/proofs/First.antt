@@ -10,10 +10,9 @@ use Rattle.layout.specs.Layout.{repeats, topRule}
 use Rattle.layout.specs.Find.{Lookup, absent, at, findFrom}
 use Rattle.layout.specs.declared.columns.Position.{Position}
 use Rattle.layout.specs.declared.version.Version.{Version}
-use Rattle.layout.specs.declared.version.Version.the-variants.{ByName, ByNumber}
 use Rattle.layout.proofs.Ways.{clash, choose-true, choose-false}
 use Rattle.layout.proofs.Marking.{same-hash}
-use Rattle.labels.specs.Table.{counterpart, slotOf}
+use Rattle.labels.specs.Table.{tableSize, slotOf}
 
 untrue : (b : Bool) → (b ≡ true → false ≡ true) → b ≡ false
 untrue true h = sym (h refl)
@@ -53,8 +52,4 @@ module _ (f g : Label → Bool) (h : (l : Label) → f l ≡ true → g l ≡ tr
 
 -- labels that match have the same hash
 pub same-slot : (v : Version) (w l : Label) → repeats (topRule v) l w ≡ true → eqb (slotOf v l) (slotOf v w) ≡ true
-same-slot v w l e = eq-eqb (slotOf v l) (slotOf v w) (ap (λ (h : ℕ). h % 1024) (same-hash (topRule v) 0 l w e))
-
-pub counterpart-first : (v : Version) (w : Label) (cs : Columns) → counterpart v w cs ≡ findFrom (λ i l. repeats (topRule v) l w) 0 cs
-counterpart-first ByName w cs = refl
-counterpart-first ByNumber w cs = refl
+same-slot v w l e = eq-eqb (slotOf v l) (slotOf v w) (ap (λ (h : ℕ). h % tableSize) (same-hash (topRule v) 0 l w e))

@@ -10,20 +10,18 @@ use Rattle.layout.specs.Tree.{Label, ColumnType, Columns}
 use Rattle.layout.specs.Layout.{label, type, deepest, topRule}
 use Rattle.layout.specs.Seen.{labelHash}
 use Rattle.layout.specs.Stands.{ColumnsAt}
-use Rattle.layout.specs.Find.{Lookup, absent, at as found, findFrom, columnNamed, columnOfId}
+use Rattle.layout.specs.Find.{Lookup, absent, at as found, findFrom}
 use Rattle.layout.specs.declared.columns.Position.{Position}
 use Rattle.layout.specs.declared.columns.Siblings.the-variants.{Free}
 use Rattle.layout.specs.declared.version.Version.{Version}
-use Rattle.layout.specs.declared.version.Version.the-variants.{ByName, ByNumber}
 
--- the column of the same name; by number, of the same id
-abbrev pub counterpart : Version → Label → Columns → Lookup
-counterpart ByName l cs = columnNamed (l .name) cs
-counterpart ByNumber l cs = columnOfId (l .id) cs
+-- how many entries a table has
+abbrev pub tableSize : ℕ
+tableSize = 2048
 
--- the entry of a label in a table of 1,024 entries
+-- a label's entry
 abbrev pub slotOf : Version → Label → ℕ
-slotOf v l = labelHash (topRule v) 0 l % 1024
+slotOf v l = labelHash (topRule v) 0 l % tableSize
 
 -- the first column of the entry h, where the first of these columns has the position i
 abbrev pub firstOf : Version → ℕ → ℕ → Columns → Lookup
@@ -45,9 +43,9 @@ Entry v s o k (found p l t) = EntryAt v s o k p l t
 
 -- each entry is that of the first column whose label has its hash
 pub record Table (v : Version) (s : Bytes) (n at : ℕ) (starts positions : List ℕ) : Type 0 where
-  pub long : length starts ≡ 1024
-  pub paired : length positions ≡ 1024
-  pub entries : (P : ColumnsAt v deepest s n at) (h : ℕ) → h < 1024 → Entry v s (getD starts h 0) (getD positions h 0) (firstOf v h 0 (P .columns))
+  pub long : length starts ≡ tableSize
+  pub paired : length positions ≡ tableSize
+  pub entries : (P : ColumnsAt v deepest s n at) (h : ℕ) → h < tableSize → Entry v s (getD starts h 0) (getD positions h 0) (firstOf v h 0 (P .columns))
 
 -- no entry is set
 pub record Empty (starts : List ℕ) : Type 0 where

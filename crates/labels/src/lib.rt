@@ -1,59 +1,38 @@
-// The counterpart of a label among the top columns of a layout, found by the label's hash: a table of 1,024 entries holds for each hash
-// where the first column that has it begins, and its position.
+// The counterpart of a label among the top columns of a layout, found by the label's hash: a table holds for each hash where the
+// first column that has it begins, and its position.
 ghost use mathlib.Core.Bool.{true};
 ghost use mathlib.Core.Path.{_≡_};
 ghost use Prim.Native.Nat.{_<_};
 ghost use lib.ListN.{length};
 ghost use Rattle.layout.specs.Answers.{labelAt, spanIn};
-ghost use Rattle.layout.specs.Find.{Finds};
-ghost use Rattle.layout.specs.Layout.{repeats, topRule};
+ghost use Rattle.layout.specs.Find.{counterpart, Finds};
 ghost use Rattle.layout.specs.Stands.{ColumnsAt};
-ghost use Rattle.labels.specs.Table.{counterpart, slotOf, Empty, Entered, Table};
-use layout::bytes::same_bytes;
+ghost use Rattle.labels.specs.Table.{tableSize, slotOf, Empty, Entered, Table};
+use layout::bytes::wide;
 use layout::columns::Label;
 use layout::columns::Labelled;
 use layout::columns::Position;
+use layout::columns::same_label;
 use layout::cursor::Cursor;
 use layout::cursor::Moved;
 use layout::find::Found;
-use layout::find::column_named;
-use layout::find::column_of_id;
+use layout::find::find_counterpart;
 use layout::pass::pass_type;
 use layout::seen::label_hash;
 use layout::version::Version;
 use layout::version::top_rule;
 
-// A function of its own, since an element of a slice that is cast where it is read has to be shown to fit.
-fn wide(x: u16) -> usize
-    ensures { λ r. ⌜ r ≡ x ⌝ }
-{
-    x as usize
-}
+// How many entries a table has.
+pub const TABLE_SIZE: usize = 2048;
 
 // A label's entry.
 fn slot(s: &[u8], v: Version, l: Label) -> usize
     requires { ⌜ spanIn (now s) (l .name) ⌝ }
     ensures { λ r. ⌜ r ≡ slotOf v (labelAt (now (s .entry)) l) ⌝ }
-    ensures { λ r. ⌜ r < 1024 ⌝ }
+    ensures { λ r. ⌜ r < tableSize ⌝ }
 {
     let rule = top_rule(v);
-    (label_hash(s, rule, 0, l) % 1024) as usize
-}
-
-// Whether the label `m`, which stands in `s`, has the name of `l`, which stands in `t`; by number, its id.
-fn matches(s: &[u8], v: Version, m: Label, t: &[u8], l: Label) -> bool
-    requires { ⌜ spanIn (now s) (m .name) ⌝ }
-    requires { ⌜ spanIn (now t) (l .name) ⌝ }
-    ensures { λ r. ⌜ r ≡ repeats (topRule v) (labelAt (now (s .entry)) m) (labelAt (now (t .entry)) l) ⌝ }
-{
-    match v {
-        Version::ByName => {
-            let a = m.name.start;
-            let b = l.name.start;
-            same_bytes(&s[a..a + m.name.len], &t[b..b + l.name.len])
-        }
-        Version::ByNumber => m.id.0 == l.id.0,
-    }
+    (label_hash(s, rule, 0, l) as usize) % TABLE_SIZE
 }
 
 // Sets the entry `h` to a column that begins at `at` and has the position `i`, unless an earlier column has the entry. False where an
@@ -89,10 +68,10 @@ pub fn fill(
     requires { ⌜ Empty (now starts) ⌝ }
     ensures { λ r. ⌜ (r ≡ true → Table v (now (s .entry)) n (first .at) (now (starts .exit)) (now (positions .exit))) ⌝ }
 {
-    if starts.len() != 1024 {
+    if starts.len() != TABLE_SIZE {
         return false;
     }
-    if positions.len() != 1024 {
+    if positions.len() != TABLE_SIZE {
         return false;
     }
     let mut at = first.at;
@@ -119,21 +98,6 @@ pub fn fill(
     true
 }
 
-// Without a table.
-fn scan(s: &[u8], v: Version, n: u16, c: Cursor, t: &[u8], l: Label) -> Found
-    requires { ⌜ ColumnsAt v 16 (now s) n (c .at) ⌝ }
-    requires { ⌜ spanIn (now t) (l .name) ⌝ }
-    ensures { λ r. ⌜ ((P : ColumnsAt v 16 (now (s .entry)) n (c .at)) → Finds v 16 (now (s .entry)) (counterpart v (labelAt (now (t .entry)) l) (P .columns)) r) ⌝ }
-{
-    match v {
-        Version::ByName => {
-            let a = l.name.start;
-            column_named(s, v, 16, n, c, &t[a..a + l.name.len])
-        }
-        Version::ByNumber => column_of_id(s, v, 16, n, c, l.id),
-    }
-}
-
 // Among `n` columns, the one of the name of the label `l`, which stands in `t`; by number, of its id. Where another label has the hash
 // of `l`, the columns are scanned.
 pub fn counterpart_in(
@@ -151,6 +115,7 @@ pub fn counterpart_in(
     requires { ⌜ spanIn (now t) (l .name) ⌝ }
     ensures { λ r. ⌜ ((P : ColumnsAt v 16 (now (s .entry)) n (c .at)) → Finds v 16 (now (s .entry)) (counterpart v (labelAt (now (t .entry)) l) (P .columns)) r) ⌝ }
 {
+    let rule = top_rule(v);
     let h = slot(t, v, l);
     let at = wide(starts[h]);
     if at == 0 {
@@ -159,10 +124,10 @@ pub fn counterpart_in(
     let d = Cursor { at };
     match d.label(s, v) {
         Labelled::Is(m, next) => {
-            if matches(s, v, m, t, l) {
+            if same_label(rule, s, m, t, l) {
                 return Found::At(Position(positions[h]), m, next);
             }
-            scan(s, v, n, c, t, l)
+            find_counterpart(s, v, 16, n, c, t, l)
         }
         Labelled::Refused(_) => Found::Absent,
     }

@@ -11,10 +11,11 @@ use borrow.Author.Tests.{eq-eqb, ne-eqb}
 use Rattle.layout.specs.Bytes.{Bytes, sameBytes}
 use Rattle.layout.specs.Parser.{ok, choose}
 use Rattle.layout.specs.Tree.{Label, ColumnType, Columns, cnil, ccons}
-use Rattle.layout.specs.Layout.{label, columns, type}
-use Rattle.layout.specs.Answers.{labelRes, labelAt, labelIn, spanIn, movedOf}
+use Rattle.layout.specs.Layout.{label, repeats, columns, type, topRule}
+use Rattle.layout.specs.Answers.{labelRes, labelAt, labelIn, spanAt, movedOf}
 use Rattle.layout.specs.Stands.{TypeAt, ColumnsAt}
-use Rattle.layout.specs.Find.{Lookup, absent, at, findFrom, columnAt, FoundAt, Finds, wantedBy}
+use Rattle.layout.specs.Find.{Lookup, absent, at, findFrom, columnNamed, columnOfId, columnAt, counterpart, FoundAt, Finds, wantedBy}
+use Rattle.layout.specs.declared.bytes.Span.{Span}
 use Rattle.layout.specs.declared.columns.Position.{Position}
 use Rattle.layout.specs.declared.columns.Label.{Label as LabelSpan}
 use Rattle.layout.specs.declared.columns.Labelled.{Labelled}
@@ -24,6 +25,7 @@ use Rattle.layout.specs.declared.cursor.Moved.{Moved}
 use Rattle.layout.specs.declared.find.Found.{Found}
 use Rattle.layout.specs.declared.find.Wanted.{Wanted}
 use Rattle.layout.specs.declared.version.Version.{Version}
+use Rattle.layout.specs.declared.version.Version.the-variants.{ByName, ByNumber}
 use Rattle.layout.proofs.Ways.{clash}
 use Rattle.layout.proofs.FreeRule.{repeats-free}
 use Rattle.layout.proofs.Reading.{columns-suc}
@@ -180,3 +182,23 @@ module _ (s name : Bytes) (l : LabelSpan) where
   pub wanted-name : {w : Wanted} {b : Bool} → w ≡ Wanted.Name → b ≡ sameBytes (take (l .name .start + l .name .len - l .name .start) (drop (l .name .start) s)) name
       → b ≡ wantedBy w name (labelAt s l)
   wanted-name h e = rw h (rw (add-sub-cancel-left (l .name .start) (l .name .len)) at e)
+
+-- ---- a counterpart
+
+-- it is the first column whose label matches
+pub counterpart-first : (v : Version) (w : Label) (cs : Columns) → counterpart v w cs ≡ findFrom (λ i l. repeats (topRule v) l w) 0 cs
+counterpart-first ByName w cs = refl
+counterpart-first ByNumber w cs = refl
+
+module _ (v : Version) (d : ℕ) (s : Bytes) where
+  -- a name, by the part of the bytes that was lent
+  pub by-name : (r : Found) (t : Bytes) (p : Span) (cs : Columns) → Finds v d s (columnNamed (take (p .start + p .len - p .start) (drop (p .start) t)) cs) r
+      → Finds v d s (columnNamed (spanAt t p) cs) r
+  by-name r t p cs f = subst (λ (n : ℕ). Finds v d s (columnNamed (take n (drop (p .start) t)) cs) r) (add-sub-cancel-left (p .start) (p .len)) f
+
+  pub counterpart-name : (r : Found) (t : Bytes) (l : LabelSpan) (cs : Columns) → v ≡ ByName
+      → Finds v d s (columnNamed (take (l .name .start + l .name .len - l .name .start) (drop (l .name .start) t)) cs) r → Finds v d s (counterpart v (labelAt t l) cs) r
+  counterpart-name r t l cs h f = subst (λ (w : Version). Finds v d s (counterpart w (labelAt t l) cs) r) (sym h) (by-name r t (l .name) cs f)
+
+  pub counterpart-id : (r : Found) (t : Bytes) (l : LabelSpan) (cs : Columns) → v ≡ ByNumber → Finds v d s (columnOfId (l .id) cs) r → Finds v d s (counterpart v (labelAt t l) cs) r
+  counterpart-id r t l cs h f = subst (λ (w : Version). Finds v d s (counterpart w (labelAt t l) cs) r) (sym h) f

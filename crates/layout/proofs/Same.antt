@@ -51,11 +51,11 @@ module _ (a b : List ℕ) where
         go true q = rw (drop-of-length-le b (leb-true _ _ q))
         go false q = rw (drop-cons b i 0 (leb-false _ _ q))
 
-module _ (s : List ℕ) (l m : LabelSpan) {r : Siblings} where
+module _ (s t : List ℕ) (l m : LabelSpan) {r : Siblings} where
   pub same-names : {b : Bool} → r ≡ Siblings.Names
-      → b ≡ sameBytes (take (l .name .start + l .name .len - l .name .start) (drop (l .name .start) s)) (take (m .name .start + m .name .len - m .name .start) (drop (m .name .start) s))
-      → b ≡ repeats r (labelAt s l) (labelAt s m)
+      → b ≡ sameBytes (take (l .name .start + l .name .len - l .name .start) (drop (l .name .start) s)) (take (m .name .start + m .name .len - m .name .start) (drop (m .name .start) t))
+      → b ≡ repeats r (labelAt s l) (labelAt t m)
   same-names h e = rw h (rw (add-sub-cancel-left (l .name .start) (l .name .len), add-sub-cancel-left (m .name .start) (m .name .len)) at e)
 
-  pub same-ids : r ≡ Siblings.Ids → eqb (l .id .0) (m .id .0) ≡ repeats r (labelAt s l) (labelAt s m)
+  pub same-ids : r ≡ Siblings.Ids → eqb (l .id .0) (m .id .0) ≡ repeats r (labelAt s l) (labelAt t m)
   same-ids h = rw h

@@ -16,6 +16,7 @@ use Rattle.layout.specs.declared.cursor.Cursor.{Cursor}
 use Rattle.layout.specs.declared.find.Wanted.{Wanted}
 use Rattle.layout.specs.declared.find.Found.{Found}
 use Rattle.layout.specs.declared.version.Version.{Version}
+use Rattle.layout.specs.declared.version.Version.the-variants.{ByName, ByNumber}
 
 -- a column's position, label and type
 pub data Lookup : Type 0 where
@@ -35,6 +36,11 @@ columnOfId id = findFrom (λ i l. eqb (l .id .0) (id .0)) 0
 
 abbrev pub columnAt : Position → Columns → Lookup
 columnAt k = findFrom (λ i l. eqb i (k .0)) 0
+
+-- a label's counterpart: the column of the same name; by number, of the same id
+abbrev pub counterpart : Version → Label → Columns → Lookup
+counterpart ByName l cs = columnNamed (l .name) cs
+counterpart ByNumber l cs = columnOfId (l .id) cs
 
 -- what the code looks for; the name stands beside it
 abbrev pub wantedBy : Wanted → Bytes → Label → Bool

@@ -1,4 +1,4 @@
-// Names, zones and texts are bytes, compared as bytes.
+// Names, zones and texts are bytes, compared as bytes. `wide` makes an offset of a table's entry.
 ghost use mathlib.Core.Path.{_≡_};
 ghost use Rattle.layout.specs.Bytes.{sameBytes};
 
@@ -22,4 +22,11 @@ pub fn same_bytes(a: &[u8], b: &[u8]) -> bool
         i += 1;
     }
     b.len() <= i
+}
+
+// A function of its own, since an element of a slice that is cast where it is read has to be shown to fit.
+pub fn wide(x: u16) -> usize
+    ensures { λ r. ⌜ r ≡ x ⌝ }
+{
+    x as usize
 }

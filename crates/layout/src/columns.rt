@@ -81,17 +81,17 @@ impl Cursor {
     }
 }
 
-// Whether a label repeats an earlier one, under a rule.
-pub fn same_label(s: &[u8], rule: Siblings, l: Label, m: Label) -> bool
+// Whether the label `l`, which stands in `s`, repeats `m`, which stands in `t`, under a rule.
+pub fn same_label(rule: Siblings, s: &[u8], l: Label, t: &[u8], m: Label) -> bool
     requires { ⌜ l .name .start + l .name .len ≤ length (now s) ⌝ }
-    requires { ⌜ m .name .start + m .name .len ≤ length (now s) ⌝ }
-    ensures { λ r. ⌜ r ≡ repeats rule (labelAt (now (s .entry)) l) (labelAt (now (s .entry)) m) ⌝ }
+    requires { ⌜ m .name .start + m .name .len ≤ length (now t) ⌝ }
+    ensures { λ r. ⌜ r ≡ repeats rule (labelAt (now (s .entry)) l) (labelAt (now (t .entry)) m) ⌝ }
 {
     match rule {
         Siblings::Names => {
             let a = l.name.start;
             let b = m.name.start;
-            same_bytes(&s[a..a + l.name.len], &s[b..b + m.name.len])
+            same_bytes(&s[a..a + l.name.len], &t[b..b + m.name.len])
         }
         Siblings::Ids => l.id.0 == m.id.0,
         Siblings::Free => false,

@@ -1,7 +1,7 @@
 // Looking a column up among its siblings: its position, its label and where its type stands. Hash lookups become scans.
 ghost use mathlib.Core.Path.{_≡_};
 ghost use Rattle.layout.specs.Answers.{labelAt, spanIn};
-ghost use Rattle.layout.specs.Find.{columnNamed, columnOfId, columnAt, findFrom, wantedBy, Finds};
+ghost use Rattle.layout.specs.Find.{columnNamed, columnOfId, columnAt, counterpart, findFrom, wantedBy, Finds};
 ghost use Rattle.layout.specs.Stands.{ColumnsAt};
 use crate::bytes::same_bytes;
 use crate::columns::FieldId;
@@ -86,6 +86,29 @@ pub fn column_of_id(s: &[u8], v: Version, depth: u8, n: u16, c: Cursor, id: Fiel
     ensures { λ r. ⌜ ((P : ColumnsAt v depth (now (s .entry)) n (c .at)) → Finds v depth (now (s .entry)) (columnOfId id (P .columns)) r) ⌝ }
 {
     find_column(s, v, depth, n, c, Wanted::Id(id), &s[..0])
+}
+
+// Among `n` columns, the one of the name of the label `l`, which stands in `t`; by number, of its id.
+pub fn find_counterpart(
+    s: &[u8],
+    v: Version,
+    depth: u8,
+    n: u16,
+    c: Cursor,
+    t: &[u8],
+    l: Label,
+) -> Found
+    requires { ⌜ ColumnsAt v depth (now s) n (c .at) ⌝ }
+    requires { ⌜ spanIn (now t) (l .name) ⌝ }
+    ensures { λ r. ⌜ ((P : ColumnsAt v depth (now (s .entry)) n (c .at)) → Finds v depth (now (s .entry)) (counterpart v (labelAt (now (t .entry)) l) (P .columns)) r) ⌝ }
+{
+    match v {
+        Version::ByName => {
+            let a = l.name.start;
+            column_named(s, v, depth, n, c, &t[a..a + l.name.len])
+        }
+        Version::ByNumber => column_of_id(s, v, depth, n, c, l.id),
+    }
 }
 
 pub fn column_at(s: &[u8], v: Version, depth: u8, n: u16, c: Cursor, k: Position) -> Found

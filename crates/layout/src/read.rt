@@ -198,7 +198,7 @@ fn repeats(s: &[u8], v: Version, rule: Siblings, depth: u8, n: u16, c: Cursor, l
         let d = Cursor { at };
         match d.label(s, v) {
             Labelled::Is(m, next) => {
-                if same_label(s, rule, l, m) {
+                if same_label(rule, s, l, s, m) {
                     return true;
                 }
                 match pass_type(s, v, depth, next) {

@@ -5,7 +5,7 @@ use mathlib.Core.Bool.{Bool, true, false, _&&_}
 use borrow.Author.Tests.{eqb-true}
 use Rattle.layout.specs.Parser.{choose}
 use Rattle.layout.specs.Tree.{LeafType, leafOf, Label, ColumnType, cleaf, cstruct, clist, carray, Columns, cnil, ccons, DataType, leaf, dtypeOf}
-use Rattle.layout.specs.Find.{Lookup, absent, at}
+use Rattle.layout.specs.Find.{Lookup, absent, at, counterpart}
 use Rattle.layout.specs.declared.columns.Position.{Position}
 use Rattle.layout.specs.declared.version.Version.{Version}
 use Rattle.layout.proofs.Ways.{clash}
@@ -23,7 +23,7 @@ use Rattle.plan.specs.Selector.{Selector, position, constant, cast, Selectors, 
 use Rattle.plan.specs.Check.{castFits, fromNull}
 use Rattle.plan.proofs.Results.{never-refused, gives-eq, accepted-eq, both, bind-gives, demand-gives, placed-accepted, answered-accepted}
 use Rattle.matching.specs.Default.{Defaults, noDefaults, missingValue}
-use Rattle.matching.specs.Build.{leafPart, structPart, Element, listPart, arrayPart, isNullType, isByName, counterpart, unlessNullType, renamed, sameElement, distinct, inserts, missing, ruled, structSelector, listSelector, arraySelector, first, sought, attachTransforms, attachFields, buildColumnSelector, buildFrom, build}
+use Rattle.matching.specs.Build.{leafPart, structPart, Element, listPart, arrayPart, isNullType, isByName, unlessNullType, renamed, sameElement, distinct, inserts, missing, ruled, structSelector, listSelector, arraySelector, first, sought, attachTransforms, attachFields, buildColumnSelector, buildFrom, build}
 
 module _ (v : Version) where
   mutual

@@ -8,7 +8,7 @@ use lib.Dec.{eqb}
 use borrow.Author.Tests.{eqb-true, eqb-false}
 use Rattle.layout.specs.Parser.{choose}
 use Rattle.layout.specs.Tree.{LeafType, Label, ColumnType, cleaf, cstruct, clist, carray, Columns, cnil, ccons, DataType, leaf, struct, list, array, Fields, dtypeOf, fieldsOf}
-use Rattle.layout.specs.Find.{absent, at, findFrom}
+use Rattle.layout.specs.Find.{absent, at, findFrom, counterpart}
 use Rattle.layout.specs.declared.columns.FieldId.{FieldId}
 use Rattle.layout.specs.declared.columns.Position.{Position}
 use Rattle.layout.specs.declared.version.Version.the-variants.{ByNumber}
@@ -26,7 +26,7 @@ use Rattle.plan.proofs.Results.{never-refused, gives-eq, true≠false, bind-giv
 use Rattle.defaults.specs.Table.{initial, partition, failed, Entry}
 use Rattle.defaults.specs.Lookup.{Taken, refused, nothing, taken, unlessNull, ofSource, givenTo, isPartitionOf, isInitialOf, getDefaultValue}
 use Rattle.matching.specs.Default.{Defaults, noDefaults, Default, none, some, orNull, leafDefault, FieldDefaults, withField, structDefault, buildIcebergDefaultValue, defaultsOf, missingValue}
-use Rattle.matching.specs.Build.{sameElement, elementDefaultId, counterpart, build}
+use Rattle.matching.specs.Build.{sameElement, elementDefaultId, build}
 use Rattle.matching.specs.Due.{dueLeaf, orElseNull, fromCounterpart, due, dues}
 use Rattle.matching.specs.Iceberg.{noValue, undefined, empty, Metadata, HasId, id-here, id-there, Lacks, lacks-nil, lacks-cons, Missing, by-partition, by-default, by-empty-struct, by-null, MissingAll, missing-nil, missing-cons, Reads, reads-leaf, reads-null, reads-struct, reads-list, reads-array, ReadsAll, reads-nil, reads-selected, reads-missing, ReadsEach, reads-none, reads-more}
 use Rattle.matching.specs.Stated.{isLoaded, hasLoaded, tupleValue, initialValue, partitionOf, emptyIf, initialOf, stated, NoneHidden, NoDefault, Silent, SilentAll, Composed, ComposedAll, OwnIds, OwnIdsAll}

@@ -3,19 +3,19 @@ use Prim.Native.Nat.{ℕ, suc, _+_}
 use mathlib.Core.Path.{_≡_, refl, sym, ap, _∙_}
 use mathlib.Core.Bool.{Bool, true, false}
 use native.Mathlib.Omega.{arith}
-use lib.Dec.{eqb}
 use Rattle.layout.specs.Bytes.{Bytes, sameBytes}
 use Rattle.layout.specs.Parser.{choose}
 use Rattle.layout.specs.Tree.{Label, ColumnType, Columns, cnil, ccons, DataType, Fields, fnil, fcons, dtypeOf, fieldsOf}
-use Rattle.layout.specs.Find.{Lookup, absent, at, findFrom, columnNamed}
+use Rattle.layout.specs.Layout.{repeats, topRule}
+use Rattle.layout.specs.Find.{Lookup, absent, at, findFrom, columnNamed, counterpart}
 use Rattle.layout.specs.declared.columns.Position.{Position}
 use Rattle.layout.specs.declared.version.Version.{Version}
-use Rattle.layout.specs.declared.version.Version.the-variants.{ByName, ByNumber}
 use Rattle.layout.proofs.OfBytes.{same-bytes-refl, same-bytes-eq}
 use Rattle.layout.proofs.Ways.{clash}
+use Rattle.layout.proofs.Finding.{counterpart-first}
 use Rattle.plan.proofs.Results.{true≠false, both}
 use Rattle.plan.proofs.Typed.{At, here, there}
-use Rattle.matching.specs.Build.{counterpart, isAbsent, distinctNames}
+use Rattle.matching.specs.Build.{isAbsent, distinctNames}
 
 -- ---- what was found
 
@@ -51,12 +51,7 @@ found-stands f i (ccons a u cs) {k} {l} {t} e = go (f i a) refl e (λ h. found-s
 
 -- an incoming label a is of the same field as the target's b
 abbrev pub matches : Version → Label → Label → Bool
-matches ByName b a = sameBytes (a .name) (b .name)
-matches ByNumber b a = eqb (a .id .0) (b .id .0)
-
-pub counterpart-is : (v : Version) (b : Label) (cs : Columns) → counterpart v b cs ≡ findFrom (λ i a. matches v b a) 0 cs
-counterpart-is ByName b cs = refl
-counterpart-is ByNumber b cs = refl
+matches v b a = repeats (topRule v) a b
 
 -- the counterpart of the label b has the position k, the label a and the type t
 pub record Counterpart (v : Version) (b : Label) (cs : Columns) (k : Position) (a : Label) (t : ColumnType) : Type 0 where
@@ -65,7 +60,7 @@ pub record Counterpart (v : Version) (b : Label) (cs : Columns) (k : Position) (
 
 pub counterpart-at : (v : Version) (b : Label) (cs : Columns) {k : Position} {a : Label} {t : ColumnType} → counterpart v b cs ≡ at k a t → Counterpart v b cs k a t
 counterpart-at v b cs {k} {a} {t} e =
-    let S = found-stands (λ i a. matches v b a) 0 cs (sym (counterpart-is v b cs) ∙ e) in
+    let S = found-stands (λ i a. matches v b a) 0 cs (sym (counterpart-first v b cs) ∙ e) in
     let c = S .counted in
     let z : S .index ≡ k .0 = omega arith in
     record { place = placed z (S .place); match = S .wanted }

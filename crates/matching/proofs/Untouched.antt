@@ -24,7 +24,7 @@ use Rattle.plan.specs.Check.{castFits}
 use Rattle.plan.specs.Reach.{SelectorAt, s-here, s-there}
 use Rattle.plan.proofs.Results.{true≠false, both, and-true}
 use Rattle.matching.specs.Default.{Defaults}
-use Rattle.matching.specs.Build.{counterpart, renamed, distinct, isPosition, listSelector, arraySelector, structSelector, first}
+use Rattle.matching.specs.Build.{renamed, distinct, isPosition, listSelector, arraySelector, structSelector, first}
 use Rattle.matching.specs.Untouched as Same
 use Rattle.matching.proofs.Lookup.{counterpart-at, at-eq, never-absent, at-unique, Suffix, all, suffix-at, suffix-next, suffix-equal, first-named}
 use Rattle.matching.proofs.InPlace.{bare, is-bare, bare-is, straight, struct-selector, left-out, renamed-bare, renamed-name}

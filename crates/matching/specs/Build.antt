@@ -6,7 +6,7 @@ use lib.Dec.{eqb}
 use Rattle.layout.specs.Bytes.{sameBytes}
 use Rattle.layout.specs.Parser.{choose}
 use Rattle.layout.specs.Tree.{LeafType, leafOf, Label, ColumnType, cleaf, cstruct, clist, carray, Columns, cnil, ccons, countColumns, leaf, dtypeOf}
-use Rattle.layout.specs.Find.{Lookup, absent, at, columnNamed, columnOfId}
+use Rattle.layout.specs.Find.{Lookup, absent, at, columnNamed, counterpart}
 use Rattle.layout.specs.declared.columns.Position.{Position}
 use Rattle.layout.specs.declared.version.Version.{Version}
 use Rattle.layout.specs.declared.version.Version.the-variants.{ByName, ByNumber}
@@ -61,14 +61,11 @@ isNullType (carray w l t) = false
 
 -- ---- where the two ways of matching differ
 
+-- `counterpart` (layout, specs/Find.antt): the column of the same name; by number, of the same id
+
 abbrev pub isByName : Version → Bool
 isByName ByName = true
 isByName ByNumber = false
-
--- among columns, the one of the same name; by number, of the same id
-abbrev pub counterpart : Version → Label → Columns → Lookup
-counterpart ByName l cs = columnNamed (l .name) cs
-counterpart ByNumber l cs = columnOfId (l .id) cs
 
 -- By name "null incoming, other target (nested too): 15 `null_upcast` off, else NonStrict cast"; another type goes on with r. By number null against a
 -- nested type is 24. A leaf target goes by the rule of its pair in both.

@@ -2,14 +2,13 @@
 -- from the plan.
 use Rattle.layout.specs.Parser.{choose}
 use Rattle.layout.specs.Tree.{LeafType, null, leafOf, ColumnType, cleaf, cstruct, clist, carray, Columns, cnil, ccons, leaf}
-use Rattle.layout.specs.Find.{Lookup, absent, at}
+use Rattle.layout.specs.Find.{Lookup, absent, at, counterpart}
 use Rattle.layout.specs.declared.version.Version.{Version}
 use Rattle.forms.specs.Same.{sameDtype}
 use Rattle.values.specs.Value.{Value, vnull, Values, vnil, vcons}
 use Rattle.plan.specs.Result.{Result, gives, refuses}
 use Rattle.plan.specs.Run.{valueAt, castLeaf, onStruct, onList, onArray}
 use Rattle.matching.specs.Default.{Defaults, noDefaults, missingValue}
-use Rattle.matching.specs.Build.{counterpart}
 
 -- ---- the incoming type's parts. A type of another kind, which an accepted build has only where it is null, has none: its values are null.
 

@@ -3,6 +3,7 @@ use Prim.Native.Nat.{ℕ, zero, suc, _+_, _-_, _≤_, _<_, zero-le}
 use mathlib.Core.Path.{_≡_, refl, sym, ap, _∙_}
 use mathlib.Core.Bool.{Bool, true, false}
 use native.Mathlib.Omega.{arith}
+use native.Mathlib.Decide.{ℕ-discrete}
 use lib.ListN.{length, take, length-take}
 use lib.Dec.{eqb}
 use borrow.Author.Tests.{ne-eqb, eq-eqb, le-leb, lt-leb}
@@ -176,18 +177,25 @@ module _ (p : Parser Selector) (s : Bytes) (at : ℕ) {code : ℕ} {o : Moved} w
   unfolding selectorRest choose
   rest-struct h e = rw h e
 
-  pub rest-list : code ≡ 5 → o ≡ movedOf (listRest p s at) → o ≡ movedOf (selectorRest p code s at)
+  rest-list : code ≡ 5 → o ≡ movedOf (listRest p s at) → o ≡ movedOf (selectorRest p code s at)
   unfolding selectorRest choose
   rest-list h e = rw h e
 
-  pub rest-array : code ≡ 6 → o ≡ movedOf (arrayRest p s at) → o ≡ movedOf (selectorRest p code s at)
+  rest-array : code ≡ 6 → o ≡ movedOf (arrayRest p s at) → o ≡ movedOf (selectorRest p code s at)
   unfolding selectorRest choose
   rest-array h e = rw h e
 
-pub rest-unknown : (p : Parser Selector) (s : Bytes) (at code : ℕ) → None 0 code 7 → Moved.Refused 3 ≡ movedOf (selectorRest p code s at)
+  -- one of the two
+  pub rest-element : None 0 code 5 → code < 7 → o ≡ movedOf (listRest p s at) → o ≡ movedOf (arrayRest p s at) → o ≡ movedOf (selectorRest p code s at)
+  rest-element h lt e f = go (ℕ-discrete code 5)
+    where
+      go : Dec (code ≡ 5) → o ≡ movedOf (selectorRest p code s at)
+      go (yes q) = rest-list q e
+      go (no q) = rest-array (let l = none 0 code 5 h zero-le in omega arith) f
+
+pub rest-unknown : (p : Parser Selector) (s : Bytes) (at code : ℕ) → 7 ≤ code → Moved.Refused 3 ≡ movedOf (selectorRest p code s at)
 unfolding selectorRest choose movedOf
-rest-unknown p s at code h =
-    let l : 7 ≤ code = none 0 code 7 h zero-le in
+rest-unknown p s at code l =
     rw (ne-eqb code 0 (λ e. omega arith), ne-eqb code 1 (λ e. omega arith), ne-eqb code 2 (λ e. omega arith), ne-eqb code 3 (λ e. omega arith), ne-eqb code 4 (λ e. omega arith), ne-eqb code 5 (λ e. omega arith), ne-eqb code 6 (λ e. omega arith))
 
 module _ (s : Bytes) (at d : ℕ) where

@@ -105,8 +105,7 @@ fn read_rest(s: &[u8], depth: u8, code: u8, c: Cursor) -> Moved
         2 => read_cast(s, depth, c),
         3 => read_rename(s, depth, c),
         4 => read_struct(s, depth, c),
-        5 => read_list(s, depth, c),
-        6 => read_array(s, depth, c),
+        5 | 6 => read_element_mapping(s, depth, c),
         _ => Moved::Refused(3),
     }
 }
@@ -144,16 +143,9 @@ fn read_struct(s: &[u8], depth: u8, c: Cursor) -> Moved
     }
 }
 
-fn read_list(s: &[u8], depth: u8, c: Cursor) -> Moved
+// A list or array mapping: the input, then the selector for each element.
+fn read_element_mapping(s: &[u8], depth: u8, c: Cursor) -> Moved
     ensures { λ r. ⌜ r ≡ movedOf (listRest (selector depth) (now (s .entry)) (c .at)) ⌝ }
-{
-    match read_selector(s, depth, c) {
-        Moved::To(d) => read_selector(s, depth, d),
-        Moved::Refused(k) => Moved::Refused(k),
-    }
-}
-
-fn read_array(s: &[u8], depth: u8, c: Cursor) -> Moved
     ensures { λ r. ⌜ r ≡ movedOf (arrayRest (selector depth) (now (s .entry)) (c .at)) ⌝ }
 {
     match read_selector(s, depth, c) {

@@ -29,7 +29,8 @@ use Rattle.plan.specs.Selector.{Selectors}
 use Rattle.plan.specs.Check.{check}
 use Rattle.plan.specs.Run.{evals, cleanAll, spacious, run}
 use Rattle.plan.specs.Read.{plan}
-use Rattle.plan.specs.Calls.{readAt, readPlan, runPlan, bufferAfter}
+use Rattle.plan.specs.Calls.{readAt, readPlan, runPlan, writeResult, bufferAfter}
+use Rattle.plan.specs.declared.answer.WriteResult.{WriteResult}
 use Rattle.plan.proofs.Theorems.{run-overflows, run-writes, run-exceeds}
 use Rattle.walk.proofs.View.{selectors-longer}
 use Rattle.nodes.specs.Raw.{RowAt}
@@ -43,20 +44,19 @@ use Rattle.output.proofs.Writing.{emits-exact}
 use Rattle.output.proofs.Whole.{aside-tight, aside-inside, aside-fits}
 use Rattle.checker.specs.Tops.{planChecked, TopsAt}
 use Rattle.checker.specs.declared.tops.PlanChecked.{PlanChecked}
-use Rattle.run.specs.declared.run.Run.{Run}
 use Rattle.run.specs.declared.single_pass.Direct.{Direct}
-use Rattle.run.specs.Answers.{runOf, finished, recordRun, checkedRun, PassedAt, Settled, directAnswer, DirectIs}
+use Rattle.run.specs.Answers.{finished, recordRun, checkedRun, PassedAt, Settled, directAnswer, DirectIs}
 
 -- an answer and a buffer
-pub record Ran (x : Answer Bytes) (entry : Bytes) (r : Run) (exit : Bytes) : Type 0 where
-  pub answer : r ≡ runOf x
+pub record Ran (x : Answer Bytes) (entry : Bytes) (r : WriteResult) (exit : Bytes) : Type 0 where
+  pub answer : r ≡ writeResult x
   pub buffer : exit ≡ bufferAfter x entry
 
 -- a refusal leaves the buffer as it was
-pub ran-refused : {x : Answer Bytes} {entry : Bytes} {n k : ℕ} → x ≡ refusedAt n k → Ran x entry (Run.Refused n k) entry
-ran-refused e = record { answer = sym (ap runOf e); buffer = rw e }
+pub ran-refused : {x : Answer Bytes} {entry : Bytes} {n k : ℕ} → x ≡ refusedAt n k → Ran x entry (WriteResult.Refused n k) entry
+ran-refused e = record { answer = sym (ap writeResult e); buffer = rw e }
 
-pub ran-as : {x y : Answer Bytes} {entry : Bytes} {r : Run} {exit : Bytes} → x ≡ y → Ran y entry r exit → Ran x entry r exit
+pub ran-as : {x y : Answer Bytes} {entry : Bytes} {r : WriteResult} {exit : Bytes} → x ≡ y → Ran y entry r exit → Ran x entry r exit
 ran-as e R = rw e R
 
 -- ---- the record
@@ -82,12 +82,12 @@ module _ (Γ : Fields) (ss : Selectors) (rec : Bytes) (room : ℕ) where
         not-clean true q = clash (cc)
         not-clean false q = refl
 
-    pub run-finished : {w : Written} {r : Run} {entry exit : Bytes} → cleanAll (evals ρ ss) ≡ true → w ≡ writtenOf (run ρ ss room) → r ≡ finished w → exit ≡ bufferAfter (run ρ ss room) entry
+    pub run-finished : {w : Written} {r : WriteResult} {entry exit : Bytes} → cleanAll (evals ρ ss) ≡ true → w ≡ writtenOf (run ρ ss room) → r ≡ finished w → exit ≡ bufferAfter (run ρ ss room) entry
         → Ran (recordRun Γ ss rec room) entry r exit
     run-finished {w} {r} {entry} {exit} c h f x = ran-as record-run (go (spacious room (encodeValues (evals ρ ss))) refl)
       where
-        by : (y : Answer Bytes) → run ρ ss room ≡ y → finished (writtenOf y) ≡ runOf y → Ran (run ρ ss room) entry r exit
-        by y q z = record { answer = f ∙ ap finished h ∙ ap (λ (t : Answer Bytes). finished (writtenOf t)) q ∙ z ∙ sym (ap runOf q); buffer = x }
+        by : (y : Answer Bytes) → run ρ ss room ≡ y → finished (writtenOf y) ≡ writeResult y → Ran (run ρ ss room) entry r exit
+        by y q z = record { answer = f ∙ ap finished h ∙ ap (λ (t : Answer Bytes). finished (writtenOf t)) q ∙ z ∙ sym (ap writeResult q); buffer = x }
 
         go : (s : Bool) → spacious room (encodeValues (evals ρ ss)) ≡ s → Ran (run ρ ss room) entry r exit
         go true s = by _ (run-writes ρ ss room c s) refl
@@ -111,10 +111,10 @@ module _ {ρ : Values} {ss : Selectors} {out : Bytes} {r : Direct} {out′ : Byt
   direct-unknown e = direct-as e
 
 -- a run over the same buffer
-pub same-buffer : (Γ : Fields) (ss : Selectors) (rec : Bytes) {out out′ : Bytes} {o : Run} {exit : Bytes} → out′ ≡ out
-    → (o ≡ runOf (recordRun Γ ss rec (length out′))) × (exit ≡ bufferAfter (recordRun Γ ss rec (length out′)) out′) → (o ≡ runOf (recordRun Γ ss rec (length out))) × (exit ≡ bufferAfter (recordRun Γ ss rec (length out)) out)
+pub same-buffer : (Γ : Fields) (ss : Selectors) (rec : Bytes) {out out′ : Bytes} {o : WriteResult} {exit : Bytes} → out′ ≡ out
+    → (o ≡ writeResult (recordRun Γ ss rec (length out′))) × (exit ≡ bufferAfter (recordRun Γ ss rec (length out′)) out′) → (o ≡ writeResult (recordRun Γ ss rec (length out))) × (exit ≡ bufferAfter (recordRun Γ ss rec (length out)) out)
 same-buffer Γ ss rec {o = o} {exit} e R =
-    subst (λ (b : Bytes). (o ≡ runOf (recordRun Γ ss rec (length b))) × (exit ≡ bufferAfter (recordRun Γ ss rec (length b)) b)) e R
+    subst (λ (b : Bytes). (o ≡ writeResult (recordRun Γ ss rec (length b))) × (exit ≡ bufferAfter (recordRun Γ ss rec (length b)) b)) e R
 
 module _ (ρ : Values) (ss : Selectors) {aside₀ : Bytes} (size : 16384 ≡ length aside₀) {r : Transferred} {aside : Bytes}
     (T : TransferredIs (cleanAll (evals ρ ss)) (encodeValues (evals ρ ss)) aside₀ r aside) {len : ℕ} (e : r ≡ Transferred.To len) where
@@ -185,14 +185,14 @@ module _ {incoming : Bytes} {v : Version} {n : ℕ} {plan : Bytes} {count : ℕ}
   }
 
   -- the run of what passed
-  pub run-passed : {r : PlanChecked} (w : 7 ≤ length target) (rec : Bytes) (room : ℕ) {entry : Bytes} {o : Run} {exit : Bytes} (h : r ≡ planChecked (check Γ (fieldsOf (Q .columns)) ss)) (f : r ≡ PlanChecked.Passed)
-      → (o ≡ runOf (recordRun (fieldsOf (passed-at w h f .columns .columns)) (passed-at w h f .selectors .trees) rec room))
+  pub run-passed : {r : PlanChecked} (w : 7 ≤ length target) (rec : Bytes) (room : ℕ) {entry : Bytes} {o : WriteResult} {exit : Bytes} (h : r ≡ planChecked (check Γ (fieldsOf (Q .columns)) ss)) (f : r ≡ PlanChecked.Passed)
+      → (o ≡ writeResult (recordRun (fieldsOf (passed-at w h f .columns .columns)) (passed-at w h f .selectors .trees) rec room))
       × (exit ≡ bufferAfter (recordRun (fieldsOf (passed-at w h f .columns .columns)) (passed-at w h f .selectors .trees) rec room) entry)
       → Ran (checkedRun Γ (fieldsOf (Q .columns)) ss rec room) entry o exit
   unfolding answered passed-at
   run-passed w rec room {entry} {o} {exit} h f (a, b) =
       let y : checkedRun Γ (fieldsOf (Q .columns)) ss rec room ≡ recordRun (fieldsOf (T .columns .columns)) (T .selectors .trees) rec room = over-record rec room (sym h ∙ f) in
-      record { answer = a ∙ sym (ap runOf y); buffer = b ∙ sym (ap (λ (x : Answer Bytes). bufferAfter x entry) y) }
+      record { answer = a ∙ sym (ap writeResult y); buffer = b ∙ sym (ap (λ (x : Answer Bytes). bufferAfter x entry) y) }
 
   pub check-refused : {r : PlanChecked} {j k : ℕ} (rec : Bytes) (room : ℕ) → r ≡ planChecked (check Γ (fieldsOf (Q .columns)) ss) → r ≡ PlanChecked.Refused j k
       → checkedRun Γ (fieldsOf (Q .columns)) ss rec room ≡ refusedAt j k
@@ -229,8 +229,8 @@ module _ (incoming target bytes rec : Bytes) (room : ℕ) where
 
 -- ---- the last test
 
-pub finished-written : {w : Written} {n : ℕ} → w ≡ Written.Written n → Run.Written n ≡ finished w
+pub finished-written : {w : Written} {n : ℕ} → w ≡ Written.Written n → WriteResult.Written n ≡ finished w
 finished-written e = sym (ap finished e)
 
-pub finished-long : {w : Written} → w ≡ Written.TooLong → Run.Refused 45 0 ≡ finished w
+pub finished-long : {w : Written} → w ≡ Written.TooLong → WriteResult.Refused 45 0 ≡ finished w
 finished-long e = sym (ap finished e)

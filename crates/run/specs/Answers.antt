@@ -1,4 +1,4 @@
--- Document 01, "Running": what an answer of the run stands for, and its parts.
+-- Document 01, "Running": the parts of a run.
 use Prim.Native.Nat.{ℕ, _≤_}
 use mathlib.Core.Path.{_≡_}
 use mathlib.Core.Bool.{true}
@@ -16,21 +16,16 @@ use Rattle.plan.specs.Read.{longestPlan}
 use Rattle.plan.specs.Check.{check}
 use Rattle.plan.specs.Run.{evals, cleanAll, run}
 use Rattle.plan.specs.Calls.{readAt, bufferAfter}
+use Rattle.plan.specs.declared.answer.WriteResult.{WriteResult}
 use Rattle.walk.specs.Stands.{SelectorsAt}
 use Rattle.output.specs.Answers.{writtenOf}
 use Rattle.output.specs.declared.write.Written.{Written}
 use Rattle.run.specs.declared.single_pass.Direct.{Direct}
-use Rattle.run.specs.declared.run.Run.{Run}
-
--- the output's length, or the refusal's number and place
-abbrev pub runOf : Answer Bytes → Run
-runOf (accepted b) = Run.Written (length b)
-runOf (refusedAt n k) = Run.Refused n k
 
 -- an output that is too long is 45
-abbrev pub finished : Written → Run
-finished (Written.Written len) = Run.Written len
-finished Written.TooLong = Run.Refused 45 0
+abbrev pub finished : Written → WriteResult
+finished (Written.Written len) = WriteResult.Written len
+finished Written.TooLong = WriteResult.Refused 45 0
 
 -- the record, then the run
 abbrev pub recordRun : Fields → Selectors → Bytes → ℕ → Answer Bytes

@@ -6,9 +6,9 @@ ghost use Rattle.layout.specs.Tree.{Fields, fieldsOf};
 ghost use Rattle.layout.specs.Stands.{ColumnsAt};
 ghost use Rattle.values.specs.Record.{RecordFits};
 ghost use Rattle.plan.specs.Selector.{Selectors};
-ghost use Rattle.plan.specs.Calls.{runPlan, bufferAfter};
+ghost use Rattle.plan.specs.Calls.{runPlan, bufferAfter, writeResult};
 ghost use Rattle.checker.specs.Tops.{TopsAt};
-ghost use Rattle.run.specs.Answers.{runOf, finished, checkedRun, recordRun, PassedAt};
+ghost use Rattle.run.specs.Answers.{finished, checkedRun, recordRun, PassedAt};
 use crate::single_pass::Direct;
 use crate::single_pass::write_direct;
 use checker::tops::PlanChecked;
@@ -20,24 +20,19 @@ use layout::version::Version;
 use output::write::Written;
 use output::write::write_output;
 use overflow::overflows::overflows;
+use plan::answer::WriteResult;
 use plan::read::PlanRead;
 use plan::read::read_plan;
 use values::record::RecordRead;
 use values::record::read_record;
 
-// The output's length; or a refusal's number and place.
-pub enum Run {
-    Written(usize),
-    Refused(u8, u16),
-}
-
 // Refusal 45 where the output is too long.
-fn finish(w: Written) -> Run
+fn finish(w: Written) -> WriteResult
     ensures { λ r. ⌜ r ≡ finished w ⌝ }
 {
     match w {
-        Written::Written(len) => Run::Written(len),
-        Written::TooLong => Run::Refused(45, 0),
+        Written::Written(len) => WriteResult::Written(len),
+        Written::TooLong => WriteResult::Refused(45, 0),
     }
 }
 
@@ -53,9 +48,9 @@ fn run_general(
     m: u16,
     rec: &[u8],
     output: &mut [u8],
-) -> Run
+) -> WriteResult
     requires { ⌜ ((P : PassedAt (now incoming) v n (now plan) count (now target) vt m) × RecordFits (fieldsOf (P .columns .columns)) (now rec)) ⌝ }
-    ensures { λ r. ⌜ ((P : PassedAt (now (incoming .entry)) v n (now (plan .entry)) count (now (target .entry)) vt m) → RecordFits (fieldsOf (P .columns .columns)) (now (rec .entry)) → (r ≡ runOf (recordRun (fieldsOf (P .columns .columns)) (P .selectors .trees) (now (rec .entry)) (length (now (output .entry))))) × (now (output .exit) ≡ bufferAfter (recordRun (fieldsOf (P .columns .columns)) (P .selectors .trees) (now (rec .entry)) (length (now (output .entry)))) (now (output .entry)))) ⌝ }
+    ensures { λ r. ⌜ ((P : PassedAt (now (incoming .entry)) v n (now (plan .entry)) count (now (target .entry)) vt m) → RecordFits (fieldsOf (P .columns .columns)) (now (rec .entry)) → (r ≡ writeResult (recordRun (fieldsOf (P .columns .columns)) (P .selectors .trees) (now (rec .entry)) (length (now (output .entry))))) × (now (output .exit) ≡ bufferAfter (recordRun (fieldsOf (P .columns .columns)) (P .selectors .trees) (now (rec .entry)) (length (now (output .entry)))) (now (output .entry)))) ⌝ }
 {
     let first = Cursor { at: 7 };
     if overflows(
@@ -71,7 +66,7 @@ fn run_general(
         m,
         first,
     ) {
-        return Run::Refused(44, 0);
+        return WriteResult::Refused(44, 0);
     }
     finish(write_output(incoming, v, n, first, rec, plan, count, first, output))
 }
@@ -88,9 +83,9 @@ fn run_record(
     m: u16,
     rec: &[u8],
     output: &mut [u8],
-) -> Run
+) -> WriteResult
     requires { ⌜ PassedAt (now incoming) v n (now plan) count (now target) vt m ⌝ }
-    ensures { λ r. ⌜ ((P : PassedAt (now (incoming .entry)) v n (now (plan .entry)) count (now (target .entry)) vt m) → (r ≡ runOf (recordRun (fieldsOf (P .columns .columns)) (P .selectors .trees) (now (rec .entry)) (length (now (output .entry))))) × (now (output .exit) ≡ bufferAfter (recordRun (fieldsOf (P .columns .columns)) (P .selectors .trees) (now (rec .entry)) (length (now (output .entry)))) (now (output .entry)))) ⌝ }
+    ensures { λ r. ⌜ ((P : PassedAt (now (incoming .entry)) v n (now (plan .entry)) count (now (target .entry)) vt m) → (r ≡ writeResult (recordRun (fieldsOf (P .columns .columns)) (P .selectors .trees) (now (rec .entry)) (length (now (output .entry))))) × (now (output .exit) ≡ bufferAfter (recordRun (fieldsOf (P .columns .columns)) (P .selectors .trees) (now (rec .entry)) (length (now (output .entry)))) (now (output .entry)))) ⌝ }
 {
     match read_record(incoming, v, n, Cursor { at: 7 }, rec) {
         RecordRead::Fits => match write_direct(incoming, v, n, rec, plan, count, output) {
@@ -99,7 +94,7 @@ fn run_record(
                 run_general(incoming, v, n, plan, count, target, vt, m, rec, output)
             }
         },
-        RecordRead::Refused(k) => Run::Refused(k, 0),
+        RecordRead::Refused(k) => WriteResult::Refused(k, 0),
     }
 }
 
@@ -115,19 +110,25 @@ fn run_read(
     m: u16,
     rec: &[u8],
     output: &mut [u8],
-) -> Run
+) -> WriteResult
     requires { ⌜ ((Γ : Fields) × (ss : Selectors) × TopsAt (now incoming) v n (now plan) count 7 Γ ss) ⌝ }
     requires { ⌜ ColumnsAt vt 16 (now target) m 7 × (7 ≤ length (now target)) ⌝ }
-    ensures { λ r. ⌜ ((Γ : Fields) (ss : Selectors) (Q : ColumnsAt vt 16 (now (target .entry)) m 7) → TopsAt (now (incoming .entry)) v n (now (plan .entry)) count 7 Γ ss → (r ≡ runOf (checkedRun Γ (fieldsOf (Q .columns)) ss (now (rec .entry)) (length (now (output .entry))))) × (now (output .exit) ≡ bufferAfter (checkedRun Γ (fieldsOf (Q .columns)) ss (now (rec .entry)) (length (now (output .entry)))) (now (output .entry)))) ⌝ }
+    ensures { λ r. ⌜ ((Γ : Fields) (ss : Selectors) (Q : ColumnsAt vt 16 (now (target .entry)) m 7) → TopsAt (now (incoming .entry)) v n (now (plan .entry)) count 7 Γ ss → (r ≡ writeResult (checkedRun Γ (fieldsOf (Q .columns)) ss (now (rec .entry)) (length (now (output .entry))))) × (now (output .exit) ≡ bufferAfter (checkedRun Γ (fieldsOf (Q .columns)) ss (now (rec .entry)) (length (now (output .entry)))) (now (output .entry)))) ⌝ }
 {
     match check_read(incoming, v, n, plan, count, target, vt, m) {
         PlanChecked::Passed => run_record(incoming, v, n, plan, count, target, vt, m, rec, output),
-        PlanChecked::Refused(j, k) => Run::Refused(j, k),
+        PlanChecked::Refused(j, k) => WriteResult::Refused(j, k),
     }
 }
 
-pub fn run_plan(incoming: &[u8], target: &[u8], plan: &[u8], rec: &[u8], output: &mut [u8]) -> Run
-    ensures { λ r. ⌜ r ≡ runOf (runPlan (now (incoming .entry)) (now (target .entry)) (now (plan .entry)) (now (rec .entry)) (length (now (output .entry)))) ⌝ }
+pub fn run_plan(
+    incoming: &[u8],
+    target: &[u8],
+    plan: &[u8],
+    rec: &[u8],
+    output: &mut [u8],
+) -> WriteResult
+    ensures { λ r. ⌜ r ≡ writeResult (runPlan (now (incoming .entry)) (now (target .entry)) (now (plan .entry)) (now (rec .entry)) (length (now (output .entry)))) ⌝ }
     ensures { λ _. ⌜ now (output .exit) ≡ bufferAfter (runPlan (now (incoming .entry)) (now (target .entry)) (now (plan .entry)) (now (rec .entry)) (length (now (output .entry)))) (now (output .entry)) ⌝ }
 {
     match read_layout(incoming) {
@@ -153,10 +154,10 @@ pub fn run_plan(incoming: &[u8], target: &[u8], plan: &[u8], rec: &[u8], output:
                     rec,
                     output,
                 ),
-                PlanRead::Refused(k) => Run::Refused(k, 0),
+                PlanRead::Refused(k) => WriteResult::Refused(k, 0),
             },
-            LayoutRead::Refused(k) => Run::Refused(k, 2),
+            LayoutRead::Refused(k) => WriteResult::Refused(k, 2),
         },
-        LayoutRead::Refused(k) => Run::Refused(k, 1),
+        LayoutRead::Refused(k) => WriteResult::Refused(k, 1),
     }
 }

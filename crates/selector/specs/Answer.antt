@@ -5,9 +5,8 @@ use Rattle.layout.specs.Tree.{Layout}
 use lib.ListN.{length}
 use Rattle.layout.specs.Bytes.{Bytes}
 use Rattle.plan.specs.Result.{Answer, accepted, refusedAt}
-use Rattle.calls.specs.declared.write.Build.{Build}
+use Rattle.plan.specs.declared.answer.WriteResult.{WriteResult}
 use Rattle.checker.specs.declared.tops.PlanChecked.{PlanChecked}
-use Rattle.run.specs.declared.run.Run.{Run}
 
 -- the number (0: accepted) in the upper half; in the lower the place of a refusal, the length of a result, or 0
 abbrev pub answer : ℕ → ℕ → ℕ
@@ -23,10 +22,9 @@ abbrev pub writtenAnswer : Answer Bytes → ℕ
 writtenAnswer (accepted b) = answer 0 (length b)
 writtenAnswer (refusedAt n k) = answer n k
 
--- the same of a builder's answer
-abbrev pub buildAnswer : Build → ℕ
-buildAnswer (Build.Written len) = answer 0 len
-buildAnswer (Build.Refused n k) = answer n k
+abbrev pub writeAnswer : WriteResult → ℕ
+writeAnswer (WriteResult.Written len) = answer 0 len
+writeAnswer (WriteResult.Refused n k) = answer n k
 
 -- a check: 0 where it passed
 abbrev pub checkedAnswer : Answer (Unit {0}) → ℕ
@@ -36,8 +34,3 @@ checkedAnswer (refusedAt n k) = answer n k
 abbrev pub checkAnswer : PlanChecked → ℕ
 checkAnswer PlanChecked.Passed = answer 0 0
 checkAnswer (PlanChecked.Refused n k) = answer n k
-
--- and of a run's answer
-abbrev pub runAnswer : Run → ℕ
-runAnswer (Run.Written len) = answer 0 len
-runAnswer (Run.Refused n k) = answer n k

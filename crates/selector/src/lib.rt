@@ -7,16 +7,15 @@ ghost use Rattle.layout.specs.Layout.{layout};
 ghost use Rattle.rules.specs.Policies.{policyOf};
 ghost use Rattle.plan.specs.Calls.{checkPlan, runPlan, bufferAfter};
 ghost use Rattle.matching.specs.Calls.{buildByName, buildByNumber};
-ghost use Rattle.selector.specs.Answer.{answer, readAnswer, buildAnswer, writtenAnswer, checkedAnswer, checkAnswer, runAnswer};
+ghost use Rattle.selector.specs.Answer.{answer, readAnswer, writeAnswer, writtenAnswer, checkedAnswer, checkAnswer};
 use calls::build::build_by_name;
 use calls::build::build_by_number;
-use calls::write::Build;
 use checker::tops::PlanChecked;
 use checker::tops::check_plan;
 use layout::read::LayoutRead;
 use layout::read::read_layout;
+use plan::answer::WriteResult;
 use rules::policy::Policy;
-use run::run::Run;
 use run::run::run_plan;
 
 fn refusal(number: u8, place: u32) -> u64
@@ -39,12 +38,12 @@ pub extern "C" fn selector_read_layout(bytes: &[u8]) -> u64
     }
 }
 
-fn built(build: Build) -> u64
-    ensures { λ r. ⌜ r ≡ buildAnswer build ⌝ }
+fn written(result: WriteResult) -> u64
+    ensures { λ r. ⌜ r ≡ writeAnswer result ⌝ }
 {
-    match build {
-        Build::Written(len) => len as u64,
-        Build::Refused(n, place) => refusal(n, place as u32),
+    match result {
+        WriteResult::Written(len) => len as u64,
+        WriteResult::Refused(n, place) => refusal(n, place as u32),
     }
 }
 
@@ -58,7 +57,7 @@ pub extern "C" fn selector_build_by_name(
     ensures { λ r. ⌜ r ≡ writtenAnswer (buildByName (policyOf policy) (now (incoming .entry)) (now (target .entry)) (length (now (plan .entry)))) ⌝ }
     ensures { λ _. ⌜ now (plan .exit) ≡ bufferAfter (buildByName (policyOf policy) (now (incoming .entry)) (now (target .entry)) (length (now (plan .entry)))) (now (plan .entry)) ⌝ }
 {
-    built(build_by_name(Policy::from_word(policy), incoming, target, plan))
+    written(build_by_name(Policy::from_word(policy), incoming, target, plan))
 }
 
 #[no_mangle]
@@ -73,7 +72,7 @@ pub extern "C" fn selector_build_by_number(
     ensures { λ r. ⌜ r ≡ writtenAnswer (buildByNumber (policyOf policy) «source_index» (now (incoming .entry)) (now (target .entry)) (now (defaults .entry)) (length (now (plan .entry)))) ⌝ }
     ensures { λ _. ⌜ now (plan .exit) ≡ bufferAfter (buildByNumber (policyOf policy) «source_index» (now (incoming .entry)) (now (target .entry)) (now (defaults .entry)) (length (now (plan .entry)))) (now (plan .entry)) ⌝ }
 {
-    built(build_by_number(
+    written(build_by_number(
         Policy::from_word(policy),
         source_index,
         incoming,
@@ -99,15 +98,6 @@ pub extern "C" fn selector_check_plan(incoming: &[u8], target: &[u8], plan: &[u8
     checked(check_plan(incoming, target, plan))
 }
 
-fn ran(run: Run) -> u64
-    ensures { λ r. ⌜ r ≡ runAnswer run ⌝ }
-{
-    match run {
-        Run::Written(len) => len as u64,
-        Run::Refused(n, place) => refusal(n, place as u32),
-    }
-}
-
 #[no_mangle]
 pub extern "C" fn selector_run(
     incoming: &[u8],
@@ -119,5 +109,5 @@ pub extern "C" fn selector_run(
     ensures { λ r. ⌜ r ≡ writtenAnswer (runPlan (now (incoming .entry)) (now (target .entry)) (now (plan .entry)) (now (rec .entry)) (length (now (output .entry)))) ⌝ }
     ensures { λ _. ⌜ now (output .exit) ≡ bufferAfter (runPlan (now (incoming .entry)) (now (target .entry)) (now (plan .entry)) (now (rec .entry)) (length (now (output .entry)))) (now (output .entry)) ⌝ }
 {
-    ran(run_plan(incoming, target, plan, rec, output))
+    written(run_plan(incoming, target, plan, rec, output))
 }

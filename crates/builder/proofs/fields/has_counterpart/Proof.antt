@@ -1,7 +1,7 @@
 -- `builder::fields::has_counterpart` meets its contract. Assumes nothing.
 use denote.Ref.{now}
 use Rattle.layout.specs.Answers.{labelAt}
-use Rattle.matching.specs.Build.{counterpart}
+use Rattle.layout.specs.Find.{counterpart}
 use Rattle.builder.proofs.Names.{found-some, found-none}
 use borrow.Author.Needs.{needs}
 use Rattle.builder.proofs.fields.has_counterpart.Statement.{statement}

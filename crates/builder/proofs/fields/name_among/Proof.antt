@@ -2,7 +2,8 @@
 use Rattle.layout.specs.Answers.{spanAt}
 use Rattle.layout.specs.Find.{columnNamed}
 use denote.Ref.{now}
-use Rattle.builder.proofs.Names.{found-some, found-none, by-name}
+use Rattle.layout.proofs.Finding.{by-name}
+use Rattle.builder.proofs.Names.{found-some, found-none}
 use borrow.Author.Needs.{needs}
 use Rattle.builder.proofs.fields.name_among.Statement.{statement}
 use Rattle.builder.proofs.fields.name_among.Tie as tie

@@ -36,6 +36,6 @@ index-columns-spec =
     (λ c. (filling-room (c .before .before .before .before .before .before .loop .inv .0) (c .before .before .before .before .before .loop-test .taken), filling-last (c .before .before .before .before .before .before .loop .inv .0) (c .before .before .before .before .before .loop-test .taken)))
     (λ c. search needs)
     (λ c. search needs)
-    (λ c. (filling-more (c .before .before .before .before .before .before .before .loop .inv .0) (c .before .before .before .before .before .before .loop-test .taken) (c .before .before .before .before .if2 .left) (c .before .before .before .pass .ensures) (c .before .e .given .1), length-set (c .before .before .before .before .before .before .before .loop .starts) (c .before .before .before .before .before .before .before .loop .j) (c .before .before .before .before .before .before .before .loop .at) ∙ c .before .before .before .before .before .before .before .loop .inv .1))
+    (λ c. (filling-more (c .before .before .before .before .before .before .before .loop .inv .0) (c .before .before .before .before .before .before .loop-test .taken) (c .before .before .before .before .if2 .left) (c .before .before .before .pass-columns .ensures) (c .before .e .given .1), length-set (c .before .before .before .before .before .before .before .loop .starts) (c .before .before .before .before .before .before .before .loop .j) (c .before .before .before .before .before .before .before .loop .at) ∙ c .before .before .before .before .before .before .before .loop .inv .1))
     (λ c. search needs)
     (λ c. (c .before .loop .inv .0 .room, filling-end (c .before .loop .inv .0))))

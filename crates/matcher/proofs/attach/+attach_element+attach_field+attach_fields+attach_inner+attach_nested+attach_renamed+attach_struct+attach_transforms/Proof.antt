@@ -6,7 +6,8 @@ use Rattle.builder.proofs.Taking.{part-struct, part-no-struct, part-list, part-
 use Rattle.builder.proofs.Rows.{makes-room, list-maps, array-maps}
 use Rattle.builder.proofs.Matching.{leaf-none, makes-refused, makes-as}
 use Rattle.builder.specs.Answers.{elementOf, defaultsAt}
-use Rattle.matching.specs.Build.{structPart, listPart, arrayPart, listSelector, arraySelector, counterpart}
+use Rattle.layout.specs.Find.{counterpart}
+use Rattle.matching.specs.Build.{structPart, listPart, arrayPart, listSelector, arraySelector}
 use Rattle.plan.specs.Selector.{position, listMapping, arrayMapping}
 use Rattle.forms.proofs.Writing.{extent, text-long}
 use Rattle.layout.proofs.View.{deep, leaf-at, never-headless}
@@ -55,7 +56,6 @@ use Rattle.builder.proofs.conditions.put_null_cast.Reads as put-null-cast-reads
 use Rattle.builder.proofs.conditions.same_element.Reads as same-element-reads
 use Rattle.builder.proofs.conditions.struct_fault.Reads as struct-fault-reads
 use Rattle.builder.proofs.default.put_missing.Reads as put-missing-reads
-use Rattle.builder.proofs.fields.find_counterpart.Reads as find-counterpart-reads
 use Rattle.builder.proofs.leaf.attach_leaf.Reads as attach-leaf-reads
 use Rattle.builder.proofs.parts.array_part.Reads as array-part-reads
 use Rattle.builder.proofs.parts.element_part.Reads as element-part-reads
@@ -67,6 +67,7 @@ use Rattle.builder.proofs.write.put_short.Reads as put-short-reads
 use Rattle.forms.proofs.write.write_text.Reads as write-text-reads
 use Rattle.layout.proofs.cursor.Cursor.head.Reads as head-reads
 use Rattle.layout.proofs.cursor.Cursor.label.Reads as label-reads
+use Rattle.layout.proofs.find.find_counterpart.Reads as find-counterpart-reads
 use Rattle.layout.proofs.walk.skip_type.Reads as skip-type-reads
 use Rattle.store.proofs.put.Reads as put-reads
 use Rattle.matcher.proofs.attach.+attach_element+attach_field+attach_fields+attach_inner+attach_nested+attach_renamed+attach_struct+attach_transforms.{

@@ -1,9 +1,9 @@
--- `builder::fields::find_counterpart` meets its contract. Assumes nothing.
+-- `layout::find::find_counterpart` meets its contract: a case for each version. Assumes nothing.
 use denote.Ref.{now}
-use Rattle.builder.proofs.Names.{counterpart-name, counterpart-id}
+use Rattle.layout.proofs.Finding.{counterpart-name, counterpart-id}
 use borrow.Author.Needs.{needs}
-use Rattle.builder.proofs.fields.find_counterpart.Statement.{statement}
-use Rattle.builder.proofs.fields.find_counterpart.Tie as tie
+use Rattle.layout.proofs.find.find_counterpart.Statement.{statement}
+use Rattle.layout.proofs.find.find_counterpart.Tie as tie
 
 pub find-counterpart-spec : {M : Type 1} → statement M
 find-counterpart-spec =

@@ -1,34 +1,31 @@
 -- The proof of the cycle of calls that reads selectors: each way has its law in `Moves`. The measure is 4 for each level left. Assumes nothing.
-use Rattle.plan.proofs.Moves.{array-to, array-stopped, list-to, list-stopped, cast-to, cast-untyped, cast-stopped, rename-to, rename-stopped, struct-to, struct-uncounted, struct-stopped, rest-position, rest-constant, rest-cast, rest-rename, rest-struct, rest-list, rest-array, rest-unknown, selector-deep, selector-to, selector-stopped, passing-none, passing-all, passing-stopped, passing-more, Passing}
+use Rattle.plan.proofs.Moves.{array-to, array-stopped, list-to, list-stopped, cast-to, cast-untyped, cast-stopped, rename-to, rename-stopped, struct-to, struct-uncounted, struct-stopped, rest-position, rest-constant, rest-cast, rest-rename, rest-struct, rest-element, rest-unknown, selector-deep, selector-to, selector-stopped, passing-none, passing-all, passing-stopped, passing-more, Passing}
 use borrow.Author.Needs.{needs}
 use Prim.Native.Nat.{ℕ, _<_, _+_, _-_, _*_}
 use Rattle.plan.specs.Read.{selector}
 use borrow.Fn.Kinds.{In}
 use borrow.Fn.PlainCycle.{Measures, is, falls, and}
-use Rattle.plan.proofs.read.read_array.Reads as read-array
-use Rattle.plan.proofs.read.read_array.Kinds as read-array-kinds
-use Rattle.plan.proofs.read.+read_array+read_cast+read_list+read_rename+read_rest+read_selector+read_selectors+read_struct.Lts-read_array as read-array-lts
 use Rattle.plan.proofs.read.read_cast.Reads as read-cast
 use Rattle.plan.proofs.read.read_cast.Kinds as read-cast-kinds
-use Rattle.plan.proofs.read.+read_array+read_cast+read_list+read_rename+read_rest+read_selector+read_selectors+read_struct.Lts-read_cast as read-cast-lts
-use Rattle.plan.proofs.read.read_list.Reads as read-list
-use Rattle.plan.proofs.read.read_list.Kinds as read-list-kinds
-use Rattle.plan.proofs.read.+read_array+read_cast+read_list+read_rename+read_rest+read_selector+read_selectors+read_struct.Lts-read_list as read-list-lts
+use Rattle.plan.proofs.read.+read_cast+read_element_mapping+read_rename+read_rest+read_selector+read_selectors+read_struct.Lts-read_cast as read-cast-lts
+use Rattle.plan.proofs.read.read_element_mapping.Reads as read-element-mapping
+use Rattle.plan.proofs.read.read_element_mapping.Kinds as read-element-mapping-kinds
+use Rattle.plan.proofs.read.+read_cast+read_element_mapping+read_rename+read_rest+read_selector+read_selectors+read_struct.Lts-read_element_mapping as read-element-mapping-lts
 use Rattle.plan.proofs.read.read_rename.Reads as read-rename
 use Rattle.plan.proofs.read.read_rename.Kinds as read-rename-kinds
-use Rattle.plan.proofs.read.+read_array+read_cast+read_list+read_rename+read_rest+read_selector+read_selectors+read_struct.Lts-read_rename as read-rename-lts
+use Rattle.plan.proofs.read.+read_cast+read_element_mapping+read_rename+read_rest+read_selector+read_selectors+read_struct.Lts-read_rename as read-rename-lts
 use Rattle.plan.proofs.read.read_rest.Reads as read-rest
 use Rattle.plan.proofs.read.read_rest.Kinds as read-rest-kinds
-use Rattle.plan.proofs.read.+read_array+read_cast+read_list+read_rename+read_rest+read_selector+read_selectors+read_struct.Lts-read_rest as read-rest-lts
+use Rattle.plan.proofs.read.+read_cast+read_element_mapping+read_rename+read_rest+read_selector+read_selectors+read_struct.Lts-read_rest as read-rest-lts
 use Rattle.plan.proofs.read.read_selector.Reads as read-selector
 use Rattle.plan.proofs.read.read_selector.Kinds as read-selector-kinds
-use Rattle.plan.proofs.read.+read_array+read_cast+read_list+read_rename+read_rest+read_selector+read_selectors+read_struct.Lts-read_selector as read-selector-lts
+use Rattle.plan.proofs.read.+read_cast+read_element_mapping+read_rename+read_rest+read_selector+read_selectors+read_struct.Lts-read_selector as read-selector-lts
 use Rattle.plan.proofs.read.read_selectors.Reads as read-selectors
 use Rattle.plan.proofs.read.read_selectors.Kinds as read-selectors-kinds
-use Rattle.plan.proofs.read.+read_array+read_cast+read_list+read_rename+read_rest+read_selector+read_selectors+read_struct.Lts-read_selectors as read-selectors-lts
+use Rattle.plan.proofs.read.+read_cast+read_element_mapping+read_rename+read_rest+read_selector+read_selectors+read_struct.Lts-read_selectors as read-selectors-lts
 use Rattle.plan.proofs.read.read_struct.Reads as read-struct
 use Rattle.plan.proofs.read.read_struct.Kinds as read-struct-kinds
-use Rattle.plan.proofs.read.+read_array+read_cast+read_list+read_rename+read_rest+read_selector+read_selectors+read_struct.Lts-read_struct as read-struct-lts
+use Rattle.plan.proofs.read.+read_cast+read_element_mapping+read_rename+read_rest+read_selector+read_selectors+read_struct.Lts-read_struct as read-struct-lts
 use Rattle.layout.proofs.cursor.Cursor.byte.Reads as byte-reads
 use Rattle.layout.proofs.cursor.Cursor.short.Reads as short-reads
 use Rattle.plan.proofs.read.read_constant.Reads as read-constant-reads
@@ -36,21 +33,18 @@ use Rattle.plan.proofs.read.read_data_type.Reads as read-data-type-read
 use Rattle.plan.proofs.read.read_option.Reads as read-option-reads
 use Rattle.plan.proofs.read.read_position.Reads as read-position-reads
 use Rattle.plan.proofs.read.read_text.Reads as read-text-reads
-use Rattle.plan.proofs.read.+read_array+read_cast+read_list+read_rename+read_rest+read_selector+read_selectors+read_struct.{
+use Rattle.plan.proofs.read.+read_cast+read_element_mapping+read_rename+read_rest+read_selector+read_selectors+read_struct.{
   statement,
 }
-use Rattle.plan.proofs.read.+read_array+read_cast+read_list+read_rename+read_rest+read_selector+read_selectors+read_struct.Tie.{
+use Rattle.plan.proofs.read.+read_cast+read_element_mapping+read_rename+read_rest+read_selector+read_selectors+read_struct.Tie.{
   close,
 }
-
-abbrev μ-read-array : Measures 1 read-array-kinds.ps ℕ
-μ-read-array κs a = 4 * (a .1 .0) + 2
 
 abbrev μ-read-cast : Measures 1 read-cast-kinds.ps ℕ
 μ-read-cast κs a = 4 * (a .1 .0) + 2
 
-abbrev μ-read-list : Measures 1 read-list-kinds.ps ℕ
-μ-read-list κs a = 4 * (a .1 .0) + 2
+abbrev μ-read-element-mapping : Measures 1 read-element-mapping-kinds.ps ℕ
+μ-read-element-mapping κs a = 4 * (a .1 .0) + 2
 
 abbrev μ-read-rename : Measures 1 read-rename-kinds.ps ℕ
 μ-read-rename κs a = 4 * (a .1 .0) + 2
@@ -67,14 +61,6 @@ abbrev μ-read-selectors : Measures 1 read-selectors-kinds.ps ℕ
 abbrev μ-read-struct : Measures 1 read-struct-kinds.ps ℕ
 μ-read-struct κs a = 4 * (a .1 .0) + 2
 
-abbrev read-array-at : ℕ → In 1 read-array-kinds.ps
-read-array-at t =
-    and 1 read-array-kinds.ps (is 1 read-array-kinds.ps μ-read-array t) read-array.Pre
-
-abbrev read-array-below : ℕ → In 1 read-array-kinds.ps
-read-array-below t =
-    and 1 read-array-kinds.ps (falls 1 read-array-kinds.ps _<_ μ-read-array t) read-array.Pre
-
 abbrev read-cast-at : ℕ → In 1 read-cast-kinds.ps
 read-cast-at t = and 1 read-cast-kinds.ps (is 1 read-cast-kinds.ps μ-read-cast t) read-cast.Pre
 
@@ -82,12 +68,12 @@ abbrev read-cast-below : ℕ → In 1 read-cast-kinds.ps
 read-cast-below t =
     and 1 read-cast-kinds.ps (falls 1 read-cast-kinds.ps _<_ μ-read-cast t) read-cast.Pre
 
-abbrev read-list-at : ℕ → In 1 read-list-kinds.ps
-read-list-at t = and 1 read-list-kinds.ps (is 1 read-list-kinds.ps μ-read-list t) read-list.Pre
+abbrev read-element-mapping-at : ℕ → In 1 read-element-mapping-kinds.ps
+read-element-mapping-at t = and 1 read-element-mapping-kinds.ps (is 1 read-element-mapping-kinds.ps μ-read-element-mapping t) read-element-mapping.Pre
 
-abbrev read-list-below : ℕ → In 1 read-list-kinds.ps
-read-list-below t =
-    and 1 read-list-kinds.ps (falls 1 read-list-kinds.ps _<_ μ-read-list t) read-list.Pre
+abbrev read-element-mapping-below : ℕ → In 1 read-element-mapping-kinds.ps
+read-element-mapping-below t =
+    and 1 read-element-mapping-kinds.ps (falls 1 read-element-mapping-kinds.ps _<_ μ-read-element-mapping t) read-element-mapping.Pre
 
 abbrev read-rename-at : ℕ → In 1 read-rename-kinds.ps
 read-rename-at t =
@@ -140,20 +126,17 @@ abbrev read-struct-below : ℕ → In 1 read-struct-kinds.ps
 read-struct-below t =
     and 1 read-struct-kinds.ps (falls 1 read-struct-kinds.ps _<_ μ-read-struct t) read-struct.Pre
 
-abbrev read-array-claims : ℕ → read-array-lts.Claims
-read-array-claims t = (read-selector-below t, read-selector.Post)
-
 abbrev read-cast-claims : ℕ → read-cast-lts.Claims
 read-cast-claims t = (read-selector-below t, read-selector.Post, read-data-type-reads.Asked, read-data-type-reads.Learnt, read-option-reads.Asked, read-option-reads.Learnt)
 
-abbrev read-list-claims : ℕ → read-list-lts.Claims
-read-list-claims t = (read-selector-below t, read-selector.Post)
+abbrev read-element-mapping-claims : ℕ → read-element-mapping-lts.Claims
+read-element-mapping-claims t = (read-selector-below t, read-selector.Post)
 
 abbrev read-rename-claims : ℕ → read-rename-lts.Claims
 read-rename-claims t = (read-selector-below t, read-selector.Post, read-text-reads.Asked, read-text-reads.Learnt)
 
 abbrev read-rest-claims : ℕ → read-rest-lts.Claims
-read-rest-claims t = (read-position-reads.Asked, read-position-reads.Learnt, read-constant-reads.Asked, read-constant-reads.Learnt, read-cast-below t, read-cast.Post, read-rename-below t, read-rename.Post, read-struct-below t, read-struct.Post, read-list-below t, read-list.Post, read-array-below t, read-array.Post)
+read-rest-claims t = (read-position-reads.Asked, read-position-reads.Learnt, read-constant-reads.Asked, read-constant-reads.Learnt, read-cast-below t, read-cast.Post, read-rename-below t, read-rename.Post, read-struct-below t, read-struct.Post, read-element-mapping-below t, read-element-mapping.Post)
 
 abbrev read-selector-claims : ℕ → read-selector-lts.Claims
 read-selector-claims t = (byte-reads.Asked, byte-reads.Learnt, read-rest-below t, read-rest.Post)
@@ -170,26 +153,16 @@ read-selectors-Inv-loop s depth n at₀ i₀ at i = Passing (selector depth) s n
 abbrev read-selectors-μ-loop : read-selectors-lts.MeasureT-loop
 read-selectors-μ-loop s depth n at₀ i₀ at i = n - i
 
-pub +read-array+read-cast+read-list+read-rename+read-rest+read-selector+read-selectors+read-struct-spec : {M : Type 1} → statement M
-+read-array+read-cast+read-list+read-rename+read-rest+read-selector+read-selectors+read-struct-spec =
+pub +read-cast+read-element-mapping+read-rename+read-rest+read-selector+read-selectors+read-struct-spec : {M : Type 1} → statement M
++read-cast+read-element-mapping+read-rename+read-rest+read-selector+read-selectors+read-struct-spec =
     close
-    μ-read-array
     μ-read-cast
-    μ-read-list
+    μ-read-element-mapping
     μ-read-rename
     μ-read-rest
     μ-read-selector
     μ-read-selectors
     μ-read-struct
-    (λ t. read-array-lts.spec (read-array-claims t)
-    (read-array-at t)
-    read-array.Post
-    (λ c κs. search needs)
-    (λ c. search needs)
-    (λ c κs. search needs)
-    (λ c. search needs)
-    (λ c. search array-to)
-    (λ c. search array-stopped))
     (λ t. read-cast-lts.spec (read-cast-claims t)
     (read-cast-at t)
     read-cast.Post
@@ -203,15 +176,15 @@ pub +read-array+read-cast+read-list+read-rename+read-rest+read-selector+read-sel
     (λ c. search cast-to)
     (λ c. search cast-untyped)
     (λ c. search cast-stopped))
-    (λ t. read-list-lts.spec (read-list-claims t)
-    (read-list-at t)
-    read-list.Post
+    (λ t. read-element-mapping-lts.spec (read-element-mapping-claims t)
+    (read-element-mapping-at t)
+    read-element-mapping.Post
     (λ c κs. search needs)
     (λ c. search needs)
     (λ c κs. search needs)
     (λ c. search needs)
-    (λ c. search list-to)
-    (λ c. search list-stopped))
+    (λ c. (search list-to, search array-to))
+    (λ c. (search list-stopped, search array-stopped)))
     (λ t. read-rename-lts.spec (read-rename-claims t)
     (read-rename-at t)
     read-rename.Post
@@ -230,15 +203,13 @@ pub +read-array+read-cast+read-list+read-rename+read-rest+read-selector+read-sel
     (λ c κs. search needs)
     (λ c κs. search needs)
     (λ c κs. search needs)
-    (λ c κs. search needs)
     (λ c. search (rest-position, needs))
     (λ c. search (rest-constant, needs))
     (λ c. search (rest-cast, needs))
     (λ c. search (rest-rename, needs))
     (λ c. search (rest-struct, needs))
-    (λ c. search (rest-list, needs))
-    (λ c. search (rest-array, needs))
-    (λ c. rest-unknown _ _ _ _ (c .match .rest)))
+    (λ c. rest-element _ _ _ (c .before .before .match .rest) (c .before .if1 .taken) (c .read-element-mapping .ensures .0) (c .read-element-mapping .ensures .1))
+    (λ c. rest-unknown _ _ _ _ (c .if1 .left)))
     (λ t. read-selector-lts.spec (read-selector-claims t)
     (read-selector-at t)
     read-selector.Post
