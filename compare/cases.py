@@ -6,7 +6,8 @@
 # BASE has answers of a second implementation, one JSON object a line (default: ../shared/vectors/base.jsonl beside the repository).
 # Its cases are taken over. Layouts at the edges of document 01's rules are added, whose answers come from the reader below, and builds of
 # the original source (compare/rust/sample.txt). The reader is written from document 01 and shares nothing with the library; where it
-# disagrees with an answer of BASE, nothing is written and the exit status is 1. Written: crates/cases/stdin and crates/cases/stdout.
+# disagrees with an answer of BASE, nothing is written and the exit status is 1. Which plans are direct, so that one pass is to settle
+# them (docs/ARCHITECTURE.md), is read from the plans' bytes. Written: crates/cases/stdin and crates/cases/stdout.
 import json
 import os
 import sys
@@ -107,6 +108,78 @@ def read(data):
     except Refused as refusal:
         return refusal.args[0]
     return 6 if reader.at < len(data) else 0
+
+
+# --- direct plans: each transform takes a bare position, or renames what does --------------------------------------------------
+
+
+# The bytes of a present leaf value, by its type's code; texts have their length before them.
+WIDTHS = {1: 1, 2: 1, 3: 2, 4: 4, 5: 8, 6: 1, 7: 2, 8: 4, 9: 8, 10: 2, 11: 4, 12: 8, 13: 4, 14: 8}
+
+
+# A plan that was accepted.
+class Plan(Reader):
+    def __init__(self, data):
+        super().__init__(data, 1)
+        self.direct = self.selectors()
+
+    # A reader of types that begins elsewhere in the plan.
+    def types(self, at):
+        reader = Reader(self.data, 1)
+        reader.at = at
+        return reader
+
+    # Passes over a value whose type stands at `at`; answers where the type ends.
+    def value(self, at):
+        whole, inner = self.types(at), self.types(at)
+        whole.type(1)
+        present, code = self.number(1), inner.number(1)
+        if not present:
+            return whole.at
+        if code in WIDTHS:
+            self.take(WIDTHS[code])
+        elif code in (15, 16, 17):
+            self.take(self.number(2))
+        elif code == 18:
+            for _ in range(inner.number(2)):
+                inner.text()
+                inner.at = self.value(inner.at)
+        else:
+            count = self.number(2) if code == 19 else inner.number(4)
+            for _ in range(count):
+                self.value(inner.at)
+        return whole.at
+
+    def constant(self):
+        self.text()
+        at = self.at
+        self.type(1)
+        self.value(at)
+
+    # Whether all of a count of selectors are direct.
+    def selectors(self):
+        return all([self.selector()[1] for _ in range(self.number(2))])
+
+    # A selector's code, and whether it is direct.
+    def selector(self):
+        code = self.number(1)
+        if code == 0:
+            self.number(2)
+            return code, True
+        if code == 1:
+            self.constant()
+            return code, True
+        taken, direct = self.selector()
+        if code == 3:
+            self.text()
+            return code, direct
+        bare = taken == 0
+        if code == 2:
+            self.type(1)
+            self.number(1)
+            return code, bare
+        inside = self.selectors() if code == 4 else self.selector()[1]
+        return code, bare and inside
 
 
 # --- layouts to read -----------------------------------------------------------------------------------------------------------
@@ -394,6 +467,20 @@ def taken(path):
     return lines
 
 
+# The plan of a call's line: among its arguments, or a build's answer.
+PLAN = {"build_name": -1, "build_number": -1, "check": 3, "run": 4}
+
+CHECKED = "plans checked"
+SETTLED = [("build_name", CHECKED), ("build_number", CHECKED), ("check", CHECKED), ("run", "records written")]
+
+
+# How many of a call's accepted cases have a direct plan, and how many there are.
+def share(name, lines):
+    words = [one.split(" ") for one in lines]
+    plans = [one[PLAN[name]] for one in words if one[0] == name and one[-2] == "0"]
+    return sum(Plan(bytes.fromhex(plan)).direct for plan in plans), len(plans)
+
+
 def main():
     lines = taken(sys.argv[1] if len(sys.argv) > 1 else BASE)
     text = [HEAD, "# a second implementation's answers\n"] + [one + "\n" for one in lines]
@@ -415,9 +502,10 @@ def main():
             text.append(one + "\n")
     with open(os.path.join(STORED, "stdin"), "w") as stored:
         stored.write("".join(text))
+    passes = ["%s: %d of %d %s in one pass\n" % (name, *share(name, lines), done) for name, done in SETTLED]
     counts = ["%s: %d agree\n" % (name, sum(one.split(" ")[0] == name for one in lines)) for name in CALLS]
     with open(os.path.join(STORED, "stdout"), "w") as stored:
-        stored.write("".join(counts) + "%d cases, 0 differ\n" % len(lines))
+        stored.write("".join(passes + counts) + "%d cases, 0 differ\n" % len(lines))
 
 
 main()

@@ -1,13 +1,14 @@
 // The answer that a line expects, and whether a call gave it.
 ghost use Prim.Native.Nat.{_+_, _*_, _^_, _<_};
 ghost use mathlib.Core.Path.{_≡_};
+use crate::buffers::plan_buffer;
 use crate::case::Outcome;
-use crate::text::Decimal;
-use crate::text::decode;
-use crate::text::is_hex;
-use crate::text::number;
-use crate::text::word;
 use layout::bytes::same_bytes;
+use lines::Decimal;
+use lines::has_bytes;
+use lines::number;
+use lines::take_bytes;
+use lines::word;
 
 pub enum Expected {
     Is(u64),
@@ -67,11 +68,11 @@ fn holds(buffer: &[u8], result: &[u8]) -> bool {
 
 // An accepted call: the length, and the result whose bytes word `k` has.
 fn accepted(line: &[u8], k: usize, given: u64, buffer: &[u8]) -> Outcome {
-    if !is_hex(word(line, k), 65536) {
+    if !has_bytes(line, k, 65536) {
         return Outcome::Malformed;
     }
-    let mut result = [0u8; 65536];
-    let n = decode(word(line, k), &mut result);
+    let mut result = plan_buffer();
+    let n = take_bytes(line, k, &mut result);
     if given != n as u64 {
         return Outcome::Differs(given);
     }

@@ -1,12 +1,15 @@
 // The two builders.
 use crate::answer::written;
+use crate::buffers::filled_buffer;
+use crate::buffers::has_layouts;
+use crate::buffers::short_buffer;
 use crate::case::Outcome;
-use crate::text::Decimal;
-use crate::text::decode;
-use crate::text::is_hex;
-use crate::text::number;
-use crate::text::room_in;
-use crate::text::word;
+use lines::Decimal;
+use lines::has_bytes;
+use lines::number;
+use lines::room_in;
+use lines::take_bytes;
+use lines::word;
 
 fn build_name(
     line: &[u8],
@@ -44,18 +47,15 @@ pub fn build_name_case(line: &[u8]) -> Outcome {
     let Decimal::Is(policy) = number(word(line, 1)) else {
         return Outcome::Malformed;
     };
-    if !is_hex(word(line, 3), 16640) {
+    if !has_layouts(line, 3) {
         return Outcome::Malformed;
     }
-    if !is_hex(word(line, 4), 16640) {
-        return Outcome::Malformed;
-    }
-    let mut incoming = [0u8; 16640];
-    let a = decode(word(line, 3), &mut incoming);
-    let mut target = [0u8; 16640];
-    let b = decode(word(line, 4), &mut target);
-    let mut plan = [165u8; 70000];
-    let n = room_in(word(line, 2), &plan);
+    let mut incoming = short_buffer();
+    let a = take_bytes(line, 3, &mut incoming);
+    let mut target = short_buffer();
+    let b = take_bytes(line, 4, &mut target);
+    let mut plan = filled_buffer();
+    let n = room_in(line, 2, &plan);
     build_name(line, policy, &incoming[..a], &target[..b], &mut plan[..n])
 }
 
@@ -67,23 +67,20 @@ pub fn build_number_case(line: &[u8]) -> Outcome {
     let Decimal::Is(source_index) = number(word(line, 2)) else {
         return Outcome::Malformed;
     };
-    if !is_hex(word(line, 4), 16640) {
+    if !has_layouts(line, 4) {
         return Outcome::Malformed;
     }
-    if !is_hex(word(line, 5), 16640) {
+    if !has_bytes(line, 6, 16640) {
         return Outcome::Malformed;
     }
-    if !is_hex(word(line, 6), 16640) {
-        return Outcome::Malformed;
-    }
-    let mut incoming = [0u8; 16640];
-    let a = decode(word(line, 4), &mut incoming);
-    let mut target = [0u8; 16640];
-    let b = decode(word(line, 5), &mut target);
-    let mut defaults = [0u8; 16640];
-    let c = decode(word(line, 6), &mut defaults);
-    let mut plan = [165u8; 70000];
-    let n = room_in(word(line, 3), &plan);
+    let mut incoming = short_buffer();
+    let a = take_bytes(line, 4, &mut incoming);
+    let mut target = short_buffer();
+    let b = take_bytes(line, 5, &mut target);
+    let mut defaults = short_buffer();
+    let c = take_bytes(line, 6, &mut defaults);
+    let mut plan = filled_buffer();
+    let n = room_in(line, 3, &plan);
     build_number(
         line,
         policy,

@@ -3,14 +3,15 @@
 use crate::answer::Expected;
 use crate::answer::compared;
 use crate::answer::expected_answer;
+use crate::buffers::short_buffer;
 use crate::build::build_name_case;
 use crate::build::build_number_case;
-use crate::run::check_case;
-use crate::run::run_case;
-use crate::text::decode;
-use crate::text::is_hex;
-use crate::text::word;
+use crate::check::check_case;
+use crate::check::run_case;
 use layout::bytes::same_bytes;
+use lines::has_bytes;
+use lines::take_bytes;
+use lines::word;
 
 pub enum Kind {
     Layout,
@@ -74,13 +75,13 @@ pub fn replay_case(kind: Kind, line: &[u8]) -> Outcome {
 
 // layout <layout> <number> <place>
 fn layout_case(line: &[u8]) -> Outcome {
-    if !is_hex(word(line, 1), 16640) {
+    if !has_bytes(line, 1, 16640) {
         return Outcome::Malformed;
     }
     let Expected::Is(expected) = expected_answer(line, 2) else {
         return Outcome::Malformed;
     };
-    let mut bytes = [0u8; 16640];
-    let len = decode(word(line, 1), &mut bytes);
+    let mut bytes = short_buffer();
+    let len = take_bytes(line, 1, &mut bytes);
     compared(selector::selector_read_layout(&bytes[..len]), expected)
 }

@@ -4,7 +4,7 @@ ghost use lib.ListN.{length};
 use crate::case::kind_of;
 use crate::case::replay_case;
 use crate::report::Tally;
-use crate::text::find;
+use lines::find;
 
 fn is_comment(line: &[u8]) -> bool {
     if line.len() == 0 {

@@ -4,8 +4,8 @@ ghost use Prim.Native.Nat.{_+_, min};
 use crate::case::Kind;
 use crate::case::Outcome;
 use crate::case::answer_word;
-use crate::text::from_word;
 use libc::STDOUT_FILENO;
+use lines::from_word;
 
 // How many lines there were, how many cases of each kind agreed, and how many lines differ.
 pub struct Tally {
@@ -19,7 +19,7 @@ pub struct Tally {
 }
 
 // One more, as far as there is one.
-fn more(n: u64) -> u64
+pub fn more(n: u64) -> u64
     ensures { λ r. ⌜ r ≡ min (n + 1) 18446744073709551615 ⌝ }
 {
     if n < 18446744073709551615 { n + 1 } else { n }
@@ -94,11 +94,11 @@ impl Tally {
     }
 }
 
-fn put(text: &[u8]) {
+pub fn put(text: &[u8]) {
     io::write_all(STDOUT_FILENO, text);
 }
 
-fn put_number(n: u64) {
+pub fn put_number(n: u64) {
     io::print_decimal(STDOUT_FILENO, n);
 }
 

@@ -1,9 +1,9 @@
--- `cases::text::range` meets its contract. Assumes nothing.
+-- `lines::range` meets its contract. Assumes nothing.
 use borrow.Author.Needs.{needs}
 use Prim.Native.Nat.{_≤_, _-_}
 use lib.ListN.{length}
-use Rattle.cases.proofs.text.range.Statement.{statement}
-use Rattle.cases.proofs.text.range.Tie as tie
+use Rattle.lines.proofs.range.Statement.{statement}
+use Rattle.lines.proofs.range.Tie as tie
 
 abbrev Inv-loop : tie.InvT-loop
 Inv-loop s k at₀ i₀ at i = (i ≤ k) × (at ≤ length s)

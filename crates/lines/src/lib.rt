@@ -1,5 +1,5 @@
 // Words of a line, and what they stand for: hexadecimal digits for bytes (`-` for none) and decimal numbers.
-ghost use Prim.Native.Nat.{_+_, _≤_, _<_};
+ghost use Prim.Native.Nat.{_≤_};
 ghost use lib.ListN.{length};
 ghost use Rattle.io.specs.Counts.{Counts};
 
@@ -121,7 +121,7 @@ fn is_dash(s: &[u8]) -> bool {
 }
 
 // Whether a word is `-`, or two digits for each of at most `most` bytes.
-pub fn is_hex(s: &[u8], most: usize) -> bool {
+fn is_hex(s: &[u8], most: usize) -> bool {
     if is_dash(s) {
         return true;
     }
@@ -150,7 +150,7 @@ fn least(a: usize, b: usize) -> usize
 }
 
 // Puts the bytes of a word that is hexadecimal at the start of `out`, as far as they fit, and answers how many.
-pub fn decode(s: &[u8], out: &mut [u8]) -> usize
+fn decode(s: &[u8], out: &mut [u8]) -> usize
     ensures { λ r. ⌜ Counts r (now (out .exit)) ⌝ }
 {
     let n = least(s.len() / 2, out.len());
@@ -160,6 +160,18 @@ pub fn decode(s: &[u8], out: &mut [u8]) -> usize
         i += 1;
     }
     n
+}
+
+// Whether word `k` of a line is hexadecimal, of at most `most` bytes.
+pub fn has_bytes(line: &[u8], k: usize, most: usize) -> bool {
+    is_hex(word(line, k), most)
+}
+
+// Puts the bytes of word `k` at the start of `out`, and answers how many.
+pub fn take_bytes(line: &[u8], k: usize, out: &mut [u8]) -> usize
+    ensures { λ r. ⌜ Counts r (now (out .exit)) ⌝ }
+{
+    decode(word(line, k), out)
 }
 
 // One more decimal digit.
@@ -197,11 +209,11 @@ pub fn number(s: &[u8]) -> Decimal {
     x
 }
 
-// The length of a buffer that a word gives, as far as `buffer` goes.
-pub fn room_in(word: &[u8], buffer: &[u8]) -> usize
+// The length of a buffer that word `k` gives, as far as `buffer` goes.
+pub fn room_in(line: &[u8], k: usize, buffer: &[u8]) -> usize
     ensures { λ r. ⌜ Counts r (now (buffer .entry)) ⌝ }
 {
-    match number(word) {
+    match number(word(line, k)) {
         Decimal::Is(n) => least(n as usize, buffer.len()),
         Decimal::Malformed => 0,
     }

@@ -1,12 +1,12 @@
--- `cases::text::decode` meets its contract. Assumes nothing.
+-- `lines::decode` meets its contract. Assumes nothing.
 use borrow.Author.Needs.{needs}
 use native.Mathlib.Omega.{arith}
 use Rattle.io.proofs.Counting.{counts}
 use Prim.Native.Nat.{_≤_, _-_, _*_}
 use mathlib.Core.Path.{_≡_}
 use lib.ListN.{length}
-use Rattle.cases.proofs.text.decode.Statement.{statement}
-use Rattle.cases.proofs.text.decode.Tie as tie
+use Rattle.lines.proofs.decode.Statement.{statement}
+use Rattle.lines.proofs.decode.Tie as tie
 
 abbrev Inv-loop : tie.InvT-loop
 Inv-loop s out₀ n i₀ out i = (i ≤ n) × (2 * n ≤ length s) × (n ≤ length out) × (length out ≡ length out₀)

@@ -1,0 +1,54 @@
+// Whether one pass settles a plan or a record that was accepted.
+use direct::target::fits_target;
+use layout::cursor::Cursor;
+use layout::read::LayoutRead;
+use layout::read::read_layout;
+use plan::read::PlanRead;
+use plan::read::read_plan;
+use run::single_pass::Direct;
+use run::single_pass::write_direct;
+use values::record::RecordRead;
+use values::record::read_record;
+
+// Whether `direct` says that a plan passes the check between two layouts.
+pub fn checks(incoming: &[u8], target: &[u8], plan: &[u8]) -> bool {
+    match read_layout(incoming) {
+        LayoutRead::Read {
+            version: v,
+            count: n,
+            columns: _,
+        } => match read_layout(target) {
+            LayoutRead::Read {
+                version: vt,
+                count: m,
+                columns: _,
+            } => match read_plan(plan) {
+                PlanRead::Read(count, _) => fits_target(incoming, v, n, plan, count, target, vt, m),
+                PlanRead::Refused(_) => false,
+            },
+            LayoutRead::Refused(_) => false,
+        },
+        LayoutRead::Refused(_) => false,
+    }
+}
+
+// Whether `run` writes the output in one pass.
+pub fn writes(incoming: &[u8], plan: &[u8], rec: &[u8], output: &mut [u8]) -> bool {
+    match read_layout(incoming) {
+        LayoutRead::Read {
+            version: v,
+            count: n,
+            columns: _,
+        } => match read_plan(plan) {
+            PlanRead::Read(count, _) => match read_record(incoming, v, n, Cursor { at: 7 }, rec) {
+                RecordRead::Fits => match write_direct(incoming, v, n, rec, plan, count, output) {
+                    Direct::Is(_) => true,
+                    Direct::Unknown => false,
+                },
+                RecordRead::Refused(_) => false,
+            },
+            PlanRead::Refused(_) => false,
+        },
+        LayoutRead::Refused(_) => false,
+    }
+}
