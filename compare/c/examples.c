@@ -1,5 +1,4 @@
 /* Holds the library to the folders of examples/: builds each plan again from the two layouts, checks it and runs it over the record.
- * It is also a small example of the interface: the four calls that a controller makes stand in `carry`.
  *
  *   examples FOLDER...
  */

@@ -98,8 +98,11 @@ fn examples() {
     let folder = PathBuf::from(env!("CARGO_MANIFEST_DIR")).join("../examples");
     let mut count = 0;
     for entry in fs::read_dir(folder).unwrap() {
-        example(&entry.unwrap().path());
-        count += 1;
+        let path = entry.unwrap().path();
+        if path.is_dir() {
+            example(&path);
+            count += 1;
+        }
     }
     assert!(count >= 3);
 }
