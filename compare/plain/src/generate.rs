@@ -16,6 +16,8 @@ pub const POLICY_BITS: u32 = 14;
 const ELEMENT: u32 = u32::MAX;
 const LEAF_KINDS: u64 = 20;
 const NAMES: [&str; 10] = ["a", "b", "c", "d", "t", "s", "level", "gate", "é", ""];
+/// The fewest columns of a wide row: so many that the library finds their counterparts by tables.
+const WIDE: u64 = 17;
 const ZONES: [&str; 6] = ["", "UTC", "Europe/Oslo", "Etc/UTC", "Z", "utc"];
 
 /// What one case asks of its changes.
@@ -39,12 +41,11 @@ pub fn case(random: &mut Random) -> Case {
 }
 
 fn one(random: &mut Random, style: &Style) -> Case {
-    let count = match random.below(100) {
-        0 => 0,
-        1 => 10 + random.below(40),
-        _ => 1 + random.below(6),
+    let mut incoming = match random.below(100) {
+        0 => Vec::new(),
+        1 => wide_row(random, 1),
+        _ => (0..=random.below(6)).map(|_| column(random, 1)).collect(),
     };
-    let mut incoming: Vec<Column> = (0..count).map(|_| column(random, 1)).collect();
     if random.percent(2) {
         incoming.push(deep_column(random));
     }
@@ -162,6 +163,21 @@ fn element(random: &mut Random, depth: u32) -> Box<Column> {
     })
 }
 
+/// Many columns, most of them leaves, of which few repeat a name or an id.
+fn wide_row(random: &mut Random, depth: u32) -> Vec<Column> {
+    let wide_column = |random: &mut Random| Column {
+        name: format!("reading{}", random.below(20_000)).into_bytes(),
+        id: 100 + random.below(20_000) as u32,
+        type_: match random.percent(95) {
+            true => Type::Leaf(leaf(random)),
+            false => type_(random, depth),
+        },
+    };
+    (0..WIDE + random.below(50))
+        .map(|_| wide_column(random))
+        .collect()
+}
+
 fn type_(random: &mut Random, depth: u32) -> Type {
     let leaf_share = if depth > 4 { 90 } else { 50 };
     if depth >= DEPTH_LIMIT || random.percent(leaf_share) {
@@ -174,6 +190,7 @@ fn nested_type(random: &mut Random, depth: u32) -> Type {
     match random.below(4) {
         0 => Type::List(element(random, depth + 1)),
         1 => Type::Array(width(random), element(random, depth + 1)),
+        _ if random.percent(2) => Type::Struct(wide_row(random, depth + 1)),
         _ => {
             let mut columns: Vec<Column> = Vec::new();
             for _ in 0..random.below(5) {

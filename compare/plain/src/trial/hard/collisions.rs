@@ -1,4 +1,5 @@
-//! Names and ids that fall together in the library's tables of labels (crates/layout/src/seen.rt, crates/labels): no answer may change by that.
+//! Names and ids that fall together in the library's tables of labels (crates/layout/src/seen.rt, crates/labels), at the top and inside structs: no answer may change
+//! by that.
 
 use super::values::{column, int8};
 use super::{Trials, layout};
@@ -13,6 +14,8 @@ const FACTOR: u32 = 0x5BD1_E995;
 /// Where the top columns begin, which goes into the hash when they are read.
 const TOP: u32 = 7;
 const COUNT: u32 = 300;
+/// The fields beside the struct that is inside another: so many that both have tables.
+const BESIDE: u32 = 20;
 
 fn hash(from: u32, numbers: impl IntoIterator<Item = u32>) -> u32 {
     let step = |h: u32, x: u32| h.wrapping_add(x).wrapping_mul(FACTOR);
@@ -59,6 +62,31 @@ fn numbered(from: u32, hashes: impl Iterator<Item = u32>) -> Vec<Column> {
     hashes.map(column).collect()
 }
 
+/// The columns as fields of a struct beside others, and that struct so again, so many times.
+fn within(columns: Vec<Column>, levels: u32) -> Vec<Column> {
+    let beside = |n: u32| Column {
+        id: n,
+        ..column(&format!("beside {n}"), int8())
+    };
+    let structure = |columns: Vec<Column>, _| {
+        let inner = Column {
+            id: BESIDE,
+            ..column("inner", Type::Struct(columns))
+        };
+        (0..BESIDE).map(beside).chain([inner]).collect()
+    };
+    (0..levels).fold(columns, structure)
+}
+
+/// The record of a layout within, by that of its columns.
+fn record_within(record: Vec<u8>, levels: u32) -> Vec<u8> {
+    let structure = |record: Vec<u8>, _| {
+        let beside = (0..BESIDE).flat_map(|n| [1, n as u8]);
+        beside.chain([1]).chain(record).collect()
+    };
+    (0..levels).fold(record, structure)
+}
+
 impl Trials<'_> {
     /// The columns read, at the top and in a struct; 5 with one of them repeated at the end, but for names in a struct, which may repeat.
     fn siblings(&mut self, version: u8, columns: &[Column]) {
@@ -77,35 +105,65 @@ impl Trials<'_> {
         read(repeated, 5);
     }
 
-    /// From all columns but some to all of them in the other order.
-    fn turned_round(&mut self, call: Call, version: u8, columns: &[Column]) {
+    /// From all columns but some to all of them in the other order, inside so many structs.
+    fn turned_round(&mut self, call: Call, version: u8, columns: &[Column], levels: u32) {
         let (incoming, _) = columns.split_at(columns.len() - 20);
         let target = columns.iter().rev().cloned().collect();
+        let record = (0..incoming.len()).flat_map(|n| [1, n as u8]).collect();
         let trial = Trial {
             policy: generate::ALL,
             space: 70_000,
-            incoming: layout(version, incoming.to_vec()),
-            target: layout(version, target),
+            incoming: layout(version, within(incoming.to_vec(), levels)),
+            target: layout(version, within(target, levels)),
             defaults: form::write_defaults(&[]),
-            record: (0..incoming.len()).flat_map(|n| [1, n as u8]).collect(),
+            record: record_within(record, levels),
             ..Trial::new(call)
         };
         self.add(trial, 0);
     }
 
+    /// Tests 12 and 13 of structs by name: one of the names repeated at the end, in either layout; an extra field.
+    fn struct_faults(&mut self, columns: &[Column], levels: u32) {
+        let repeated = [columns, &columns[columns.len() / 2..][..1]].concat();
+        let fewer = &columns[1..];
+        let raise = generate::ALL & !(1 << 12);
+        for (policy, incoming, target, number) in [
+            (generate::ALL, &repeated[..], columns, 12),
+            (generate::ALL, columns, &repeated[..], 12),
+            (raise, columns, fewer, 13),
+            (raise, fewer, columns, 0),
+        ] {
+            let trial = Trial {
+                policy,
+                space: 70_000,
+                incoming: layout(1, within(incoming.to_vec(), levels)),
+                target: layout(1, within(target.to_vec(), levels)),
+                ..Trial::new(Call::BuildByName)
+            };
+            self.add(trial, number);
+        }
+    }
+
     pub(super) fn collisions(&mut self) {
         let names = equal_names();
         self.siblings(1, &names);
-        self.turned_round(Call::BuildByName, 1, &names);
         // The table of bits leaves the lowest 5 bits of a hash out, the table of labels all but the lowest.
         let bits = numbered(
             hash(0, [TOP]),
             (0..COUNT).map(|n| n % 32 + n / 32 * 0x0100_0000),
         );
         let labels = numbered(0, (1..=COUNT).map(|n| n << 16));
-        for columns in [bits, labels] {
-            self.siblings(2, &columns);
-            self.turned_round(Call::BuildByNumber, 2, &columns);
+        self.siblings(2, &bits);
+        self.siblings(2, &labels);
+        for levels in 0..4 {
+            self.turned_round(Call::BuildByName, 1, &names, levels);
+            self.turned_round(Call::BuildByNumber, 2, &bits, levels);
+            self.turned_round(Call::BuildByNumber, 2, &labels, levels);
+        }
+        let few: Vec<Column> = within(Vec::new(), 1);
+        for levels in 1..4 {
+            self.struct_faults(&names, levels);
+            self.struct_faults(&few, levels);
         }
     }
 }
