@@ -215,9 +215,9 @@ static int lawful(const call *c, int side) {
     return c->kind == RUN || selector_check_plan(place(0, c->length[0], side), c->length[0], place(1, c->length[1], side), c->length[1], out, n) == 0;
 }
 
-static void try_damaged(unsigned long line, const call *c, unsigned long rounds) {
+static void try_damaged(unsigned long line, const call *c, unsigned long times) {
     static call d;
-    for (unsigned long i = 0; i < rounds; i++) {
+    for (unsigned long i = 0; i < times; i++) {
         d = *c;
         for (uint32_t n = 1 + random_below(3); n > 0; n--)
             damage(&d);
@@ -228,39 +228,26 @@ static void try_damaged(unsigned long line, const call *c, unsigned long rounds)
     }
 }
 
-static unsigned long replay_list(const char *path, unsigned long rounds) {
+static unsigned long rounds, tried;
+
+static void one_line(unsigned long line, char *text) {
     static call c;
-    FILE *list = fopen(path, "r");
-    if (list == NULL) {
-        perror(path);
-        exit(2);
-    }
-    char *text = NULL;
-    size_t size = 0;
-    unsigned long line = 0, tried = 0;
-    while (getline(&text, &size, list) >= 0) {
-        line++;
-        text[strcspn(text, "\n")] = 0;
-        for (int k = 0; k < KINDS; k++) {
-            size_t n = strlen(names[k]);
-            char *number, *last;
-            if (strncmp(text, names[k], n) != 0 || text[n] != ' ')
-                continue;
-            if (!parse((enum kind)k, text + n + 1, &c, &number, &last)) {
-                printf("line %lu: no case\n", line);
-                differences++;
-                break;
-            }
-            cases[k]++;
-            replay(line, &c, number, last);
-            try_damaged(line, &c, rounds);
-            tried += rounds;
+    for (int k = 0; k < KINDS; k++) {
+        size_t n = strlen(names[k]);
+        char *number, *last;
+        if (strncmp(text, names[k], n) != 0 || text[n] != ' ')
+            continue;
+        if (!parse((enum kind)k, text + n + 1, &c, &number, &last)) {
+            printf("line %lu: no case\n", line);
+            differences++;
             break;
         }
+        cases[k]++;
+        replay(line, &c, number, last);
+        try_damaged(line, &c, rounds);
+        tried += rounds;
+        break;
     }
-    free(text);
-    fclose(list);
-    return tried;
 }
 
 int main(int count, char **words) {
@@ -268,10 +255,10 @@ int main(int count, char **words) {
         fprintf(stderr, "usage: calls LIST [ROUNDS [SEED]]\n");
         return 2;
     }
-    unsigned long rounds = count > 2 ? strtoul(words[2], NULL, 10) : 100;
+    rounds = count > 2 ? strtoul(words[2], NULL, 10) : 100;
     state = count > 3 ? strtoull(words[3], NULL, 10) | 1 : 20261115;
     make_rooms();
-    unsigned long tried = replay_list(words[1], rounds);
+    each_line(words[1], one_line);
     for (int k = 0; k < KINDS; k++) {
         printf("%s: %lu cases; damaged, by number:", names[k], cases[k]);
         for (int n = 0; n < 64; n++)

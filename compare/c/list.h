@@ -10,6 +10,23 @@
 #include <sys/mman.h>
 #include <unistd.h>
 
+/* Hands each line of a file, without its end, to a function, counted from 1. */
+static inline void each_line(const char *path, void (*visit)(unsigned long line, char *text)) {
+    FILE *file = fopen(path, "r");
+    char *text = NULL;
+    size_t size = 0;
+    if (file == NULL) {
+        perror(path);
+        exit(2);
+    }
+    for (unsigned long line = 1; getline(&text, &size, file) >= 0; line++) {
+        text[strcspn(text, "\n")] = 0;
+        visit(line, text);
+    }
+    free(text);
+    fclose(file);
+}
+
 /* The bytes of a hexadecimal word, `-` for none, as far as they fit. */
 static inline size_t decode(const char *word, uint8_t *to, size_t space) {
     size_t n = 0;

@@ -190,28 +190,13 @@ static void replay_layout(unsigned long line, char *rest) {
     }
 }
 
-static unsigned long replay_list(const char *path) {
-    FILE *list = fopen(path, "r");
-    if (list == NULL) {
-        perror(path);
-        exit(2);
+static unsigned long cases;
+
+static void one_line(unsigned long line, char *text) {
+    if (strncmp(text, "layout ", 7) == 0) {
+        cases++;
+        replay_layout(line, text + 7);
     }
-    char *text = NULL;
-    size_t size = 0;
-    unsigned long line = 0, cases = 0;
-    while (getline(&text, &size, list) >= 0) {
-        line++;
-        text[strcspn(text, "\n")] = 0;
-        if (text[0] == 0 || text[0] == '#')
-            continue;
-        if (strncmp(text, "layout ", 7) == 0) {
-            cases++;
-            replay_layout(line, text + 7);
-        }
-    }
-    free(text);
-    fclose(list);
-    return cases;
 }
 
 /* --- layouts at random -------------------------------------------------------------------------------------------------------- */
@@ -350,7 +335,7 @@ int main(int count, char **words) {
     unsigned long rounds = count > 2 ? strtoul(words[2], NULL, 10) : 300000;
     state = count > 3 ? strtoull(words[3], NULL, 10) | 1 : 20261115;
     room = guarded(SPACE);
-    unsigned long cases = replay_list(words[1]);
+    each_line(words[1], one_line);
     try_random(rounds);
     printf("%lu cases, %lu random layouts (0 to 6: %lu %lu %lu %lu %lu %lu %lu), %lu differ\n", cases, rounds, met[0], met[1], met[2],
            met[3], met[4], met[5], met[6], differences);

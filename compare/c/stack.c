@@ -97,24 +97,13 @@ static void one_case(enum kind k, char *rest) {
         measure();
 }
 
-static void whole_list(const char *path) {
-    FILE *list = fopen(path, "r");
-    char *text = NULL;
-    size_t size = 0;
-    if (list == NULL) {
-        perror(path);
-        exit(2);
+static void one_line(unsigned long line, char *text) {
+    (void)line;
+    for (int k = 0; k < KINDS; k++) {
+        size_t n = strlen(names[k]);
+        if (strncmp(text, names[k], n) == 0 && text[n] == ' ')
+            one_case((enum kind)k, text + n + 1);
     }
-    while (getline(&text, &size, list) >= 0) {
-        text[strcspn(text, "\n")] = 0;
-        for (int k = 0; k < KINDS; k++) {
-            size_t n = strlen(names[k]);
-            if (strncmp(text, names[k], n) == 0 && text[n] == ' ')
-                one_case((enum kind)k, text + n + 1);
-        }
-    }
-    free(text);
-    fclose(list);
 }
 
 /* --- the deepest layouts ------------------------------------------------------------------------------------------------------ */
@@ -218,7 +207,7 @@ int main(int count, char **words) {
         return 2;
     deepest();
     deepest_plans();
-    whole_list(words[1]);
+    each_line(words[1], one_line);
     int within = 1;
     for (int k = 0; k < KINDS; k++) {
         printf("stack of %s: %zu bytes, of %zu\n", names[k], most[k], said[k]);
