@@ -10,6 +10,8 @@ use plain::call as plainly;
 use plain::case::{Case, Number};
 use plain::form::{self, Column, LAYOUT_LIMIT, Layout, Leaf, PLAN_LIMIT, RECORD_LIMIT, Type};
 use plain::generate::ALL;
+use plain::rules::CastOption;
+use plain::write;
 use std::hint::black_box;
 
 /// A leaf of the incoming layout and what it becomes in the target.
@@ -165,13 +167,14 @@ fn write_value(bytes: &mut Vec<u8>, type_: &Type) {
     }
 }
 
-fn record(incoming: &[u8]) -> Vec<u8> {
-    let layout = form::read_layout(incoming).expect("the bench's layouts can be read");
+/// None where the layout can't be read.
+fn record(incoming: &[u8]) -> Option<Vec<u8>> {
+    let layout = form::read_layout(incoming).ok()?;
     let mut bytes = Vec::new();
     for column in &layout.columns {
         write_value(&mut bytes, &column.type_);
     }
-    bytes
+    Some(bytes)
 }
 
 // Measuring.
@@ -272,16 +275,73 @@ struct Planned {
 }
 
 impl Planned {
-    /// None where a limit is passed.
+    /// A built plan; none where a limit is passed.
     fn new(count: usize, order: Order, place: Place) -> Option<Planned> {
         let case = case(1, count, order, place);
+        match oracle::original(&case) {
+            Ok(Answer::Plan(plan)) => Planned::of(case, plan),
+            _ => None,
+        }
+    }
+
+    /// A plan that no builder writes, but two built plans made into one would be such: each leaf is cast twice, each fifth column is a struct whose fields are turned
+    /// round twice.
+    fn twice(count: usize) -> Option<Planned> {
+        let layout = |code: u8| {
+            let named = |name: String, type_: Type| Column {
+                name: name.into_bytes(),
+                id: 0,
+                type_,
+            };
+            let leaf = || Type::Leaf(Leaf::Plain(code));
+            let structure =
+                || Type::Struct((0..4).map(|k| named(format!("part{k}"), leaf())).collect());
+            let column = |index: usize| {
+                let type_ = if index % 5 == 4 { structure() } else { leaf() };
+                named(format!("reading_{index}"), type_)
+            };
+            let columns = (0..count).map(column).collect();
+            form::write_layout(&Layout {
+                version: 1,
+                columns,
+            })
+        };
+        let cast = |input: &[u8], code: u8| {
+            write::cast(
+                input,
+                &Type::Leaf(Leaf::Plain(code)),
+                CastOption::Overflowing,
+            )
+        };
+        let turned = |input: &[u8], code: u8| {
+            let fields: Vec<_> = (0..4)
+                .rev()
+                .map(|k| cast(&write::position(k), code))
+                .collect();
+            write::struct_mapping(input, &fields)
+        };
+        let selector = |index: usize| {
+            let transform = |input: &[u8], code| match index % 5 {
+                4 => turned(input, code),
+                _ => cast(input, code),
+            };
+            transform(&transform(&write::position(index as u16), 3), 4)
+        };
+        let plan = write::plan(&(0..count).map(selector).collect::<Vec<_>>());
+        let case = Case {
+            policy: ALL,
+            incoming: layout(2),
+            target: layout(4),
+            number: None,
+        };
+        Planned::of(case, plan)
+    }
+
+    fn of(case: Case, plan: Vec<u8>) -> Option<Planned> {
         let Case {
             incoming, target, ..
         } = &case;
-        let Ok(Answer::Plan(plan)) = oracle::original(&case) else {
-            return None;
-        };
-        let record = record(incoming);
+        let record = record(incoming)?;
         let output = plainly::run(incoming, target, &plan, &record, RECORD_LIMIT).ok()?;
         Some(Planned {
             case,
@@ -348,10 +408,9 @@ fn largest(admitted: impl Fn(usize) -> bool) -> usize {
 }
 
 /// Checking and running the plans of three sizes.
-fn planned(name: &str, order: Order, place: Place) -> Result<(), String> {
-    let most = largest(|count| Planned::new(count, order, place).is_some());
-    let counts = [SMALL, MIDDLE, most];
-    let planned = counts.map(|count| (count, Planned::new(count, order, place).unwrap()));
+fn planned(name: &str, plan: impl Fn(usize) -> Option<Planned>) -> Result<(), String> {
+    let most = largest(|count| plan(count).is_some());
+    let planned = [SMALL, MIDDLE, most].map(|count| (count, plan(count).unwrap()));
     for (count, planned) in &planned {
         planned.checking(&format!("checking, {name}"), *count)?;
     }
@@ -393,8 +452,9 @@ pub fn run() -> Result<(), String> {
             )?;
         }
     }
-    planned("same order", Order::Same, Place::Top)?;
-    planned("reversed", Order::Reversed, Place::Top)?;
+    let built = |order: Order, place: Place| move |count| Planned::new(count, order, place);
+    planned("same order", built(Order::Same, Place::Top))?;
+    planned("reversed", built(Order::Reversed, Place::Top))?;
     // The same columns as the fields of one struct.
     for (version, name) in [(1, "building by name"), (2, "building by number")] {
         let name = format!("{name}, struct");
@@ -406,5 +466,6 @@ pub fn run() -> Result<(), String> {
             )?;
         }
     }
-    planned("struct", Order::Reversed, Place::Struct)
+    planned("struct", built(Order::Reversed, Place::Struct))?;
+    planned("everything twice", Planned::twice)
 }
