@@ -3,8 +3,6 @@ ghost use mathlib.Core.Path.{_≡_};
 ghost use mathlib.Core.Bool.{true};
 ghost use Prim.Native.Nat.{_*_, _≤_};
 ghost use lib.ListN.{length};
-ghost use Rattle.layout.specs.Answers.{labelAt, spanIn};
-ghost use Rattle.layout.specs.Find.{counterpart, Finds};
 ghost use Rattle.layout.specs.Layout.{deepest};
 ghost use Rattle.layout.specs.Stands.{ColumnsAt};
 ghost use Rattle.defaults.specs.Stands.{TableAt};
@@ -16,13 +14,10 @@ use builder::answer::len_of;
 use builder::conditions::inserts;
 use builder::default::DefaultFieldValues;
 use labels::TABLE_SIZE;
-use labels::counterpart_in;
 use labels::fill;
-use layout::columns::Label;
+use labels::find_in;
 use layout::columns::Labelled;
 use layout::cursor::Cursor;
-use layout::find::Found;
-use layout::find::find_counterpart;
 use layout::version::Version;
 use layout::walk::skip_type;
 use matcher::attach::attach_field;
@@ -42,29 +37,6 @@ fn failed_column(made: Made, position: u16) -> ColumnsMade
         Made::Bare(_) => ColumnsMade::Failed(0, position),
         Made::Built(_) => ColumnsMade::Failed(0, position),
     }
-}
-
-// Among the `n` incoming columns, the counterpart of the label `l`, which stands in `target`: through the table, where it is whole.
-fn find_top(
-    incoming: &[u8],
-    v: Version,
-    n: u16,
-    c: Cursor,
-    whole: bool,
-    starts: &[u16],
-    positions: &[u16],
-    target: &[u8],
-    l: Label,
-) -> Found
-    requires { ⌜ ColumnsAt v deepest (now incoming) n (c .at) ⌝ }
-    requires { ⌜ (whole ≡ true → Table v (now incoming) n (c .at) (now starts) (now positions)) ⌝ }
-    requires { ⌜ spanIn (now target) (l .name) ⌝ }
-    ensures { λ r. ⌜ ((P : ColumnsAt v deepest (now (incoming .entry)) n (c .at)) → Finds v deepest (now (incoming .entry)) (counterpart v (labelAt (now (target .entry)) l) (P .columns)) r) ⌝ }
-{
-    if whole {
-        return counterpart_in(incoming, v, n, c, starts, positions, target, l);
-    }
-    find_counterpart(incoming, v, 16, n, c, target, l)
 }
 
 // The selectors of the `m` target columns, in order; the place of a refusal is the column's position.
@@ -88,7 +60,7 @@ fn build_each(
     requires { ⌜ ColumnsAt v deepest (now incoming) n (c .at) × ColumnsAt v deepest (now target) m (b .at) ⌝ }
     requires { ⌜ TableAt (now table) (defaults .count) (defaults .entries .at) ⌝ }
     requires { ⌜ (length (now target) ≤ 16384) × (length (now table) ≤ 16384) × (k ≤ 65536 * b .at) ⌝ }
-    requires { ⌜ (whole ≡ true → Table v (now incoming) n (c .at) (now starts) (now positions)) ⌝ }
+    requires { ⌜ (whole ≡ true → Table v deepest (now incoming) n (c .at) (now starts) (now positions)) ⌝ }
     ensures { λ r. ⌜ BuiltColumns policy v (now (table .entry)) defaults (now (incoming .entry)) n (c .at) (now (target .entry)) m (b .at) (now (out .entry)) k r (now (out .exit)) ⌝ }
 {
     let missing = policy.missing_columns;
@@ -100,7 +72,7 @@ fn build_each(
         let d = Cursor { at };
         match d.label(target, v) {
             Labelled::Is(l, e) => {
-                let found = find_top(incoming, v, n, c, whole, starts, positions, target, l);
+                let found = find_in(incoming, v, 16, n, c, whole, starts, positions, target, l);
                 let made = attach_field(
                     policy,
                     v,
@@ -194,7 +166,7 @@ fn build_many(
 {
     let mut starts = [0u16; TABLE_SIZE];
     let mut positions = [0u16; TABLE_SIZE];
-    let whole = fill(incoming, v, n, c, &mut starts, &mut positions);
+    let whole = fill(incoming, v, 16, n, c, &mut starts, &mut positions);
     build_each(
         policy,
         v,

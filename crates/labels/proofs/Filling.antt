@@ -12,7 +12,7 @@ use borrow.Author.Tests.{eq-eqb, ne-eqb}
 use Rattle.layout.specs.Bytes.{Bytes}
 use Rattle.layout.specs.Parser.{ok, choose}
 use Rattle.layout.specs.Tree.{Label, ColumnType, Columns}
-use Rattle.layout.specs.Layout.{label, columns as columnsOf, type, deepest}
+use Rattle.layout.specs.Layout.{label, columns as columnsOf, type}
 use Rattle.layout.specs.Answers.{labelRes, labelAt, movedOf}
 use Rattle.layout.specs.Stands.{ColumnsAt}
 use Rattle.layout.specs.Find.{Lookup, absent, at as found, findFrom}
@@ -50,59 +50,59 @@ module _ (starts positions : List ℕ) (j o k : ℕ) (b : o ≡ 0 → ⊥) where
   }
 
 -- what was looked up among all columns is x, and among those that are left y: an entry that is not set has its column among these
-pub record Pending (v : Version) (s : Bytes) (o k : ℕ) (x y : Lookup) : Type 0 where
+pub record Pending (v : Version) (d : ℕ) (s : Bytes) (o k : ℕ) (x y : Lookup) : Type 0 where
   pub unset : o ≡ 0 → x ≡ y
-  pub entry : (o ≡ 0 → ⊥) → Entry v s o k x
+  pub entry : (o ≡ 0 → ⊥) → Entry v d s o k x
 
-module _ {v : Version} {s : Bytes} {o k : ℕ} {x y : Lookup} (a : Pending v s o k x y) where
-  settled : y ≡ absent → Entry v s o k x
+module _ {v : Version} {d : ℕ} {s : Bytes} {o k : ℕ} {x y : Lookup} (a : Pending v d s o k x y) where
+  settled : y ≡ absent → Entry v d s o k x
   settled e = go (ℕ-discrete o 0)
     where
-      go : Dec (o ≡ 0) → Entry v s o k x
-      go (yes z) = subst (λ (w : Lookup). Entry v s o k w) (sym (a .unset z ∙ e)) z
+      go : Dec (o ≡ 0) → Entry v d s o k x
+      go (yes z) = subst (λ (w : Lookup). Entry v d s o k w) (sym (a .unset z ∙ e)) z
       go (no z) = a .entry z
 
   -- the entry as it was
-  as-before : {b c : ℕ} → b ≡ o → c ≡ k → (o ≡ 0 → ⊥) → Entry v s b c x
-  as-before {b} {c} e f z = subst (λ (i : ℕ). Entry v s i c x) (sym e) (subst (λ (i : ℕ). Entry v s o i x) (sym f) (a .entry z))
+  as-before : {b c : ℕ} → b ≡ o → c ≡ k → (o ≡ 0 → ⊥) → Entry v d s b c x
+  as-before {b} {c} e f z = subst (λ (i : ℕ). Entry v d s i c x) (sym e) (subst (λ (i : ℕ). Entry v d s o i x) (sym f) (a .entry z))
 
   -- the next column has another entry
-  pending-other : {b c : ℕ} {w : Lookup} → b ≡ o → c ≡ k → y ≡ w → Pending v s b c x w
+  pending-other : {b c : ℕ} {w : Lookup} → b ≡ o → c ≡ k → y ≡ w → Pending v d s b c x w
   pending-other e f g = record { unset = λ z. a .unset (sym e ∙ z) ∙ g; entry = λ z. as-before e f (λ q. z (e ∙ q)) }
 
   -- it has this one, which was set before
-  pending-later : {b c : ℕ} {w : Lookup} → (o ≡ 0 → ⊥) → b ≡ o → c ≡ k → Pending v s b c x w
+  pending-later : {b c : ℕ} {w : Lookup} → (o ≡ 0 → ⊥) → b ≡ o → c ≡ k → Pending v d s b c x w
   pending-later n e f = record { unset = λ z. absurd (n (sym e ∙ z)); entry = λ z. as-before e f n }
 
   -- it is the first that has this one
-  pending-first : {b c : ℕ} {w : Lookup} {p : Position} {l : Label} {t : ColumnType} → o ≡ 0 → y ≡ found p l t → EntryAt v s b c p l t → Pending v s b c x w
+  pending-first : {b c : ℕ} {w : Lookup} {p : Position} {l : Label} {t : ColumnType} → o ≡ 0 → y ≡ found p l t → EntryAt v d s b c p l t → Pending v d s b c x w
   pending-first {b} {c} n e E = record {
     unset = λ z. absurd (E .begins z);
-    entry = λ z. subst (λ (i : Lookup). Entry v s b c i) (sym (a .unset n ∙ e)) E;
+    entry = λ z. subst (λ (i : Lookup). Entry v d s b c i) (sym (a .unset n ∙ e)) E;
   }
 
 -- ---- the loop
 
 -- the columns that are left, and the entries
-pub record Rest (v : Version) (s : Bytes) (n from : ℕ) (P : ColumnsAt v deepest s n from) (i at : ℕ) (starts positions : List ℕ) : Type 0 where
-  pub rest : ColumnsAt v deepest s (n - i) at
-  pub entries : (h : ℕ) → h < tableSize → Pending v s (getD starts h 0) (getD positions h 0) (firstOf v h 0 (P .columns)) (firstOf v h i (rest .columns))
+pub record Rest (v : Version) (d : ℕ) (s : Bytes) (n from : ℕ) (P : ColumnsAt v d s n from) (i at : ℕ) (starts positions : List ℕ) : Type 0 where
+  pub rest : ColumnsAt v d s (n - i) at
+  pub entries : (h : ℕ) → h < tableSize → Pending v d s (getD starts h 0) (getD positions h 0) (firstOf v h 0 (P .columns)) (firstOf v h i (rest .columns))
 
-pub record Filling (v : Version) (s : Bytes) (n from i at : ℕ) (starts positions : List ℕ) : Type 0 where
+pub record Filling (v : Version) (d : ℕ) (s : Bytes) (n from i at : ℕ) (starts positions : List ℕ) : Type 0 where
   pub long : length starts ≡ tableSize
   pub paired : length positions ≡ tableSize
-  pub here : (P : ColumnsAt v deepest s n from) → Rest v s n from P i at starts positions
+  pub here : (P : ColumnsAt v d s n from) → Rest v d s n from P i at starts positions
 
 -- as many columns, under another name of their number and place
-renamed : {v : Version} {s : Bytes} {n m at to : ℕ} (P : ColumnsAt v deepest s n at) → n ≡ m → at ≡ to → columnsOf v Free (type v Free deepest) m [] s to ≡ ok (P .columns) (P .end)
-renamed {v} {s} {n} {m} {at} {to} P e g =
-    sym (ap (λ (k : ℕ). columnsOf v Free (type v Free deepest) k [] s at) e ∙ ap (λ (o : ℕ). columnsOf v Free (type v Free deepest) m [] s o) g) ∙ P .reads
+renamed : {v : Version} {d : ℕ} {s : Bytes} {n m at to : ℕ} (P : ColumnsAt v d s n at) → n ≡ m → at ≡ to → columnsOf v Free (type v Free d) m [] s to ≡ ok (P .columns) (P .end)
+renamed {v} {d} {s} {n} {m} {at} {to} P e g =
+    sym (ap (λ (k : ℕ). columnsOf v Free (type v Free d) k [] s at) e ∙ ap (λ (o : ℕ). columnsOf v Free (type v Free d) m [] s o) g) ∙ P .reads
 
 abbrev placed : ℕ → Position
 placed k = record { 0 = k }
 
-module _ {v : Version} {s : Bytes} {n from : ℕ} {starts positions : List ℕ} where
-  pub filling-start : Empty starts → length starts ≡ tableSize → length positions ≡ tableSize → Filling v s n from 0 from starts positions
+module _ {v : Version} {d : ℕ} {s : Bytes} {n from : ℕ} {starts positions : List ℕ} where
+  pub filling-start : Empty starts → length starts ≡ tableSize → length positions ≡ tableSize → Filling v d s n from 0 from starts positions
   filling-start E l m = record {
     long = l;
     paired = m;
@@ -112,8 +112,8 @@ module _ {v : Version} {s : Bytes} {n from : ℕ} {starts positions : List ℕ} 
     };
   }
 
-  module _ {i at : ℕ} (a : Filling v s n from i at starts positions) where
-    pub filling-end : n ≤ i → Table v s n from starts positions
+  module _ {i at : ℕ} (a : Filling v d s n from i at starts positions) where
+    pub filling-end : n ≤ i → Table v d s n from starts positions
     unfolding findFrom
     filling-end le = record {
       long = a .long;
@@ -126,10 +126,10 @@ module _ {v : Version} {s : Bytes} {n from : ℕ} {starts positions : List ℕ} 
     }
 
     module _ (lt : i < n) {p : Labelled} (g : labelRes s p ≡ label v s at) {l : LabelSpan} {c : Cursor} (h : p ≡ Labelled.Is l c) where
-      first : (P : ColumnsAt v deepest s n from) → FirstAt v deepest s (n - i) at (a .here P .rest) (labelAt s l) (c .at)
+      first : (P : ColumnsAt v d s n from) → FirstAt v d s (n - i) at (a .here P .rest) (labelAt s l) (c .at)
       first P = first-at (a .here P .rest) (λ z. omega arith) g h
 
-      step : (P : ColumnsAt v deepest s n from) (k : ℕ) {b : Bool} → eqb (slotOf v (labelAt s l)) k ≡ b
+      step : (P : ColumnsAt v d s n from) (k : ℕ) {b : Bool} → eqb (slotOf v (labelAt s l)) k ≡ b
           → firstOf v k i (a .here P .rest .columns) ≡ choose b (found (record { 0 = i }) (labelAt s l) (first P .head .tree)) (firstOf v k (i + 1) (first P .tail .columns))
       unfolding findFrom
       step P k e =
@@ -137,7 +137,7 @@ module _ {v : Version} {s : Bytes} {n from : ℕ} {starts positions : List ℕ} 
           ∙ ap (λ (b : Bool). choose b (found (record { 0 = i }) (labelAt s l) (first P .head .tree)) (firstOf v k (i + 1) (first P .tail .columns))) e
 
       module _ {j : ℕ} (e : j ≡ slotOf v (labelAt s l)) {starts′ positions′ : List ℕ} (E : Entered starts positions j at i starts′ positions′) where
-        added : (P : ColumnsAt v deepest s n from) → getD starts j 0 ≡ 0 → EntryAt v s (getD starts′ j 0) (getD positions′ j 0) (record { 0 = i }) (labelAt s l) (first P .head .tree)
+        added : (P : ColumnsAt v d s n from) → getD starts j 0 ≡ 0 → EntryAt v d s (getD starts′ j 0) (getD positions′ j 0) (record { 0 = i }) (labelAt s l) (first P .head .tree)
         added P z =
             let (x, y) = E .first z in
             record {
@@ -149,23 +149,23 @@ module _ {v : Version} {s : Bytes} {n from : ℕ} {starts positions : List ℕ} 
               reads = first P .head .reads;
             }
 
-        own : (P : ColumnsAt v deepest s n from) → j < tableSize → Dec (getD starts j 0 ≡ 0)
-            → Pending v s (getD starts′ j 0) (getD positions′ j 0) (firstOf v j 0 (P .columns)) (firstOf v j (i + 1) (first P .tail .columns))
+        own : (P : ColumnsAt v d s n from) → j < tableSize → Dec (getD starts j 0 ≡ 0)
+            → Pending v d s (getD starts′ j 0) (getD positions′ j 0) (firstOf v j 0 (P .columns)) (firstOf v j (i + 1) (first P .tail .columns))
         unfolding choose
         own P m (yes z) = pending-first (a .here P .entries j m) z (step P j (eq-eqb (slotOf v (labelAt s l)) j (sym e))) (added P z)
         own P m (no z) = let (x, y) = E .later z in pending-later (a .here P .entries j m) z x y
 
-        pending : (P : ColumnsAt v deepest s n from) (k : ℕ) → k < tableSize → Dec (k ≡ j)
-            → Pending v s (getD starts′ k 0) (getD positions′ k 0) (firstOf v k 0 (P .columns)) (firstOf v k (i + 1) (first P .tail .columns))
+        pending : (P : ColumnsAt v d s n from) (k : ℕ) → k < tableSize → Dec (k ≡ j)
+            → Pending v d s (getD starts′ k 0) (getD positions′ k 0) (firstOf v k 0 (P .columns)) (firstOf v k (i + 1) (first P .tail .columns))
         unfolding choose
         pending P k m (yes q) =
-            subst (λ (b : ℕ). Pending v s (getD starts′ b 0) (getD positions′ b 0) (firstOf v b 0 (P .columns)) (firstOf v b (i + 1) (first P .tail .columns))) (sym q)
+            subst (λ (b : ℕ). Pending v d s (getD starts′ b 0) (getD positions′ b 0) (firstOf v b 0 (P .columns)) (firstOf v b (i + 1) (first P .tail .columns))) (sym q)
             (own P (let w : j < tableSize = omega arith in w) (ℕ-discrete (getD starts j 0) 0))
         pending P k m (no q) =
             let (x, y) = E .other k q in
             pending-other (a .here P .entries k m) x y (step P k (ne-eqb (slotOf v (labelAt s l)) k (λ z. q (sym (e ∙ z)))))
 
-        pub filling-more : {q : Moved} {b : Cursor} → q ≡ movedOf (type v Free deepest s (c .at)) → q ≡ Moved.To b → Filling v s n from (i + 1) (b .at) starts′ positions′
+        pub filling-more : {q : Moved} {b : Cursor} → q ≡ movedOf (type v Free d s (c .at)) → q ≡ Moved.To b → Filling v d s n from (i + 1) (b .at) starts′ positions′
         filling-more x y = record {
           long = E .long ∙ a .long;
           paired = E .paired ∙ a .paired;

@@ -1,4 +1,4 @@
--- A table of a layout's top columns: for each hash of a label the first column that has it, by where it begins and by its position.
+-- A table of sibling columns, a layout's or a struct's: for each hash of a label the first column that has it, by where it begins and by its position.
 use Prim.Native.Nat.{ℕ, _%_, _<_}
 use mathlib.Core.Path.{_≡_}
 use mathlib.Core.List.{List}
@@ -7,7 +7,7 @@ use lib.Dec.{eqb}
 use Rattle.layout.specs.Bytes.{Bytes}
 use Rattle.layout.specs.Parser.{ok}
 use Rattle.layout.specs.Tree.{Label, ColumnType, Columns}
-use Rattle.layout.specs.Layout.{label, type, deepest, topRule}
+use Rattle.layout.specs.Layout.{label, type, topRule}
 use Rattle.layout.specs.Seen.{labelHash}
 use Rattle.layout.specs.Stands.{ColumnsAt}
 use Rattle.layout.specs.Find.{Lookup, absent, at as found, findFrom}
@@ -28,24 +28,24 @@ abbrev pub firstOf : Version → ℕ → ℕ → Columns → Lookup
 firstOf v h = findFrom (λ i l. eqb (slotOf v l) h)
 
 -- the column p with the label l and the type t begins at o; its position is k
-pub record EntryAt (v : Version) (s : Bytes) (o k : ℕ) (p : Position) (l : Label) (t : ColumnType) : Type 0 where
+pub record EntryAt (v : Version) (d : ℕ) (s : Bytes) (o k : ℕ) (p : Position) (l : Label) (t : ColumnType) : Type 0 where
   pub begins : o ≡ 0 → ⊥
   pub position : p ≡ record { 0 = k }
   pub start : ℕ
   pub labelled : label v s o ≡ ok l start
   pub end : ℕ
-  pub reads : type v Free deepest s start ≡ ok t end
+  pub reads : type v Free d s start ≡ ok t end
 
 -- the numbers of an entry are those of what was looked up; 0 where there is none
-abbrev pub Entry : Version → Bytes → ℕ → ℕ → Lookup → Type 0
-Entry v s o k absent = o ≡ 0
-Entry v s o k (found p l t) = EntryAt v s o k p l t
+abbrev pub Entry : Version → ℕ → Bytes → ℕ → ℕ → Lookup → Type 0
+Entry v d s o k absent = o ≡ 0
+Entry v d s o k (found p l t) = EntryAt v d s o k p l t
 
 -- each entry is that of the first column whose label has its hash
-pub record Table (v : Version) (s : Bytes) (n at : ℕ) (starts positions : List ℕ) : Type 0 where
+pub record Table (v : Version) (d : ℕ) (s : Bytes) (n at : ℕ) (starts positions : List ℕ) : Type 0 where
   pub long : length starts ≡ tableSize
   pub paired : length positions ≡ tableSize
-  pub entries : (P : ColumnsAt v deepest s n at) (h : ℕ) → h < tableSize → Entry v s (getD starts h 0) (getD positions h 0) (firstOf v h 0 (P .columns))
+  pub entries : (P : ColumnsAt v d s n at) (h : ℕ) → h < tableSize → Entry v d s (getD starts h 0) (getD positions h 0) (firstOf v h 0 (P .columns))
 
 -- no entry is set
 pub record Empty (starts : List ℕ) : Type 0 where

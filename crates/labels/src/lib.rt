@@ -1,5 +1,5 @@
-// The counterpart of a label among the top columns of a layout, found by the label's hash: a table holds for each hash where the
-// first column that has it begins, and its position.
+// The counterpart of a label among sibling columns, a layout's or a struct's, found by the label's hash: a table holds for each hash
+// where the first column that has it begins, and its position.
 ghost use mathlib.Core.Bool.{true};
 ghost use mathlib.Core.Path.{_≡_};
 ghost use Prim.Native.Nat.{_<_};
@@ -60,13 +60,14 @@ fn enter(starts: &mut [u16], positions: &mut [u16], h: usize, at: usize, i: u16)
 pub fn fill(
     s: &[u8],
     v: Version,
+    depth: u8,
     n: u16,
     first: Cursor,
     starts: &mut [u16],
     positions: &mut [u16],
 ) -> bool
     requires { ⌜ Empty (now starts) ⌝ }
-    ensures { λ r. ⌜ (r ≡ true → Table v (now (s .entry)) n (first .at) (now (starts .exit)) (now (positions .exit))) ⌝ }
+    ensures { λ r. ⌜ (r ≡ true → Table v depth (now (s .entry)) n (first .at) (now (starts .exit)) (now (positions .exit))) ⌝ }
 {
     if starts.len() != TABLE_SIZE {
         return false;
@@ -84,7 +85,7 @@ pub fn fill(
                 if !enter(starts, positions, h, at, i) {
                     return false;
                 }
-                match pass_type(s, v, 16, next) {
+                match pass_type(s, v, depth, next) {
                     Moved::To(e) => {
                         at = e.at;
                     }
@@ -103,6 +104,7 @@ pub fn fill(
 pub fn counterpart_in(
     s: &[u8],
     v: Version,
+    depth: u8,
     n: u16,
     c: Cursor,
     starts: &[u16],
@@ -110,10 +112,10 @@ pub fn counterpart_in(
     t: &[u8],
     l: Label,
 ) -> Found
-    requires { ⌜ ColumnsAt v 16 (now s) n (c .at) ⌝ }
-    requires { ⌜ Table v (now s) n (c .at) (now starts) (now positions) ⌝ }
+    requires { ⌜ ColumnsAt v depth (now s) n (c .at) ⌝ }
+    requires { ⌜ Table v depth (now s) n (c .at) (now starts) (now positions) ⌝ }
     requires { ⌜ spanIn (now t) (l .name) ⌝ }
-    ensures { λ r. ⌜ ((P : ColumnsAt v 16 (now (s .entry)) n (c .at)) → Finds v 16 (now (s .entry)) (counterpart v (labelAt (now (t .entry)) l) (P .columns)) r) ⌝ }
+    ensures { λ r. ⌜ ((P : ColumnsAt v depth (now (s .entry)) n (c .at)) → Finds v depth (now (s .entry)) (counterpart v (labelAt (now (t .entry)) l) (P .columns)) r) ⌝ }
 {
     let rule = top_rule(v);
     let h = slot(t, v, l);
@@ -127,8 +129,32 @@ pub fn counterpart_in(
             if same_label(rule, s, m, t, l) {
                 return Found::At(Position(positions[h]), m, next);
             }
-            find_counterpart(s, v, 16, n, c, t, l)
+            find_counterpart(s, v, depth, n, c, t, l)
         }
         Labelled::Refused(_) => Found::Absent,
     }
+}
+
+// The same where the table may not be whole: the columns are then scanned.
+pub fn find_in(
+    s: &[u8],
+    v: Version,
+    depth: u8,
+    n: u16,
+    c: Cursor,
+    whole: bool,
+    starts: &[u16],
+    positions: &[u16],
+    t: &[u8],
+    l: Label,
+) -> Found
+    requires { ⌜ ColumnsAt v depth (now s) n (c .at) ⌝ }
+    requires { ⌜ (whole ≡ true → Table v depth (now s) n (c .at) (now starts) (now positions)) ⌝ }
+    requires { ⌜ spanIn (now t) (l .name) ⌝ }
+    ensures { λ r. ⌜ ((P : ColumnsAt v depth (now (s .entry)) n (c .at)) → Finds v depth (now (s .entry)) (counterpart v (labelAt (now (t .entry)) l) (P .columns)) r) ⌝ }
+{
+    if whole {
+        return counterpart_in(s, v, depth, n, c, starts, positions, t, l);
+    }
+    find_counterpart(s, v, depth, n, c, t, l)
 }

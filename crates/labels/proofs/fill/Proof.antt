@@ -9,10 +9,10 @@ use Rattle.labels.proofs.fill.Statement.{statement}
 use Rattle.labels.proofs.fill.Tie as tie
 
 abbrev Inv-loop : tie.InvT-loop
-Inv-loop s v n starts₀ positions₀ at₀ i₀ starts positions at i = Filling v s n at₀ i at starts positions
+Inv-loop s v depth n starts₀ positions₀ at₀ i₀ starts positions at i = Filling v depth s n at₀ i at starts positions
 
 abbrev μ-loop : tie.MeasureT-loop
-μ-loop s v n starts₀ positions₀ at₀ i₀ starts positions at i = n - i
+μ-loop s v depth n starts₀ positions₀ at₀ i₀ starts positions at i = n - i
 
 pub fill-spec : {M : Type 1} → statement M
 fill-spec =

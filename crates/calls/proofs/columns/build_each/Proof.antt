@@ -33,13 +33,13 @@ build-each-spec =
     (λ c κs. let P = c .before .before .before .before .before .before .before .before .before .before .before .before .before .before .before .pre .0 .0 in
     let T = c .before .before .before .before .before .before .before .before .before .before .before .before .before .before .before .pre .1 .0 in
     let W = c .before .before .before .before .before .before .before .loop .inv T P in
-    (((P .columns, c .before .find-top .ensures P), column W (c .before .before .before .before .before .before .loop-test .taken) (c .before .before .before .before .before .label .ensures .0) (c .before .before .before .l .given .1) .head), (T, (column-name W (c .before .before .before .before .before .before .loop-test .taken) (c .before .before .before .before .before .label .ensures .0) (c .before .before .before .l .given .1) (c .before .before .before .before .before .label .ensures .1), (c .before .before .before .before .before .before .before .before .before .before .before .before .before .before .before .pre .1 .1 .0 .0, c .before .before .before .before .before .before .before .before .before .before .before .before .before .before .before .pre .1 .1 .0 .1, column-room W (c .before .before .before .before .before .before .loop-test .taken) (c .before .before .before .before .before .label .ensures .0) (c .before .before .before .l .given .1))))))
+    (((P .columns, c .before .find-in .ensures P), column W (c .before .before .before .before .before .before .loop-test .taken) (c .before .before .before .before .before .label .ensures .0) (c .before .before .before .l .given .1) .head), (T, (column-name W (c .before .before .before .before .before .before .loop-test .taken) (c .before .before .before .before .before .label .ensures .0) (c .before .before .before .l .given .1) (c .before .before .before .before .before .label .ensures .1), (c .before .before .before .before .before .before .before .before .before .before .before .before .before .before .before .pre .1 .1 .0 .0, c .before .before .before .before .before .before .before .before .before .before .before .before .before .before .before .pre .1 .1 .0 .1, column-room W (c .before .before .before .before .before .before .loop-test .taken) (c .before .before .before .before .before .label .ensures .0) (c .before .before .before .l .given .1))))))
     (λ c κs. search needs)
     (λ c κs. search needs)
     (λ c. c .before .before .before .before .before .attach-field .kept .1 .1 .1 .1 .1 .1 .1 .1 .1 .1 .1 .1 .0 ∙ c .before .before .before .before .before .before .before .before .before .before .before .before .before .loop .inv (c .before .before .before .before .before .before .before .before .before .before .before .before .before .before .before .before .before .before .before .before .before .pre .1 .0) (c .before .before .before .before .before .before .before .before .before .before .before .before .before .before .before .before .before .before .before .before .before .pre .0 .0) .kept)
     (λ c. λ T P Q.
     let W = c .before .before .before .before .before .before .before .before .before .before .before .before .before .loop .inv T P in
-    let A = column-made W (c .before .before .before .before .before .before .before .before .before .before .before .before .loop-test .taken) (c .before .before .before .before .before .before .before .before .before .before .before .label .ensures .0) (c .before .before .before .before .before .before .before .before .before .l .given .1) _ _ (c .before .before .before .before .before .before .before .before .before .before .before .before .before .before .inserts .ensures) (c .before .before .before .before .before .attach-field .ensures _ T (P .columns) (column W (c .before .before .before .before .before .before .before .before .before .before .before .before .loop-test .taken) (c .before .before .before .before .before .before .before .before .before .before .before .label .ensures .0) (c .before .before .before .before .before .before .before .before .before .l .given .1) .head) (c .before .before .before .before .before .before .before .find-top .ensures P) (column-after W (c .before .before .before .before .before .before .before .before .before .before .before .before .loop-test .taken) (c .before .before .before .before .before .before .before .before .before .before .before .label .ensures .0) (c .before .before .before .before .before .before .before .before .before .l .given .1))) in
+    let A = column-made W (c .before .before .before .before .before .before .before .before .before .before .before .before .loop-test .taken) (c .before .before .before .before .before .before .before .before .before .before .before .label .ensures .0) (c .before .before .before .before .before .before .before .before .before .l .given .1) _ _ (c .before .before .before .before .before .before .before .before .before .before .before .before .before .before .inserts .ensures) (c .before .before .before .before .before .attach-field .ensures _ T (P .columns) (column W (c .before .before .before .before .before .before .before .before .before .before .before .before .loop-test .taken) (c .before .before .before .before .before .before .before .before .before .before .before .label .ensures .0) (c .before .before .before .before .before .before .before .before .before .l .given .1) .head) (c .before .before .before .before .before .before .before .find-in .ensures P) (column-after W (c .before .before .before .before .before .before .before .before .before .before .before .before .loop-test .taken) (c .before .before .before .before .before .before .before .before .before .before .before .label .ensures .0) (c .before .before .before .before .before .before .before .before .before .l .given .1))) in
     building-stop W (c .before .before .before .before .before .before .before .before .before .before .before .before .loop-test .taken) (c .before .before .before .before .before .before .before .before .before .before .before .label .ensures .0) (c .before .before .before .before .before .before .before .before .before .l .given .1) A (c .before .before .is-refused .ensures) (c .before .if1 .taken) (c .failed-column .ensures) Q)
     (λ c κs. let W = c .before .before .before .before .before .before .before .before .before .before .before .before .loop .inv (c .before .before .before .before .before .before .before .before .before .before .before .before .before .before .before .before .before .before .before .before .pre .1 .0) (c .before .before .before .before .before .before .before .before .before .before .before .before .before .before .before .before .before .before .before .before .pre .0 .0) in
     column W (c .before .before .before .before .before .before .before .before .before .before .before .loop-test .taken) (c .before .before .before .before .before .before .before .before .before .before .label .ensures .0) (c .before .before .before .before .before .before .before .before .l .given .1) .head)
@@ -47,7 +47,7 @@ build-each-spec =
     (λ c. let T = c .before .before .before .before .before .before .before .before .before .before .before .before .before .before .before .before .before .before .before .before .before .before .pre .1 .0 in
     let P = c .before .before .before .before .before .before .before .before .before .before .before .before .before .before .before .before .before .before .before .before .before .before .pre .0 .0 in
     let W = c .before .before .before .before .before .before .before .before .before .before .before .before .before .before .loop .inv T P in
-    let A = column-made W (c .before .before .before .before .before .before .before .before .before .before .before .before .before .loop-test .taken) (c .before .before .before .before .before .before .before .before .before .before .before .before .label .ensures .0) (c .before .before .before .before .before .before .before .before .before .before .l .given .1) _ _ (c .before .before .before .before .before .before .before .before .before .before .before .before .before .before .before .inserts .ensures) (c .before .before .before .before .before .before .attach-field .ensures _ T (P .columns) (column W (c .before .before .before .before .before .before .before .before .before .before .before .before .before .loop-test .taken) (c .before .before .before .before .before .before .before .before .before .before .before .before .label .ensures .0) (c .before .before .before .before .before .before .before .before .before .before .l .given .1) .head) (c .before .before .before .before .before .before .before .before .find-top .ensures P) (column-after W (c .before .before .before .before .before .before .before .before .before .before .before .before .before .loop-test .taken) (c .before .before .before .before .before .before .before .before .before .before .before .before .label .ensures .0) (c .before .before .before .before .before .before .before .before .before .before .l .given .1))) in
+    let A = column-made W (c .before .before .before .before .before .before .before .before .before .before .before .before .before .loop-test .taken) (c .before .before .before .before .before .before .before .before .before .before .before .before .label .ensures .0) (c .before .before .before .before .before .before .before .before .before .before .l .given .1) _ _ (c .before .before .before .before .before .before .before .before .before .before .before .before .before .before .before .inserts .ensures) (c .before .before .before .before .before .before .attach-field .ensures _ T (P .columns) (column W (c .before .before .before .before .before .before .before .before .before .before .before .before .before .loop-test .taken) (c .before .before .before .before .before .before .before .before .before .before .before .before .label .ensures .0) (c .before .before .before .before .before .before .before .before .before .before .l .given .1) .head) (c .before .before .before .before .before .before .before .before .find-in .ensures P) (column-after W (c .before .before .before .before .before .before .before .before .before .before .before .before .before .loop-test .taken) (c .before .before .before .before .before .before .before .before .before .before .before .before .label .ensures .0) (c .before .before .before .before .before .before .before .before .before .before .l .given .1))) in
     omega (arith, column-fits W (c .before .before .before .before .before .before .before .before .before .before .before .before .before .loop-test .taken) (c .before .before .before .before .before .before .before .before .before .before .before .before .label .ensures .0) (c .before .before .before .before .before .before .before .before .before .before .l .given .1) A (c .before .before .before .is-refused .ensures) (c .before .before .if1 .left) (c .len-of .ensures), c .before .before .before .before .before .before .before .before .before .before .before .before .before .before .before .before .before .before .before .before .before .before .pre .1 .1 .0))
     (λ c. search needs)
     (λ c. c .before .before .before .before .before .loop .inv (c .before .before .before .before .before .before .before .before .before .before .before .before .before .pre .1 .0) (c .before .before .before .before .before .before .before .before .before .before .before .before .before .pre .0 .0) .kept)
@@ -56,7 +56,7 @@ build-each-spec =
     (λ c. omega arith)
     (λ c. λ T P.
     let W = c .before .before .before .before .before .before .before .before .before .before .before .before .before .before .loop .inv T P in
-    let A = column-made W (c .before .before .before .before .before .before .before .before .before .before .before .before .before .loop-test .taken) (c .before .before .before .before .before .before .before .before .before .before .before .before .label .ensures .0) (c .before .before .before .before .before .before .before .before .before .before .l .given .1) _ _ (c .before .before .before .before .before .before .before .before .before .before .before .before .before .before .before .inserts .ensures) (c .before .before .before .before .before .before .attach-field .ensures _ T (P .columns) (column W (c .before .before .before .before .before .before .before .before .before .before .before .before .before .loop-test .taken) (c .before .before .before .before .before .before .before .before .before .before .before .before .label .ensures .0) (c .before .before .before .before .before .before .before .before .before .before .l .given .1) .head) (c .before .before .before .before .before .before .before .before .find-top .ensures P) (column-after W (c .before .before .before .before .before .before .before .before .before .before .before .before .before .loop-test .taken) (c .before .before .before .before .before .before .before .before .before .before .before .before .label .ensures .0) (c .before .before .before .before .before .before .before .before .before .before .l .given .1))) in
+    let A = column-made W (c .before .before .before .before .before .before .before .before .before .before .before .before .before .loop-test .taken) (c .before .before .before .before .before .before .before .before .before .before .before .before .label .ensures .0) (c .before .before .before .before .before .before .before .before .before .before .l .given .1) _ _ (c .before .before .before .before .before .before .before .before .before .before .before .before .before .before .before .inserts .ensures) (c .before .before .before .before .before .before .attach-field .ensures _ T (P .columns) (column W (c .before .before .before .before .before .before .before .before .before .before .before .before .before .loop-test .taken) (c .before .before .before .before .before .before .before .before .before .before .before .before .label .ensures .0) (c .before .before .before .before .before .before .before .before .before .before .l .given .1) .head) (c .before .before .before .before .before .before .before .before .find-in .ensures P) (column-after W (c .before .before .before .before .before .before .before .before .before .before .before .before .before .loop-test .taken) (c .before .before .before .before .before .before .before .before .before .before .before .before .label .ensures .0) (c .before .before .before .before .before .before .before .before .before .before .l .given .1))) in
     building-more W (c .before .before .before .before .before .before .before .before .before .before .before .before .before .loop-test .taken) (c .before .before .before .before .before .before .before .before .before .before .before .before .label .ensures .0) (c .before .before .before .before .before .before .before .before .before .before .l .given .1) A (c .before .before .before .is-refused .ensures) (c .before .before .if1 .left) (c .before .skip-type .ensures) (c .len-of .ensures) (c .before .before .before .before .before .before .attach-field .kept .1 .1 .1 .1 .1 .1 .1 .1 .1 .1 .1 .1 .0))
     (λ c. omega (arith, c .before .loop .inv (c .before .before .before .before .before .before .before .before .before .pre .1 .0) (c .before .before .before .before .before .before .before .before .before .pre .0 .0) .over))
     (λ c. c .before .loop .inv (c .before .before .before .before .before .before .before .before .before .pre .1 .0) (c .before .before .before .before .before .before .before .before .before .pre .0 .0) .kept)
