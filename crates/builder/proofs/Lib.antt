@@ -1,5 +1,6 @@
 pub mod Putting
 pub mod Names
+pub mod Repeated
 pub mod Matching
 pub mod Whole
 pub mod Rows

@@ -68,8 +68,8 @@ module _ {v : Version} {d : ℕ} {s : Bytes} {n from : ℕ} {starts positions : 
         let i : l ≡ labelAt s m = cc in
         let j : E .start ≡ c .at = cc in
         let a : repeats (topRule v) l w ≡ true = ap (λ (b : Label). repeats (topRule v) b w) i ∙ sym (x ∙ ap (λ (r : Siblings). repeats r (labelAt s m) w) top) ∙ y in
-        let i₀ = first-of (λ l. repeats (topRule v) l w) (λ l. eqb (slotOf v l) (slotOf v w)) (same-slot v w) 0 (P .columns) r a in
-        subst (λ (x : Lookup). Finds v d s x (Found.At (record { 0 = getD positions h 0 }) m c)) (sym (counterpart-first v w (P .columns) ∙ i₀))
+        let first = first-of (λ l. repeats (topRule v) l w) (λ l. eqb (slotOf v l) (slotOf v w)) (same-slot v w) 0 (P .columns) r a in
+        subst (λ (x : Lookup). Finds v d s x (Found.At (record { 0 = getD positions h 0 }) m c)) (sym (counterpart-first v w (P .columns) ∙ first))
         (record {
           span = m;
           start = c;

@@ -27,7 +27,7 @@ label-got s x e f = sym e ∙ ap (labelRes s) f
 label-none : (s : List ℕ) (x : Res Label) {p : Labelled} {n : ℕ} → labelRes s p ≡ x → p ≡ Labelled.Refused n → x ≡ refuse n
 label-none s x e f = sym e ∙ ap (labelRes s) f
 
-repeatsAny-snoc : (r : Siblings) (l : Label) (ms : List Label) (m : Label) → repeatsAny r l (ms ++ (m ∷ [])) ≡ (repeatsAny r l ms || repeats r l m)
+pub repeatsAny-snoc : (r : Siblings) (l : Label) (ms : List Label) (m : Label) → repeatsAny r l (ms ++ (m ∷ [])) ≡ (repeatsAny r l ms || repeats r l m)
 unfolding repeatsAny
 repeatsAny-snoc r l [] m = or-false (repeats r l m)
 repeatsAny-snoc r l (k ∷ ms) m = rw (repeatsAny-snoc r l ms m) (sym (or-assoc (repeats r l k) (repeatsAny r l ms) (repeats r l m)))

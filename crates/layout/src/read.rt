@@ -122,7 +122,7 @@ fn read_element(
 }
 
 // `n` columns that keep to a rule among themselves, and to another inside their types.
-fn read_columns(
+pub fn read_columns(
     s: &[u8],
     v: Version,
     rule: Siblings,
