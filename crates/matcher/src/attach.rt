@@ -9,6 +9,7 @@ ghost use Rattle.layout.specs.Find.{counterpart, Finds};
 ghost use Rattle.layout.specs.Stands.{TypeAt, ColumnsAt};
 ghost use Rattle.layout.specs.Tree.{Columns};
 ghost use Rattle.defaults.specs.Stands.{TableAt};
+ghost use Rattle.labels.specs.Table.{Table};
 ghost use Rattle.plan.specs.Selector.{Selector};
 ghost use Rattle.matching.specs.Build.{unlessNullType};
 ghost use Rattle.builder.specs.Answers.{Makes, Maps, elementOf, needsRename, DefaultsAt, defaultsAt, Attached, AttachedFields, attachRenamed, attachField, attachStruct, attachElement, attachInner, attachNested};
@@ -41,12 +42,14 @@ use builder::write::put_head;
 use builder::write::put_position;
 use builder::write::put_short;
 use forms::write::write_text;
+use labels::TABLE_SIZE;
+use labels::fill;
+use labels::find_in;
 use layout::columns::Label;
 use layout::columns::Labelled;
 use layout::columns::Position;
 use layout::cursor::Cursor;
 use layout::find::Found;
-use layout::find::find_counterpart;
 use layout::types::Head;
 use layout::version::Version;
 use layout::walk::skip_type;
@@ -218,7 +221,7 @@ fn attach_struct(
     }
     put_head(out, k, 4, position);
     put_short(out, k + 4, m);
-    let row = attach_fields(
+    let row = attach_row(
         policy,
         v,
         depth - 1,
@@ -243,8 +246,9 @@ fn attach_struct(
     Made::Built(6 + len)
 }
 
-// The field matcher: `m` target fields from `b` on over `n` incoming fields from `c` on. A loop, so that 65,535 fields take no stack.
-fn attach_fields(
+// The field matcher: `m` target fields from `b` on over `n` incoming fields from `c` on. A table takes 8 KiB of stack, so only the fields of a top
+// column's type and those one level further in have one: at most two stand at once, however deep the types.
+fn attach_row(
     policy: Policy,
     v: Version,
     depth: u8,
@@ -264,6 +268,169 @@ fn attach_fields(
     requires { ⌜ (length (now target) ≤ 16384) × (length (now table) ≤ 16384) × (k ≤ 65536 * b .at) ⌝ }
     ensures { λ r. ⌜ AttachedFields policy v depth (now (table .entry)) defaults (now (incoming .entry)) n (c .at) (now (target .entry)) m (b .at) (now (out .entry)) k r (now (out .exit)) ⌝ }
 {
+    if m <= 16 {
+        return attach_few(
+            policy,
+            v,
+            depth,
+            incoming,
+            n,
+            c,
+            table,
+            defaults,
+            target,
+            m,
+            b,
+            out,
+            k,
+        );
+    }
+    if depth < 14 {
+        return attach_few(
+            policy,
+            v,
+            depth,
+            incoming,
+            n,
+            c,
+            table,
+            defaults,
+            target,
+            m,
+            b,
+            out,
+            k,
+        );
+    }
+    attach_many(
+        policy,
+        v,
+        depth,
+        incoming,
+        n,
+        c,
+        table,
+        defaults,
+        target,
+        m,
+        b,
+        out,
+        k,
+    )
+}
+
+// The same for few fields: counterparts are scanned for.
+fn attach_few(
+    policy: Policy,
+    v: Version,
+    depth: u8,
+    incoming: &[u8],
+    n: u16,
+    c: Cursor,
+    table: &[u8],
+    defaults: DefaultFieldValues,
+    target: &[u8],
+    m: u16,
+    b: Cursor,
+    out: &mut [u8],
+    k: usize,
+) -> Row
+    requires { ⌜ ColumnsAt v depth (now incoming) n (c .at) × ColumnsAt v depth (now target) m (b .at) ⌝ }
+    requires { ⌜ TableAt (now table) (defaults .count) (defaults .entries .at) ⌝ }
+    requires { ⌜ (length (now target) ≤ 16384) × (length (now table) ≤ 16384) × (k ≤ 65536 * b .at) ⌝ }
+    ensures { λ r. ⌜ AttachedFields policy v depth (now (table .entry)) defaults (now (incoming .entry)) n (c .at) (now (target .entry)) m (b .at) (now (out .entry)) k r (now (out .exit)) ⌝ }
+{
+    let array = [0u16; 1];
+    let none = &array[..];
+    attach_fields(
+        policy,
+        v,
+        depth,
+        incoming,
+        n,
+        c,
+        false,
+        none,
+        none,
+        table,
+        defaults,
+        target,
+        m,
+        b,
+        out,
+        k,
+    )
+}
+
+// The same for many fields: the table of the incoming fields is filled once.
+fn attach_many(
+    policy: Policy,
+    v: Version,
+    depth: u8,
+    incoming: &[u8],
+    n: u16,
+    c: Cursor,
+    table: &[u8],
+    defaults: DefaultFieldValues,
+    target: &[u8],
+    m: u16,
+    b: Cursor,
+    out: &mut [u8],
+    k: usize,
+) -> Row
+    requires { ⌜ ColumnsAt v depth (now incoming) n (c .at) × ColumnsAt v depth (now target) m (b .at) ⌝ }
+    requires { ⌜ TableAt (now table) (defaults .count) (defaults .entries .at) ⌝ }
+    requires { ⌜ (length (now target) ≤ 16384) × (length (now table) ≤ 16384) × (k ≤ 65536 * b .at) ⌝ }
+    ensures { λ r. ⌜ AttachedFields policy v depth (now (table .entry)) defaults (now (incoming .entry)) n (c .at) (now (target .entry)) m (b .at) (now (out .entry)) k r (now (out .exit)) ⌝ }
+{
+    let mut starts = [0u16; TABLE_SIZE];
+    let mut positions = [0u16; TABLE_SIZE];
+    let whole = fill(incoming, v, depth, n, c, &mut starts, &mut positions);
+    attach_fields(
+        policy,
+        v,
+        depth,
+        incoming,
+        n,
+        c,
+        whole,
+        &starts,
+        &positions,
+        table,
+        defaults,
+        target,
+        m,
+        b,
+        out,
+        k,
+    )
+}
+
+// The same, counterparts found through the table, where it is whole. A loop, so that 65,535 fields take no stack.
+fn attach_fields(
+    policy: Policy,
+    v: Version,
+    depth: u8,
+    incoming: &[u8],
+    n: u16,
+    c: Cursor,
+    whole: bool,
+    starts: &[u16],
+    positions: &[u16],
+    table: &[u8],
+    defaults: DefaultFieldValues,
+    target: &[u8],
+    m: u16,
+    b: Cursor,
+    out: &mut [u8],
+    k: usize,
+) -> Row
+    requires { ⌜ ColumnsAt v depth (now incoming) n (c .at) × ColumnsAt v depth (now target) m (b .at) ⌝ }
+    requires { ⌜ TableAt (now table) (defaults .count) (defaults .entries .at) ⌝ }
+    requires { ⌜ (length (now target) ≤ 16384) × (length (now table) ≤ 16384) × (k ≤ 65536 * b .at) ⌝ }
+    requires { ⌜ (whole ≡ true → Table v depth (now incoming) n (c .at) (now starts) (now positions)) ⌝ }
+    ensures { λ r. ⌜ AttachedFields policy v depth (now (table .entry)) defaults (now (incoming .entry)) n (c .at) (now (target .entry)) m (b .at) (now (out .entry)) k r (now (out .exit)) ⌝ }
+{
     let missing = policy.missing_struct_fields;
     let insert = inserts(missing);
     let mut from = b.at;
@@ -274,7 +441,18 @@ fn attach_fields(
         let f = Cursor { at: from };
         match f.label(target, v) {
             Labelled::Is(l, next) => {
-                let found = find_counterpart(incoming, v, depth, n, c, target, l);
+                let found = find_in(
+                    incoming,
+                    v,
+                    depth,
+                    n,
+                    c,
+                    whole,
+                    starts,
+                    positions,
+                    target,
+                    l,
+                );
                 let first = attach_field(
                     policy,
                     v,

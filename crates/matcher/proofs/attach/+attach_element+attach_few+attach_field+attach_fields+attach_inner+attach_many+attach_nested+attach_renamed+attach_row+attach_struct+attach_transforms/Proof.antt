@@ -1,4 +1,4 @@
--- The proof of the matchers' cycle. The measure is 8 for each level left, and up to 5 more by the function. `Remaining` holds at the head of the loop
+-- The proof of the matchers' cycle. The measure is 8 for each level left, and up to 7 more by the function. `Remaining` holds at the head of the loop
 -- over target fields. Assumes nothing.
 use mathlib.Core.Bool.{Bool, _&&_}
 use Rattle.matcher.proofs.Cycle.{makes-to, nested-is, nested-null, nested-other, nested-struct, nested-inner, struct-other, struct-faulted, struct-stops, struct-left-out, struct-kept, row-room, count-at, columns-within, rename-on, renamed-plain, renamed-stopped, renamed-made, none-at, none-is, element-unlike, element-stopped, element-left-out, element-kept, element-names, inner-list, inner-list-other, inner-array, inner-array-other, inner-none, sought-at, sought-absent}
@@ -11,8 +11,10 @@ use Rattle.matching.specs.Build.{structPart, listPart, arrayPart, listSelector,
 use Rattle.plan.specs.Selector.{position, listMapping, arrayMapping}
 use Rattle.forms.proofs.Writing.{extent, text-long}
 use Rattle.layout.proofs.View.{deep, leaf-at, never-headless}
-use Rattle.layout.proofs.Ways.{head-in}
+use Rattle.layout.proofs.Ways.{clash, head-in}
 use Rattle.layout.specs.Answers.{headRes, labelAt}
+use Rattle.labels.specs.Table.{tableSize}
+use Rattle.labels.proofs.Empty.{empty-zeros}
 use mathlib.Core.Path.{refl, sym, ap, _∙_}
 use denote.Ref.{now}
 use Prim.Native.Nat.{ℕ, _+_, _-_, _*_, _<_}
@@ -20,28 +22,37 @@ use borrow.Fn.Kinds.{In}
 use borrow.Fn.PlainCycle.{Measures, is, falls, and}
 use Rattle.matcher.proofs.attach.attach_transforms.Reads as attach-transforms
 use Rattle.matcher.proofs.attach.attach_transforms.Kinds as attach-transforms-kinds
-use Rattle.matcher.proofs.attach.+attach_element+attach_field+attach_fields+attach_inner+attach_nested+attach_renamed+attach_struct+attach_transforms.Lts-attach_transforms as attach-transforms-lts
+use Rattle.matcher.proofs.attach.+attach_element+attach_few+attach_field+attach_fields+attach_inner+attach_many+attach_nested+attach_renamed+attach_row+attach_struct+attach_transforms.Lts-attach_transforms as attach-transforms-lts
 use Rattle.matcher.proofs.attach.attach_element.Reads as attach-element
 use Rattle.matcher.proofs.attach.attach_element.Kinds as attach-element-kinds
-use Rattle.matcher.proofs.attach.+attach_element+attach_field+attach_fields+attach_inner+attach_nested+attach_renamed+attach_struct+attach_transforms.Lts-attach_element as attach-element-lts
+use Rattle.matcher.proofs.attach.+attach_element+attach_few+attach_field+attach_fields+attach_inner+attach_many+attach_nested+attach_renamed+attach_row+attach_struct+attach_transforms.Lts-attach_element as attach-element-lts
+use Rattle.matcher.proofs.attach.attach_few.Reads as attach-few
+use Rattle.matcher.proofs.attach.attach_few.Kinds as attach-few-kinds
+use Rattle.matcher.proofs.attach.+attach_element+attach_few+attach_field+attach_fields+attach_inner+attach_many+attach_nested+attach_renamed+attach_row+attach_struct+attach_transforms.Lts-attach_few as attach-few-lts
 use Rattle.matcher.proofs.attach.attach_field.Reads as attach-field
 use Rattle.matcher.proofs.attach.attach_field.Kinds as attach-field-kinds
-use Rattle.matcher.proofs.attach.+attach_element+attach_field+attach_fields+attach_inner+attach_nested+attach_renamed+attach_struct+attach_transforms.Lts-attach_field as attach-field-lts
+use Rattle.matcher.proofs.attach.+attach_element+attach_few+attach_field+attach_fields+attach_inner+attach_many+attach_nested+attach_renamed+attach_row+attach_struct+attach_transforms.Lts-attach_field as attach-field-lts
 use Rattle.matcher.proofs.attach.attach_fields.Reads as attach-fields
 use Rattle.matcher.proofs.attach.attach_fields.Kinds as attach-fields-kinds
-use Rattle.matcher.proofs.attach.+attach_element+attach_field+attach_fields+attach_inner+attach_nested+attach_renamed+attach_struct+attach_transforms.Lts-attach_fields as attach-fields-lts
+use Rattle.matcher.proofs.attach.+attach_element+attach_few+attach_field+attach_fields+attach_inner+attach_many+attach_nested+attach_renamed+attach_row+attach_struct+attach_transforms.Lts-attach_fields as attach-fields-lts
 use Rattle.matcher.proofs.attach.attach_inner.Reads as attach-inner
 use Rattle.matcher.proofs.attach.attach_inner.Kinds as attach-inner-kinds
-use Rattle.matcher.proofs.attach.+attach_element+attach_field+attach_fields+attach_inner+attach_nested+attach_renamed+attach_struct+attach_transforms.Lts-attach_inner as attach-inner-lts
+use Rattle.matcher.proofs.attach.+attach_element+attach_few+attach_field+attach_fields+attach_inner+attach_many+attach_nested+attach_renamed+attach_row+attach_struct+attach_transforms.Lts-attach_inner as attach-inner-lts
+use Rattle.matcher.proofs.attach.attach_many.Reads as attach-many
+use Rattle.matcher.proofs.attach.attach_many.Kinds as attach-many-kinds
+use Rattle.matcher.proofs.attach.+attach_element+attach_few+attach_field+attach_fields+attach_inner+attach_many+attach_nested+attach_renamed+attach_row+attach_struct+attach_transforms.Lts-attach_many as attach-many-lts
 use Rattle.matcher.proofs.attach.attach_nested.Reads as attach-nested
 use Rattle.matcher.proofs.attach.attach_nested.Kinds as attach-nested-kinds
-use Rattle.matcher.proofs.attach.+attach_element+attach_field+attach_fields+attach_inner+attach_nested+attach_renamed+attach_struct+attach_transforms.Lts-attach_nested as attach-nested-lts
+use Rattle.matcher.proofs.attach.+attach_element+attach_few+attach_field+attach_fields+attach_inner+attach_many+attach_nested+attach_renamed+attach_row+attach_struct+attach_transforms.Lts-attach_nested as attach-nested-lts
 use Rattle.matcher.proofs.attach.attach_renamed.Reads as attach-renamed
 use Rattle.matcher.proofs.attach.attach_renamed.Kinds as attach-renamed-kinds
-use Rattle.matcher.proofs.attach.+attach_element+attach_field+attach_fields+attach_inner+attach_nested+attach_renamed+attach_struct+attach_transforms.Lts-attach_renamed as attach-renamed-lts
+use Rattle.matcher.proofs.attach.+attach_element+attach_few+attach_field+attach_fields+attach_inner+attach_many+attach_nested+attach_renamed+attach_row+attach_struct+attach_transforms.Lts-attach_renamed as attach-renamed-lts
+use Rattle.matcher.proofs.attach.attach_row.Reads as attach-row
+use Rattle.matcher.proofs.attach.attach_row.Kinds as attach-row-kinds
+use Rattle.matcher.proofs.attach.+attach_element+attach_few+attach_field+attach_fields+attach_inner+attach_many+attach_nested+attach_renamed+attach_row+attach_struct+attach_transforms.Lts-attach_row as attach-row-lts
 use Rattle.matcher.proofs.attach.attach_struct.Reads as attach-struct
 use Rattle.matcher.proofs.attach.attach_struct.Kinds as attach-struct-kinds
-use Rattle.matcher.proofs.attach.+attach_element+attach_field+attach_fields+attach_inner+attach_nested+attach_renamed+attach_struct+attach_transforms.Lts-attach_struct as attach-struct-lts
+use Rattle.matcher.proofs.attach.+attach_element+attach_few+attach_field+attach_fields+attach_inner+attach_many+attach_nested+attach_renamed+attach_row+attach_struct+attach_transforms.Lts-attach_struct as attach-struct-lts
 use Rattle.builder.proofs.answer.both.Reads as both-reads
 use Rattle.builder.proofs.answer.failed.Reads as failed-reads
 use Rattle.builder.proofs.answer.is_bare.Reads as is-bare-reads
@@ -65,15 +76,16 @@ use Rattle.builder.proofs.write.put_head.Reads as put-head-reads
 use Rattle.builder.proofs.write.put_position.Reads as put-position-reads
 use Rattle.builder.proofs.write.put_short.Reads as put-short-reads
 use Rattle.forms.proofs.write.write_text.Reads as write-text-reads
+use Rattle.labels.proofs.fill.Reads as fill-reads
+use Rattle.labels.proofs.find_in.Reads as find-in-reads
 use Rattle.layout.proofs.cursor.Cursor.head.Reads as head-reads
 use Rattle.layout.proofs.cursor.Cursor.label.Reads as label-reads
-use Rattle.layout.proofs.find.find_counterpart.Reads as find-counterpart-reads
 use Rattle.layout.proofs.walk.skip_type.Reads as skip-type-reads
 use Rattle.store.proofs.put.Reads as put-reads
-use Rattle.matcher.proofs.attach.+attach_element+attach_field+attach_fields+attach_inner+attach_nested+attach_renamed+attach_struct+attach_transforms.{
+use Rattle.matcher.proofs.attach.+attach_element+attach_few+attach_field+attach_fields+attach_inner+attach_many+attach_nested+attach_renamed+attach_row+attach_struct+attach_transforms.{
   statement,
 }
-use Rattle.matcher.proofs.attach.+attach_element+attach_field+attach_fields+attach_inner+attach_nested+attach_renamed+attach_struct+attach_transforms.Tie.{
+use Rattle.matcher.proofs.attach.+attach_element+attach_few+attach_field+attach_fields+attach_inner+attach_many+attach_nested+attach_renamed+attach_row+attach_struct+attach_transforms.Tie.{
   close,
 }
 use Rattle.matcher.proofs.Remaining.{Remaining, remaining-all, remaining-none, remaining-unlabelled, field, field-name, field-after, remaining-stop, remaining-room, remaining-more}
@@ -86,20 +98,29 @@ abbrev μ-attach-transforms : Measures 4 attach-transforms-kinds.ps ℕ
 abbrev μ-attach-element : Measures 4 attach-element-kinds.ps ℕ
 μ-attach-element κs a = 8 * (a .1 .1 .0) + 4
 
+abbrev μ-attach-few : Measures 4 attach-few-kinds.ps ℕ
+μ-attach-few κs a = 8 * (a .1 .1 .0) + 6
+
 abbrev μ-attach-field : Measures 4 attach-field-kinds.ps ℕ
 μ-attach-field κs a = 8 * (a .1 .1 .0) + 4
 
-abbrev μ-attach-fields : Measures 4 attach-fields-kinds.ps ℕ
+abbrev μ-attach-fields : Measures 6 attach-fields-kinds.ps ℕ
 μ-attach-fields κs a = 8 * (a .1 .1 .0) + 5
 
 abbrev μ-attach-inner : Measures 4 attach-inner-kinds.ps ℕ
 μ-attach-inner κs a = 8 * (a .1 .1 .0)
+
+abbrev μ-attach-many : Measures 4 attach-many-kinds.ps ℕ
+μ-attach-many κs a = 8 * (a .1 .1 .0) + 6
 
 abbrev μ-attach-nested : Measures 4 attach-nested-kinds.ps ℕ
 μ-attach-nested κs a = 8 * (a .1 .1 .0) + 1
 
 abbrev μ-attach-renamed : Measures 4 attach-renamed-kinds.ps ℕ
 μ-attach-renamed κs a = 8 * (a .1 .1 .0) + 3
+
+abbrev μ-attach-row : Measures 4 attach-row-kinds.ps ℕ
+μ-attach-row κs a = 8 * (a .1 .1 .0) + 7
 
 abbrev μ-attach-struct : Measures 4 attach-struct-kinds.ps ℕ
 μ-attach-struct κs a = 8 * (a .1 .1 .0)
@@ -126,6 +147,14 @@ attach-element-below t =
     (falls 4 attach-element-kinds.ps _<_ μ-attach-element t)
     attach-element.Pre
 
+abbrev attach-few-at : ℕ → In 4 attach-few-kinds.ps
+attach-few-at t =
+    and 4 attach-few-kinds.ps (is 4 attach-few-kinds.ps μ-attach-few t) attach-few.Pre
+
+abbrev attach-few-below : ℕ → In 4 attach-few-kinds.ps
+attach-few-below t =
+    and 4 attach-few-kinds.ps (falls 4 attach-few-kinds.ps _<_ μ-attach-few t) attach-few.Pre
+
 abbrev attach-field-at : ℕ → In 4 attach-field-kinds.ps
 attach-field-at t =
     and 4 attach-field-kinds.ps (is 4 attach-field-kinds.ps μ-attach-field t) attach-field.Pre
@@ -138,16 +167,16 @@ attach-field-below t =
     (falls 4 attach-field-kinds.ps _<_ μ-attach-field t)
     attach-field.Pre
 
-abbrev attach-fields-at : ℕ → In 4 attach-fields-kinds.ps
+abbrev attach-fields-at : ℕ → In 6 attach-fields-kinds.ps
 attach-fields-at t =
-    and 4 attach-fields-kinds.ps (is 4 attach-fields-kinds.ps μ-attach-fields t) attach-fields.Pre
+    and 6 attach-fields-kinds.ps (is 6 attach-fields-kinds.ps μ-attach-fields t) attach-fields.Pre
 
-abbrev attach-fields-below : ℕ → In 4 attach-fields-kinds.ps
+abbrev attach-fields-below : ℕ → In 6 attach-fields-kinds.ps
 attach-fields-below t =
     and
-    4
+    6
     attach-fields-kinds.ps
-    (falls 4 attach-fields-kinds.ps _<_ μ-attach-fields t)
+    (falls 6 attach-fields-kinds.ps _<_ μ-attach-fields t)
     attach-fields.Pre
 
 abbrev attach-inner-at : ℕ → In 4 attach-inner-kinds.ps
@@ -161,6 +190,14 @@ attach-inner-below t =
     attach-inner-kinds.ps
     (falls 4 attach-inner-kinds.ps _<_ μ-attach-inner t)
     attach-inner.Pre
+
+abbrev attach-many-at : ℕ → In 4 attach-many-kinds.ps
+attach-many-at t =
+    and 4 attach-many-kinds.ps (is 4 attach-many-kinds.ps μ-attach-many t) attach-many.Pre
+
+abbrev attach-many-below : ℕ → In 4 attach-many-kinds.ps
+attach-many-below t =
+    and 4 attach-many-kinds.ps (falls 4 attach-many-kinds.ps _<_ μ-attach-many t) attach-many.Pre
 
 abbrev attach-nested-at : ℕ → In 4 attach-nested-kinds.ps
 attach-nested-at t =
@@ -190,6 +227,14 @@ attach-renamed-below t =
     (falls 4 attach-renamed-kinds.ps _<_ μ-attach-renamed t)
     attach-renamed.Pre
 
+abbrev attach-row-at : ℕ → In 4 attach-row-kinds.ps
+attach-row-at t =
+    and 4 attach-row-kinds.ps (is 4 attach-row-kinds.ps μ-attach-row t) attach-row.Pre
+
+abbrev attach-row-below : ℕ → In 4 attach-row-kinds.ps
+attach-row-below t =
+    and 4 attach-row-kinds.ps (falls 4 attach-row-kinds.ps _<_ μ-attach-row t) attach-row.Pre
+
 abbrev attach-struct-at : ℕ → In 4 attach-struct-kinds.ps
 attach-struct-at t =
     and 4 attach-struct-kinds.ps (is 4 attach-struct-kinds.ps μ-attach-struct t) attach-struct.Pre
@@ -208,14 +253,20 @@ attach-transforms-claims t = (head-reads.Asked, head-reads.Learnt, attach-leaf-r
 abbrev attach-element-claims : ℕ → attach-element-lts.Claims
 attach-element-claims t = (same-element-reads.Asked, same-element-reads.Learnt, put-head-reads.Asked, put-head-reads.Learnt, attach-renamed-below t, attach-renamed.Post, is-refused-reads.Asked, is-refused-reads.Learnt, is-bare-reads.Asked, is-bare-reads.Learnt, put-position-reads.Asked, put-position-reads.Learnt, len-of-reads.Asked, len-of-reads.Learnt)
 
+abbrev attach-few-claims : ℕ → attach-few-lts.Claims
+attach-few-claims t = (attach-fields-below t, attach-fields.Post)
+
 abbrev attach-field-claims : ℕ → attach-field-lts.Claims
 attach-field-claims t = (attach-renamed-below t, attach-renamed.Post, put-missing-reads.Asked, put-missing-reads.Learnt)
 
 abbrev attach-fields-claims : ℕ → attach-fields-lts.Claims
-attach-fields-claims t = (inserts-reads.Asked, inserts-reads.Learnt, label-reads.Asked, label-reads.Learnt, find-counterpart-reads.Asked, find-counterpart-reads.Learnt, attach-field-below t, attach-field.Post, is-refused-reads.Asked, is-refused-reads.Learnt, failed-reads.Asked, failed-reads.Learnt, is-bare-reads.Asked, is-bare-reads.Learnt, both-reads.Asked, both-reads.Learnt, len-of-reads.Asked, len-of-reads.Learnt, skip-type-reads.Asked, skip-type-reads.Learnt)
+attach-fields-claims t = (inserts-reads.Asked, inserts-reads.Learnt, label-reads.Asked, label-reads.Learnt, find-in-reads.Asked, find-in-reads.Learnt, attach-field-below t, attach-field.Post, is-refused-reads.Asked, is-refused-reads.Learnt, failed-reads.Asked, failed-reads.Learnt, is-bare-reads.Asked, is-bare-reads.Learnt, both-reads.Asked, both-reads.Learnt, len-of-reads.Asked, len-of-reads.Learnt, skip-type-reads.Asked, skip-type-reads.Learnt)
 
 abbrev attach-inner-claims : ℕ → attach-inner-lts.Claims
 attach-inner-claims t = (element-part-reads.Asked, element-part-reads.Learnt, list-part-reads.Asked, list-part-reads.Learnt, attach-element-below t, attach-element.Post, array-part-reads.Asked, array-part-reads.Learnt)
+
+abbrev attach-many-claims : ℕ → attach-many-lts.Claims
+attach-many-claims t = (fill-reads.Asked, fill-reads.Learnt, attach-fields-below t, attach-fields.Post)
 
 abbrev attach-nested-claims : ℕ → attach-nested-lts.Claims
 attach-nested-claims t = (is-null-incoming-reads.Asked, is-null-incoming-reads.Learnt, put-null-cast-reads.Asked, put-null-cast-reads.Learnt, struct-part-reads.Asked, struct-part-reads.Learnt, attach-struct-below t, attach-struct.Post, attach-inner-below t, attach-inner.Post)
@@ -223,30 +274,36 @@ attach-nested-claims t = (is-null-incoming-reads.Asked, is-null-incoming-reads.L
 abbrev attach-renamed-claims : ℕ → attach-renamed-lts.Claims
 attach-renamed-claims t = (needs-rename-reads.Asked, needs-rename-reads.Learnt, attach-transforms-below t, attach-transforms.Post, put-reads.Asked, put-reads.Learnt, is-refused-reads.Asked, is-refused-reads.Learnt, len-of-reads.Asked, len-of-reads.Learnt, write-text-reads.Asked, write-text-reads.Learnt)
 
+abbrev attach-row-claims : ℕ → attach-row-lts.Claims
+attach-row-claims t = (attach-few-below t, attach-few.Post, attach-many-below t, attach-many.Post)
+
 abbrev attach-struct-claims : ℕ → attach-struct-lts.Claims
-attach-struct-claims t = (struct-part-reads.Asked, struct-part-reads.Learnt, struct-fault-reads.Asked, struct-fault-reads.Learnt, put-head-reads.Asked, put-head-reads.Learnt, put-short-reads.Asked, put-short-reads.Learnt, attach-fields-below t, attach-fields.Post, refused-row-reads.Asked, refused-row-reads.Learnt, unchanged-reads.Asked, unchanged-reads.Learnt, put-position-reads.Asked, put-position-reads.Learnt)
+attach-struct-claims t = (struct-part-reads.Asked, struct-part-reads.Learnt, struct-fault-reads.Asked, struct-fault-reads.Learnt, put-head-reads.Asked, put-head-reads.Learnt, put-short-reads.Asked, put-short-reads.Learnt, attach-row-below t, attach-row.Post, refused-row-reads.Asked, refused-row-reads.Learnt, unchanged-reads.Asked, unchanged-reads.Learnt, put-position-reads.Asked, put-position-reads.Learnt)
 
 abbrev attach-fields-Inv-loop : attach-fields-lts.InvT-loop
-attach-fields-Inv-loop policy v depth incoming n c table defaults target m out₀ k insert from₀ index₀ to₀ same₀ out from index to same =
+attach-fields-Inv-loop policy v depth incoming n c whole starts positions table defaults target m out₀ k insert from₀ index₀ to₀ same₀ out from index to same =
     Remaining policy v depth incoming n (c .at) table defaults target m from₀ out₀ k out from index to same
 
 abbrev attach-fields-μ-loop : attach-fields-lts.MeasureT-loop
-attach-fields-μ-loop policy v depth incoming n c table defaults target m out₀ k insert from₀ index₀ to₀ same₀ out from index to same =
+attach-fields-μ-loop policy v depth incoming n c whole starts positions table defaults target m out₀ k insert from₀ index₀ to₀ same₀ out from index to same =
     m - index
 
 attach-nested-is-null-incoming-requires :
     (t : ℕ) → attach-nested-lts.Need-is-null-incoming-requires (attach-nested-claims t) (attach-nested-at t) attach-nested.Post
 attach-nested-is-null-incoming-requires t c κs = search needs
 
-pub +attach-element+attach-field+attach-fields+attach-inner+attach-nested+attach-renamed+attach-struct+attach-transforms-spec : {M : Type 1} → statement M
-+attach-element+attach-field+attach-fields+attach-inner+attach-nested+attach-renamed+attach-struct+attach-transforms-spec =
+pub +attach-element+attach-few+attach-field+attach-fields+attach-inner+attach-many+attach-nested+attach-renamed+attach-row+attach-struct+attach-transforms-spec : {M : Type 1} → statement M
++attach-element+attach-few+attach-field+attach-fields+attach-inner+attach-many+attach-nested+attach-renamed+attach-row+attach-struct+attach-transforms-spec =
     close
     μ-attach-element
+    μ-attach-few
     μ-attach-field
     μ-attach-fields
     μ-attach-inner
+    μ-attach-many
     μ-attach-nested
     μ-attach-renamed
+    μ-attach-row
     μ-attach-struct
     μ-attach-transforms
     (λ t. attach-element-lts.spec (attach-element-claims t)
@@ -278,6 +335,13 @@ pub +attach-element+attach-field+attach-fields+attach-inner+attach-nested+attach
     (λ c. λ from f g M P Q lt nm.
     let a = c .before .before .before .before .before .before .before .before .before .before .before .before .before .before .before .before .before .before .before .before .before .args in
     element-kept (a .v) (a .policy) f g (labelAt (now (a .target)) (a .l)) (Q .tree) (labelAt (now (a .incoming)) (a .m)) (P .tree) M (c .before .before .before .before .before .before .before .before .before .before .before .before .before .before .same-element .ensures (labelAt (now (a .incoming)) (a .m)) (labelAt (now (a .target)) (a .l)) refl refl) (c .before .before .before .before .before .before .before .before .before .before .before .before .before .if1 .left) _ _ from _ (c .before .before .before .before .before .before .before .before .before .before .before .put-head .ensures) (none-is (now (a .table)) 0) _ (c .before .before .before .before .before .before .before .attach-renamed .ensures (from + 1) (none-at (now (a .table))) P Q (omega (arith, lt)) nm) (sym (c .before .before .before .before .is-refused .ensures) ∙ c .before .before .before .if2 .left) (sym (c .before .before .is-bare .ensures) ∙ c .before .if3 .left) (c .before .before .before .before .before .before .before .before .before .before .before .put-head .kept .0) (c .len-of .ensures) (omega arith)))
+    (λ t. attach-few-lts.spec (attach-few-claims t)
+    (attach-few-at t)
+    attach-few.Post
+    (λ c. search needs)
+    (λ c κs. (omega (arith, c .before .before .before .before .before .before .pre .0), (c .before .before .before .before .before .before .pre .1 .0, (c .before .before .before .before .before .before .pre .1 .1 .0, (c .before .before .before .before .before .before .pre .1 .1 .1, λ h. clash (cc))))))
+    (λ c. search needs)
+    (λ c. search needs))
     (λ t. attach-field-lts.spec (attach-field-claims t)
     (attach-field-at t)
     attach-field.Post
@@ -306,29 +370,29 @@ pub +attach-element+attach-field+attach-fields+attach-inner+attach-nested+attach
     attach-fields-Inv-loop
     attach-fields-μ-loop
     (λ c κs. search needs)
-    (λ c. remaining-all (c .before .before .before .before .before .pre .1 .0 .1) (c .before .before .before .before .before .pre .1 .1 .1 .2))
+    (λ c. remaining-all (c .before .before .before .before .before .before .before .pre .1 .0 .1) (c .before .before .before .before .before .before .before .pre .1 .1 .1 .0 .2))
     (λ c κs. search needs)
     (λ c. search needs)
-    (λ c κs. (c .before .before .before .before .before .before .before .before .before .before .before .pre .1 .0 .0, field-name (c .before .before .before .before .before .loop .inv) (c .before .before .before .before .loop-test .taken) (c .before .before .before .label .ensures .0) (c .before .l .given .1) (c .before .before .before .label .ensures .1) .0))
-    (λ c κs. let w = c .before .before .before .before .before .before .before .before .before .before .before .before .before .pre .1 in
-    (omega (arith, c .before .before .before .before .before .before .before .before .before .before .before .before .before .pre .0), (((w .0 .0 .columns, c .before .find-counterpart .ensures (w .0 .0)), field (c .before .before .before .before .before .before .before .loop .inv) (c .before .before .before .before .before .before .loop-test .taken) (c .before .before .before .before .before .label .ensures .0) (c .before .before .before .l .given .1) .head), (w .1 .0, (field-name (c .before .before .before .before .before .before .before .loop .inv) (c .before .before .before .before .before .before .loop-test .taken) (c .before .before .before .before .before .label .ensures .0) (c .before .before .before .l .given .1) (c .before .before .before .before .before .label .ensures .1), (w .1 .1 .0, w .1 .1 .1, omega (arith, c .before .before .before .before .before .before .before .loop .inv .room, field-after (c .before .before .before .before .before .before .before .loop .inv) (c .before .before .before .before .before .before .loop-test .taken) (c .before .before .before .before .before .label .ensures .0) (c .before .before .before .l .given .1))))))))
+    (λ c κs. (c .before .before .before .before .before .before .before .before .before .before .before .before .before .pre .1 .0 .0, (c .before .before .before .before .before .before .before .before .before .before .before .before .before .pre .1 .1 .1 .1, field-name (c .before .before .before .before .before .loop .inv) (c .before .before .before .before .loop-test .taken) (c .before .before .before .label .ensures .0) (c .before .l .given .1) (c .before .before .before .label .ensures .1) .0)))
+    (λ c κs. let w = c .before .before .before .before .before .before .before .before .before .before .before .before .before .before .before .pre .1 in
+    (omega (arith, c .before .before .before .before .before .before .before .before .before .before .before .before .before .before .before .pre .0), (((w .0 .0 .columns, c .before .find-in .ensures (w .0 .0)), field (c .before .before .before .before .before .before .before .loop .inv) (c .before .before .before .before .before .before .loop-test .taken) (c .before .before .before .before .before .label .ensures .0) (c .before .before .before .l .given .1) .head), (w .1 .0, (field-name (c .before .before .before .before .before .before .before .loop .inv) (c .before .before .before .before .before .before .loop-test .taken) (c .before .before .before .before .before .label .ensures .0) (c .before .before .before .l .given .1) (c .before .before .before .before .before .label .ensures .1), (w .1 .1 .0 .0, w .1 .1 .0 .1, omega (arith, c .before .before .before .before .before .before .before .loop .inv .room, field-after (c .before .before .before .before .before .before .before .loop .inv) (c .before .before .before .before .before .before .loop-test .taken) (c .before .before .before .before .before .label .ensures .0) (c .before .before .before .l .given .1))))))))
     (λ c κs. search needs)
     (λ c κs. search needs)
     (λ c. search needs)
-    (λ c. remaining-stop (c .before .before .before .before .before .before .before .before .before .before .before .before .before .loop .inv) (c .before .before .before .before .before .before .before .before .before .before .before .before .loop-test .taken) (c .before .before .before .before .before .before .before .before .before .before .before .label .ensures .0) (c .before .before .before .before .before .before .before .before .before .l .given .1) (c .before .before .before .before .before .before .before .before .before .before .before .before .before .before .inserts .ensures) _ (λ T P. c .before .before .before .before .before .attach-field .ensures (c .before .before .before .before .before .before .before .before .before .before .before .before .before .loop .from) T (P .columns) (field (c .before .before .before .before .before .before .before .before .before .before .before .before .before .loop .inv) (c .before .before .before .before .before .before .before .before .before .before .before .before .loop-test .taken) (c .before .before .before .before .before .before .before .before .before .before .before .label .ensures .0) (c .before .before .before .before .before .before .before .before .before .l .given .1) .head) (c .before .before .before .before .before .before .before .find-counterpart .ensures P) (field-after (c .before .before .before .before .before .before .before .before .before .before .before .before .before .loop .inv) (c .before .before .before .before .before .before .before .before .before .before .before .before .loop-test .taken) (c .before .before .before .before .before .before .before .before .before .before .before .label .ensures .0) (c .before .before .before .before .before .before .before .before .before .l .given .1))) (c .failed .ensures) (sym (c .before .before .is-refused .ensures) ∙ c .before .if1 .taken))
+    (λ c. remaining-stop (c .before .before .before .before .before .before .before .before .before .before .before .before .before .loop .inv) (c .before .before .before .before .before .before .before .before .before .before .before .before .loop-test .taken) (c .before .before .before .before .before .before .before .before .before .before .before .label .ensures .0) (c .before .before .before .before .before .before .before .before .before .l .given .1) (c .before .before .before .before .before .before .before .before .before .before .before .before .before .before .inserts .ensures) _ (λ T P. c .before .before .before .before .before .attach-field .ensures (c .before .before .before .before .before .before .before .before .before .before .before .before .before .loop .from) T (P .columns) (field (c .before .before .before .before .before .before .before .before .before .before .before .before .before .loop .inv) (c .before .before .before .before .before .before .before .before .before .before .before .before .loop-test .taken) (c .before .before .before .before .before .before .before .before .before .before .before .label .ensures .0) (c .before .before .before .before .before .before .before .before .before .l .given .1) .head) (c .before .before .before .before .before .before .before .find-in .ensures P) (field-after (c .before .before .before .before .before .before .before .before .before .before .before .before .before .loop .inv) (c .before .before .before .before .before .before .before .before .before .before .before .before .loop-test .taken) (c .before .before .before .before .before .before .before .before .before .before .before .label .ensures .0) (c .before .before .before .before .before .before .before .before .before .l .given .1))) (c .failed .ensures) (sym (c .before .before .is-refused .ensures) ∙ c .before .if1 .taken))
     (λ c κs. search needs)
     (λ c κs. search needs)
     (λ c κs. search needs)
-    (λ c. let w = c .before .before .before .before .before .before .before .before .before .before .before .before .before .before .before .before .before .before .before .before .before .pre .1 in
-    omega (arith, remaining-room (c .before .before .before .before .before .before .before .before .before .before .before .before .before .before .before .loop .inv) (c .before .before .before .before .before .before .before .before .before .before .before .before .before .before .loop-test .taken) (c .before .before .before .before .before .before .before .before .before .before .before .before .before .label .ensures .0) (c .before .before .before .before .before .before .before .before .before .before .before .l .given .1) (c .before .before .before .before .before .before .before .before .before .before .before .before .before .before .before .before .inserts .ensures) _ (λ T P. c .before .before .before .before .before .before .before .attach-field .ensures (c .before .before .before .before .before .before .before .before .before .before .before .before .before .before .before .loop .from) T (P .columns) (field (c .before .before .before .before .before .before .before .before .before .before .before .before .before .before .before .loop .inv) (c .before .before .before .before .before .before .before .before .before .before .before .before .before .before .loop-test .taken) (c .before .before .before .before .before .before .before .before .before .before .before .before .before .label .ensures .0) (c .before .before .before .before .before .before .before .before .before .before .before .l .given .1) .head) (c .before .before .before .before .before .before .before .before .before .find-counterpart .ensures P) (field-after (c .before .before .before .before .before .before .before .before .before .before .before .before .before .before .before .loop .inv) (c .before .before .before .before .before .before .before .before .before .before .before .before .before .before .loop-test .taken) (c .before .before .before .before .before .before .before .before .before .before .before .before .before .label .ensures .0) (c .before .before .before .before .before .before .before .before .before .before .before .l .given .1))) (sym (c .before .before .before .before .is-refused .ensures) ∙ c .before .before .before .if1 .left) (w .1 .0) (w .0 .0), extent (field (c .before .before .before .before .before .before .before .before .before .before .before .before .before .before .before .loop .inv) (c .before .before .before .before .before .before .before .before .before .before .before .before .before .before .loop-test .taken) (c .before .before .before .before .before .before .before .before .before .before .before .before .before .label .ensures .0) (c .before .before .before .before .before .before .before .before .before .before .before .l .given .1) .head), w .1 .1, c .len-of .ensures))
+    (λ c. let w = c .before .before .before .before .before .before .before .before .before .before .before .before .before .before .before .before .before .before .before .before .before .before .before .pre .1 in
+    omega (arith, remaining-room (c .before .before .before .before .before .before .before .before .before .before .before .before .before .before .before .loop .inv) (c .before .before .before .before .before .before .before .before .before .before .before .before .before .before .loop-test .taken) (c .before .before .before .before .before .before .before .before .before .before .before .before .before .label .ensures .0) (c .before .before .before .before .before .before .before .before .before .before .before .l .given .1) (c .before .before .before .before .before .before .before .before .before .before .before .before .before .before .before .before .inserts .ensures) _ (λ T P. c .before .before .before .before .before .before .before .attach-field .ensures (c .before .before .before .before .before .before .before .before .before .before .before .before .before .before .before .loop .from) T (P .columns) (field (c .before .before .before .before .before .before .before .before .before .before .before .before .before .before .before .loop .inv) (c .before .before .before .before .before .before .before .before .before .before .before .before .before .before .loop-test .taken) (c .before .before .before .before .before .before .before .before .before .before .before .before .before .label .ensures .0) (c .before .before .before .before .before .before .before .before .before .before .before .l .given .1) .head) (c .before .before .before .before .before .before .before .before .before .find-in .ensures P) (field-after (c .before .before .before .before .before .before .before .before .before .before .before .before .before .before .before .loop .inv) (c .before .before .before .before .before .before .before .before .before .before .before .before .before .before .loop-test .taken) (c .before .before .before .before .before .before .before .before .before .before .before .before .before .label .ensures .0) (c .before .before .before .before .before .before .before .before .before .before .before .l .given .1))) (sym (c .before .before .before .before .is-refused .ensures) ∙ c .before .before .before .if1 .left) (w .1 .0) (w .0 .0), extent (field (c .before .before .before .before .before .before .before .before .before .before .before .before .before .before .before .loop .inv) (c .before .before .before .before .before .before .before .before .before .before .before .before .before .before .loop-test .taken) (c .before .before .before .before .before .before .before .before .before .before .before .before .before .label .ensures .0) (c .before .before .before .before .before .before .before .before .before .before .before .l .given .1) .head), w .1 .1 .0, c .len-of .ensures))
     (λ c κs. field (c .before .before .before .before .before .before .before .before .before .before .before .before .before .before .before .loop .inv) (c .before .before .before .before .before .before .before .before .before .before .before .before .before .before .loop-test .taken) (c .before .before .before .before .before .before .before .before .before .before .before .before .before .label .ensures .0) (c .before .before .before .before .before .before .before .before .before .before .before .l .given .1) .head)
     (λ c. search needs)
     (λ c. search needs)
     (λ c. λ T P Q. remaining-unlabelled (c .before .before .before .before .loop .inv) (c .before .before .before .loop-test .taken) (c .before .before .label .ensures .0) (c .enum-told .given .1))
-    (λ c. omega (arith, c .before .before .before .before .before .before .before .before .before .before .before .before .before .before .before .before .before .before .before .before .before .before .fits .m, c .before .before .before .before .before .before .before .before .before .before .before .before .before .before .before .loop-test .taken))
+    (λ c. omega (arith, c .before .before .before .before .before .before .before .before .before .before .before .before .before .before .before .before .before .before .before .before .before .before .before .before .fits .m, c .before .before .before .before .before .before .before .before .before .before .before .before .before .before .before .loop-test .taken))
     (λ c. search needs)
-    (λ c. let w = c .before .before .before .before .before .before .before .before .before .before .before .before .before .before .before .before .before .before .before .before .before .before .pre .1 in
-    remaining-more (c .before .before .before .before .before .before .before .before .before .before .before .before .before .before .before .before .loop .inv) (c .before .before .before .before .before .before .before .before .before .before .before .before .before .before .before .loop-test .taken) (c .before .before .before .before .before .before .before .before .before .before .before .before .before .before .label .ensures .0) (c .before .before .before .before .before .before .before .before .before .before .before .before .l .given .1) (c .before .before .before .before .before .before .before .before .before .before .before .before .before .before .before .before .before .inserts .ensures) _ (λ T P. c .before .before .before .before .before .before .before .before .attach-field .ensures (c .before .before .before .before .before .before .before .before .before .before .before .before .before .before .before .before .loop .from) T (P .columns) (field (c .before .before .before .before .before .before .before .before .before .before .before .before .before .before .before .before .loop .inv) (c .before .before .before .before .before .before .before .before .before .before .before .before .before .before .before .loop-test .taken) (c .before .before .before .before .before .before .before .before .before .before .before .before .before .before .label .ensures .0) (c .before .before .before .before .before .before .before .before .before .before .before .before .l .given .1) .head) (c .before .before .before .before .before .before .before .before .before .before .find-counterpart .ensures P) (field-after (c .before .before .before .before .before .before .before .before .before .before .before .before .before .before .before .before .loop .inv) (c .before .before .before .before .before .before .before .before .before .before .before .before .before .before .before .loop-test .taken) (c .before .before .before .before .before .before .before .before .before .before .before .before .before .before .label .ensures .0) (c .before .before .before .before .before .before .before .before .before .before .before .before .l .given .1))) (sym (c .before .before .before .before .before .is-refused .ensures) ∙ c .before .before .before .before .if1 .left) (w .1 .0) (w .0 .0) (c .before .before .before .before .before .before .before .before .attach-field .kept .1 .1 .1 .1 .1 .1 .1 .1 .1 .1 .1 .1 .0)
+    (λ c. let w = c .before .before .before .before .before .before .before .before .before .before .before .before .before .before .before .before .before .before .before .before .before .before .before .before .pre .1 in
+    remaining-more (c .before .before .before .before .before .before .before .before .before .before .before .before .before .before .before .before .loop .inv) (c .before .before .before .before .before .before .before .before .before .before .before .before .before .before .before .loop-test .taken) (c .before .before .before .before .before .before .before .before .before .before .before .before .before .before .label .ensures .0) (c .before .before .before .before .before .before .before .before .before .before .before .before .l .given .1) (c .before .before .before .before .before .before .before .before .before .before .before .before .before .before .before .before .before .inserts .ensures) _ (λ T P. c .before .before .before .before .before .before .before .before .attach-field .ensures (c .before .before .before .before .before .before .before .before .before .before .before .before .before .before .before .before .loop .from) T (P .columns) (field (c .before .before .before .before .before .before .before .before .before .before .before .before .before .before .before .before .loop .inv) (c .before .before .before .before .before .before .before .before .before .before .before .before .before .before .before .loop-test .taken) (c .before .before .before .before .before .before .before .before .before .before .before .before .before .before .label .ensures .0) (c .before .before .before .before .before .before .before .before .before .before .before .before .l .given .1) .head) (c .before .before .before .before .before .before .before .before .before .before .find-in .ensures P) (field-after (c .before .before .before .before .before .before .before .before .before .before .before .before .before .before .before .before .loop .inv) (c .before .before .before .before .before .before .before .before .before .before .before .before .before .before .before .loop-test .taken) (c .before .before .before .before .before .before .before .before .before .before .before .before .before .before .label .ensures .0) (c .before .before .before .before .before .before .before .before .before .before .before .before .l .given .1))) (sym (c .before .before .before .before .before .is-refused .ensures) ∙ c .before .before .before .before .if1 .left) (w .1 .0) (w .0 .0) (c .before .before .before .before .before .before .before .before .attach-field .kept .1 .1 .1 .1 .1 .1 .1 .1 .1 .1 .1 .1 .0)
     (c .skip-type .ensures (field (c .before .before .before .before .before .before .before .before .before .before .before .before .before .before .before .before .loop .inv) (c .before .before .before .before .before .before .before .before .before .before .before .before .before .before .before .loop-test .taken) (c .before .before .before .before .before .before .before .before .before .before .before .before .before .before .label .ensures .0) (c .before .before .before .before .before .before .before .before .before .before .before .before .l .given .1) .head)) (c .before .len-of .ensures) (c .before .before .both .ensures ∙ ap (λ (b : Bool). c .before .before .before .before .before .before .before .before .before .before .before .before .before .before .before .before .loop .same && b) (c .before .before .before .is-bare .ensures)))
     (λ c. search needs)
     (λ c. search needs)
@@ -389,6 +453,17 @@ pub +attach-element+attach-field+attach-fields+attach-inner+attach-nested+attach
     (λ c. λ P Q.
     let a = c .before .before .before .before .before .before .before .args in
     makes-refused _ _ _ _ _ (inner-none (a .v) (a .policy) (a .position) (P .tree) (part-no-element (a .v) (a .depth) (now (a .target)) (a .b .at) (elementOf (Q .tree)) (Q .end) (c .before .before .element-part .ensures (a .depth) Q) (c .enum-told3 .given .1)))))
+    (λ t. attach-many-lts.spec (attach-many-claims t)
+    (attach-many-at t)
+    attach-many.Post
+    (λ c. search needs)
+    (λ c. search needs)
+    (λ c κs. empty-zeros tableSize)
+    (λ c. search needs)
+    (λ c. search needs)
+    (λ c κs. (omega (arith, c .before .before .before .before .before .before .before .before .before .before .before .before .pre .0), (c .before .before .before .before .before .before .before .before .before .before .before .before .pre .1 .0, (c .before .before .before .before .before .before .before .before .before .before .before .before .pre .1 .1 .0, (c .before .before .before .before .before .before .before .before .before .before .before .before .pre .1 .1 .1, c .before .before .before .before .before .fill .ensures)))))
+    (λ c. search needs)
+    (λ c. search needs))
     (λ t. attach-nested-lts.spec (attach-nested-claims t)
     (attach-nested-at t)
     attach-nested.Post
@@ -453,6 +528,18 @@ pub +attach-element+attach-field+attach-fields+attach-inner+attach-nested+attach
     renamed-made (a .v) (a .policy) (defaultsAt (a .defaults) T) (labelAt (now (a .target)) (a .l)) (Q .tree) (a .position) (labelAt (now (a .incoming)) (a .m)) (P .tree) (c .before .before .before .before .before .before .before .before .before .before .before .before .before .before .before .before .before .needs-rename .ensures) _ _ from _ _ (c .before .before .before .before .before .before .before .before .before .before .before .before .before .before .before .before .if1 .left) (c .before .before .before .before .before .before .before .before .before .before .before .before .before .before .put .kept .0) (c .before .before .before .before .before .before .before .before .before .before .attach-transforms2 .kept .1 .1 .1 .1 .1 .1 .1 .1 .1 .1 .0 ∙ c .before .before .before .before .before .before .before .before .before .before .before .before .before .before .put .kept .0) (c .before .before .before .before .before .before .before .before .before .before .before .before .before .before .put .ensures) (c .before .before .before .before .before .before .before .before .before .before .attach-transforms2 .ensures T P Q)
     (sym (c .before .before .before .before .before .before .before .is-refused .ensures) ∙ c .before .before .before .before .before .before .if2 .left) (c .before .before .before .before .before .len-of .ensures) (c .before .before .write-text .ensures .0) (c .before .before .write-text .ensures .1) (omega (arith, c .before .before .write-text .ensures .0, text-long (now (c .before .before .before .before .before .before .before .before .before .before .before .before .before .before .before .before .before .before .before .before .before .before .args .target)) (c .before .before .before .before .before .before .before .before .before .before .before .before .before .before .before .before .before .before .before .before .before .before .args .l .name) (w .1 .1 .0 .1), w .1 .1 .0 .2))
     (lt (rename-on (a .v) (labelAt (now (a .target)) (a .l)) (labelAt (now (a .incoming)) (a .m)) (c .before .before .before .before .before .before .before .before .before .before .before .before .before .before .before .before .before .needs-rename .ensures) (c .before .before .before .before .before .before .before .before .before .before .before .before .before .before .before .before .if1 .left)))))
+    (λ t. attach-row-lts.spec (attach-row-claims t)
+    (attach-row-at t)
+    attach-row.Post
+    (λ c κs. search needs)
+    (λ c. search needs)
+    (λ c. search needs)
+    (λ c κs. search needs)
+    (λ c. search needs)
+    (λ c. search needs)
+    (λ c κs. search needs)
+    (λ c. search needs)
+    (λ c. search needs))
     (λ t. attach-struct-lts.spec (attach-struct-claims t)
     (attach-struct-at t)
     attach-struct.Post
@@ -489,25 +576,25 @@ pub +attach-element+attach-field+attach-fields+attach-inner+attach-nested+attach
     (λ c. λ from T P Q lt.
     let a = c .before .before .before .before .before .before .before .before .before .before .before .before .before .before .before .before .before .before .before .before .before .before .before .before .before .args in
     let S = part-struct (a .v) (a .depth) (now (a .incoming)) (a .c .at) (structPart (P .tree)) (P .end) (c .before .before .before .before .before .before .before .before .before .before .before .before .before .before .before .before .before .before .before .before .struct-part .ensures (a .v) (a .depth) P) (c .before .before .before .before .before .before .before .before .before .before .before .before .before .before .before .before .before .before .n .given .1) in
-    struct-stops (a .v) (a .policy) (defaultsAt (a .defaults) T) (Q .columns) (a .position) (P .tree) (S .inner .columns) (S .is) (c .before .before .before .before .before .before .before .before .before .before .before .before .before .before .before .before .struct-fault .ensures (S .inner) Q) (c .before .before .before .before .before .before .before .before .before .before .before .before .before .before .before .if1 .left) _ _ from _ _ (c .refused-row .ensures) (c .before .before .before .before .before .attach-fields .ensures T (S .inner) Q) (c .before .enum-told2 .given .1))
+    struct-stops (a .v) (a .policy) (defaultsAt (a .defaults) T) (Q .columns) (a .position) (P .tree) (S .inner .columns) (S .is) (c .before .before .before .before .before .before .before .before .before .before .before .before .before .before .before .before .struct-fault .ensures (S .inner) Q) (c .before .before .before .before .before .before .before .before .before .before .before .before .before .before .before .if1 .left) _ _ from _ _ (c .refused-row .ensures) (c .before .before .before .before .before .attach-row .ensures T (S .inner) Q) (c .before .enum-told2 .given .1))
     (λ c κs. search needs)
     (λ c κs. omega (arith, c .before .before .before .before .before .before .before .before .before .before .before .before .before .before .before .before .before .before .before .before .before .before .before .before .before .before .before .before .pre .1 .1 .1))
     (λ c. search needs)
     (λ c. λ from T P Q lt.
     let a = c .before .before .before .before .before .before .before .before .before .before .before .before .before .before .before .before .before .before .before .before .before .before .before .before .before .before .before .before .before .before .before .args in
     let S = part-struct (a .v) (a .depth) (now (a .incoming)) (a .c .at) (structPart (P .tree)) (P .end) (c .before .before .before .before .before .before .before .before .before .before .before .before .before .before .before .before .before .before .before .before .before .before .before .before .before .before .struct-part .ensures (a .v) (a .depth) P) (c .before .before .before .before .before .before .before .before .before .before .before .before .before .before .before .before .before .before .before .before .before .before .before .before .n .given .1) in
-    struct-left-out (a .v) (a .policy) (defaultsAt (a .defaults) T) (Q .columns) (a .position) (P .tree) (S .inner .columns) (S .is) (c .before .before .before .before .before .before .before .before .before .before .before .before .before .before .before .before .before .before .before .before .before .before .struct-fault .ensures (S .inner) Q) (c .before .before .before .before .before .before .before .before .before .before .before .before .before .before .before .before .before .before .before .before .before .if1 .left) _ _ from (count-at (S .inner)) (count-at Q) (c .before .before .before .before .before .before .before .row .given .1) _ _ _ (c .before .before .before .before .before .before .before .before .before .before .before .before .before .before .before .before .before .before .before .put-head .ensures) (c .before .before .before .before .before .before .before .before .before .before .before .before .before .before .before .put-short .ensures) (c .before .before .before .before .before .before .before .before .before .before .before .attach-fields .ensures T (S .inner) Q) (c .before .before .before .before .before .unchanged .ensures) (c .before .before .before .before .if2 .taken)
-    (c .before .before .before .before .before .before .before .before .before .before .before .attach-fields .kept .1 .1 .1 .1 .1 .1 .1 .1 .1 .1 .1 .0 ∙ c .before .before .before .before .before .before .before .before .before .before .before .before .before .before .before .put-short .kept .0 ∙ c .before .before .before .before .before .before .before .before .before .before .before .before .before .before .before .before .before .before .before .put-head .kept .0) (c .before .before .put-position .ensures) (omega (arith, lt, columns-within Q (c .before .before .before .before .before .before .before .before .before .before .before .before .before .before .before .before .before .before .before .before .before .before .before .before .before .before .before .before .before .before .before .pre .1 .1 .1 .2))))
+    struct-left-out (a .v) (a .policy) (defaultsAt (a .defaults) T) (Q .columns) (a .position) (P .tree) (S .inner .columns) (S .is) (c .before .before .before .before .before .before .before .before .before .before .before .before .before .before .before .before .before .before .before .before .before .before .struct-fault .ensures (S .inner) Q) (c .before .before .before .before .before .before .before .before .before .before .before .before .before .before .before .before .before .before .before .before .before .if1 .left) _ _ from (count-at (S .inner)) (count-at Q) (c .before .before .before .before .before .before .before .row .given .1) _ _ _ (c .before .before .before .before .before .before .before .before .before .before .before .before .before .before .before .before .before .before .before .put-head .ensures) (c .before .before .before .before .before .before .before .before .before .before .before .before .before .before .before .put-short .ensures) (c .before .before .before .before .before .before .before .before .before .before .before .attach-row .ensures T (S .inner) Q) (c .before .before .before .before .before .unchanged .ensures) (c .before .before .before .before .if2 .taken)
+    (c .before .before .before .before .before .before .before .before .before .before .before .attach-row .kept .1 .1 .1 .1 .1 .1 .1 .1 .1 .1 .1 .0 ∙ c .before .before .before .before .before .before .before .before .before .before .before .before .before .before .before .put-short .kept .0 ∙ c .before .before .before .before .before .before .before .before .before .before .before .before .before .before .before .before .before .before .before .put-head .kept .0) (c .before .before .put-position .ensures) (omega (arith, lt, columns-within Q (c .before .before .before .before .before .before .before .before .before .before .before .before .before .before .before .before .before .before .before .before .before .before .before .before .before .before .before .before .before .before .before .pre .1 .1 .1 .2))))
     (λ c. let a = c .before .before .before .before .before .before .before .before .before .before .before .before .before .before .before .before .before .before .before .before .before .before .before .before .before .before .before .args in
     let w = c .before .before .before .before .before .before .before .before .before .before .before .before .before .before .before .before .before .before .before .before .before .before .before .before .before .before .before .pre .1 in
     let P = w .0 .0 in
     let S = part-struct (a .v) (a .depth) (now (a .incoming)) (a .c .at) (structPart (P .tree)) (P .end) (c .before .before .before .before .before .before .before .before .before .before .before .before .before .before .before .before .before .before .before .before .before .before .struct-part .ensures (a .v) (a .depth) P) (c .before .before .before .before .before .before .before .before .before .before .before .before .before .before .before .before .before .before .before .before .n .given .1) in
-    omega (arith, row-room _ (c .before .before .before .before .before .before .before .attach-fields .ensures (w .1 .0) (S .inner) (w .0 .1)) (c .before .before .before .row .given .1), columns-within (w .0 .1) (w .1 .1 .2), w .1 .1))
+    omega (arith, row-room _ (c .before .before .before .before .before .before .before .attach-row .ensures (w .1 .0) (S .inner) (w .0 .1)) (c .before .before .before .row .given .1), columns-within (w .0 .1) (w .1 .1 .2), w .1 .1))
     (λ c. search needs)
     (λ c. λ from T P Q lt.
     let a = c .before .before .before .before .before .before .before .before .before .before .before .before .before .before .before .before .before .before .before .before .before .before .before .before .before .before .before .args in
     let S = part-struct (a .v) (a .depth) (now (a .incoming)) (a .c .at) (structPart (P .tree)) (P .end) (c .before .before .before .before .before .before .before .before .before .before .before .before .before .before .before .before .before .before .before .before .before .before .struct-part .ensures (a .v) (a .depth) P) (c .before .before .before .before .before .before .before .before .before .before .before .before .before .before .before .before .before .before .before .before .n .given .1) in
-    struct-kept (a .v) (a .policy) (defaultsAt (a .defaults) T) (Q .columns) (a .position) (P .tree) (S .inner .columns) (S .is) (c .before .before .before .before .before .before .before .before .before .before .before .before .before .before .before .before .before .before .struct-fault .ensures (S .inner) Q) (c .before .before .before .before .before .before .before .before .before .before .before .before .before .before .before .before .before .if1 .left) _ _ from (count-at (S .inner)) (count-at Q) (c .before .before .before .row .given .1) _ _ _ (c .before .before .before .before .before .before .before .before .before .before .before .before .before .before .before .put-head .ensures) (c .before .before .before .before .before .before .before .before .before .before .before .put-short .ensures) (c .before .before .before .before .before .before .before .attach-fields .ensures T (S .inner) Q) (c .before .unchanged .ensures) (c .if2 .left)
+    struct-kept (a .v) (a .policy) (defaultsAt (a .defaults) T) (Q .columns) (a .position) (P .tree) (S .inner .columns) (S .is) (c .before .before .before .before .before .before .before .before .before .before .before .before .before .before .before .before .before .before .struct-fault .ensures (S .inner) Q) (c .before .before .before .before .before .before .before .before .before .before .before .before .before .before .before .before .before .if1 .left) _ _ from (count-at (S .inner)) (count-at Q) (c .before .before .before .row .given .1) _ _ _ (c .before .before .before .before .before .before .before .before .before .before .before .before .before .before .before .put-head .ensures) (c .before .before .before .before .before .before .before .before .before .before .before .put-short .ensures) (c .before .before .before .before .before .before .before .attach-row .ensures T (S .inner) Q) (c .before .unchanged .ensures) (c .if2 .left)
     (c .before .before .before .before .before .before .before .before .before .before .before .put-short .kept .0 ∙ c .before .before .before .before .before .before .before .before .before .before .before .before .before .before .before .put-head .kept .0) lt))
     λ t. attach-transforms-lts.spec (attach-transforms-claims t)
     (attach-transforms-at t)
