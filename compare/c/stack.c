@@ -113,33 +113,42 @@ static void put(int i, uint64_t value, int count) {
         bytes[i][length[i]++] = (uint8_t)(value >> (8 * k));
 }
 
-/* One column of so many levels with a leaf inside. */
-static void nested(int i, uint32_t version, uint32_t code, int levels, uint32_t leaf) {
+static void label(int i, uint32_t version, uint32_t name, uint32_t id) {
+    put(i, 1, 1);
+    put(i, name, 1);
+    if (version == 2)
+        put(i, id, 4);
+}
+
+/* One column of so many levels with a leaf inside. A struct has so many fields, of which the last goes on. */
+static void nested(int i, uint32_t version, uint32_t code, uint32_t levels, uint32_t fields, uint32_t leaf) {
     length[i] = 0;
     put(i, 'L' | 'A' << 8 | 'Y' << 16, 3);
     put(i, version, 2);
     put(i, 1, 2);
-    for (int k = 0; k <= levels; k++) {
-        if (k == 0 || code == 18 || version == 2) {
-            put(i, 1, 1);
-            put(i, 'a', 1);
-            if (version == 2)
-                put(i, (uint32_t)k + 1, 4);
+    for (uint32_t k = 0; k <= levels; k++) {
+        for (uint32_t j = 1; k > 0 && j < fields; j++) {
+            label(i, version, 'A' + j, 64 * k + j);
+            put(i, 3, 1);
         }
+        if (k == 0 || code == 18 || version == 2)
+            label(i, version, 'a', k + 1);
         put(i, k < levels ? code : leaf, 1);
         if (k < levels && code != 19)
-            put(i, 1, code == 18 ? 2 : 4);
+            put(i, code == 18 ? fields : 1, code == 18 ? 2 : 4);
     }
 }
 
+/* Structs of 32 fields have tables on the stack, for the two outer levels, and their plans the longer buffer. */
 static void deepest(void) {
     policy = SELECTOR_ALLOW_ALL;
     space = SPACE;
     for (uint32_t version = 1; version <= 2; version++)
-        for (uint32_t code = 18; code <= 20; code++) {
+        for (uint32_t code = 17; code <= 20; code++) {
+            uint32_t nesting = code == 17 ? 18 : code, fields = code == 17 ? 32 : 1;
             kind = version == 1 ? BUILD_NAME : BUILD_NUMBER;
-            nested(0, version, code, 15, 3);
-            nested(1, version, code, 15, 5); /* cast at the bottom */
+            nested(0, version, nesting, 15, fields, 3);
+            nested(1, version, nesting, 15, fields, 5); /* cast at the bottom */
             length[2] = 7;
             memcpy(bytes[2], "DEF\x01\x00\x00\x00", 7);
             measure();
@@ -187,8 +196,8 @@ static void nested_plan(uint32_t code, int levels) {
 static void deepest_plans(void) {
     for (uint32_t code = 3; code <= 6; code++)
         for (int levels = 12; levels <= 64; levels += 26) {
-            nested(0, 1, 18, 15, 3);
-            nested(1, 1, 18, 15, 3);
+            nested(0, 1, 18, 15, 1, 3);
+            nested(1, 1, 18, 15, 1, 3);
             nested_plan(code, levels);
             kind = CHECK;
             measure();

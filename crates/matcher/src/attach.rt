@@ -247,7 +247,8 @@ fn attach_struct(
 }
 
 // The field matcher: `m` target fields from `b` on over `n` incoming fields from `c` on. A table takes 8 KiB of stack, so only the fields of a top
-// column's type and those one level further in have one: at most two stand at once, however deep the types.
+// column's type and those one level further in have one: at most two stand at once, however deep the types. That `attach_many` is called twice keeps it
+// a function of its own: called once, it would be compiled into its caller, and a table would stand in the frame of every level.
 fn attach_row(
     policy: Policy,
     v: Version,
@@ -285,8 +286,8 @@ fn attach_row(
             k,
         );
     }
-    if depth < 14 {
-        return attach_few(
+    match depth {
+        15 => attach_many(
             policy,
             v,
             depth,
@@ -300,23 +301,38 @@ fn attach_row(
             b,
             out,
             k,
-        );
+        ),
+        14 => attach_many(
+            policy,
+            v,
+            depth,
+            incoming,
+            n,
+            c,
+            table,
+            defaults,
+            target,
+            m,
+            b,
+            out,
+            k,
+        ),
+        _ => attach_few(
+            policy,
+            v,
+            depth,
+            incoming,
+            n,
+            c,
+            table,
+            defaults,
+            target,
+            m,
+            b,
+            out,
+            k,
+        ),
     }
-    attach_many(
-        policy,
-        v,
-        depth,
-        incoming,
-        n,
-        c,
-        table,
-        defaults,
-        target,
-        m,
-        b,
-        out,
-        k,
-    )
 }
 
 // The same for few fields: counterparts are scanned for.
@@ -385,7 +401,23 @@ fn attach_many(
 {
     let mut starts = [0u16; TABLE_SIZE];
     let mut positions = [0u16; TABLE_SIZE];
-    let whole = fill(incoming, v, depth, n, c, &mut starts, &mut positions);
+    if !fill(incoming, v, depth, n, c, &mut starts, &mut positions) {
+        return attach_few(
+            policy,
+            v,
+            depth,
+            incoming,
+            n,
+            c,
+            table,
+            defaults,
+            target,
+            m,
+            b,
+            out,
+            k,
+        );
+    }
     attach_fields(
         policy,
         v,
@@ -393,7 +425,7 @@ fn attach_many(
         incoming,
         n,
         c,
-        whole,
+        true,
         &starts,
         &positions,
         table,

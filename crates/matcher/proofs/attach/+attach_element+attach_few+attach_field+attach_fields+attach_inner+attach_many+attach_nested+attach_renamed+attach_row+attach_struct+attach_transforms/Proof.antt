@@ -1,4 +1,4 @@
--- The proof of the matchers' cycle. The measure is 8 for each level left, and up to 7 more by the function. `Remaining` holds at the head of the loop
+-- The proof of the matchers' cycle. The measure is 9 for each level left, and up to 8 more by the function. `Remaining` holds at the head of the loop
 -- over target fields. Assumes nothing.
 use mathlib.Core.Bool.{Bool, _&&_}
 use Rattle.matcher.proofs.Cycle.{makes-to, nested-is, nested-null, nested-other, nested-struct, nested-inner, struct-other, struct-faulted, struct-stops, struct-left-out, struct-kept, row-room, count-at, columns-within, rename-on, renamed-plain, renamed-stopped, renamed-made, none-at, none-is, element-unlike, element-stopped, element-left-out, element-kept, element-names, inner-list, inner-list-other, inner-array, inner-array-other, inner-none, sought-at, sought-absent}
@@ -13,6 +13,7 @@ use Rattle.forms.proofs.Writing.{extent, text-long}
 use Rattle.layout.proofs.View.{deep, leaf-at, never-headless}
 use Rattle.layout.proofs.Ways.{clash, head-in}
 use Rattle.layout.specs.Answers.{headRes, labelAt}
+use Rattle.builder.proofs.Names.{not-false}
 use Rattle.labels.specs.Table.{tableSize}
 use Rattle.labels.proofs.Empty.{empty-zeros}
 use mathlib.Core.Path.{refl, sym, ap, _∙_}
@@ -93,37 +94,37 @@ use native.Mathlib.Omega.{arith}
 use borrow.Author.Needs.{needs}
 
 abbrev μ-attach-transforms : Measures 4 attach-transforms-kinds.ps ℕ
-μ-attach-transforms κs a = 8 * (a .1 .1 .0) + 2
+μ-attach-transforms κs a = 9 * (a .1 .1 .0) + 2
 
 abbrev μ-attach-element : Measures 4 attach-element-kinds.ps ℕ
-μ-attach-element κs a = 8 * (a .1 .1 .0) + 4
+μ-attach-element κs a = 9 * (a .1 .1 .0) + 4
 
 abbrev μ-attach-few : Measures 4 attach-few-kinds.ps ℕ
-μ-attach-few κs a = 8 * (a .1 .1 .0) + 6
+μ-attach-few κs a = 9 * (a .1 .1 .0) + 6
 
 abbrev μ-attach-field : Measures 4 attach-field-kinds.ps ℕ
-μ-attach-field κs a = 8 * (a .1 .1 .0) + 4
+μ-attach-field κs a = 9 * (a .1 .1 .0) + 4
 
 abbrev μ-attach-fields : Measures 6 attach-fields-kinds.ps ℕ
-μ-attach-fields κs a = 8 * (a .1 .1 .0) + 5
+μ-attach-fields κs a = 9 * (a .1 .1 .0) + 5
 
 abbrev μ-attach-inner : Measures 4 attach-inner-kinds.ps ℕ
-μ-attach-inner κs a = 8 * (a .1 .1 .0)
+μ-attach-inner κs a = 9 * (a .1 .1 .0)
 
 abbrev μ-attach-many : Measures 4 attach-many-kinds.ps ℕ
-μ-attach-many κs a = 8 * (a .1 .1 .0) + 6
+μ-attach-many κs a = 9 * (a .1 .1 .0) + 7
 
 abbrev μ-attach-nested : Measures 4 attach-nested-kinds.ps ℕ
-μ-attach-nested κs a = 8 * (a .1 .1 .0) + 1
+μ-attach-nested κs a = 9 * (a .1 .1 .0) + 1
 
 abbrev μ-attach-renamed : Measures 4 attach-renamed-kinds.ps ℕ
-μ-attach-renamed κs a = 8 * (a .1 .1 .0) + 3
+μ-attach-renamed κs a = 9 * (a .1 .1 .0) + 3
 
 abbrev μ-attach-row : Measures 4 attach-row-kinds.ps ℕ
-μ-attach-row κs a = 8 * (a .1 .1 .0) + 7
+μ-attach-row κs a = 9 * (a .1 .1 .0) + 8
 
 abbrev μ-attach-struct : Measures 4 attach-struct-kinds.ps ℕ
-μ-attach-struct κs a = 8 * (a .1 .1 .0)
+μ-attach-struct κs a = 9 * (a .1 .1 .0)
 
 abbrev attach-transforms-at : ℕ → In 4 attach-transforms-kinds.ps
 attach-transforms-at t = and 4 attach-transforms-kinds.ps (is 4 attach-transforms-kinds.ps μ-attach-transforms t) attach-transforms.Pre
@@ -266,7 +267,7 @@ abbrev attach-inner-claims : ℕ → attach-inner-lts.Claims
 attach-inner-claims t = (element-part-reads.Asked, element-part-reads.Learnt, list-part-reads.Asked, list-part-reads.Learnt, attach-element-below t, attach-element.Post, array-part-reads.Asked, array-part-reads.Learnt)
 
 abbrev attach-many-claims : ℕ → attach-many-lts.Claims
-attach-many-claims t = (fill-reads.Asked, fill-reads.Learnt, attach-fields-below t, attach-fields.Post)
+attach-many-claims t = (fill-reads.Asked, fill-reads.Learnt, attach-few-below t, attach-few.Post, attach-fields-below t, attach-fields.Post)
 
 abbrev attach-nested-claims : ℕ → attach-nested-lts.Claims
 attach-nested-claims t = (is-null-incoming-reads.Asked, is-null-incoming-reads.Learnt, put-null-cast-reads.Asked, put-null-cast-reads.Learnt, struct-part-reads.Asked, struct-part-reads.Learnt, attach-struct-below t, attach-struct.Post, attach-inner-below t, attach-inner.Post)
@@ -459,9 +460,12 @@ pub +attach-element+attach-few+attach-field+attach-fields+attach-inner+attach-ma
     (λ c. search needs)
     (λ c. search needs)
     (λ c κs. empty-zeros tableSize)
+    (λ c κs. search needs)
     (λ c. search needs)
     (λ c. search needs)
-    (λ c κs. (omega (arith, c .before .before .before .before .before .before .before .before .before .before .before .before .pre .0), (c .before .before .before .before .before .before .before .before .before .before .before .before .pre .1 .0, (c .before .before .before .before .before .before .before .before .before .before .before .before .pre .1 .1 .0, (c .before .before .before .before .before .before .before .before .before .before .before .before .pre .1 .1 .1, c .before .before .before .before .before .fill .ensures)))))
+    (λ c. search needs)
+    (λ c. search needs)
+    (λ c κs. (omega (arith, c .before .before .before .before .before .before .before .before .before .before .before .before .before .pre .0), (c .before .before .before .before .before .before .before .before .before .before .before .before .before .pre .1 .0, (c .before .before .before .before .before .before .before .before .before .before .before .before .before .pre .1 .1 .0, (c .before .before .before .before .before .before .before .before .before .before .before .before .before .pre .1 .1 .1, λ h. c .before .before .before .before .before .before .fill .ensures (not-false (c .before .before .before .before .before .before .fill .result) (c .before .before .before .if1 .left)))))))
     (λ c. search needs)
     (λ c. search needs))
     (λ t. attach-nested-lts.spec (attach-nested-claims t)
@@ -535,9 +539,12 @@ pub +attach-element+attach-few+attach-field+attach-fields+attach-inner+attach-ma
     (λ c. search needs)
     (λ c. search needs)
     (λ c κs. search needs)
-    (λ c. search needs)
-    (λ c. search needs)
     (λ c κs. search needs)
+    (λ c κs. search needs)
+    (λ c. search needs)
+    (λ c. search needs)
+    (λ c. search needs)
+    (λ c. search needs)
     (λ c. search needs)
     (λ c. search needs))
     (λ t. attach-struct-lts.spec (attach-struct-claims t)
