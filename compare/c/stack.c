@@ -120,15 +120,15 @@ static void label(int i, uint32_t version, uint32_t name, uint32_t id) {
         put(i, id, 4);
 }
 
-/* One column of so many levels with a leaf inside. A struct has so many fields, of which the last goes on. */
+/* A layout of so many columns, of which the last has so many levels with a leaf inside. A struct has as many fields, of which the last goes on. */
 static void nested(int i, uint32_t version, uint32_t code, uint32_t levels, uint32_t fields, uint32_t leaf) {
     length[i] = 0;
     put(i, 'L' | 'A' << 8 | 'Y' << 16, 3);
     put(i, version, 2);
-    put(i, 1, 2);
+    put(i, fields, 2);
     for (uint32_t k = 0; k <= levels; k++) {
-        for (uint32_t j = 1; k > 0 && j < fields; j++) {
-            label(i, version, 'A' + j, 64 * k + j);
+        for (uint32_t j = 1; j < fields; j++) {
+            label(i, version, 'A' + j, 64 * (k + 1) + j);
             put(i, 3, 1);
         }
         if (k == 0 || code == 18 || version == 2)
@@ -139,22 +139,28 @@ static void nested(int i, uint32_t version, uint32_t code, uint32_t levels, uint
     }
 }
 
-/* Structs of 32 fields have tables on the stack, for the two outer levels, and their plans the longer buffer. */
+/* From one such layout to another with a cast at the bottom, and from no column, so that the target's are constants. */
+static void deepest_of(uint32_t version, uint32_t code, uint32_t fields) {
+    nested(0, version, code, 15, fields, 3);
+    nested(1, version, code, 15, fields, 5);
+    length[2] = 7;
+    memcpy(bytes[2], "DEF\x01\x00\x00\x00", 7);
+    kind = version == 1 ? BUILD_NAME : BUILD_NUMBER;
+    measure();
+    length[0] = 7;
+    bytes[0][5] = 0;
+    measure();
+}
+
+/* Columns and fields by 32 have tables on the stack, and their plans the longer buffer. Extra fields are looked for where they are not ignored. */
 static void deepest(void) {
-    policy = SELECTOR_ALLOW_ALL;
     space = SPACE;
     for (uint32_t version = 1; version <= 2; version++)
-        for (uint32_t code = 17; code <= 20; code++) {
-            uint32_t nesting = code == 17 ? 18 : code, fields = code == 17 ? 32 : 1;
-            kind = version == 1 ? BUILD_NAME : BUILD_NUMBER;
-            nested(0, version, nesting, 15, fields, 3);
-            nested(1, version, nesting, 15, fields, 5); /* cast at the bottom */
-            length[2] = 7;
-            memcpy(bytes[2], "DEF\x01\x00\x00\x00", 7);
-            measure();
-            length[0] = 7; /* no incoming column: a constant */
-            bytes[0][5] = 0;
-            measure();
+        for (uint32_t ignore = 0; ignore <= 1; ignore++) {
+            policy = ignore ? SELECTOR_ALLOW_ALL : SELECTOR_ALLOW_ALL & ~SELECTOR_IGNORE_EXTRA_FIELDS;
+            for (uint32_t code = 18; code <= 20; code++)
+                deepest_of(version, code, 1);
+            deepest_of(version, 18, 32);
         }
 }
 
