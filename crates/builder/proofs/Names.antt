@@ -98,9 +98,6 @@ pub not-true : (b : Bool) → not b ≡ true → b ≡ false
 not-true true h = clash (cc)
 not-true false h = refl
 
-pub no-table : {X : Type 0} → false ≡ true → X
-no-table h = clash (cc)
-
 pub not-false : (b : Bool) → not b ≡ false → b ≡ true
 not-false true h = refl
 not-false false h = clash (cc)

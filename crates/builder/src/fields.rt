@@ -124,8 +124,8 @@ fn each_found(
     true
 }
 
-// The same for few target fields, which are scanned.
-fn each_found_by_scan(
+// Test 13: each of `n` incoming fields has a counterpart among `m` target fields. Many of these are entered in a table first.
+pub fn no_extra(
     v: Version,
     depth: u8,
     incoming: &[u8],
@@ -139,26 +139,11 @@ fn each_found_by_scan(
     requires { ⌜ ColumnsAt v depth (now target) m (b .at) ⌝ }
     ensures { λ r. ⌜ ((P : ColumnsAt v depth (now (incoming .entry)) n (c .at)) (Q : ColumnsAt v depth (now (target .entry)) m (b .at)) → r ≡ noExtra v (P .columns) (Q .columns)) ⌝ }
 {
-    let array = [0u16; 1];
-    let none = &array[..];
-    each_found(v, depth, incoming, n, c, target, m, b, false, none, none)
-}
-
-// The same for many target fields, which are entered in a table first.
-fn each_found_by_table(
-    v: Version,
-    depth: u8,
-    incoming: &[u8],
-    n: u16,
-    c: Cursor,
-    target: &[u8],
-    m: u16,
-    b: Cursor,
-) -> bool
-    requires { ⌜ ColumnsAt v depth (now incoming) n (c .at) ⌝ }
-    requires { ⌜ ColumnsAt v depth (now target) m (b .at) ⌝ }
-    ensures { λ r. ⌜ ((P : ColumnsAt v depth (now (incoming .entry)) n (c .at)) (Q : ColumnsAt v depth (now (target .entry)) m (b .at)) → r ≡ noExtra v (P .columns) (Q .columns)) ⌝ }
-{
+    if m <= 16 {
+        let array = [0u16; 1];
+        let none = &array[..];
+        return each_found(v, depth, incoming, n, c, target, m, b, false, none, none);
+    }
     let mut starts = [0u16; TABLE_SIZE];
     let mut positions = [0u16; TABLE_SIZE];
     let whole = fill(target, v, depth, m, b, &mut starts, &mut positions);
@@ -175,29 +160,4 @@ fn each_found_by_table(
         &starts,
         &positions,
     )
-}
-
-// Test 13: each of `n` incoming fields has a counterpart among `m` target fields. That the function with the table is called twice keeps it one of its
-// own: called once, it would be compiled into its caller, and the table would stand in the frame of every level of the matchers.
-pub fn no_extra(
-    v: Version,
-    depth: u8,
-    incoming: &[u8],
-    n: u16,
-    c: Cursor,
-    target: &[u8],
-    m: u16,
-    b: Cursor,
-) -> bool
-    requires { ⌜ ColumnsAt v depth (now incoming) n (c .at) ⌝ }
-    requires { ⌜ ColumnsAt v depth (now target) m (b .at) ⌝ }
-    ensures { λ r. ⌜ ((P : ColumnsAt v depth (now (incoming .entry)) n (c .at)) (Q : ColumnsAt v depth (now (target .entry)) m (b .at)) → r ≡ noExtra v (P .columns) (Q .columns)) ⌝ }
-{
-    if m <= 16 {
-        return each_found_by_scan(v, depth, incoming, n, c, target, m, b);
-    }
-    match v {
-        Version::ByName => each_found_by_table(v, depth, incoming, n, c, target, m, b),
-        Version::ByNumber => each_found_by_table(v, depth, incoming, n, c, target, m, b),
-    }
 }
