@@ -1,4 +1,4 @@
--- Tests of a struct's fields: what a lookup says, and the loop over columns. Assumes nothing.
+-- Tests of a struct's fields: what a lookup says, and the loops over columns. Assumes nothing.
 use Prim.Native.Nat.{ℕ, _-_, _≤_, _<_}
 use mathlib.Core.Path.{_≡_, refl, sym, ap, _∙_}
 use mathlib.Core.Bool.{Bool, true, false, not, _&&_}
@@ -8,8 +8,8 @@ use Rattle.layout.specs.Bytes.{Bytes}
 use Rattle.layout.specs.Tree.{Label, ColumnType, Columns, cnil, ccons}
 use Rattle.layout.specs.Layout.{label, columns, type}
 use Rattle.layout.specs.declared.columns.Siblings.the-variants.{Free}
-use Rattle.layout.specs.Answers.{labelRes, labelAt}
-use Rattle.layout.specs.Find.{Lookup, absent, at, counterpart, Finds}
+use Rattle.layout.specs.Answers.{labelRes, labelAt, spanAt}
+use Rattle.layout.specs.Find.{Lookup, absent, at, columnNamed, counterpart, Finds}
 use Rattle.layout.specs.Stands.{TypeAt, ColumnsAt}
 use Rattle.layout.specs.declared.columns.Position.{Position}
 use Rattle.layout.specs.declared.columns.Label.{Label as LabelSpan}
@@ -43,7 +43,7 @@ pub distinct-number : {v : Version} (cs : Columns) → v ≡ ByNumber → true �
 unfolding distinct
 distinct-number cs h = rw h
 
--- ---- the loop: a test of the columns that are left is the test of all
+-- ---- the loops: a test of the columns that are left is the test of all
 
 pub record Passing (v : Version) (d : ℕ) (s : Bytes) (f : Columns → Bool) (n from left here : ℕ) : Type 0 where
   pub whole : ColumnsAt v d s n from
@@ -94,6 +94,23 @@ module _ {v : Version} {d : ℕ} {s : Bytes} (f : Columns → Bool) {n from : �
           is = a .is ∙ ap f (column .is) ∙ ap (λ (cs : Columns). f (ccons (labelAt s l) (column .head .tree) cs)) (sym (tail-is q T)) ∙ e;
         }
 
+-- one more column, by the test that was made
+distinct-stop : (l : Label) (t : ColumnType) (cs : Columns) {b : Bool} → b ≡ not (isAbsent (columnNamed (l .name) cs)) → b ≡ true → distinctNames (ccons l t cs) ≡ false
+unfolding distinctNames
+distinct-stop l t cs {b} e h = go (isAbsent (columnNamed (l .name) cs)) (sym e ∙ h)
+  where
+    go : (x : Bool) → not x ≡ true → (x && distinctNames cs) ≡ false
+    go true z = clash (cc)
+    go false z = refl
+
+distinct-more : (l : Label) (t : ColumnType) (cs : Columns) {b : Bool} → b ≡ not (isAbsent (columnNamed (l .name) cs)) → b ≡ false → distinctNames (ccons l t cs) ≡ distinctNames cs
+unfolding distinctNames
+distinct-more l t cs {b} e h = go (isAbsent (columnNamed (l .name) cs)) (sym e ∙ h)
+  where
+    go : (x : Bool) → not x ≡ false → (x && distinctNames cs) ≡ distinctNames cs
+    go true z = refl
+    go false z = clash (cc)
+
 pub not-true : (b : Bool) → not b ≡ true → b ≡ false
 not-true true h = clash (cc)
 not-true false h = refl
@@ -102,7 +119,6 @@ pub not-false : (b : Bool) → not b ≡ false → b ≡ true
 not-false true h = refl
 not-false false h = clash (cc)
 
--- one more column, by the test that was made
 module _ (v : Version) (l : Label) (t : ColumnType) (fs gs : Columns) {b : Bool} (e : b ≡ not (isAbsent (counterpart v l gs))) where
   extra-stop : b ≡ false → noExtra v (ccons l t fs) gs ≡ false
   unfolding noExtra
@@ -111,6 +127,16 @@ module _ (v : Version) (l : Label) (t : ColumnType) (fs gs : Columns) {b : Bool}
   extra-more : b ≡ true → noExtra v (ccons l t fs) gs ≡ noExtra v fs gs
   unfolding noExtra
   extra-more h = let z : not (isAbsent (counterpart v l gs)) ≡ true = sym e ∙ h in rw z
+
+module _ {v : Version} {d : ℕ} {s : Bytes} {n from left here : ℕ} (a : Passing v d s distinctNames n from left here) (lt : 0 < left)
+    {p : Labelled} (g : labelRes s p ≡ label v s here) {l : LabelSpan} {c : Cursor} (h : p ≡ Labelled.Is l c)
+    {e : ℕ} (q : e ≡ column distinctNames a lt g h .head .end) (T : ColumnsAt v d s (left - 1) e)
+    {b : Bool} (t : b ≡ not (isAbsent (columnNamed (spanAt s (l .name)) (T .columns)))) where
+  pub names-stop : b ≡ true → (P : ColumnsAt v d s n from) → false ≡ distinctNames (P .columns)
+  names-stop z = passing-stop distinctNames a lt g h q T (distinct-stop (labelAt s l) _ (T .columns) t z)
+
+  pub names-more : b ≡ false → Passing v d s distinctNames n from (left - 1) e
+  names-more z = passing-more distinctNames a lt g h q T (distinct-more (labelAt s l) _ (T .columns) t z)
 
 module _ {v : Version} {d : ℕ} {s : Bytes} (gs : Columns) {n from left here : ℕ} (a : Passing v d s (λ cs. noExtra v cs gs) n from left here) (lt : 0 < left)
     {p : Labelled} (g : labelRes s p ≡ label v s here) {l : LabelSpan} {c : Cursor} (h : p ≡ Labelled.Is l c)

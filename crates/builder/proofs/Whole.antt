@@ -24,7 +24,7 @@ use Rattle.plan.specs.Result.{demand}
 use Rattle.plan.specs.Selector.{Selector, position, cast, rename}
 use Rattle.plan.specs.Encode.{encodeSelector}
 use Rattle.matching.specs.Build.{isByName, isNullType, sameElement, renamed, distinct, noExtra, ignores}
-use Rattle.builder.specs.Answers.{madeOf, Wrote, Makes, needsRename, faultBy, faultOf, nullCast}
+use Rattle.builder.specs.Answers.{madeOf, Wrote, Makes, needsRename, faultOf, nullCast}
 use Rattle.builder.specs.declared.answer.Made.{Made}
 use Rattle.builder.proofs.Putting.{cast-long, form-some}
 
@@ -82,40 +82,37 @@ unfolding choose
 passed true y e = refl
 passed false y e = clash (cc)
 
-module _ (c : Bool) (v : Version) (gs fs : Columns) {a : Bool} (ea : a ≡ distinct v gs) where
-  pub fault-target : not a ≡ true → 12 ≡ faultBy c v gs fs
+module _ (p : Policy) (v : Version) (gs fs : Columns) {a : Bool} (ea : a ≡ distinct v gs) where
+  pub fault-target : not a ≡ true → 12 ≡ faultOf p v gs fs
   unfolding choose
   fault-target h = stopped (distinct v gs) _ (ap not (sym ea) ∙ h)
 
   module _ {b : Bool} (eb : b ≡ distinct v fs) (ha : not a ≡ false) where
-    pub fault-incoming : not b ≡ true → 12 ≡ faultBy c v gs fs
+    pub fault-incoming : not b ≡ true → 12 ≡ faultOf p v gs fs
     unfolding choose
     fault-incoming h = sym (passed (distinct v gs) _ (ap not (sym ea) ∙ ha) ∙ sym (stopped (distinct v fs) _ (ap not (sym eb) ∙ h)))
 
     module _ (hb : not b ≡ false) where
-      both-passed : faultBy c v gs fs ≡ choose (c || noExtra v fs gs) 0 13
+      both-passed : faultOf p v gs fs ≡ choose (ignores (p .«extra_struct_fields») || noExtra v fs gs) 0 13
       both-passed = passed (distinct v gs) _ (ap not (sym ea) ∙ ha) ∙ passed (distinct v fs) _ (ap not (sym eb) ∙ hb)
 
-      pub fault-ignored : c ≡ true → 0 ≡ faultBy c v gs fs
+      pub fault-ignored : {c : Bool} → c ≡ ignores (p .«extra_struct_fields») → c ≡ true → 0 ≡ faultOf p v gs fs
       unfolding choose
-      fault-ignored h = sym (both-passed ∙ ap (λ (x : Bool). choose (x || noExtra v fs gs) 0 13) h)
+      fault-ignored e h = let z : ignores (p .«extra_struct_fields») ≡ true = sym e ∙ h in sym (both-passed ∙ ap (λ (x : Bool). choose (x || noExtra v fs gs) 0 13) z)
 
-      module _ {n : Bool} (hc : c ≡ false) (en : n ≡ noExtra v fs gs) where
-        by-extra : faultBy c v gs fs ≡ choose n 0 13
+      module _ {c n : Bool} (ec : c ≡ ignores (p .«extra_struct_fields»)) (hc : c ≡ false) (en : n ≡ noExtra v fs gs) where
+        by-extra : faultOf p v gs fs ≡ choose n 0 13
         unfolding choose
-        by-extra = both-passed ∙ ap (λ (x : Bool). choose (x || noExtra v fs gs) 0 13) hc ∙ ap (λ (x : Bool). choose x 0 13) (sym en)
+        by-extra =
+            both-passed ∙ ap (λ (x : Bool). choose (x || noExtra v fs gs) 0 13) (sym ec ∙ hc) ∙ ap (λ (x : Bool). choose x 0 13) (sym en)
 
-        pub fault-none : n ≡ true → 0 ≡ faultBy c v gs fs
+        pub fault-none : n ≡ true → 0 ≡ faultOf p v gs fs
         unfolding choose
         fault-none h = sym (by-extra ∙ ap (λ (x : Bool). choose x 0 13) h)
 
-        pub fault-extra : n ≡ false → 13 ≡ faultBy c v gs fs
+        pub fault-extra : n ≡ false → 13 ≡ faultOf p v gs fs
         unfolding choose
         fault-extra h = sym (by-extra ∙ ap (λ (x : Bool). choose x 0 13) h)
-
--- by the policy, of which c and then b say whether it ignores extra fields
-pub fault-policy : (p : Policy) (v : Version) (gs fs : Columns) {c : Bool} (b : Bool) {r : ℕ} → c ≡ ignores (p .«extra_struct_fields») → c ≡ b → r ≡ faultBy b v gs fs → r ≡ faultOf p v gs fs
-fault-policy p v gs fs b e h g = g ∙ ap (λ (x : Bool). faultBy x v gs fs) (sym h ∙ e)
 
 -- ---- a null incoming type
 

@@ -250,12 +250,9 @@ Ruled x v d target bt k out to r out′ = (Q : TypeAt v d target bt) → Makes b
 
 -- ---- the tests
 
--- 12, the target's names first, then 13, unless extra fields are ignored; 0 where both pass
-abbrev pub faultBy : Bool → Version → Columns → Columns → ℕ
-faultBy ignored v gs fs = choose (distinct v gs) (choose (distinct v fs) (choose (ignored || noExtra v fs gs) 0 13) 12) 12
-
+-- 12, the target's names first, then 13; 0 where both pass
 abbrev pub faultOf : Policy → Version → Columns → Columns → ℕ
-faultOf p v gs fs = faultBy (ignores (p .«extra_struct_fields»)) v gs fs
+faultOf p v gs fs = choose (distinct v gs) (choose (distinct v fs) (choose (ignores (p .«extra_struct_fields») || noExtra v fs gs) 0 13) 12) 12
 
 -- a null incoming type by name
 abbrev pub nullCast : Policy → Position → ColumnType → Result Selector

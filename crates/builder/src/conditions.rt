@@ -7,7 +7,7 @@ ghost use Rattle.layout.specs.Tree.{Label as LabelOf};
 ghost use Rattle.layout.specs.Answers.{labelAt, spanIn};
 ghost use Rattle.layout.specs.Stands.{TypeAt, ColumnsAt};
 ghost use Rattle.matching.specs.Build.{isByName, isNullType, sameElement, ignores as ignoresExtra, inserts as insertsMissing};
-ghost use Rattle.builder.specs.Answers.{Makes, needsRename, faultBy, faultOf, nullCast};
+ghost use Rattle.builder.specs.Answers.{Makes, needsRename, faultOf, nullCast};
 use crate::answer::Made;
 use crate::fields::distinct;
 use crate::fields::no_extra;
@@ -87,39 +87,7 @@ pub fn inserts(p: MissingColumnsPolicy) -> bool
     }
 }
 
-// Tests 12 and 13 of two structs, the target's names first; 0 where both pass. Extra fields may be ignored.
-fn fault_by(
-    ignored: bool,
-    v: Version,
-    depth: u8,
-    incoming: &[u8],
-    n: u16,
-    c: Cursor,
-    target: &[u8],
-    m: u16,
-    b: Cursor,
-) -> u8
-    requires { ⌜ ColumnsAt v depth (now incoming) n (c .at) ⌝ }
-    requires { ⌜ ColumnsAt v depth (now target) m (b .at) ⌝ }
-    ensures { λ r. ⌜ ((P : ColumnsAt v depth (now (incoming .entry)) n (c .at)) (Q : ColumnsAt v depth (now (target .entry)) m (b .at)) → r ≡ faultBy ignored v (Q .columns) (P .columns)) ⌝ }
-{
-    if !distinct(target, v, depth, m, b) {
-        return 12;
-    }
-    if !distinct(incoming, v, depth, n, c) {
-        return 12;
-    }
-    if ignored {
-        return 0;
-    }
-    if no_extra(v, depth, incoming, n, c, target, m, b) {
-        return 0;
-    }
-    13
-}
-
-// The same by the policy. That the tests are called in two places keeps them a function of their own: called in one, they would be compiled into the matchers, and
-// their tables would stand in the frame of every level.
+// Tests 12 and 13 of two structs, the target's names first; 0 where both pass.
 pub fn struct_fault(
     policy: Policy,
     v: Version,
@@ -135,10 +103,19 @@ pub fn struct_fault(
     requires { ⌜ ColumnsAt v depth (now target) m (b .at) ⌝ }
     ensures { λ r. ⌜ ((P : ColumnsAt v depth (now (incoming .entry)) n (c .at)) (Q : ColumnsAt v depth (now (target .entry)) m (b .at)) → r ≡ faultOf policy v (Q .columns) (P .columns)) ⌝ }
 {
-    if ignores(policy) {
-        return fault_by(true, v, depth, incoming, n, c, target, m, b);
+    if !distinct(target, v, depth, m, b) {
+        return 12;
     }
-    fault_by(false, v, depth, incoming, n, c, target, m, b)
+    if !distinct(incoming, v, depth, n, c) {
+        return 12;
+    }
+    if ignores(policy) {
+        return 0;
+    }
+    if no_extra(v, depth, incoming, n, c, target, m, b) {
+        return 0;
+    }
+    13
 }
 
 // A null incoming type by name: a cast to the target type.

@@ -1,29 +1,73 @@
 // Tests of a struct's fields.
 ghost use mathlib.Core.Path.{_≡_};
-ghost use mathlib.Core.Bool.{true, not};
-ghost use Rattle.layout.specs.Answers.{spanIn, labelAt};
-ghost use Rattle.layout.specs.Find.{counterpart};
+ghost use mathlib.Core.Bool.{not};
+ghost use Rattle.layout.specs.Answers.{spanAt, spanIn, labelAt};
+ghost use Rattle.layout.specs.Find.{columnNamed, counterpart};
 ghost use Rattle.layout.specs.Stands.{ColumnsAt};
 ghost use Rattle.labels.specs.Table.{Table};
 ghost use Rattle.matching.specs.Build.{isAbsent, distinctNames, distinct as distinctBy, noExtra};
 use labels::TABLE_SIZE;
+use labels::counterpart_in;
 use labels::fill;
-use labels::find_in;
+use layout::bytes::Span;
 use layout::columns::Label;
 use layout::columns::Labelled;
 use layout::columns::Siblings;
 use layout::cursor::Cursor;
 use layout::cursor::Moved;
 use layout::find::Found;
+use layout::find::column_named;
+use layout::find::find_counterpart;
 use layout::read::read_columns;
 use layout::version::Version;
 use layout::walk::skip_type;
 
-// No name is repeated among `n` columns: the reader's own test of siblings, under the rule of names.
+// Whether one of `n` columns has a name, which stands in `t`.
+fn name_among(s: &[u8], v: Version, depth: u8, n: u16, c: Cursor, t: &[u8], name: Span) -> bool
+    requires { ⌜ ColumnsAt v depth (now s) n (c .at) ⌝ }
+    requires { ⌜ spanIn (now t) name ⌝ }
+    ensures { λ r. ⌜ ((P : ColumnsAt v depth (now (s .entry)) n (c .at)) → r ≡ not (isAbsent (columnNamed (spanAt (now (t .entry)) name) (P .columns)))) ⌝ }
+{
+    let a = name.start;
+    match column_named(s, v, depth, n, c, &t[a..a + name.len]) {
+        Found::At(_, _, _) => true,
+        Found::Absent => false,
+    }
+}
+
+// No name is repeated among a few columns: each is looked for among those after it.
+fn distinct_few(s: &[u8], v: Version, depth: u8, n: u16, c: Cursor) -> bool
+    requires { ⌜ ColumnsAt v depth (now s) n (c .at) ⌝ }
+    ensures { λ r. ⌜ ((P : ColumnsAt v depth (now (s .entry)) n (c .at)) → r ≡ distinctNames (P .columns)) ⌝ }
+{
+    let mut at = c.at;
+    let mut left = n;
+    while 0 < left {
+        let d = Cursor { at };
+        match d.label(s, v) {
+            Labelled::Is(l, next) => {
+                let e = skip_type(s, v, depth, next);
+                let name = l.name;
+                if name_among(s, v, depth, left - 1, e, s, name) {
+                    return false;
+                }
+                at = e.at;
+            }
+            Labelled::Refused(_) => return false,
+        }
+        left -= 1;
+    }
+    true
+}
+
+// No name is repeated among `n` columns. Many are read again under the rule of names, which is the reader's own test of siblings.
 pub fn distinct_names(s: &[u8], v: Version, depth: u8, n: u16, c: Cursor) -> bool
     requires { ⌜ ColumnsAt v depth (now s) n (c .at) ⌝ }
     ensures { λ r. ⌜ ((P : ColumnsAt v depth (now (s .entry)) n (c .at)) → r ≡ distinctNames (P .columns)) ⌝ }
 {
+    if n <= 16 {
+        return distinct_few(s, v, depth, n, c);
+    }
     let mut seen = [0u64; 512];
     match read_columns(
         s,
@@ -51,32 +95,20 @@ pub fn distinct(s: &[u8], v: Version, depth: u8, n: u16, c: Cursor) -> bool
     }
 }
 
-// Whether the label `l`, which stands in `t`, has a counterpart among `n` columns, of which there may be a table.
-fn has_counterpart(
-    s: &[u8],
-    v: Version,
-    depth: u8,
-    n: u16,
-    c: Cursor,
-    whole: bool,
-    starts: &[u16],
-    positions: &[u16],
-    t: &[u8],
-    l: Label,
-) -> bool
+// Whether the label `l`, which stands in `t`, has a counterpart among `n` columns.
+fn has_counterpart(s: &[u8], v: Version, depth: u8, n: u16, c: Cursor, t: &[u8], l: Label) -> bool
     requires { ⌜ ColumnsAt v depth (now s) n (c .at) ⌝ }
-    requires { ⌜ (whole ≡ true → Table v depth (now s) n (c .at) (now starts) (now positions)) ⌝ }
     requires { ⌜ spanIn (now t) (l .name) ⌝ }
     ensures { λ r. ⌜ ((P : ColumnsAt v depth (now (s .entry)) n (c .at)) → r ≡ not (isAbsent (counterpart v (labelAt (now (t .entry)) l) (P .columns)))) ⌝ }
 {
-    match find_in(s, v, depth, n, c, whole, starts, positions, t, l) {
+    match find_counterpart(s, v, depth, n, c, t, l) {
         Found::At(_, _, _) => true,
         Found::Absent => false,
     }
 }
 
-// Each of `n` incoming fields has a counterpart among `m` target fields, of which there may be a table.
-fn each_found(
+// Each of `n` incoming fields has a counterpart among a few target fields, which are scanned.
+fn no_extra_few(
     v: Version,
     depth: u8,
     incoming: &[u8],
@@ -85,13 +117,9 @@ fn each_found(
     target: &[u8],
     m: u16,
     b: Cursor,
-    whole: bool,
-    starts: &[u16],
-    positions: &[u16],
 ) -> bool
     requires { ⌜ ColumnsAt v depth (now incoming) n (c .at) ⌝ }
     requires { ⌜ ColumnsAt v depth (now target) m (b .at) ⌝ }
-    requires { ⌜ (whole ≡ true → Table v depth (now target) m (b .at) (now starts) (now positions)) ⌝ }
     ensures { λ r. ⌜ ((P : ColumnsAt v depth (now (incoming .entry)) n (c .at)) (Q : ColumnsAt v depth (now (target .entry)) m (b .at)) → r ≡ noExtra v (P .columns) (Q .columns)) ⌝ }
 {
     let mut at = c.at;
@@ -100,18 +128,7 @@ fn each_found(
         let d = Cursor { at };
         match d.label(incoming, v) {
             Labelled::Is(l, next) => {
-                if !has_counterpart(
-                    target,
-                    v,
-                    depth,
-                    m,
-                    b,
-                    whole,
-                    starts,
-                    positions,
-                    incoming,
-                    l,
-                ) {
+                if !has_counterpart(target, v, depth, m, b, incoming, l) {
                     return false;
                 }
                 let e = skip_type(incoming, v, depth, next);
@@ -124,7 +141,91 @@ fn each_found(
     true
 }
 
-// Test 13: each of `n` incoming fields has a counterpart among `m` target fields. Many of these are entered in a table first.
+// Whether the label `l`, which stands in `t`, has a counterpart among `n` columns, of which there is a table.
+fn has_entry(
+    s: &[u8],
+    v: Version,
+    depth: u8,
+    n: u16,
+    c: Cursor,
+    starts: &[u16],
+    positions: &[u16],
+    t: &[u8],
+    l: Label,
+) -> bool
+    requires { ⌜ ColumnsAt v depth (now s) n (c .at) ⌝ }
+    requires { ⌜ Table v depth (now s) n (c .at) (now starts) (now positions) ⌝ }
+    requires { ⌜ spanIn (now t) (l .name) ⌝ }
+    ensures { λ r. ⌜ ((P : ColumnsAt v depth (now (s .entry)) n (c .at)) → r ≡ not (isAbsent (counterpart v (labelAt (now (t .entry)) l) (P .columns)))) ⌝ }
+{
+    match counterpart_in(s, v, depth, n, c, starts, positions, t, l) {
+        Found::At(_, _, _) => true,
+        Found::Absent => false,
+    }
+}
+
+// Each of `n` incoming fields has a counterpart among `m` target fields, of which there is a table.
+fn each_entered(
+    v: Version,
+    depth: u8,
+    incoming: &[u8],
+    n: u16,
+    c: Cursor,
+    target: &[u8],
+    m: u16,
+    b: Cursor,
+    starts: &[u16],
+    positions: &[u16],
+) -> bool
+    requires { ⌜ ColumnsAt v depth (now incoming) n (c .at) ⌝ }
+    requires { ⌜ ColumnsAt v depth (now target) m (b .at) ⌝ }
+    requires { ⌜ Table v depth (now target) m (b .at) (now starts) (now positions) ⌝ }
+    ensures { λ r. ⌜ ((P : ColumnsAt v depth (now (incoming .entry)) n (c .at)) (Q : ColumnsAt v depth (now (target .entry)) m (b .at)) → r ≡ noExtra v (P .columns) (Q .columns)) ⌝ }
+{
+    let mut at = c.at;
+    let mut left = n;
+    while 0 < left {
+        let d = Cursor { at };
+        match d.label(incoming, v) {
+            Labelled::Is(l, next) => {
+                if !has_entry(target, v, depth, m, b, starts, positions, incoming, l) {
+                    return false;
+                }
+                let e = skip_type(incoming, v, depth, next);
+                at = e.at;
+            }
+            Labelled::Refused(_) => return false,
+        }
+        left -= 1;
+    }
+    true
+}
+
+// The same, with a table that is filled here.
+fn no_extra_many(
+    v: Version,
+    depth: u8,
+    incoming: &[u8],
+    n: u16,
+    c: Cursor,
+    target: &[u8],
+    m: u16,
+    b: Cursor,
+) -> bool
+    requires { ⌜ ColumnsAt v depth (now incoming) n (c .at) ⌝ }
+    requires { ⌜ ColumnsAt v depth (now target) m (b .at) ⌝ }
+    ensures { λ r. ⌜ ((P : ColumnsAt v depth (now (incoming .entry)) n (c .at)) (Q : ColumnsAt v depth (now (target .entry)) m (b .at)) → r ≡ noExtra v (P .columns) (Q .columns)) ⌝ }
+{
+    let mut starts = [0u16; TABLE_SIZE];
+    let mut positions = [0u16; TABLE_SIZE];
+    if !fill(target, v, depth, m, b, &mut starts, &mut positions) {
+        return no_extra_few(v, depth, incoming, n, c, target, m, b);
+    }
+    each_entered(v, depth, incoming, n, c, target, m, b, &starts, &positions)
+}
+
+// Test 13: each of `n` incoming fields has a counterpart among `m` target fields. As in the field matcher the two outer levels of structs have tables. That
+// `no_extra_many` is called twice keeps it a function of its own: called once, it would be compiled into its caller, and a table would stand in the frame of every level.
 pub fn no_extra(
     v: Version,
     depth: u8,
@@ -140,24 +241,11 @@ pub fn no_extra(
     ensures { λ r. ⌜ ((P : ColumnsAt v depth (now (incoming .entry)) n (c .at)) (Q : ColumnsAt v depth (now (target .entry)) m (b .at)) → r ≡ noExtra v (P .columns) (Q .columns)) ⌝ }
 {
     if m <= 16 {
-        let array = [0u16; 1];
-        let none = &array[..];
-        return each_found(v, depth, incoming, n, c, target, m, b, false, none, none);
+        return no_extra_few(v, depth, incoming, n, c, target, m, b);
     }
-    let mut starts = [0u16; TABLE_SIZE];
-    let mut positions = [0u16; TABLE_SIZE];
-    let whole = fill(target, v, depth, m, b, &mut starts, &mut positions);
-    each_found(
-        v,
-        depth,
-        incoming,
-        n,
-        c,
-        target,
-        m,
-        b,
-        whole,
-        &starts,
-        &positions,
-    )
+    match depth {
+        15 => no_extra_many(v, depth, incoming, n, c, target, m, b),
+        14 => no_extra_many(v, depth, incoming, n, c, target, m, b),
+        _ => no_extra_few(v, depth, incoming, n, c, target, m, b),
+    }
 }

@@ -9,6 +9,8 @@ distinct-names-spec =
     tie.close
     (tie.spec
     (λ c κs. search needs)
+    (λ c. c .distinct-few .ensures)
+    (λ c κs. search needs)
     (λ c. search needs)
     (λ c. search needs)
     (λ c. λ P. names-read (c .before .before .read-columns .ensures .0) P (c .enum-told .given .1))
