@@ -1,6 +1,7 @@
 /* Plans that ask for outputs far past any limit, some 10^33 bytes: nested list mappings over constant lists of hundreds of elements. A run must answer 44 or 45 at once. Tried are plans
- * with and without an overflow inside, with an empty list on the way (so that what is inside is never run), and driven by an incoming list.
- * The exit status is 1 where an answer is not the one due or takes more than a second. */
+ * with and without an overflow inside, with an empty list on the way (so that what is inside is never run), and driven by an incoming list. Then plans that no builder writes and that
+ * cost the check the most of those tried: struct mappings one over another, each of which turns the fields of the one before round.
+ * The exit status is 1 where an answer or an output is not the one due, or where it takes more than a second; more than five for the mappings. */
 #define _DEFAULT_SOURCE
 #include "selector.h"
 
@@ -9,7 +10,7 @@
 #include <string.h>
 #include <time.h>
 
-enum { LEVELS = 14, ELEMENTS = 300 };
+enum { LEVELS = 14, ELEMENTS = 300, FIELDS = 300 };
 
 typedef struct {
     uint8_t bytes[SELECTOR_PLAN_MAX];
@@ -110,18 +111,80 @@ static void cast_of(text *t) {
     put(t, 1, 1);
 }
 
-static text incoming, target, plan, record;
+/* One column, a struct of so many int8 fields with names of their own, in order or from the last to the first. */
+static void struct_of(text *t, int fields, int turned) {
+    mark(t, "LAY", 1);
+    put(t, 0, 1);
+    put(t, 18, 1);
+    put(t, (uint64_t)fields, 2);
+    for (int i = 0; i < fields; i++) {
+        put(t, 2, 1);
+        put(t, (uint64_t)(turned ? fields - 1 - i : i), 2);
+        put(t, 2, 1); /* int8 */
+    }
+}
+
+static void fields_of(text *t, int fields, int turned) {
+    t->length = 0;
+    put(t, 1, 1);
+    for (int i = 0; i < fields; i++) {
+        put(t, 1, 1);
+        put(t, (uint64_t)((turned ? fields - 1 - i : i) % 251), 1);
+    }
+}
+
+/* Struct mappings one over another; field i of each takes the last but i of what it is over. */
+static void turning_of(text *t, int mappings, int fields) {
+    mark(t, "PLN", 1);
+    for (int i = 0; i < mappings; i++)
+        put(t, 4, 1);
+    put(t, 0, 3); /* position 0 */
+    for (int i = 0; i < mappings; i++) {
+        put(t, (uint64_t)fields, 2);
+        for (int k = 0; k < fields; k++) {
+            put(t, 0, 1);
+            put(t, (uint64_t)(fields - 1 - k), 2);
+        }
+    }
+}
+
+static text incoming, target, plan, record, due;
 static uint8_t output[SELECTOR_RECORD_MAX];
 static int failed;
 
+static double since(const struct timespec *from) {
+    struct timespec to;
+    clock_gettime(CLOCK_MONOTONIC, &to);
+    return (double)(to.tv_sec - from->tv_sec) * 1e3 + (double)(to.tv_nsec - from->tv_nsec) / 1e6;
+}
+
 static void expect(const char *name, uint32_t number) {
-    struct timespec from, to;
+    struct timespec from;
     clock_gettime(CLOCK_MONOTONIC, &from);
     uint64_t answer = selector_run(incoming.bytes, incoming.length, target.bytes, target.length, plan.bytes, plan.length, record.bytes, record.length, output, sizeof output);
-    clock_gettime(CLOCK_MONOTONIC, &to);
-    double taken = (double)(to.tv_sec - from.tv_sec) * 1e3 + (double)(to.tv_nsec - from.tv_nsec) / 1e6;
+    double taken = since(&from);
     printf("%s: %u after %.2f ms\n", name, SELECTOR_NUMBER(answer), taken);
     if (SELECTOR_NUMBER(answer) != number || taken > 1000)
+        failed = 1;
+}
+
+/* Checks and runs so many mappings over a struct. */
+static void expect_turned(int mappings) {
+    struct timespec from;
+    int turned = mappings % 2;
+    struct_of(&incoming, FIELDS, 0);
+    struct_of(&target, FIELDS, turned);
+    turning_of(&plan, mappings, FIELDS);
+    fields_of(&record, FIELDS, 0);
+    fields_of(&due, FIELDS, turned);
+    clock_gettime(CLOCK_MONOTONIC, &from);
+    uint64_t checked = selector_check_plan(incoming.bytes, incoming.length, target.bytes, target.length, plan.bytes, plan.length);
+    double check = since(&from);
+    clock_gettime(CLOCK_MONOTONIC, &from);
+    uint64_t ran = selector_run(incoming.bytes, incoming.length, target.bytes, target.length, plan.bytes, plan.length, record.bytes, record.length, output, sizeof output);
+    double run = since(&from);
+    printf("%d mappings of %d fields one over another: check %u after %.2f ms, run %u after %.2f ms\n", mappings, FIELDS, SELECTOR_NUMBER(checked), check, SELECTOR_NUMBER(ran), run);
+    if (checked != 0 || ran != due.length || memcmp(output, due.bytes, due.length) != 0 || check > 5000 || run > 5000)
         failed = 1;
 }
 
@@ -150,5 +213,7 @@ int main(void) {
     expect("the incoming list's elements", 0);
     record_of(&record, 1000, exceeds);
     expect("the incoming list's elements, the last too large", 44);
+    expect_turned(7);
+    expect_turned(60);
     return failed;
 }

@@ -25,6 +25,8 @@ use layout::version::Version;
 use walk::head::SelectorHead;
 use walk::head::head;
 use walk::head::rename_name;
+use walk::inputs::ends_for;
+use walk::inputs::no_ends;
 use walk::walk::Walk;
 
 // A selector's own name; that of its input; or that of a column or field, by its position.
@@ -134,6 +136,7 @@ pub fn name_at(incoming: &[u8], v: Version, n: u16, plan: &[u8], w: Walk) -> Nam
     ensures { λ r. ⌜ ((a : Column) → NamedAt (now (incoming .entry)) v n (now (plan .entry)) w a → NameAt (now (incoming .entry)) (now (plan .entry)) r (a .name)) ⌝ }
 {
     let mut x = w;
+    let mut ends = no_ends(0);
     loop {
         match own_name(plan, x) {
             OwnName::Is(name) => return name,
@@ -150,7 +153,8 @@ pub fn name_at(incoming: &[u8], v: Version, n: u16, plan: &[u8], w: Walk) -> Nam
                     PartName::Is(name) => return name,
                     PartName::Child => {
                         let z = r.walk;
-                        x = z.child(plan, i);
+                        ends = ends_for(plan, ends, Cursor { at: z.at });
+                        x = z.child_in(plan, ends, i);
                     }
                 }
             }

@@ -4,9 +4,9 @@ use mathlib.Core.Path.{_≡_, refl, sym, ap, _∙_}
 use mathlib.Core.Bool.{Bool, true, false}
 use native.Mathlib.Omega.{arith}
 use native.Mathlib.Decide.{ℕ-discrete}
-use lib.ListN.{length, take, length-take}
+use lib.ListN.{length, getD, take, length-take}
 use lib.Dec.{eqb}
-use borrow.Author.Tests.{ne-eqb, eq-eqb, le-leb, lt-leb}
+use borrow.Author.Tests.{ne-eqb, eq-eqb, eqb-true, lt-ltb, le-leb, lt-leb}
 use Rattle.layout.specs.Bytes.{Bytes, sameBytes}
 use Rattle.layout.specs.Parser.{Res, refuse, ok, next, choose, Parser, byte, u16}
 use Rattle.layout.specs.Tree.{dtypeOf}
@@ -216,6 +216,21 @@ module _ (s : Bytes) (at d : ℕ) where
     unfolding next movedOf
     selector-stopped f = rw (level z, ← e, f)
 
+  -- a position, read at once
+  pub selector-position : (0 < d) × (at + 3 ≤ length s) × (getD s at 0 ≡ 0) → Moved.To (record { at = at + 3 }) ≡ movedOf (selector d s at)
+  unfolding selectorRest positionRest u16 byte next choose movedOf
+  selector-position (z, l, q) =
+      let k : at + 3 ≡ at + 1 + 1 + 1 = omega arith in
+      rw (level (λ e. omega arith), lt-ltb at (length s) (omega arith), q, lt-ltb (at + 1) (length s) (omega arith), lt-ltb (at + 1 + 1) (length s) (omega arith))
+      (ap (λ (m : ℕ). Moved.To (record { at = m })) k)
+
+-- whether there is one
+pub position-untold : {B : Type 0} → false ≡ true → B
+position-untold h = clash (cc)
+
+pub position-told : (s : Bytes) (at : ℕ) {d : ℕ} → (d ≡ 0 → ⊥) → 3 ≤ length s → at ≤ length s - 3 → eqb (getD s at 0) 0 ≡ true → (0 < d) × (at + 3 ≤ length s) × (getD s at 0 ≡ 0)
+position-told s at z l m h = (omega arith, omega arith, eqb-true (getD s at 0) 0 h)
+
 -- ---- the loop over selectors
 
 pub record Passing (p : Parser Selector) (s : Bytes) (n from i at : ℕ) : Type 0 where
@@ -244,6 +259,11 @@ module _ (p : Parser Selector) (s : Bytes) (n from : ℕ) where
       passing-more {c} f =
           let t = moved-to (p s at) b f in
           record { within = omega arith; rest = a .rest ∙ rw step (rw (t .1) (sym (to-pure (scons (t .0)) (selectors p (n - (i + 1)) s (c .at)) refl))) }
+
+-- a position among them
+pub passing-position : {d : ℕ} {s : Bytes} {n from i at : ℕ} → Passing (selector d) s n from i at → i < n → (0 < d) × (at + 3 ≤ length s) × (getD s at 0 ≡ 0)
+    → Passing (selector d) s n from (i + 1) (at + 3)
+passing-position {d} {s} {n} {from} {i} {at} a lt h = passing-more (selector d) s n from a lt (selector-position s at d h) refl
 
 -- ---- the whole plan
 

@@ -1,5 +1,8 @@
 // Reading a plan (30): selectors by recursion with the remaining nesting falling, counts of them by loops.
 ghost use mathlib.Core.Path.{_≡_};
+ghost use mathlib.Core.Bool.{true};
+ghost use Prim.Native.Nat.{_+_, _<_, _≤_};
+ghost use lib.ListN.{length, getD};
 ghost use Rattle.layout.specs.Answers.{movedOf};
 ghost use Rattle.layout.specs.Layout.{text};
 ghost use Rattle.plan.specs.Read.{dataType, castOption, positionRest, constantRest, castRest, renameRest, structRest, listRest, arrayRest, selectorRest, selector, selectors, planCounted, faulty, plan};
@@ -154,6 +157,23 @@ fn read_element_mapping(s: &[u8], depth: u8, c: Cursor) -> Moved
     }
 }
 
+// Whether a position stands at `c`, whole, and may: what most selectors are, and passed over at once.
+fn is_position(s: &[u8], depth: u8, c: Cursor) -> bool
+    ensures { λ r. ⌜ (r ≡ true → (0 < depth) × (c .at + 3 ≤ length (now (s .entry))) × (getD (now (s .entry)) (c .at) 0 ≡ 0)) ⌝ }
+{
+    let at = c.at;
+    if depth == 0 {
+        return false;
+    }
+    if s.len() < 3 {
+        return false;
+    }
+    if s.len() - 3 < at {
+        return false;
+    }
+    s[at] == 0
+}
+
 // `n` selectors, each of at most `depth` levels.
 pub fn read_selectors(s: &[u8], depth: u8, n: u16, c: Cursor) -> Moved
     ensures { λ r. ⌜ r ≡ movedOf (selectors (selector depth) n (now (s .entry)) (c .at)) ⌝ }
@@ -162,13 +182,18 @@ pub fn read_selectors(s: &[u8], depth: u8, n: u16, c: Cursor) -> Moved
     let mut i: u16 = 0;
     while i < n {
         let d = Cursor { at };
-        match read_selector(s, depth, d) {
-            Moved::To(e) => {
-                at = e.at;
+        if is_position(s, depth, d) {
+            at += 3;
+            i += 1;
+        } else {
+            match read_selector(s, depth, d) {
+                Moved::To(e) => {
+                    at = e.at;
+                    i += 1;
+                }
+                Moved::Refused(k) => return Moved::Refused(k),
             }
-            Moved::Refused(k) => return Moved::Refused(k),
         }
-        i += 1;
     }
     Moved::To(Cursor { at })
 }

@@ -2,6 +2,7 @@ pub mod Deeper
 pub mod Forward
 pub mod View
 pub mod Heads
+pub mod Ending
 pub mod Trees
 pub mod Standing
 pub mod Moving

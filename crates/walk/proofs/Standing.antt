@@ -100,6 +100,9 @@ module _ {plan : Bytes} {w : Walk} {x : State} (M : WalkAt plan w x) where
   pub walk-starts : w .at < w .lim
   walk-starts = omega (arith, M .ends, selector-longer (M .here))
 
+  pub walk-inside : w .at < length plan
+  walk-inside = omega (arith, walk-starts, M .bound)
+
   pub walk-small : w .at < 65536
   walk-small = omega (arith, walk-starts, M .bound, M .small)
 

@@ -1,5 +1,6 @@
 pub mod Stands
 pub mod Parts
+pub mod Ends
 pub mod State
 pub mod Moves
 pub mod Types

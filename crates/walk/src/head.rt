@@ -110,13 +110,19 @@ pub fn rename_name(plan: &[u8], input: Cursor) -> Span
     }
 }
 
-// Of the struct mapping whose input begins at `input`.
-pub fn struct_fields(plan: &[u8], input: Cursor) -> StructFields
-    ensures { λ r. ⌜ ((P : SelectorAt (now (plan .entry)) (input .at)) (Q : CountedAt (now (plan .entry)) (P .end)) → CountedIs (now (plan .entry)) (P .end) Q r) ⌝ }
+// The count that stands at `c`, and the selectors behind it.
+pub fn counted_at(plan: &[u8], c: Cursor) -> StructFields
+    ensures { λ r. ⌜ ((at : ℕ) (Q : CountedAt (now (plan .entry)) at) → c .at ≡ at → CountedIs (now (plan .entry)) at Q r) ⌝ }
 {
-    let c = skip_selector(plan, input);
     match c.short(plan) {
         Short::Is(count, first) => StructFields { count, first },
         Short::Refused(_) => StructFields { count: 0, first: c },
     }
+}
+
+// Of the struct mapping whose input begins at `input`.
+pub fn struct_fields(plan: &[u8], input: Cursor) -> StructFields
+    ensures { λ r. ⌜ ((P : SelectorAt (now (plan .entry)) (input .at)) (Q : CountedAt (now (plan .entry)) (P .end)) → CountedIs (now (plan .entry)) (P .end) Q r) ⌝ }
+{
+    counted_at(plan, skip_selector(plan, input))
 }

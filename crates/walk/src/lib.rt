@@ -1,3 +1,4 @@
 // Walking through the selectors of a plan that was read.
 pub mod head;
+pub mod inputs;
 pub mod walk;

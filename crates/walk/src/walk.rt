@@ -2,7 +2,7 @@
 // path, a position leaves the innermost mapping and puts its number before the path into the mapping's input.
 ghost use mathlib.Core.Path.{_≡_};
 ghost use mathlib.Core.List.{[], _∷_};
-ghost use Prim.Native.Nat.{ℕ, _-_, _<_, _≤_};
+ghost use Prim.Native.Nat.{ℕ, _+_, _-_, _<_, _≤_};
 ghost use lib.ListN.{length, getD};
 ghost use Rattle.layout.specs.Bytes.{Bytes};
 ghost use Rattle.plan.specs.Selector.{Selector, position};
@@ -11,12 +11,17 @@ ghost use Rattle.walk.specs.Stands.{SelectorAt};
 ghost use Rattle.walk.specs.State.{Frame, State, state};
 ghost use Rattle.walk.specs.Moves.{Input, Part, Mapping};
 ghost use Rattle.walk.specs.Parts.{StructAt};
+ghost use Rattle.walk.specs.Ends.{EndsAt};
 ghost use Rattle.walk.specs.Standing.{WalkAt, Located, PartIs, StepsTo, Enters, Leaves, MoveIs};
 use crate::head::SelectorHead;
+use crate::head::counted_at;
 use crate::head::head;
 use crate::head::nth_selector;
 use crate::head::skip_selector;
-use crate::head::struct_fields;
+use crate::inputs::InputEnds;
+use crate::inputs::end_of;
+use crate::inputs::ends_for;
+use crate::inputs::no_ends;
 use layout::columns::Position;
 use layout::cursor::Cursor;
 
@@ -59,10 +64,11 @@ pub fn top(at: usize, lim: usize) -> Walk
     }
 }
 
-fn struct_part(plan: &[u8], input: Cursor, k: u16) -> PartFound
-    ensures { λ r. ⌜ ((at : ℕ) (P : SelectorAt (now (plan .entry)) at) → StructAt (now (plan .entry)) at P (input .at) → PartIs (now (plan .entry)) at P k r) ⌝ }
+// Of the struct mapping whose count stands at `c`.
+fn struct_part(plan: &[u8], c: Cursor, k: u16) -> PartFound
+    ensures { λ r. ⌜ ((at m : ℕ) (P : SelectorAt (now (plan .entry)) at) (S : StructAt (now (plan .entry)) at P m) → c .at ≡ S .input .end → PartIs (now (plan .entry)) at P k r) ⌝ }
 {
-    let f = struct_fields(plan, input);
+    let f = counted_at(plan, c);
     let count = f.count;
     let first = f.first;
     if k < count {
@@ -72,8 +78,9 @@ fn struct_part(plan: &[u8], input: Cursor, k: u16) -> PartFound
     }
 }
 
-// The part `k` of the mapping at `c`.
-fn part(plan: &[u8], c: Cursor, k: u16) -> PartFound
+// The part `k` of the mapping at `c`, whose input ends at `d`.
+fn part(plan: &[u8], c: Cursor, d: Cursor, k: u16) -> PartFound
+    requires { ⌜ ((I : SelectorAt (now plan) (c .at + 1)) → d .at ≡ I .end) ⌝ }
     ensures { λ r. ⌜ ((P : SelectorAt (now (plan .entry)) (c .at)) → Mapping (P .tree) → PartIs (now (plan .entry)) (c .at) P k r) ⌝ }
 {
     match head(plan, c) {
@@ -81,11 +88,20 @@ fn part(plan: &[u8], c: Cursor, k: u16) -> PartFound
         SelectorHead::Constant(_, _) => PartFound::None,
         SelectorHead::Cast(_) => PartFound::None,
         SelectorHead::Rename(_) => PartFound::None,
-        SelectorHead::Struct(input) => struct_part(plan, input, k),
-        SelectorHead::List(input) => PartFound::At(skip_selector(plan, input)),
-        SelectorHead::Array(input) => PartFound::At(skip_selector(plan, input)),
+        SelectorHead::Struct(_) => struct_part(plan, d, k),
+        SelectorHead::List(_) => PartFound::At(d),
+        SelectorHead::Array(_) => PartFound::At(d),
         SelectorHead::Refused => PartFound::None,
     }
+}
+
+// The part `k` of the mapping at `c`, whose input is skipped. A function of its own, since `child` stands in the check's recursion, which keeps little on the stack.
+fn skipped_part(plan: &[u8], c: Cursor, k: u16) -> PartFound
+    requires { ⌜ c .at < 65536 ⌝ }
+    ensures { λ r. ⌜ ((P : SelectorAt (now (plan .entry)) (c .at)) → Mapping (P .tree) → PartIs (now (plan .entry)) (c .at) P k r) ⌝ }
+{
+    let d = skip_selector(plan, Cursor { at: c.at + 1 });
+    part(plan, c, d, k)
 }
 
 impl Walk {
@@ -128,15 +144,17 @@ impl Walk {
     }
 
     // At a mapping.
-    fn entering(self, plan: &[u8]) -> Move
+    fn entering(self, plan: &[u8], ends: InputEnds) -> Move
         requires { ⌜ ((x : State) × WalkAt (now plan) self x) ⌝ }
+        requires { ⌜ EndsAt (now plan) ends ⌝ }
         ensures { λ r. ⌜ ((x : State) (M : WalkAt (now (plan .entry)) self x) → Mapping (x .selector) → MoveIs (now (plan .entry)) self x M r) ⌝ }
     {
         let d = self.deep;
         if d < self.len {
             let k = self.path[d];
             let c = Cursor { at: self.at };
-            match part(plan, c, k) {
+            let e = end_of(plan, ends, Cursor { at: self.at + 1 });
+            match part(plan, c, e, k) {
                 PartFound::At(p) => Move::Enter(p),
                 PartFound::None => Move::Stop,
             }
@@ -167,8 +185,9 @@ impl Walk {
     }
 
     // The next move.
-    fn next_move(self, plan: &[u8]) -> Move
+    fn next_move(self, plan: &[u8], ends: InputEnds) -> Move
         requires { ⌜ ((x : State) × WalkAt (now plan) self x) ⌝ }
+        requires { ⌜ EndsAt (now plan) ends ⌝ }
         ensures { λ r. ⌜ ((x : State) (M : WalkAt (now (plan .entry)) self x) → MoveIs (now (plan .entry)) self x M r) ⌝ }
     {
         let c = Cursor { at: self.at };
@@ -183,11 +202,23 @@ impl Walk {
                     Move::Stop
                 }
             }
-            SelectorHead::Struct(_) => self.entering(plan),
-            SelectorHead::List(_) => self.entering(plan),
-            SelectorHead::Array(_) => self.entering(plan),
+            SelectorHead::Struct(_) => self.entering(plan, ends),
+            SelectorHead::List(_) => self.entering(plan, ends),
+            SelectorHead::Array(_) => self.entering(plan, ends),
             SelectorHead::Refused => Move::Stop,
         }
+    }
+
+    // The table of ends for the next move.
+    fn ends_ahead(self, plan: &[u8], ends: InputEnds) -> InputEnds
+        requires { ⌜ ((x : State) × WalkAt (now plan) self x) ⌝ }
+        requires { ⌜ EndsAt (now plan) ends ⌝ }
+        ensures { λ r. ⌜ EndsAt (now (plan .entry)) r ⌝ }
+    {
+        if self.deep < self.len {
+            return ends_for(plan, ends, Cursor { at: self.at });
+        }
+        ends
     }
 
     // Moves on until no move is left.
@@ -196,8 +227,10 @@ impl Walk {
         ensures { λ r. ⌜ ((x : State) → WalkAt (now (plan .entry)) self x → Located (now (plan .entry)) x self r) ⌝ }
     {
         let mut w = self;
+        let mut ends = no_ends(0);
         loop {
-            match w.next_move(plan) {
+            ends = w.ends_ahead(plan, ends);
+            match w.next_move(plan, ends) {
                 Move::Input => {
                     w = w.to_input();
                 }
@@ -215,13 +248,12 @@ impl Walk {
         w
     }
 
-    // At a mapping with no path left: into its part `k`.
-    pub fn child(self, plan: &[u8], k: u16) -> Walk
-        requires { ⌜ ((x : State) × WalkAt (now plan) self x) × (self .deep < 64) ⌝ }
-        ensures { λ r. ⌜ ((x : State) (f : Frame) (t : Selector) → WalkAt (now (plan .entry)) self x → x .path ≡ [] → Part (x .selector) k f t → StepsTo (now (plan .entry)) (state t (f ∷ x .frames) []) self r) ⌝ }
+    // At a mapping with no path left: into its part `k`, which was looked for.
+    fn into_part(self, found: PartFound, k: u16) -> Walk
+        requires { ⌜ (self .at < 65536) × (self .deep < 64) ⌝ }
+        ensures { λ r. ⌜ ((plan : Bytes) (x : State) (f : Frame) (t : Selector) → WalkAt plan self x → x .path ≡ [] → Part (x .selector) k f t → ((P : SelectorAt plan (self .at)) → Mapping (P .tree) → PartIs plan (self .at) P k found) → StepsTo plan (state t (f ∷ x .frames) []) self r) ⌝ }
     {
-        let c = Cursor { at: self.at };
-        match part(plan, c, k) {
+        match found {
             PartFound::At(p) => {
                 let d = self.deep;
                 let mut next = self;
@@ -231,5 +263,25 @@ impl Walk {
             }
             PartFound::None => self,
         }
+    }
+
+    // At a mapping with no path left: into its part `k`.
+    pub fn child(self, plan: &[u8], k: u16) -> Walk
+        requires { ⌜ ((x : State) × WalkAt (now plan) self x) × (self .deep < 64) ⌝ }
+        ensures { λ r. ⌜ ((x : State) (f : Frame) (t : Selector) → WalkAt (now (plan .entry)) self x → x .path ≡ [] → Part (x .selector) k f t → StepsTo (now (plan .entry)) (state t (f ∷ x .frames) []) self r) ⌝ }
+    {
+        let found = skipped_part(plan, Cursor { at: self.at }, k);
+        self.into_part(found, k)
+    }
+
+    // The same, where the table may have the end of the mapping's input.
+    pub fn child_in(self, plan: &[u8], ends: InputEnds, k: u16) -> Walk
+        requires { ⌜ ((x : State) × WalkAt (now plan) self x) × (self .deep < 64) ⌝ }
+        requires { ⌜ EndsAt (now plan) ends ⌝ }
+        ensures { λ r. ⌜ ((x : State) (f : Frame) (t : Selector) → WalkAt (now (plan .entry)) self x → x .path ≡ [] → Part (x .selector) k f t → StepsTo (now (plan .entry)) (state t (f ∷ x .frames) []) self r) ⌝ }
+    {
+        let d = end_of(plan, ends, Cursor { at: self.at + 1 });
+        let found = part(plan, Cursor { at: self.at }, d, k);
+        self.into_part(found, k)
     }
 }

@@ -1,5 +1,5 @@
 -- The proof of the cycle of calls that reads selectors: each way has its law in `Moves`. The measure is 4 for each level left. Assumes nothing.
-use Rattle.plan.proofs.Moves.{array-to, array-stopped, list-to, list-stopped, cast-to, cast-untyped, cast-stopped, rename-to, rename-stopped, struct-to, struct-uncounted, struct-stopped, rest-position, rest-constant, rest-cast, rest-rename, rest-struct, rest-element, rest-unknown, selector-deep, selector-to, selector-stopped, passing-none, passing-all, passing-stopped, passing-more, Passing}
+use Rattle.plan.proofs.Moves.{array-to, array-stopped, list-to, list-stopped, cast-to, cast-untyped, cast-stopped, rename-to, rename-stopped, struct-to, struct-uncounted, struct-stopped, rest-position, rest-constant, rest-cast, rest-rename, rest-struct, rest-element, rest-unknown, selector-deep, selector-to, selector-stopped, passing-position, passing-none, passing-all, passing-stopped, passing-more, Passing}
 use borrow.Author.Needs.{needs}
 use Prim.Native.Nat.{ℕ, _<_, _+_, _-_, _*_}
 use Rattle.plan.specs.Read.{selector}
@@ -26,6 +26,7 @@ use Rattle.plan.proofs.read.+read_cast+read_element_mapping+read_rename
 use Rattle.plan.proofs.read.read_struct.Reads as read-struct
 use Rattle.plan.proofs.read.read_struct.Kinds as read-struct-kinds
 use Rattle.plan.proofs.read.+read_cast+read_element_mapping+read_rename+read_rest+read_selector+read_selectors+read_struct.Lts-read_struct as read-struct-lts
+use Rattle.plan.proofs.read.is_position.Reads as is-position-reads
 use Rattle.layout.proofs.cursor.Cursor.byte.Reads as byte-reads
 use Rattle.layout.proofs.cursor.Cursor.short.Reads as short-reads
 use Rattle.plan.proofs.read.read_constant.Reads as read-constant-reads
@@ -142,7 +143,7 @@ abbrev read-selector-claims : ℕ → read-selector-lts.Claims
 read-selector-claims t = (byte-reads.Asked, byte-reads.Learnt, read-rest-below t, read-rest.Post)
 
 abbrev read-selectors-claims : ℕ → read-selectors-lts.Claims
-read-selectors-claims t = (read-selector-below t, read-selector.Post)
+read-selectors-claims t = (is-position-reads.Asked, is-position-reads.Learnt, read-selector-below t, read-selector.Post)
 
 abbrev read-struct-claims : ℕ → read-struct-lts.Claims
 read-struct-claims t = (read-selector-below t, read-selector.Post, short-reads.Asked, short-reads.Learnt, read-selectors-below t, read-selectors.Post)
@@ -228,12 +229,17 @@ pub +read-cast+read-element-mapping+read-rename+read-rest+read-selector+read-sel
     read-selectors-μ-loop
     (λ c. search (passing-none, needs))
     (λ c κs. search needs)
+    (λ c. let h = c .before .is-position .ensures (c .if1 .taken) in search needs)
     (λ c. search needs)
     (λ c. search needs)
-    (λ c. search passing-stopped)
+    (λ c. passing-position (c .before .before .before .loop .inv) (c .before .before .loop-test .taken) (c .before .is-position .ensures (c .if1 .taken)))
+    (λ c κs. search needs)
+    (λ c. search needs)
     (λ c. search needs)
     (λ c. search needs)
     (λ c. search passing-more)
+    (λ c. search needs)
+    (λ c. search passing-stopped)
     (λ c. search passing-all))
     λ t. read-struct-lts.spec (read-struct-claims t)
     (read-struct-at t)

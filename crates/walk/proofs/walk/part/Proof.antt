@@ -2,6 +2,7 @@
 use borrow.Author.Needs.{needs}
 use Rattle.walk.proofs.Moving.{list-found, array-found, part-position, part-constant, part-cast, part-rename}
 use Rattle.walk.proofs.Heads.{is-position, is-constant, is-cast, is-rename, is-struct, is-list, is-array, never-refused}
+use Rattle.walk.proofs.View.{selector-moved}
 use Rattle.walk.proofs.walk.part.Statement.{statement}
 use Rattle.walk.proofs.walk.part.Tie as tie
 
@@ -17,15 +18,13 @@ part-spec =
     (λ c. search needs)
     (λ c κs. search needs)
     (λ c. search needs)
-    (λ c κs. search needs)
     (λ c. search needs)
-    (λ c κs. search needs)
     (λ c. search needs)
     (λ c. λ P m. part-position (is-position (c .before .before .head .ensures P) (c .enum-told .given .1) .1) m)
     (λ c. λ P m. part-constant (is-constant (c .before .before .head .ensures P) (c .enum-told2 .given .1)) m)
     (λ c. λ P m. part-cast (is-cast (c .before .before .head .ensures P) (c .enum-told3 .given .1)) m)
     (λ c. λ P m. part-rename (is-rename (c .before .before .head .ensures P) (c .enum-told4 .given .1)) m)
-    (λ c. λ P m. c .struct-part .ensures (c .before .before .before .before .before .before .args .c .at) P (is-struct (c .before .before .before .before .head .ensures P) (c .before .before .input .given .1)))
-    (λ c. λ P m. let L = is-list (c .before .before .before .before .head .ensures P) (c .before .before .input2 .given .1) in list-found (c .before .before .before .before .before .before .args .k) L (c .skip-selector .ensures (L .input)))
-    (λ c. λ P m. let A = is-array (c .before .before .before .before .head .ensures P) (c .before .before .input3 .given .1) in array-found (c .before .before .before .before .before .before .args .k) A (c .skip-selector2 .ensures (A .input)))
-    (λ c. λ P m. never-refused (c .before .before .head .ensures P) (c .enum-told5 .given .1)))
+    (λ c. λ P m. let S = is-struct (c .before .before .before .head .ensures P) (c .before .enum-told5 .given .1) in c .struct-part .ensures (c .before .before .before .before .before .args .c .at) _ P S (c .before .before .before .before .before .pre (selector-moved (S .starts) (S .input))))
+    (λ c. λ P m. let L = is-list (c .before .before .head .ensures P) (c .enum-told6 .given .1) in list-found (c .before .before .before .before .args .k) L (c .before .before .before .before .pre (selector-moved (L .starts) (L .input))))
+    (λ c. λ P m. let A = is-array (c .before .before .head .ensures P) (c .enum-told7 .given .1) in array-found (c .before .before .before .before .args .k) A (c .before .before .before .before .pre (selector-moved (A .starts) (A .input))))
+    (λ c. λ P m. never-refused (c .before .before .head .ensures P) (c .enum-told8 .given .1)))

@@ -1,16 +1,18 @@
 -- `walk::walk::Walk::locate` meets its contract: each move leaves less, and none is left at the end. Assumes nothing.
 use borrow.Author.Needs.{needs}
+use denote.Ref.{now}
 use Rattle.walk.specs.State.{State}
+use Rattle.walk.specs.Ends.{EndsAt}
 use Rattle.walk.specs.Standing.{WalkAt, rank}
 use Rattle.walk.proofs.Moving.{Walking, walking-none, walking-input, walking-enter, walking-leave, walking-done, input-asks, enter-asks, leave-asks}
 use Rattle.walk.proofs.walk.Walk.locate.Statement.{statement}
 use Rattle.walk.proofs.walk.Walk.locate.Tie as tie
 
 abbrev Inv-loop : tie.InvT-loop
-Inv-loop plan w₀ w = (x : State) → WalkAt plan w₀ x → Walking plan x w₀ w
+Inv-loop plan w₀ ends₀ w ends = ((x : State) → WalkAt plan w₀ x → Walking plan x w₀ w) × EndsAt plan ends
 
 abbrev μ-loop : tie.MeasureT-loop
-μ-loop plan w₀ w = rank w
+μ-loop plan w₀ ends₀ w ends = rank w
 
 pub locate-spec : {M : Type 1} → statement M
 locate-spec =
@@ -18,19 +20,21 @@ locate-spec =
     (tie.spec
     Inv-loop
     μ-loop
-    (λ c. λ x M. walking-none M)
-    (λ c κs. let N = c .loop .inv (c .before .before .pre .0) (c .before .before .pre .1) in (N .state, N .standing))
+    (λ c κs. search needs)
+    (λ c. (λ x M. walking-none M, c .no-ends .ensures .0 (now (c .before .before .args .plan))))
+    (λ c κs. let N = c .loop .inv .0 (c .before .before .before .pre .0) (c .before .before .before .pre .1) in ((N .state, N .standing), c .loop .inv .1))
+    (λ c κs. let N = c .before .loop .inv .0 (c .before .before .before .before .pre .0) (c .before .before .before .before .pre .1) in ((N .state, N .standing), c .ends-ahead .ensures))
     (λ c. search needs)
-    (λ c κs. let N = c .before .before .before .loop .inv (c .before .before .before .before .before .pre .0) (c .before .before .before .before .before .pre .1) in input-asks N (c .before .before .next-move .ensures (N .state) (N .standing)))
-    (λ c. let N = c .before .before .before .before .loop .inv (c .before .before .before .before .before .before .pre .0) (c .before .before .before .before .before .before .pre .1) in walking-input N (c .before .before .before .next-move .ensures (N .state) (N .standing)) (c .before .enum-told .given .1) (c .to-input .ensures) .1)
-    (λ c. λ x M. let N = c .before .before .before .before .loop .inv x M in walking-input N (c .before .before .before .next-move .ensures (N .state) (N .standing)) (c .before .enum-told .given .1) (c .to-input .ensures) .0)
+    (λ c κs. let N = c .before .before .before .before .loop .inv .0 (c .before .before .before .before .before .before .before .pre .0) (c .before .before .before .before .before .before .before .pre .1) in input-asks N (c .before .before .next-move .ensures (N .state) (N .standing)))
+    (λ c. let N = c .before .before .before .before .before .loop .inv .0 (c .before .before .before .before .before .before .before .before .pre .0) (c .before .before .before .before .before .before .before .before .pre .1) in walking-input N (c .before .before .before .next-move .ensures (N .state) (N .standing)) (c .before .enum-told .given .1) (c .to-input .ensures) .1)
+    (λ c. (λ x M. let N = c .before .before .before .before .before .loop .inv .0 x M in walking-input N (c .before .before .before .next-move .ensures (N .state) (N .standing)) (c .before .enum-told .given .1) (c .to-input .ensures) .0, c .before .before .before .before .ends-ahead .ensures))
     (λ c. search needs)
-    (λ c κs. let N = c .before .before .before .before .loop .inv (c .before .before .before .before .before .before .pre .0) (c .before .before .before .before .before .before .pre .1) in enter-asks N (c .before .before .before .next-move .ensures (N .state) (N .standing)) (c .before .part .given .1))
-    (λ c. let N = c .before .before .before .before .before .loop .inv (c .before .before .before .before .before .before .before .pre .0) (c .before .before .before .before .before .before .before .pre .1) in walking-enter N (c .before .before .before .before .next-move .ensures (N .state) (N .standing)) (c .before .before .part .given .1) (c .enter .ensures) .1)
-    (λ c. λ x M. let N = c .before .before .before .before .before .loop .inv x M in walking-enter N (c .before .before .before .before .next-move .ensures (N .state) (N .standing)) (c .before .before .part .given .1) (c .enter .ensures) .0)
+    (λ c κs. let N = c .before .before .before .before .before .loop .inv .0 (c .before .before .before .before .before .before .before .before .pre .0) (c .before .before .before .before .before .before .before .before .pre .1) in enter-asks N (c .before .before .before .next-move .ensures (N .state) (N .standing)) (c .before .part .given .1))
+    (λ c. let N = c .before .before .before .before .before .before .loop .inv .0 (c .before .before .before .before .before .before .before .before .before .pre .0) (c .before .before .before .before .before .before .before .before .before .pre .1) in walking-enter N (c .before .before .before .before .next-move .ensures (N .state) (N .standing)) (c .before .before .part .given .1) (c .enter .ensures) .1)
+    (λ c. (λ x M. let N = c .before .before .before .before .before .before .loop .inv .0 x M in walking-enter N (c .before .before .before .before .next-move .ensures (N .state) (N .standing)) (c .before .before .part .given .1) (c .enter .ensures) .0, c .before .before .before .before .before .ends-ahead .ensures))
     (λ c. search needs)
-    (λ c κs. let N = c .before .before .before .before .loop .inv (c .before .before .before .before .before .before .pre .0) (c .before .before .before .before .before .before .pre .1) in leave-asks N (c .before .before .before .next-move .ensures (N .state) (N .standing)) (c .before .k .given .1))
-    (λ c. let N = c .before .before .before .before .before .loop .inv (c .before .before .before .before .before .before .before .pre .0) (c .before .before .before .before .before .before .before .pre .1) in walking-leave N (c .before .before .before .before .next-move .ensures (N .state) (N .standing)) (c .before .before .k .given .1) (c .leave .ensures) .1)
-    (λ c. λ x M. let N = c .before .before .before .before .before .loop .inv x M in walking-leave N (c .before .before .before .before .next-move .ensures (N .state) (N .standing)) (c .before .before .k .given .1) (c .leave .ensures) .0)
+    (λ c κs. let N = c .before .before .before .before .before .loop .inv .0 (c .before .before .before .before .before .before .before .before .pre .0) (c .before .before .before .before .before .before .before .before .pre .1) in leave-asks N (c .before .before .before .next-move .ensures (N .state) (N .standing)) (c .before .k .given .1))
+    (λ c. let N = c .before .before .before .before .before .before .loop .inv .0 (c .before .before .before .before .before .before .before .before .before .pre .0) (c .before .before .before .before .before .before .before .before .before .pre .1) in walking-leave N (c .before .before .before .before .next-move .ensures (N .state) (N .standing)) (c .before .before .k .given .1) (c .leave .ensures) .1)
+    (λ c. (λ x M. let N = c .before .before .before .before .before .before .loop .inv .0 x M in walking-leave N (c .before .before .before .before .next-move .ensures (N .state) (N .standing)) (c .before .before .k .given .1) (c .leave .ensures) .0, c .before .before .before .before .before .ends-ahead .ensures))
     (λ c. search needs)
-    (λ c. λ x M. let N = c .before .before .before .loop .inv x M in walking-done N (c .before .before .next-move .ensures (N .state) (N .standing)) (c .enum-told2 .given .1)))
+    (λ c. λ x M. let N = c .before .before .before .before .loop .inv .0 x M in walking-done N (c .before .before .next-move .ensures (N .state) (N .standing)) (c .enum-told2 .given .1)))

@@ -1,0 +1,16 @@
+-- `walk::walk::Walk::child_in` meets its contract: the input's end is known or found. Assumes nothing.
+use borrow.Author.Needs.{needs}
+use Rattle.walk.proofs.Standing.{walk-small}
+use denote.Ref.{now}
+use Rattle.walk.proofs.walk.Walk.child_in.Statement.{statement}
+use Rattle.walk.proofs.walk.Walk.child_in.Tie as tie
+
+pub child-in-spec : {M : Type 1} → statement M
+child-in-spec =
+    tie.close
+    (tie.spec
+    (λ c. let h = walk-small (c .before .before .pre .0 .0 .1) in search needs)
+    (λ c κs. search needs)
+    (λ c κs. c .end-of .ensures)
+    (λ c κs. (walk-small (c .before .before .before .before .pre .0 .0 .1), c .before .before .before .before .pre .0 .1))
+    (λ c. λ x f t M h p. c .into-part .ensures (now (c .before .before .before .before .before .args .plan)) x f t M h p (c .before .part .ensures)))

@@ -1,0 +1,176 @@
+// The ends of a chain of inputs. A transform's input begins one byte after its code, so that the selectors at an offset and at those behind it are each the input of the one before, up
+// to the first that is a position, a constant or a cast. One pass from there outwards finds all their ends. The table is a help, never needed: what it does not have is found by
+// skipping.
+ghost use mathlib.Core.Path.{_≡_};
+ghost use mathlib.Core.Bool.{true};
+ghost use Prim.Native.Nat.{ℕ, _+_, _<_, _≤_};
+ghost use lib.ListN.{length};
+ghost use Rattle.layout.specs.Bytes.{Bytes};
+ghost use Rattle.walk.specs.Stands.{SelectorAt};
+ghost use Rattle.walk.specs.Parts.{TextAt, CountedAt};
+ghost use Rattle.walk.specs.Ends.{EndsAt};
+use crate::head::SelectorHead;
+use crate::head::head;
+use crate::head::skip_selector;
+use layout::cursor::Cursor;
+use layout::cursor::Moved;
+use layout::cursor::Short;
+use layout::cursor::Text;
+use plan::read::read_selectors;
+
+// Of the selector at `first + i` the end, or 0 where it is not known.
+pub struct InputEnds {
+    pub first: usize,
+    pub ends: [u16; 64],
+}
+
+// None is known.
+pub fn no_ends(first: usize) -> InputEnds
+    ensures { λ r. ⌜ ((plan : Bytes) → EndsAt plan r) × (r .first ≡ first) ⌝ }
+{
+    InputEnds {
+        first,
+        ends: [0u16; 64],
+    }
+}
+
+impl InputEnds {
+    // One more end, where it is a number of two bytes.
+    fn knowing(self, i: usize, end: usize) -> InputEnds
+        requires { ⌜ i < 64 ⌝ }
+        ensures { λ r. ⌜ ((plan : Bytes) → EndsAt plan self → ((P : SelectorAt plan (self .first + i)) → end ≡ P .end) → EndsAt plan r) × (r .first ≡ self .first) ⌝ }
+    {
+        if end < 65536 {
+            let mut next = self;
+            next.ends[i] = end as u16;
+            next
+        } else {
+            self
+        }
+    }
+
+    // The end of the selector at `at`, or 0.
+    fn known(self, at: usize) -> usize
+        ensures { λ r. ⌜ ((plan : Bytes) (P : SelectorAt plan at) → EndsAt plan self → (r ≡ 0 → ⊥) → r ≡ P .end) ⌝ }
+    {
+        if at < self.first {
+            return 0;
+        }
+        let i = at - self.first;
+        if i < 64 { self.ends[i] as usize } else { 0 }
+    }
+}
+
+// The end of the selector at `c`.
+pub fn end_of(plan: &[u8], ends: InputEnds, c: Cursor) -> Cursor
+    requires { ⌜ EndsAt (now plan) ends ⌝ }
+    ensures { λ r. ⌜ ((P : SelectorAt (now (plan .entry)) (c .at)) → r .at ≡ P .end) ⌝ }
+{
+    let at = ends.known(c.at);
+    if at == 0 {
+        return skip_selector(plan, c);
+    }
+    Cursor { at }
+}
+
+// Of a name.
+fn name_end(plan: &[u8], c: Cursor) -> Cursor
+    ensures { λ r. ⌜ ((N : TextAt (now (plan .entry)) (c .at)) → r .at ≡ N .end) ⌝ }
+{
+    match c.text(plan) {
+        Text::Is(_, d) => d,
+        Text::Refused(_) => c,
+    }
+}
+
+// Of a count and as many selectors.
+fn fields_end(plan: &[u8], c: Cursor) -> Cursor
+    ensures { λ r. ⌜ ((Q : CountedAt (now (plan .entry)) (c .at)) → r .at ≡ Q .selectors .end) ⌝ }
+{
+    match c.short(plan) {
+        Short::Is(n, d) => match read_selectors(plan, 64, n, d) {
+            Moved::To(e) => e,
+            Moved::Refused(_) => c,
+        },
+        Short::Refused(_) => c,
+    }
+}
+
+// The end of the selector at `c`, whose input ends at `d`.
+fn end_behind(plan: &[u8], c: Cursor, d: Cursor) -> Cursor
+    ensures { λ r. ⌜ ((P : SelectorAt (now (plan .entry)) (c .at)) → ((I : SelectorAt (now (plan .entry)) (c .at + 1)) → d .at ≡ I .end) → r .at ≡ P .end) ⌝ }
+{
+    match head(plan, c) {
+        SelectorHead::Position(_) => skip_selector(plan, c),
+        SelectorHead::Constant(_, _) => skip_selector(plan, c),
+        SelectorHead::Cast(_) => skip_selector(plan, c),
+        SelectorHead::Rename(_) => name_end(plan, d),
+        SelectorHead::Struct(_) => fields_end(plan, d),
+        SelectorHead::List(_) => skip_selector(plan, d),
+        SelectorHead::Array(_) => skip_selector(plan, d),
+        SelectorHead::Refused => c,
+    }
+}
+
+// Whether there is a rename or a mapping at `at`. A cast takes leaves alone, so that no mapping stands inside.
+fn goes_on(plan: &[u8], at: usize) -> bool
+    ensures { λ r. ⌜ (r ≡ true → at < length (now (plan .entry))) ⌝ }
+{
+    if plan.len() <= at {
+        return false;
+    }
+    let code = plan[at];
+    match code {
+        3..=6 => true,
+        _ => false,
+    }
+}
+
+// How many of these there are from `c` on, each the input of the one before.
+fn chained(plan: &[u8], c: Cursor) -> usize
+    requires { ⌜ c .at ≤ length (now plan) ⌝ }
+    ensures { λ r. ⌜ (r < 64) × (c .at + r ≤ length (now (plan .entry))) ⌝ }
+{
+    let at = c.at;
+    let mut n = 0;
+    while n < 63 {
+        if !goes_on(plan, at + n) {
+            return n;
+        }
+        n += 1;
+    }
+    n
+}
+
+// Those of the selector at `c` and of its inputs.
+pub fn input_ends(plan: &[u8], c: Cursor) -> InputEnds
+    requires { ⌜ c .at ≤ length (now plan) ⌝ }
+    ensures { λ r. ⌜ EndsAt (now (plan .entry)) r ⌝ }
+{
+    let first = c.at;
+    let mut i = chained(plan, c);
+    let mut d = skip_selector(plan, Cursor { at: first + i });
+    let mut ends = no_ends(first).knowing(i, d.at);
+    while 0 < i {
+        i -= 1;
+        d = end_behind(plan, Cursor { at: first + i }, d);
+        ends = ends.knowing(i, d.at);
+    }
+    ends
+}
+
+// A table that has the end of the input of the mapping at `c`, if a mapping stands there.
+pub fn ends_for(plan: &[u8], ends: InputEnds, c: Cursor) -> InputEnds
+    requires { ⌜ c .at < length (now plan) ⌝ }
+    requires { ⌜ EndsAt (now plan) ends ⌝ }
+    ensures { λ r. ⌜ EndsAt (now (plan .entry)) r ⌝ }
+{
+    let at = c.at;
+    if plan[at] < 4 {
+        return ends;
+    }
+    if ends.known(at + 1) != 0 {
+        return ends;
+    }
+    input_ends(plan, Cursor { at: at + 1 })
+}
