@@ -50,7 +50,7 @@ impl InputEnds {
     }
 
     // The end of the selector at `at`, or 0.
-    fn known(self, at: usize) -> usize
+    pub fn known(self, at: usize) -> usize
         ensures { λ r. ⌜ ((plan : Bytes) (P : SelectorAt plan at) → EndsAt plan self → (r ≡ 0 → ⊥) → r ≡ P .end) ⌝ }
     {
         if at < self.first {
@@ -59,18 +59,6 @@ impl InputEnds {
         let i = at - self.first;
         if i < 64 { self.ends[i] as usize } else { 0 }
     }
-}
-
-// The end of the selector at `c`.
-pub fn end_of(plan: &[u8], ends: InputEnds, c: Cursor) -> Cursor
-    requires { ⌜ EndsAt (now plan) ends ⌝ }
-    ensures { λ r. ⌜ ((P : SelectorAt (now (plan .entry)) (c .at)) → r .at ≡ P .end) ⌝ }
-{
-    let at = ends.known(c.at);
-    if at == 0 {
-        return skip_selector(plan, c);
-    }
-    Cursor { at }
 }
 
 // Of a name.

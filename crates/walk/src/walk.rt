@@ -19,7 +19,6 @@ use crate::head::head;
 use crate::head::nth_selector;
 use crate::head::skip_selector;
 use crate::inputs::InputEnds;
-use crate::inputs::end_of;
 use crate::inputs::ends_for;
 use crate::inputs::no_ends;
 use layout::columns::Position;
@@ -95,13 +94,26 @@ fn part(plan: &[u8], c: Cursor, d: Cursor, k: u16) -> PartFound
     }
 }
 
-// The part `k` of the mapping at `c`, whose input is skipped. A function of its own, since `child` stands in the check's recursion, which keeps little on the stack.
+// The part `k` of the mapping at `c`, whose input is skipped.
 fn skipped_part(plan: &[u8], c: Cursor, k: u16) -> PartFound
     requires { ⌜ c .at < 65536 ⌝ }
     ensures { λ r. ⌜ ((P : SelectorAt (now (plan .entry)) (c .at)) → Mapping (P .tree) → PartIs (now (plan .entry)) (c .at) P k r) ⌝ }
 {
     let d = skip_selector(plan, Cursor { at: c.at + 1 });
     part(plan, c, d, k)
+}
+
+// The part `k` of the mapping at `c`, where the table may have the end of the mapping's input.
+fn part_in(plan: &[u8], ends: InputEnds, c: Cursor, k: u16) -> PartFound
+    requires { ⌜ EndsAt (now plan) ends ⌝ }
+    requires { ⌜ c .at < 65536 ⌝ }
+    ensures { λ r. ⌜ ((P : SelectorAt (now (plan .entry)) (c .at)) → Mapping (P .tree) → PartIs (now (plan .entry)) (c .at) P k r) ⌝ }
+{
+    let at = ends.known(c.at + 1);
+    if at == 0 {
+        return skipped_part(plan, c, k);
+    }
+    part(plan, c, Cursor { at }, k)
 }
 
 impl Walk {
@@ -152,9 +164,7 @@ impl Walk {
         let d = self.deep;
         if d < self.len {
             let k = self.path[d];
-            let c = Cursor { at: self.at };
-            let e = end_of(plan, ends, Cursor { at: self.at + 1 });
-            match part(plan, c, e, k) {
+            match part_in(plan, ends, Cursor { at: self.at }, k) {
                 PartFound::At(p) => Move::Enter(p),
                 PartFound::None => Move::Stop,
             }
@@ -280,8 +290,7 @@ impl Walk {
         requires { ⌜ EndsAt (now plan) ends ⌝ }
         ensures { λ r. ⌜ ((x : State) (f : Frame) (t : Selector) → WalkAt (now (plan .entry)) self x → x .path ≡ [] → Part (x .selector) k f t → StepsTo (now (plan .entry)) (state t (f ∷ x .frames) []) self r) ⌝ }
     {
-        let d = end_of(plan, ends, Cursor { at: self.at + 1 });
-        let found = part(plan, Cursor { at: self.at }, d, k);
+        let found = part_in(plan, ends, Cursor { at: self.at }, k);
         self.into_part(found, k)
     }
 }

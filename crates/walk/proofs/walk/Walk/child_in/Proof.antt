@@ -9,8 +9,6 @@ pub child-in-spec : {M : Type 1} → statement M
 child-in-spec =
     tie.close
     (tie.spec
-    (λ c. let h = walk-small (c .before .before .pre .0 .0 .1) in search needs)
-    (λ c κs. search needs)
-    (λ c κs. c .end-of .ensures)
-    (λ c κs. (walk-small (c .before .before .before .before .pre .0 .0 .1), c .before .before .before .before .pre .0 .1))
-    (λ c. λ x f t M h p. c .into-part .ensures (now (c .before .before .before .before .before .args .plan)) x f t M h p (c .before .part .ensures)))
+    (λ c κs. (c .before .pre .1, walk-small (c .before .pre .0 .0 .1)))
+    (λ c κs. (walk-small (c .before .before .pre .0 .0 .1), c .before .before .pre .0 .1))
+    (λ c. λ x f t M h p. c .into-part .ensures (now (c .before .before .before .args .plan)) x f t M h p (c .before .part-in .ensures)))

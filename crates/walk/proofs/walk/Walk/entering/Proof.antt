@@ -2,7 +2,6 @@
 use borrow.Author.Needs.{needs}
 use Rattle.walk.proofs.Moving.{entering-ended, entering-part, entering-none}
 use Rattle.walk.proofs.Standing.{walk-small}
-use native.Mathlib.Omega.{arith}
 use Rattle.walk.proofs.walk.Walk.entering.Statement.{statement}
 use Rattle.walk.proofs.walk.Walk.entering.Tie as tie
 
@@ -12,11 +11,9 @@ entering-spec =
     (tie.spec
     (λ c. search needs)
     (λ c. search needs)
-    (λ c. let h = walk-small (c .before .before .before .pre .0 .1) in search needs)
-    (λ c κs. search needs)
-    (λ c κs. c .end-of .ensures)
+    (λ c κs. (c .before .before .before .pre .1, walk-small (c .before .before .before .pre .0 .1)))
     (λ c. search needs)
     (λ c. search needs)
-    (λ c. λ x M m. entering-part M m (c .before .before .before .before .before .before .if1 .taken) (c .before .before .before .part .ensures) (c .before .p .given .1))
-    (λ c. λ x M m. entering-none M m (c .before .before .before .before .before .if1 .taken) (c .before .before .part .ensures) (c .enum-told .given .1))
+    (λ c. λ x M m. entering-part M m (c .before .before .before .before .before .if1 .taken) (c .before .before .before .part-in .ensures) (c .before .p .given .1))
+    (λ c. λ x M m. entering-none M m (c .before .before .before .before .if1 .taken) (c .before .before .part-in .ensures) (c .enum-told .given .1))
     (λ c. λ x M m. entering-ended M m (c .if1 .left)))
