@@ -44,7 +44,7 @@ extern "C" {
 
 /* The most stack that a call takes, in bytes, as compiled here; compare/c/stack measures it. */
 #define SELECTOR_READ_STACK 16384
-#define SELECTOR_BUILD_STACK 114688
+#define SELECTOR_BUILD_STACK 139264
 #define SELECTOR_CHECK_STACK 163840
 #define SELECTOR_RUN_STACK 163840
 

@@ -16,7 +16,7 @@
 //! # Ok::<(), column_selector::Refusal>(())
 //! ```
 //!
-//! The stack that a call takes stands in `include/selector.h`: at most 112 KiB for a build, 160 KiB for a check or a run.
+//! The stack that a call takes stands in `include/selector.h`: at most 136 KiB for a build, 160 KiB for a check or a run.
 #![no_std]
 #![warn(missing_docs)]
 
