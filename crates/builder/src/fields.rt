@@ -65,7 +65,7 @@ pub fn distinct_names(s: &[u8], v: Version, depth: u8, n: u16, c: Cursor) -> boo
     requires { ⌜ ColumnsAt v depth (now s) n (c .at) ⌝ }
     ensures { λ r. ⌜ ((P : ColumnsAt v depth (now (s .entry)) n (c .at)) → r ≡ distinctNames (P .columns)) ⌝ }
 {
-    if n <= 16 {
+    if n <= 8 {
         return distinct_few(s, v, depth, n, c);
     }
     let mut seen = [0u64; 512];
