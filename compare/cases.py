@@ -6,8 +6,8 @@
 # BASE has answers of a second implementation, one JSON object a line (default: ../shared/vectors/base.jsonl beside the repository).
 # Its cases are taken over. Layouts at the edges of document 01's rules are added, whose answers come from the reader below, and builds of
 # the original source (compare/rust/sample.txt). The reader is written from document 01 and shares nothing with the library; where it
-# disagrees with an answer of BASE, nothing is written and the exit status is 1. Which plans are direct, so that one pass is to settle
-# them (docs/ARCHITECTURE.md), is read from the plans' bytes. Written: crates/cases/stdin and crates/cases/stdout.
+# disagrees with an answer of BASE, nothing is written and the exit status is 1. Which plans one pass is to settle (docs/ARCHITECTURE.md)
+# is read from the plans' bytes. Written: crates/cases/stdin and crates/cases/stdout.
 import json
 import os
 import sys
@@ -110,7 +110,7 @@ def read(data):
     return 6 if reader.at < len(data) else 0
 
 
-# --- direct plans: each transform takes a bare position, or renames what does --------------------------------------------------
+# --- plans that one pass is to settle ------------------------------------------------------------------------------------------
 
 
 # The bytes of a present leaf value, by its type's code; texts have their length before them.
@@ -121,7 +121,7 @@ WIDTHS = {1: 1, 2: 1, 3: 2, 4: 4, 5: 8, 6: 1, 7: 2, 8: 4, 9: 8, 10: 2, 11: 4, 12
 class Plan(Reader):
     def __init__(self, data):
         super().__init__(data, 1)
-        self.direct = self.selectors()
+        self.tops = self.selectors()
 
     # A reader of types that begins elsewhere in the plan.
     def types(self, at):
@@ -156,30 +156,56 @@ class Plan(Reader):
         self.type(1)
         self.value(at)
 
-    # Whether all of a count of selectors are direct.
     def selectors(self):
-        return all([self.selector()[1] for _ in range(self.number(2))])
+        return [self.selector() for _ in range(self.number(2))]
 
-    # A selector's code, and whether it is direct.
+    # A selector's code, its input and what a mapping has inside.
     def selector(self):
         code = self.number(1)
         if code == 0:
             self.number(2)
-            return code, True
+            return code, None, []
         if code == 1:
             self.constant()
-            return code, True
-        taken, direct = self.selector()
+            return code, None, []
+        taken = self.selector()
         if code == 3:
             self.text()
-            return code, direct
-        bare = taken == 0
+            return code, taken, []
         if code == 2:
             self.type(1)
             self.number(1)
-            return code, bare
-        inside = self.selectors() if code == 4 else self.selector()[1]
-        return code, bare and inside
+            return code, taken, []
+        return code, taken, self.selectors() if code == 4 else [self.selector()]
+
+
+# Casts and renames of a position.
+def chain(selector):
+    code, taken, _ = selector
+    return code == 0 or code in (2, 3) and chain(taken)
+
+
+# Each transform takes a bare position, or renames what does; in a run casts may stand over casts.
+def direct(selector, run):
+    code, taken, inside = selector
+    if code in (0, 1):
+        return True
+    if code == 3:
+        return direct(taken, run)
+    if run and chain(selector):
+        return True
+    return taken[0] == 0 and all(direct(one, run) for one in inside)
+
+
+# The inputs of a top selector may be transforms: they are written out, types first.
+def composed(selector):
+    code, taken, inside = selector
+    return code in (0, 1) or composed(taken) and all(direct(one, False) for one in inside)
+
+
+def settled(selector, run):
+    _, taken, inside = selector
+    return direct(selector, run) or composed(taken) and all(direct(one, run) for one in inside)
 
 
 # --- layouts to read -----------------------------------------------------------------------------------------------------------
@@ -474,11 +500,11 @@ CHECKED = "plans checked"
 SETTLED = [("build_name", CHECKED), ("build_number", CHECKED), ("check", CHECKED), ("run", "records written")]
 
 
-# How many of a call's accepted cases have a direct plan, and how many there are.
+# How many of a call's accepted cases have a plan that one pass is to settle, and how many there are.
 def share(name, lines):
     words = [one.split(" ") for one in lines]
-    plans = [one[PLAN[name]] for one in words if one[0] == name and one[-2] == "0"]
-    return sum(Plan(bytes.fromhex(plan)).direct for plan in plans), len(plans)
+    plans = [Plan(bytes.fromhex(one[PLAN[name]])) for one in words if one[0] == name and one[-2] == "0"]
+    return sum(all(settled(one, name == "run") for one in plan.tops) for plan in plans), len(plans)
 
 
 def main():

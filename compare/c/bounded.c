@@ -1,6 +1,7 @@
 /* Plans that ask for outputs far past any limit, some 10^33 bytes: nested list mappings over constant lists of hundreds of elements. A run must answer 44 or 45 at once. Tried are plans
  * with and without an overflow inside, with an empty list on the way (so that what is inside is never run), and driven by an incoming list. Then plans that no builder writes and that
- * cost the check the most of those tried: struct mappings one over another, each of which turns the fields of the one before round.
+ * cost the check the most of those tried: struct mappings one over another, each of which turns the fields of the one before round, at the top, and inside a list mapping's element, where
+ * the general way decides.
  * The exit status is 1 where an answer or an output is not the one due, or where it takes more than a second; more than five for the mappings. */
 #define _DEFAULT_SOURCE
 #include "selector.h"
@@ -111,10 +112,12 @@ static void cast_of(text *t) {
     put(t, 1, 1);
 }
 
-/* One column, a struct of so many int8 fields with names of their own, in order or from the last to the first. */
-static void struct_of(text *t, int fields, int turned) {
+/* One column, a struct of so many int8 fields with names of their own, in order or from the last to the first; or a list of such structs. */
+static void struct_of(text *t, int listed, int fields, int turned) {
     mark(t, "LAY", 1);
     put(t, 0, 1);
+    if (listed)
+        put(t, 19, 1);
     put(t, 18, 1);
     put(t, (uint64_t)fields, 2);
     for (int i = 0; i < fields; i++) {
@@ -124,8 +127,10 @@ static void struct_of(text *t, int fields, int turned) {
     }
 }
 
-static void fields_of(text *t, int fields, int turned) {
+static void fields_of(text *t, int listed, int fields, int turned) {
     t->length = 0;
+    if (listed)
+        put(t, 0x000101, 3); /* a list of one element */
     put(t, 1, 1);
     for (int i = 0; i < fields; i++) {
         put(t, 1, 1);
@@ -134,8 +139,10 @@ static void fields_of(text *t, int fields, int turned) {
 }
 
 /* Struct mappings one over another; field i of each takes the last but i of what it is over. */
-static void turning_of(text *t, int mappings, int fields) {
+static void turning_of(text *t, int listed, int mappings, int fields) {
     mark(t, "PLN", 1);
+    if (listed)
+        put(t, 0x00000005, 4); /* a list mapping of position 0 */
     for (int i = 0; i < mappings; i++)
         put(t, 4, 1);
     put(t, 0, 3); /* position 0 */
@@ -169,21 +176,21 @@ static void expect(const char *name, uint32_t number) {
 }
 
 /* Checks and runs so many mappings over a struct. */
-static void expect_turned(int mappings) {
+static void expect_turned(int listed, int mappings) {
     struct timespec from;
     int turned = mappings % 2;
-    struct_of(&incoming, FIELDS, 0);
-    struct_of(&target, FIELDS, turned);
-    turning_of(&plan, mappings, FIELDS);
-    fields_of(&record, FIELDS, 0);
-    fields_of(&due, FIELDS, turned);
+    struct_of(&incoming, listed, FIELDS, 0);
+    struct_of(&target, listed, FIELDS, turned);
+    turning_of(&plan, listed, mappings, FIELDS);
+    fields_of(&record, listed, FIELDS, 0);
+    fields_of(&due, listed, FIELDS, turned);
     clock_gettime(CLOCK_MONOTONIC, &from);
     uint64_t checked = selector_check_plan(incoming.bytes, incoming.length, target.bytes, target.length, plan.bytes, plan.length);
     double check = since(&from);
     clock_gettime(CLOCK_MONOTONIC, &from);
     uint64_t ran = selector_run(incoming.bytes, incoming.length, target.bytes, target.length, plan.bytes, plan.length, record.bytes, record.length, output, sizeof output);
     double run = since(&from);
-    printf("%d mappings of %d fields one over another: check %u after %.2f ms, run %u after %.2f ms\n", mappings, FIELDS, SELECTOR_NUMBER(checked), check, SELECTOR_NUMBER(ran), run);
+    printf("%d mappings of %d fields one over another%s: check %u after %.2f ms, run %u after %.2f ms\n", mappings, FIELDS, listed ? " in an element" : "", SELECTOR_NUMBER(checked), check, SELECTOR_NUMBER(ran), run);
     if (checked != 0 || ran != due.length || memcmp(output, due.bytes, due.length) != 0 || check > 5000 || run > 5000)
         failed = 1;
 }
@@ -213,7 +220,9 @@ int main(void) {
     expect("the incoming list's elements", 0);
     record_of(&record, 1000, exceeds);
     expect("the incoming list's elements, the last too large", 44);
-    expect_turned(7);
-    expect_turned(60);
+    for (int listed = 0; listed < 2; listed++) {
+        expect_turned(listed, 7);
+        expect_turned(listed, 60);
+    }
     return failed;
 }

@@ -214,6 +214,52 @@ static void deepest_plans(void) {
         }
 }
 
+/* Selectors of a struct of 32 fields: each its own position, the last a struct mapping of it, so many levels deep. */
+static void fields_by(uint32_t levels) {
+    put(2, 32, 2);
+    for (uint32_t k = 0; k < 31; k++)
+        put(2, k << 8, 3);
+    if (levels > 0) {
+        put(2, 4, 1);
+        put(2, 31 << 8, 3);
+        fields_by(levels - 1);
+    } else
+        put(2, 31 << 8, 3);
+}
+
+/* Struct mappings one over another, the outermost over all levels of its struct: what one pass writes out, in its longer buffers. */
+static void composed_plans(void) {
+    for (uint32_t levels = 0; levels <= 14; levels += 7) {
+        nested(0, 1, 18, 15, 32, 3);
+        nested(1, 1, 18, 15, 32, 3);
+        length[2] = 0;
+        put(2, 'P' | 'L' << 8 | 'N' << 16, 3);
+        put(2, 1, 2);
+        put(2, 32, 2);
+        for (uint32_t k = 0; k < 31; k++)
+            put(2, k << 8, 3);
+        uint32_t mappings = 63 - levels;
+        for (uint32_t k = 0; k < mappings; k++)
+            put(2, 4, 1);
+        put(2, 31 << 8, 3);
+        for (uint32_t k = 1; k < mappings; k++)
+            fields_by(0);
+        fields_by(levels);
+        length[3] = 0;
+        for (uint32_t k = 0; k <= 15; k++) {
+            for (uint32_t j = 0; j < 31; j++)
+                put(3, 0, 1); /* a null */
+            put(3, k < 15, 1);
+        }
+        kind = CHECK;
+        measure();
+        kind = RUN;
+        measure();
+        if (selector_run(bytes[0], length[0], bytes[1], length[1], bytes[2], length[2], bytes[3], length[3], buffer, space) != length[3])
+            exit(2);
+    }
+}
+
 int main(int count, char **words) {
     if (count != 2)
         return 2;
@@ -222,6 +268,7 @@ int main(int count, char **words) {
         return 2;
     deepest();
     deepest_plans();
+    composed_plans();
     each_line(words[1], one_line);
     int within = 1;
     for (int k = 0; k < KINDS; k++) {

@@ -42,11 +42,23 @@ enum Order {
     Reversed,
 }
 
-/// Where the columns stand: at the top, or as the fields of one struct.
+/// Where the columns stand: at the top, as the fields of one struct, or of one inside three others.
 #[derive(Clone, Copy, PartialEq, Eq)]
 enum Place {
     Top,
     Struct,
+    Deep,
+}
+
+impl Place {
+    /// How many structs are around the columns.
+    fn levels(self) -> u32 {
+        match self {
+            Place::Top => 0,
+            Place::Struct => 1,
+            Place::Deep => 4,
+        }
+    }
 }
 
 fn leaf(index: usize, role: Role) -> Type {
@@ -107,10 +119,14 @@ fn layout(version: u8, count: usize, role: Role, order: Order, place: Place) -> 
     if role == Role::Target && order == Order::Reversed {
         columns.reverse();
     }
-    if place == Place::Struct {
+    for level in 0..place.levels() {
         columns = vec![Column {
             name: b"readings".to_vec(),
-            id: if version == 2 { u32::MAX - 1 } else { 0 },
+            id: if version == 2 {
+                u32::MAX - 1 - level
+            } else {
+                0
+            },
             type_: Type::Struct(columns),
         }];
     }
@@ -430,7 +446,7 @@ pub fn run() -> Result<(), String> {
     );
     let readable = |version: u8| {
         move |count: usize| {
-            let target = layout(version, count, Role::Target, Order::Reversed, Place::Struct);
+            let target = layout(version, count, Role::Target, Order::Reversed, Place::Deep);
             target.len() <= LAYOUT_LIMIT
         }
     };
@@ -455,17 +471,15 @@ pub fn run() -> Result<(), String> {
     let built = |order: Order, place: Place| move |count| Planned::new(count, order, place);
     planned("same order", built(Order::Same, Place::Top))?;
     planned("reversed", built(Order::Reversed, Place::Top))?;
-    // The same columns as the fields of one struct.
-    for (version, name) in [(1, "building by name"), (2, "building by number")] {
-        let name = format!("{name}, struct");
-        for count in [SMALL, MIDDLE, largest(readable(version))] {
-            building(
-                &name,
-                count,
-                &case(version, count, Order::Reversed, Place::Struct),
-            )?;
+    // The same columns as the fields of a struct.
+    for (place, way) in [(Place::Struct, "struct"), (Place::Deep, "deep struct")] {
+        for (version, name) in [(1, "building by name"), (2, "building by number")] {
+            let name = format!("{name}, {way}");
+            for count in [SMALL, MIDDLE, largest(readable(version))] {
+                building(&name, count, &case(version, count, Order::Reversed, place))?;
+            }
         }
+        planned(way, built(Order::Reversed, place))?;
     }
-    planned("struct", built(Order::Reversed, Place::Struct))?;
     planned("everything twice", Planned::twice)
 }

@@ -224,7 +224,7 @@ fn no_extra_many(
     each_entered(v, depth, incoming, n, c, target, m, b, &starts, &positions)
 }
 
-// Test 13: each of `n` incoming fields has a counterpart among `m` target fields. As in the field matcher the two outer levels of structs have tables. That
+// Test 13: each of `n` incoming fields has a counterpart among `m` target fields. Where these are many, by a table. That
 // `no_extra_many` is called twice keeps it a function of its own: called once, it would be compiled into its caller, and a table would stand in the frame of every level.
 pub fn no_extra(
     v: Version,
@@ -245,7 +245,7 @@ pub fn no_extra(
     }
     match depth {
         15 => no_extra_many(v, depth, incoming, n, c, target, m, b),
-        14 => no_extra_many(v, depth, incoming, n, c, target, m, b),
-        _ => no_extra_few(v, depth, incoming, n, c, target, m, b),
+        0 => no_extra_few(v, depth, incoming, n, c, target, m, b),
+        _ => no_extra_many(v, depth, incoming, n, c, target, m, b),
     }
 }

@@ -88,6 +88,7 @@ fn build_each(
                     11,
                     out,
                     to,
+                    2,
                 );
                 if is_refused(made) {
                     return failed_column(made, i);

@@ -1,5 +1,5 @@
 // Whether one pass settles a plan or a record that was accepted.
-use direct::target::fits_target;
+use infer::target::fits_target;
 use layout::cursor::Cursor;
 use layout::read::LayoutRead;
 use layout::read::read_layout;

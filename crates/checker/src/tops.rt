@@ -19,7 +19,7 @@ use crate::same::same_as;
 use crate::selector::Checked;
 use crate::selector::check_selector;
 use direct::place::same_name;
-use direct::target::fits_target;
+use infer::target::fits_target;
 use layout::columns::Labelled;
 use layout::cursor::Cursor;
 use layout::read::LayoutRead;

@@ -5,3 +5,4 @@ pub mod Opening
 pub mod Trees
 pub mod Fitting
 pub mod Rows
+pub mod Inputs

@@ -303,7 +303,7 @@ fn fit_struct(
 }
 
 // A selector and a column of the target: names and types.
-fn fit_column(
+pub fn fit_column(
     incoming: &[u8],
     v: Version,
     scope: Scope,

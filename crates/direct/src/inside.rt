@@ -22,7 +22,7 @@ pub enum Both {
     Apart,
 }
 
-fn inside_of(s: &[u8], v: Version, c: Cursor) -> Inside
+pub fn inside_of(s: &[u8], v: Version, c: Cursor) -> Inside
     ensures { λ r. ⌜ ((T : TypeAt v 16 (now (s .entry)) (c .at)) → InsideIs v (now (s .entry)) (c .at) T r) ⌝ }
 {
     match c.head(s) {

@@ -2,7 +2,7 @@
 // check decides.
 pub mod cast;
 pub mod fit;
+pub mod input;
 pub mod inside;
 pub mod place;
 pub mod scope;
-pub mod target;

@@ -9,12 +9,13 @@ use lib.ListN.{length, getD, set, take, length-set}
 use lib.Seq.{getD-take, getD-set-same, getD-set-other, length-take-le}
 use Rattle.layout.specs.Bytes.{Bytes}
 use Rattle.layout.specs.Parser.{ok}
-use Rattle.layout.specs.Tree.{fieldsOf}
+use Rattle.layout.specs.Tree.{ccons, fieldsOf}
 use Rattle.layout.specs.Layout.{columns as columnsOf, type, deepest}
 use Rattle.layout.specs.Stands.{ColumnsAt}
 use Rattle.layout.specs.declared.columns.Siblings.the-variants.{Free}
 use Rattle.layout.specs.declared.cursor.Cursor.{Cursor}
 use Rattle.layout.specs.declared.version.Version.{Version}
+use Rattle.layout.proofs.View.{same-columns}
 use Rattle.values.specs.Value.{Value, Values}
 use Rattle.values.specs.Reading.{values as valuesOf}
 use Rattle.values.specs.Answers.{valueMoved}
@@ -23,9 +24,9 @@ use Rattle.values.proofs.Walk.{moved-value}
 use Rattle.plan.specs.Run.{valueAt}
 use Rattle.nodes.specs.Raw.{RowAt, NodeOf}
 use Rattle.nodes.specs.declared.raw.NodeAt.{NodeAt}
-use Rattle.nodes.proofs.Rows.{first-of, split-of}
-use Rattle.index.specs.Indexed.{dropValues, RowStarts, IndexedRow}
-use Rattle.index.proofs.Drop.{drop-values-more, value-drop, parts, next-multiple}
+use Rattle.nodes.proofs.Rows.{FirstOf, first-of, split-of, column-before}
+use Rattle.index.specs.Indexed.{dropColumns, dropValues, RowStarts, Indexed, IndexedRow}
+use Rattle.index.proofs.Drop.{drop-more, drop-values-more, value-drop, parts, next-multiple}
 
 -- as many columns and values, under another name of their number and place
 renamed : {v : Version} {lay : Bytes} {n m t u : ℕ} {rec : Bytes} {c d : ℕ} → n ≡ m → t ≡ u → c ≡ d → RowAt v lay n t rec c → RowAt v lay m u rec d
@@ -46,6 +47,23 @@ after (suc k) {n = n} X h =
     let F = first-of X (λ z. omega arith) in
     after k (F .tail) (omega arith) ∙ ap (dropValues (suc k)) (sym (F .is))
 
+-- the first column, and those after it
+first-and-rest : {v : Version} {lay : Bytes} {n t : ℕ} {rec : Bytes} {c : ℕ} (X : RowAt v lay n t rec c) (F : FirstOf v lay n t rec c X) → (n ≡ 0 → ⊥) → X .columns .columns ≡ ccons (F .label) (F .head .type .tree) (F .tail .columns .columns)
+first-and-rest {v} {lay} {n} {t} X F h =
+    let e : suc (n - 1) ≡ n = omega arith in
+    let r = ap (λ (k : ℕ). columnsOf v Free (type v Free deepest) k [] lay t) e ∙ X .columns .reads in
+    let b = column-before v deepest lay (n - 1) t (F .labelled) (F .head .type) (F .tail .columns) in
+    let z : ok (X .columns .columns) (X .columns .end) ≡ ok (ccons (F .label) (F .head .type .tree) (F .tail .columns .columns)) (F .tail .columns .end) = sym r ∙ b in
+    cc
+
+-- the columns after the first k
+after-columns : (k : ℕ) {v : Version} {lay : Bytes} {n t : ℕ} {rec : Bytes} {c : ℕ} (X : RowAt v lay n t rec c) (h : k ≤ n) → split-of k X h .back .columns .columns ≡ dropColumns k (X .columns .columns)
+unfolding split-of dropColumns
+after-columns zero X h = refl
+after-columns (suc k) {n = n} X h =
+    let F = first-of X (λ z. omega arith) in
+    after-columns k (F .tail) (omega arith) ∙ ap (dropColumns (suc k)) (sym (first-and-rest X F (λ z. omega arith)))
+
 -- columns that start after i others, and those after m more
 module _ {v : Version} {lay : Bytes} {n t : ℕ} {rec : Bytes} {c : ℕ} {X : RowAt v lay n t rec c} {i a o : ℕ} (T : RowStarts v lay n t rec c X i a o) {m : ℕ} (h : m ≤ n - i) where
   pub front-columns : ColumnsAt v deepest lay m a
@@ -63,6 +81,7 @@ module _ {v : Version} {lay : Bytes} {n t : ℕ} {rec : Bytes} {c : ℕ} {X : Ro
         within = let k = T .within in omega arith;
         rest = renamed (let q : n - i - m ≡ n - (i + m) = omega arith in q) (sym w) b (S .back);
         is = after m (T .rest) h ∙ ap (dropValues m) (T .is) ∙ drop-values-more i m (i + m) (X .values .values) refl;
+        columns = after-columns m (T .rest) h ∙ ap (dropColumns m) (T .columns) ∙ drop-more i m (i + m) (X .columns .columns) refl;
       }
 
 -- ---- the value of a column, from an entry on
@@ -88,6 +107,14 @@ module _ {v : Version} {lay : Bytes} {n t : ℕ} {rec : Bytes} {c stride : ℕ} 
         (ap (λ (vs : Values). valueAt vs (k % stride)) (entry .is) ∙ value-drop (k / stride * stride) (k % stride) k (X .values .values) (parts k stride refl))
         (g entry-row)
 
+-- the table of the types, for the columns alone
+pub indexed-types : {v : Version} {lay : Bytes} {n t : ℕ} {rec : Bytes} {c stride : ℕ} {types values : List ℕ} → RowAt v lay n t rec c → IndexedRow v lay n t rec c stride types values → Indexed v lay n t stride types
+indexed-types {stride = stride} X I = record {
+  starts = λ P j h.
+      let T = I .starts X j h .1 in
+      record { within = T .within; rest = T .rest .columns; is = T .columns ∙ ap (dropColumns (j * stride)) (same-columns (X .columns) P .0) };
+}
+
 -- ---- the entries of two tables
 
 -- after j entries column i, which stands at `at` and whose value stands at `to`, is the next
@@ -101,13 +128,13 @@ pub record Filling (v : Version) (lay : Bytes) (n t : ℕ) (rec : Bytes) (c stri
 
 module _ {v : Version} {lay : Bytes} {n t : ℕ} {rec : Bytes} {c stride : ℕ} where
   pub filling-start : (types values : List ℕ) → Filling v lay n t rec c stride t c 0 0 types values
-  unfolding dropValues renamed
+  unfolding dropValues dropColumns renamed
   filling-start types values = record {
     within = omega arith;
     counted = sym (zero-mul stride);
     room = omega arith;
     same = omega arith;
-    here = λ X. record { within = omega arith; rest = renamed (let e : n ≡ n - 0 = omega arith in e) refl refl X; is = refl };
+    here = λ X. record { within = omega arith; rest = renamed (let e : n ≡ n - 0 = omega arith in e) refl refl X; is = refl; columns = refl };
     filled = λ X e h. absurd (omega arith);
   }
 

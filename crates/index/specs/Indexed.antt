@@ -49,6 +49,7 @@ pub record RowStarts (v : Version) (lay : Bytes) (n t : ℕ) (rec : Bytes) (c : 
   pub within : i ≤ n
   pub rest : RowAt v lay (n - i) m rec o
   pub is : rest .values .values ≡ dropValues i (X .values .values)
+  pub columns : rest .columns .columns ≡ dropColumns i (X .columns .columns)
 
 -- entry j of the two tables is where column j * stride and its value stand
 pub record IndexedRow (v : Version) (lay : Bytes) (n t : ℕ) (rec : Bytes) (c stride : ℕ) (types values : List ℕ) : Type 0 where

@@ -70,6 +70,7 @@ pub fn attach_transforms(
     position: Position,
     out: &mut [u8],
     k: usize,
+    tables: u8,
 ) -> Made
     requires { ⌜ TypeAt v depth (now incoming) (c .at) × TypeAt v depth (now target) (b .at) ⌝ }
     requires { ⌜ TableAt (now table) (defaults .count) (defaults .entries .at) ⌝ }
@@ -103,6 +104,7 @@ pub fn attach_transforms(
             position,
             out,
             k,
+            tables,
         ),
         Head::List(_) => attach_nested(
             policy,
@@ -117,6 +119,7 @@ pub fn attach_transforms(
             position,
             out,
             k,
+            tables,
         ),
         Head::Array(_, _) => attach_nested(
             policy,
@@ -131,6 +134,7 @@ pub fn attach_transforms(
             position,
             out,
             k,
+            tables,
         ),
         Head::Refused(_) => Made::Refused(24),
     }
@@ -150,6 +154,7 @@ fn attach_nested(
     position: Position,
     out: &mut [u8],
     k: usize,
+    tables: u8,
 ) -> Made
     requires { ⌜ TypeAt v depth (now incoming) (c .at) × TypeAt v depth (now target) (b .at) ⌝ }
     requires { ⌜ TableAt (now table) (defaults .count) (defaults .entries .at) ⌝ }
@@ -174,6 +179,7 @@ fn attach_nested(
             position,
             out,
             k,
+            tables,
         ),
         StructPart::Mismatch => attach_inner(
             policy,
@@ -187,6 +193,7 @@ fn attach_nested(
             position,
             out,
             k,
+            tables,
         ),
     }
 }
@@ -206,6 +213,7 @@ fn attach_struct(
     position: Position,
     out: &mut [u8],
     k: usize,
+    tables: u8,
 ) -> Made
     requires { ⌜ TypeAt v depth (now incoming) (c .at) × ColumnsAt v (depth - 1) (now target) m (b .at) ⌝ }
     requires { ⌜ TableAt (now table) (defaults .count) (defaults .entries .at) ⌝ }
@@ -235,6 +243,7 @@ fn attach_struct(
         b,
         out,
         k + 6,
+        tables,
     );
     let Row::Done(same, len) = row else {
         return refused_row(row);
@@ -246,8 +255,8 @@ fn attach_struct(
     Made::Built(6 + len)
 }
 
-// The field matcher: `m` target fields from `b` on over `n` incoming fields from `c` on. A table takes 8 KiB of stack, so only the fields of a top
-// column's type and those one level further in have one: at most two stand at once, however deep the types. That `attach_many` is called twice keeps it
+// The field matcher: `m` target fields from `b` on over `n` incoming fields from `c` on. A table takes 8 KiB of stack, so at most `tables` more stand at once: of
+// the structs of many fields around a leaf the two outermost have one, at whatever depth. That `attach_many` is called twice keeps it
 // a function of its own: called once, it would be compiled into its caller, and a table would stand in the frame of every level.
 fn attach_row(
     policy: Policy,
@@ -263,6 +272,7 @@ fn attach_row(
     b: Cursor,
     out: &mut [u8],
     k: usize,
+    tables: u8,
 ) -> Row
     requires { ⌜ ColumnsAt v depth (now incoming) n (c .at) × ColumnsAt v depth (now target) m (b .at) ⌝ }
     requires { ⌜ TableAt (now table) (defaults .count) (defaults .entries .at) ⌝ }
@@ -284,10 +294,11 @@ fn attach_row(
             b,
             out,
             k,
+            tables,
         );
     }
-    match depth {
-        15 => attach_many(
+    match tables {
+        2 => attach_many(
             policy,
             v,
             depth,
@@ -301,8 +312,9 @@ fn attach_row(
             b,
             out,
             k,
+            1,
         ),
-        14 => attach_many(
+        1 => attach_many(
             policy,
             v,
             depth,
@@ -316,6 +328,7 @@ fn attach_row(
             b,
             out,
             k,
+            0,
         ),
         _ => attach_few(
             policy,
@@ -331,6 +344,7 @@ fn attach_row(
             b,
             out,
             k,
+            tables,
         ),
     }
 }
@@ -350,6 +364,7 @@ fn attach_few(
     b: Cursor,
     out: &mut [u8],
     k: usize,
+    tables: u8,
 ) -> Row
     requires { ⌜ ColumnsAt v depth (now incoming) n (c .at) × ColumnsAt v depth (now target) m (b .at) ⌝ }
     requires { ⌜ TableAt (now table) (defaults .count) (defaults .entries .at) ⌝ }
@@ -375,6 +390,7 @@ fn attach_few(
         b,
         out,
         k,
+        tables,
     )
 }
 
@@ -393,6 +409,7 @@ fn attach_many(
     b: Cursor,
     out: &mut [u8],
     k: usize,
+    tables: u8,
 ) -> Row
     requires { ⌜ ColumnsAt v depth (now incoming) n (c .at) × ColumnsAt v depth (now target) m (b .at) ⌝ }
     requires { ⌜ TableAt (now table) (defaults .count) (defaults .entries .at) ⌝ }
@@ -416,6 +433,7 @@ fn attach_many(
             b,
             out,
             k,
+            tables,
         );
     }
     attach_fields(
@@ -435,6 +453,7 @@ fn attach_many(
         b,
         out,
         k,
+        tables,
     )
 }
 
@@ -456,6 +475,7 @@ fn attach_fields(
     b: Cursor,
     out: &mut [u8],
     k: usize,
+    tables: u8,
 ) -> Row
     requires { ⌜ ColumnsAt v depth (now incoming) n (c .at) × ColumnsAt v depth (now target) m (b .at) ⌝ }
     requires { ⌜ TableAt (now table) (defaults .count) (defaults .entries .at) ⌝ }
@@ -500,6 +520,7 @@ fn attach_fields(
                     14,
                     out,
                     to,
+                    tables,
                 );
                 if is_refused(first) {
                     return failed(first);
@@ -533,6 +554,7 @@ pub fn attach_field(
     number: u8,
     out: &mut [u8],
     k: usize,
+    tables: u8,
 ) -> Made
     requires { ⌜ ((fs : Columns) × Finds v depth (now incoming) (counterpart v (labelAt (now target) l) fs) found) × TypeAt v depth (now target) (b .at) ⌝ }
     requires { ⌜ TableAt (now table) (defaults .count) (defaults .entries .at) ⌝ }
@@ -556,6 +578,7 @@ pub fn attach_field(
             position,
             out,
             k,
+            tables,
         ),
         Found::Absent => put_missing(
             insert,
@@ -589,6 +612,7 @@ fn attach_renamed(
     position: Position,
     out: &mut [u8],
     k: usize,
+    tables: u8,
 ) -> Made
     requires { ⌜ TypeAt v depth (now incoming) (c .at) × TypeAt v depth (now target) (b .at) ⌝ }
     requires { ⌜ TableAt (now table) (defaults .count) (defaults .entries .at) ⌝ }
@@ -610,6 +634,7 @@ fn attach_renamed(
             position,
             out,
             k,
+            tables,
         );
     }
     put(out, k, 3);
@@ -626,6 +651,7 @@ fn attach_renamed(
         position,
         out,
         k + 1,
+        tables,
     );
     if is_refused(made) {
         return made;
@@ -652,6 +678,7 @@ fn attach_element(
     position: Position,
     out: &mut [u8],
     k: usize,
+    tables: u8,
 ) -> Made
     requires { ⌜ TypeAt v depth (now incoming) (c .at) × TypeAt v depth (now target) (b .at) ⌝ }
     requires { ⌜ spanIn (now incoming) (m .name) × spanIn (now target) (l .name) × (l .name .len ≤ 63) ⌝ }
@@ -684,6 +711,7 @@ fn attach_element(
         Position(0),
         out,
         k + 4,
+        tables,
     );
     if is_refused(made) {
         return made;
@@ -708,6 +736,7 @@ fn attach_inner(
     position: Position,
     out: &mut [u8],
     k: usize,
+    tables: u8,
 ) -> Made
     requires { ⌜ TypeAt v depth (now incoming) (c .at) × TypeAt v depth (now target) (b .at) ⌝ }
     requires { ⌜ (length (now target) ≤ 16384) × (length (now table) ≤ 16384) × (k ≤ 65536 * b .at + 1) ⌝ }
@@ -733,6 +762,7 @@ fn attach_inner(
                 position,
                 out,
                 k,
+                tables,
             )
         }
         ElementPart::Array(w, l, e) => {
@@ -754,6 +784,7 @@ fn attach_inner(
                 position,
                 out,
                 k,
+                tables,
             )
         }
         ElementPart::Mismatch => Made::Refused(24),

@@ -34,8 +34,9 @@ use Rattle.plan.specs.declared.answer.WriteResult.{WriteResult}
 use Rattle.plan.proofs.Theorems.{run-overflows, run-writes, run-exceeds}
 use Rattle.walk.proofs.View.{selectors-longer}
 use Rattle.nodes.specs.Raw.{RowAt}
-use Rattle.transfer.specs.Reaching.{Kept, transferredAnswer, TransferredIs}
-use Rattle.transfer.specs.declared.whole.Transferred.{Transferred}
+use Rattle.transfer.specs.Reaching.{Kept}
+use Rattle.composed.specs.Transferring.{transferredAnswer, TransferredIs}
+use Rattle.composed.specs.declared.whole.Transferred.{Transferred}
 use Rattle.overflow.specs.Overflows.{PlanAt}
 use Rattle.output.specs.Output.{Emits}
 use Rattle.output.specs.Answers.{OutputAt, writtenOf}

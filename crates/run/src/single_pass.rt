@@ -4,11 +4,11 @@ ghost use lib.ListN.{length};
 ghost use Rattle.walk.specs.Stands.{SelectorsAt};
 ghost use Rattle.nodes.specs.Raw.{RowAt};
 ghost use Rattle.run.specs.Answers.{DirectIs};
+use composed::whole::Transferred;
+use composed::whole::transfer_record;
 use layout::version::Version;
 use output::write::Written;
 use output::write::scratch;
-use transfer::whole::Transferred;
-use transfer::whole::transfer_record;
 
 // What was written; or one pass does not say, and nothing was.
 pub enum Direct {

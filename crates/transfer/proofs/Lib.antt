@@ -2,3 +2,4 @@ pub mod Reaching
 pub mod Origins
 pub mod Opening
 pub mod Rows
+pub mod Chaining

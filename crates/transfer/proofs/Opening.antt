@@ -26,9 +26,6 @@ use Rattle.transfer.specs.declared.opened.Opened.{Opened}
 pub opened-as : {v : Version} {lay rec : Bytes} {x y : Value} {r : Opened} → x ≡ y → OpenedIs v lay rec x r → OpenedIs v lay rec y r
 opened-as {v} {lay} {rec} {r = r} e R = subst (λ (z : Value). OpenedIs v lay rec z r) e R
 
-pub opened-other : {v : Version} {lay rec : Bytes} {x : Value} → OpenedIs v lay rec x Opened.Other
-opened-other = record { answer = tt }
-
 content-as : {t u : DataType} {s : Bytes} {at : ℕ} → t ≡ u → ContentAt t s at → ContentAt u s at
 content-as {s = s} {at = at} e P = record { tree = P .tree; end = P .end; reads = ap (λ (t : DataType). contentOf t s at) (sym e) ∙ P .reads }
 

@@ -59,7 +59,7 @@ raw-clean {rec = rec} {c = c} o X = fits-clean (value-back (dtypeOf (X .type .tr
 -- ---- casts
 
 module _ (kind to : Leaf) (n : ℕ) {q : Converted} (h : valueOf to q ≡ convert kind to n) {m : ℕ} (f : q ≡ Converted.Number m) where
-  converted : vnumber to m ≡ castLeaf to (vnumber kind n)
+  pub converted : vnumber to m ≡ castLeaf to (vnumber kind n)
   unfolding castLeaf
   converted = ap (valueOf to) (sym f) ∙ h
 
@@ -80,12 +80,17 @@ pub cast-null : (to : Leaf) {x : Value} → x ≡ vnull → vnull ≡ castLeaf t
 unfolding castLeaf
 cast-null to q = sym (ap (castLeaf to) q)
 
-cast-nested : (t : DataType) (x : Value) → isNested t ≡ true → x ≡ castValue t x
+pub cast-nested : (t : DataType) (x : Value) → isNested t ≡ true → x ≡ castValue t x
 unfolding castValue
 cast-nested (leaf l) x e = clash (cc)
 cast-nested (struct fs) x e = refl
 cast-nested (list t) x e = refl
 cast-nested (array w t) x e = refl
+
+pub cast-leaf : {v : Version} {s : Bytes} {at : ℕ} (T : TypeAt v 16 s at) (x : Value) {p : Head} {l : LeafSpan} {c : Cursor} → headRes s p ≡ kind s at → p ≡ Head.Leaf l c
+    → castLeaf (l .leaf) x ≡ castValue (dtypeOf (T .tree)) x
+unfolding dtypeOf castValue
+cast-leaf T x {l = l} h q = ap (λ (k : Leaf). castLeaf k x) (sym (leaf-kind (l .leaf) _)) ∙ ap (λ (c : ColumnType). castValue (dtypeOf c) x) (sym (leaf-at T h q .0))
 
 module _ {v : Version} {s : Bytes} {at : ℕ} (T : TypeAt v 16 s at) (x : Value) {e : ℕ} {out : Bytes} {k : ℕ} {r : Reached} {new : Bytes} where
   pub nested-reached : isNested (dtypeOf (T .tree)) ≡ true → ReachedIs (clean x) (encodeValue x) e out k r new
@@ -94,6 +99,4 @@ module _ {v : Version} {s : Bytes} {at : ℕ} (T : TypeAt v 16 s at) (x : Value)
 
   pub leaf-reached : {p : Head} {l : LeafSpan} {c : Cursor} → headRes s p ≡ kind s at → p ≡ Head.Leaf l c → ReachedIs (clean (castLeaf (l .leaf) x)) (encodeValue (castLeaf (l .leaf) x)) e out k r new
       → ReachedIs (clean (castValue (dtypeOf (T .tree)) x)) (encodeValue (castValue (dtypeOf (T .tree)) x)) e out k r new
-  unfolding dtypeOf castValue
-  leaf-reached {l = l} h q R =
-      reached-as (ap (λ (k : Leaf). castLeaf k x) (sym (leaf-kind (l .leaf) _)) ∙ ap (λ (c : ColumnType). castValue (dtypeOf c) x) (sym (leaf-at T h q .0))) R
+  leaf-reached h q R = reached-as (cast-leaf T x h q) R

@@ -26,7 +26,7 @@ use Rattle.values.specs.Encode.{encodeValue, encodeValues}
 use Rattle.values.specs.Reading.{value, times}
 use Rattle.values.specs.Stands.{EachAt}
 use Rattle.values.proofs.Inside.{first-each, no-each}
-use Rattle.plan.specs.Selector.{Selector, Selectors, snil}
+use Rattle.plan.specs.Selector.{Selector, position, constant, cast, rename, structMapping, listMapping, arrayMapping, Selectors, snil}
 use Rattle.plan.specs.Read.{deepestSelector, selector, selectors as selectorsOf}
 use Rattle.plan.specs.Run.{valueAt, castValue, mapValues, onStruct, onList, onArray, eval, evals, clean, cleanAll}
 use Rattle.walk.specs.Stands.{SelectorAt, SelectorsAt}
@@ -37,6 +37,7 @@ use Rattle.nodes.specs.Raw.{RawAt, ElementsAt, NodeOf}
 use Rattle.nodes.specs.declared.raw.NodeAt.{NodeAt}
 use Rattle.nodes.proofs.Node.{nowhere, standing, node-as}
 use Rattle.nodes.proofs.Rows.{count-each}
+use Rattle.direct.specs.Inputs.{inputOf, InputAt}
 use Rattle.raw.specs.Stored.{Stores, lead}
 use Rattle.transfer.specs.Reaching.{takes, Kept, ReachedIs}
 use Rattle.transfer.specs.Opening.{StructOf, ListOf as ListIs, ArrayOf as ArrayIs, openedAnswer, OpenedIs}
@@ -208,7 +209,7 @@ pub led : {out : Bytes} {k : ℕ} {xs : Bytes} {j : ℕ} {o : Bytes} {ok : Bool}
 led (Reached.To c r) S R = let (p, K) = R .answer in record { answer = (p, record { clean = K .clean; stores = stores-append S (K .stores); within = K .within }) }
 led Reached.Unknown S R = unknown
 
-opened-by : {v : Version} {lay rec : Bytes} {x : Value} {r q : Opened} → OpenedIs v lay rec x r → r ≡ q → openedAnswer v lay rec x q
+pub opened-by : {v : Version} {lay rec : Bytes} {x : Value} {r q : Opened} → OpenedIs v lay rec x r → r ≡ q → openedAnswer v lay rec x q
 opened-by {v} {lay} {rec} {x} O e = subst (λ (z : Opened). openedAnswer v lay rec x z) e (O .answer)
 
 module _ {s : Bytes} {at : ℕ} {P : SelectorAt s at} (ρ : Values) {m : ℕ} where
@@ -216,10 +217,9 @@ module _ {s : Bytes} {at : ℕ} {P : SelectorAt s at} (ρ : Values) {m : ℕ} wh
   unfolding eval
   constant-reached K R = reached-as (sym (ap (eval ρ) (K .is))) R
 
-  pub cast-reached : (K : CastAt s at P m) {e : ℕ} {out : Bytes} {k : ℕ} {q : Reached} {new : Bytes} → valueAt ρ (takes (K .input .tree)) ≡ eval ρ (K .input .tree)
-      → ReachedIs (clean (castValue (dtypeOf (K .type .tree)) (valueAt ρ (takes (K .input .tree))))) (encodeValue (castValue (dtypeOf (K .type .tree)) (valueAt ρ (takes (K .input .tree))))) e out k q new → ReachedIs (clean (eval ρ (P .tree))) (encodeValue (eval ρ (P .tree))) e out k q new
+  pub cast-reached : (K : CastAt s at P m) {e : ℕ} {out : Bytes} {k : ℕ} {q : Reached} {new : Bytes} → ReachedIs (clean (castValue (dtypeOf (K .type .tree)) (eval ρ (K .input .tree)))) (encodeValue (castValue (dtypeOf (K .type .tree)) (eval ρ (K .input .tree)))) e out k q new → ReachedIs (clean (eval ρ (P .tree))) (encodeValue (eval ρ (P .tree))) e out k q new
   unfolding eval
-  cast-reached K h R = reached-as (ap (castValue (dtypeOf (K .type .tree))) h ∙ sym (ap (eval ρ) (K .is))) R
+  cast-reached K R = reached-as (sym (ap (eval ρ) (K .is))) R
 
   pub rename-reached : (K : RenameAt s at P m) {e : ℕ} {out : Bytes} {k : ℕ} {q : Reached} {new : Bytes} → ReachedIs (clean (eval ρ (K .input .tree))) (encodeValue (eval ρ (K .input .tree))) e out k q new → ReachedIs (clean (eval ρ (P .tree))) (encodeValue (eval ρ (P .tree))) e out k q new
   unfolding eval
@@ -286,27 +286,47 @@ fields-at {s} K {r} C = record {
   reads = ap (λ (n : ℕ). selectorsOf (selector deepestSelector) n s (r .first .at)) (C .count) ∙ ap (λ (o : ℕ). selectorsOf (selector deepestSelector) (K .fields .count) s o) (C .first) ∙ K .fields .selectors .reads;
 }
 
--- what a transform takes, its input takes
-module _ {v : Version} {lay rec : Bytes} {s : Bytes} {at : ℕ} {P : SelectorAt s at} {m : ℕ} (ρ : Values) {node : NodeAt} (N : NodeOf v lay rec (valueAt ρ (takes (P .tree))) node) where
-  pub cast-takes : (K : CastAt s at P m) → NodeOf v lay rec (valueAt ρ (takes (K .input .tree))) node
-  unfolding takes
-  cast-takes K = node-as (ap (λ (x : Selector). valueAt ρ (takes x)) (K .is)) N
+-- what a rename takes, its input takes
+pub rename-takes : {v : Version} {lay rec : Bytes} {s : Bytes} {at : ℕ} {P : SelectorAt s at} {m : ℕ} (ρ : Values) {node : NodeAt} → NodeOf v lay rec (valueAt ρ (takes (P .tree))) node → (K : RenameAt s at P m) → NodeOf v lay rec (valueAt ρ (takes (K .input .tree))) node
+unfolding takes
+rename-takes ρ N K = node-as (ap (λ (x : Selector). valueAt ρ (takes x)) (K .is)) N
 
-  pub rename-takes : (K : RenameAt s at P m) → NodeOf v lay rec (valueAt ρ (takes (K .input .tree))) node
-  unfolding takes
-  rename-takes K = node-as (ap (λ (x : Selector). valueAt ρ (takes x)) (K .is)) N
+takes-input : (s : Selector) → takes (inputOf s) ≡ takes s
+unfolding takes inputOf
+takes-input (position k) = refl
+takes-input (constant n t v) = refl
+takes-input (cast s t o) = refl
+takes-input (rename s n) = refl
+takes-input (structMapping s ss) = refl
+takes-input (listMapping s e) = refl
+takes-input (arrayMapping s e) = refl
 
-  pub struct-takes : (K : StructAt s at P m) → NodeOf v lay rec (valueAt ρ (takes (K .input .tree))) node
-  unfolding takes
-  struct-takes K = node-as (ap (λ (x : Selector). valueAt ρ (takes x)) (K .is)) N
+-- an input that is a position gives the value that the transform takes
+pub input-gives : {v : Version} {lay rec : Bytes} {s : Bytes} {at : ℕ} {P : SelectorAt s at} {m : ℕ} (ρ : Values) {node : NodeAt} (I : InputAt s at P m) → valueAt ρ (takes (I .input .tree)) ≡ eval ρ (I .input .tree)
+    → NodeOf v lay rec (valueAt ρ (takes (P .tree))) node → NodeOf v lay rec (eval ρ (inputOf (P .tree))) node
+input-gives {P = P} ρ I h N = node-as (ap (valueAt ρ) (sym (takes-input (P .tree))) ∙ sym (ap (λ (x : Selector). valueAt ρ (takes x)) (I .is)) ∙ h ∙ ap (eval ρ) (I .is)) N
 
-  pub list-takes : (K : ListAt s at P m) → NodeOf v lay rec (valueAt ρ (takes (K .input .tree))) node
-  unfolding takes
-  list-takes K = node-as (ap (λ (x : Selector). valueAt ρ (takes x)) (K .is)) N
+-- what the input of a transform gives
+module _ {v : Version} {lay rec : Bytes} {s : Bytes} {at : ℕ} {P : SelectorAt s at} {m : ℕ} (ρ : Values) {node : NodeAt} (N : NodeOf v lay rec (eval ρ (inputOf (P .tree))) node) where
+  pub cast-given : (K : CastAt s at P m) → NodeOf v lay rec (eval ρ (K .input .tree)) node
+  unfolding inputOf
+  cast-given K = node-as (ap (λ (x : Selector). eval ρ (inputOf x)) (K .is)) N
 
-  pub array-takes : (K : ArrayAt s at P m) → NodeOf v lay rec (valueAt ρ (takes (K .input .tree))) node
-  unfolding takes
-  array-takes K = node-as (ap (λ (x : Selector). valueAt ρ (takes x)) (K .is)) N
+  pub rename-given : (K : RenameAt s at P m) → NodeOf v lay rec (eval ρ (K .input .tree)) node
+  unfolding inputOf
+  rename-given K = node-as (ap (λ (x : Selector). eval ρ (inputOf x)) (K .is)) N
+
+  pub struct-given : (K : StructAt s at P m) → NodeOf v lay rec (eval ρ (K .input .tree)) node
+  unfolding inputOf
+  struct-given K = node-as (ap (λ (x : Selector). eval ρ (inputOf x)) (K .is)) N
+
+  pub list-given : (K : ListAt s at P m) → NodeOf v lay rec (eval ρ (K .input .tree)) node
+  unfolding inputOf
+  list-given K = node-as (ap (λ (x : Selector). eval ρ (inputOf x)) (K .is)) N
+
+  pub array-given : (K : ArrayAt s at P m) → NodeOf v lay rec (eval ρ (K .input .tree)) node
+  unfolding inputOf
+  array-given K = node-as (ap (λ (x : Selector). eval ρ (inputOf x)) (K .is)) N
 
 -- past a name
 pub past-text : {s : Bytes} {w : Bool} {b : Bytes} {e : ℕ} {out : Bytes} {k : ℕ} {r : Reached} {new : Bytes} (N : TextAt s e) → ReachedIs w b e out k r new → {c : Cursor} {at : ℕ} → r ≡ Reached.To c at
@@ -331,16 +351,3 @@ value-unread {rec = rec} {c} X h {n} f = let z : refuse n ≡ ok (X .value .tree
 
 pub taken-node : {v : Version} {lay rec : Bytes} {node : NodeAt} (ρ : Values) {p k : ℕ} → p ≡ k → NodeOf v lay rec (valueAt ρ p) node → NodeOf v lay rec (valueAt ρ k) node
 taken-node ρ e N = node-as (ap (valueAt ρ) e) N
-
-padded : ℕ → Value → Values
-padded zero x = vcons x vnil
-padded (suc k) x = vcons vnull (padded k x)
-
-padded-at : (k : ℕ) (x : Value) → x ≡ valueAt (padded k x) k
-unfolding valueAt padded
-padded-at zero x = refl
-padded-at (suc k) x = padded-at k x
-
--- any value is the k-th of some
-pub some-values : {v : Version} {lay rec : Bytes} {x : Value} {node : NodeAt} (k : ℕ) → NodeOf v lay rec x node → (ρ : Values) × NodeOf v lay rec (valueAt ρ k) node
-some-values {x = x} k N = (padded k x, node-as (padded-at k x) N)

@@ -9,7 +9,6 @@ use Rattle.walk.specs.Stands.{SelectorAt}
 use Rattle.raw.specs.Stored.{Stores}
 use Rattle.transfer.specs.declared.leaf.Reached.{Reached}
 use Rattle.transfer.specs.declared.origin.Taken.{Taken}
-use Rattle.transfer.specs.declared.whole.Transferred.{Transferred}
 
 -- the position whose value a selector takes, past the transforms around it; a constant takes none
 unfoldable pub takes : Selector → ℕ
@@ -34,13 +33,6 @@ reachedAnswer ok b e out k Reached.Unknown out′ = Unit {0}
 
 pub record ReachedIs (ok : Bool) (b : Bytes) (e : ℕ) (out : Bytes) (k : ℕ) (r : Reached) (out′ : Bytes) : Type 0 where
   pub answer : reachedAnswer ok b e out k r out′
-
-abbrev pub transferredAnswer : Bool → Bytes → Bytes → Transferred → Bytes → Type 0
-transferredAnswer ok b out (Transferred.To r) out′ = Kept ok b out 0 r out′
-transferredAnswer ok b out Transferred.Unknown out′ = Unit {0}
-
-pub record TransferredIs (ok : Bool) (b : Bytes) (out : Bytes) (r : Transferred) (out′ : Bytes) : Type 0 where
-  pub answer : transferredAnswer ok b out r out′
 
 -- ---- src/origin.rt
 

@@ -1,13 +1,9 @@
 // What a value is made of: the values of a struct's columns, the elements of a list or an array.
 ghost use Rattle.layout.specs.Bytes.{Bytes};
 ghost use Rattle.layout.specs.declared.version.Version.{Version as VersionOf};
-ghost use Rattle.values.specs.Value.{Value, Values};
-ghost use Rattle.plan.specs.Run.{valueAt, eval};
-ghost use Rattle.walk.specs.Stands.{SelectorAt};
+ghost use Rattle.values.specs.Value.{Value};
 ghost use Rattle.nodes.specs.Raw.{RawAt, PresentAt, ListOf, NodeOf};
-ghost use Rattle.transfer.specs.Reaching.{takes};
 ghost use Rattle.transfer.specs.Opening.{OpenedIs};
-use crate::origin::is_position;
 use layout::columns::Labelled;
 use layout::cursor::Cursor;
 use layout::cursor::Short;
@@ -65,28 +61,11 @@ fn open_value(lay: &[u8], v: Version, t: Cursor, rec: &[u8], c: Cursor) -> Opene
     }
 }
 
-fn open_node(lay: &[u8], v: Version, rec: &[u8], node: NodeAt) -> Opened
+pub fn open_node(lay: &[u8], v: Version, rec: &[u8], node: NodeAt) -> Opened
     ensures { λ r. ⌜ ((x : Value) → NodeOf v (now (lay .entry)) (now (rec .entry)) x node → OpenedIs v (now (lay .entry)) (now (rec .entry)) x r) ⌝ }
 {
     match node {
         NodeAt::Null => Opened::Null,
         NodeAt::At(t, c) => open_value(lay, v, t, rec, c),
     }
-}
-
-// The input of a mapping, if it is a position: the node is the value that it takes.
-pub fn open_input(
-    lay: &[u8],
-    v: Version,
-    rec: &[u8],
-    node: NodeAt,
-    plan: &[u8],
-    input: Cursor,
-) -> Opened
-    ensures { λ r. ⌜ ((ρ : Values) (P : SelectorAt (now (plan .entry)) (input .at)) → NodeOf v (now (lay .entry)) (now (rec .entry)) (valueAt ρ (takes (P .tree))) node → OpenedIs v (now (lay .entry)) (now (rec .entry)) (eval ρ (P .tree)) r) ⌝ }
-{
-    if is_position(plan, input) {
-        return open_node(lay, v, rec, node);
-    }
-    Opened::Other
 }

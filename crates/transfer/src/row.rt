@@ -12,7 +12,9 @@ ghost use Rattle.walk.specs.Stands.{SelectorAt, SelectorsAt};
 ghost use Rattle.walk.specs.Parts.{TextAt, CastAt, StructAt, ListAt, ArrayAt};
 ghost use Rattle.nodes.specs.Raw.{RawAt, RowAt, ElementsAt, NodeOf};
 ghost use Rattle.index.specs.Indexed.{IndexedRow};
+ghost use Rattle.direct.specs.Inputs.{inputOf, InputAt};
 ghost use Rattle.transfer.specs.Reaching.{takes, ReachedIs};
+use crate::chain::transfer_cast;
 use crate::leaf::Reached;
 use crate::leaf::limited;
 use crate::leaf::put_cast;
@@ -20,7 +22,7 @@ use crate::leaf::put_constant;
 use crate::leaf::put_node;
 use crate::leaf::put_nothing;
 use crate::opened::Opened;
-use crate::opened::open_input;
+use crate::opened::open_node;
 use crate::origin::is_position;
 use crate::origin::taken_position;
 use index::columns::field_stride;
@@ -38,8 +40,8 @@ use walk::head::head;
 use walk::head::skip_selector;
 use walk::head::struct_fields;
 
-// A cast of a position.
-fn transfer_cast(
+// The cast at `c`: the node is what its input gives.
+fn cast_over(
     lay: &[u8],
     v: Version,
     rec: &[u8],
@@ -52,14 +54,11 @@ fn transfer_cast(
 ) -> Reached
     requires { ⌜ ((x : Value) × NodeOf v (now lay) (now rec) x node) ⌝ }
     requires { ⌜ (length (now rec) ≤ 65536) × (k ≤ 16384) ⌝ }
-    ensures { λ r. ⌜ ((ρ : Values) (P : SelectorAt (now (plan .entry)) (c .at)) → CastAt (now (plan .entry)) (c .at) P (input .at) → NodeOf v (now (lay .entry)) (now (rec .entry)) (valueAt ρ (takes (P .tree))) node → ReachedIs (clean (eval ρ (P .tree))) (encodeValue (eval ρ (P .tree))) (P .end) (now (out .entry)) k r (now (out .exit))) ⌝ }
+    ensures { λ r. ⌜ ((ρ : Values) (P : SelectorAt (now (plan .entry)) (c .at)) (C : CastAt (now (plan .entry)) (c .at) P (input .at)) → NodeOf v (now (lay .entry)) (now (rec .entry)) (eval ρ (C .input .tree)) node → ReachedIs (clean (eval ρ (P .tree))) (encodeValue (eval ρ (P .tree))) (P .end) (now (out .entry)) k r (now (out .exit))) ⌝ }
 {
-    if is_position(plan, input) {
-        let t = skip_selector(plan, input);
-        let end = skip_selector(plan, c);
-        return put_cast(lay, v, rec, node, plan, t, end, out, k);
-    }
-    Reached::Unknown
+    let t = skip_selector(plan, input);
+    let end = skip_selector(plan, c);
+    put_cast(lay, v, rec, node, plan, t, end, out, k)
 }
 
 // What a rename's input gave, and past the name.
@@ -245,8 +244,8 @@ fn transfer_fields(
     )
 }
 
-// A struct mapping at `c`, over a column that is a struct.
-fn transfer_struct(
+// The struct mapping at `c`: the node is what its input gives.
+fn struct_over(
     lay: &[u8],
     v: Version,
     rec: &[u8],
@@ -261,9 +260,9 @@ fn transfer_struct(
     requires { ⌜ ((x : Value) × NodeOf v (now lay) (now rec) x node) ⌝ }
     requires { ⌜ ((P : SelectorAt (now plan) (c .at)) × StructAt (now plan) (c .at) P (input .at)) ⌝ }
     requires { ⌜ (length (now rec) ≤ 65536) × (length (now plan) ≤ 65536) × (k ≤ 16384) ⌝ }
-    ensures { λ r. ⌜ ((ρ : Values) (P : SelectorAt (now (plan .entry)) (c .at)) → StructAt (now (plan .entry)) (c .at) P (input .at) → NodeOf v (now (lay .entry)) (now (rec .entry)) (valueAt ρ (takes (P .tree))) node → ReachedIs (clean (eval ρ (P .tree))) (encodeValue (eval ρ (P .tree))) (P .end) (now (out .entry)) k r (now (out .exit))) ⌝ }
+    ensures { λ r. ⌜ ((ρ : Values) (P : SelectorAt (now (plan .entry)) (c .at)) (S : StructAt (now (plan .entry)) (c .at) P (input .at)) → NodeOf v (now (lay .entry)) (now (rec .entry)) (eval ρ (S .input .tree)) node → ReachedIs (clean (eval ρ (P .tree))) (encodeValue (eval ρ (P .tree))) (P .end) (now (out .entry)) k r (now (out .exit))) ⌝ }
 {
-    match open_input(lay, v, rec, node, plan, input) {
+    match open_node(lay, v, rec, node) {
         Opened::Null => put_nothing(skip_selector(plan, c), out, k),
         Opened::Row(n, t, d) => {
             let at = put_lead(false, 0, out, k);
@@ -289,8 +288,8 @@ fn transfer_struct(
     }
 }
 
-// A list mapping at `c`, over a column that is a list.
-fn transfer_list(
+// The list mapping at `c`: the node is what its input gives.
+fn list_over(
     lay: &[u8],
     v: Version,
     rec: &[u8],
@@ -305,10 +304,10 @@ fn transfer_list(
     requires { ⌜ ((x : Value) × NodeOf v (now lay) (now rec) x node) ⌝ }
     requires { ⌜ ((P : SelectorAt (now plan) (c .at)) × ListAt (now plan) (c .at) P (input .at)) ⌝ }
     requires { ⌜ (length (now rec) ≤ 65536) × (length (now plan) ≤ 65536) × (k ≤ 16384) ⌝ }
-    ensures { λ r. ⌜ ((ρ : Values) (P : SelectorAt (now (plan .entry)) (c .at)) → ListAt (now (plan .entry)) (c .at) P (input .at) → NodeOf v (now (lay .entry)) (now (rec .entry)) (valueAt ρ (takes (P .tree))) node → ReachedIs (clean (eval ρ (P .tree))) (encodeValue (eval ρ (P .tree))) (P .end) (now (out .entry)) k r (now (out .exit))) ⌝ }
+    ensures { λ r. ⌜ ((ρ : Values) (P : SelectorAt (now (plan .entry)) (c .at)) (L : ListAt (now (plan .entry)) (c .at) P (input .at)) → NodeOf v (now (lay .entry)) (now (rec .entry)) (eval ρ (L .input .tree)) node → ReachedIs (clean (eval ρ (P .tree))) (encodeValue (eval ρ (P .tree))) (P .end) (now (out .entry)) k r (now (out .exit))) ⌝ }
 {
     let end = skip_selector(plan, c);
-    match open_input(lay, v, rec, node, plan, input) {
+    match open_node(lay, v, rec, node) {
         Opened::Null => put_nothing(end, out, k),
         Opened::List(m, t, d) => {
             let at = put_lead(true, m, out, k);
@@ -321,8 +320,8 @@ fn transfer_list(
     }
 }
 
-// An array mapping at `c`, over a column that is an array.
-fn transfer_array(
+// The array mapping at `c`: the node is what its input gives.
+fn array_over(
     lay: &[u8],
     v: Version,
     rec: &[u8],
@@ -337,10 +336,10 @@ fn transfer_array(
     requires { ⌜ ((x : Value) × NodeOf v (now lay) (now rec) x node) ⌝ }
     requires { ⌜ ((P : SelectorAt (now plan) (c .at)) × ArrayAt (now plan) (c .at) P (input .at)) ⌝ }
     requires { ⌜ (length (now rec) ≤ 65536) × (length (now plan) ≤ 65536) × (k ≤ 16384) ⌝ }
-    ensures { λ r. ⌜ ((ρ : Values) (P : SelectorAt (now (plan .entry)) (c .at)) → ArrayAt (now (plan .entry)) (c .at) P (input .at) → NodeOf v (now (lay .entry)) (now (rec .entry)) (valueAt ρ (takes (P .tree))) node → ReachedIs (clean (eval ρ (P .tree))) (encodeValue (eval ρ (P .tree))) (P .end) (now (out .entry)) k r (now (out .exit))) ⌝ }
+    ensures { λ r. ⌜ ((ρ : Values) (P : SelectorAt (now (plan .entry)) (c .at)) (L : ArrayAt (now (plan .entry)) (c .at) P (input .at)) → NodeOf v (now (lay .entry)) (now (rec .entry)) (eval ρ (L .input .tree)) node → ReachedIs (clean (eval ρ (P .tree))) (encodeValue (eval ρ (P .tree))) (P .end) (now (out .entry)) k r (now (out .exit))) ⌝ }
 {
     let end = skip_selector(plan, c);
-    match open_input(lay, v, rec, node, plan, input) {
+    match open_node(lay, v, rec, node) {
         Opened::Null => put_nothing(end, out, k),
         Opened::Array(m, t, d) => {
             let at = put_lead(false, m, out, k);
@@ -351,6 +350,63 @@ fn transfer_array(
         Opened::List(_, _, _) => Reached::Unknown,
         Opened::Other => Reached::Unknown,
     }
+}
+
+// The transform at `c`: the node is what its input gives.
+pub fn transfer_over(
+    lay: &[u8],
+    v: Version,
+    rec: &[u8],
+    node: NodeAt,
+    plan: &[u8],
+    c: Cursor,
+    levels: u8,
+    out: &mut [u8],
+    k: usize,
+) -> Reached
+    requires { ⌜ ((x : Value) × NodeOf v (now lay) (now rec) x node) ⌝ }
+    requires { ⌜ SelectorAt (now plan) (c .at) ⌝ }
+    requires { ⌜ (length (now rec) ≤ 65536) × (length (now plan) ≤ 65536) × (k ≤ 16384) ⌝ }
+    ensures { λ r. ⌜ ((ρ : Values) (P : SelectorAt (now (plan .entry)) (c .at)) → NodeOf v (now (lay .entry)) (now (rec .entry)) (eval ρ (inputOf (P .tree))) node → ReachedIs (clean (eval ρ (P .tree))) (encodeValue (eval ρ (P .tree))) (P .end) (now (out .entry)) k r (now (out .exit))) ⌝ }
+{
+    if levels == 0 {
+        return Reached::Unknown;
+    }
+    let l = levels - 1;
+    match head(plan, c) {
+        SelectorHead::Position(_) => Reached::Unknown,
+        SelectorHead::Constant(_, _) => Reached::Unknown,
+        SelectorHead::Cast(input) => cast_over(lay, v, rec, node, plan, c, input, out, k),
+        SelectorHead::Rename(_) => put_node(lay, v, rec, node, skip_selector(plan, c), out, k),
+        SelectorHead::Struct(input) => struct_over(lay, v, rec, node, plan, c, input, l, out, k),
+        SelectorHead::List(input) => list_over(lay, v, rec, node, plan, c, input, l, out, k),
+        SelectorHead::Array(input) => array_over(lay, v, rec, node, plan, c, input, l, out, k),
+        SelectorHead::Refused => Reached::Unknown,
+    }
+}
+
+// The transform at `c` of the position at `input`: the node is the value there.
+fn transfer_taken(
+    lay: &[u8],
+    v: Version,
+    rec: &[u8],
+    node: NodeAt,
+    plan: &[u8],
+    c: Cursor,
+    input: Cursor,
+    levels: u8,
+    out: &mut [u8],
+    k: usize,
+) -> Reached
+    requires { ⌜ ((x : Value) × NodeOf v (now lay) (now rec) x node) ⌝ }
+    requires { ⌜ SelectorAt (now plan) (c .at) ⌝ }
+    requires { ⌜ (length (now rec) ≤ 65536) × (length (now plan) ≤ 65536) × (k ≤ 16384) ⌝ }
+    ensures { λ r. ⌜ ((ρ : Values) (P : SelectorAt (now (plan .entry)) (c .at)) → InputAt (now (plan .entry)) (c .at) P (input .at) → NodeOf v (now (lay .entry)) (now (rec .entry)) (valueAt ρ (takes (P .tree))) node → ReachedIs (clean (eval ρ (P .tree))) (encodeValue (eval ρ (P .tree))) (P .end) (now (out .entry)) k r (now (out .exit))) ⌝ }
+{
+    if is_position(plan, input) {
+        return transfer_over(lay, v, rec, node, plan, c, levels, out, k);
+    }
+    Reached::Unknown
 }
 
 // The selector at `c`: the node is the value that it takes.
@@ -379,19 +435,19 @@ pub fn transfer(
     match head(plan, c) {
         SelectorHead::Position(_) => { put_node(lay, v, rec, node, skip_selector(plan, c), out, k) }
         SelectorHead::Constant(_, t) => put_constant(plan, t, skip_selector(plan, c), out, k),
-        SelectorHead::Cast(input) => transfer_cast(lay, v, rec, node, plan, c, input, out, k),
         SelectorHead::Rename(input) => {
             let r = transfer(lay, v, rec, node, plan, input, levels - 1, out, k);
             past_name(plan, r)
         }
+        SelectorHead::Cast(_) => transfer_cast(lay, v, rec, node, plan, c, levels, out, k),
         SelectorHead::Struct(input) => {
-            transfer_struct(lay, v, rec, node, plan, c, input, levels - 1, out, k)
+            transfer_taken(lay, v, rec, node, plan, c, input, levels - 1, out, k)
         }
         SelectorHead::List(input) => {
-            transfer_list(lay, v, rec, node, plan, c, input, levels - 1, out, k)
+            transfer_taken(lay, v, rec, node, plan, c, input, levels - 1, out, k)
         }
         SelectorHead::Array(input) => {
-            transfer_array(lay, v, rec, node, plan, c, input, levels - 1, out, k)
+            transfer_taken(lay, v, rec, node, plan, c, input, levels - 1, out, k)
         }
         SelectorHead::Refused => Reached::Unknown,
     }

@@ -282,11 +282,11 @@ abbrev attach-struct-claims : ℕ → attach-struct-lts.Claims
 attach-struct-claims t = (struct-part-reads.Asked, struct-part-reads.Learnt, struct-fault-reads.Asked, struct-fault-reads.Learnt, put-head-reads.Asked, put-head-reads.Learnt, put-short-reads.Asked, put-short-reads.Learnt, attach-row-below t, attach-row.Post, refused-row-reads.Asked, refused-row-reads.Learnt, unchanged-reads.Asked, unchanged-reads.Learnt, put-position-reads.Asked, put-position-reads.Learnt)
 
 abbrev attach-fields-Inv-loop : attach-fields-lts.InvT-loop
-attach-fields-Inv-loop policy v depth incoming n c whole starts positions table defaults target m out₀ k insert from₀ index₀ to₀ same₀ out from index to same =
+attach-fields-Inv-loop policy v depth incoming n c whole starts positions table defaults target m out₀ k tables insert from₀ index₀ to₀ same₀ out from index to same =
     Remaining policy v depth incoming n (c .at) table defaults target m from₀ out₀ k out from index to same
 
 abbrev attach-fields-μ-loop : attach-fields-lts.MeasureT-loop
-attach-fields-μ-loop policy v depth incoming n c whole starts positions table defaults target m out₀ k insert from₀ index₀ to₀ same₀ out from index to same =
+attach-fields-μ-loop policy v depth incoming n c whole starts positions table defaults target m out₀ k tables insert from₀ index₀ to₀ same₀ out from index to same =
     m - index
 
 attach-nested-is-null-incoming-requires :

@@ -1,0 +1,140 @@
+// A whole plan over a record.
+ghost use mathlib.Core.Bool.{Bool};
+ghost use Prim.Native.Nat.{ℕ, _≤_};
+ghost use lib.ListN.{length};
+ghost use Rattle.layout.specs.Bytes.{Bytes};
+ghost use Rattle.values.specs.Encode.{encodeValues};
+ghost use Rattle.plan.specs.Run.{evals, cleanAll};
+ghost use Rattle.walk.specs.Stands.{SelectorsAt};
+ghost use Rattle.nodes.specs.Raw.{RowAt};
+ghost use Rattle.transfer.specs.Reaching.{ReachedIs};
+ghost use Rattle.composed.specs.Transferring.{TransferredIs};
+use crate::top::transfer_tops;
+use index::columns::stride_of;
+use index::row::index_row;
+use layout::cursor::Cursor;
+use layout::version::Version;
+use transfer::leaf::Reached;
+
+// The length of the output; or it is not settled.
+pub enum Transferred {
+    To(usize),
+    Unknown,
+}
+
+// Over few columns, which are passed over.
+fn transfer_few(
+    lay: &[u8],
+    v: Version,
+    n: u16,
+    rec: &[u8],
+    plan: &[u8],
+    count: u16,
+    out: &mut [u8],
+) -> Reached
+    requires { ⌜ RowAt v (now lay) n 7 (now rec) 0 ⌝ }
+    requires { ⌜ SelectorsAt (now plan) count 7 ⌝ }
+    requires { ⌜ (length (now rec) ≤ 65536) × (length (now plan) ≤ 65536) ⌝ }
+    ensures { λ r. ⌜ ((X : RowAt v (now (lay .entry)) n 7 (now (rec .entry)) 0) (S : SelectorsAt (now (plan .entry)) count 7) → ReachedIs (cleanAll (evals (X .values .values) (S .trees))) (encodeValues (evals (X .values .values) (S .trees))) (S .end) (now (out .entry)) 0 r (now (out .exit))) ⌝ }
+{
+    let first = Cursor { at: 7 };
+    let start = Cursor { at: 0 };
+    let types: [u16; 1] = [0; 1];
+    let values: [u16; 1] = [0; 1];
+    transfer_tops(
+        lay,
+        v,
+        n,
+        first,
+        rec,
+        start,
+        &types[..0],
+        &values[..0],
+        1,
+        plan,
+        count,
+        first,
+        out,
+        0,
+    )
+}
+
+// Over many columns, with tables of where they and their values stand.
+fn transfer_many(
+    lay: &[u8],
+    v: Version,
+    n: u16,
+    rec: &[u8],
+    plan: &[u8],
+    count: u16,
+    out: &mut [u8],
+) -> Reached
+    requires { ⌜ RowAt v (now lay) n 7 (now rec) 0 ⌝ }
+    requires { ⌜ SelectorsAt (now plan) count 7 ⌝ }
+    requires { ⌜ (length (now rec) ≤ 65536) × (length (now plan) ≤ 65536) ⌝ }
+    ensures { λ r. ⌜ ((X : RowAt v (now (lay .entry)) n 7 (now (rec .entry)) 0) (S : SelectorsAt (now (plan .entry)) count 7) → ReachedIs (cleanAll (evals (X .values .values) (S .trees))) (encodeValues (evals (X .values .values) (S .trees))) (S .end) (now (out .entry)) 0 r (now (out .exit))) ⌝ }
+{
+    let first = Cursor { at: 7 };
+    let start = Cursor { at: 0 };
+    let stride = stride_of(n);
+    let mut types = [0u16; 256];
+    let mut values = [0u16; 256];
+    let m = index_row(
+        lay,
+        v,
+        n,
+        first,
+        rec,
+        start,
+        stride,
+        &mut types,
+        &mut values,
+    );
+    transfer_tops(
+        lay,
+        v,
+        n,
+        first,
+        rec,
+        start,
+        &types[..m],
+        &values[..m],
+        stride,
+        plan,
+        count,
+        first,
+        out,
+        0,
+    )
+}
+
+fn output_of(r: Reached) -> Transferred
+    ensures { λ q. ⌜ ((ok : Bool) (b : Bytes) (e : ℕ) (out new : Bytes) → ReachedIs ok b e out 0 r new → TransferredIs ok b out q new) ⌝ }
+{
+    match r {
+        Reached::To(_, len) => Transferred::To(len),
+        Reached::Unknown => Transferred::Unknown,
+    }
+}
+
+// That `transfer_tops` is called in two places keeps it a function of its own: called once, it would be compiled into the run, and its buffers would stand below all that the
+// general way needs.
+pub fn transfer_record(
+    lay: &[u8],
+    v: Version,
+    n: u16,
+    rec: &[u8],
+    plan: &[u8],
+    count: u16,
+    out: &mut [u8],
+) -> Transferred
+    requires { ⌜ RowAt v (now lay) n 7 (now rec) 0 ⌝ }
+    requires { ⌜ SelectorsAt (now plan) count 7 ⌝ }
+    requires { ⌜ (length (now rec) ≤ 65536) × (length (now plan) ≤ 65536) ⌝ }
+    ensures { λ r. ⌜ ((X : RowAt v (now (lay .entry)) n 7 (now (rec .entry)) 0) (S : SelectorsAt (now (plan .entry)) count 7) → TransferredIs (cleanAll (evals (X .values .values) (S .trees))) (encodeValues (evals (X .values .values) (S .trees))) (now (out .entry)) r (now (out .exit))) ⌝ }
+{
+    if n <= 8 {
+        return output_of(transfer_few(lay, v, n, rec, plan, count, out));
+    }
+    output_of(transfer_many(lay, v, n, rec, plan, count, out))
+}

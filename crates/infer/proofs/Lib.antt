@@ -1,0 +1,9 @@
+pub mod Copies
+pub mod Names
+pub mod Behind
+pub mod Transforms
+pub mod Gathering
+pub mod Standing
+pub mod Labels
+pub mod Composing
+pub mod Targets

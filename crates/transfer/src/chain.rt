@@ -1,0 +1,159 @@
+// Casts over casts: a number is converted by each in turn, and any other value stays as it is.
+ghost use Prim.Native.Nat.{_≤_};
+ghost use lib.ListN.{length};
+ghost use Rattle.layout.specs.Tree.{dtypeOf};
+ghost use Rattle.layout.specs.Stands.{TypeAt};
+ghost use Rattle.layout.specs.declared.version.Version.{Version as VersionOf};
+ghost use Rattle.values.specs.Value.{Value, Values, vnumber};
+ghost use Rattle.values.specs.Encode.{encodeValue};
+ghost use Rattle.plan.specs.Run.{valueAt, castLeaf, castValue, eval, clean};
+ghost use Rattle.walk.specs.Stands.{SelectorAt};
+ghost use Rattle.nodes.specs.Raw.{NodeOf};
+ghost use Rattle.transfer.specs.Reaching.{takes, ReachedIs};
+ghost use Rattle.transfer.specs.Chains.{ChainIs};
+use crate::leaf::Reached;
+use crate::leaf::limited;
+use crate::leaf::put_node;
+use convert::leaf::Converted;
+use convert::leaf::convert_leaf;
+use convert::put::put_number;
+use layout::cursor::Cursor;
+use layout::leaf::Leaf;
+use layout::types::Head;
+use layout::version::Version;
+use nodes::raw::NodeAt;
+use raw::leaf::LeafValue;
+use raw::leaf::leaf_at;
+use walk::head::SelectorHead;
+use walk::head::head;
+use walk::head::skip_selector;
+
+// A number of a kind; or the value that was taken, which is no number.
+pub enum ChainValue {
+    Number(Leaf, u64),
+    Same,
+    Unknown,
+}
+
+// The value that was taken.
+fn taken_leaf(lay: &[u8], v: Version, rec: &[u8], node: NodeAt) -> ChainValue
+    requires { ⌜ ((x : Value) × NodeOf v (now lay) (now rec) x node) ⌝ }
+    ensures { λ r. ⌜ ((x : Value) → NodeOf v (now (lay .entry)) (now (rec .entry)) x node → ChainIs x x r) ⌝ }
+{
+    match node {
+        NodeAt::Null => ChainValue::Same,
+        NodeAt::At(t, c) => match leaf_at(lay, v, t, rec, c) {
+            LeafValue::Number(kind, n) => ChainValue::Number(kind, n),
+            LeafValue::Other => ChainValue::Same,
+        },
+    }
+}
+
+// A number cast to the kind `to`.
+fn converted(kind: Leaf, n: u64, to: Leaf) -> ChainValue
+    ensures { λ r. ⌜ ((y : Value) → ChainIs (castLeaf to (vnumber kind n)) y r) ⌝ }
+{
+    match convert_leaf(kind, to, n) {
+        Converted::Number(m) => ChainValue::Number(to, m),
+        Converted::Overflow => ChainValue::Unknown,
+    }
+}
+
+// Cast to the kind `to`.
+fn cast_to(q: ChainValue, to: Leaf) -> ChainValue
+    ensures { λ r. ⌜ ((x y : Value) → ChainIs x y q → ChainIs (castLeaf to x) y r) ⌝ }
+{
+    match q {
+        ChainValue::Number(kind, n) => converted(kind, n, to),
+        ChainValue::Same => ChainValue::Same,
+        ChainValue::Unknown => ChainValue::Unknown,
+    }
+}
+
+// Cast to the type that begins at `t` of the plan.
+fn cast_by(q: ChainValue, plan: &[u8], t: Cursor) -> ChainValue
+    ensures { λ r. ⌜ ((x y : Value) (T : TypeAt VersionOf.ByName 16 (now (plan .entry)) (t .at)) → ChainIs x y q → ChainIs (castValue (dtypeOf (T .tree)) x) y r) ⌝ }
+{
+    match t.head(plan) {
+        Head::Leaf(l, _) => {
+            let leaf = l.leaf;
+            cast_to(q, leaf)
+        }
+        Head::Struct(_, _) => q,
+        Head::List(_) => q,
+        Head::Array(_, _) => q,
+        Head::Refused(_) => ChainValue::Unknown,
+    }
+}
+
+// What the selector at `c` gives, if it is made of casts and renames of a position: the node is the value there.
+pub fn chain_value(
+    lay: &[u8],
+    v: Version,
+    rec: &[u8],
+    node: NodeAt,
+    plan: &[u8],
+    c: Cursor,
+    levels: u8,
+) -> ChainValue
+    requires { ⌜ ((x : Value) × NodeOf v (now lay) (now rec) x node) ⌝ }
+    ensures { λ r. ⌜ ((ρ : Values) (P : SelectorAt (now (plan .entry)) (c .at)) → NodeOf v (now (lay .entry)) (now (rec .entry)) (valueAt ρ (takes (P .tree))) node → ChainIs (eval ρ (P .tree)) (valueAt ρ (takes (P .tree))) r) ⌝ }
+{
+    if levels == 0 {
+        return ChainValue::Unknown;
+    }
+    match head(plan, c) {
+        SelectorHead::Position(_) => taken_leaf(lay, v, rec, node),
+        SelectorHead::Constant(_, _) => ChainValue::Unknown,
+        SelectorHead::Cast(input) => {
+            let q = chain_value(lay, v, rec, node, plan, input, levels - 1);
+            cast_by(q, plan, skip_selector(plan, input))
+        }
+        SelectorHead::Rename(input) => chain_value(lay, v, rec, node, plan, input, levels - 1),
+        SelectorHead::Struct(_) => ChainValue::Unknown,
+        SelectorHead::List(_) => ChainValue::Unknown,
+        SelectorHead::Array(_) => ChainValue::Unknown,
+        SelectorHead::Refused => ChainValue::Unknown,
+    }
+}
+
+fn put_chain(
+    lay: &[u8],
+    v: Version,
+    rec: &[u8],
+    node: NodeAt,
+    q: ChainValue,
+    end: Cursor,
+    out: &mut [u8],
+    k: usize,
+) -> Reached
+    requires { ⌜ ((x : Value) × NodeOf v (now lay) (now rec) x node) ⌝ }
+    requires { ⌜ (length (now rec) ≤ 65536) × (k ≤ 16384) ⌝ }
+    ensures { λ r. ⌜ ((x y : Value) → NodeOf v (now (lay .entry)) (now (rec .entry)) y node → ChainIs x y q → ReachedIs (clean x) (encodeValue x) (end .at) (now (out .entry)) k r (now (out .exit))) ⌝ }
+{
+    match q {
+        ChainValue::Number(kind, n) => limited(end, k + put_number(kind, n, out, k)),
+        ChainValue::Same => put_node(lay, v, rec, node, end, out, k),
+        ChainValue::Unknown => Reached::Unknown,
+    }
+}
+
+// The cast at `c` of a position, or of casts of one: the node is the value there.
+pub fn transfer_cast(
+    lay: &[u8],
+    v: Version,
+    rec: &[u8],
+    node: NodeAt,
+    plan: &[u8],
+    c: Cursor,
+    levels: u8,
+    out: &mut [u8],
+    k: usize,
+) -> Reached
+    requires { ⌜ ((x : Value) × NodeOf v (now lay) (now rec) x node) ⌝ }
+    requires { ⌜ (length (now rec) ≤ 65536) × (k ≤ 16384) ⌝ }
+    ensures { λ r. ⌜ ((ρ : Values) (P : SelectorAt (now (plan .entry)) (c .at)) → NodeOf v (now (lay .entry)) (now (rec .entry)) (valueAt ρ (takes (P .tree))) node → ReachedIs (clean (eval ρ (P .tree))) (encodeValue (eval ρ (P .tree))) (P .end) (now (out .entry)) k r (now (out .exit))) ⌝ }
+{
+    let q = chain_value(lay, v, rec, node, plan, c, levels);
+    put_chain(lay, v, rec, node, q, skip_selector(plan, c), out, k)
+}
