@@ -8,6 +8,7 @@ use Rattle.layout.specs.Parser.{Res, refuse, ok}
 use Rattle.layout.specs.Tree.{Layout, Columns, fieldsOf}
 use Rattle.layout.specs.Layout.{layout}
 use Rattle.layout.proofs.Ways.{clash}
+use Rattle.values.specs.Fits.{FitsAll}
 use Rattle.values.specs.Record.{recordOf}
 use Rattle.plan.specs.Result.{gives, demand, Answer, accepted, refusedAt, placed, answered}
 use Rattle.plan.specs.Encode.{encodePlan}
@@ -36,21 +37,28 @@ pub built-passes : {v : Version} {p : Policy} {d : Defaults} {incoming target by
 unfolding checkPlan readPlan readAt
 built-passes B = rw (B .incomingRead, B .targetRead, B .reads, B .passes)
 
-module _ {v : Version} {p : Policy} {d : Defaults} {incoming target bytes rec : Bytes} (B : Built v p d incoming target bytes) (or : AllBytes rec) (F : FitsLayout incoming rec) (T : LayoutOf target) (room : ℕ) where
-  from-eq : columnsOf F ≡ B .from
+module _ {v : Version} {p : Policy} {d : Defaults} {incoming target bytes rec : Bytes} (B : Built v p d incoming target bytes) (or : AllBytes rec)
+    (F : FitsLayout incoming rec) where
+  pub from-eq : columnsOf F ≡ B .from
   from-eq = ap (λ (l : Layout). l .columns) (ok-eq (F .layoutReads) (B .incomingRead))
-
-  to-eq : T .read .columns ≡ B .to
-  to-eq = ap (λ (l : Layout). l .columns) (ok-eq (T .reads) (B .targetRead))
 
   record-reads : recordOf (fieldsOf (B .from)) rec ≡ ok (F .values) (F .end)
   record-reads = ap (λ (cs : Columns). recordOf (fieldsOf cs) rec) (sym from-eq) ∙ F .reads
 
-  pub built-due : runPlan incoming target bytes rec room ≡ written (dues v d (T .read .columns) (columnsOf F) (F .values)) room
-  unfolding runPlan readPlan readAt answered run
-  built-due =
-      let h = record-back (fieldsOf (B .from)) rec or (F .values) (F .end) record-reads .fits in
-      rw (B .incomingRead, B .targetRead, B .reads, B .passes, record-reads, B .due (F .values) h, ← from-eq, ← to-eq)
+  pub record-fits : FitsAll (fieldsOf (B .from)) (F .values)
+  record-fits = record-back (fieldsOf (B .from)) rec or (F .values) (F .end) record-reads .fits
+
+  pub run-is : (room : ℕ) → runPlan incoming target bytes rec room ≡ run (F .values) (B .selectors) room
+  unfolding runPlan readPlan readAt answered
+  run-is room = rw (B .incomingRead, B .targetRead, B .reads, B .passes, record-reads)
+
+  module _ (T : LayoutOf target) (room : ℕ) where
+    to-eq : T .read .columns ≡ B .to
+    to-eq = ap (λ (l : Layout). l .columns) (ok-eq (T .reads) (B .targetRead))
+
+    pub built-due : runPlan incoming target bytes rec room ≡ written (dues v d (T .read .columns) (columnsOf F) (F .values)) room
+    unfolding run
+    built-due = rw (run-is room, B .due (F .values) record-fits, ← from-eq, ← to-eq)
 
 place-eq : {A : Type 0} {m n j k : ℕ} → _≡_ {A = Answer A} (refusedAt m j) (refusedAt n k) → j ≡ k
 place-eq e = cc

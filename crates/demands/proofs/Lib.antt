@@ -3,3 +3,4 @@ pub mod Passed
 pub mod Built
 pub mod Demands
 pub mod Table
+pub mod Projected

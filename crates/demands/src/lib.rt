@@ -1,1 +1,1 @@
-// Demand 3 and the table of samples, over bytes. All of it stands in proofs/.
+// Demand 3, demand 2 by field number, and the table of samples, over bytes. All of it stands in specs/ and proofs/.

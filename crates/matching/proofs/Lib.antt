@@ -9,9 +9,6 @@ pub mod Passes
 pub mod Right
 pub mod Nesting
 pub mod ByName
-pub mod Iceberg
-pub mod OneReading
 pub mod Theorems
 pub mod Calls
-pub mod Projected
 pub mod Samples

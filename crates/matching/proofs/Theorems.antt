@@ -1,23 +1,18 @@
--- Demand 3, from "Every plan that either builder writes" on, and the second half of demand 2: the theorems, each under the sentence that it states. Assumes nothing.
+-- Demand 3, from "Every plan that either builder writes" on: the theorems, each under the sentence that it states. Assumes nothing.
 use Prim.Native.Nat.{ℕ, _≤_}
 use mathlib.Core.Path.{_≡_, ap}
-use mathlib.Core.Bool.{Bool}
-use mathlib.Core.List.{List}
 use mathlib.Core.Logic.{_↔_}
 use native.Mathlib.Omega.{arith}
 use lib.ListN.{length}
 use Rattle.layout.specs.Parser.{ok}
 use Rattle.layout.specs.Tree.{Label, ColumnType, Columns, fieldsOf}
 use Rattle.layout.specs.Find.{at, columnAt}
-use Rattle.layout.specs.declared.columns.FieldId.{FieldId}
 use Rattle.layout.specs.declared.columns.Position.{Position}
 use Rattle.layout.specs.declared.version.Version.{Version}
-use Rattle.layout.specs.declared.version.Version.the-variants.{ByName, ByNumber}
+use Rattle.layout.specs.declared.version.Version.the-variants.{ByName}
 use Rattle.rules.specs.declared.policy.Policy.{Policy}
 use Rattle.values.specs.Value.{Values}
 use Rattle.values.specs.Fits.{FitsAll}
-use Rattle.defaults.specs.Table.{Entry}
-use Rattle.defaults.specs.Lookup.{getDefaultValue}
 use Rattle.plan.specs.Result.{accepted}
 use Rattle.plan.specs.Selector.{Selector, Selectors, nestingAll}
 use Rattle.plan.specs.Encode.{encodePlan}
@@ -30,10 +25,8 @@ use Rattle.plan.proofs.Typed.{typed→passed}
 use Rattle.plan.proofs.Theorems.{written-read}
 use Rattle.matching.specs.Default.{Defaults}
 use Rattle.matching.specs.Build.{build}
-use Rattle.matching.specs.Due.{dueLeaf, dues}
+use Rattle.matching.specs.Due.{dues}
 use Rattle.matching.specs.Untouched.{Untouched, EqualType}
-use Rattle.matching.specs.Iceberg.{ReadsAll}
-use Rattle.matching.specs.Stated.{stated, NoneHidden, ComposedAll, OwnIdsAll}
 use Rattle.matching.proofs.Attach.{build→}
 use Rattle.matching.proofs.Untouched.{column-untouched}
 use Rattle.matching.proofs.Limits.{LayoutLimits}
@@ -41,8 +34,6 @@ use Rattle.matching.proofs.Fitting.{Good}
 use Rattle.matching.proofs.Passes.{attachAll-typed}
 use Rattle.matching.proofs.Right.{attachAll-due}
 use Rattle.matching.proofs.Nesting.{attachAll-nests, attached-count, attachAll-formed}
-use Rattle.matching.proofs.Iceberg.{built-reads, null-due}
-use Rattle.matching.proofs.OneReading.{DistinctIdsAll, reads-all-one}
 
 -- `LayoutLimits` holds of the columns of every layout that was read (`layout-limits`); `Good` of every table that was read (`table-good`) and of none
 -- (`good-none`). Calls.antt has the same for the calls over bytes, where neither is left.
@@ -82,17 +73,3 @@ module _ (p : Policy) (d : Defaults) (Γ Δ : Columns) {ss : Selectors} (built :
   -- the position j has the label b and the type u; its selector is s.
   pub build-untouched : (j : Position) {k : Position} {b : Label} {u : ColumnType} {s : Selector} → columnAt j Δ ≡ at k b u → SelectorAt ss (j .0) s → Untouched Γ b s ↔ EqualType Γ b u
   build-untouched j e x = column-untouched 0 (j .0) (omega arith) (build→ ByName p d Γ Δ built) x e
-
--- Demand 2: "by field number, matching and defaults are proved to be the Iceberg table specification's, each difference listed." The conditions shut out the
--- differences (Stated.antt): no initial default stands behind a null partition value, structs have the default that document 01 puts together and nothing is stated of
--- fields inside elements, no element has the id 4,294,967,295. What document 01 refuses (11, 13, 14, 24, 25, 26, 28) is no plan.
-module _ (p : Policy) (es : List Entry) (k : ℕ) (structs : FieldId → Bool) (Γ Δ : Columns) {ss : Selectors} (built : build ByNumber p (getDefaultValue es k) Γ Δ ≡ accepted ss)
-    (hidden : NoneHidden es (stated es k structs)) (composed : ComposedAll (stated es k structs) (getDefaultValue es k) Δ) (own : OwnIdsAll Δ) (ownIncoming : OwnIdsAll Γ) {ρ : Values} (h : FitsAll (fieldsOf Γ) ρ) where
-  -- The run of a plan built by number reads a record as the specification reads a row of a data file: columns by field id, and those that the file lacks by its rules;
-  -- leaves change by document 01's rules.
-  pub build-projects : ReadsAll dueLeaf (stated es k structs) Δ Γ ρ (evals ρ ss)
-  build-projects = built-reads p es k structs Γ Δ built hidden composed own ownIncoming h
-
-  -- The specification has no other reading of it; `DistinctIdsAll` holds of the columns of every layout of version 2 that was read (`layout-distinct`).
-  pub build-projects-only : DistinctIdsAll Γ → (ys : Values) → ReadsAll dueLeaf (stated es k structs) Δ Γ ρ ys → ys ≡ evals ρ ss
-  build-projects-only d ys r = reads-all-one dueLeaf (stated es k structs) null-due d r build-projects

@@ -3,5 +3,3 @@ pub mod Build
 pub mod Calls
 pub mod Due
 pub mod Untouched
-pub mod Iceberg
-pub mod Stated

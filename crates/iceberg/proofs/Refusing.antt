@@ -1,0 +1,315 @@
+-- A build by number is refused for a listed reason alone. Assumes nothing.
+use Prim.Native.Nat.{ℕ, zero, suc, _+_}
+use mathlib.Core.Path.{_≡_, refl, sym, ap}
+use mathlib.Core.Bool.{Bool, true, false, not, _&&_, _||_}
+use mathlib.Core.List.{List, [], _∷_}
+use lib.Dec.{eqb}
+use borrow.Author.Tests.{eqb-true, eqb-false}
+use Rattle.layout.specs.Parser.{choose}
+use Rattle.layout.specs.Tree.{LeafType, Label, ColumnType, cleaf, cstruct, clist, carray, Columns, cnil, ccons}
+use Rattle.layout.specs.Find.{Lookup, absent, at, counterpart}
+use Rattle.layout.specs.declared.columns.FieldId.{FieldId}
+use Rattle.layout.specs.declared.columns.Position.{Position}
+use Rattle.layout.specs.declared.version.Version.the-variants.{ByNumber}
+use Rattle.layout.proofs.Ways.{clash}
+use Rattle.forms.specs.Same.{sameDtype}
+use Rattle.rules.specs.declared.policy.Policy.{Policy}
+use Rattle.rules.specs.declared.policy.MissingColumnsPolicy.{MissingColumnsPolicy}
+use Rattle.rules.specs.declared.policy.ExtraColumnsPolicy.{ExtraColumnsPolicy}
+use Rattle.rules.specs.Outcomes.{Verdict, untouched}
+use Rattle.rules.specs.Pairs.{pairRule}
+use Rattle.values.specs.Value.{Value, Values, vnil, vcons}
+use Rattle.plan.specs.Result.{Result, gives, refuses, _>>=_, demand, Answer, accepted, refusedAt, placed, answered}
+use Rattle.plan.proofs.Results.{gives-eq, true≠false, both, demand-gives}
+use Rattle.defaults.specs.Table.{Given, initial, partition, failed, Entry}
+use Rattle.defaults.specs.Lookup.{Taken, refused, nothing, taken, isNullValue, unlessNull, ofSource, givenTo, isPartitionOf, isInitialOf, firstEntry}
+use Rattle.defaults.specs.Lookup.{getDefaultValue}
+use Rattle.matching.specs.Default.{noDefaults, leafDefault, buildIcebergDefaultValue, defaultsOf, missingValue}
+use Rattle.matching.specs.Build.{Element, leafPart, structPart, listPart, arrayPart, unlessNullType, renamed, elementDefaultId, sameElement, isAbsent, distinct}
+use Rattle.matching.specs.Build.{noExtra, ignores, inserts, missing, ruled, sought, first, arraySelector, attachTransforms, attachFields, buildColumnSelector}
+use Rattle.matching.specs.Build.{buildFrom, build}
+use Rattle.matching.proofs.Entries.{Match, unmatched, matched, matchOf, ofMatch, partition-is, initial-is}
+use Rattle.iceberg.specs.Specification.{Lacks}
+use Rattle.iceberg.specs.Differences.{nested-struct, nested-list, nested-array, Place, outside, inside, OneIsAny, incoming-is-any, target-is-any}
+use Rattle.iceberg.specs.Refusals.{EntryOf, entry-here, entry-there, TypeGiven, of-initial, of-partition, nested-for-leaf, leaf-for-nested}
+use Rattle.iceberg.specs.Refusals.{list-for-struct, array-for-struct, struct-for-list, array-for-list, struct-for-array, list-for-array, Extra}
+use Rattle.iceberg.specs.Refusals.{extra-here, extra-there, NoDefaultFor, partition-failed, default-type, for-a-field, NoDefaultIn, for-first, for-later}
+use Rattle.iceberg.specs.Refusals.{Refuses, leaf-pair, other-kind, other-width, list-ids, array-ids, in-list, in-array, extra-field, in-struct}
+use Rattle.iceberg.specs.Refusals.{RefusesAny, at-selected, missing-raised, missing-default, at-later}
+use Rattle.iceberg.proofs.Facts.{asked, found-first}
+use Rattle.iceberg.proofs.Selecting.{id-eq, counterpart-selected, counterpart-lacks}
+
+-- ---- what a result that was refused went through
+
+refuses-eq : {A : Type 0} {m n : ℕ} → _≡_ {A = Result A} (refuses m) (refuses n) → m ≡ n
+refuses-eq e = cc
+
+never-given : {A X : Type 0} {a : A} {n : ℕ} → gives a ≡ refuses n → X
+never-given e = clash (cc)
+
+bind-refused : {A B X : Type 0} (r : Result A) (f : A → Result B) {n : ℕ} → (r >>= f) ≡ refuses n → (r ≡ refuses n → X)
+    → ((a : A) → r ≡ gives a → f a ≡ refuses n → X) → X
+unfolding _>>=_
+bind-refused (gives a) f e x y = y a refl e
+bind-refused (refuses m) f e x y = x (ap refuses (refuses-eq e))
+
+demand-refused : {A X : Type 0} (b : Bool) (m : ℕ) (r : Result A) {n : ℕ} → demand b m r ≡ refuses n → (b ≡ false → m ≡ n → X) → (b ≡ true → r ≡ refuses n → X)
+    → X
+unfolding demand
+demand-refused true m r e x y = y refl e
+demand-refused false m r e x y = x refl (refuses-eq e)
+
+-- ---- where a default comes from
+
+data Origin (es : List Entry) (i : FieldId) : Taken → Type 0 where
+  from-failed : EntryOf es i failed → Origin es i (refused 26)
+  from-nothing : Origin es i nothing
+  from-given : {g : Given} {l : LeafType} {y : Value} → EntryOf es i g → TypeGiven g l → Origin es i (taken l y)
+
+entry-of : (f : Entry → Bool) (i : FieldId) → ((x : Entry) → f x ≡ true → x .id ≡ i) → (es : List Entry) {g : Given} → matchOf f es ≡ matched g → EntryOf es i g
+unfolding firstEntry choose
+entry-of f i h [] e = clash (cc)
+entry-of f i h (x ∷ es) {g} e = go (f x) refl e (λ e. entry-of f i h es e)
+  where
+    go : (b : Bool) → f x ≡ b → choose b (matched (x .given)) (matchOf f es) ≡ matched g → (matchOf f es ≡ matched g → EntryOf es i g) → EntryOf (x ∷ es) i g
+    go true q e ih = let r : x .given ≡ g = cc in entry-here (h x q) r
+    go false q e ih = entry-there (ih e)
+
+partition-of : (i : FieldId) (es : List Entry) {g : Given} → matchOf (isPartitionOf i) es ≡ matched g → EntryOf es i g
+partition-of i es e = entry-of (isPartitionOf i) i (λ x q. id-eq (eqb-true _ _ (both (eqb (x .id .0) (i .0)) q .0))) es e
+
+initial-of : (i : FieldId) (es : List Entry) {g : Given} → matchOf (isInitialOf i) es ≡ matched g → EntryOf es i g
+initial-of i es e = entry-of (isInitialOf i) i (λ x q. id-eq (eqb-true _ _ (both (eqb (x .id .0) (i .0)) q .0))) es e
+
+module _ (es : List Entry) (i : FieldId) where
+  value-origin : {g : Given} (l : LeafType) (v : Value) (b : Bool) → EntryOf es i g → TypeGiven g l → Origin es i (choose b nothing (taken l v))
+  unfolding choose
+  value-origin l v true h t = from-nothing
+  value-origin l v false h t = from-given h t
+
+  source-origin : {g : Given} (l : LeafType) (xs : Values) (k : ℕ) → EntryOf es i g → TypeGiven g l → Origin es i (ofSource l xs k)
+  unfolding ofSource unlessNull
+  source-origin l vnil k h t = from-nothing
+  source-origin l (vcons v vs) zero h t = value-origin l v (isNullValue v) h t
+  source-origin l (vcons v vs) (suc k) h t = source-origin l vs k h t
+
+  origin : (k : ℕ) → Origin es i (getDefaultValue es k i)
+  unfolding givenTo unlessNull
+  origin k = rw (found-first es k i) (go (matchOf (isPartitionOf i) es) refl (matchOf (isInitialOf i) es) refl)
+    where
+      go : (c : Match) → matchOf (isPartitionOf i) es ≡ c → (d : Match) → matchOf (isInitialOf i) es ≡ d
+          → Origin es i (ofMatch (givenTo k) (ofMatch (givenTo k) nothing d) c)
+      go (matched (partition m xs)) p d q = source-origin m xs k (partition-of i es p) of-partition
+      go (matched failed) p d q = from-failed (partition-of i es p)
+      go (matched (initial m w)) p d q = true≠false (partition-is i es p) refl
+      go unmatched p (matched (initial m w)) q = value-origin m w (isNullValue w) (initial-of i es q) of-initial
+      go unmatched p (matched (partition m xs)) q = true≠false (initial-is i es q) refl
+      go unmatched p (matched failed) q = true≠false (initial-is i es q) refl
+      go unmatched p unmatched q = from-nothing
+
+-- ---- what the types and the policy say
+
+raises : (m : MissingColumnsPolicy) → inserts m ≡ false → m ≡ MissingColumnsPolicy.Raise
+raises MissingColumnsPolicy.Insert e = clash (cc)
+raises MissingColumnsPolicy.Raise e = refl
+
+raises-extra : (m : ExtraColumnsPolicy) → ignores m ≡ false → m ≡ ExtraColumnsPolicy.Raise
+raises-extra ExtraColumnsPolicy.Ignore e = clash (cc)
+raises-extra ExtraColumnsPolicy.Raise e = refl
+
+neither : (a b : Bool) → (a || b) ≡ false → (a ≡ false) × (b ≡ false)
+neither true b e = clash (cc)
+neither false b e = (refl, e)
+
+has-extra : (fs gs : Columns) → noExtra ByNumber fs gs ≡ false → Extra fs gs
+unfolding noExtra
+has-extra cnil gs e = clash (cc)
+has-extra (ccons l t fs) gs e = go (counterpart ByNumber l gs) refl e (λ e. has-extra fs gs e)
+  where
+    go : (x : Lookup) → counterpart ByNumber l gs ≡ x → (not (isAbsent x) && noExtra ByNumber fs gs) ≡ false → (noExtra ByNumber fs gs ≡ false → Extra fs gs)
+        → Extra (ccons l t fs) gs
+    go absent q e ih = extra-here (counterpart-lacks l gs q)
+    go (at k a u) q e ih = extra-there (ih e)
+
+unpaired : (a b : Label) → sameElement ByNumber a b ≡ false → (a .id ≡ b .id → ⊥) × (OneIsAny a b → ⊥)
+unfolding sameElement
+unpaired a b e =
+    let (e, r) = neither (eqb (a .id .0) (b .id .0) || eqb (a .id .0) elementDefaultId) (eqb (b .id .0) elementDefaultId) e in
+    let (p, q) = neither (eqb (a .id .0) (b .id .0)) (eqb (a .id .0) elementDefaultId) e in
+    ((λ s. eqb-false _ _ p (ap (λ (i : FieldId). i .0) s)), λ o. any q r o)
+  where
+    any : eqb (a .id .0) elementDefaultId ≡ false → eqb (b .id .0) elementDefaultId ≡ false → OneIsAny a b → ⊥
+    any q r (incoming-is-any s) = eqb-false _ _ q s
+    any q r (target-is-any s) = eqb-false _ _ r s
+
+-- ---- the builder
+
+module _ (p : Policy) (es : List Entry) (k : ℕ) where
+  leaf-default-refused : {i : FieldId} {t : Taken} {n : ℕ} (l : LeafType) → Origin es i t → leafDefault l t ≡ refuses n → NoDefaultFor es n i (cleaf l)
+  unfolding leafDefault sameDtype
+  leaf-default-refused l (from-failed h) e = rw (← refuses-eq e) (partition-failed h)
+  leaf-default-refused l from-nothing e = never-given e
+  leaf-default-refused l (from-given h t) e = demand-refused _ _ _ e (λ q r. rw (← r) (default-type h t q)) (λ q r. never-given r)
+
+  mutual
+    unfolding buildIcebergDefaultValue defaultsOf
+
+    default-refused : (t : ColumnType) (i : FieldId) {n : ℕ} → buildIcebergDefaultValue (getDefaultValue es k) i t ≡ refuses n → NoDefaultFor es n i t
+    default-refused (cleaf l) i e = leaf-default-refused l (origin es i k) e
+    default-refused (cstruct cs) i e = bind-refused _ _ e (λ r. for-a-field (defaults-refused cs r)) (λ g q r. never-given r)
+    default-refused (clist l t) i e = never-given e
+    default-refused (carray w l t) i e = never-given e
+
+    defaults-refused : (cs : Columns) {n : ℕ} → defaultsOf (getDefaultValue es k) cs ≡ refuses n → NoDefaultIn es n cs
+    defaults-refused cnil e = never-given e
+    defaults-refused (ccons l t cs) e =
+        bind-refused _ _ e (λ r. for-first (default-refused t (l .id) r))
+        (λ x q e. bind-refused _ _ e (λ r. for-later (defaults-refused cs r)) (λ g q r. never-given r))
+
+  mutual
+    unfolding buildIcebergDefaultValue defaultsOf leafDefault
+
+    none-refused : (t : ColumnType) (i : FieldId) {n : ℕ} → buildIcebergDefaultValue noDefaults i t ≡ refuses n → ⊥
+    none-refused (cleaf l) i e = never-given e
+    none-refused (cstruct cs) i e = bind-refused _ _ e (λ r. nones-refused cs r) (λ g q r. never-given r)
+    none-refused (clist l t) i e = never-given e
+    none-refused (carray w l t) i e = never-given e
+
+    nones-refused : (cs : Columns) {n : ℕ} → defaultsOf noDefaults cs ≡ refuses n → ⊥
+    nones-refused cnil e = never-given e
+    nones-refused (ccons l t cs) e =
+        bind-refused _ _ e (λ r. none-refused t (l .id) r) (λ x q e. bind-refused _ _ e (λ r. nones-refused cs r) (λ g q r. never-given r))
+
+  module _ (m : MissingColumnsPolicy) (r : ℕ) where
+    default-missing : (q : Place) {n : ℕ} (b : Label) (u : ColumnType) {gs fs : Columns} → Lacks fs (b .id) → missingValue (asked es k q) b u ≡ refuses n
+        → RefusesAny p es q m r n (ccons b u gs) fs
+    unfolding missingValue
+    default-missing outside b u l e = bind-refused _ _ e (λ s. missing-default l (default-refused u (b .id) s)) (λ x q s. never-given s)
+    default-missing inside b u l e = bind-refused _ _ e (λ s. absurd (none-refused u (b .id) s)) (λ x q s. never-given s)
+
+    -- a column that was found, or else is missing
+    column-refused : (q : Place) {n : ℕ} (b : Label) (u : ColumnType) {gs : Columns} (fs : Columns)
+        → ((j : Position) (t : ColumnType) → attachTransforms ByNumber p (asked es k q) u j t ≡ refuses n → Refuses p es q n u t)
+        → sought (counterpart ByNumber b fs) (missing (asked es k q) (inserts m) r b u)
+        (λ j a t. attachTransforms ByNumber p (asked es k q) u j t >>= λ s. gives (renamed ByNumber b a s)) ≡ refuses n
+        → RefusesAny p es q m r n (ccons b u gs) fs
+    unfolding sought missing
+    column-refused q {n} b u {gs} fs step e = go (counterpart ByNumber b fs) refl e
+      where
+        go : (x : Lookup) → counterpart ByNumber b fs ≡ x
+            → sought x (missing (asked es k q) (inserts m) r b u)
+            (λ j a t. attachTransforms ByNumber p (asked es k q) u j t >>= λ s. gives (renamed ByNumber b a s)) ≡ refuses n
+            → RefusesAny p es q m r n (ccons b u gs) fs
+        go absent h e =
+            let l = counterpart-lacks b fs h in
+            demand-refused _ _ _ e (λ i s. rw (← s) (missing-raised l (raises m i)))
+            (λ i e. bind-refused _ _ e (λ s. default-missing q b u l s) (λ x q s. never-given s))
+        go (at j a t) h e = bind-refused _ _ e (λ s. at-selected (counterpart-selected b fs h) (step j t s)) (λ x q s. never-given s)
+
+  -- ---- types
+
+  leaf-refused : (q : Place) (m : LeafType) (j : Position) (t : ColumnType) {n : ℕ} → (leafPart t >>= λ l. ruled (pairRule p l m) j m) ≡ refuses n
+      → Refuses p es q n (cleaf m) t
+  unfolding leafPart ruled _>>=_
+  leaf-refused q m j (cleaf l) {n} e = go (pairRule p l m) refl e
+    where
+      go : (v : Verdict) → pairRule p l m ≡ v → ruled v j m ≡ refuses n → Refuses p es q n (cleaf m) (cleaf l)
+      go untouched h e = never-given e
+      go (Verdict.refused i) h e = rw (← refuses-eq e) (leaf-pair h)
+      go (Verdict.cast o) h e = never-given e
+  leaf-refused q m j (cstruct fs) e = rw (← refuses-eq e) (other-kind (nested-for-leaf nested-struct))
+  leaf-refused q m j (clist a t) e = rw (← refuses-eq e) (other-kind (nested-for-leaf nested-list))
+  leaf-refused q m j (carray w a t) e = rw (← refuses-eq e) (other-kind (nested-for-leaf nested-array))
+
+  struct-refused : (q : Place) (gs : Columns) (j : Position) (t : ColumnType) {n : ℕ}
+      → ((fs : Columns) → attachFields ByNumber p (asked es k q) gs fs ≡ refuses n → Refuses p es q n (cstruct gs) (cstruct fs))
+      → attachTransforms ByNumber p (asked es k q) (cstruct gs) j t ≡ refuses n → Refuses p es q n (cstruct gs) t
+  unfolding attachTransforms unlessNullType choose structPart distinct _>>=_
+  struct-refused q gs j (cleaf l) ih e = rw (← refuses-eq e) (other-kind (leaf-for-nested nested-struct))
+  struct-refused q gs j (clist a t) ih e = rw (← refuses-eq e) (other-kind list-for-struct)
+  struct-refused q gs j (carray w a t) ih e = rw (← refuses-eq e) (other-kind array-for-struct)
+  struct-refused q gs j (cstruct fs) ih e =
+      demand-refused true 12 _ e (λ h i. clash (cc)) (λ h e.
+      demand-refused true 12 _ e (λ h i. clash (cc)) (λ h e.
+      demand-refused (ignores (p .«extra_struct_fields») || noExtra ByNumber fs gs) 13 _ e
+      (λ h i. let (x, y) = neither _ _ h in rw (← i) (extra-field (raises-extra _ x) (has-extra fs gs y)))
+      (λ h e. bind-refused (attachFields ByNumber p (asked es k q) gs fs) _ e (λ s. ih fs s) (λ x y s. never-given s))))
+
+  list-refused : (q : Place) (b : Label) (u : ColumnType) (j : Position) (t : ColumnType) {n : ℕ}
+      → ((t : ColumnType) → attachTransforms ByNumber p noDefaults u first t ≡ refuses n → Refuses p es inside n u t)
+      → attachTransforms ByNumber p (asked es k q) (clist b u) j t ≡ refuses n → Refuses p es q n (clist b u) t
+  unfolding attachTransforms unlessNullType choose listPart _>>=_
+  list-refused q b u j (cleaf l) ih e = rw (← refuses-eq e) (other-kind (leaf-for-nested nested-list))
+  list-refused q b u j (cstruct fs) ih e = rw (← refuses-eq e) (other-kind struct-for-list)
+  list-refused q b u j (carray w a t) ih e = rw (← refuses-eq e) (other-kind array-for-list)
+  list-refused q b u j (clist a t) ih e =
+      demand-refused (sameElement ByNumber a b) 25 _ e (λ h i. let (x, y) = unpaired a b h in rw (← i) (list-ids x y))
+      (λ h e. bind-refused (attachTransforms ByNumber p noDefaults u first t) _ e (λ s. in-list (ih t s)) (λ x y s. never-given s))
+
+  -- the element of an array of the same width
+  array-element : (q : Place) (w : ℕ) (b : Label) (u : ColumnType) (j : Position) (v : Element) {n : ℕ}
+      → ((t : ColumnType) → attachTransforms ByNumber p noDefaults u first t ≡ refuses n → Refuses p es inside n u t)
+      → demand (sameElement ByNumber (v .label) b) 25
+      (attachTransforms ByNumber p noDefaults u first (v .type) >>= λ s. gives (arraySelector j (renamed ByNumber b (v .label) s))) ≡ refuses n
+      → Refuses p es q n (carray w b u) (carray w (v .label) (v .type))
+  array-element q w b u j v ih e =
+      demand-refused (sameElement ByNumber (v .label) b) 25 _ e (λ h i. let (x, y) = unpaired (v .label) b h in rw (← i) (array-ids x y))
+      (λ h e. bind-refused (attachTransforms ByNumber p noDefaults u first (v .type)) _ e (λ s. in-array (ih (v .type) s)) (λ x y s. never-given s))
+
+  array-refused : (q : Place) (w : ℕ) (b : Label) (u : ColumnType) (j : Position) (t : ColumnType) {n : ℕ}
+      → ((t : ColumnType) → attachTransforms ByNumber p noDefaults u first t ≡ refuses n → Refuses p es inside n u t)
+      → attachTransforms ByNumber p (asked es k q) (carray w b u) j t ≡ refuses n → Refuses p es q n (carray w b u) t
+  unfolding attachTransforms unlessNullType choose arrayPart
+  array-refused q w b u j (cleaf l) ih e =
+      bind-refused _ _ e (λ s. rw (← refuses-eq s) (other-kind (leaf-for-nested nested-array))) (λ v h s. never-given (sym h))
+  array-refused q w b u j (cstruct fs) ih e = bind-refused _ _ e (λ s. rw (← refuses-eq s) (other-kind struct-for-array)) (λ v h s. never-given (sym h))
+  array-refused q w b u j (clist a t) ih e = bind-refused _ _ e (λ s. rw (← refuses-eq s) (other-kind list-for-array)) (λ v h s. never-given (sym h))
+  array-refused q w b u j (carray x a t) ih e =
+      bind-refused _ _ e (λ s. demand-refused (eqb x w) 24 _ s (λ h i. rw (← i) (other-width (λ z. eqb-false _ _ h z))) (λ h s. never-given s))
+      (λ v h e.
+      let (c, z) = demand-gives (eqb x w) 24 _ h in
+      rw (eqb-true x w c) (rw (← gives-eq z) at (array-element q w b u j v ih e)))
+
+  -- ---- columns
+
+  mutual
+    unfolding attachTransforms attachFields
+
+    type-refused : (u : ColumnType) (q : Place) (j : Position) (t : ColumnType) {n : ℕ} → attachTransforms ByNumber p (asked es k q) u j t ≡ refuses n
+        → Refuses p es q n u t
+    type-refused (cleaf m) q j t e = leaf-refused q m j t e
+    type-refused (cstruct gs) q j t e = struct-refused q gs j t (λ fs s. in-struct (fields-refused gs q fs s)) e
+    type-refused (clist b u) q j t e = list-refused q b u j t (λ t s. type-refused u inside first t s) e
+    type-refused (carray w b u) q j t e = array-refused q w b u j t (λ t s. type-refused u inside first t s) e
+
+    fields-refused : (gs : Columns) (q : Place) (fs : Columns) {n : ℕ} → attachFields ByNumber p (asked es k q) gs fs ≡ refuses n
+        → RefusesAny p es q (p .«missing_struct_fields») 14 n gs fs
+    fields-refused cnil q fs e = never-given e
+    fields-refused (ccons b u gs) q fs e =
+        bind-refused _ _ e (λ s. column-refused (p .«missing_struct_fields») 14 q b u fs (λ j t s. type-refused u q j t s) s)
+        (λ x h e. bind-refused _ _ e (λ s. at-later (fields-refused gs q fs s)) (λ y h s. never-given s))
+
+  placed-refused : {A B X : Type 0} (i : ℕ) (r : Result A) (f : A → Answer B) {n j : ℕ} → placed i r f ≡ refusedAt n j → (r ≡ refuses n → X)
+      → ((a : A) → r ≡ gives a → f a ≡ refusedAt n j → X) → X
+  unfolding placed
+  placed-refused i (gives a) f e x y = y a refl e
+  placed-refused i (refuses m) f {n} e x y = let q : m ≡ n = cc in x (ap refuses q)
+
+  answered-refused : {A B : Type 0} (r : Answer A) (f : A → B) {n j : ℕ} → answered r (λ a. accepted (f a)) ≡ refusedAt n j → r ≡ refusedAt n j
+  unfolding answered
+  answered-refused (accepted a) f e = clash (cc)
+  answered-refused (refusedAt m i) f {n} {j} e = let q : m ≡ n = cc in let r : i ≡ j = cc in rw (q, r)
+
+  columns-refused : (gs fs : Columns) (i : ℕ) {n j : ℕ} → buildFrom ByNumber p (getDefaultValue es k) gs fs i ≡ refusedAt n j
+      → RefusesAny p es outside (p .«missing_columns») 11 n gs fs
+  unfolding buildFrom buildColumnSelector
+  columns-refused cnil fs i e = clash (cc)
+  columns-refused (ccons b u gs) fs i e =
+      placed-refused i _ _ e (λ s. column-refused (p .«missing_columns») 11 outside b u fs (λ j t s. type-refused u outside j t s) s)
+      (λ x h e. at-later (columns-refused gs fs (i + 1) (answered-refused _ _ e)))
+
+  -- a build that is refused with n is refused for a listed reason
+  pub build-refused : (Γ Δ : Columns) {n j : ℕ} → build ByNumber p (getDefaultValue es k) Γ Δ ≡ refusedAt n j
+      → RefusesAny p es outside (p .«missing_columns») 11 n Δ Γ
+  unfolding build
+  build-refused Γ Δ e = columns-refused Δ Γ 0 e

@@ -1,0 +1,98 @@
+-- Where a reader of the specification reads on and document 01 refuses to build: one rule for each reason, at the
+-- column where it is met, along matched paths. 11 to 28 are document 01's numbers. A refused build is no reading; the
+-- list of reasons is complete (proofs/Refusing.antt). Nothing here rests on the builder; `pairRule` is document 01's
+-- table of leaf pairs.
+use Prim.Native.Nat.{ℕ}
+use mathlib.Core.Path.{_≡_}
+use mathlib.Core.Bool.{false}
+use mathlib.Core.List.{List, _∷_}
+use Rattle.layout.specs.Tree.{LeafType, Label, ColumnType, cleaf, cstruct, clist, carray, Columns, ccons}
+use Rattle.layout.specs.declared.columns.FieldId.{FieldId}
+use Rattle.forms.specs.Same.{sameLeaf}
+use Rattle.rules.specs.declared.policy.Policy.{Policy}
+use Rattle.rules.specs.declared.policy.MissingColumnsPolicy.{MissingColumnsPolicy}
+use Rattle.rules.specs.declared.policy.ExtraColumnsPolicy.{ExtraColumnsPolicy}
+use Rattle.rules.specs.Outcomes.{refused}
+use Rattle.rules.specs.Pairs.{pairRule}
+use Rattle.values.specs.Value.{Value, Values}
+use Rattle.defaults.specs.Table.{Given, initial, partition, failed, Entry}
+use Rattle.iceberg.specs.Specification.{HasId, Lacks}
+use Rattle.iceberg.specs.Differences.{Nested, Place, outside, inside, OneIsAny}
+
+-- ---- a table's entries
+
+-- the table gives g for the id i
+pub data EntryOf : List Entry → FieldId → Given → Type 0 where
+  entry-here : {x : Entry} {es : List Entry} {i : FieldId} {g : Given} → x .id ≡ i → x .given ≡ g → EntryOf (x ∷ es) i g
+  entry-there : {x : Entry} {es : List Entry} {i : FieldId} {g : Given} → EntryOf es i g → EntryOf (x ∷ es) i g
+
+pub data TypeGiven : Given → LeafType → Type 0 where
+  of-initial : {l : LeafType} {x : Value} → TypeGiven (initial l x) l
+  of-partition : {l : LeafType} {xs : Values} → TypeGiven (partition l xs) l
+
+-- ---- types
+
+-- the file's type t is of another kind than the table's u. A column of null (unknown) is a leaf here: by the
+-- specification it reads in every type.
+pub data OtherKind : ColumnType → ColumnType → Type 0 where
+  nested-for-leaf : {m : LeafType} {t : ColumnType} → Nested t → OtherKind (cleaf m) t
+  leaf-for-nested : {u : ColumnType} {l : LeafType} → Nested u → OtherKind u (cleaf l)
+  list-for-struct : {gs : Columns} {a : Label} {t : ColumnType} → OtherKind (cstruct gs) (clist a t)
+  array-for-struct : {gs : Columns} {w : ℕ} {a : Label} {t : ColumnType} → OtherKind (cstruct gs) (carray w a t)
+  struct-for-list : {b : Label} {u : ColumnType} {fs : Columns} → OtherKind (clist b u) (cstruct fs)
+  array-for-list : {b : Label} {u : ColumnType} {w : ℕ} {a : Label} {t : ColumnType} → OtherKind (clist b u) (carray w a t)
+  struct-for-array : {w : ℕ} {b : Label} {u : ColumnType} {fs : Columns} → OtherKind (carray w b u) (cstruct fs)
+  list-for-array : {w : ℕ} {b : Label} {u : ColumnType} {a : Label} {t : ColumnType} → OtherKind (carray w b u) (clist a t)
+
+-- a column of fs has an id that gs lacks
+pub data Extra : Columns → Columns → Type 0 where
+  extra-here : {l : Label} {t : ColumnType} {fs gs : Columns} → Lacks gs (l .id) → Extra (ccons l t fs) gs
+  extra-there : {l : Label} {t : ColumnType} {fs gs : Columns} → Extra fs gs → Extra (ccons l t fs) gs
+
+-- ---- the reasons
+
+module _ (es : List Entry) where
+  mutual
+    -- `NoDefaultFor n i u`: for the field i of the type u, which the file lacks, the table's entries are refused with n
+    pub data NoDefaultFor : ℕ → FieldId → ColumnType → Type 0 where
+      -- a partition that failed to load is an error
+      partition-failed : {i : FieldId} {l : LeafType} → EntryOf es i failed → NoDefaultFor 26 i (cleaf l)
+      -- a default of another type
+      default-type : {i : FieldId} {g : Given} {l m : LeafType} → EntryOf es i g → TypeGiven g m → sameLeaf m l ≡ false → NoDefaultFor 28 i (cleaf l)
+      for-a-field : {n : ℕ} {i : FieldId} {cs : Columns} → NoDefaultIn n cs → NoDefaultFor n i (cstruct cs)
+
+    pub data NoDefaultIn : ℕ → Columns → Type 0 where
+      for-first : {n : ℕ} {l : Label} {t : ColumnType} {cs : Columns} → NoDefaultFor n (l .id) t → NoDefaultIn n (ccons l t cs)
+      for-later : {n : ℕ} {l : Label} {t : ColumnType} {cs : Columns} → NoDefaultIn n cs → NoDefaultIn n (ccons l t cs)
+
+module _ (p : Policy) (es : List Entry) where
+  mutual
+    -- `Refuses q n u t`: the file's type t is not read as the table's type u, n says why
+    pub data Refuses : Place → ℕ → ColumnType → ColumnType → Type 0 where
+      -- conversion of a leaf: the rule of its pair, policy included
+      leaf-pair : {q : Place} {n : ℕ} {l m : LeafType} → pairRule p l m ≡ refused n → Refuses q n (cleaf m) (cleaf l)
+      -- kinds differ, null against a nested type included
+      other-kind : {q : Place} {u t : ColumnType} → OtherKind u t → Refuses q 24 u t
+      -- arrays of unequal widths
+      other-width : {q : Place} {w x : ℕ} {a b : Label} {u t : ColumnType} → (x ≡ w → ⊥) → Refuses q 24 (carray w b u) (carray x a t)
+      -- element ids are compared
+      list-ids : {q : Place} {a b : Label} {u t : ColumnType} → (a .id ≡ b .id → ⊥) → (OneIsAny a b → ⊥) → Refuses q 25 (clist b u) (clist a t)
+      array-ids : {q : Place} {w : ℕ} {a b : Label} {u t : ColumnType} → (a .id ≡ b .id → ⊥) → (OneIsAny a b → ⊥) → Refuses q 25 (carray w b u) (carray w a t)
+      in-list : {q : Place} {n : ℕ} {a b : Label} {u t : ColumnType} → Refuses inside n u t → Refuses q n (clist b u) (clist a t)
+      in-array : {q : Place} {n w : ℕ} {a b : Label} {u t : ColumnType} → Refuses inside n u t → Refuses q n (carray w b u) (carray w a t)
+      -- Raise: an extra field
+      extra-field : {q : Place} {gs fs : Columns} → p .«extra_struct_fields» ≡ ExtraColumnsPolicy.Raise → Extra fs gs → Refuses q 13 (cstruct gs) (cstruct fs)
+      in-struct : {q : Place} {n : ℕ} {gs fs : Columns} → RefusesAny q (p .«missing_struct_fields») 14 n gs fs → Refuses q n (cstruct gs) (cstruct fs)
+
+    -- `RefusesAny q m r n gs fs`: one of the table's columns gs is not read from the file's fs; r is the number of a
+    -- missing one under Raise
+    pub data RefusesAny : Place → MissingColumnsPolicy → ℕ → ℕ → Columns → Columns → Type 0 where
+      at-selected : {q : Place} {m : MissingColumnsPolicy} {r n k : ℕ} {b : Label} {u t : ColumnType} {gs fs : Columns} → HasId fs (b .id) k t → Refuses q n u t
+          → RefusesAny q m r n (ccons b u gs) fs
+      -- Raise: a missing field
+      missing-raised : {q : Place} {m : MissingColumnsPolicy} {r : ℕ} {b : Label} {u : ColumnType} {gs fs : Columns} → Lacks fs (b .id)
+          → m ≡ MissingColumnsPolicy.Raise → RefusesAny q m r r (ccons b u gs) fs
+      missing-default : {m : MissingColumnsPolicy} {r n : ℕ} {b : Label} {u : ColumnType} {gs fs : Columns} → Lacks fs (b .id) → NoDefaultFor es n (b .id) u
+          → RefusesAny outside m r n (ccons b u gs) fs
+      at-later : {q : Place} {m : MissingColumnsPolicy} {r n : ℕ} {b : Label} {u : ColumnType} {gs fs : Columns} → RefusesAny q m r n gs fs
+          → RefusesAny q m r n (ccons b u gs) fs
