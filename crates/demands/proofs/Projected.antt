@@ -82,11 +82,11 @@ module _ {p : Policy} {d : Defaults} {incoming target bytes rec : Bytes} (B : Bu
 
 -- For every plan that `buildByNumber` writes, with the defaults table that was read, and every record that fits the
 -- incoming layout: where the run accepts, the record that it writes, read with the target's layout, is the reading of
--- the row. Whether a null partition value is present and which fields default to `{}` or `[]` is free.
+-- the row. (That it fits the target's layout is `run-passed`, Demands.antt.) Whether a null partition value is present
+-- and which fields default to `{}` or `[]` is free.
 module _ (p : Policy) (index : ℕ) (incoming target defaults rec : Bytes) (oi : AllBytes incoming) (ot : AllBytes target) (od : AllBytes defaults)
-    (or : AllBytes rec) (space : ℕ) {bytes : Bytes}
-    (built : buildByNumber p index incoming target defaults space ≡ accepted bytes) (es : List Entry) {e : ℕ} (read : table defaults ≡ ok es e)
-    (F : FitsLayout incoming rec) (room : ℕ) {out : Bytes}
+    (or : AllBytes rec) (space : ℕ) {bytes : Bytes} (built : buildByNumber p index incoming target defaults space ≡ accepted bytes)
+    (es : List Entry) {e : ℕ} (read : table defaults ≡ ok es e) (F : FitsLayout incoming rec) (room : ℕ) {out : Bytes}
     (ran : runPlan incoming target bytes rec room ≡ accepted out) (G : FitsLayout target out) (nulls : Bool) (empties : FieldId → Bool) where
   -- (a) It reads by the specification's rules, but for the listed differences that the reading names,
   pub by-number-reads : AllRead dueLeaf (stated nulls es index empties) outside (columnsOf G) (columnsOf F) (F .values) (G .values)
