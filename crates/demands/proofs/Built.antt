@@ -12,13 +12,12 @@ use Rattle.values.specs.Fits.{FitsAll}
 use Rattle.values.specs.Record.{recordOf}
 use Rattle.plan.specs.Result.{gives, demand, Answer, accepted, refusedAt, placed, answered}
 use Rattle.plan.specs.Encode.{encodePlan}
-use lib.Dec.{eqb}
 use Rattle.plan.specs.Selector.{Selectors}
 use Rattle.plan.specs.Read.{plan}
 use Rattle.plan.specs.Run.{written, run}
 use Rattle.plan.specs.Calls.{readAt, readPlan, checkPlan, runPlan}
 use Rattle.matching.proofs.Calls.{of-version, Built}
-use Rattle.plan.proofs.Results.{both}
+use Rattle.plan.proofs.Results.{both, true≠false}
 use Rattle.matching.specs.Default.{Defaults, noDefaults}
 use Rattle.matching.specs.Build.{build}
 use Rattle.matching.specs.Calls.{sameVersion, ofVersion, bothLayouts, roomFor, writtenPlan, buildByName, buildByNumber}
@@ -29,8 +28,10 @@ use Rattle.rules.specs.declared.policy.Policy.{Policy}
 use Rattle.layout.specs.declared.version.Version.{Version}
 use Rattle.layout.specs.declared.version.Version.the-variants.{ByName, ByNumber}
 use Rattle.values.proofs.Round.{record-back}
-use Rattle.demands.proofs.Numbers.{OtherAnswer, OtherDefaults, other-none, other-table, other-build}
+use Rattle.demands.specs.Refusals.{isIn, columnRefusals}
 use Rattle.demands.specs.Stated.{FitsLayout, LayoutOf, columnsOf, PlanTooLong, NumberTooLong}
+use Rattle.demands.proofs.Refusing.{Answers, in-accepted, in-refusedAt, ColumnRefusal}
+use Rattle.demands.proofs.Numbers.{DefaultsIn, none-in, lookup-in, build-in}
 use Rattle.demands.proofs.Passed.{ok-eq, number-eq}
 
 pub built-passes : {v : Version} {p : Policy} {d : Defaults} {incoming target bytes : Bytes} → Built v p d incoming target bytes → checkPlan incoming target bytes ≡ accepted tt
@@ -78,10 +79,17 @@ written-long space ss e = go (roomFor space (encodePlan ss)) refl
     go true q = let w = written-fits space ss q in clash (cc)
     go false q = q
 
-built-long : (space : ℕ) (x : Answer Selectors) → OtherAnswer x → answered x (λ ss. writtenPlan space ss) ≡ refusedAt 27 0 → (ss : Selectors) × (x ≡ accepted ss) × (roomFor space (encodePlan ss) ≡ false)
+-- no column is refused with 27
+no-column : (v : Version) → isIn 27 (columnRefusals v) ≡ false
+unfolding isIn
+no-column ByName = refl
+no-column ByNumber = refl
+
+built-long : (v : Version) (space : ℕ) {count : ℕ} {x : Answer Selectors} → Answers (λ ss. Unit {0}) (ColumnRefusal (columnRefusals v) count) x
+    → answered x (λ ss. writtenPlan space ss) ≡ refusedAt 27 0 → (ss : Selectors) × (x ≡ accepted ss) × (roomFor space (encodePlan ss) ≡ false)
 unfolding answered
-built-long space (accepted ss) o e = (ss, refl, written-long space ss e)
-built-long space (refusedAt n k) o e = let q : true ≡ false = ap (λ (m : ℕ). eqb m 27) (sym (number-eq e)) ∙ o in clash (cc)
+built-long v space (in-accepted {a = ss} u) e = (ss, refl, written-long space ss e)
+built-long v space (in-refusedAt R) e = true≠false (ap (λ (m : ℕ). isIn m (columnRefusals v)) (sym (number-eq e)) ∙ R .among) (no-column v)
 
 -- a result that was read, where the refusals of reading have another place than 0
 read-past : {A B : Type 0} (k : ℕ) (r : Res A) (f : A → Answer B) {n : ℕ} → (k ≡ 0 → ⊥) → readAt k r f ≡ refusedAt n 0 → (a : A) × (m : ℕ) × (r ≡ ok a m) × (f a ≡ refusedAt n 0)
@@ -106,17 +114,17 @@ module _ (v : Version) (p : Policy) (incoming target : Bytes) (space : ℕ) wher
       let (c, d) = both (sameVersion v (x .version)) c in
       (x .columns, y .columns, m, n, of-version v incoming x q c, of-version v target y r d, e)
 
-  built-past : (d : Defaults) → OtherDefaults d → (a b : Columns) (m n : ℕ) → layout incoming ≡ ok (record { version = v; columns = a }) m → layout target ≡ ok (record { version = v; columns = b }) n
+  built-past : (d : Defaults) → DefaultsIn (columnRefusals v) d → (a b : Columns) (m n : ℕ) → layout incoming ≡ ok (record { version = v; columns = a }) m → layout target ≡ ok (record { version = v; columns = b }) n
       → answered (build v p d a b) (λ ss. writtenPlan space ss) ≡ refusedAt 27 0 → PlanTooLong v p d incoming target space
   built-past d o a b m n q r e =
-      let (ss, h, l) = built-long space (build v p d a b) (other-build v p d a b o) e in
+      let (ss, h, l) = built-long v space (build-in v p d o a b) e in
       record { defined = record { from = a; to = b; fromEnd = m; toEnd = n; incomingRead = q; targetRead = r; selectors = ss; built = h }; long = l }
 
 pub by-name-past : (p : Policy) (incoming target : Bytes) (space : ℕ) → buildByName p incoming target space ≡ refusedAt 27 0 → PlanTooLong ByName p noDefaults incoming target space
 unfolding buildByName
 by-name-past p incoming target space e =
     let (a, b, m, n, q, r, e) = layouts-past ByName p incoming target space _ e in
-    built-past ByName p incoming target space noDefaults other-none a b m n q r e
+    built-past ByName p incoming target space noDefaults (none-in (columnRefusals ByName)) a b m n q r e
 
 pub by-name-back : (p : Policy) (incoming target : Bytes) (space : ℕ) → PlanTooLong ByName p noDefaults incoming target space → buildByName p incoming target space ≡ refusedAt 27 0
 unfolding buildByName bothLayouts ofVersion readAt placed demand answered
@@ -127,7 +135,7 @@ unfolding buildByNumber
 by-number-past p index incoming target defaults space e =
     let (a, b, m, n, q, r, e) = layouts-past ByNumber p incoming target space _ e in
     let (es, k, t, e) = read-past 3 (table defaults) _ (λ h. omega (arith, h)) e in
-    record { entries = es; end = k; reads = t; plan = built-past ByNumber p incoming target space (getDefaultValue es index) (other-table es index) a b m n q r e }
+    record { entries = es; end = k; reads = t; plan = built-past ByNumber p incoming target space (getDefaultValue es index) (lookup-in es index) a b m n q r e }
 
 pub by-number-back : (p : Policy) (index : ℕ) (incoming target defaults : Bytes) (space : ℕ) → NumberTooLong p index incoming target defaults space → buildByNumber p index incoming target defaults space ≡ refusedAt 27 0
 unfolding buildByNumber bothLayouts ofVersion readAt placed demand answered

@@ -3,12 +3,13 @@
 use Prim.Native.Nat.{ℕ}
 use mathlib.Core.Path.{_≡_, refl, sym, ap, _∙_, subst}
 use lib.ListN.{length, drop}
-use mathlib.Core.List.{List, _++_}
+use mathlib.Core.List.{List, [], _∷_, _++_}
 use mathlib.Core.Bool.{false}
 use mathlib.Core.Logic.{_↔_}
 use Rattle.layout.specs.Bytes.{Bytes, AllBytes}
 use Rattle.layout.specs.Parser.{ok}
 use Rattle.layout.specs.Tree.{Layout, Label, ColumnType}
+use Rattle.layout.specs.Layout.{layout}
 use Rattle.plan.specs.Result.{accepted, refusedAt}
 use Rattle.plan.specs.Selector.{Selector, Selectors}
 use Rattle.plan.specs.Run.{spacious, written}
@@ -26,7 +27,10 @@ use Rattle.rules.specs.declared.policy.Policy.{Policy}
 use Rattle.layout.specs.Find.{at, columnAt}
 use Rattle.layout.specs.declared.columns.Position.{Position}
 use Rattle.layout.specs.declared.version.Version.the-variants.{ByName, ByNumber}
+use Rattle.demands.specs.Refusals.{readingLayout, building, checkingPlan, running, refusalIn, Refusal, readLayout, layoutsRead, tableRead, columnCount, selectorCount}
 use Rattle.demands.specs.Stated.{FitsLayout, SelectorsOf, LayoutOf, columnsOf, output, Running, PlanTooLong, NumberTooLong}
+use Rattle.demands.proofs.Refusing.{refused-as}
+use Rattle.demands.proofs.Refusals.{read-layout-in, by-name-in, by-number-in, check-plan-in, run-plan-in}
 use Rattle.demands.proofs.Passed.{passed-runs, exceeds-exactly, ok-eq}
 use Rattle.demands.proofs.Built.{built-passes, built-due, by-name-past, by-name-back, by-number-past, by-number-back}
 
@@ -39,6 +43,33 @@ refused-unchanged n k buffer = refl
 -- "An accepted build or run .. writes the result from the buffer's start and changes no byte after it" (document 01).
 pub accepted-written : (result buffer : Bytes) → bufferAfter (accepted result) buffer ≡ result ++ drop (length result) buffer
 accepted-written result buffer = refl
+
+-- "It returns its number from document 01": a refused call's number is in the call's list (`refusalsOf`) and never 0, and its place is the one that goes
+-- with the number: of 1 to 6 that of the first layout or table that is refused, which is refused with this number; of 11 to 26 and 28 a position below the
+-- number of the target's columns, of 31 and 32 below that of the plan's top selectors; of all others 0 (`Refusal`, specs/Refusals.antt). How number and place
+-- are read out of the word that a call returns stands in crate selector, proofs/Decoded.antt.
+
+pub read-layout-refused : (s : Bytes) {n k : ℕ} → readLayout s ≡ refusedAt n k → Refusal readingLayout (refusalIn (layout s) ∷ []) 0 n k
+read-layout-refused s e = refused-as (read-layout-in s) e
+
+module _ (p : Policy) (incoming target : Bytes) (space : ℕ) where
+  pub by-name-refused : {n k : ℕ} → buildByName p incoming target space ≡ refusedAt n k
+      → Refusal (building ByName) (layoutsRead incoming target []) (columnCount target) n k
+  by-name-refused e = refused-as (by-name-in p incoming target space) e
+
+module _ (p : Policy) (index : ℕ) (incoming target defaults : Bytes) (space : ℕ) where
+  pub by-number-refused : {n k : ℕ} → buildByNumber p index incoming target defaults space ≡ refusedAt n k
+      → Refusal (building ByNumber) (layoutsRead incoming target (tableRead defaults)) (columnCount target) n k
+  by-number-refused e = refused-as (by-number-in p index incoming target defaults space) e
+
+module _ (incoming target bytes : Bytes) where
+  pub check-refused : {n k : ℕ} → checkPlan incoming target bytes ≡ refusedAt n k
+      → Refusal checkingPlan (layoutsRead incoming target []) (selectorCount bytes) n k
+  check-refused e = refused-as (check-plan-in incoming target bytes) e
+
+  pub run-refused : (rec : Bytes) (room : ℕ) {n k : ℕ} → runPlan incoming target bytes rec room ≡ refusedAt n k
+      → Refusal running (layoutsRead incoming target []) (selectorCount bytes) n k
+  run-refused rec room e = refused-as (run-plan-in incoming target bytes rec room) e
 
 -- ---- Demand 3: "For every plan that passes the check from one layout to another, and every record that fits the first: the run refuses with 44 exactly when a strict cast that it
 -- reaches multiplies a non-null date-time beyond signed 64 bits. Otherwise, given space, it writes a record that fits the second; short of space it refuses with 45, and

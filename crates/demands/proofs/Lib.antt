@@ -1,4 +1,8 @@
+pub mod Refusing
+pub mod Parsers
 pub mod Numbers
+pub mod Selectors
+pub mod Refusals
 pub mod Passed
 pub mod Built
 pub mod Demands

@@ -1,261 +1,273 @@
--- No build is refused with 27 but for its plan's length: what is refused before has another number. Assumes nothing.
-use Prim.Native.Nat.{ℕ, zero, suc, _+_}
-use mathlib.Core.Path.{_≡_, refl, sym, _∙_}
+-- With which numbers a build can refuse, over trees; a column's refusal has the column's position. Assumes nothing.
+use Prim.Native.Nat.{ℕ, zero, suc, _+_, _≤_}
+use mathlib.Core.Path.{_≡_, refl}
 use mathlib.Core.Bool.{Bool, true, false, _&&_, _||_}
 use mathlib.Core.List.{List, [], _∷_}
-use lib.Dec.{eqb}
+use native.Mathlib.Omega.{arith}
+use lib.ListN.{length}
+use lib.Dec.{leb}
+use borrow.Author.Tests.{leb-true}
 use Rattle.layout.specs.Parser.{choose}
-use Rattle.layout.specs.Tree.{LeafType, leafOf, zoneOf, leaf, Label, ColumnType, cleaf, cstruct, clist, carray, Columns, cnil, ccons}
+use Rattle.layout.specs.Tree.{LeafType, leafOf, zoneOf, Label, ColumnType, cleaf, cstruct, clist, carray, Columns, cnil, ccons, countColumns}
 use Rattle.layout.specs.Find.{Lookup, absent, at}
 use Rattle.layout.specs.declared.columns.FieldId.{FieldId}
 use Rattle.layout.specs.declared.columns.Position.{Position}
 use Rattle.layout.specs.declared.version.Version.{Version}
+use Rattle.layout.specs.declared.version.Version.the-variants.{ByName, ByNumber}
 use Rattle.rules.specs.declared.policy.Policy.{Policy}
-use Rattle.rules.specs.Choice.{if_then_else_}
 use Rattle.rules.specs.declared.outcome.CastOption.{CastOption}
-use Rattle.rules.specs.declared.outcome.CastOption.the-variants.{NonStrict, Overflowing}
+use Rattle.rules.specs.Choice.{if_then_else_}
 use Rattle.rules.specs.Outcomes.{Verdict, untouched, refused, cast, need}
 use Rattle.rules.specs.Zones.{zonesOf, sameAsUtc}
 use Rattle.rules.specs.Classes.{isNull, isInteger, isFloat, isDatetime, unit, isCategorical, isString}
 use Rattle.rules.specs.Promotion.{holds}
-use Rattle.rules.specs.Chain.{sameType, wider, unitAllowed, unitOption, chain}
+use Rattle.rules.specs.Chain.{sameType, wider, unitAllowed, chain}
 use Rattle.rules.specs.Pairs.{pairRule}
-use Rattle.forms.specs.Same.{sameDtype}
 use Rattle.values.specs.Value.{Value, Values, vnil, vcons}
-use Rattle.plan.specs.Result.{Result, gives, refuses, _>>=_, demand, Answer, accepted, refusedAt, placed, answered}
+use Rattle.plan.specs.Result.{Result, gives, refuses, demand, accepted, placed}
 use Rattle.plan.specs.Selector.{Selector, Selectors}
+use Rattle.plan.specs.Encode.{encodePlan}
+use Rattle.plan.specs.Read.{longestPlan}
+use Rattle.plan.proofs.Results.{both}
 use Rattle.defaults.specs.Table.{Given, initial, partition, failed, Entry}
 use Rattle.defaults.specs.Lookup.{Taken, refused as refusedTaken, nothing, taken, isNullValue, unlessNull, ofSource, givenTo, firstEntry, isPartitionOf, isInitialOf, getDefaultValue}
 use Rattle.matching.specs.Default.{Defaults, noDefaults, leafDefault, buildIcebergDefaultValue, defaultsOf, missingValue}
-use Rattle.matching.specs.Build.{leafPart, structPart, listPart, arrayPart, unlessNullType, renamed, missing, ruled, sought, attachTransforms, attachFields, buildColumnSelector, buildFrom, build}
+use Rattle.matching.specs.Build.{leafPart, structPart, listPart, arrayPart, unlessNullType, sameElement, distinct, distinctNames, missing, ruled, sought, attachTransforms, attachFields, buildColumnSelector, buildFrom, build}
+use Rattle.matching.specs.Calls.{roomFor, writtenPlan}
+use Rattle.demands.specs.Refusals.{isIn, pairRefusals, columnRefusals}
+use Rattle.demands.proofs.Refusing.{all, all-in, ResultIn, in-gives, in-refuses, bind-in, demand-in, result-choose-in, Answers, in-accepted, in-refusedAt, placed-in, answered-in, ColumnRefusal}
 
--- the number of a refusal is not 27
-abbrev pub Other : {A : Type 0} → Result A → Type 0
-Other (gives a) = Unit {0}
-Other (refuses n) = eqb n 27 ≡ false
-
-abbrev OtherVerdict : Verdict → Type 0
-OtherVerdict untouched = Unit {0}
-OtherVerdict (refused n) = eqb n 27 ≡ false
-OtherVerdict (cast o) = Unit {0}
-
-abbrev OtherTaken : Taken → Type 0
-OtherTaken (refusedTaken n) = eqb n 27 ≡ false
-OtherTaken nothing = Unit {0}
-OtherTaken (taken l v) = Unit {0}
-
-abbrev pub OtherAnswer : {A : Type 0} → Answer A → Type 0
-OtherAnswer (accepted a) = Unit {0}
-OtherAnswer (refusedAt n k) = eqb n 27 ≡ false
-
--- ---- binds and tests
-
-bound : {A B : Type 0} (x : Result A) (f : A → Result B) → Other x → ((a : A) → Other (f a)) → Other (x >>= f)
-unfolding _>>=_
-bound (gives a) f o g = g a
-bound (refuses n) f o g = o
-
-tested : {A : Type 0} (b : Bool) (n : ℕ) (r : Result A) → eqb n 27 ≡ false → Other r → Other (demand b n r)
-unfolding demand
-tested true n r e o = o
-tested false n r e o = e
-
-chosen : {A : Type 0} (b : Bool) (x y : Result A) → Other x → Other y → Other (choose b x y)
-unfolding choose
-chosen true x y o p = o
-chosen false x y o p = p
-
-either : (b : Bool) (x y : Verdict) → OtherVerdict x → OtherVerdict y → OtherVerdict (if b then x else y)
-either true x y o p = o
-either false x y o p = p
+-- a target column refuses with a number of its list
+abbrev ColumnIn : {A : Type 0} → Version → Result A → Type 0
+ColumnIn v r = ResultIn (columnRefusals v) r
 
 -- ---- leaf pairs
 
-other-chain : (same null both wider float toFloat time text : Bool) (n15 n16 n17 n18 n19 n20 n21 n22 n23 : Bool) (c : CastOption)
-    → OtherVerdict
-    (if same then untouched
-    else if null then need n15 15 (cast NonStrict)
-    else if both then need n16 16 (need n17 17 (cast Overflowing))
-    else if wider then need n18 18 (cast NonStrict)
-    else if float then need n19 19 (cast NonStrict)
-    else if toFloat then need n20 20 (cast Overflowing)
-    else if time then need n21 21 (need n22 22 (cast c))
-    else if text then need n23 23 (cast NonStrict)
-    else refused 24)
-other-chain true b₂ b₃ b₄ b₅ b₆ b₇ b₈ n15 n16 n17 n18 n19 n20 n21 n22 n23 c = tt
-other-chain false true b₃ b₄ b₅ b₆ b₇ b₈ n15 n16 n17 n18 n19 n20 n21 n22 n23 c = either n15 (cast NonStrict) (refused 15) tt refl
-other-chain false false true b₄ b₅ b₆ b₇ b₈ n15 n16 n17 n18 n19 n20 n21 n22 n23 c =
-    either n16 (if n17 then cast Overflowing else refused 17) (refused 16) (either n17 (cast Overflowing) (refused 17) tt refl) refl
-other-chain false false false true b₅ b₆ b₇ b₈ n15 n16 n17 n18 n19 n20 n21 n22 n23 c = either n18 (cast NonStrict) (refused 18) tt refl
-other-chain false false false false true b₆ b₇ b₈ n15 n16 n17 n18 n19 n20 n21 n22 n23 c = either n19 (cast NonStrict) (refused 19) tt refl
-other-chain false false false false false true b₇ b₈ n15 n16 n17 n18 n19 n20 n21 n22 n23 c = either n20 (cast Overflowing) (refused 20) tt refl
-other-chain false false false false false false true b₈ n15 n16 n17 n18 n19 n20 n21 n22 n23 c =
-    either n21 (if n22 then cast c else refused 22) (refused 21) (either n22 (cast c) (refused 22) tt refl) refl
-other-chain false false false false false false false true n15 n16 n17 n18 n19 n20 n21 n22 n23 c = either n23 (cast NonStrict) (refused 23) tt refl
-other-chain false false false false false false false false n15 n16 n17 n18 n19 n20 n21 n22 n23 c = refl
+data VerdictIn (ns : List ℕ) : Verdict → Type 0 where
+  in-untouched : VerdictIn ns untouched
+  in-refused : {n : ℕ} → isIn n ns ≡ true → VerdictIn ns (refused n)
+  in-cast : {o : CastOption} → VerdictIn ns (cast o)
 
-other-pair : (p : Policy) (i t : LeafType) → OtherVerdict (pairRule p i t)
-unfolding pairRule chain
-other-pair p i t =
+test-in : {ns : List ℕ} (b : Bool) {x y : Verdict} → VerdictIn ns x → VerdictIn ns y → VerdictIn ns (if b then x else y)
+test-in true o p = o
+test-in false o p = p
+
+need-in : {ns : List ℕ} (b : Bool) (n : ℕ) {x : Verdict} → isIn n ns ≡ true → VerdictIn ns x → VerdictIn ns (need b n x)
+need-in b n e o = test-in b o (in-refused e)
+
+pair-in : (p : Policy) (i t : LeafType) → VerdictIn pairRefusals (pairRule p i t)
+unfolding pairRule chain isIn
+pair-in p i t =
     let z = zonesOf (zoneOf i) (zoneOf t) in
     let a = leafOf i in
     let b = leafOf t in
-    other-chain (sameType z a b) (isNull a) (isInteger a && isInteger b) (isFloat a && isFloat b && wider b a) (isFloat a && isFloat b) (isInteger a && isFloat b) (isDatetime a && isDatetime b)
-    (isCategorical a && isString b) (p .«null_upcast») (p .«integer_upcast») (holds b a) (p .«float_upcast») (p .«float_downcast») (p .«integer_to_float_cast»)
-    (p .«datetime_convert_timezone» || sameAsUtc z) (unitAllowed p (unit a) (unit b)) (p .«categorical_to_string») (unitOption (unit a) (unit b))
-
-other-ruled : (x : Verdict) (k : Position) (u : LeafType) → OtherVerdict x → Other (ruled x k u)
-unfolding ruled
-other-ruled untouched k u o = tt
-other-ruled (refused n) k u o = o
-other-ruled (cast c) k u o = tt
+    test-in (sameType z a b) in-untouched
+    (test-in (isNull a) (need-in (p .«null_upcast») 15 refl in-cast)
+    (test-in (isInteger a && isInteger b) (need-in (p .«integer_upcast») 16 refl (need-in (holds b a) 17 refl in-cast))
+    (test-in (isFloat a && isFloat b && wider b a) (need-in (p .«float_upcast») 18 refl in-cast)
+    (test-in (isFloat a && isFloat b) (need-in (p .«float_downcast») 19 refl in-cast)
+    (test-in (isInteger a && isFloat b) (need-in (p .«integer_to_float_cast») 20 refl in-cast)
+    (test-in (isDatetime a && isDatetime b)
+    (need-in (p .«datetime_convert_timezone» || sameAsUtc z) 21 refl (need-in (unitAllowed p (unit a) (unit b)) 22 refl in-cast))
+    (test-in (isCategorical a && isString b) (need-in (p .«categorical_to_string») 23 refl in-cast)
+    (in-refused refl))))))))
 
 -- ---- defaults
 
-pub OtherDefaults : Defaults → Type 0
-OtherDefaults d = (i : FieldId) → OtherTaken (d i)
+-- a value that is taken may have another type: 28
+pub data TakenIn (ns : List ℕ) : Taken → Type 0 where
+  in-failed : {n : ℕ} → isIn n ns ≡ true → TakenIn ns (refusedTaken n)
+  in-nothing : TakenIn ns nothing
+  in-taken : {l : LeafType} {v : Value} → isIn 28 ns ≡ true → TakenIn ns (taken l v)
 
-pub other-none : OtherDefaults noDefaults
-unfolding OtherDefaults
-other-none i = tt
+pub record DefaultsIn (ns : List ℕ) (d : Defaults) : Type 0 where
+  pub at : (i : FieldId) → TakenIn ns (d i)
 
-taken-chosen : (b : Bool) (x y : Taken) → OtherTaken x → OtherTaken y → OtherTaken (choose b x y)
-unfolding choose
-taken-chosen true x y o p = o
-taken-chosen false x y o p = p
+pub none-in : (ns : List ℕ) → DefaultsIn ns noDefaults
+none-in ns = record { at = λ i. in-nothing }
 
-other-unless : (l : LeafType) (v : Value) → OtherTaken (unlessNull l v)
-unfolding unlessNull
-other-unless l v = taken-chosen (isNullValue v) nothing (taken l v) tt tt
+-- what a table gives, by number
+abbrev Looked : Taken → Type 0
+Looked x = TakenIn (columnRefusals ByNumber) x
 
-other-source : (l : LeafType) (vs : Values) (k : ℕ) → OtherTaken (ofSource l vs k)
+unless-in : (l : LeafType) (v : Value) → Looked (unlessNull l v)
+unfolding unlessNull choose isIn
+unless-in l v = go (isNullValue v)
+  where
+    go : (b : Bool) → Looked (choose b nothing (taken l v))
+    go true = in-nothing
+    go false = in-taken refl
+
+source-in : (l : LeafType) (vs : Values) (k : ℕ) → Looked (ofSource l vs k)
 unfolding ofSource
-other-source l vnil k = tt
-other-source l (vcons v vs) zero = other-unless l v
-other-source l (vcons v vs) (suc k) = other-source l vs k
+source-in l vnil k = in-nothing
+source-in l (vcons v vs) zero = unless-in l v
+source-in l (vcons v vs) (suc k) = source-in l vs k
 
-other-given : (k : ℕ) (g : Given) → OtherTaken (givenTo k g)
-unfolding givenTo
-other-given k (initial l v) = other-unless l v
-other-given k (partition l vs) = other-source l vs k
-other-given k failed = refl
+given-in : (k : ℕ) (g : Given) → Looked (givenTo k g)
+unfolding givenTo isIn
+given-in k (initial l v) = unless-in l v
+given-in k (partition l vs) = source-in l vs k
+given-in k failed = in-failed refl
 
-other-first : (f : Entry → Bool) (k : ℕ) (es : List Entry) (r : Taken) → OtherTaken r → OtherTaken (firstEntry f (givenTo k) es r)
-unfolding firstEntry
-other-first f k [] r o = o
-other-first f k (e ∷ es) r o = taken-chosen (f e) _ _ (other-given k (e .given)) (other-first f k es r o)
+first-in : (f : Entry → Bool) (k : ℕ) (es : List Entry) {r : Taken} → Looked r → Looked (firstEntry f (givenTo k) es r)
+unfolding firstEntry choose
+first-in f k [] o = o
+first-in f k (e ∷ es) {r} o = go (f e) (first-in f k es o)
+  where
+    go : (b : Bool) → Looked (firstEntry f (givenTo k) es r) → Looked (choose b (givenTo k (e .given)) (firstEntry f (givenTo k) es r))
+    go true p = given-in k (e .given)
+    go false p = p
 
-pub other-table : (es : List Entry) (k : ℕ) → OtherDefaults (getDefaultValue es k)
-unfolding OtherDefaults getDefaultValue
-other-table es k i = other-first (isPartitionOf i) k es _ (other-first (isInitialOf i) k es nothing tt)
+pub lookup-in : (es : List Entry) (k : ℕ) → DefaultsIn (columnRefusals ByNumber) (getDefaultValue es k)
+unfolding getDefaultValue
+lookup-in es k = record { at = λ i. first-in (isPartitionOf i) k es (first-in (isInitialOf i) k es in-nothing) }
 
-other-leaf : (l : LeafType) (x : Taken) → OtherTaken x → Other (leafDefault l x)
+leaf-default-in : {ns : List ℕ} (l : LeafType) {x : Taken} → TakenIn ns x → ResultIn ns (leafDefault l x)
 unfolding leafDefault
-other-leaf l (refusedTaken n) o = o
-other-leaf l nothing o = tt
-other-leaf l (taken m v) o = tested (sameDtype (leaf m) (leaf l)) 28 _ refl tt
+leaf-default-in l (in-failed e) = in-refuses e
+leaf-default-in l in-nothing = in-gives
+leaf-default-in l (in-taken e) = demand-in _ 28 e in-gives
 
-mutual
-  unfolding buildIcebergDefaultValue defaultsOf OtherDefaults
+module _ {ns : List ℕ} {d : Defaults} (o : DefaultsIn ns d) where
+  mutual
+    unfolding buildIcebergDefaultValue defaultsOf
 
-  other-default : (t : ColumnType) (d : Defaults) (i : FieldId) → OtherDefaults d → Other (buildIcebergDefaultValue d i t)
-  other-default (cleaf l) d i o = other-leaf l (d i) (o i)
-  other-default (cstruct cs) d i o = bound (defaultsOf d cs) _ (other-defaults cs d o) (λ g. tt)
-  other-default (clist l t) d i o = tt
-  other-default (carray w l t) d i o = tt
+    default-in : (t : ColumnType) (i : FieldId) → ResultIn ns (buildIcebergDefaultValue d i t)
+    default-in (cleaf l) i = leaf-default-in l (o .at i)
+    default-in (cstruct cs) i = bind-in (defaults-in cs) (λ g. in-gives)
+    default-in (clist l t) i = in-gives
+    default-in (carray w l t) i = in-gives
 
-  other-defaults : (cs : Columns) (d : Defaults) → OtherDefaults d → Other (defaultsOf d cs)
-  other-defaults cnil d o = tt
-  other-defaults (ccons l t cs) d o = bound (buildIcebergDefaultValue d (l .id) t) _ (other-default t d (l .id) o) (λ x. bound (defaultsOf d cs) _ (other-defaults cs d o) (λ g. tt))
+    defaults-in : (cs : Columns) → ResultIn ns (defaultsOf d cs)
+    defaults-in cnil = in-gives
+    defaults-in (ccons l t cs) = bind-in (default-in t (l .id)) (λ x. bind-in (defaults-in cs) (λ g. in-gives))
 
-other-missing : (d : Defaults) (insert : Bool) (n : ℕ) (l : Label) (u : ColumnType) → OtherDefaults d → eqb n 27 ≡ false → Other (missing d insert n l u)
-unfolding missing missingValue
-other-missing d insert n l u o e = tested insert n _ e (bound _ _ (bound (buildIcebergDefaultValue d (l .id) u) _ (other-default u d (l .id) o) (λ x. tt)) (λ x. tt))
+  missing-in : (insert : Bool) (n : ℕ) (l : Label) (u : ColumnType) → isIn n ns ≡ true → ResultIn ns (missing d insert n l u)
+  unfolding missing missingValue
+  missing-in insert n l u e = demand-in insert n e (bind-in (bind-in (default-in u (l .id)) (λ x. in-gives)) (λ x. in-gives))
 
--- ---- the matchers
+-- ---- a target column
 
-other-leaf-part : (t : ColumnType) → Other (leafPart t)
-unfolding leafPart
-other-leaf-part (cleaf l) = tt
-other-leaf-part (cstruct cs) = refl
-other-leaf-part (clist l t) = refl
-other-leaf-part (carray w l t) = refl
+-- the numbers that both ways of matching have
+abbrev shared : List ℕ
+shared = 11 ∷ 13 ∷ 14 ∷ pairRefusals
 
-other-struct-part : (t : ColumnType) → Other (structPart t)
-unfolding structPart
-other-struct-part (cleaf l) = refl
-other-struct-part (cstruct cs) = tt
-other-struct-part (clist l t) = refl
-other-struct-part (carray w l t) = refl
+in-both : (v : Version) (n : ℕ) → isIn n shared ≡ true → isIn n (columnRefusals v) ≡ true
+unfolding all isIn
+in-both ByName n e = all-in (λ m. isIn m (columnRefusals ByName)) shared n refl e
+in-both ByNumber n e = all-in (λ m. isIn m (columnRefusals ByNumber)) shared n refl e
 
-other-list-part : (t : ColumnType) → Other (listPart t)
-unfolding listPart
-other-list-part (cleaf l) = refl
-other-list-part (cstruct cs) = refl
-other-list-part (clist l t) = tt
-other-list-part (carray w l t) = refl
+module _ (v : Version) where
+  ruled-in : {x : Verdict} (k : Position) (u : LeafType) → VerdictIn pairRefusals x → ColumnIn v (ruled x k u)
+  unfolding ruled all isIn
+  ruled-in k u in-untouched = in-gives
+  ruled-in k u (in-refused {n = n} e) = in-refuses (in-both v n (all-in (λ m. isIn m shared) pairRefusals n refl e))
+  ruled-in k u in-cast = in-gives
 
-other-array-part : (w : ℕ) (t : ColumnType) → Other (arrayPart w t)
-unfolding arrayPart
-other-array-part w (cleaf l) = refl
-other-array-part w (cstruct cs) = refl
-other-array-part w (clist l t) = refl
-other-array-part w (carray x l t) = tested (eqb x w) 24 _ refl tt
+  mismatch : {A : Type 0} → ColumnIn {A = A} v (refuses 24)
+  unfolding isIn
+  mismatch = in-refuses (in-both v 24 refl)
 
-other-unless-null : (v : Version) (p : Policy) (k : Position) (u t : ColumnType) (r : Result Selector) → Other r → Other (unlessNullType v p k u t r)
-unfolding unlessNullType
-other-unless-null v p k u t r o = chosen _ _ r (tested (p .«null_upcast») 15 _ refl tt) o
+  leaf-part-in : (t : ColumnType) → ColumnIn v (leafPart t)
+  unfolding leafPart
+  leaf-part-in (cleaf l) = in-gives
+  leaf-part-in (cstruct cs) = mismatch
+  leaf-part-in (clist l t) = mismatch
+  leaf-part-in (carray w l t) = mismatch
 
-other-sought : (x : Lookup) (r : Result Selector) (f : Position → Label → ColumnType → Result Selector) → Other r → ((k : Position) (l : Label) (t : ColumnType) → Other (f k l t)) → Other (sought x r f)
-unfolding sought
-other-sought absent r f o g = o
-other-sought (at k l t) r f o g = g k l t
+  struct-part-in : (t : ColumnType) → ColumnIn v (structPart t)
+  unfolding structPart
+  struct-part-in (cleaf l) = mismatch
+  struct-part-in (cstruct cs) = in-gives
+  struct-part-in (clist l t) = mismatch
+  struct-part-in (carray w l t) = mismatch
 
-mutual
-  unfolding attachTransforms attachFields
+  list-part-in : (t : ColumnType) → ColumnIn v (listPart t)
+  unfolding listPart
+  list-part-in (cleaf l) = mismatch
+  list-part-in (cstruct cs) = mismatch
+  list-part-in (clist l t) = in-gives
+  list-part-in (carray w l t) = mismatch
 
-  other-attach : (u : ColumnType) (v : Version) (p : Policy) (d : Defaults) (k : Position) (t : ColumnType) → OtherDefaults d → Other (attachTransforms v p d u k t)
-  other-attach (cleaf u) v p d k t o = bound (leafPart t) _ (other-leaf-part t) (λ l. other-ruled (pairRule p l u) k u (other-pair p l u))
-  other-attach (cstruct gs) v p d k t o =
-      other-unless-null v p k (cstruct gs) t _
-      (bound (structPart t) _ (other-struct-part t)
-      (λ fs. tested _ 12 _ refl (tested _ 12 _ refl (tested _ 13 _ refl (bound (attachFields v p d gs fs) _ (other-fields gs v p d fs o) (λ ss. tt))))))
-  other-attach (clist l u) v p d k t o =
-      other-unless-null v p k (clist l u) t _
-      (bound (listPart t) _ (other-list-part t) (λ e. tested _ 25 _ refl (bound (attachTransforms v p noDefaults u _ (e .type)) _ (other-attach u v p noDefaults _ (e .type) other-none) (λ s. tt))))
-  other-attach (carray w l u) v p d k t o =
-      other-unless-null v p k (carray w l u) t _
-      (bound (arrayPart w t) _ (other-array-part w t) (λ e. tested _ 25 _ refl (bound (attachTransforms v p noDefaults u _ (e .type)) _ (other-attach u v p noDefaults _ (e .type) other-none) (λ s. tt))))
+  array-part-in : (w : ℕ) (t : ColumnType) → ColumnIn v (arrayPart w t)
+  unfolding arrayPart isIn
+  array-part-in w (cleaf l) = mismatch
+  array-part-in w (cstruct cs) = mismatch
+  array-part-in w (clist l t) = mismatch
+  array-part-in w (carray x l t) = demand-in _ 24 (in-both v 24 refl) in-gives
 
-  other-fields : (gs : Columns) (v : Version) (p : Policy) (d : Defaults) (fs : Columns) → OtherDefaults d → Other (attachFields v p d gs fs)
-  other-fields cnil v p d fs o = tt
-  other-fields (ccons l u gs) v p d fs o =
-      bound (sought _ _ _) _
-      (other-sought _ _ _ (other-missing d _ 14 l u o refl) (λ k m t. bound (attachTransforms v p d u k t) _ (other-attach u v p d k t o) (λ s. tt)))
-      (λ s. bound (attachFields v p d gs fs) _ (other-fields gs v p d fs o) (λ ss. tt))
+  unless-null-in : (p : Policy) (k : Position) (u t : ColumnType) {r : Result Selector} → ColumnIn v r → ColumnIn v (unlessNullType v p k u t r)
+  unfolding unlessNullType isIn
+  unless-null-in p k u t o = result-choose-in _ (demand-in (p .«null_upcast») 15 (in-both v 15 refl) in-gives) o
 
--- ---- the build
+  sought-in : (x : Lookup) {r : Result Selector} {f : Position → Label → ColumnType → Result Selector} → ColumnIn v r
+      → ((k : Position) (l : Label) (t : ColumnType) → ColumnIn v (f k l t)) → ColumnIn v (sought x r f)
+  unfolding sought
+  sought-in absent o g = o
+  sought-in (at k l t) o g = g k l t
 
-other-placed : {A B : Type 0} (k : ℕ) (x : Result A) (f : A → Answer B) → Other x → ((a : A) → OtherAnswer (f a)) → OtherAnswer (placed k x f)
-unfolding placed
-other-placed k (gives a) f o g = g a
-other-placed k (refuses n) f o g = o
+-- 12 is tested by name alone, 25 by number alone
+distinct-in : (v : Version) (cs : Columns) {A : Type 0} {r : Result A} → ColumnIn v r → ColumnIn v (demand (distinct v cs) 12 r)
+unfolding distinct demand isIn
+distinct-in ByName cs o = demand-in (distinctNames cs) 12 refl o
+distinct-in ByNumber cs o = o
 
-other-answered : {A B : Type 0} (x : Answer A) (f : A → Answer B) → OtherAnswer x → ((a : A) → OtherAnswer (f a)) → OtherAnswer (answered x f)
-unfolding answered
-other-answered (accepted a) f o g = g a
-other-answered (refusedAt n k) f o g = o
+element-in : (v : Version) (a b : Label) {A : Type 0} {r : Result A} → ColumnIn v r → ColumnIn v (demand (sameElement v a b) 25 r)
+unfolding sameElement demand isIn
+element-in ByName a b o = o
+element-in ByNumber a b o = demand-in (sameElement ByNumber a b) 25 refl o
 
-other-column : (v : Version) (p : Policy) (d : Defaults) (l : Label) (u : ColumnType) (fs : Columns) → OtherDefaults d → Other (buildColumnSelector v p d l u fs)
-unfolding buildColumnSelector
-other-column v p d l u fs o = other-sought _ _ _ (other-missing d _ 11 l u o refl) (λ k m t. bound (attachTransforms v p d u k t) _ (other-attach u v p d k t o) (λ s. tt))
+module _ (v : Version) (p : Policy) where
+  mutual
+    unfolding attachTransforms attachFields isIn
 
-other-from : (gs : Columns) (v : Version) (p : Policy) (d : Defaults) (fs : Columns) (i : ℕ) → OtherDefaults d → OtherAnswer (buildFrom v p d gs fs i)
-unfolding buildFrom
-other-from cnil v p d fs i o = tt
-other-from (ccons l u gs) v p d fs i o =
-    other-placed i (buildColumnSelector v p d l u fs) _ (other-column v p d l u fs o) (λ s. other-answered (buildFrom v p d gs fs (i + 1)) _ (other-from gs v p d fs (i + 1) o) (λ ss. tt))
+    attach-in : (u : ColumnType) (d : Defaults) (k : Position) (t : ColumnType) → DefaultsIn (columnRefusals v) d → ColumnIn v (attachTransforms v p d u k t)
+    attach-in (cleaf u) d k t o = bind-in (leaf-part-in v t) (λ l. ruled-in v k u (pair-in p l u))
+    attach-in (cstruct gs) d k t o =
+        unless-null-in v p k (cstruct gs) t
+        (bind-in (struct-part-in v t) (λ fs.
+        distinct-in v gs (distinct-in v fs (demand-in _ 13 (in-both v 13 refl) (bind-in (fields-in gs d fs o) (λ ss. in-gives))))))
+    attach-in (clist l u) d k t o =
+        unless-null-in v p k (clist l u) t
+        (bind-in (list-part-in v t) (λ e.
+        element-in v (e .label) l (bind-in (attach-in u noDefaults _ (e .type) (none-in (columnRefusals v))) (λ s. in-gives))))
+    attach-in (carray w l u) d k t o =
+        unless-null-in v p k (carray w l u) t
+        (bind-in (array-part-in v w t) (λ e.
+        element-in v (e .label) l (bind-in (attach-in u noDefaults _ (e .type) (none-in (columnRefusals v))) (λ s. in-gives))))
 
-pub other-build : (v : Version) (p : Policy) (d : Defaults) (from to : Columns) → OtherDefaults d → OtherAnswer (build v p d from to)
-unfolding build
-other-build v p d from to o = other-from to v p d from 0 o
+    fields-in : (gs : Columns) (d : Defaults) (fs : Columns) → DefaultsIn (columnRefusals v) d → ColumnIn v (attachFields v p d gs fs)
+    fields-in cnil d fs o = in-gives
+    fields-in (ccons l u gs) d fs o =
+        bind-in (sought-in v _ (missing-in o _ 14 l u (in-both v 14 refl)) (λ k m t. bind-in (attach-in u d k t o) (λ s. in-gives))) (λ s.
+        bind-in (fields-in gs d fs o) (λ ss. in-gives))
+
+  -- ---- the build
+
+  module _ (d : Defaults) (o : DefaultsIn (columnRefusals v) d) (fs : Columns) where
+    column-in : (l : Label) (u : ColumnType) → ColumnIn v (buildColumnSelector v p d l u fs)
+    unfolding buildColumnSelector isIn
+    column-in l u = sought-in v _ (missing-in o _ 11 l u (in-both v 11 refl)) (λ k m t. bind-in (attach-in u d k t o) (λ s. in-gives))
+
+    from-in : (gs : Columns) (i count : ℕ) → i + countColumns gs ≤ count
+        → Answers (λ ss. Unit {0}) (ColumnRefusal (columnRefusals v) count) (buildFrom v p d gs fs i)
+    unfolding buildFrom countColumns
+    from-in cnil i count h = in-accepted tt
+    from-in (ccons l u gs) i count h =
+        placed-in i (column-in l u) (λ n e. record { among = e; place = omega (arith, h) })
+        (λ s. answered-in (from-in gs (i + 1) count (omega (arith, h))) (λ n k r. r) (λ ss x. in-accepted tt))
+
+    pub build-in : (to : Columns) → Answers (λ ss. Unit {0}) (ColumnRefusal (columnRefusals v) (countColumns to)) (build v p d fs to)
+    unfolding build
+    build-in to = from-in to 0 (countColumns to) (omega arith)
+
+-- 27, and what is written is no longer than a plan may be
+pub plan-written-in : (space : ℕ) (ss : Selectors) {P : ℕ → ℕ → Type 0} → P 27 0 → Answers (λ b. length b ≤ longestPlan) P (writtenPlan space ss)
+unfolding writtenPlan roomFor placed demand
+plan-written-in space ss {P} p = go (roomFor space (encodePlan ss)) refl
+  where
+    go : (c : Bool) → roomFor space (encodePlan ss) ≡ c
+        → Answers (λ b. length b ≤ longestPlan) P (placed 0 (demand c 27 (gives (encodePlan ss))) (λ b. accepted b))
+    go true q = in-accepted (leb-true _ _ (both (leb (length (encodePlan ss)) space) q .1))
+    go false q = in-refusedAt p

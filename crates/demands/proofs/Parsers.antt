@@ -1,0 +1,259 @@
+-- With which numbers each parser can refuse: those of layouts, tables of defaults, values and records. Assumes nothing.
+use Prim.Native.Nat.{ℕ, zero, suc}
+use mathlib.Core.Path.{_≡_, refl}
+use mathlib.Core.Bool.{true}
+use mathlib.Core.List.{List, [], _∷_, _++_}
+use Rattle.layout.specs.Bytes.{Bytes}
+use Rattle.layout.specs.Parser.{Res, refuse, ok, Parser, choose, byte, chunk, u16, u32}
+use Rattle.layout.specs.Tree.{leafOf, Label, ColumnType, DataType, leaf, struct, list, array, Fields, fnil, fcons}
+use Rattle.layout.specs.Layout.{Kind, aLeaf, aStruct, aList, anArray, plainLeaf, text, unit, leafKind, datetimeKind, structKind, arrayKind, kindOf, kind, fieldId, label, elementLabel, columns, listType, arrayType, structType, body, type, topRule, innerRule, deepest, version, sized, ended, counted, layoutFrom, layout}
+use Rattle.layout.specs.declared.leaf.Leaf.{Leaf}
+use Rattle.layout.specs.declared.types.PlainLeaf.{PlainLeaf}
+use Rattle.layout.specs.declared.types.PlainLeaf.the-variants.{Known, Unknown}
+use Rattle.layout.specs.declared.columns.Siblings.{Siblings}
+use Rattle.layout.specs.declared.version.Version.{Version}
+use Rattle.layout.specs.declared.version.Version.the-variants.{ByName, ByNumber}
+use Rattle.values.specs.Value.{Value}
+use Rattle.values.specs.Content.{contentOf}
+use Rattle.values.specs.declared.content.Content.{Content}
+use Rattle.values.specs.declared.content.Content.the-variants.{Nothing, Flag, Number, Text}
+use Rattle.values.specs.Reading.{presence, nullable, flag, longText, contentBy, leafContent, times, listContent, arrayContent, structContent, content, values, value}
+use Rattle.values.specs.Record.{recordNumber, renumber, shortEnough, ended as recordEnded, recordFrom, recordOf}
+use Rattle.defaults.specs.Table.{Entry, onlyLeaf, defaultType, initialEntry, loadedEntry, partitionEntry, givenOf, entry, entries, tableVersion, tableFrom, table}
+use Rattle.plan.specs.Selector.{Selectors}
+use Rattle.plan.specs.Read.{planFrom, plan}
+use Rattle.demands.specs.Refusals.{isIn, layoutRefusals, tableRefusals, recordRefusals}
+use Rattle.demands.proofs.Refusing.{all, RefusesIn, in-ok, in-refuse, next-in, choose-in, wider, renumber-in}
+
+-- a value's numbers, which a record has in its own (`recordNumber`)
+abbrev pub valueRefusals : List ℕ
+valueRefusals = 2 ∷ 3 ∷ []
+
+-- the bytes end: 2, which every list of a parser's numbers has
+module _ {ns : List ℕ} (two : isIn 2 ns ≡ true) (s : Bytes) where
+  byte-in : (at : ℕ) → RefusesIn ns (byte s at)
+  unfolding byte
+  byte-in at = choose-in _ in-ok (in-refuse two)
+
+  chunk-in : (n at : ℕ) → RefusesIn ns (chunk n s at)
+  unfolding chunk
+  chunk-in n at = choose-in _ in-ok (in-refuse two)
+
+  u16-in : (at : ℕ) → RefusesIn ns (u16 s at)
+  unfolding u16
+  u16-in at = next-in (byte-in at) (λ a i. next-in (byte-in i) (λ b j. in-ok))
+
+  u32-in : (at : ℕ) → RefusesIn ns (u32 s at)
+  unfolding u32
+  u32-in at = next-in (u16-in at) (λ a i. next-in (u16-in i) (λ b j. in-ok))
+
+module _ (s : Bytes) where
+  -- ---- what layouts and tables share
+
+  text-in : (at : ℕ) → RefusesIn tableRefusals (text s at)
+  unfolding text isIn
+  text-in at = next-in (byte-in refl s at) (λ n i. choose-in _ (chunk-in refl s n i) (in-refuse refl))
+
+  unit-in : (at : ℕ) → RefusesIn tableRefusals (unit s at)
+  unfolding unit isIn
+  unit-in at = next-in (byte-in refl s at) (λ u i. choose-in _ in-ok (choose-in _ in-ok (choose-in _ in-ok (in-refuse refl))))
+
+  leaf-kind-in : (l : PlainLeaf) (at : ℕ) → RefusesIn tableRefusals (leafKind l s at)
+  unfolding leafKind isIn
+  leaf-kind-in (Known l) at = in-ok
+  leaf-kind-in Unknown at = in-refuse refl
+
+  datetime-kind-in : (at : ℕ) → RefusesIn tableRefusals (datetimeKind s at)
+  unfolding datetimeKind
+  datetime-kind-in at = next-in (unit-in at) (λ u i. next-in (text-in i) (λ z j. in-ok))
+
+  sized-in : (at : ℕ) → RefusesIn tableRefusals (sized s at)
+  unfolding sized isIn
+  sized-in at = choose-in _ in-ok (in-refuse refl)
+
+  ended-in : (at : ℕ) → RefusesIn tableRefusals (ended s at)
+  unfolding ended isIn
+  ended-in at = choose-in _ in-ok (in-refuse refl)
+
+  -- ---- a layout
+
+  struct-kind-in : (at : ℕ) → RefusesIn layoutRefusals (structKind s at)
+  unfolding structKind isIn
+  struct-kind-in at = next-in (u16-in refl s at) (λ n i. in-ok)
+
+  array-kind-in : (at : ℕ) → RefusesIn layoutRefusals (arrayKind s at)
+  unfolding arrayKind isIn
+  array-kind-in at = next-in (u32-in refl s at) (λ w i. in-ok)
+
+  kind-of-in : (c at : ℕ) → RefusesIn layoutRefusals (kindOf c s at)
+  unfolding kindOf isIn all
+  kind-of-in c at =
+      choose-in _ (wider refl (datetime-kind-in at))
+      (choose-in _ (struct-kind-in at)
+      (choose-in _ in-ok
+      (choose-in _ (array-kind-in at)
+      (wider refl (leaf-kind-in (plainLeaf c) at)))))
+
+  kind-in : (at : ℕ) → RefusesIn layoutRefusals (kind s at)
+  unfolding kind isIn
+  kind-in at = next-in (byte-in refl s at) (λ c i. kind-of-in c i)
+
+  field-id-in : (v : Version) (at : ℕ) → RefusesIn layoutRefusals (fieldId v s at)
+  unfolding fieldId isIn
+  field-id-in ByName at = in-ok
+  field-id-in ByNumber at = u32-in refl s at
+
+  label-in : (v : Version) (at : ℕ) → RefusesIn layoutRefusals (label v s at)
+  unfolding label isIn all
+  label-in v at = next-in (wider refl (text-in at)) (λ n i. next-in (field-id-in v i) (λ k j. in-ok))
+
+  element-label-in : (v : Version) (at : ℕ) → RefusesIn layoutRefusals (elementLabel v s at)
+  unfolding elementLabel
+  element-label-in ByName at = in-ok
+  element-label-in ByNumber at = label-in ByNumber at
+
+  module _ (v : Version) (r : Siblings) (p : Parser ColumnType) (o : (at : ℕ) → RefusesIn layoutRefusals (p s at)) where
+    columns-in : (n : ℕ) (earlier : List Label) (at : ℕ) → RefusesIn layoutRefusals (columns v r p n earlier s at)
+    unfolding columns isIn
+    columns-in zero earlier at = in-ok
+    columns-in (suc n) earlier at =
+        next-in (label-in v at) (λ l i.
+        next-in (o i) (λ t j.
+        next-in (choose-in _ in-ok (in-refuse refl)) (λ u k.
+        next-in (columns-in n (earlier ++ (l ∷ [])) k) (λ cs m. in-ok))))
+
+    body-in : (k : Kind) (at : ℕ) → RefusesIn layoutRefusals (body v r p k s at)
+    unfolding body structType listType arrayType
+    body-in (aLeaf l) at = in-ok
+    body-in (aStruct n) at = next-in (columns-in n [] at) (λ cs i. in-ok)
+    body-in aList at = next-in (element-label-in v at) (λ l i. next-in (o i) (λ t j. in-ok))
+    body-in (anArray w) at = next-in (element-label-in v at) (λ l i. next-in (o i) (λ t j. in-ok))
+
+  type-in : (v : Version) (r : Siblings) (d at : ℕ) → RefusesIn layoutRefusals (type v r d s at)
+  unfolding type isIn
+  type-in v r zero at = in-refuse refl
+  type-in v r (suc d) at = next-in (kind-in at) (λ k i. body-in v r (type v r d) (type-in v r d) k i)
+
+  version-in : (at : ℕ) → RefusesIn layoutRefusals (version s at)
+  unfolding version isIn
+  version-in at = choose-in _ in-ok (choose-in _ in-ok (in-refuse refl))
+
+  counted-in : (v : Version) (at : ℕ) → RefusesIn layoutRefusals (counted v s at)
+  unfolding counted isIn all
+  counted-in v at =
+      next-in (u16-in refl s at) (λ n i.
+      next-in (columns-in v (topRule v) (type v (innerRule v) deepest) (type-in v (innerRule v) deepest) n [] i) (λ cs j.
+      next-in (wider refl (ended-in j)) (λ u k. in-ok)))
+
+  pub layout-in : RefusesIn layoutRefusals (layout s)
+  unfolding layout layoutFrom isIn all
+  layout-in = next-in (wider refl (sized-in 0)) (λ u i. next-in (version-in i) (λ v j. counted-in v j))
+
+  -- ---- a value
+
+  presence-in : (at : ℕ) → RefusesIn valueRefusals (presence s at)
+  unfolding presence isIn
+  presence-in at = next-in (byte-in refl s at) (λ b i. choose-in _ in-ok (choose-in _ in-ok (in-refuse refl)))
+
+  flag-in : (at : ℕ) → RefusesIn valueRefusals (flag s at)
+  unfolding flag isIn
+  flag-in at = next-in (byte-in refl s at) (λ b i. choose-in _ in-ok (in-refuse refl))
+
+  content-by-in : (c : Content) (k : Leaf) (at : ℕ) → RefusesIn valueRefusals (contentBy c k s at)
+  unfolding contentBy longText isIn
+  content-by-in Nothing k at = in-refuse refl
+  content-by-in Flag k at = next-in (flag-in at) (λ b i. in-ok)
+  content-by-in (Number w) k at = next-in (chunk-in refl s w at) (λ b i. in-ok)
+  content-by-in Text k at = next-in (next-in (u16-in refl s at) (λ n i. chunk-in refl s n i)) (λ b i. in-ok)
+
+  module _ (p : Parser Value) (o : (at : ℕ) → RefusesIn valueRefusals (p s at)) where
+    nullable-in : (at : ℕ) → RefusesIn valueRefusals (nullable p s at)
+    unfolding nullable
+    nullable-in at = next-in (presence-in at) (λ b i. choose-in b (o i) in-ok)
+
+    times-in : (n at : ℕ) → RefusesIn valueRefusals (times n p s at)
+    unfolding times
+    times-in zero at = in-ok
+    times-in (suc n) at = next-in (o at) (λ v i. next-in (times-in n i) (λ vs j. in-ok))
+
+  mutual
+    unfolding content values leafContent structContent listContent arrayContent isIn
+
+    content-in : (t : DataType) (at : ℕ) → RefusesIn valueRefusals (content t s at)
+    content-in (leaf l) at = content-by-in (contentOf (leafOf l)) (leafOf l) at
+    content-in (struct fs) at = next-in (values-in fs at) (λ vs i. in-ok)
+    content-in (list t) at = next-in (u16-in refl s at) (λ n i. next-in (times-in _ (nullable-in _ (λ j. content-in t j)) n i) (λ vs j. in-ok))
+    content-in (array w t) at = next-in (times-in _ (nullable-in _ (λ j. content-in t j)) w at) (λ vs i. in-ok)
+
+    values-in : (fs : Fields) (at : ℕ) → RefusesIn valueRefusals (values fs s at)
+    values-in fnil at = in-ok
+    values-in (fcons n t fs) at = next-in (nullable-in _ (λ j. content-in t j) at) (λ v i. next-in (values-in fs i) (λ vs j. in-ok))
+
+  value-in : (t : DataType) (at : ℕ) → RefusesIn valueRefusals (value t s at)
+  unfolding value
+  value-in t at = nullable-in _ (λ j. content-in t j) at
+
+  -- ---- a table of defaults
+
+  only-leaf-in : (k : Kind) (at : ℕ) → RefusesIn tableRefusals (onlyLeaf k s at)
+  unfolding onlyLeaf isIn
+  only-leaf-in (aLeaf l) at = in-ok
+  only-leaf-in (aStruct n) at = in-refuse refl
+  only-leaf-in aList at = in-refuse refl
+  only-leaf-in (anArray w) at = in-refuse refl
+
+  default-type-in : (at : ℕ) → RefusesIn tableRefusals (defaultType s at)
+  unfolding defaultType isIn
+  default-type-in at = next-in (byte-in refl s at) (λ c i. next-in (choose-in _ (datetime-kind-in i) (leaf-kind-in (plainLeaf c) i)) (λ k j. only-leaf-in k j))
+
+  given-of-in : (k at : ℕ) → RefusesIn tableRefusals (givenOf k s at)
+  unfolding givenOf initialEntry partitionEntry loadedEntry isIn all
+  given-of-in k at =
+      choose-in _
+      (next-in (default-type-in at) (λ l i. next-in (wider refl (value-in (leaf l) i)) (λ v j. in-ok)))
+      (choose-in _
+      (next-in (byte-in refl s at) (λ b i.
+      choose-in _
+      (next-in (default-type-in i) (λ l j. next-in (u16-in refl s j) (λ n m. next-in (wider refl (times-in _ (value-in (leaf l)) n m)) (λ vs o. in-ok))))
+      (choose-in _ in-ok (in-refuse refl))))
+      (in-refuse refl))
+
+  entry-in : (at : ℕ) → RefusesIn tableRefusals (entry s at)
+  unfolding entry isIn
+  entry-in at = next-in (u32-in refl s at) (λ i j. next-in (byte-in refl s j) (λ k m. next-in (given-of-in k m) (λ g o. in-ok)))
+
+  entries-in : (n : ℕ) (earlier : List Entry) (at : ℕ) → RefusesIn tableRefusals (entries n earlier s at)
+  unfolding entries isIn
+  entries-in zero earlier at = in-ok
+  entries-in (suc n) earlier at = next-in (entry-in at) (λ e i. next-in (choose-in _ in-ok (in-refuse refl)) (λ u j. entries-in n (earlier ++ (e ∷ [])) j))
+
+  pub table-in : RefusesIn tableRefusals (table s)
+  unfolding table tableFrom tableVersion isIn
+  table-in =
+      next-in (sized-in 0) (λ u i.
+      next-in (choose-in _ in-ok (in-refuse refl)) (λ w j.
+      next-in (u16-in refl s j) (λ n k.
+      next-in (entries-in n [] k) (λ es m.
+      next-in (ended-in m) (λ x o. in-ok)))))
+
+  -- ---- a record, and a plan
+
+  record-values-in : (fs : Fields) (at : ℕ) → RefusesIn recordRefusals (renumber recordNumber (values fs s at))
+  unfolding recordNumber choose isIn all
+  record-values-in fs at = renumber-in recordNumber refl (values-in fs at)
+
+  pub record-in : (fs : Fields) → RefusesIn recordRefusals (recordOf fs s)
+  unfolding recordOf recordFrom shortEnough recordEnded isIn
+  record-in fs =
+      next-in (choose-in _ in-ok (in-refuse refl)) (λ u i.
+      next-in (record-values-in fs i) (λ vs j.
+      next-in (choose-in _ in-ok (in-refuse refl)) (λ x k. in-ok)))
+
+  -- "30 plan malformed", whatever the fault
+  pub plan-in : RefusesIn (30 ∷ []) (plan s)
+  unfolding plan isIn renumber
+  plan-in = malformed (planFrom s 0)
+    where
+      malformed : (x : Res Selectors) → RefusesIn (30 ∷ []) (renumber (λ n. 30) x)
+      malformed (refuse n) = in-refuse refl
+      malformed (ok ss m) = in-ok

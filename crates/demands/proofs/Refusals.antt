@@ -1,0 +1,300 @@
+-- Every exported call's refusals: each has a number of the call's list, and its place. Assumes nothing.
+use Prim.Native.Nat.{ℕ, zero, suc, _+_, _<_, _≤_}
+use mathlib.Core.Path.{_≡_, refl}
+use mathlib.Core.Bool.{Bool, true, false, _&&_, not}
+use mathlib.Core.List.{List, [], _∷_}
+use native.Mathlib.Omega.{arith}
+use lib.ListN.{length}
+use lib.Dec.{ltb}
+use borrow.Author.Tests.{ltb-true, not-true}
+use Rattle.layout.specs.Bytes.{Bytes, AllBytes}
+use Rattle.layout.specs.Parser.{Res, refuse, ok}
+use Rattle.layout.specs.Tree.{Layout, Columns, countColumns, Fields, fieldsOf}
+use Rattle.layout.specs.Layout.{layout}
+use Rattle.layout.specs.declared.version.Version.{Version}
+use Rattle.layout.specs.declared.version.Version.the-variants.{ByName, ByNumber}
+use Rattle.rules.specs.declared.policy.Policy.{Policy}
+use Rattle.values.specs.Record.{longest}
+use Rattle.plan.specs.Result.{Answer, answered}
+use Rattle.plan.specs.Selector.{Selectors, countSelectors}
+use Rattle.plan.specs.Read.{plan, longestPlan}
+use Rattle.plan.specs.Check.{check}
+use Rattle.plan.specs.Calls.{readAt, readPlan, checkPlan, runPlan}
+use Rattle.plan.proofs.Results.{both, true≠false}
+use Rattle.plan.proofs.ReadBack.{plan-back}
+use Rattle.forms.proofs.Heads.{count-fields}
+use Rattle.matching.proofs.Limits.{layout-limits}
+use Rattle.defaults.specs.Lookup.{getDefaultValue}
+use Rattle.matching.specs.Default.{Defaults, noDefaults}
+use Rattle.matching.specs.Build.{build}
+use Rattle.matching.specs.Calls.{ofVersion, bothLayouts, writtenPlan, buildByName, buildByNumber}
+use Rattle.demands.specs.Refusals.{isIn, layoutRefusals, tableRefusals, columnRefusals, recordRefusals, Call, readingLayout, building, checkingPlan, running, refusalsOf, layoutPlaced, columnPlaced, refusalIn, FirstRefused, Refusal, readLayout, layoutsRead, tableRead, columnsIn, columnCount, selectorsIn, selectorCount}
+use Rattle.demands.proofs.Refusing.{all, all-in, RefusesIn, refused-in, demand-in, in-gives, Answers, in-accepted, read-in, placed-in, answered-in}
+use Rattle.demands.proofs.Parsers.{layout-in, table-in, record-in, plan-in}
+use Rattle.demands.proofs.Numbers.{DefaultsIn, none-in, lookup-in, build-in, plan-written-in}
+use Rattle.demands.proofs.Selectors.{selectorRefusals, check-in, run-in}
+
+-- ---- a number and its place
+
+-- the call has the number, which is not 0
+unfoldable has : Call → ℕ → Bool
+has c m = isIn m (refusalsOf c) && ltb 0 m
+
+-- and its place is that of a layout or table
+unfoldable asThing : Call → ℕ → Bool
+asThing c m = has c m && (isIn m layoutPlaced && not (isIn m columnPlaced))
+
+-- that of a column
+unfoldable asColumn : Call → ℕ → Bool
+asColumn c m = has c m && (not (isIn m layoutPlaced) && isIn m columnPlaced)
+
+-- 0
+unfoldable asOther : Call → ℕ → Bool
+asOther c m = has c m && (not (isIn m layoutPlaced) && not (isIn m columnPlaced))
+
+module _ {c : Call} {things : List ℕ} {columns n k : ℕ} where
+  refusal : has c n ≡ true → (isIn n layoutPlaced ≡ true → FirstRefused 1 things n k) → (isIn n columnPlaced ≡ true → k < columns)
+      → (isIn n layoutPlaced ≡ false → isIn n columnPlaced ≡ false → k ≡ 0) → Refusal c things columns n k
+  unfolding has
+  refusal h f g z = let (l, p) = both (isIn n (refusalsOf c)) h in record { listed = l; positive = ltb-true 0 n p; ofThing = f; ofColumn = g; ofOther = z }
+
+  at-thing : asThing c n ≡ true → FirstRefused 1 things n k → Refusal c things columns n k
+  unfolding asThing
+  at-thing e f =
+      let (h, e) = both (has c n) e in
+      let (t, u) = both (isIn n layoutPlaced) e in
+      refusal h (λ q. f) (λ q. true≠false q (not-true _ u)) (λ q r. true≠false t q)
+
+  at-column : asColumn c n ≡ true → k < columns → Refusal c things columns n k
+  unfolding asColumn
+  at-column e f =
+      let (h, e) = both (has c n) e in
+      let (t, u) = both (not (isIn n layoutPlaced)) e in
+      refusal h (λ q. true≠false q (not-true _ t)) (λ q. f) (λ q r. true≠false u r)
+
+  at-zero : asOther c n ≡ true → k ≡ 0 → Refusal c things columns n k
+  unfolding asOther
+  at-zero e f =
+      let (h, e) = both (has c n) e in
+      let (t, u) = both (not (isIn n layoutPlaced)) e in
+      refusal h (λ q. true≠false q (not-true _ t)) (λ q. true≠false q (not-true _ u)) (λ q r. f)
+
+-- ---- the lists, number by number
+
+layouts-as : (c : Call) → all (asThing c) layoutRefusals ≡ true
+unfolding all asThing has isIn
+layouts-as readingLayout = refl
+layouts-as (building ByName) = refl
+layouts-as (building ByNumber) = refl
+layouts-as checkingPlan = refl
+layouts-as running = refl
+
+table-as : all (asThing (building ByNumber)) tableRefusals ≡ true
+unfolding all asThing has isIn
+table-as = refl
+
+version-as : (v : Version) → all (asOther (building v)) (10 ∷ []) ≡ true
+unfolding all asOther has isIn
+version-as ByName = refl
+version-as ByNumber = refl
+
+plan-length-as : (v : Version) → asOther (building v) 27 ≡ true
+unfolding asOther has isIn
+plan-length-as ByName = refl
+plan-length-as ByNumber = refl
+
+columns-as : (v : Version) → all (asColumn (building v)) (columnRefusals v) ≡ true
+unfolding all asColumn has isIn
+columns-as ByName = refl
+columns-as ByNumber = refl
+
+-- ---- what is read in turn
+
+first-refused : {A : Type 0} {x : Res A} {n : ℕ} (i : ℕ) (ms : List ℕ) → 0 < n → x ≡ refuse n → FirstRefused i (refusalIn x ∷ ms) n i
+first-refused {x = x} {n = n} i ms h e = rw e (go n h)
+  where
+    go : (n : ℕ) → 0 < n → FirstRefused i (n ∷ ms) n i
+    go zero h = absurd (omega (arith, h))
+    go (suc m) h = (refl, refl)
+
+past : {A : Type 0} {x : Res A} {a : A} {m : ℕ} (i : ℕ) (ms : List ℕ) (n k : ℕ) → x ≡ ok a m → FirstRefused (i + 1) ms n k
+    → FirstRefused i (refusalIn x ∷ ms) n k
+past i ms n k e f = rw e f
+
+module _ {A B : Type 0} {Q : B → Type 0} {c : Call} {things : List ℕ} {columns : ℕ} {ns : List ℕ} {x : Res A} {f : A → Answer B} where
+  -- a layout or table at the place i, those after it having the refusals ms
+  thing-in : (i : ℕ) (ms : List ℕ) → RefusesIn ns x → all (asThing c) ns ≡ true → ((n : ℕ) → FirstRefused i (refusalIn x ∷ ms) n i → FirstRefused 1 things n i)
+      → ((a : A) (m : ℕ) → x ≡ ok a m → Answers Q (Refusal c things columns) (f a)) → Answers Q (Refusal c things columns) (readAt i x f)
+  unfolding asThing has
+  thing-in i ms o s t g = read-in i x (λ n e. at-thing (number n e) (t n (first-refused i ms (positive n e) e))) g
+    where
+      number : (n : ℕ) → x ≡ refuse n → asThing c n ≡ true
+      number n e = all-in (asThing c) ns n s (refused-in o e)
+
+      positive : (n : ℕ) → x ≡ refuse n → 0 < n
+      positive n e = ltb-true 0 n (both (isIn n (refusalsOf c)) (both (has c n) (number n e) .0) .1)
+
+  -- a plan or a record, whose refusals have the place 0
+  other-in : RefusesIn ns x → all (asOther c) ns ≡ true → ((a : A) (m : ℕ) → x ≡ ok a m → Answers Q (Refusal c things columns) (f a))
+      → Answers Q (Refusal c things columns) (readAt 0 x f)
+  other-in o s g = read-in 0 x (λ n e. at-zero (all-in (asOther c) ns n s (refused-in o e)) refl) g
+
+-- ---- two layouts, read in turn
+
+module _ (c : Call) (incoming target : Bytes) (ms : List ℕ) {B : Type 0} {Q : B → Type 0} {columns : ℕ} where
+  layouts-in : {g : Layout → Layout → Answer B}
+      → ((a b : Layout) (i j : ℕ) → layout incoming ≡ ok a i → layout target ≡ ok b j → Answers Q (Refusal c (layoutsRead incoming target ms) columns) (g a b))
+      → Answers Q (Refusal c (layoutsRead incoming target ms) columns) (readAt 1 (layout incoming) (λ a. readAt 2 (layout target) (λ b. g a b)))
+  layouts-in h =
+      thing-in 1 (refusalIn (layout target) ∷ ms) (layout-in incoming) (layouts-as c) (λ n f. f) (λ a i p.
+      thing-in 2 ms (layout-in target) (layouts-as c) (λ n f. past 1 (refusalIn (layout target) ∷ ms) n 2 p f) (λ b j q. h a b i j p q))
+
+-- ---- reading a layout
+
+pub read-layout-in : (s : Bytes) → Answers (λ l. Unit {0}) (Refusal readingLayout (refusalIn (layout s) ∷ []) 0) (readLayout s)
+read-layout-in s = thing-in 1 [] (layout-in s) (layouts-as readingLayout) (λ n f. f) (λ l i p. in-accepted tt)
+
+-- ---- the builds
+
+abbrev Short : Bytes → Type 0
+Short b = length b ≤ longestPlan
+
+counted : (target : Bytes) {l : Layout} {m : ℕ} {k : ℕ} → layout target ≡ ok l m → k < countColumns (l .columns) → k < columnCount target
+counted target e h = rw e h
+
+module _ (v : Version) (p : Policy) (incoming target : Bytes) (ms : List ℕ) (space : ℕ) where
+  abbrev Refused : ℕ → ℕ → Type 0
+  Refused = Refusal (building v) (layoutsRead incoming target ms) (columnCount target)
+
+  build-layouts-in : (f : Columns → Columns → Answer Bytes)
+      → ((a b : Layout) (i j : ℕ) → layout incoming ≡ ok a i → layout target ≡ ok b j → Answers Short Refused (f (a .columns) (b .columns)))
+      → Answers Short Refused (bothLayouts v incoming target f)
+  unfolding bothLayouts ofVersion isIn
+  build-layouts-in f h =
+      layouts-in (building v) incoming target ms (λ a b i j p q.
+      placed-in {ns = 10 ∷ []} 0 (demand-in _ 10 refl in-gives) (λ n e. at-zero (all-in (asOther (building v)) (10 ∷ []) n (version-as v) e) refl) (λ x.
+      h a b i j p q))
+
+  columns-in : (d : Defaults) → DefaultsIn (columnRefusals v) d → (from : Columns) {l : Layout} {j : ℕ} → layout target ≡ ok l j
+      → Answers Short Refused (answered (build v p d from (l .columns)) (λ ss. writtenPlan space ss))
+  columns-in d o from {l} q =
+      answered-in (build-in v p d o from (l .columns))
+      (λ n k r. at-column (all-in (asColumn (building v)) (columnRefusals v) n (columns-as v) (r .among)) (counted target q (r .place)))
+      (λ ss x. plan-written-in space ss (at-zero (plan-length-as v) refl))
+
+pub by-name-in : (p : Policy) (incoming target : Bytes) (space : ℕ)
+    → Answers (λ b. length b ≤ longestPlan) (Refusal (building ByName) (layoutsRead incoming target []) (columnCount target))
+    (buildByName p incoming target space)
+unfolding buildByName
+by-name-in p incoming target space =
+    build-layouts-in ByName p incoming target [] space _ (λ a b i j r q.
+    columns-in ByName p incoming target [] space noDefaults (none-in (columnRefusals ByName)) (a .columns) q)
+
+pub by-number-in : (p : Policy) (index : ℕ) (incoming target defaults : Bytes) (space : ℕ)
+    → Answers (λ b. length b ≤ longestPlan) (Refusal (building ByNumber) (layoutsRead incoming target (tableRead defaults)) (columnCount target))
+    (buildByNumber p index incoming target defaults space)
+unfolding buildByNumber
+by-number-in p index incoming target defaults space =
+    let more = tableRead defaults in
+    build-layouts-in ByNumber p incoming target more space _ (λ a b i j r q.
+    thing-in 3 [] (table-in defaults) table-as (λ n f. past 1 (refusalIn (layout target) ∷ more) n 3 r (past 2 more n 3 q f)) (λ es m t.
+    columns-in ByNumber p incoming target more space (getDefaultValue es index) (lookup-in es index) (a .columns) q))
+
+-- ---- the check and the run
+
+-- the calls that check a plan
+data Checks : Call → Type 0 where
+  by-check : Checks checkingPlan
+  by-run : Checks running
+
+malformed-as : {c : Call} → Checks c → all (asOther c) (30 ∷ []) ≡ true
+unfolding all asOther has isIn
+malformed-as by-check = refl
+malformed-as by-run = refl
+
+selectors-as : {c : Call} → Checks c → all (asColumn c) selectorRefusals ≡ true
+unfolding all asColumn has isIn
+selectors-as by-check = refl
+selectors-as by-run = refl
+
+differs-as : {c : Call} → Checks c → asOther c 33 ≡ true
+unfolding asOther has isIn
+differs-as by-check = refl
+differs-as by-run = refl
+
+record-as : all (asOther running) recordRefusals ≡ true
+unfolding all asOther has isIn
+record-as = refl
+
+overflow-as : asOther running 44 ≡ true
+unfolding asOther has isIn
+overflow-as = refl
+
+output-length-as : asOther running 45 ≡ true
+unfolding asOther has isIn
+output-length-as = refl
+
+selected : (bytes : Bytes) {ss : Selectors} {m k : ℕ} → plan bytes ≡ ok ss m → k < countSelectors ss → k < selectorCount bytes
+selected bytes e h = rw e h
+
+module _ {c : Call} (h : Checks c) (incoming target bytes : Bytes) where
+  abbrev Unfit : ℕ → ℕ → Type 0
+  Unfit = Refusal c (layoutsRead incoming target []) (selectorCount bytes)
+
+  plan-read-in : {B : Type 0} {Q : B → Type 0} (g : Fields → Fields → Selectors → Answer B)
+      → ((Γ Δ : Fields) (ss : Selectors) (m : ℕ) → plan bytes ≡ ok ss m → Answers Q Unfit (g Γ Δ ss)) → Answers Q Unfit (readPlan incoming target bytes g)
+  unfolding readPlan
+  plan-read-in g o =
+      layouts-in c incoming target [] (λ a b i j p q.
+      other-in (plan-in bytes) (malformed-as h) (λ ss m e. o (fieldsOf (a .columns)) (fieldsOf (b .columns)) ss m e))
+
+  checked-in : (Γ Δ : Fields) (ss : Selectors) (m : ℕ) → plan bytes ≡ ok ss m → Answers (λ x. Unit {0}) Unfit (check Γ Δ ss)
+  checked-in Γ Δ ss m e =
+      check-in Γ Δ ss (λ n k r. at-column (all-in (asColumn c) selectorRefusals n (selectors-as h) (r .among)) (selected bytes e (r .place)))
+      (at-zero (differs-as h) refl)
+
+pub check-plan-in : (incoming target bytes : Bytes)
+    → Answers (λ x. Unit {0}) (Refusal checkingPlan (layoutsRead incoming target []) (selectorCount bytes)) (checkPlan incoming target bytes)
+unfolding checkPlan
+check-plan-in incoming target bytes = plan-read-in by-check incoming target bytes _ (checked-in by-check incoming target bytes)
+
+pub run-plan-in : (incoming target bytes rec : Bytes) (room : ℕ)
+    → Answers (λ b. length b ≤ longest) (Refusal running (layoutsRead incoming target []) (selectorCount bytes))
+    (runPlan incoming target bytes rec room)
+unfolding runPlan
+run-plan-in incoming target bytes rec room =
+    plan-read-in by-run incoming target bytes _ (λ Γ Δ ss m e.
+    answered-in (checked-in by-run incoming target bytes Γ Δ ss m e) (λ n k r. r) (λ x u.
+    other-in (record-in rec Γ) record-as (λ ρ j q. run-in ρ ss room (at-zero overflow-as refl) (at-zero output-length-as refl))))
+
+-- ---- every place is small
+
+first-within : (i : ℕ) (ms : List ℕ) (n k : ℕ) → FirstRefused i ms n k → k < i + length ms
+first-within i [] n k f = absurd f
+first-within i (zero ∷ ms) n k f = let h = first-within (i + 1) ms n k f in omega arith
+first-within i (suc m ∷ ms) n k f = let h = f .1 in omega arith
+
+pub place-small : {c : Call} {things : List ℕ} {columns n k : ℕ} → Refusal c things columns n k → columns < 65536 → length things ≤ 3 → k < 65536
+place-small {things = things} {n = n} {k = k} R h l = go (isIn n layoutPlaced) (isIn n columnPlaced) refl refl
+  where
+    go : (a b : Bool) → isIn n layoutPlaced ≡ a → isIn n columnPlaced ≡ b → k < 65536
+    go true b p q = let f = first-within 1 things n k (R .ofThing p) in omega arith
+    go false true p q = let f = R .ofColumn q in omega arith
+    go false false p q = let f = R .ofOther p q in omega arith
+
+pub columns-small : (s : Bytes) → AllBytes s → columnCount s < 65536
+columns-small s o = go (layout s) refl
+  where
+    go : (x : Res Layout) → layout s ≡ x → columnsIn x < 65536
+    go (refuse n) e = omega arith
+    go (ok l m) e =
+        let h = layout-limits s o e .count in
+        let q = count-fields (l .columns) in
+        omega arith
+
+pub selectors-small : (s : Bytes) → AllBytes s → selectorCount s < 65536
+selectors-small s o = go (plan s) refl
+  where
+    go : (x : Res Selectors) → plan s ≡ x → selectorsIn x < 65536
+    go (refuse n) e = omega arith
+    go (ok ss m) e = plan-back s o e .counts

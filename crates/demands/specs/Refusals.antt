@@ -1,0 +1,123 @@
+-- Document 01, "Every operation's refusals": the numbers with which each exported call can refuse, and the place of each.
+use Prim.Native.Nat.{ℕ, zero, suc, _+_, _<_}
+use mathlib.Core.Path.{_≡_}
+use mathlib.Core.Bool.{Bool, true, false, _||_}
+use mathlib.Core.List.{List, [], _∷_, _++_}
+use lib.Dec.{eqb}
+use Rattle.layout.specs.Bytes.{Bytes}
+use Rattle.layout.specs.Parser.{Res, refuse, ok}
+use Rattle.layout.specs.Tree.{Layout, countColumns}
+use Rattle.layout.specs.Layout.{layout}
+use Rattle.layout.specs.declared.version.Version.{Version}
+use Rattle.layout.specs.declared.version.Version.the-variants.{ByName, ByNumber}
+use Rattle.plan.specs.Result.{Answer, accepted}
+use Rattle.plan.specs.Selector.{Selectors, countSelectors}
+use Rattle.plan.specs.Read.{plan}
+use Rattle.plan.specs.Calls.{readAt}
+use Rattle.defaults.specs.Table.{table}
+
+-- whether a number stands in a list
+unfoldable pub isIn : ℕ → List ℕ → Bool
+isIn n [] = false
+isIn n (m ∷ ms) = eqb n m || isIn n ms
+
+-- ---- the numbers
+
+-- "Reading a layout"
+abbrev pub layoutRefusals : List ℕ
+layoutRefusals = 1 ∷ 2 ∷ 3 ∷ 4 ∷ 5 ∷ 6 ∷ []
+
+-- "the defaults are read (1 to 6, ..)"
+abbrev pub tableRefusals : List ℕ
+tableRefusals = 1 ∷ 2 ∷ 3 ∷ 4 ∷ 5 ∷ 6 ∷ []
+
+-- "Leaf pairs"
+abbrev pub pairRefusals : List ℕ
+pairRefusals = 15 ∷ 16 ∷ 17 ∷ 18 ∷ 19 ∷ 20 ∷ 21 ∷ 22 ∷ 23 ∷ 24 ∷ []
+
+-- a target column: by name "11 .. or 12 to 24", by number "11, 13 to 26, 28"
+abbrev pub columnRefusals : Version → List ℕ
+columnRefusals ByName = 11 ∷ 12 ∷ 13 ∷ 14 ∷ pairRefusals
+columnRefusals ByNumber = 11 ∷ 13 ∷ 14 ∷ (pairRefusals ++ (25 ∷ 26 ∷ 28 ∷ []))
+
+-- "Checking a plan", after the layouts
+abbrev pub checkRefusals : List ℕ
+checkRefusals = 30 ∷ 31 ∷ 32 ∷ 33 ∷ []
+
+-- "Running": the record
+abbrev pub recordRefusals : List ℕ
+recordRefusals = 43 ∷ 40 ∷ 41 ∷ 42 ∷ []
+
+pub data Call : Type 0 where
+  readingLayout : Call
+  building : Version → Call
+  checkingPlan : Call
+  running : Call
+
+abbrev pub refusalsOf : Call → List ℕ
+refusalsOf readingLayout = layoutRefusals
+refusalsOf (building ByName) = layoutRefusals ++ (10 ∷ (columnRefusals ByName ++ (27 ∷ [])))
+refusalsOf (building ByNumber) = layoutRefusals ++ (10 ∷ (tableRefusals ++ (columnRefusals ByNumber ++ (27 ∷ []))))
+refusalsOf checkingPlan = layoutRefusals ++ checkRefusals
+refusalsOf running = layoutRefusals ++ (checkRefusals ++ (recordRefusals ++ (44 ∷ 45 ∷ [])))
+
+-- ---- the places
+
+-- "for 1 to 6 the layout or table, in reading order from 1"
+abbrev pub layoutPlaced : List ℕ
+layoutPlaced = 1 ∷ 2 ∷ 3 ∷ 4 ∷ 5 ∷ 6 ∷ []
+
+-- "for 11 to 26, 28, 31, 32 the top column's position, from 0"
+abbrev pub columnPlaced : List ℕ
+columnPlaced = 11 ∷ 12 ∷ 13 ∷ 14 ∷ 15 ∷ 16 ∷ 17 ∷ 18 ∷ 19 ∷ 20 ∷ 21 ∷ 22 ∷ 23 ∷ 24 ∷ 25 ∷ 26 ∷ 28 ∷ 31 ∷ 32 ∷ []
+
+-- the number with which reading is refused; 0 where it is not
+abbrev pub refusalIn : {A : Type 0} → Res A → ℕ
+refusalIn (refuse n) = n
+refusalIn (ok a at) = 0
+
+-- Things are read in turn, the first at the place i, each with the number of its refusal: the first that is refused has the
+-- number n and the place k.
+abbrev pub FirstRefused : ℕ → List ℕ → ℕ → ℕ → Type 0
+FirstRefused i [] n k = ⊥
+FirstRefused i (zero ∷ ms) n k = FirstRefused (i + 1) ms n k
+FirstRefused i (suc m ∷ ms) n k = (n ≡ suc m) × (k ≡ i)
+
+-- The call c refuses with n at the place k. It reads the things in turn, as `FirstRefused` has them. The columns are the
+-- target's top columns; in a check or a run, the plan's top selectors.
+pub record Refusal (c : Call) (things : List ℕ) (columns n k : ℕ) : Type 0 where
+  pub listed : isIn n (refusalsOf c) ≡ true
+  pub positive : 0 < n
+  pub ofThing : isIn n layoutPlaced ≡ true → FirstRefused 1 things n k
+  pub ofColumn : isIn n columnPlaced ≡ true → k < columns
+  pub ofOther : isIn n layoutPlaced ≡ false → isIn n columnPlaced ≡ false → k ≡ 0
+
+-- ---- what the calls are lent
+
+-- reading one layout, as a call
+abbrev pub readLayout : Bytes → Answer Layout
+readLayout s = readAt 1 (layout s) (λ l. accepted l)
+
+-- the incoming and the target layout, and what is read after them
+abbrev pub layoutsRead : Bytes → Bytes → List ℕ → List ℕ
+layoutsRead incoming target more = refusalIn (layout incoming) ∷ refusalIn (layout target) ∷ more
+
+-- a table of defaults, read after them
+abbrev pub tableRead : Bytes → List ℕ
+tableRead defaults = refusalIn (table defaults) ∷ []
+
+-- the number of a layout's top columns, 0 where it is refused
+abbrev pub columnsIn : Res Layout → ℕ
+columnsIn (refuse n) = 0
+columnsIn (ok l at) = countColumns (l .columns)
+
+abbrev pub columnCount : Bytes → ℕ
+columnCount s = columnsIn (layout s)
+
+-- the number of a plan's top selectors, 0 where it is refused
+abbrev pub selectorsIn : Res Selectors → ℕ
+selectorsIn (refuse n) = 0
+selectorsIn (ok ss at) = countSelectors ss
+
+abbrev pub selectorCount : Bytes → ℕ
+selectorCount s = selectorsIn (plan s)
