@@ -9,6 +9,8 @@
 import os
 import struct
 
+import lists
+
 ROOT = os.path.dirname(os.path.dirname(os.path.abspath(__file__)))
 EXAMPLES = os.path.join(ROOT, "examples")
 PROGRAM = os.path.join(ROOT, "crates", "apply")
@@ -120,7 +122,7 @@ def table(*entries):
 
 
 # Each folder: what it shows, the policy word, and its files. With `defaults.def` the plan is built by number, for source 0.
-ALL_ON = 0x3FFF
+ALL_ON = lists.Policy(lists.Refusals()).word()
 
 FOLDERS = {
     "neighbour": (

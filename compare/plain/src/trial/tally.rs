@@ -3,6 +3,10 @@
 use crate::judge::Call;
 use std::collections::BTreeMap;
 use std::fmt;
+use std::ops::RangeInclusive;
+
+/// The numbers of docs/refusals.txt.
+const NUMBERS: [RangeInclusive<u32>; 4] = [1..=6, 10..=28, 30..=33, 40..=45];
 
 #[derive(Default)]
 pub struct Tally {
@@ -38,10 +42,11 @@ impl Tally {
         Call::ALL.map(one).join(", ")
     }
 
-    /// The numbers of document 01 that no call gave.
+    /// The numbers that no call gave.
     pub fn unmet(&self) -> Vec<u32> {
-        let numbers = (1..=6).chain(10..=28).chain(30..=33).chain(40..=45);
-        numbers
+        NUMBERS
+            .into_iter()
+            .flatten()
             .filter(|number| !self.counts.contains_key(number))
             .collect()
     }
