@@ -8,14 +8,19 @@
  * Proved of every call, whatever the bytes that it is lent: it ends, reads nothing outside of them, writes nothing but
  * the buffer that is lent for its result, and answers as crates/selector/specs defines. A refused call changes no byte
  * of that buffer. An accepted one writes its result from the buffer's start and changes no byte after it. A call
- * allocates no memory, keeps nothing for a later call and calls no other library, so that threads may call at the same
- * time.
+ * allocates no memory and keeps nothing for a later call, so that threads may call at the same time.
+ *
+ * Of C the archive needs memcpy, memmove and memset, and nothing else; examples/freestanding.c has the three for
+ * firmware without a C library. Its code is position independent, uses the registers of the x86-64 baseline, SSE2 among
+ * them, and the red zone below the stack pointer, as that system's calling convention allows.
  *
  * What is asked of the caller, and of the caller alone:
  *   - a pointer and the length after it give bytes that can be read, and that nothing else writes until the call
  *     returns; the buffer for a result can be written;
- *   - the buffer for a result overlaps none of the other arguments. These may overlap each other;
- *   - no pointer is null. Where a length is 0 the pointer is not followed, and any other address will do;
+ *   - the buffer for a result overlaps none of the other arguments: a result can't be written over an input. The others
+ *     may overlap each other;
+ *   - where a length is 0 the pointer is not followed, so that it may be null or any other address (compare/c/empty
+ *     tries it). No other pointer is null;
  *   - there is as much stack as the macro named at the function says.
  *
  * An answer is number * 2^32 + rest. The number is 0 where the call is accepted, and else says why it is refused. The
