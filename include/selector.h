@@ -51,7 +51,8 @@ extern "C" {
 #define SELECTOR_PLAN_MAX 65536
 #define SELECTOR_RECORD_MAX 16384
 
-/* The most stack that a call takes, in bytes, as compiled here; compare/c/stack measures it. */
+/* The most stack that a call takes, in bytes, as compiled here. compare/c/stack measures it, of reading compare/c/cost;
+ * no proof counts it. */
 #define SELECTOR_READ_STACK 16384
 #define SELECTOR_BUILD_STACK 139264
 #define SELECTOR_CHECK_STACK 163840
