@@ -311,9 +311,11 @@ def trials(refusals, policy):
         given[kinds[kind]] |= set(range(int(first), int(last) + 1))
     for call, numbers in given.items():
         compare_sets(file, "refusals of %s" % call, refusals.of_call(call), numbers)
-    file = "compare/plain/src/trial/tally.rs"
-    numbers = found_once(file, r"const NUMBERS: \[RangeInclusive<u32>; \d+\] = \[([^\]]*)\];", read(file))
-    compare_sets(file, "NUMBERS", set(refusals.by_number), numbers_of(numbers or ""))
+    file = "compare/plain/src/trial/judge.rs"
+    listed = dict(re.findall(r"Call::(\w+) => matches!\(number, ([^)]*)\)", read(file)))
+    for call in CALLS:
+        numbers = listed.get(call.title().replace("_", ""), "")
+        compare_sets(file, "refusals of %s" % call, refusals.of_call(call), numbers_of(numbers))
     file = "compare/plain/src/policy.rs"
     text = read(file)
     bits = {name.lower(): int(bit) for name, bit in re.findall(r"pub const (\w+): u32 = 1 << (\d+);", text)}

@@ -3,10 +3,6 @@
 use crate::judge::Call;
 use std::collections::BTreeMap;
 use std::fmt;
-use std::ops::RangeInclusive;
-
-/// The numbers of docs/refusals.txt.
-const NUMBERS: [RangeInclusive<u32>; 4] = [1..=6, 10..=28, 30..=33, 40..=45];
 
 #[derive(Default)]
 pub struct Tally {
@@ -42,11 +38,10 @@ impl Tally {
         Call::ALL.map(one).join(", ")
     }
 
-    /// The numbers that no call gave.
+    /// The numbers that some call has and none gave.
     pub fn unmet(&self) -> Vec<u32> {
-        NUMBERS
-            .into_iter()
-            .flatten()
+        (1..=u8::MAX.into())
+            .filter(|number| Call::ALL.iter().any(|call| call.has(*number)))
             .filter(|number| !self.counts.contains_key(number))
             .collect()
     }
