@@ -8,11 +8,15 @@
 # plan again and runs it).
 import os
 import struct
+import textwrap
+
+import lists
 
 ROOT = os.path.dirname(os.path.dirname(os.path.abspath(__file__)))
 EXAMPLES = os.path.join(ROOT, "examples")
 PROGRAM = os.path.join(ROOT, "crates", "apply")
 
+BOOLEAN = b"\x01"
 INT8, INT16, INT32, INT64 = b"\x02", b"\x03", b"\x04", b"\x05"
 FLOAT32, FLOAT64 = b"\x0b", b"\x0c"
 STRING, CATEGORY = b"\x0f", b"\x11"
@@ -115,12 +119,17 @@ def initial(ident, kind, value):
     return u32(ident) + b"\x00" + kind + value
 
 
+# The values of a partition that were loaded, one for each source.
+def loaded(ident, kind, *values):
+    return u32(ident) + b"\x01\x00" + kind + u16(len(values)) + b"".join(values)
+
+
 def table(*entries):
     return b"DEF" + u16(1) + u16(len(entries)) + b"".join(entries)
 
 
 # Each folder: what it shows, the policy word, and its files. With `defaults.def` the plan is built by number, for source 0.
-ALL_ON = 0x3FFF
+ALL_ON = lists.Policy(lists.Refusals()).word()
 
 FOLDERS = {
     "neighbour": (
@@ -187,6 +196,35 @@ FOLDERS = {
             "output.bin": number("i", -2) + NULL,
         },
     ),
+    "sluice": (
+        "By number, and small: the worked example of docs/FORMATS.md. A number and the elements of a list are widened, a struct gains a field with an initial"
+        " default, and a column is filled by a partition's value.",
+        ALL_ON,
+        {
+            "incoming.lay": layout(
+                2,
+                column("level", INT16, 1),
+                column("marks", list_of(column("mark", INT8, 3)), 2),
+                column("gate", struct_of(column("open", BOOLEAN, 5)), 4),
+            ),
+            "target.lay": layout(
+                2,
+                column("level", INT32, 1),
+                column("marks", list_of(column("mark", INT16, 3)), 2),
+                column("gate", struct_of(column("open", BOOLEAN, 5), column("limit", INT8, 6)), 4),
+                column("works", STRING, 7),
+            ),
+            "defaults.def": table(initial(6, INT8, number("b", 40)), loaded(7, STRING, string("north"))),
+            "plan.pln": plan(
+                cast(position(0), INT32, OVERFLOWING),
+                list_mapping(position(1), cast(position(0), INT16, OVERFLOWING)),
+                struct_mapping(position(2), position(0), constant("limit", INT8, number("b", 40))),
+                constant("works", STRING, string("north")),
+            ),
+            "record.bin": number("h", -2) + many(number("b", 7), NULL) + present(number("?", True)),
+            "output.bin": number("i", -2) + many(number("h", 7), NULL) + present(number("?", True), number("b", 40)) + string("north"),
+        },
+    ),
     "overflow": (
         "By name: a date-time in milliseconds that nanoseconds of 64 bits do not reach, so that the run is refused with 44 (sample S6).",
         ALL_ON,
@@ -210,7 +248,7 @@ def write(folder, name, data):
 def main():
     for name, (about, policy, files) in FOLDERS.items():
         folder = os.path.join(EXAMPLES, name)
-        write(folder, "about.txt", ("%s\nPolicy word: %d.\n" % (about, policy)).encode())
+        write(folder, "about.txt", ("%s\nPolicy word: %d.\n" % (textwrap.fill(about, 120), policy)).encode())
         for file, data in files.items():
             write(folder, file, data)
     files = FOLDERS["neighbour"][2]

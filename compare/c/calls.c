@@ -15,7 +15,7 @@
 #include <stdlib.h>
 #include <string.h>
 
-enum { INPUTS = 4, SPACE = 73728, FILL = 165 };
+enum { INPUTS = 4, SPACE = 73728, FILL = 165, NUMBERS = 128 };
 
 /* --- memory between pages that cannot be touched ------------------------------------------------------------------------------ */
 
@@ -132,7 +132,7 @@ static void replay(unsigned long line, const call *c, const char *number, const 
 /* --- damaged inputs ----------------------------------------------------------------------------------------------------------- */
 
 static uint64_t state;
-static unsigned long met[KINDS][64], accepted[KINDS];
+static unsigned long met[KINDS][NUMBERS], accepted[KINDS];
 
 static uint32_t random_below(uint32_t n) { return below(&state, n); }
 
@@ -175,24 +175,30 @@ static void damage(call *c) {
         }
         break;
     default:
-        c->policy ^= 1u << random_below(14);
+        c->policy ^= 1u << random_below(32);
         c->space = random_below(4) == 0 ? random_below(64) : c->space;
     }
 }
 
+/* The refusals of each call, from one number to another, as docs/refusals.txt has them. */
+static const struct {
+    enum kind kind;
+    uint32_t first, last;
+} refusals[] = {
+    {BUILD_NAME, 1, 6}, {BUILD_NAME, 10, 24}, {BUILD_NAME, 27, 27},
+    {BUILD_NUMBER, 1, 6}, {BUILD_NUMBER, 10, 11}, {BUILD_NUMBER, 13, 28},
+    {CHECK, 1, 6}, {CHECK, 30, 33},
+    {RUN, 1, 6}, {RUN, 30, 33}, {RUN, 40, 45},
+};
+
 /* Whether a call of the kind may answer with the number. */
 static int possible(enum kind kind, uint32_t n) {
-    int reading = n >= 1 && n <= 6, plan = n >= 30 && n <= 33;
-    switch (kind) {
-    case BUILD_NAME:
-        return n == 0 || reading || (n >= 10 && n <= 24) || n == 27;
-    case BUILD_NUMBER:
-        return n == 0 || reading || n == 10 || n == 11 || (n >= 13 && n <= 28);
-    case CHECK:
-        return n == 0 || reading || plan;
-    default:
-        return n == 0 || reading || plan || (n >= 40 && n <= 45);
-    }
+    if (n == 0)
+        return 1;
+    for (size_t i = 0; i < sizeof refusals / sizeof *refusals; i++)
+        if (refusals[i].kind == kind && n >= refusals[i].first && n <= refusals[i].last)
+            return 1;
+    return 0;
 }
 
 /* What holds of every call, and of a plan that was built. */
@@ -200,7 +206,7 @@ static int lawful(const call *c, int side) {
     uint64_t given = made(c, side);
     uint32_t number = SELECTOR_NUMBER(given);
     const uint8_t *out = place(INPUTS, c->space, side);
-    if (number < 64)
+    if (number < NUMBERS)
         met[c->kind][number]++;
     if (!possible(c->kind, number))
         return 0;
@@ -261,7 +267,7 @@ int main(int count, char **words) {
     each_line(words[1], one_line);
     for (int k = 0; k < KINDS; k++) {
         printf("%s: %lu cases; damaged, by number:", names[k], cases[k]);
-        for (int n = 0; n < 64; n++)
+        for (int n = 0; n < NUMBERS; n++)
             if (met[k][n] != 0)
                 printf(" %d:%lu", n, met[k][n]);
         printf("\n");

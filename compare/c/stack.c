@@ -120,14 +120,16 @@ static void label(int i, uint32_t version, uint32_t name, uint32_t id) {
         put(i, id, 4);
 }
 
-/* A layout of so many columns, of which the last has so many levels with a leaf inside. A struct has as many fields, of which the last goes on. */
-static void nested(int i, uint32_t version, uint32_t code, uint32_t levels, uint32_t fields, uint32_t leaf) {
+/* A layout whose last column has so many levels with a leaf inside. From one level on, the top being 0, there are so
+ * many columns or fields, of which the last goes on; before it there is one. */
+static void nested_from(int i, uint32_t version, uint32_t code, uint32_t levels, uint32_t from, uint32_t fields,
+                        uint32_t leaf) {
     length[i] = 0;
     put(i, 'L' | 'A' << 8 | 'Y' << 16, 3);
     put(i, version, 2);
-    put(i, fields, 2);
+    put(i, from == 0 ? fields : 1, 2);
     for (uint32_t k = 0; k <= levels; k++) {
-        for (uint32_t j = 1; j < fields; j++) {
+        for (uint32_t j = 1; k >= from && j < fields; j++) {
             label(i, version, 'A' + j, 64 * (k + 1) + j);
             put(i, 3, 1);
         }
@@ -135,14 +137,19 @@ static void nested(int i, uint32_t version, uint32_t code, uint32_t levels, uint
             label(i, version, 'a', k + 1);
         put(i, k < levels ? code : leaf, 1);
         if (k < levels && code != 19)
-            put(i, code == 18 ? fields : 1, code == 18 ? 2 : 4);
+            put(i, code == 18 && k + 1 >= from ? fields : 1, code == 18 ? 2 : 4);
     }
 }
 
+/* The same with so many at every level. */
+static void nested(int i, uint32_t version, uint32_t code, uint32_t levels, uint32_t fields, uint32_t leaf) {
+    nested_from(i, version, code, levels, 0, fields, leaf);
+}
+
 /* From one such layout to another with a cast at the bottom, and from no column, so that the target's are constants. */
-static void deepest_of(uint32_t version, uint32_t code, uint32_t fields) {
-    nested(0, version, code, 15, fields, 3);
-    nested(1, version, code, 15, fields, 5);
+static void deepest_of(uint32_t version, uint32_t code, uint32_t from, uint32_t fields) {
+    nested_from(0, version, code, 15, from, fields, 3);
+    nested_from(1, version, code, 15, from, fields, 5);
     length[2] = 7;
     memcpy(bytes[2], "DEF\x01\x00\x00\x00", 7);
     kind = version == 1 ? BUILD_NAME : BUILD_NUMBER;
@@ -152,15 +159,18 @@ static void deepest_of(uint32_t version, uint32_t code, uint32_t fields) {
     measure();
 }
 
-/* Columns and fields by 32 have tables on the stack, and their plans the longer buffer. Extra fields are looked for where they are not ignored. */
+/* More than 16 columns or fields have tables on the stack: structs of 18 fields from each level on, and of 32 at every
+ * level, whose plan goes into the longer buffer at once. Extra fields are looked for where they are not ignored. */
 static void deepest(void) {
     space = SPACE;
     for (uint32_t version = 1; version <= 2; version++)
         for (uint32_t ignore = 0; ignore <= 1; ignore++) {
             policy = ignore ? SELECTOR_ALLOW_ALL : SELECTOR_ALLOW_ALL & ~SELECTOR_IGNORE_EXTRA_FIELDS;
             for (uint32_t code = 18; code <= 20; code++)
-                deepest_of(version, code, 1);
-            deepest_of(version, 18, 32);
+                deepest_of(version, code, 0, 1);
+            for (uint32_t from = 0; from <= 15; from++)
+                deepest_of(version, 18, from, 18);
+            deepest_of(version, 18, 0, 32);
         }
 }
 
@@ -212,6 +222,36 @@ static void deepest_plans(void) {
             bytes[3][0] = 0;
             measure();
         }
+}
+
+/* 63 struct mappings nested as fields, each over a constant struct of one field, which the innermost takes: the check
+ * refuses them, but only once it has been there. */
+static void fields_over_constants(void) {
+    nested(0, 1, 18, 15, 1, 3);
+    nested(1, 1, 18, 15, 1, 3);
+    length[2] = 0;
+    put(2, 'P' | 'L' << 8 | 'N' << 16, 3);
+    put(2, 1, 2);
+    put(2, 1, 2);
+    for (int k = 1; k <= 63; k++) {
+        put(2, 4, 1);
+        put(2, 1, 2); /* a constant without a name: */
+        put(2, 18, 1);
+        put(2, 1, 2);
+        put(2, 0x027801, 3); /* a struct of "x", int8, */
+        put(2, 0x0001, 2);   /* present, with null inside */
+        put(2, 1, 2);        /* to one field */
+    }
+    put(2, 0, 3); /* which is position 0 */
+    length[3] = 1;
+    bytes[3][0] = 0;
+    kind = CHECK;
+    measure();
+    kind = RUN;
+    measure();
+    uint64_t answer = selector_check_plan(bytes[0], length[0], bytes[1], length[1], bytes[2], length[2]);
+    if (answer != (uint64_t)SELECTOR_UNFIT_TRANSFORM << 32)
+        exit(2);
 }
 
 /* Selectors of a struct of 32 fields: each its own position, the last a struct mapping of it, so many levels deep. */
@@ -268,6 +308,7 @@ int main(int count, char **words) {
         return 2;
     deepest();
     deepest_plans();
+    fields_over_constants();
     composed_plans();
     each_line(words[1], one_line);
     int within = 1;

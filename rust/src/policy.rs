@@ -38,7 +38,7 @@ impl Policy {
     /// A column that is missing is inserted.
     pub const INSERT_MISSING_COLUMNS: Policy = Policy(1 << 13);
     /// Everything is allowed.
-    pub const ALL: Policy = Policy((1 << 14) - 1);
+    pub const ALL: Policy = Policy(0x3FFF);
 
     /// The policy of a word of the C interface; bits without a meaning are ignored.
     pub const fn from_word(word: u32) -> Policy {

@@ -2,8 +2,9 @@
 
 use core::fmt;
 
-/// A refusal's number in document 01, and its place: which layout or table, counted from 1 as they are read (1 to 6); the target's top column (11 to 26, 28) or the
-/// plan's top selector (31, 32), from 0; else 0.
+/// A refusal's number and its place: which layout or table, counted from 1 as they are read (1 to 6); the target's top
+/// column (11 to 26, 28) or the plan's top selector (31, 32), from 0; else 0. docs/FORMATS.md says what causes each, and
+/// what to do about it.
 #[derive(Clone, Copy, Debug, PartialEq, Eq, Hash)]
 pub struct Refusal {
     /// The number.
@@ -22,44 +23,55 @@ impl Refusal {
         })
     }
 
-    /// What the number means.
+    /// What the number means, in the words of docs/refusals.txt.
     pub fn meaning(self) -> &'static str {
         match self.number {
-            1 => "no known mark and version",
+            1 => "not a known mark and version",
             2 => "the bytes end early",
-            3 => "an unknown code or unit, or a value that doesn't fit",
-            4 => "too many bytes, too long a name or zone, or too deep a type",
-            5 => "a repeated name or id",
+            3 => {
+                "unknown type code or unit; of a table: unknown type code, unit, kind or load byte, \
+                 a type that is no leaf, or a value that does not fit its type"
+            }
+            4 => {
+                "more than 16384 bytes, a name or zone of more than 63, or a type deeper than 16; \
+                 of a table: more than 16384 bytes, or a zone of more than 63"
+            }
+            5 => {
+                "a column repeats a sibling's name or id; \
+                 of a table: an entry repeats an id of its kind"
+            }
             6 => "bytes are left over",
-            10 => "a layout of another version",
-            11 => "a missing column",
+            10 => "a layout of the wrong version",
+            11 => "a target column has no counterpart, and missing columns are not inserted",
             12 => "a struct repeats a field's name",
-            13 => "an extra field",
-            14 => "a missing field",
+            13 => "an incoming struct has a field that the target lacks, and such are not ignored",
+            14 => "a target struct's field has no counterpart, and missing fields are not inserted",
             15 => "null to another type is not allowed",
-            16 => "integers are not to be widened",
-            17 => "an integer's range doesn't hold the incoming one's",
-            18 => "floats are not to be widened",
-            19 => "floats are not to be narrowed",
-            20 => "integers are not to become floats",
-            21 => "zones are not to be changed",
-            22 => "the date-time's unit is not to be changed",
-            23 => "categories are not to become strings",
+            16 => "a cast between integers is not allowed",
+            17 => "the target's range lacks an incoming value",
+            18 => "a cast to a wider float is not allowed",
+            19 => "a cast to a narrower float is not allowed",
+            20 => "a cast of an integer to a float is not allowed",
+            21 => "a change of time zone is not allowed",
+            22 => "a change of time unit is not allowed",
+            23 => "a cast of a category to a string is not allowed",
             24 => "no rule takes the one type to the other",
-            25 => "the elements' ids differ",
-            26 => "a default could not be loaded",
-            27 => "the plan is too long",
-            28 => "a default of another type",
-            30 => "no plan",
-            31 => "no such position",
-            32 => "a transform doesn't fit, or its result is too large a type",
-            33 => "the plan gives other columns than the target's",
+            25 => "the elements of two lists or arrays have different ids",
+            26 => "the default wanted is a partition's value that could not be loaded",
+            27 => "the plan is longer than the buffer or 65536 bytes",
+            28 => "the default taken has a type unlike the field's",
+            30 => "malformed plan",
+            31 => "a selector takes a position that is not there",
+            32 => {
+                "a transform does not fit its input, or its result is too deep or too large a type"
+            }
+            33 => "names, types or count of the columns made differ from the target's",
             40 => "the record ends early",
             41 => "a bad presence or boolean byte in the record",
             42 => "bytes of the record are left over",
-            43 => "the record is too long",
+            43 => "the record has more than 16384 bytes",
             44 => "a date-time is too large for its finer unit",
-            45 => "the output is too long",
+            45 => "the output exceeds the buffer or 16384 bytes",
             _ => "unknown",
         }
     }

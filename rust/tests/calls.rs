@@ -64,7 +64,7 @@ fn a_refusal_is_said_in_words() {
     let refusal = Plan::build_by_name(Policy::NONE, OLDER, OURS).unwrap_err();
     assert_eq!(
         refusal.to_string(),
-        "refused 16: integers are not to be widened (column 0)"
+        "refused 16: a cast between integers is not allowed (column 0)"
     );
 }
 

@@ -7,11 +7,8 @@ pub mod records;
 
 use crate::case::{Case, Number};
 use crate::form::{self, Column, DEPTH_LIMIT, Default, Entry, LAYOUT_LIMIT, Layout, Leaf, Type};
+use crate::policy::{ALL, BITS};
 use crate::random::Random;
-
-/// Every flag on, Insert and Ignore.
-pub const ALL: u32 = 0x3FFF;
-pub const POLICY_BITS: u32 = 14;
 
 const ELEMENT: u32 = u32::MAX;
 const LEAF_KINDS: u64 = 20;
@@ -76,12 +73,12 @@ fn one(random: &mut Random, style: &Style) -> Case {
 }
 
 fn policy(random: &mut Random, style: &Style) -> u32 {
-    let bit = |random: &mut Random| 1 << random.below(POLICY_BITS as u64);
+    let bit = |random: &mut Random| 1 << random.below(BITS as u64);
     let policy = match (random.below(100), style.tame) {
         (0..50, true) | (0..40, false) => ALL,
         (50..80, true) | (40..60, false) => ALL & !bit(random),
         (80..90, true) | (60..75, false) => ALL & !bit(random) & !bit(random) & !bit(random),
-        (_, true) | (75..90, _) => random.below(1 << POLICY_BITS) as u32,
+        (_, true) | (75..90, _) => random.below(1 << BITS) as u32,
         (90..96, _) => bit(random),
         _ => 0,
     };

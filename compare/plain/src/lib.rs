@@ -11,6 +11,7 @@ pub mod form;
 pub mod generate;
 pub mod hex;
 pub mod number;
+pub mod policy;
 pub mod random;
 mod reader;
 pub mod rules;

@@ -9,7 +9,7 @@ use column_selector::call as library;
 use plain::call as plainly;
 use plain::case::{Case, Number};
 use plain::form::{self, Column, LAYOUT_LIMIT, Layout, Leaf, PLAN_LIMIT, RECORD_LIMIT, Type};
-use plain::generate::ALL;
+use plain::policy::ALL;
 use plain::rules::CastOption;
 use plain::write;
 use std::hint::black_box;

@@ -3,13 +3,12 @@
 use plain::case::{Case, Number};
 use plain::form::{Column, Default, Entry, Layout, Leaf, LeafValue, Type};
 use plain::form::{write_defaults, write_layout};
+use plain::policy::{
+    self, DATETIME_CONVERT_TIMEZONE, EXTRA_STRUCT_FIELDS, MISSING_COLUMNS, MISSING_STRUCT_FIELDS,
+};
 
-/// Every flag on, and extra top columns ignored.
-const ALL: u32 = 0xBFFF;
-const INSERT_FIELDS: u32 = 1 << 11;
-const IGNORE_FIELDS: u32 = 1 << 12;
-const INSERT_COLUMNS: u32 = 1 << 13;
-const ZONE: u32 = 1 << 5;
+/// Every flag on, and bit 15, which is kept for extra top columns.
+const ALL: u32 = policy::ALL | 1 << 15;
 const ELEMENT: u32 = u32::MAX;
 
 fn column(name: &str, id: u32, type_: Type) -> Column {
@@ -103,14 +102,22 @@ fn types(cases: &mut Vec<Case>) {
     let target = [column("t", 1, leaf(4)), column("s", 2, leaf(15))];
     cases.push(by_name(ALL, &[column("t", 1, leaf(3))], &target));
     cases.push(by_name(
-        ALL & !INSERT_COLUMNS,
+        ALL & !MISSING_COLUMNS,
         &[column("t", 1, leaf(3))],
         &target,
     ));
     cases.extend(both(ALL, &leaf(8), &leaf(4)));
     cases.extend(both(ALL, &leaf(8), &leaf(5)));
-    cases.extend(both(ALL & !ZONE, &datetime(1, ""), &datetime(1, "UTC")));
-    cases.extend(both(ALL & !ZONE, &datetime(1, ""), &datetime(1, "Z")));
+    cases.extend(both(
+        ALL & !DATETIME_CONVERT_TIMEZONE,
+        &datetime(1, ""),
+        &datetime(1, "UTC"),
+    ));
+    cases.extend(both(
+        ALL & !DATETIME_CONVERT_TIMEZONE,
+        &datetime(1, ""),
+        &datetime(1, "Z"),
+    ));
     cases.extend(both(ALL, &array(2, 2, leaf(2)), &array(3, 2, leaf(2))));
 
     let nested = [structure(&[]), list(2, leaf(2)), array(1, 2, leaf(2))];
@@ -131,11 +138,15 @@ fn structs(cases: &mut Vec<Case>) {
     let (a, b) = (structure(&[int8("a", 2)]), structure(&[int8("b", 4)]));
     cases.extend(both(ALL, &repeated, &repeated));
     // 12 before 13.
-    cases.extend(both(ALL & !IGNORE_FIELDS, &repeated, &b));
-    cases.extend(both(ALL & !IGNORE_FIELDS, &b, &repeated));
+    cases.extend(both(ALL & !EXTRA_STRUCT_FIELDS, &repeated, &b));
+    cases.extend(both(ALL & !EXTRA_STRUCT_FIELDS, &b, &repeated));
     // 13 before 14.
-    cases.extend(both(ALL & !IGNORE_FIELDS & !INSERT_FIELDS, &a, &b));
-    cases.extend(both(ALL & !INSERT_FIELDS, &a, &b));
+    cases.extend(both(
+        ALL & !EXTRA_STRUCT_FIELDS & !MISSING_STRUCT_FIELDS,
+        &a,
+        &b,
+    ));
+    cases.extend(both(ALL & !MISSING_STRUCT_FIELDS, &a, &b));
     cases.extend(both(ALL, &a, &b));
     cases.extend(both(ALL, &structure(&[]), &structure(&[])));
     // Structs that are not visited are not tested for repeated names.
@@ -183,7 +194,7 @@ fn defaults(cases: &mut Vec<Case>) {
     let mut missing = |entries: &[Entry]| {
         cases.push(by_number(ALL, &top(&empty), &top(&field), entries));
         cases.push(by_number(
-            ALL & !INSERT_FIELDS,
+            ALL & !MISSING_STRUCT_FIELDS,
             &top(&empty),
             &top(&field),
             entries,

@@ -2,7 +2,7 @@
 
 use plain::case::{Case, Number};
 use plain::form::{Column, Layout, Leaf, Type, write_defaults, write_layout};
-use plain::generate::{ALL, POLICY_BITS};
+use plain::policy::{ALL, BITS};
 
 const ZONES: [&str; 4] = ["", "UTC", "Europe/Oslo", "Etc/UTC"];
 
@@ -22,7 +22,7 @@ fn leaves() -> Vec<Leaf> {
 
 /// Everything allowed, nothing allowed, and each flag off or on alone.
 pub fn single_flags() -> Vec<u32> {
-    let bits = (0..POLICY_BITS).map(|bit| 1 << bit);
+    let bits = (0..BITS).map(|bit| 1 << bit);
     let off = bits.clone().map(|bit| ALL & !bit);
     [ALL, 0].into_iter().chain(off).chain(bits).collect()
 }

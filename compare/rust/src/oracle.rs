@@ -7,6 +7,7 @@ use crate::nodes::io_sources::multi_scan::components::column_selector::transform
 use crate::nodes::io_sources::multi_scan::components::default_field_values::IcebergDefaultValueProviderRef;
 use plain::case::Case;
 use plain::form::{self, Column, Default, Entry, Layout, Leaf, LeafValue, Type};
+use plain::policy;
 use polars_core::chunked_array::cast::CastOptions;
 use polars_core::prelude::{DataType, Field, TimeUnit, TimeZone, Value};
 use polars_core::scalar::{self, Scalar};
@@ -122,31 +123,31 @@ fn by_number(
 }
 
 fn builder(policy: u32) -> ColumnSelectorBuilder {
-    let bit = |bit: u32| policy >> bit & 1 == 1;
+    let on = |bit: u32| policy & bit != 0;
     let missing = |insert: bool| match insert {
         true => MissingColumnsPolicy::Insert,
         false => MissingColumnsPolicy::Raise,
     };
     ColumnSelectorBuilder {
         cast_columns_policy: CastColumnsPolicy {
-            null_upcast: bit(0),
-            integer_upcast: bit(1),
-            float_upcast: bit(2),
-            float_downcast: bit(3),
-            integer_to_float_cast: bit(4),
-            datetime_convert_timezone: bit(5),
-            datetime_nanoseconds_downcast: bit(6),
-            datetime_microseconds_downcast: bit(7),
-            datetime_microseconds_upcast: bit(8),
-            datetime_milliseconds_upcast: bit(9),
-            categorical_to_string: bit(10),
-            missing_struct_fields: missing(bit(11)),
-            extra_struct_fields: match bit(12) {
+            null_upcast: on(policy::NULL_UPCAST),
+            integer_upcast: on(policy::INTEGER_UPCAST),
+            float_upcast: on(policy::FLOAT_UPCAST),
+            float_downcast: on(policy::FLOAT_DOWNCAST),
+            integer_to_float_cast: on(policy::INTEGER_TO_FLOAT_CAST),
+            datetime_convert_timezone: on(policy::DATETIME_CONVERT_TIMEZONE),
+            datetime_nanoseconds_downcast: on(policy::DATETIME_NANOSECONDS_DOWNCAST),
+            datetime_microseconds_downcast: on(policy::DATETIME_MICROSECONDS_DOWNCAST),
+            datetime_microseconds_upcast: on(policy::DATETIME_MICROSECONDS_UPCAST),
+            datetime_milliseconds_upcast: on(policy::DATETIME_MILLISECONDS_UPCAST),
+            categorical_to_string: on(policy::CATEGORICAL_TO_STRING),
+            missing_struct_fields: missing(on(policy::MISSING_STRUCT_FIELDS)),
+            extra_struct_fields: match on(policy::EXTRA_STRUCT_FIELDS) {
                 true => ExtraColumnsPolicy::Ignore,
                 false => ExtraColumnsPolicy::Raise,
             },
         },
-        missing_columns_policy: missing(bit(13)),
+        missing_columns_policy: missing(on(policy::MISSING_COLUMNS)),
     }
 }
 

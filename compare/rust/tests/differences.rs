@@ -4,7 +4,7 @@ use compare::oracle::{Answer, Aside, answer, original};
 use plain::case::{Case, Number};
 use plain::form::{Column, Default, Entry, LAYOUT_LIMIT, Layout, Leaf, PLAN_LIMIT, Type};
 use plain::form::{write_defaults, write_layout};
-use plain::generate::ALL;
+use plain::policy::ALL;
 use plain::hex::hex;
 
 const INT8: Leaf = Leaf::Plain(2);

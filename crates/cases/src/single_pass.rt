@@ -10,7 +10,7 @@ use run::single_pass::write_direct;
 use values::record::RecordRead;
 use values::record::read_record;
 
-// Whether `direct` says that a plan passes the check between two layouts.
+// Whether `infer` says that a plan passes the check between two layouts.
 pub fn checks(incoming: &[u8], target: &[u8], plan: &[u8]) -> bool {
     match read_layout(incoming) {
         LayoutRead::Read {
@@ -32,7 +32,7 @@ pub fn checks(incoming: &[u8], target: &[u8], plan: &[u8]) -> bool {
     }
 }
 
-// Whether `run` writes the output in one pass.
+// Whether `composed` writes the output of a plan for a record.
 pub fn writes(incoming: &[u8], plan: &[u8], rec: &[u8], output: &mut [u8]) -> bool {
     match read_layout(incoming) {
         LayoutRead::Read {

@@ -1,8 +1,12 @@
-// Refusals in words, from document 01 and include/selector.h.
+// Refusals in words: docs/refusals.txt has the list, and compare/lists.py holds these to it.
 use crate::out::put;
 use crate::out::put_number;
 
-// 1 to 6, of a layout.
+fn put_unknown() {
+    put(b"not a number of the list");
+}
+
+// Of a layout.
 fn put_reading(number: u8) {
     match number {
         1 => put(b"not a known mark and version"),
@@ -12,11 +16,12 @@ fn put_reading(number: u8) {
             b"more than 16384 bytes, a name or zone of more than 63, or a type deeper than 16",
         ),
         5 => put(b"a column repeats a sibling's name or id"),
-        _ => put(b"bytes are left over"),
+        6 => put(b"bytes are left over"),
+        _ => put_unknown(),
     }
 }
 
-// 1 to 6, of a table of defaults.
+// Of a table of defaults.
 fn put_table_reading(number: u8) {
     match number {
         3 => put(
@@ -28,7 +33,7 @@ fn put_table_reading(number: u8) {
     }
 }
 
-// 10 to 19, of a build.
+// Of a build.
 fn put_building(number: u8) {
     match number {
         10 => put(b"a layout of the wrong version"),
@@ -44,11 +49,12 @@ fn put_building(number: u8) {
         16 => put(b"a cast between integers is not allowed"),
         17 => put(b"the target's range lacks an incoming value"),
         18 => put(b"a cast to a wider float is not allowed"),
-        _ => put(b"a cast to a narrower float is not allowed"),
+        19 => put(b"a cast to a narrower float is not allowed"),
+        _ => put_unknown(),
     }
 }
 
-// 20 to 28, of a build.
+// Of a build too.
 fn put_matching(number: u8) {
     match number {
         20 => put(b"a cast of an integer to a float is not allowed"),
@@ -59,12 +65,13 @@ fn put_matching(number: u8) {
         25 => put(b"the elements of two lists or arrays have different ids"),
         26 => put(b"the default wanted is a partition's value that could not be loaded"),
         27 => put(b"the plan is longer than the buffer or 65536 bytes"),
-        _ => put(b"the default taken has a type unlike the field's"),
+        28 => put(b"the default taken has a type unlike the field's"),
+        _ => put_unknown(),
     }
 }
 
-// 30 to 33 of a check, 40 to 45 of a run.
-fn put_running(number: u8) {
+// Of a check.
+fn put_checking(number: u8) {
     match number {
         30 => put(b"malformed plan"),
         31 => put(b"a selector takes a position that is not there"),
@@ -72,22 +79,31 @@ fn put_running(number: u8) {
             b"a transform does not fit its input, or its result is too deep or too large a type",
         ),
         33 => put(b"names, types or count of the columns made differ from the target's"),
+        _ => put_unknown(),
+    }
+}
+
+// Of a run.
+fn put_running(number: u8) {
+    match number {
         40 => put(b"the record ends early"),
         41 => put(b"a bad presence or boolean byte in the record"),
         42 => put(b"bytes of the record are left over"),
         43 => put(b"the record has more than 16384 bytes"),
         44 => put(b"a date-time is too large for its finer unit"),
         45 => put(b"the output exceeds the buffer or 16384 bytes"),
-        _ => put(b"not a number of document 01"),
+        _ => put_unknown(),
     }
 }
 
 fn put_words(number: u8) {
     match number {
-        1..=6 => put_reading(number),
+        1..=9 => put_reading(number),
         10..=19 => put_building(number),
-        20..=28 => put_matching(number),
-        _ => put_running(number),
+        20..=29 => put_matching(number),
+        30..=39 => put_checking(number),
+        40..=49 => put_running(number),
+        _ => put_unknown(),
     }
 }
 

@@ -38,15 +38,14 @@ impl Call {
         }
     }
 
-    /// Whether document 01 has that refusal for the call.
-    fn has(self, number: u32) -> bool {
-        let reading = matches!(number, 1..=6);
+    /// Whether docs/refusals.txt has that refusal for the call.
+    pub fn has(self, number: u32) -> bool {
         match self {
-            Call::ReadLayout => reading,
-            Call::BuildByName => reading || matches!(number, 10..=24 | 27),
-            Call::BuildByNumber => reading || matches!(number, 10 | 11 | 13..=28),
-            Call::CheckPlan => reading || matches!(number, 30..=33),
-            Call::Run => reading || matches!(number, 30..=33 | 40..=45),
+            Call::ReadLayout => matches!(number, 1..=6),
+            Call::BuildByName => matches!(number, 1..=6 | 10..=24 | 27),
+            Call::BuildByNumber => matches!(number, 1..=6 | 10 | 11 | 13..=28),
+            Call::CheckPlan => matches!(number, 1..=6 | 30..=33),
+            Call::Run => matches!(number, 1..=6 | 30..=33 | 40..=45),
         }
     }
 }

@@ -8,6 +8,7 @@ use plain::case::Number;
 use plain::form::{self, Column, Layout, PLAN_LIMIT, RECORD_LIMIT, Type};
 use plain::generate::damage::{damage, marked};
 use plain::generate::{self, plans, records};
+use plain::policy;
 use plain::random::Random;
 
 pub fn trial(random: &mut Random) -> Trial {
@@ -119,7 +120,7 @@ fn build(random: &mut Random) -> Trial {
 /// A check or run of a plan that the library built.
 fn built(random: &mut Random) -> Trial {
     let mut trial = build(random);
-    trial.policy = generate::ALL;
+    trial.policy = policy::ALL;
     let mut plan = vec![0; PLAN_LIMIT];
     let Trial {
         policy,

@@ -38,10 +38,10 @@ impl Tally {
         Call::ALL.map(one).join(", ")
     }
 
-    /// The numbers of document 01 that no call gave.
+    /// The numbers that some call has and none gave.
     pub fn unmet(&self) -> Vec<u32> {
-        let numbers = (1..=6).chain(10..=28).chain(30..=33).chain(40..=45);
-        numbers
+        (1..=u8::MAX.into())
+            .filter(|number| Call::ALL.iter().any(|call| call.has(*number)))
             .filter(|number| !self.counts.contains_key(number))
             .collect()
     }

@@ -4,7 +4,7 @@ use super::values::{column, int8, leaf, text_value};
 use super::{Trials, layout};
 use crate::judge::{Call, Trial};
 use plain::form::{self, Column, Default, Entry, LAYOUT_LIMIT, Leaf, Type};
-use plain::generate;
+use plain::policy;
 
 impl Trials<'_> {
     /// The most columns that there may be.
@@ -47,7 +47,7 @@ impl Trials<'_> {
             let value = text_value(16_000)[1..].to_vec();
             let default = Default::Initial(Leaf::Plain(15), Some(value));
             let trial = Trial {
-                policy: generate::ALL,
+                policy: policy::ALL,
                 space,
                 incoming: layout(&[]),
                 target: layout(&[field]),

@@ -5,7 +5,7 @@ use super::values::{column, int8};
 use super::{Trials, layout};
 use crate::judge::{Call, Trial};
 use plain::form::{self, Column, Type};
-use plain::generate;
+use plain::policy;
 use plain::random::Random;
 use std::collections::HashMap;
 
@@ -111,7 +111,7 @@ impl Trials<'_> {
         let target = columns.iter().rev().cloned().collect();
         let record = (0..incoming.len()).flat_map(|n| [1, n as u8]).collect();
         let trial = Trial {
-            policy: generate::ALL,
+            policy: policy::ALL,
             space: 70_000,
             incoming: layout(version, within(incoming.to_vec(), levels)),
             target: layout(version, within(target, levels)),
@@ -126,10 +126,10 @@ impl Trials<'_> {
     fn struct_faults(&mut self, columns: &[Column], levels: u32) {
         let repeated = [columns, &columns[columns.len() / 2..][..1]].concat();
         let fewer = &columns[1..];
-        let raise = generate::ALL & !(1 << 12);
+        let raise = policy::ALL & !policy::EXTRA_STRUCT_FIELDS;
         for (policy, incoming, target, number) in [
-            (generate::ALL, &repeated[..], columns, 12),
-            (generate::ALL, columns, &repeated[..], 12),
+            (policy::ALL, &repeated[..], columns, 12),
+            (policy::ALL, columns, &repeated[..], 12),
             (raise, columns, fewer, 13),
             (raise, fewer, columns, 0),
         ] {
