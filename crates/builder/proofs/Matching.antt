@@ -31,7 +31,7 @@ use Rattle.rules.specs.Classes.{isNull}
 use Rattle.rules.specs.Kinds.{kindOf}
 use Rattle.rules.specs.Outcomes.{Verdict, untouched, refused, cast as casts}
 use Rattle.rules.specs.Pairs.{pairRule}
-use Rattle.rules.proofs.LeafTypes.{leaf-of-type}
+use Rattle.layout.proofs.Leaves.{leaf-of-type}
 use Rattle.rules.specs.declared.policy.Policy.{Policy}
 use Rattle.plan.specs.Result.{Result, gives, refuses, _>>=_}
 use Rattle.plan.specs.Selector.{Selector}

@@ -13,7 +13,6 @@ use Rattle.layout.specs.Stands.{TypeAt}
 use Rattle.layout.specs.declared.columns.Position.{Position}
 use Rattle.layout.specs.declared.version.Version.{Version}
 use Rattle.forms.specs.Form.{u16Bytes, textBytes, leafForm, kindForm, form}
-use Rattle.forms.proofs.Leaves.{LeafCase, plain, timed, leafCase}
 use Rattle.forms.proofs.Writing.{extent}
 use Rattle.rules.specs.Outcomes.{optionCode, numberOf, verdictOf}
 use Rattle.rules.specs.declared.outcome.CastOption.{CastOption}
@@ -64,11 +63,7 @@ constant-head-long b t e f = let h = length-append (textBytes b) (form t) in ome
 -- a type has a byte at least
 pub form-some : (t : DataType) → 0 < length (form t)
 unfolding form kindForm u16Bytes leafForm
-form-some (leaf l) = leaf-some l (leafCase l)
-  where
-    leaf-some : (l : LeafType) → LeafCase l → 0 < length (leafForm l)
-    leaf-some l (plain k c b n p i f) = let h = ap length f in omega arith
-    leaf-some l (timed u z i) = let h = ap (λ (x : LeafType). length (leafForm x)) i in omega arith
+form-some (leaf l) = omega arith
 form-some (struct fs) = omega arith
 form-some (list t) = omega arith
 form-some (array w t) = omega arith

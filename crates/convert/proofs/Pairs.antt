@@ -5,7 +5,6 @@ use native.Mathlib.Omega.{arith}
 use lib.ListN.{length, set}
 use Rattle.layout.specs.Bytes.{Bytes}
 use Rattle.layout.specs.declared.leaf.Leaf.{Leaf}
-use Rattle.layout.specs.declared.leaf.Leaf.the-variants.{Null, Boolean, Int8, Int16, Int32, Int64, UInt8, UInt16, UInt32, UInt64, Float16, Float32, Float64, Date, Datetime, String, Binary, Categorical}
 use Rattle.layout.specs.declared.leaf.TimeUnit.{TimeUnit}
 use Rattle.store.specs.Overlay.{overlay, littleBytes}
 use Rattle.store.proofs.Overlay.{length-little}
@@ -15,13 +14,15 @@ use Rattle.numeric.specs.declared.times.Finer.{Finer}
 use Rattle.numeric.specs.Integers.{signed, pattern, widened}
 use Rattle.numeric.specs.Floats.{integerToFloat, floatToFloat}
 use Rattle.numeric.specs.Times.{finer, coarser}
+use Rattle.values.proofs.Leaves.{width-small}
 use Rattle.values.specs.Value.{Value, vnumber, voverflow}
 use Rattle.values.specs.Content.{contentOf, widthIn, widthOf}
 use Rattle.values.specs.Encode.{encodeValue}
 use Rattle.values.specs.declared.content.Content.{Content}
-use Rattle.plan.specs.Convert.{integer, float, datetime, numberKind, unitChange, counted, rescaled, convertAs, convert}
-use Rattle.convert.specs.Converted.{kindOf, changeOf, Positive, valueOf}
-use Rattle.convert.specs.declared.leaf.NumberKind.{NumberKind}
+use Rattle.plan.specs.Convert.{unitChange, counted, rescaled, convertAs, convert}
+use Rattle.convert.specs.Converted.{changeOf, Positive, valueOf}
+use Rattle.rules.specs.declared.kinds.Class.{Class}
+use Rattle.rules.specs.Classes.{classOf}
 use Rattle.convert.specs.declared.leaf.UnitChange.{UnitChange}
 use Rattle.convert.specs.declared.leaf.Converted.{Converted}
 
@@ -53,97 +54,77 @@ module _ {c : UnitChange} where
 
 -- ---- by the kind of the number and that of the target
 
-module _ (k : Leaf) (n : ℕ) {r : NumberKind} (q : kindOf r ≡ numberKind k) where
+module _ (k : Leaf) (n : ℕ) {r : Class} (q : r ≡ classOf k) where
   module _ (i : Integer) where
-    pub integer-integer : {j : Integer} {m : ℕ} → r ≡ NumberKind.Integer j → m ≡ widened i j n → vnumber k m ≡ convertAs (integer i) (numberKind k) k n
+    pub integer-integer : {j : Integer} {m : ℕ} → r ≡ Class.Integer j → m ≡ widened i j n → vnumber k m ≡ convertAs (Class.Integer i) (classOf k) k n
     unfolding convertAs
     integer-integer e g = rw (← q, e, g)
 
-    pub integer-float : {f : Format} {m : ℕ} → r ≡ NumberKind.Float f → m ≡ integerToFloat i f n → vnumber k m ≡ convertAs (integer i) (numberKind k) k n
+    pub integer-float : {f : Format} {m : ℕ} → r ≡ Class.Float f → m ≡ integerToFloat i f n → vnumber k m ≡ convertAs (Class.Integer i) (classOf k) k n
     unfolding convertAs
     integer-float e g = rw (← q, e, g)
 
-    pub integer-datetime : {u : TimeUnit} → r ≡ NumberKind.Datetime u → vnumber k n ≡ convertAs (integer i) (numberKind k) k n
+    pub integer-datetime : {u : TimeUnit} → r ≡ Class.Datetime u → vnumber k n ≡ convertAs (Class.Integer i) (classOf k) k n
     unfolding convertAs
     integer-datetime e = rw (← q, e)
 
-    pub integer-other : r ≡ NumberKind.Other → vnumber k n ≡ convertAs (integer i) (numberKind k) k n
+    pub integer-other : r ≡ Class.Other → vnumber k n ≡ convertAs (Class.Integer i) (classOf k) k n
     unfolding convertAs
     integer-other e = rw (← q, e)
 
   module _ (f : Format) where
-    pub float-integer : {j : Integer} → r ≡ NumberKind.Integer j → vnumber k n ≡ convertAs (float f) (numberKind k) k n
+    pub float-integer : {j : Integer} → r ≡ Class.Integer j → vnumber k n ≡ convertAs (Class.Float f) (classOf k) k n
     unfolding convertAs
     float-integer e = rw (← q, e)
 
-    pub float-float : {g : Format} {m : ℕ} → r ≡ NumberKind.Float g → m ≡ floatToFloat f g n → vnumber k m ≡ convertAs (float f) (numberKind k) k n
+    pub float-float : {g : Format} {m : ℕ} → r ≡ Class.Float g → m ≡ floatToFloat f g n → vnumber k m ≡ convertAs (Class.Float f) (classOf k) k n
     unfolding convertAs
     float-float e h = rw (← q, e, h)
 
-    pub float-datetime : {u : TimeUnit} → r ≡ NumberKind.Datetime u → vnumber k n ≡ convertAs (float f) (numberKind k) k n
+    pub float-datetime : {u : TimeUnit} → r ≡ Class.Datetime u → vnumber k n ≡ convertAs (Class.Float f) (classOf k) k n
     unfolding convertAs
     float-datetime e = rw (← q, e)
 
-    pub float-other : r ≡ NumberKind.Other → vnumber k n ≡ convertAs (float f) (numberKind k) k n
+    pub float-other : r ≡ Class.Other → vnumber k n ≡ convertAs (Class.Float f) (classOf k) k n
     unfolding convertAs
     float-other e = rw (← q, e)
 
   module _ (u : TimeUnit) where
-    pub datetime-integer : {j : Integer} → r ≡ NumberKind.Integer j → vnumber k n ≡ convertAs (datetime u) (numberKind k) k n
+    pub datetime-integer : {j : Integer} → r ≡ Class.Integer j → vnumber k n ≡ convertAs (Class.Datetime u) (classOf k) k n
     unfolding convertAs
     datetime-integer e = rw (← q, e)
 
-    pub datetime-float : {f : Format} → r ≡ NumberKind.Float f → vnumber k n ≡ convertAs (datetime u) (numberKind k) k n
+    pub datetime-float : {f : Format} → r ≡ Class.Float f → vnumber k n ≡ convertAs (Class.Datetime u) (classOf k) k n
     unfolding convertAs
     datetime-float e = rw (← q, e)
 
-    pub datetime-datetime : {v : TimeUnit} (c : UnitChange) (x : Converted) → r ≡ NumberKind.Datetime v → changeOf c ≡ unitChange u v
-        → ((k : Leaf) → valueOf k x ≡ rescaled (changeOf c) k n) → valueOf k x ≡ convertAs (datetime u) (numberKind k) k n
+    pub datetime-datetime : {v : TimeUnit} (c : UnitChange) (x : Converted) → r ≡ Class.Datetime v → changeOf c ≡ unitChange u v
+        → ((k : Leaf) → valueOf k x ≡ rescaled (changeOf c) k n) → valueOf k x ≡ convertAs (Class.Datetime u) (classOf k) k n
     unfolding convertAs
     datetime-datetime c x e g h = rw (← q, e, ← g) (h k)
 
-    pub datetime-other : r ≡ NumberKind.Other → vnumber k n ≡ convertAs (datetime u) (numberKind k) k n
+    pub datetime-other : r ≡ Class.Other → vnumber k n ≡ convertAs (Class.Datetime u) (classOf k) k n
     unfolding convertAs
     datetime-other e = rw (← q, e)
 
-module _ (i k : Leaf) (n : ℕ) {r : NumberKind} (q : kindOf r ≡ numberKind i) where
-  pub from-integer : {j : Integer} {x : Value} → r ≡ NumberKind.Integer j → x ≡ convertAs (integer j) (numberKind k) k n → x ≡ convert i k n
+module _ (i k : Leaf) (n : ℕ) {r : Class} (q : r ≡ classOf i) where
+  pub from-integer : {j : Integer} {x : Value} → r ≡ Class.Integer j → x ≡ convertAs (Class.Integer j) (classOf k) k n → x ≡ convert i k n
   unfolding convert
   from-integer e h = rw (← q, e) h
 
-  pub from-float : {f : Format} {x : Value} → r ≡ NumberKind.Float f → x ≡ convertAs (float f) (numberKind k) k n → x ≡ convert i k n
+  pub from-float : {f : Format} {x : Value} → r ≡ Class.Float f → x ≡ convertAs (Class.Float f) (classOf k) k n → x ≡ convert i k n
   unfolding convert
   from-float e h = rw (← q, e) h
 
-  pub from-datetime : {u : TimeUnit} {x : Value} → r ≡ NumberKind.Datetime u → x ≡ convertAs (datetime u) (numberKind k) k n → x ≡ convert i k n
+  pub from-datetime : {u : TimeUnit} {x : Value} → r ≡ Class.Datetime u → x ≡ convertAs (Class.Datetime u) (classOf k) k n → x ≡ convert i k n
   unfolding convert
   from-datetime e h = rw (← q, e) h
 
-  pub from-other : r ≡ NumberKind.Other → vnumber k n ≡ convert i k n
+  pub from-other : r ≡ Class.Other → vnumber k n ≡ convert i k n
   unfolding convert convertAs
   from-other e = rw (← q, e)
 
 -- ---- a number's bytes
-
-width-small : (k : Leaf) → widthOf k ≤ 8
-width-small Null = omega arith
-width-small Boolean = omega arith
-width-small Int8 = omega arith
-width-small Int16 = omega arith
-width-small Int32 = omega arith
-width-small Int64 = omega arith
-width-small UInt8 = omega arith
-width-small UInt16 = omega arith
-width-small UInt32 = omega arith
-width-small UInt64 = omega arith
-width-small Float16 = omega arith
-width-small Float32 = omega arith
-width-small Float64 = omega arith
-width-small Date = omega arith
-width-small (Datetime u) = omega arith
-width-small String = omega arith
-width-small Binary = omega arith
-width-small Categorical = omega arith
 
 pub width-is : (k : Leaf) {c : Content} {w : ℕ} → c ≡ contentOf k → w ≡ widthIn c → (w ≡ widthOf k) × (w ≤ 8)
 width-is k {c} {w} e f =

@@ -3,15 +3,8 @@ use Prim.Native.Nat.{_<_}
 use Rattle.layout.specs.declared.leaf.Leaf.{Leaf}
 use Rattle.values.specs.Value.{Value, vnumber, voverflow}
 use Rattle.plan.specs.Convert as conversions
-use Rattle.convert.specs.declared.leaf.NumberKind.{NumberKind}
 use Rattle.convert.specs.declared.leaf.UnitChange.{UnitChange}
 use Rattle.convert.specs.declared.leaf.Converted.{Converted}
-
-abbrev pub kindOf : NumberKind → conversions.NumberKind
-kindOf (NumberKind.Integer i) = conversions.integer i
-kindOf (NumberKind.Float f) = conversions.float f
-kindOf (NumberKind.Datetime u) = conversions.datetime u
-kindOf NumberKind.Other = conversions.other
 
 abbrev pub changeOf : UnitChange → conversions.UnitChange
 changeOf (UnitChange.Multiply f) = conversions.multiply f

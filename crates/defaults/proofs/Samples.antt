@@ -5,13 +5,14 @@ use mathlib.Core.List.{List, [], _∷_, map}
 use lib.ListN.{replicate, take}
 use Rattle.layout.specs.Bytes.{Bytes, sameBytes}
 use Rattle.layout.specs.Parser.{Res, refuse, ok, next, choose, byte, chunk, u16, u32}
-use Rattle.layout.specs.Tree.{int8}
+use Rattle.layout.specs.Tree.{integer}
 use Rattle.layout.specs.Layout.{text, unit, leafKind, datetimeKind, sized, ended}
-use Rattle.layout.specs.declared.leaf.Leaf.the-variants.{Int8}
+use Rattle.layout.specs.declared.leaf.Leaf.{Leaf}
 use Rattle.values.specs.Value.{vnull, vnumber, vnil, vcons}
 use Rattle.values.specs.Reading.{presence, nullable, flag, little, longText, contentBy, leafContent, content, value, times}
 use Rattle.defaults.specs.Table.{Given, initial, partition, failed, Entry, sameKind, repeatsAnyEntry, onlyLeaf, defaultType, initialEntry, loadedEntry, partitionEntry, givenOf, entry, entries, tableVersion, tableFrom, table}
 use Rattle.defaults.specs.Lookup.{Taken, refused, nothing, taken, unlessNull, ofSource, givenTo, firstEntry, getDefaultValue}
+use Rattle.numeric.specs.declared.integers.Integer.the-variants.{Int8}
 
 -- `DEF`, version 1, n entries
 abbrev tabled : ℕ → Bytes → Bytes
@@ -44,18 +45,18 @@ good = tabled 5 (5 ∷ 0 ∷ 0 ∷ 0 ∷ 0 ∷ 2 ∷ 1 ∷ 7 ∷ 5 ∷ 0 ∷ 0 �
 abbrev entryFor : ℕ → Given → Entry
 entryFor i g = record { id = record { 0 = i }; given = g }
 
-good-read : table good ≡ ok (entryFor 5 (initial int8 (vnumber Int8 7)) ∷ entryFor 5 (partition int8 (vcons vnull (vcons (vnumber Int8 9) vnil)))
-    ∷ entryFor 6 (initial int8 (vnumber Int8 8)) ∷ entryFor 7 failed ∷ entryFor 8 (initial int8 vnull) ∷ []) 48
+good-read : table good ≡ ok (entryFor 5 (initial (integer Int8) (vnumber (Leaf.Integer Int8) 7)) ∷ entryFor 5 (partition (integer Int8) (vcons vnull (vcons (vnumber (Leaf.Integer Int8) 9) vnil)))
+    ∷ entryFor 6 (initial (integer Int8) (vnumber (Leaf.Integer Int8) 8)) ∷ entryFor 7 failed ∷ entryFor 8 (initial (integer Int8) vnull) ∷ []) 48
 unfolding computed good
 good-read = refl
 
 -- a partition entry wins; null or past the end is no default, and no initial one is tried
-good-defaults : map (λ k. default k 5 (table good)) (0 ∷ 1 ∷ 2 ∷ []) ≡ nothing ∷ taken int8 (vnumber Int8 9) ∷ nothing ∷ []
+good-defaults : map (λ k. default k 5 (table good)) (0 ∷ 1 ∷ 2 ∷ []) ≡ nothing ∷ taken (integer Int8) (vnumber (Leaf.Integer Int8) 9) ∷ nothing ∷ []
 unfolding looked good
 good-defaults = refl
 
 -- an initial one, a failed one, a null initial one, and an id that the table does not have
-other-defaults : map (λ i. default 0 i (table good)) (6 ∷ 7 ∷ 8 ∷ 9 ∷ []) ≡ taken int8 (vnumber Int8 8) ∷ refused 26 ∷ nothing ∷ nothing ∷ []
+other-defaults : map (λ i. default 0 i (table good)) (6 ∷ 7 ∷ 8 ∷ 9 ∷ []) ≡ taken (integer Int8) (vnumber (Leaf.Integer Int8) 8) ∷ refused 26 ∷ nothing ∷ nothing ∷ []
 unfolding looked good
 other-defaults = refl
 

@@ -13,9 +13,9 @@ use Rattle.layout.specs.declared.cursor.Step.{Step}
 use Rattle.layout.specs.declared.cursor.Short.{Short}
 use Rattle.layout.specs.declared.cursor.Moved.{Moved}
 use Rattle.layout.specs.declared.leaf.Leaf.{Leaf}
-use Rattle.layout.specs.declared.leaf.Leaf.the-variants.{Null, Boolean, Int8, Int16, Int32, Int64, UInt8, UInt16, UInt32, UInt64, Float16, Float32, Float64, Date, Datetime, String, Binary, Categorical}
 use Rattle.layout.specs.declared.types.Head.{Head}
 use Rattle.layout.specs.declared.types.LeafType.{LeafType as LeafSpan}
+use Rattle.layout.proofs.Leaves.{leaf-of-type}
 use Rattle.layout.proofs.Ways.{moved-to, moved-refused, to-pure}
 use Rattle.values.specs.Value.{vcons}
 use Rattle.values.specs.Reading.{presence, nullable, leafContent, content, value, times}
@@ -76,30 +76,10 @@ pub ruleset leaf-type-ways = (type-none, type-struct, type-list, type-array, typ
 
 -- ---- a value of a leaf type
 
-leaf-of : (k : Leaf) (z : Bytes) → leafOf (leafType k z) ≡ k
-leaf-of Null z = refl
-leaf-of Boolean z = refl
-leaf-of Int8 z = refl
-leaf-of Int16 z = refl
-leaf-of Int32 z = refl
-leaf-of Int64 z = refl
-leaf-of UInt8 z = refl
-leaf-of UInt16 z = refl
-leaf-of UInt32 z = refl
-leaf-of UInt64 z = refl
-leaf-of Float16 z = refl
-leaf-of Float32 z = refl
-leaf-of Float64 z = refl
-leaf-of Date z = refl
-leaf-of (Datetime u) z = refl
-leaf-of String z = refl
-leaf-of Binary z = refl
-leaf-of Categorical z = refl
-
 -- what follows the presence byte is read by the leaf's kind alone
 pub leaf-content : (s : Bytes) (l : LeafSpan) (at : ℕ) → content (leaf (leafAt s l)) s at ≡ leafContent (l .leaf) s at
 unfolding content
-leaf-content s l at = ap (λ (k : Leaf). leafContent k s at) (leaf-of (l .leaf) _)
+leaf-content s l at = ap (λ (k : Leaf). leafContent k s at) (leaf-of-type (l .leaf) _)
 
 module _ (s : Bytes) (l : LeafSpan) (at : ℕ) {p : Presence} (e : presenceRes p ≡ presence s at) where
   pub leaf-null : {d : Cursor} → p ≡ Presence.Null d → Moved.To d ≡ movedOf (value (leaf (leafAt s l)) s at)

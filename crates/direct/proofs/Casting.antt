@@ -25,7 +25,7 @@ use Rattle.rules.specs.declared.outcome.CastOption.{CastOption}
 use Rattle.rules.specs.declared.outcome.CastOption.the-variants.{NonStrict, Strict, Overflowing}
 use Rattle.rules.specs.Kinds.{kindOf}
 use Rattle.rules.specs.Pairs.{castPasses}
-use Rattle.rules.proofs.LeafTypes.{leaf-of-type}
+use Rattle.layout.proofs.Leaves.{leaf-of-type}
 use Rattle.plan.specs.Check.{castFits, fromNull}
 use Rattle.plan.proofs.Results.{true≠false}
 

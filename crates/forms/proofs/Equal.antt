@@ -16,7 +16,8 @@ use Rattle.layout.specs.declared.leaf.TimeUnit.the-variants.{Nanoseconds, Micro
 use Rattle.layout.specs.declared.types.PlainLeaf.the-variants.{Known}
 use Rattle.layout.proofs.Ways.{clash}
 use Rattle.layout.proofs.OfBytes.{same-bytes-refl, both, same-bytes-eq}
-use Rattle.forms.specs.Form.{u16Bytes, u32Bytes, textBytes, unitCode, leafForm, kindForm, form, formFields, headOf, restForm}
+use Rattle.layout.specs.Layout.{unitCode}
+use Rattle.forms.specs.Form.{u16Bytes, u32Bytes, textBytes, leafForm, kindForm, form, formFields, headOf, restForm}
 use Rattle.forms.specs.Same.{equalTypes, sameLeaf, sameDtype, sameFields}
 use Rattle.forms.proofs.Leaves.{LeafCase, plain, timed, leafCase}
 
@@ -52,7 +53,6 @@ u32-eq m n {r} {q} e =
     (omega arith, h)
 
 unit-eq : (u v : TimeUnit) → unitCode u ≡ unitCode v → u ≡ v
-unfolding unitCode
 unit-eq Nanoseconds Nanoseconds e = refl
 unit-eq Nanoseconds Microseconds e = clash (cc)
 unit-eq Nanoseconds Milliseconds e = clash (cc)
@@ -67,7 +67,6 @@ known-eq : {k l : Leaf} → Known k ≡ Known l → k ≡ l
 known-eq e = cc
 
 leaf-eq : (a b : LeafType) {r q : Bytes} → leafForm a ++ r ≡ leafForm b ++ q → (a ≡ b) × (r ≡ q)
-unfolding leafForm
 leaf-eq a b {r} {q} e = go (leafCase a) (leafCase b)
   where
     go : LeafCase a → LeafCase b → (a ≡ b) × (r ≡ q)
@@ -75,27 +74,26 @@ leaf-eq a b {r} {q} e = go (leafCase a) (leafCase b)
         let g : c ∷ r ≡ c′ ∷ q = rw (f, f′) at e in
         let h : k ≡ k′ = known-eq (sym p ∙ ap plainLeaf (head-eq g) ∙ p′) in
         (i ∙ ap (λ (x : Leaf). leafType x []) h ∙ sym i′, tail-eq g)
-    go (plain k c s n p i f) (timed u z i′) =
-        let g : (c ∷ r) ≡ 14 ∷ (unitCode u ∷ (textBytes z ++ q)) = rw (f, i′) at e in
+    go (plain k c s n p i f) (timed u z i′ f′) =
+        let g : (c ∷ r) ≡ 14 ∷ (unitCode u ∷ (textBytes z ++ q)) = rw (f, f′) at e in
         absurd (n (head-eq g))
-    go (timed u z i) (plain k c s n p i′ f) =
-        let g : 14 ∷ (unitCode u ∷ (textBytes z ++ r)) ≡ c ∷ q = rw (i, f) at e in
+    go (timed u z i f) (plain k c s n p i′ f′) =
+        let g : 14 ∷ (unitCode u ∷ (textBytes z ++ r)) ≡ c ∷ q = rw (f, f′) at e in
         absurd (n (sym (head-eq g)))
-    go (timed u z i) (timed u′ z′ i′) =
-        let g : 14 ∷ (unitCode u ∷ (textBytes z ++ r)) ≡ 14 ∷ (unitCode u′ ∷ (textBytes z′ ++ q)) = rw (i, i′) at e in
+    go (timed u z i f) (timed u′ z′ i′ f′) =
+        let g : 14 ∷ (unitCode u ∷ (textBytes z ++ r)) ≡ 14 ∷ (unitCode u′ ∷ (textBytes z′ ++ q)) = rw (f, f′) at e in
         let (h, t) = text-eq z z′ (tail-eq (tail-eq g)) in
         (i ∙ ap₂ datetime (unit-eq u u′ (head-eq (tail-eq g))) h ∙ sym i′, t)
 
 leaf-below : (l : LeafType) (r : Bytes) {c : ℕ} {q : Bytes} → leafForm l ++ r ≡ c ∷ q → c < 18
-unfolding leafForm
 leaf-below l r {c} {q} e = go (leafCase l)
   where
     go : LeafCase l → c < 18
     go (plain k b s n p i f) =
         let g : b ∷ r ≡ c ∷ q = rw f at e in
         omega (arith, head-eq g)
-    go (timed u z i) =
-        let g : 14 ∷ (unitCode u ∷ (textBytes z ++ r)) ≡ c ∷ q = rw i at e in
+    go (timed u z i f) =
+        let g : 14 ∷ (unitCode u ∷ (textBytes z ++ r)) ≡ c ∷ q = rw f at e in
         omega (arith, head-eq g)
 
 pub kind-eq : (k j : Kind) {r q : Bytes} → kindForm k ++ r ≡ kindForm j ++ q → (k ≡ j) × (r ≡ q)

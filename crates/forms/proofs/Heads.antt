@@ -20,7 +20,6 @@ use Rattle.layout.proofs.Top.{columns-count}
 use Rattle.layout.proofs.View.{next-ok, deep}
 use Rattle.forms.specs.Form.{u16Bytes, u32Bytes, leafForm, kindForm, form, headOf, restForm}
 use Rattle.forms.specs.Answers.{endOf}
-use Rattle.forms.proofs.Leaves.{LeafCase, plain, timed, leafCase}
 use Rattle.forms.proofs.Equal.{form-kind}
 use Rattle.forms.proofs.Read.{ok-eq, kind→, kind-ends, type→}
 use Rattle.forms.proofs.ReadBack.{type-extent}
@@ -58,11 +57,7 @@ count-fields (ccons l t cs) = ap suc (count-fields cs)
 -- every head has a code
 head-some : (k : Kind) → 0 < length (kindForm k)
 unfolding kindForm leafForm
-head-some (aLeaf l) = leaf-some l (leafCase l)
-  where
-    leaf-some : (l : LeafType) → LeafCase l → 0 < length (leafForm l)
-    leaf-some l (plain k c b n p i f) = let h = ap length f in omega arith
-    leaf-some l (timed u z i) = let h = ap (λ (x : LeafType). length (leafForm x)) i in omega arith
+head-some (aLeaf l) = omega arith
 head-some (aStruct n) = omega arith
 head-some aList = omega arith
 head-some (anArray w) = omega arith

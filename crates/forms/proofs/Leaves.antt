@@ -6,15 +6,15 @@ use native.Mathlib.Omega.{arith}
 use lib.ListN.{getD, length}
 use Rattle.store.specs.Overlay.{littleBytes}
 use Rattle.layout.specs.Bytes.{Bytes}
-use Rattle.layout.specs.Tree.{LeafType, leafType, null, boolean, int8, int16, int32, int64, uint8, uint16, uint32, uint64, float16, float32, float64, date, datetime, string, binary, categorical}
-use Rattle.layout.specs.Layout.{plainLeaf, plainLeaves}
+use Rattle.layout.specs.Tree.{LeafType, leafType, null, boolean, integer, float, date, datetime, string, binary, categorical}
+use Rattle.layout.specs.Layout.{plainLeaf, plainLeaves, integerCode, floatCode, unitCode}
 use Rattle.layout.specs.declared.leaf.TimeUnit.{TimeUnit}
 use Rattle.layout.specs.declared.leaf.Leaf.{Leaf}
-use Rattle.layout.specs.declared.leaf.Leaf.the-variants.{Null, Boolean, Int8, Int16, Int32, Int64, UInt8, UInt16, UInt32, UInt64, Float16, Float32, Float64, Date, Datetime, String, Binary, Categorical}
 use Rattle.layout.specs.declared.types.PlainLeaf.{PlainLeaf}
 use Rattle.layout.specs.declared.types.PlainLeaf.the-variants.{Known, Unknown}
+use Rattle.layout.proofs.Leaves.{integer-coded, float-coded}
 use Rattle.layout.proofs.Ways.{clash}
-use Rattle.forms.specs.Form.{u16Bytes, u32Bytes, leafForm}
+use Rattle.forms.specs.Form.{u16Bytes, u32Bytes, textBytes, carried, leafForm}
 
 -- ---- numbers that fit their field
 
@@ -40,28 +40,23 @@ little-u32 n h =
 
 pub data LeafCase (l : LeafType) : Type 0 where
   plain : (k : Leaf) (code : ℕ) → code < 18 → (code ≡ 14 → ⊥) → plainLeaf code ≡ Known k → l ≡ leafType k [] → leafForm l ≡ code ∷ [] → LeafCase l
-  timed : (u : TimeUnit) (z : Bytes) → l ≡ datetime u z → LeafCase l
+  timed : (u : TimeUnit) (z : Bytes) → l ≡ datetime u z → leafForm l ≡ 14 ∷ unitCode u ∷ textBytes z → LeafCase l
 
 pub leafCase : (l : LeafType) → LeafCase l
-unfolding leafForm
-leafCase null = plain Null 0 (omega arith) (λ e. omega arith) refl refl refl
-leafCase boolean = plain Boolean 1 (omega arith) (λ e. omega arith) refl refl refl
-leafCase int8 = plain Int8 2 (omega arith) (λ e. omega arith) refl refl refl
-leafCase int16 = plain Int16 3 (omega arith) (λ e. omega arith) refl refl refl
-leafCase int32 = plain Int32 4 (omega arith) (λ e. omega arith) refl refl refl
-leafCase int64 = plain Int64 5 (omega arith) (λ e. omega arith) refl refl refl
-leafCase uint8 = plain UInt8 6 (omega arith) (λ e. omega arith) refl refl refl
-leafCase uint16 = plain UInt16 7 (omega arith) (λ e. omega arith) refl refl refl
-leafCase uint32 = plain UInt32 8 (omega arith) (λ e. omega arith) refl refl refl
-leafCase uint64 = plain UInt64 9 (omega arith) (λ e. omega arith) refl refl refl
-leafCase float16 = plain Float16 10 (omega arith) (λ e. omega arith) refl refl refl
-leafCase float32 = plain Float32 11 (omega arith) (λ e. omega arith) refl refl refl
-leafCase float64 = plain Float64 12 (omega arith) (λ e. omega arith) refl refl refl
-leafCase date = plain Date 13 (omega arith) (λ e. omega arith) refl refl refl
-leafCase (datetime u z) = timed u z refl
-leafCase string = plain String 15 (omega arith) (λ e. omega arith) refl refl refl
-leafCase binary = plain Binary 16 (omega arith) (λ e. omega arith) refl refl refl
-leafCase categorical = plain Categorical 17 (omega arith) (λ e. omega arith) refl refl refl
+unfolding leafForm carried
+leafCase null = plain Leaf.Null 0 (omega arith) (λ e. omega arith) refl refl refl
+leafCase boolean = plain Leaf.Boolean 1 (omega arith) (λ e. omega arith) refl refl refl
+leafCase (integer i) =
+    let c = integer-coded i in
+    plain (Leaf.Integer i) (integerCode i) (omega (arith, c .below)) (λ e. omega (arith, c .below)) (c .stands) refl refl
+leafCase (float f) =
+    let c = float-coded f in
+    plain (Leaf.Float f) (floatCode f) (omega (arith, c .below)) (λ e. omega (arith, c .below)) (c .stands) refl refl
+leafCase date = plain Leaf.Date 13 (omega arith) (λ e. omega arith) refl refl refl
+leafCase (datetime u z) = timed u z refl refl
+leafCase string = plain Leaf.String 15 (omega arith) (λ e. omega arith) refl refl refl
+leafCase binary = plain Leaf.Binary 16 (omega arith) (λ e. omega arith) refl refl refl
+leafCase categorical = plain Leaf.Categorical 17 (omega arith) (λ e. omega arith) refl refl refl
 
 -- each leaf of a table, from code i on, has its place for its form
 abbrev Coded : List PlainLeaf → ℕ → Type 0
@@ -80,7 +75,7 @@ coded-at (Known k ∷ xs) i (suc c) h e = coded-at xs (suc i) c (h .1) e ∙ ap 
 coded-at (Unknown ∷ xs) i (suc c) h e = coded-at xs (suc i) c h e ∙ ap (λ (n : ℕ). n ∷ []) (let z : suc i + c ≡ i + suc c = omega arith in z)
 
 pub plain-form : (c : ℕ) {l : Leaf} → plainLeaf c ≡ Known l → leafForm (leafType l []) ≡ c ∷ []
-unfolding leafForm
+unfolding leafForm carried
 plain-form c e =
     coded-at plainLeaves 0 c (refl, (refl, (refl, (refl, (refl, (refl, (refl, (refl, (refl, (refl, (refl, (refl, (refl, (refl, (refl, (refl, (refl, tt))))))))))))))))) e
     ∙ ap (λ (n : ℕ). n ∷ []) (let z : 0 + c ≡ c = omega arith in z)

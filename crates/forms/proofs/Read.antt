@@ -14,7 +14,6 @@ use Rattle.layout.specs.Layout.{Kind, aLeaf, aStruct, aList, anArray, text, uni
 use Rattle.layout.specs.declared.leaf.TimeUnit.{TimeUnit}
 use Rattle.layout.specs.declared.leaf.TimeUnit.the-variants.{Nanoseconds, Microseconds, Milliseconds}
 use Rattle.layout.specs.declared.leaf.Leaf.{Leaf}
-use Rattle.layout.specs.declared.leaf.Leaf.the-variants.{Null, Boolean, Int8, Int16, Int32, Int64, UInt8, UInt16, UInt32, UInt64, Float16, Float32, Float64, Date, Datetime, String, Binary, Categorical}
 use Rattle.layout.specs.declared.types.PlainLeaf.{PlainLeaf}
 use Rattle.layout.specs.declared.types.PlainLeaf.the-variants.{Known, Unknown}
 use Rattle.layout.specs.declared.version.Version.{Version}
@@ -22,7 +21,8 @@ use Rattle.layout.specs.declared.version.Version.the-variants.{ByName, ByNumber
 use Rattle.layout.specs.declared.columns.Siblings.{Siblings}
 use Rattle.layout.proofs.Ways.{clash}
 use Rattle.layout.proofs.View.{next-ok}
-use Rattle.forms.specs.Form.{u16Bytes, u32Bytes, textBytes, unitCode, leafForm, kindForm}
+use Rattle.layout.specs.Layout.{unitCode}
+use Rattle.forms.specs.Form.{u16Bytes, u32Bytes, textBytes, carried, leafForm, kindForm}
 use Rattle.forms.specs.Readable.{ShortText}
 use Rattle.forms.proofs.Leaves.{plain-form}
 use Rattle.forms.proofs.Slices.{Stands, stands-eq, stands-none, stands-one, stands-append, stands-length}
@@ -146,7 +146,7 @@ module _ (s : Bytes) where
 -- ---- what a type begins with
 
 pub unit-stands : (s : Bytes) (at : ℕ) {u : TimeUnit} {m : ℕ} → unit s at ≡ ok u m → Stands s at m (unitCode u ∷ [])
-unfolding unit unitCode
+unfolding unit
 unit-stands s at {u} {m} e =
     let (c, i, h, f) = next-ok _ _ e in
     let (p, q) = byte-stands s at h in
@@ -212,7 +212,7 @@ ReadableKind aList = Unit {0}
 ReadableKind (anArray w) = w < 4294967296
 
 pub kind-ends : (s : Bytes) (at : ℕ) {k : Kind} {m : ℕ} → KindRead s at k m → (m ≤ length s) × (at + length (kindForm k) ≡ m)
-unfolding kindForm leafForm textBytes u16Bytes u32Bytes
+unfolding kindForm leafForm carried textBytes u16Bytes u32Bytes
 kind-ends s at (kr-plain {c = c} {k = k} h q z) =
     let (p, y) = byte-ends s at h in
     let l : length (kindForm (aLeaf k)) ≡ 1 = ap length (ap leafForm (sym z) ∙ plain-form c q) in
@@ -240,28 +240,19 @@ short-none : ShortText []
 short-none = (omega arith, λ i. omega arith)
 
 plain-zone : (l : Leaf) → ShortText (zoneOf (leafType l []))
-plain-zone Null = short-none
-plain-zone Boolean = short-none
-plain-zone Int8 = short-none
-plain-zone Int16 = short-none
-plain-zone Int32 = short-none
-plain-zone Int64 = short-none
-plain-zone UInt8 = short-none
-plain-zone UInt16 = short-none
-plain-zone UInt32 = short-none
-plain-zone UInt64 = short-none
-plain-zone Float16 = short-none
-plain-zone Float32 = short-none
-plain-zone Float64 = short-none
-plain-zone Date = short-none
-plain-zone (Datetime u) = short-none
-plain-zone String = short-none
-plain-zone Binary = short-none
-plain-zone Categorical = short-none
+plain-zone Leaf.Null = short-none
+plain-zone Leaf.Boolean = short-none
+plain-zone (Leaf.Integer i) = short-none
+plain-zone (Leaf.Float f) = short-none
+plain-zone Leaf.Date = short-none
+plain-zone (Leaf.Datetime u) = short-none
+plain-zone Leaf.String = short-none
+plain-zone Leaf.Binary = short-none
+plain-zone Leaf.Categorical = short-none
 
 module _ (s : Bytes) (o : AllBytes s) (at : ℕ) where
   pub kind-stands : {k : Kind} {m : ℕ} → KindRead s at k m → Stands s at m (kindForm k) × ReadableKind k
-  unfolding kindForm leafForm
+  unfolding kindForm leafForm carried
   kind-stands (kr-plain {c = c} {l = l} h q z) =
       let (p, y) = byte-stands s at h in
       rw (← z) (stands-eq refl (sym (plain-form c q)) p, plain-zone l)

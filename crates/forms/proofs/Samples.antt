@@ -4,23 +4,25 @@ use mathlib.Core.Path.{_≡_, refl}
 use mathlib.Core.List.{[], _∷_}
 use mathlib.Core.Bool.{Bool, true, false}
 use Rattle.layout.specs.Bytes.{Bytes, sameBytes}
-use Rattle.layout.specs.Tree.{int16, int32, boolean, string, datetime, DataType, leaf, struct, list, array, Fields, fnil, fcons, countFields}
+use Rattle.layout.specs.Tree.{boolean, string, datetime, DataType, leaf, struct, list, array, Fields, fnil, fcons, countFields, integer}
 use Rattle.layout.specs.declared.leaf.TimeUnit.{TimeUnit}
 use Rattle.layout.specs.declared.leaf.TimeUnit.the-variants.{Microseconds, Milliseconds}
-use Rattle.forms.specs.Form.{u16Bytes, u32Bytes, textBytes, unitCode, leafForm, kindForm, form, formFields}
+use Rattle.layout.specs.Layout.{unitCode}
+use Rattle.forms.specs.Form.{u16Bytes, u32Bytes, textBytes, carried, leafForm, kindForm, form, formFields}
 use Rattle.forms.specs.Same.{sameLeaf, sameDtype, sameFields, equalTypes}
+use Rattle.numeric.specs.declared.integers.Integer.the-variants.{Int32}
 
 -- open every definition that a sample computes through
 written : DataType → Bytes
-unfolding form formFields kindForm leafForm textBytes unitCode u16Bytes u32Bytes countFields
+unfolding form formFields kindForm leafForm carried textBytes u16Bytes u32Bytes countFields
 written t = form t
 
 compared : DataType → DataType → Bool
-unfolding sameDtype sameFields sameLeaf sameBytes leafForm textBytes unitCode equalTypes
+unfolding sameDtype sameFields sameLeaf sameBytes leafForm carried textBytes equalTypes
 compared t u = sameDtype t u
 
 -- the columns of S1's target, as a struct: `t` int32 and `s` string
-fields-of-two : form (struct (fcons (0x74 ∷ []) (leaf int32) (fcons (0x73 ∷ []) (leaf string) fnil))) ≡ 18 ∷ 2 ∷ 0 ∷ 1 ∷ 0x74 ∷ 4 ∷ 1 ∷ 0x73 ∷ 15 ∷ []
+fields-of-two : form (struct (fcons (0x74 ∷ []) (leaf (integer Int32)) (fcons (0x73 ∷ []) (leaf string) fnil))) ≡ 18 ∷ 2 ∷ 0 ∷ 1 ∷ 0x74 ∷ 4 ∷ 1 ∷ 0x73 ∷ 15 ∷ []
 unfolding written
 fields-of-two = refl
 

@@ -17,7 +17,8 @@ use Rattle.layout.specs.declared.leaf.TimeUnit.the-variants.{Nanoseconds, Micro
 use Rattle.layout.specs.declared.version.Version.the-variants.{ByName}
 use Rattle.layout.specs.declared.columns.Siblings.the-variants.{Free}
 use Rattle.layout.proofs.FreeRule.{repeats-free}
-use Rattle.forms.specs.Form.{u16Bytes, u32Bytes, textBytes, unitCode, leafForm, kindForm, form, formFields}
+use Rattle.layout.specs.Layout.{unitCode}
+use Rattle.forms.specs.Form.{u16Bytes, u32Bytes, textBytes, carried, leafForm, kindForm, form, formFields}
 use Rattle.forms.specs.Readable.{Readable, ReadableFields, depthOf, depthOfFields, labelled, labelledFields, named}
 use Rattle.forms.proofs.Leaves.{LeafCase, plain, timed, leafCase}
 
@@ -72,14 +73,14 @@ u32-at s at n r e =
     rw (u16-at s at (n % 65536) (u16Bytes (n / 65536) ++ r) f, u16-at s (at + 2) (n / 65536) r g, h, z)
 
 unit-at : (s : Bytes) (at : ℕ) (u : TimeUnit) {r : Bytes} → drop at s ≡ unitCode u ∷ r → unit s at ≡ ok u (at + 1)
-unfolding unit unitCode next choose
+unfolding unit next choose
 unit-at s at Nanoseconds e = rw (byte-at s at e)
 unit-at s at Microseconds e = rw (byte-at s at e)
 unit-at s at Milliseconds e = rw (byte-at s at e)
 
 timed-at : (s : Bytes) (at : ℕ) (u : TimeUnit) (z r : Bytes) → length z ≤ 63 → drop at s ≡ leafForm (datetime u z) ++ r
     → kind s at ≡ ok (aLeaf (datetime u z)) (at + length (leafForm (datetime u z)))
-unfolding kind kindOf datetimeKind next choose leafForm
+unfolding kind kindOf datetimeKind next choose leafForm carried
 timed-at s at u z r l e =
     let f = behind s at (14 ∷ []) _ e in
     let g = behind s (at + 1) (unitCode u ∷ []) _ f in
@@ -91,7 +92,7 @@ unfolding kind kindOf next choose leafKind
 plain-at s at l r (plain k c b n p i f) h e =
     let g : drop at s ≡ c ∷ r = rw f at e in
     rw (f, byte-at s at g, ne-eqb c 14 n, ne-eqb c 18 (λ z. omega arith), ne-eqb c 19 (λ z. omega arith), ne-eqb c 20 (λ z. omega arith), p, i)
-plain-at s at l r (timed u z i) h e = rw i (timed-at s at u z r (rw i at h) (rw i at e))
+plain-at s at l r (timed u z i f) h e = rw i (timed-at s at u z r (rw i at h) (rw i at e))
 
 -- what a kind asks to be read
 abbrev Shown : Kind → Type 0

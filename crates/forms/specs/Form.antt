@@ -3,10 +3,8 @@ use Prim.Native.Nat.{ℕ, _/_, _%_}
 use mathlib.Core.List.{[], _∷_, _++_}
 use lib.ListN.{length}
 use Rattle.layout.specs.Bytes.{Bytes}
-use Rattle.layout.specs.Tree.{LeafType, null, boolean, int8, int16, int32, int64, uint8, uint16, uint32, uint64, float16, float32, float64, date, datetime, string, binary, categorical, DataType, leaf, struct, list, array, Fields, fnil, fcons, countFields}
-use Rattle.layout.specs.Layout.{Kind, aLeaf, aStruct, aList, anArray}
-use Rattle.layout.specs.declared.leaf.TimeUnit.{TimeUnit}
-use Rattle.layout.specs.declared.leaf.TimeUnit.the-variants.{Nanoseconds, Microseconds, Milliseconds}
+use Rattle.layout.specs.Tree.{LeafType, leafOf, null, boolean, integer, float, date, datetime, string, binary, categorical, DataType, leaf, struct, list, array, Fields, fnil, fcons, countFields}
+use Rattle.layout.specs.Layout.{Kind, aLeaf, aStruct, aList, anArray, codeOf, unitCode}
 
 -- Numbers are little-endian. The last byte is not cut to eight bits: a number that fits its field has the field's bytes
 -- (`little-u16`, `little-u32`), and two numbers never have the same, whatever they are.
@@ -20,30 +18,20 @@ u32Bytes n = u16Bytes (n % 65536) ++ u16Bytes (n / 65536)
 unfoldable pub textBytes : Bytes → Bytes
 textBytes b = length b ∷ b
 
-unfoldable pub unitCode : TimeUnit → ℕ
-unitCode Nanoseconds = 0
-unitCode Microseconds = 1
-unitCode Milliseconds = 2
+-- what stands behind the code of a leaf type
+unfoldable pub carried : LeafType → Bytes
+carried null = []
+carried boolean = []
+carried (integer i) = []
+carried (float f) = []
+carried date = []
+carried (datetime u z) = unitCode u ∷ textBytes z
+carried string = []
+carried binary = []
+carried categorical = []
 
 unfoldable pub leafForm : LeafType → Bytes
-leafForm null = 0 ∷ []
-leafForm boolean = 1 ∷ []
-leafForm int8 = 2 ∷ []
-leafForm int16 = 3 ∷ []
-leafForm int32 = 4 ∷ []
-leafForm int64 = 5 ∷ []
-leafForm uint8 = 6 ∷ []
-leafForm uint16 = 7 ∷ []
-leafForm uint32 = 8 ∷ []
-leafForm uint64 = 9 ∷ []
-leafForm float16 = 10 ∷ []
-leafForm float32 = 11 ∷ []
-leafForm float64 = 12 ∷ []
-leafForm date = 13 ∷ []
-leafForm (datetime u z) = 14 ∷ unitCode u ∷ textBytes z
-leafForm string = 15 ∷ []
-leafForm binary = 16 ∷ []
-leafForm categorical = 17 ∷ []
+leafForm l = codeOf (leafOf l) ∷ carried l
 
 -- what a type begins with
 unfoldable pub kindForm : Kind → Bytes

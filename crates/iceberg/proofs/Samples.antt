@@ -8,17 +8,17 @@ use mathlib.Core.List.{List, [], _∷_}
 use lib.Dec.{eqb}
 use Rattle.layout.specs.Bytes.{sameBytes}
 use Rattle.layout.specs.Parser.{ok, choose}
-use Rattle.layout.specs.Tree.{LeafType, null, int8, int16, int32, int64, uint8, date, datetime, Label, ColumnType, cleaf, cstruct, clist, carray, Columns, cnil}
+use Rattle.layout.specs.Tree.{LeafType, null, date, datetime, Label, ColumnType, cleaf, cstruct, clist, carray, Columns, cnil, integer}
 use Rattle.layout.specs.Tree.{ccons, countColumns, dtypeOf, fieldsOf}
 use Rattle.layout.specs.Layout.{layout}
 use Rattle.layout.specs.Find.{findFrom}
 use Rattle.layout.specs.declared.columns.FieldId.{FieldId}
 use Rattle.layout.specs.declared.leaf.Leaf.{Leaf}
-use Rattle.layout.specs.declared.leaf.Leaf.the-variants.{Int8, Int16, Int32, Int64, UInt8, Date}
+use Rattle.layout.specs.declared.leaf.Leaf.the-variants.{Date}
 use Rattle.layout.specs.declared.leaf.TimeUnit.the-variants.{Microseconds}
 use Rattle.layout.specs.declared.version.Version.the-variants.{ByNumber}
 use Rattle.layout.proofs.Ways.{clash}
-use Rattle.forms.specs.Form.{leafForm, unitCode, textBytes}
+use Rattle.forms.specs.Form.{leafForm, carried, textBytes}
 use Rattle.forms.specs.Same.{sameLeaf, sameDtype}
 use Rattle.rules.specs.declared.policy.Policy.{Policy}
 use Rattle.rules.specs.Policies.{policyOf, allOn}
@@ -55,12 +55,13 @@ use Rattle.iceberg.specs.Refusals.{entry-here, entry-there, of-initial, 
 use Rattle.iceberg.specs.Refusals.{other-kind, list-ids, extra-field, in-struct, RefusesAny, at-selected, missing-raised, missing-default}
 use Rattle.iceberg.specs.Stated.{tupleAt, partitionOf, initialOf, stated}
 use Rattle.iceberg.proofs.Facts.{hiding-null}
+use Rattle.numeric.specs.declared.integers.Integer.the-variants.{Int8, Int16, Int32, Int64, UInt8}
 
 -- what a build by number and its run over the values ρ give at source 0
 computed : Policy → List Entry → Columns → Columns → Values → Answer Values
 unfolding build buildFrom buildColumnSelector attachTransforms attachFields sought missing missingValue buildIcebergDefaultValue defaultsOf leafDefault
     withField structDefault getDefaultValue firstEntry givenTo ofSource unlessNull leafPart structPart listPart arrayPart isNullType unlessNullType renamed
-    sameElement distinct noExtra ruled isPosition inPlace structSelector listSelector arraySelector findFrom sameBytes sameDtype sameLeaf leafForm dtypeOf
+    sameElement distinct noExtra ruled isPosition inPlace structSelector listSelector arraySelector findFrom sameBytes sameDtype sameLeaf leafForm carried dtypeOf
     fieldsOf countColumns countSelectors choose _>>=_ demand placed answered eval evals valueAt mapValues onStruct onList onArray castLeaf castValue pairRule
     chain zonesOf readZone isUtc convert convertAs counted rescaled widened numberOf signed unsigned pattern
 computed p es Γ Δ ρ = answered (build ByNumber p (getDefaultValue es 0) Γ Δ) (λ ss. accepted (evals ρ ss))
@@ -78,13 +79,13 @@ abbrev bare : Columns
 bare = ccons (label 0x74 1) (cstruct cnil) cnil
 
 abbrev field : Columns
-field = ccons (label 0x61 2) (cleaf int8) cnil
+field = ccons (label 0x61 2) (cleaf (integer Int8)) cnil
 
 abbrev whole : Columns
 whole = ccons (label 0x74 1) (cstruct field) cnil
 
 abbrev wide : Columns
-wide = ccons (label 0x74 1) (cstruct (ccons (label 0x61 2) (cleaf int8) (ccons (label 0x62 3) (cleaf int8) cnil))) cnil
+wide = ccons (label 0x74 1) (cstruct (ccons (label 0x61 2) (cleaf (integer Int8)) (ccons (label 0x62 3) (cleaf (integer Int8)) cnil))) cnil
 
 abbrev listed : ℕ → ColumnType → Columns
 listed i t = ccons (label 0x74 1) (clist (label 0x65 i) t) cnil
@@ -100,19 +101,19 @@ abbrev row : Value → Values
 row v = one (vstruct (one v))
 
 abbrev five : Value
-five = vnumber Int8 5
+five = vnumber (Leaf.Integer Int8) 5
 
 abbrev seven : Value
-seven = vnumber Int8 7
+seven = vnumber (Leaf.Integer Int8) 7
 
 abbrev nine : Value
-nine = vnumber Int8 9
+nine = vnumber (Leaf.Integer Int8) 9
 
 abbrev initially : ℕ → Entry
-initially i = record { id = record { 0 = i }; given = initial int8 seven }
+initially i = record { id = record { 0 = i }; given = initial (integer Int8) seven }
 
 abbrev partitions : ℕ → Values → Entry
-partitions i vs = record { id = record { 0 = i }; given = partition int8 vs }
+partitions i vs = record { id = record { 0 = i }; given = partition (integer Int8) vs }
 
 -- t has the default `{}` or `[]`
 abbrev emptyOne : FieldId → Bool
@@ -160,7 +161,7 @@ added-agrees =
 
 -- t#1 struct{a#1:int8}: ids are unique among siblings only
 abbrev repeated : Columns
-repeated = ccons (label 0x74 1) (cstruct (ccons (label 0x61 1) (cleaf int8) cnil)) cnil
+repeated = ccons (label 0x74 1) (cstruct (ccons (label 0x61 1) (cleaf (integer Int8)) cnil)) cnil
 
 repeated-read : layout (0x4C ∷ 0x41 ∷ 0x59 ∷ 2 ∷ 0 ∷ 1 ∷ 0 ∷ 1 ∷ 0x74 ∷ 1 ∷ 0 ∷ 0 ∷ 0 ∷ 18 ∷ 1 ∷ 0 ∷ 1 ∷ 0x61 ∷ 1 ∷ 0 ∷ 0 ∷ 0 ∷ 2 ∷ [])
     ≡ ok (record { version = ByNumber; columns = repeated }) 23
@@ -168,7 +169,7 @@ unfolding laidOut
 repeated-read = refl
 
 repeated-reads : Sample false [] noneEmpty repeated repeated (row five) [] (row five) (row five)
-unfolding computed stated choose valueAt promotes dueLeaf sameLeaf sameDtype leafForm sameBytes
+unfolding computed stated choose valueAt promotes dueLeaf sameLeaf sameDtype leafForm carried sameBytes
 repeated-reads =
     record {
       ours = refl;
@@ -273,7 +274,7 @@ partition-inside =
     }
 
 -- a list's own default `[]` is not looked at
-empty-list : Sample false [] emptyOne none (listed 9 (cleaf int8)) vnil (listDefault ∷ []) (one vnull) (one (vlist vnil))
+empty-list : Sample false [] emptyOne none (listed 9 (cleaf (integer Int8))) vnil (listDefault ∷ []) (one vnull) (one (vlist vnil))
 unfolding computed stated partitionOf initialOf firstEntry choose valueAt valued
 empty-list =
     record {
@@ -354,8 +355,8 @@ module _ (M : Metadata) where
   number-promotes (reads-leaf e f) = e
 
 -- an element of the id 4,294,967,295 pairs with any
-any-paired : Own [] (listed 2 (cleaf int8)) (listed 4294967295 (cleaf int8)) (one (vlist (one five))) (anyElement ∷ []) (one (vlist (one five)))
-unfolding computed stated choose valueAt promotes dueLeaf sameLeaf sameDtype leafForm sameBytes
+any-paired : Own [] (listed 2 (cleaf (integer Int8))) (listed 4294967295 (cleaf (integer Int8))) (one (vlist (one five))) (anyElement ∷ []) (one (vlist (one five)))
+unfolding computed stated choose valueAt promotes dueLeaf sameLeaf sameDtype leafForm carried sameBytes
 any-paired =
     record {
       ours = refl;
@@ -370,10 +371,10 @@ any-paired =
 
 -- arrays
 abbrev arrayed : Columns
-arrayed = ccons (label 0x74 1) (carray 1 (label 0x65 2) (cleaf int8)) cnil
+arrayed = ccons (label 0x74 1) (carray 1 (label 0x65 2) (cleaf (integer Int8))) cnil
 
 array-of-one : Own [] arrayed arrayed (one (varray (one five))) (arrayRead ∷ []) (one (varray (one five)))
-unfolding computed stated choose valueAt promotes dueLeaf sameLeaf sameDtype leafForm sameBytes
+unfolding computed stated choose valueAt promotes dueLeaf sameLeaf sameDtype leafForm carried sameBytes
 array-of-one =
     record {
       ours = refl;
@@ -385,8 +386,8 @@ array-of-one =
 abbrev typed : LeafType → Columns
 typed l = ccons (label 0x74 1) (cleaf l) cnil
 
-int8-to-int16 : Own [] (typed int8) (typed int16) (one five) (leafConverted ∷ []) (one (vnumber Int16 5))
-unfolding computed stated choose valueAt promotes dueLeaf sameLeaf sameDtype leafForm sameBytes castLeaf convert convertAs counted rescaled widened numberOf
+int8-to-int16 : Own [] (typed (integer Int8)) (typed (integer Int16)) (one five) (leafConverted ∷ []) (one (vnumber (Leaf.Integer Int16) 5))
+unfolding computed stated choose valueAt promotes dueLeaf sameLeaf sameDtype leafForm carried sameBytes castLeaf convert convertAs counted rescaled widened numberOf
     signed unsigned pattern
 int8-to-int16 =
     record {
@@ -413,8 +414,8 @@ unloaded =
     }
 
 -- a default of another type
-unlike : Refusal allOn (record { id = record { 0 = 2 }; given = initial uint8 (vnumber UInt8 7) } ∷ []) bare whole emptyRow 28 (row (vnumber UInt8 7))
-unfolding computed stated partitionOf initialOf firstEntry choose valueAt sameLeaf leafForm sameBytes
+unlike : Refusal allOn (record { id = record { 0 = 2 }; given = initial (integer UInt8) (vnumber (Leaf.Integer UInt8) 7) } ∷ []) bare whole emptyRow 28 (row (vnumber (Leaf.Integer UInt8) 7))
+unfolding computed stated partitionOf initialOf firstEntry choose valueAt sameLeaf leafForm carried sameBytes
 unlike =
     record {
       ours = refl;
@@ -463,15 +464,15 @@ unknown-nested =
     }
 
 -- a promotion that the policy refuses
-not-upcast : Refusal (policyOf 16381) [] (typed int32) (typed int64) (one (vnumber Int32 5)) 16 (one (vnumber Int64 5))
-unfolding computed stated choose valueAt promotes dueLeaf sameLeaf sameDtype leafForm sameBytes castLeaf convert convertAs counted rescaled widened numberOf
+not-upcast : Refusal (policyOf 16381) [] (typed (integer Int32)) (typed (integer Int64)) (one (vnumber (Leaf.Integer Int32) 5)) 16 (one (vnumber (Leaf.Integer Int64) 5))
+unfolding computed stated choose valueAt promotes dueLeaf sameLeaf sameDtype leafForm carried sameBytes castLeaf convert convertAs counted rescaled widened numberOf
     signed unsigned pattern pairRule chain zonesOf readZone isUtc
 not-upcast = record { ours = refl; why = at-selected (id-here refl) (leaf-pair refl); theirs = reads-selected (id-here refl) (reads-leaf refl refl) reads-nil }
 
 -- element ids are compared; the specification has no reading of them as one field
-unpaired : (computed allOn [] (listed 2 (cleaf int8)) (listed 3 (cleaf int8)) (one (vlist (one five))) ≡ refusedAt 25 0)
-    × RefusesAny allOn [] outside (allOn .«missing_columns») 11 25 (listed 3 (cleaf int8)) (listed 2 (cleaf int8))
-    × ((zs : Values) → ReadsAll dueLeaf (stated false [] 0 noneEmpty) (listed 3 (cleaf int8)) (listed 2 (cleaf int8)) (one (vlist (one five))) zs → ⊥)
+unpaired : (computed allOn [] (listed 2 (cleaf (integer Int8))) (listed 3 (cleaf (integer Int8))) (one (vlist (one five))) ≡ refusedAt 25 0)
+    × RefusesAny allOn [] outside (allOn .«missing_columns») 11 25 (listed 3 (cleaf (integer Int8))) (listed 2 (cleaf (integer Int8)))
+    × ((zs : Values) → ReadsAll dueLeaf (stated false [] 0 noneEmpty) (listed 3 (cleaf (integer Int8))) (listed 2 (cleaf (integer Int8))) (one (vlist (one five))) zs → ⊥)
 unfolding computed
 unpaired = (refl, at-selected (id-here refl) (list-ids (λ e. differ e) any), λ zs r. differ (list-ids-equal r))
   where
@@ -482,7 +483,7 @@ unpaired = (refl, at-selected (id-here refl) (list-ids (λ e. differ e) any), λ
     any (incoming-is-any q) = absurd (omega arith)
     any (target-is-any q) = absurd (omega arith)
 
-    list-ids-equal : {zs : Values} → ReadsAll dueLeaf (stated false [] 0 noneEmpty) (listed 3 (cleaf int8)) (listed 2 (cleaf int8)) (one (vlist (one five))) zs
+    list-ids-equal : {zs : Values} → ReadsAll dueLeaf (stated false [] 0 noneEmpty) (listed 3 (cleaf (integer Int8))) (listed 2 (cleaf (integer Int8))) (one (vlist (one five))) zs
         → _≡_ {A = FieldId} (record { 0 = 2 }) (record { 0 = 3 })
     list-ids-equal r = equal-ids _ (first-reads _ refl r .1)
 
@@ -494,5 +495,5 @@ date-to-timestamp : (computed allOn [] (typed date) (typed timestamp) (one (vnum
     × RefusesAny allOn [] outside (allOn .«missing_columns») 11 24 (typed timestamp) (typed date)
     × ((f : LeafType → LeafType → Value → Value)
     → ReadsAll f (stated false [] 0 noneEmpty) (typed timestamp) (typed date) (one (vnumber Date 5)) (one (f date timestamp (vnumber Date 5))))
-unfolding computed valueAt promotes sameLeaf leafForm sameBytes pairRule chain zonesOf readZone isUtc unitCode textBytes
+unfolding computed valueAt promotes sameLeaf leafForm carried sameBytes pairRule chain zonesOf readZone isUtc textBytes
 date-to-timestamp = (refl, at-selected (id-here refl) (leaf-pair refl), λ f. reads-selected (id-here refl) (reads-leaf refl refl) reads-nil)

@@ -5,13 +5,15 @@ use Prim.Native.Nat.{ℕ, suc}
 use mathlib.Core.Path.{_≡_}
 use mathlib.Core.Bool.{Bool, true, _&&_, _||_}
 use mathlib.Core.List.{[]}
-use Rattle.layout.specs.Tree.{LeafType, null, int32, int64, float32, float64, date, datetime, Label, ColumnType, cleaf, cstruct, clist, carray, Columns, cnil}
+use Rattle.layout.specs.Tree.{LeafType, null, date, datetime, Label, ColumnType, cleaf, cstruct, clist, carray, Columns, cnil, float, integer}
 use Rattle.layout.specs.Tree.{ccons}
 use Rattle.layout.specs.declared.leaf.TimeUnit.the-variants.{Microseconds, Nanoseconds}
 use Rattle.layout.specs.declared.columns.FieldId.{FieldId}
 use Rattle.forms.specs.Same.{sameLeaf}
 use Rattle.values.specs.Value.{Value, vnull, vstruct, vlist, Values, vnil, vcons}
 use Rattle.plan.specs.Run.{valueAt}
+use Rattle.numeric.specs.declared.integers.Integer.the-variants.{Int32, Int64}
+use Rattle.numeric.specs.declared.floats.Format.the-variants.{Binary32, Binary64}
 
 -- ---- what a table's metadata state of a field
 
@@ -99,8 +101,8 @@ module _ (M : Metadata) where
 unfoldable pub promotes : LeafType → LeafType → Bool
 promotes l m =
     sameLeaf l m
-    || ((sameLeaf l int32 && sameLeaf m int64)
-    || ((sameLeaf l float32 && sameLeaf m float64)
+    || ((sameLeaf l (integer Int32) && sameLeaf m (integer Int64))
+    || ((sameLeaf l (float Binary32) && sameLeaf m (float Binary64))
     || (sameLeaf l null || (sameLeaf l date && (sameLeaf m (datetime Microseconds []) || sameLeaf m (datetime Nanoseconds []))))))
 
 -- `converted l m x`: what the value x of the file's leaf type l is in the table's leaf type m

@@ -1,5 +1,6 @@
 pub mod Same
 pub mod Keys
+pub mod Leaves
 pub mod Ways
 pub mod FreeRule
 pub mod OfBytes

@@ -5,10 +5,11 @@ use Prim.Native.Nat.{ℕ}
 use lib.ListN.{replicate, take}
 use Rattle.layout.specs.Bytes.{Bytes, sameBytes}
 use Rattle.layout.specs.Parser.{Res, refuse, ok, next, choose, byte, chunk, u16, u32}
-use Rattle.layout.specs.Tree.{LeafType, int16, int32, string, datetime, Label, cleaf, cstruct, clist, Columns, cnil, ccons, Layout}
+use Rattle.layout.specs.Tree.{LeafType, string, datetime, Label, cleaf, cstruct, clist, Columns, cnil, ccons, Layout, integer}
 use Rattle.layout.specs.Layout.{text, unit, leafKind, datetimeKind, structKind, arrayKind, kindOf, kind, fieldId, label, elementLabel, repeatsAny, columns, structType, listType, arrayType, body, type, version, sized, ended, counted, layoutFrom, layout}
 use Rattle.layout.specs.declared.leaf.TimeUnit.{TimeUnit}
 use Rattle.layout.specs.declared.version.Version.{Version}
+use Rattle.numeric.specs.declared.integers.Integer.the-variants.{Int16, Int32}
 
 -- `LAY`, version v, n columns
 abbrev laid : ℕ → ℕ → Bytes → Bytes
@@ -35,11 +36,11 @@ s1-incoming = laid 1 1 (1 ∷ 0x74 ∷ 3 ∷ [])
 s1-target : Bytes
 s1-target = laid 1 2 (1 ∷ 0x74 ∷ 4 ∷ 1 ∷ 0x73 ∷ 15 ∷ [])
 
-s1-incoming-read : layout s1-incoming ≡ ok (record { version = Version.ByName; columns = ccons (named (0x74 ∷ []) 0) (cleaf int16) cnil }) 10
+s1-incoming-read : layout s1-incoming ≡ ok (record { version = Version.ByName; columns = ccons (named (0x74 ∷ []) 0) (cleaf (integer Int16)) cnil }) 10
 unfolding computed s1-incoming
 s1-incoming-read = refl
 
-s1-target-read : layout s1-target ≡ ok (record { version = Version.ByName; columns = ccons (named (0x74 ∷ []) 0) (cleaf int32) (ccons (named (0x73 ∷ []) 0) (cleaf string) cnil) }) 13
+s1-target-read : layout s1-target ≡ ok (record { version = Version.ByName; columns = ccons (named (0x74 ∷ []) 0) (cleaf (integer Int32)) (ccons (named (0x73 ∷ []) 0) (cleaf string) cnil) }) 13
 unfolding computed s1-target
 s1-target-read = refl
 

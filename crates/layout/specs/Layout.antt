@@ -12,7 +12,10 @@ use Rattle.layout.specs.Tree.{LeafType, leafType, Label, ColumnType, cle
 use Rattle.layout.specs.declared.leaf.TimeUnit.{TimeUnit}
 use Rattle.layout.specs.declared.leaf.TimeUnit.the-variants.{Nanoseconds, Microseconds, Milliseconds}
 use Rattle.layout.specs.declared.leaf.Leaf.{Leaf}
-use Rattle.layout.specs.declared.leaf.Leaf.the-variants.{Null, Boolean, Int8, Int16, Int32, Int64, UInt8, UInt16, UInt32, UInt64, Float16, Float32, Float64, Date, Datetime, String, Binary, Categorical}
+use Rattle.numeric.specs.declared.integers.Integer.{Integer}
+use Rattle.numeric.specs.declared.integers.Integer.the-variants.{Int8, Int16, Int32, Int64, UInt8, UInt16, UInt32, UInt64}
+use Rattle.numeric.specs.declared.floats.Format.{Format}
+use Rattle.numeric.specs.declared.floats.Format.the-variants.{Binary16, Binary32, Binary64}
 use Rattle.layout.specs.declared.types.PlainLeaf.{PlainLeaf}
 use Rattle.layout.specs.declared.types.PlainLeaf.the-variants.{Known, Unknown}
 use Rattle.layout.specs.declared.version.Version.{Version}
@@ -26,7 +29,12 @@ text = do
   n ← byte
   if (leb n 63) (chunk n) (fail 4)
 
--- a date-time's unit: 0 ns, 1 µs, 2 ms
+-- a date-time's unit: 0 ns, 1 µs, 2 ms, counted up from the finest
+abbrev pub unitCode : TimeUnit → ℕ
+unitCode Nanoseconds = 0
+unitCode Microseconds = 1
+unitCode Milliseconds = 2
+
 unfoldable pub unit : Parser TimeUnit
 unit = do
   u ← byte
@@ -42,15 +50,42 @@ pub data Kind : Type 0 where
 -- the leaves that are their code alone, each at the place of its code; 14 is a date-time
 abbrev pub plainLeaves : List PlainLeaf
 plainLeaves =
-    Known Null ∷ Known Boolean
-    ∷ Known Int8 ∷ Known Int16 ∷ Known Int32 ∷ Known Int64
-    ∷ Known UInt8 ∷ Known UInt16 ∷ Known UInt32 ∷ Known UInt64
-    ∷ Known Float16 ∷ Known Float32 ∷ Known Float64
-    ∷ Known Date ∷ Unknown
-    ∷ Known String ∷ Known Binary ∷ Known Categorical ∷ []
+    Known Leaf.Null ∷ Known Leaf.Boolean
+    ∷ Known (Leaf.Integer Int8) ∷ Known (Leaf.Integer Int16) ∷ Known (Leaf.Integer Int32) ∷ Known (Leaf.Integer Int64)
+    ∷ Known (Leaf.Integer UInt8) ∷ Known (Leaf.Integer UInt16) ∷ Known (Leaf.Integer UInt32) ∷ Known (Leaf.Integer UInt64)
+    ∷ Known (Leaf.Float Binary16) ∷ Known (Leaf.Float Binary32) ∷ Known (Leaf.Float Binary64)
+    ∷ Known Leaf.Date ∷ Unknown
+    ∷ Known Leaf.String ∷ Known Leaf.Binary ∷ Known Leaf.Categorical ∷ []
 
 abbrev pub plainLeaf : ℕ → PlainLeaf
 plainLeaf code = getD plainLeaves code Unknown
+
+-- the code of each leaf kind
+abbrev pub integerCode : Integer → ℕ
+integerCode Int8 = 2
+integerCode Int16 = 3
+integerCode Int32 = 4
+integerCode Int64 = 5
+integerCode UInt8 = 6
+integerCode UInt16 = 7
+integerCode UInt32 = 8
+integerCode UInt64 = 9
+
+abbrev pub floatCode : Format → ℕ
+floatCode Binary16 = 10
+floatCode Binary32 = 11
+floatCode Binary64 = 12
+
+abbrev pub codeOf : Leaf → ℕ
+codeOf Leaf.Null = 0
+codeOf Leaf.Boolean = 1
+codeOf (Leaf.Integer i) = integerCode i
+codeOf (Leaf.Float f) = floatCode f
+codeOf Leaf.Date = 13
+codeOf (Leaf.Datetime u) = 14
+codeOf Leaf.String = 15
+codeOf Leaf.Binary = 16
+codeOf Leaf.Categorical = 17
 
 unfoldable pub leafKind : PlainLeaf → Parser Kind
 leafKind (Known l) = pure (aLeaf (leafType l []))
@@ -60,7 +95,7 @@ unfoldable pub datetimeKind : Parser Kind
 datetimeKind = do
   u ← unit
   z ← text
-  pure (aLeaf (leafType (Datetime u) z))
+  pure (aLeaf (leafType (Leaf.Datetime u) z))
 
 unfoldable pub structKind : Parser Kind
 structKind = do

@@ -4,75 +4,48 @@ use mathlib.Core.List.{List, []}
 use Rattle.layout.specs.Bytes.{Bytes}
 use Rattle.layout.specs.declared.leaf.TimeUnit.{TimeUnit}
 use Rattle.layout.specs.declared.leaf.Leaf.{Leaf}
-use Rattle.layout.specs.declared.leaf.Leaf.the-variants.{Null, Boolean, Int8, Int16, Int32, Int64, UInt8, UInt16, UInt32, UInt64, Float16, Float32, Float64, Date, Datetime, String, Binary, Categorical}
+use Rattle.numeric.specs.declared.integers.Integer.{Integer}
+use Rattle.numeric.specs.declared.floats.Format.{Format}
 use Rattle.layout.specs.declared.columns.FieldId.{FieldId}
 use Rattle.layout.specs.declared.version.Version.{Version}
 
 -- a leaf type: its kind, and of a date-time also the zone (empty: no zone)
 pub data LeafType : Type 0 where
   null boolean : LeafType
-  int8 int16 int32 int64 : LeafType
-  uint8 uint16 uint32 uint64 : LeafType
-  float16 float32 float64 : LeafType
+  integer : Integer → LeafType
+  float : Format → LeafType
   date : LeafType
   datetime : TimeUnit → Bytes → LeafType
   string binary categorical : LeafType
 
 -- the leaf type of a kind and a zone, which only a date-time has
 abbrev pub leafType : Leaf → Bytes → LeafType
-leafType Null z = null
-leafType Boolean z = boolean
-leafType Int8 z = int8
-leafType Int16 z = int16
-leafType Int32 z = int32
-leafType Int64 z = int64
-leafType UInt8 z = uint8
-leafType UInt16 z = uint16
-leafType UInt32 z = uint32
-leafType UInt64 z = uint64
-leafType Float16 z = float16
-leafType Float32 z = float32
-leafType Float64 z = float64
-leafType Date z = date
-leafType (Datetime u) z = datetime u z
-leafType String z = string
-leafType Binary z = binary
-leafType Categorical z = categorical
+leafType Leaf.Null z = null
+leafType Leaf.Boolean z = boolean
+leafType (Leaf.Integer i) z = integer i
+leafType (Leaf.Float f) z = float f
+leafType Leaf.Date z = date
+leafType (Leaf.Datetime u) z = datetime u z
+leafType Leaf.String z = string
+leafType Leaf.Binary z = binary
+leafType Leaf.Categorical z = categorical
 
 abbrev pub leafOf : LeafType → Leaf
-leafOf null = Null
-leafOf boolean = Boolean
-leafOf int8 = Int8
-leafOf int16 = Int16
-leafOf int32 = Int32
-leafOf int64 = Int64
-leafOf uint8 = UInt8
-leafOf uint16 = UInt16
-leafOf uint32 = UInt32
-leafOf uint64 = UInt64
-leafOf float16 = Float16
-leafOf float32 = Float32
-leafOf float64 = Float64
-leafOf date = Date
-leafOf (datetime u z) = Datetime u
-leafOf string = String
-leafOf binary = Binary
-leafOf categorical = Categorical
+leafOf null = Leaf.Null
+leafOf boolean = Leaf.Boolean
+leafOf (integer i) = Leaf.Integer i
+leafOf (float f) = Leaf.Float f
+leafOf date = Leaf.Date
+leafOf (datetime u z) = Leaf.Datetime u
+leafOf string = Leaf.String
+leafOf binary = Leaf.Binary
+leafOf categorical = Leaf.Categorical
 
 abbrev pub zoneOf : LeafType → Bytes
 zoneOf null = []
 zoneOf boolean = []
-zoneOf int8 = []
-zoneOf int16 = []
-zoneOf int32 = []
-zoneOf int64 = []
-zoneOf uint8 = []
-zoneOf uint16 = []
-zoneOf uint32 = []
-zoneOf uint64 = []
-zoneOf float16 = []
-zoneOf float32 = []
-zoneOf float64 = []
+zoneOf (integer i) = []
+zoneOf (float f) = []
 zoneOf date = []
 zoneOf (datetime u z) = z
 zoneOf string = []

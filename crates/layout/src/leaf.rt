@@ -1,4 +1,6 @@
 // Leaf types, under polars' names.
+use numeric::floats::Format;
+use numeric::integers::Integer;
 
 pub enum TimeUnit {
     Nanoseconds,
@@ -10,17 +12,8 @@ pub enum TimeUnit {
 pub enum Leaf {
     Null,
     Boolean,
-    Int8,
-    Int16,
-    Int32,
-    Int64,
-    UInt8,
-    UInt16,
-    UInt32,
-    UInt64,
-    Float16,
-    Float32,
-    Float64,
+    Integer(Integer),
+    Float(Format),
     Date,
     Datetime(TimeUnit),
     String,

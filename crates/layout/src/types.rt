@@ -1,6 +1,6 @@
 // What a type begins with: its code and what follows up to its columns or its element.
 ghost use mathlib.Core.Path.{_≡_};
-ghost use Rattle.layout.specs.Layout.{unit, plainLeaf, kind, datetimeKind, structKind, arrayKind};
+ghost use Rattle.layout.specs.Layout.{unit, plainLeaf, integerCode, floatCode, kind, datetimeKind, structKind, arrayKind};
 ghost use Rattle.layout.specs.Answers.{unitRes, headRes, headIn};
 use crate::bytes::Span;
 use crate::cursor::Cursor;
@@ -10,6 +10,8 @@ use crate::cursor::Step;
 use crate::cursor::Text;
 use crate::leaf::Leaf;
 use crate::leaf::TimeUnit;
+use numeric::floats::Format;
+use numeric::integers::Integer;
 
 pub enum Unit {
     Is(TimeUnit, Cursor),
@@ -42,23 +44,48 @@ pub fn plain_leaf(code: u8) -> PlainLeaf
     match code {
         0 => PlainLeaf::Known(Leaf::Null),
         1 => PlainLeaf::Known(Leaf::Boolean),
-        2 => PlainLeaf::Known(Leaf::Int8),
-        3 => PlainLeaf::Known(Leaf::Int16),
-        4 => PlainLeaf::Known(Leaf::Int32),
-        5 => PlainLeaf::Known(Leaf::Int64),
-        6 => PlainLeaf::Known(Leaf::UInt8),
-        7 => PlainLeaf::Known(Leaf::UInt16),
-        8 => PlainLeaf::Known(Leaf::UInt32),
-        9 => PlainLeaf::Known(Leaf::UInt64),
-        10 => PlainLeaf::Known(Leaf::Float16),
-        11 => PlainLeaf::Known(Leaf::Float32),
-        12 => PlainLeaf::Known(Leaf::Float64),
+        2 => PlainLeaf::Known(Leaf::Integer(Integer::Int8)),
+        3 => PlainLeaf::Known(Leaf::Integer(Integer::Int16)),
+        4 => PlainLeaf::Known(Leaf::Integer(Integer::Int32)),
+        5 => PlainLeaf::Known(Leaf::Integer(Integer::Int64)),
+        6 => PlainLeaf::Known(Leaf::Integer(Integer::UInt8)),
+        7 => PlainLeaf::Known(Leaf::Integer(Integer::UInt16)),
+        8 => PlainLeaf::Known(Leaf::Integer(Integer::UInt32)),
+        9 => PlainLeaf::Known(Leaf::Integer(Integer::UInt64)),
+        10 => PlainLeaf::Known(Leaf::Float(Format::Binary16)),
+        11 => PlainLeaf::Known(Leaf::Float(Format::Binary32)),
+        12 => PlainLeaf::Known(Leaf::Float(Format::Binary64)),
         13 => PlainLeaf::Known(Leaf::Date),
         14 => PlainLeaf::Unknown,
         15 => PlainLeaf::Known(Leaf::String),
         16 => PlainLeaf::Known(Leaf::Binary),
         17 => PlainLeaf::Known(Leaf::Categorical),
         _ => PlainLeaf::Unknown,
+    }
+}
+
+pub fn integer_code(i: Integer) -> u8
+    ensures { λ r. ⌜ r ≡ integerCode i ⌝ }
+{
+    match i {
+        Integer::Int8 => 2,
+        Integer::Int16 => 3,
+        Integer::Int32 => 4,
+        Integer::Int64 => 5,
+        Integer::UInt8 => 6,
+        Integer::UInt16 => 7,
+        Integer::UInt32 => 8,
+        Integer::UInt64 => 9,
+    }
+}
+
+pub fn float_code(f: Format) -> u8
+    ensures { λ r. ⌜ r ≡ floatCode f ⌝ }
+{
+    match f {
+        Format::Binary16 => 10,
+        Format::Binary32 => 11,
+        Format::Binary64 => 12,
     }
 }
 

@@ -4,11 +4,12 @@ use mathlib.Core.Path.{_≡_, refl}
 use mathlib.Core.List.{List, [], _∷_, _++_}
 use Rattle.layout.specs.Bytes.{Bytes, sameBytes}
 use Rattle.layout.specs.Parser.{Res, refuse, ok, next, choose, byte, chunk, u16, u32}
-use Rattle.layout.specs.Tree.{int8, Layout, dtypeOf, fieldsOf, countColumns, countFields}
+use Rattle.layout.specs.Tree.{Layout, dtypeOf, fieldsOf, countColumns, countFields, integer}
 use Rattle.layout.specs.Layout.{layout, layoutFrom, sized, version, counted, ended, columns, label, text, fieldId, type, kind, kindOf, leafKind, datetimeKind, structKind, arrayKind, unit, body, structType, listType, arrayType, elementLabel, repeatsAny}
 use Rattle.layout.specs.Find.{findFrom}
-use Rattle.layout.specs.declared.leaf.Leaf.the-variants.{Int8}
-use Rattle.forms.specs.Form.{u16Bytes, u32Bytes, textBytes, unitCode, leafForm, kindForm, form, formFields}
+use Rattle.layout.specs.declared.leaf.Leaf.{Leaf}
+use Rattle.layout.specs.Layout.{unitCode}
+use Rattle.forms.specs.Form.{u16Bytes, u32Bytes, textBytes, carried, leafForm, kindForm, form, formFields}
 use Rattle.forms.specs.Same.{sameLeaf, sameDtype}
 use Rattle.rules.specs.declared.policy.Policy.{Policy}
 use Rattle.rules.specs.Policies.{policyOf}
@@ -28,6 +29,7 @@ use Rattle.matching.specs.Default.{leafDefault, withField, structDefault
 use Rattle.matching.specs.Build.{leafPart, structPart, listPart, arrayPart, isNullType, unlessNullType, renamed, sameElement, distinctNames, distinct, noExtra, missing, ruled, isPosition, inPlace, structSelector, listSelector, arraySelector, sought, attachTransforms, attachFields, buildColumnSelector, buildFrom, build}
 use Rattle.plan.specs.Calls.{readAt}
 use Rattle.matching.specs.Calls.{ofVersion, bothLayouts, roomFor, writtenPlan, buildByName, buildByNumber}
+use Rattle.numeric.specs.declared.integers.Integer.the-variants.{Int8}
 
 -- opens every definition that a sample computes through
 unfoldable pub laidOut : Bytes → Res Layout
@@ -39,7 +41,7 @@ unfolding laidOut table tableFrom tableVersion entries entry givenOf partitionEn
 tabled s = table s
 
 unfoldable pub built : Policy → ℕ → Bytes → Bytes → Bytes → ℕ → Answer Bytes
-unfolding tabled buildByName buildByNumber bothLayouts readAt ofVersion roomFor writtenPlan build buildFrom buildColumnSelector attachTransforms attachFields sought missing missingValue buildIcebergDefaultValue defaultsOf structDefault withField leafDefault getDefaultValue firstEntry givenTo ofSource unlessNull leafPart structPart listPart arrayPart isNullType unlessNullType renamed sameElement distinctNames distinct noExtra ruled isPosition inPlace structSelector listSelector arraySelector findFrom pairRule chain zonesOf readZone isUtc sameDtype sameLeaf dtypeOf fieldsOf countColumns countFields countSelectors encodePlan encodeSelector encodeSelectors u16Bytes u32Bytes textBytes unitCode leafForm kindForm form formFields encodeValue encodeValues littleBytes _>>=_ demand placed answered
+unfolding tabled buildByName buildByNumber bothLayouts readAt ofVersion roomFor writtenPlan build buildFrom buildColumnSelector attachTransforms attachFields sought missing missingValue buildIcebergDefaultValue defaultsOf structDefault withField leafDefault getDefaultValue firstEntry givenTo ofSource unlessNull leafPart structPart listPart arrayPart isNullType unlessNullType renamed sameElement distinctNames distinct noExtra ruled isPosition inPlace structSelector listSelector arraySelector findFrom pairRule chain zonesOf readZone isUtc sameDtype sameLeaf dtypeOf fieldsOf countColumns countFields countSelectors encodePlan encodeSelector encodeSelectors u16Bytes u32Bytes textBytes leafForm carried kindForm form formFields encodeValue encodeValues littleBytes _>>=_ demand placed answered
 built p k a b d room = buildByNumber p k a b d room
 
 -- ---- layouts, tables and plans
@@ -267,7 +269,7 @@ missing-in-element = refl
 -- ---- reading a table
 
 two-kinds : table (defaults 2 (initialSeven ++ entryOf 2 1 (0 ∷ 2 ∷ 1 ∷ 0 ∷ 0 ∷ [])))
-    ≡ ok (record { id = record { 0 = 2 }; given = initial int8 (vnumber Int8 7) } ∷ record { id = record { 0 = 2 }; given = partition int8 (vcons vnull vnil) } ∷ []) 25
+    ≡ ok (record { id = record { 0 = 2 }; given = initial (integer Int8) (vnumber (Leaf.Integer Int8) 7) } ∷ record { id = record { 0 = 2 }; given = partition (integer Int8) (vcons vnull vnil) } ∷ []) 25
 unfolding tabled
 two-kinds = refl
 

@@ -4,14 +4,14 @@ use mathlib.Core.List.{[], _∷_}
 use lib.ListN.{length}
 use Rattle.layout.specs.Bytes.{Bytes}
 use Rattle.layout.specs.Parser.{Res, ok, next, choose, byte, chunk, u16}
-use Rattle.layout.specs.Tree.{int16, Label, ColumnType, cleaf, cstruct, clist, cnil, ccons, leaf, dtypeOf}
+use Rattle.layout.specs.Tree.{Label, ColumnType, cleaf, cstruct, clist, cnil, ccons, leaf, dtypeOf, integer}
 use Rattle.layout.specs.Layout.{text, leafKind, structKind, kindOf, kind, fieldId, label, elementLabel, repeatsAny, columns, structType, listType, body, type, deepest}
-use Rattle.layout.specs.declared.leaf.Leaf.the-variants.{Int16}
+use Rattle.layout.specs.declared.leaf.Leaf.{Leaf}
 use Rattle.layout.specs.declared.version.Version.the-variants.{ByName}
 use Rattle.layout.specs.declared.columns.Siblings.the-variants.{Free}
 use Rattle.values.specs.Value.{Value, vnull, vnumber, vstruct, vlist, vnil, vcons, countValues}
 use Rattle.values.specs.Reading.{presence, nullable, little, contentBy, leafContent, times, listContent, structContent, content, value}
-use Rattle.forms.specs.Form.{u16Bytes, textBytes, leafForm, kindForm, form}
+use Rattle.forms.specs.Form.{u16Bytes, textBytes, carried, leafForm, kindForm, form}
 use Rattle.forms.specs.Readable.{depthOf}
 use Rattle.plan.specs.Check.{columnAt}
 use Rattle.plan.specs.Run.{valueAt}
@@ -20,6 +20,7 @@ use Rattle.walk.specs.Values.{opened, valueNode}
 use Rattle.nodes.specs.Raw.{RawAt, partsOf}
 use Rattle.nodes.specs.Typed.{LeadsAt}
 use Rattle.nodes.specs.declared.raw.Parts.{Parts}
+use Rattle.numeric.specs.declared.integers.Integer.the-variants.{Int16}
 
 -- a struct with the field `t`, a list of int16
 abbrev lay : Bytes
@@ -33,7 +34,7 @@ abbrev named : Bytes → Label
 named n = record { name = n; id = record { 0 = 0 } }
 
 abbrev tree : ColumnType
-tree = cstruct (ccons (named (0x74 ∷ [])) (clist (named []) (cleaf int16)) cnil)
+tree = cstruct (ccons (named (0x74 ∷ [])) (clist (named []) (cleaf (integer Int16))) cnil)
 
 -- opens every definition that a sample computes through
 computed : Bytes → Res Value
@@ -44,7 +45,7 @@ type-read : type ByName Free deepest lay 0 ≡ ok tree 7
 unfolding computed
 type-read = refl
 
-value-read : value (dtypeOf tree) rec 0 ≡ ok (vstruct (vcons (vlist (vcons (vnumber Int16 5) (vcons vnull vnil))) vnil)) 8
+value-read : value (dtypeOf tree) rec 0 ≡ ok (vstruct (vcons (vlist (vcons (vnumber (Leaf.Integer Int16) 5) (vcons vnull vnil))) vnil)) 8
 unfolding computed
 value-read = refl
 
@@ -53,7 +54,7 @@ pub raw-stands : RawAt ByName lay 0 rec 0
 raw-stands = record { type = record { tree = tree; end = 7; reads = type-read }; value = record { tree = _; end = 8; reads = value-read } }
 
 -- the first element, the null, one past the end, and a part of a leaf
-first-element : valueNode (raw-stands .value .tree) (0 ∷ 0 ∷ []) ≡ vnumber Int16 5
+first-element : valueNode (raw-stands .value .tree) (0 ∷ 0 ∷ []) ≡ vnumber (Leaf.Integer Int16) 5
 unfolding raw-stands valueNode opened valueAt
 first-element = refl
 
@@ -74,13 +75,13 @@ unfolding raw-stands valueNode opened valueAt partsOf countValues
 two-parts = refl
 
 -- what `type_at` asks: the element's number has no say
-pub leads : LeadsAt ByName lay 0 (0 ∷ 9 ∷ []) (leaf int16)
+pub leads : LeadsAt ByName lay 0 (0 ∷ 9 ∷ []) (leaf (integer Int16))
 unfolding dtypeOf columnAt
 leads = record { type = record { tree = tree; end = 7; reads = type-read }; along = a-field refl (a-list a-here) }
 
 -- in version 1 the form is the bytes themselves
 as-long : length (form (dtypeOf tree)) ≡ length lay
-unfolding dtypeOf form kindForm u16Bytes textBytes leafForm
+unfolding dtypeOf form kindForm u16Bytes textBytes leafForm carried
 as-long = refl
 
 three-levels : depthOf (dtypeOf tree) ≡ 3

@@ -27,6 +27,10 @@ widthOf Binary16 = 16
 widthOf Binary32 = 32
 widthOf Binary64 = 64
 
+-- and its bytes
+abbrev pub floatBytes : Format → ℕ
+floatBytes f = widthOf f / 8
+
 -- what the code asks of a format: its patterns fit 64 bits
 pub record Fitting (p emax : ℕ) : Type 0 where
   pub two : 2 ≤ p

@@ -18,6 +18,10 @@ bitsOf UInt16 = 16
 bitsOf UInt32 = 32
 bitsOf UInt64 = 64
 
+-- the bytes of a pattern
+abbrev pub integerBytes : Integer → ℕ
+integerBytes i = bitsOf i / 8
+
 abbrev pub isSigned : Integer → Bool
 isSigned Int8 = true
 isSigned Int16 = true

@@ -2,7 +2,7 @@
 ghost use mathlib.Core.Path.{_≡_};
 ghost use Prim.Native.Nat.{_+_, _-_, _*_, _<_};
 ghost use Rattle.numeric.specs.Rounding.{infinity};
-ghost use Rattle.numeric.specs.Floats.{precisionOf, emaxOf, Fitting, signBit, finite, converted, integerToFloat, floatToFloat};
+ghost use Rattle.numeric.specs.Floats.{floatBytes, precisionOf, emaxOf, Fitting, signBit, finite, converted, integerToFloat, floatToFloat};
 use crate::integers::Integer;
 use crate::integers::Whole;
 use crate::integers::number;
@@ -14,6 +14,17 @@ pub enum Format {
     Binary16,
     Binary32,
     Binary64,
+}
+
+// How many bytes a pattern takes.
+pub fn float_bytes(f: Format) -> u8
+    ensures { λ r. ⌜ r ≡ floatBytes f ⌝ }
+{
+    match f {
+        Format::Binary16 => 2,
+        Format::Binary32 => 4,
+        Format::Binary64 => 8,
+    }
 }
 
 fn precision(f: Format) -> u64

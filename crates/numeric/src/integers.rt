@@ -1,7 +1,7 @@
 // Integers of 8 to 64 bits, signed or not, as patterns in a u64. The bits above an integer's own are not looked at.
 ghost use mathlib.Core.Path.{_≡_};
 ghost use Prim.Native.Nat.{_-_, _%_, _^_, _≤_, _<_};
-ghost use Rattle.numeric.specs.Integers.{bitsOf, isSigned, signed, numberOf, pattern, widened, wholeOf};
+ghost use Rattle.numeric.specs.Integers.{bitsOf, integerBytes, isSigned, signed, numberOf, pattern, widened, wholeOf};
 use crate::round::power;
 
 pub enum Integer {
@@ -33,6 +33,22 @@ pub fn bits(i: Integer) -> u64
         Integer::UInt16 => 16,
         Integer::UInt32 => 32,
         Integer::UInt64 => 64,
+    }
+}
+
+// How many bytes a pattern takes.
+pub fn integer_bytes(i: Integer) -> u8
+    ensures { λ r. ⌜ r ≡ integerBytes i ⌝ }
+{
+    match i {
+        Integer::Int8 => 1,
+        Integer::Int16 => 2,
+        Integer::Int32 => 4,
+        Integer::Int64 => 8,
+        Integer::UInt8 => 1,
+        Integer::UInt16 => 2,
+        Integer::UInt32 => 4,
+        Integer::UInt64 => 8,
     }
 }
 

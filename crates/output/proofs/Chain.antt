@@ -18,7 +18,9 @@ use Rattle.numeric.specs.declared.times.Finer.the-variants.{Count, TooLarge}
 use Rattle.values.specs.Value.{Value, vnull, vnumber, vtext, voverflow, vstruct, vlist, varray, Values}
 use Rattle.plan.specs.Selector.{Selector, position, constant, cast, rename, structMapping, listMapping, arrayMapping, Selectors, snil, scons}
 use Rattle.plan.specs.Reach.{SelectorAt as Nth, s-here, s-there}
-use Rattle.plan.specs.Convert.{NumberKind, integer, float, datetime, other, multiply, divide, keep, UnitChange, unitChange, counted, rescaled, convertAs, convert, numberKind}
+use Rattle.rules.specs.declared.kinds.Class.{Class}
+use Rattle.rules.specs.Classes.{classOf}
+use Rattle.plan.specs.Convert.{multiply, divide, keep, UnitChange, unitChange, counted, rescaled, convertAs, convert}
 use Rattle.plan.specs.Run.{castLeaf, castValue}
 use Rattle.walk.specs.State.{Frame, fields, element, State, state}
 use Rattle.walk.specs.Moves.{Moves, m-here, m-rename, m-field, m-list, m-array, m-leave, m-leave-element}
@@ -70,7 +72,7 @@ passed-moves m p = from (moves-passed m) p
 -- a conversion gives a number or an overflow
 pub converted : (P : Value → Type 0) → ((k : Leaf) (n : ℕ) → P (vnumber k n)) → P voverflow → (i k : Leaf) (n : ℕ) → P (convert i k n)
 unfolding convert convertAs rescaled counted
-converted P f g i k n = go (numberKind i) (numberKind k)
+converted P f g i k n = go (classOf i) (classOf k)
   where
     times : (x : Finer) → P (counted k x)
     times (Count m) = f k m
@@ -81,20 +83,20 @@ converted P f g i k n = go (numberKind i) (numberKind k)
     scaled (divide m) = f k (pattern 64 (coarser (signed 64 n) m))
     scaled keep = f k n
 
-    go : (a b : NumberKind) → P (convertAs a b k n)
-    go (integer a) (integer b) = f k (widened a b n)
-    go (integer a) (float b) = f k (integerToFloat a b n)
-    go (integer a) (datetime b) = f k n
-    go (integer a) other = f k n
-    go (float a) (integer b) = f k n
-    go (float a) (float b) = f k (floatToFloat a b n)
-    go (float a) (datetime b) = f k n
-    go (float a) other = f k n
-    go (datetime a) (integer b) = f k n
-    go (datetime a) (float b) = f k n
-    go (datetime a) (datetime b) = scaled (unitChange a b)
-    go (datetime a) other = f k n
-    go other b = f k n
+    go : (a b : Class) → P (convertAs a b k n)
+    go (Class.Integer a) (Class.Integer b) = f k (widened a b n)
+    go (Class.Integer a) (Class.Float b) = f k (integerToFloat a b n)
+    go (Class.Integer a) (Class.Datetime b) = f k n
+    go (Class.Integer a) Class.Other = f k n
+    go (Class.Float a) (Class.Integer b) = f k n
+    go (Class.Float a) (Class.Float b) = f k (floatToFloat a b n)
+    go (Class.Float a) (Class.Datetime b) = f k n
+    go (Class.Float a) Class.Other = f k n
+    go (Class.Datetime a) (Class.Integer b) = f k n
+    go (Class.Datetime a) (Class.Float b) = f k n
+    go (Class.Datetime a) (Class.Datetime b) = scaled (unitChange a b)
+    go (Class.Datetime a) Class.Other = f k n
+    go Class.Other b = f k n
 
 -- a cast keeps a value's parts
 pub cast-opened : (k : Leaf) (f : Values → Value) (v : Value) → opened f (castLeaf k v) ≡ opened f v

@@ -32,7 +32,8 @@ use Rattle.output.specs.Chain.{ends, goes, casts, nextField, nextOut, ne
 use Rattle.output.specs.Answers.{castPass, GoesOn, CastsOn, passAnswer, PassIs, OnwardTo, OriginIs}
 use Rattle.output.specs.declared.casts.Pass.{Pass}
 use Rattle.output.proofs.Chain.{moves-passed, passed-on, passed-moves}
-use Rattle.raw.proofs.Leaves.{isNested, leaf-kind, struct-nested, list-nested, array-nested}
+use Rattle.layout.proofs.Leaves.{leaf-of-type}
+use Rattle.raw.proofs.Leaves.{isNested, struct-nested, list-nested, array-nested}
 
 -- ---- a cast's type, by what it begins with
 
@@ -48,7 +49,7 @@ module _ {v : Version} {s : Bytes} {at : ℕ} (T : TypeAt v 16 s at) where
 
   pub type-leaf : {p : Head} {l : LeafSpan} {c : Cursor} → headRes s p ≡ kind s at → p ≡ Head.Leaf l c → Pass.Casts (l .leaf) ≡ castPass (dtypeOf (T .tree))
   unfolding dtypeOf
-  type-leaf {l = l} h q = ap Pass.Casts (sym (leaf-kind (l .leaf) _)) ∙ cast-by (sym (leaf-at T h q .0))
+  type-leaf {l = l} h q = ap Pass.Casts (sym (leaf-of-type (l .leaf) _)) ∙ cast-by (sym (leaf-at T h q .0))
 
   pub type-struct : {p : Head} {n : ℕ} {c : Cursor} → headRes s p ≡ kind s at → p ≡ Head.Struct n c → Pass.Goes ≡ castPass (dtypeOf (T .tree))
   type-struct h q = goes-nested (dtypeOf (T .tree)) (struct-nested T h q)

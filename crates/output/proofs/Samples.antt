@@ -5,13 +5,13 @@ use mathlib.Core.Bool.{true}
 use native.Mathlib.Omega.{arith}
 use Rattle.layout.specs.Bytes.{Bytes, sameBytes}
 use Rattle.layout.specs.Parser.{ok, next, choose, byte, chunk, u16}
-use Rattle.layout.specs.Tree.{int16, int32, string, leaf, Columns, cleaf, cnil, ccons, Fields, fnil, fcons, dtypeOf, fieldsOf}
+use Rattle.layout.specs.Tree.{string, leaf, Columns, cleaf, cnil, ccons, Fields, fnil, fcons, dtypeOf, fieldsOf, integer}
 use Rattle.layout.specs.Layout.{text, leafKind, kindOf, kind, fieldId, label, repeatsAny, columns, body, type, deepest}
-use Rattle.layout.specs.declared.leaf.Leaf.the-variants.{Int16}
+use Rattle.layout.specs.declared.leaf.Leaf.{Leaf}
 use Rattle.layout.specs.declared.version.Version.the-variants.{ByName}
 use Rattle.layout.specs.declared.columns.Siblings.the-variants.{Free}
 use Rattle.store.specs.Overlay.{littleBytes}
-use Rattle.forms.specs.Form.{u16Bytes, textBytes, leafForm, kindForm, form}
+use Rattle.forms.specs.Form.{u16Bytes, textBytes, carried, leafForm, kindForm, form}
 use Rattle.forms.specs.Readable.{depthOf, depthOfFields}
 use Rattle.forms.specs.Same.{sameDtype, sameFields, sameLeaf}
 use Rattle.rules.specs.declared.outcome.CastOption.the-variants.{Overflowing}
@@ -29,6 +29,7 @@ use Rattle.plan.specs.Check.{columnAt, castFits, withinLimits, resulting, check
 use Rattle.plan.specs.Convert.{convertAs, convert}
 use Rattle.plan.specs.Run.{valueAt, castLeaf, castValue, eval, evals, clean, cleanAll, spacious, written, run}
 use Rattle.output.specs.Answers.{OutputAt}
+use Rattle.numeric.specs.declared.integers.Integer.the-variants.{Int16, Int32}
 
 abbrev lay : Bytes
 lay = 0x4C ∷ 0x41 ∷ 0x59 ∷ 1 ∷ 0 ∷ 1 ∷ 0 ∷ 1 ∷ 0x74 ∷ 3 ∷ []
@@ -40,16 +41,16 @@ abbrev rec : Bytes
 rec = 1 ∷ 0xFE ∷ 0xFF ∷ []
 
 abbrev incoming : Columns
-incoming = ccons (record { name = 0x74 ∷ []; id = record { 0 = 0 } }) (cleaf int16) cnil
+incoming = ccons (record { name = 0x74 ∷ []; id = record { 0 = 0 } }) (cleaf (integer Int16)) cnil
 
 abbrev row : Values
-row = vcons (vnumber Int16 65534) vnil
+row = vcons (vnumber (Leaf.Integer Int16) 65534) vnil
 
 abbrev ss : Selectors
-ss = scons (cast (position (record { 0 = 0 })) (leaf int32) Overflowing) (scons (constant (0x73 ∷ []) (leaf string) vnull) snil)
+ss = scons (cast (position (record { 0 = 0 })) (leaf (integer Int32)) Overflowing) (scons (constant (0x73 ∷ []) (leaf string) vnull) snil)
 
 abbrev target : Fields
-target = fcons (0x74 ∷ []) (leaf int32) (fcons (0x73 ∷ []) (leaf string) fnil)
+target = fcons (0x74 ∷ []) (leaf (integer Int32)) (fcons (0x73 ∷ []) (leaf string) fnil)
 
 columns-read : columns ByName Free (type ByName Free deepest) 1 [] lay 7 ≡ ok incoming 10
 unfolding columns label text fieldId repeatsAny type kind kindOf leafKind body byte chunk next choose
@@ -64,7 +65,7 @@ unfolding selectors selector selectorRest positionRest constantRest castRest dat
 selectors-read = refl
 
 passes : check (fieldsOf incoming) target ss ≡ accepted tt
-unfolding fieldsOf dtypeOf check topTypes typeOf columnAt _>>=_ checkCast castFits castPasses pairRule chain zonesOf readZone isUtc sameBytes demand resulting withinLimits depthOf form leafForm kindForm textBytes u16Bytes placed answered against sameFields sameDtype sameLeaf
+unfolding fieldsOf dtypeOf check topTypes typeOf columnAt _>>=_ checkCast castFits castPasses pairRule chain zonesOf readZone isUtc sameBytes demand resulting withinLimits depthOf form leafForm carried kindForm textBytes u16Bytes placed answered against sameFields sameDtype sameLeaf
 passes = refl
 
 is-clean : cleanAll (evals row ss) ≡ true

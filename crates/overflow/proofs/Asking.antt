@@ -17,7 +17,7 @@ use Rattle.layout.specs.declared.columns.Siblings.the-variants.{Free}
 use Rattle.layout.specs.declared.version.Version.the-variants.{ByName}
 use Rattle.layout.proofs.Ways.{clash}
 use Rattle.layout.proofs.View.{next-ok, leaf-at, struct-at}
-use Rattle.rules.proofs.LeafTypes.{leaf-of-type}
+use Rattle.layout.proofs.Leaves.{leaf-of-type}
 use Rattle.values.specs.Reading.{value}
 use Rattle.nodes.specs.Raw.{RawAt}
 use Rattle.walk.specs.State.{Frame, State}

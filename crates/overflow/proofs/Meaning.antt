@@ -4,7 +4,7 @@ use mathlib.Core.Path.{_≡_, refl}
 use mathlib.Core.Bool.{Bool, true, false}
 use mathlib.Core.List.{List, [], _∷_}
 use Rattle.layout.specs.Bytes.{Bytes}
-use Rattle.layout.specs.Tree.{LeafType, null, boolean, int8, int16, int32, int64, uint8, uint16, uint32, uint64, float16, float32, float64, date, datetime, string, binary, categorical, DataType, leaf, struct, list, array, Fields}
+use Rattle.layout.specs.Tree.{LeafType, null, boolean, integer, float, date, datetime, string, binary, categorical, DataType, leaf, struct, list, array, Fields}
 use Rattle.layout.specs.declared.leaf.TimeUnit.{TimeUnit}
 use Rattle.rules.specs.declared.outcome.CastOption.{CastOption}
 use Rattle.values.specs.Value.{Value, Values}
@@ -100,17 +100,8 @@ module _ {Γ : Fields} {ρ : Values} (r : FitsAllOver Γ ρ) where
     unfolding castStop timeStop
     leaf-means null w k T = cast-other r w null refl T
     leaf-means boolean w k T = cast-other r w boolean refl T
-    leaf-means int8 w k T = cast-other r w int8 refl T
-    leaf-means int16 w k T = cast-other r w int16 refl T
-    leaf-means int32 w k T = cast-other r w int32 refl T
-    leaf-means int64 w k T = cast-other r w int64 refl T
-    leaf-means uint8 w k T = cast-other r w uint8 refl T
-    leaf-means uint16 w k T = cast-other r w uint16 refl T
-    leaf-means uint32 w k T = cast-other r w uint32 refl T
-    leaf-means uint64 w k T = cast-other r w uint64 refl T
-    leaf-means float16 w k T = cast-other r w float16 refl T
-    leaf-means float32 w k T = cast-other r w float32 refl T
-    leaf-means float64 w k T = cast-other r w float64 refl T
+    leaf-means (integer i) w k T = cast-other r w (integer i) refl T
+    leaf-means (float f) w k T = cast-other r w (float f) refl T
     leaf-means date w k T = cast-other r w date refl T
     leaf-means (datetime c z) w k T = time-means c z w k T
     leaf-means string w k T = cast-other r w string refl T

@@ -21,7 +21,7 @@ use Rattle.layout.specs.declared.columns.Labelled.{Labelled}
 use Rattle.layout.specs.declared.columns.Siblings.the-variants.{Free}
 use Rattle.layout.specs.declared.version.Version.{Version}
 use Rattle.layout.proofs.View.{leaf-at, struct-at, list-at, array-at, FirstAt, first-at, first-labelled, no-column, same-columns}
-use Rattle.rules.proofs.LeafTypes.{leaf-of-type}
+use Rattle.layout.proofs.Leaves.{leaf-of-type}
 use Rattle.values.specs.Value.{Values}
 use Rattle.plan.specs.Selector.{Selector}
 use Rattle.plan.specs.Run.{eval}

@@ -24,7 +24,7 @@ use Rattle.layout.specs.declared.columns.Siblings.the-variants.{Free}
 use Rattle.layout.specs.declared.version.Version.{Version}
 use Rattle.layout.proofs.Ways.{clash}
 use Rattle.layout.proofs.View.{next-ok, leaf-at, struct-at, array-at}
-use Rattle.rules.proofs.LeafTypes.{leaf-of-type}
+use Rattle.layout.proofs.Leaves.{leaf-of-type}
 use Rattle.values.specs.Value.{Value, vnumber, vtext, vstruct, vlist, varray, Values, vnil, vcons, countValues}
 use Rattle.values.specs.Content.{contentOf}
 use Rattle.values.specs.Reading.{flag, little, longText, contentBy, leafContent, listContent, content as contentOfType}
@@ -92,19 +92,10 @@ content-timeless d u Text k s at x q e = let (b, i, h, g) = next-ok (longText s 
 time-content : (k : Leaf) {r : TimeUnit} → timeOf k ≡ In r → contentOf k ≡ Number 8
 time-content Leaf.Null e = clash (cc)
 time-content Leaf.Boolean e = clash (cc)
-time-content Leaf.Int8 e = clash (cc)
-time-content Leaf.Int16 e = clash (cc)
-time-content Leaf.Int32 e = clash (cc)
-time-content Leaf.Int64 e = clash (cc)
-time-content Leaf.UInt8 e = clash (cc)
-time-content Leaf.UInt16 e = clash (cc)
-time-content Leaf.UInt32 e = clash (cc)
-time-content Leaf.UInt64 e = clash (cc)
-time-content Leaf.Float16 e = clash (cc)
-time-content Leaf.Float32 e = clash (cc)
-time-content Leaf.Float64 e = clash (cc)
+time-content (Leaf.Integer i) e = clash (cc)
+time-content (Leaf.Float f) e = clash (cc)
 time-content Leaf.Date e = clash (cc)
-time-content (Datetime u) e = refl
+time-content (Leaf.Datetime u) e = refl
 time-content Leaf.String e = clash (cc)
 time-content Leaf.Binary e = clash (cc)
 time-content Leaf.Categorical e = clash (cc)

@@ -9,7 +9,9 @@ use Rattle.layout.specs.declared.leaf.TimeUnit.{TimeUnit}
 use Rattle.layout.specs.declared.leaf.Leaf.{Leaf}
 use Rattle.numeric.specs.Integers.{signed}
 use Rattle.values.specs.Value.{Value, vnull, vnumber, vtext, voverflow, vstruct, vlist, varray, Values, vnil, vcons}
-use Rattle.plan.specs.Convert.{NumberKind, integer, float, datetime, other, numberKind, UnitChange, multiply, divide, keep, unitChange}
+use Rattle.rules.specs.declared.kinds.Class.{Class}
+use Rattle.rules.specs.Classes.{classOf}
+use Rattle.plan.specs.Convert.{UnitChange, multiply, divide, keep, unitChange}
 use Rattle.overflow.specs.declared.want.Bounds.{Bounds}
 use Rattle.overflow.specs.declared.want.Timed.{Timed}
 use Rattle.overflow.specs.declared.want.Timed.the-variants.{In, Never}
@@ -48,14 +50,14 @@ abbrev pub overflowing : TimeUnit → Want
 overflowing u = Beyond widest u
 
 -- the unit of a leaf, if it is a date-time
-abbrev pub timed : NumberKind → Timed
-timed (integer i) = Never
-timed (float f) = Never
-timed (datetime u) = In u
-timed other = Never
+abbrev pub timed : Class → Timed
+timed (Class.Integer i) = Never
+timed (Class.Float f) = Never
+timed (Class.Datetime u) = In u
+timed Class.Other = Never
 
 abbrev pub timeOf : Leaf → Timed
-timeOf k = timed (numberKind k)
+timeOf k = timed (classOf k)
 
 -- a count of that unit, brought to the unit u, is beyond the bounds or too large
 unfoldable pub countBeyond : Bounds → TimeUnit → Timed → ℕ → Bool

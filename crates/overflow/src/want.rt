@@ -6,6 +6,8 @@ ghost use Rattle.plan.specs.Convert.{multiply, divide, unitChange};
 ghost use Rattle.overflow.specs.Want.{outside, Small, boundsBefore, timeOf, countBeyond};
 use layout::leaf::Leaf;
 use layout::leaf::TimeUnit;
+use rules::kinds::Class;
+use rules::kinds::class_of;
 
 const HALF: u64 = 9223372036854775808;
 
@@ -34,25 +36,11 @@ pub enum Timed {
 pub fn time_of(leaf: Leaf) -> Timed
     ensures { λ r. ⌜ r ≡ timeOf leaf ⌝ }
 {
-    match leaf {
-        Leaf::Null => Timed::Never,
-        Leaf::Boolean => Timed::Never,
-        Leaf::Int8 => Timed::Never,
-        Leaf::Int16 => Timed::Never,
-        Leaf::Int32 => Timed::Never,
-        Leaf::Int64 => Timed::Never,
-        Leaf::UInt8 => Timed::Never,
-        Leaf::UInt16 => Timed::Never,
-        Leaf::UInt32 => Timed::Never,
-        Leaf::UInt64 => Timed::Never,
-        Leaf::Float16 => Timed::Never,
-        Leaf::Float32 => Timed::Never,
-        Leaf::Float64 => Timed::Never,
-        Leaf::Date => Timed::Never,
-        Leaf::Datetime(u) => Timed::In(u),
-        Leaf::String => Timed::Never,
-        Leaf::Binary => Timed::Never,
-        Leaf::Categorical => Timed::Never,
+    match class_of(leaf) {
+        Class::Integer(_) => Timed::Never,
+        Class::Float(_) => Timed::Never,
+        Class::Datetime(u) => Timed::In(u),
+        Class::Other => Timed::Never,
     }
 }
 

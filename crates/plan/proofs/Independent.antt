@@ -13,7 +13,9 @@ use Rattle.numeric.specs.declared.times.Finer.{Finer}
 use Rattle.numeric.specs.declared.times.Finer.the-variants.{Count, TooLarge}
 use Rattle.numeric.specs.Integers.{signed}
 use Rattle.numeric.specs.Times.{finer}
-use Rattle.plan.specs.Convert.{NumberKind, integer, float, datetime, other, numberKind, UnitChange, multiply, divide, keep, unitChange, counted, rescaled, convertAs, convert}
+use Rattle.rules.specs.declared.kinds.Class.{Class}
+use Rattle.rules.specs.Classes.{classOf}
+use Rattle.plan.specs.Convert.{UnitChange, multiply, divide, keep, unitChange, counted, rescaled, convertAs, convert}
 use Rattle.plan.specs.Run.{valueAt, castLeaf, castValue, mapValues, onStruct, onList, onArray, eval, evals, clean, cleanAll}
 use Rattle.plan.specs.Fallback.{Fallback, unlessOver, castLeafWith, castValueWith, evalWith, evalsWith}
 use Rattle.plan.specs.Formed.{Formed, f-position, f-constant, f-cast, f-rename, f-struct, f-list, f-array, FormedAll, f-nil, f-cons}
@@ -168,21 +170,21 @@ unless-rescaled (multiply f) k n w h = unless-counted k (finer (signed 64 n) f) 
 unless-rescaled (divide f) k n w h = refl
 unless-rescaled keep k n w h = refl
 
-unless-converted : (a b : NumberKind) (k : Leaf) (n : ℕ) (w : Value) → clean w ≡ true → clean (unlessOver (convertAs a b k n) w) ≡ true
+unless-converted : (a b : Class) (k : Leaf) (n : ℕ) (w : Value) → clean w ≡ true → clean (unlessOver (convertAs a b k n) w) ≡ true
 unfolding convertAs unlessOver clean
-unless-converted (integer i) (integer j) k n w h = refl
-unless-converted (integer i) (float g) k n w h = refl
-unless-converted (integer i) (datetime v) k n w h = refl
-unless-converted (integer i) other k n w h = refl
-unless-converted (float f) (integer j) k n w h = refl
-unless-converted (float f) (float g) k n w h = refl
-unless-converted (float f) (datetime v) k n w h = refl
-unless-converted (float f) other k n w h = refl
-unless-converted (datetime u) (integer j) k n w h = refl
-unless-converted (datetime u) (float g) k n w h = refl
-unless-converted (datetime u) (datetime v) k n w h = unless-rescaled (unitChange u v) k n w h
-unless-converted (datetime u) other k n w h = refl
-unless-converted other b k n w h = refl
+unless-converted (Class.Integer i) (Class.Integer j) k n w h = refl
+unless-converted (Class.Integer i) (Class.Float g) k n w h = refl
+unless-converted (Class.Integer i) (Class.Datetime v) k n w h = refl
+unless-converted (Class.Integer i) Class.Other k n w h = refl
+unless-converted (Class.Float f) (Class.Integer j) k n w h = refl
+unless-converted (Class.Float f) (Class.Float g) k n w h = refl
+unless-converted (Class.Float f) (Class.Datetime v) k n w h = refl
+unless-converted (Class.Float f) Class.Other k n w h = refl
+unless-converted (Class.Datetime u) (Class.Integer j) k n w h = refl
+unless-converted (Class.Datetime u) (Class.Float g) k n w h = refl
+unless-converted (Class.Datetime u) (Class.Datetime v) k n w h = unless-rescaled (unitChange u v) k n w h
+unless-converted (Class.Datetime u) Class.Other k n w h = refl
+unless-converted Class.Other b k n w h = refl
 
 at-clean : (vs : Values) (k : ℕ) → cleanAll vs ≡ true → clean (valueAt vs k) ≡ true
 unfolding valueAt clean cleanAll
@@ -229,7 +231,7 @@ module _ (c : Fallback) (cl : (i k : Leaf) (n : ℕ) → clean (c i k n) ≡ tru
   leaf-clean : (k : Leaf) (v : Value) → clean v ≡ true → clean (castLeafWith c k v) ≡ true
   unfolding castLeafWith convert clean
   leaf-clean k vnull e = e
-  leaf-clean k (vnumber i n) e = unless-converted (numberKind i) (numberKind k) k n (c i k n) (cl i k n)
+  leaf-clean k (vnumber i n) e = unless-converted (classOf i) (classOf k) k n (c i k n) (cl i k n)
   leaf-clean k (vtext b) e = e
   leaf-clean k voverflow e = e
   leaf-clean k (vstruct vs) e = e

@@ -1,30 +1,29 @@
 -- A cast that passes takes the numbers and texts of its incoming leaf type to those of its target. Assumes nothing.
 use Prim.Native.Nat.{ℕ, _^_, _<_}
-use mathlib.Core.Path.{_≡_, refl}
+use mathlib.Core.Path.{_≡_, refl, ap}
 use mathlib.Core.Bool.{true, false}
 use native.Mathlib.Omega.{arith}
 use Rattle.layout.specs.Bytes.{Bytes}
 use Rattle.layout.specs.Tree.{LeafType, leafOf, datetime, DataType, leaf}
 use Rattle.layout.specs.declared.leaf.TimeUnit.{TimeUnit}
 use Rattle.layout.specs.declared.leaf.Leaf.{Leaf}
-use Rattle.layout.specs.declared.leaf.Leaf.the-variants.{Null, Boolean, Int8, Int16, Int32, Int64, UInt8, UInt16, UInt32, UInt64, Float16, Float32, Float64, Date, Datetime, String, Binary, Categorical}
+use Rattle.rules.specs.declared.kinds.Class.{Class}
 use Rattle.layout.proofs.Ways.{clash}
 use Rattle.rules.specs.declared.outcome.CastOption.{CastOption}
-use Rattle.rules.specs.Classes.{isInteger, isFloat, isDatetime}
+use Rattle.rules.specs.Classes.{classOf, isInteger, isFloat, isDatetime}
 use Rattle.rules.proofs.Casts.{Casts, from-null, integer-to-integer, integer-to-float, float-to-float, datetime-to-datetime, category-to-string}
 use Rattle.numeric.specs.declared.integers.Integer.{Integer}
 use Rattle.numeric.specs.declared.floats.Format.{Format}
-use Rattle.numeric.specs.declared.floats.Format.the-variants.{Binary16, Binary32, Binary64}
 use Rattle.numeric.specs.declared.times.Finer.{Finer}
 use Rattle.numeric.specs.declared.times.Finer.the-variants.{Count, TooLarge}
 use Rattle.numeric.specs.Integers.{bitsOf, signed, widened}
 use Rattle.numeric.specs.Floats.{widthOf, integerToFloat, floatToFloat}
 use Rattle.numeric.specs.Times.{finer}
-use Rattle.numeric.proofs.Bounds.{integerToFloat-lt, floatToFloat-lt, widened-lt, multiplied-lt, divided-lt}
+use Rattle.numeric.proofs.Bounds.{integer-bytes, float-bytes, integerToFloat-lt, floatToFloat-lt, widened-lt, multiplied-lt, divided-lt}
 use Rattle.values.specs.Value.{Value, vnumber}
 use Rattle.values.specs.Content.{contentOf, patternsOf}
 use Rattle.values.specs.declared.content.Content.the-variants.{Text}
-use Rattle.plan.specs.Convert.{integer, float, numberKind, UnitChange, multiply, divide, keep, unitChange, counted, rescaled, convertAs, convert}
+use Rattle.plan.specs.Convert.{UnitChange, multiply, divide, keep, unitChange, counted, rescaled, convertAs, convert}
 use Rattle.plan.specs.Run.{castLeaf}
 use Rattle.plan.specs.Fits.{FitsOver, over-null, over-number, over-text, over-datetime}
 use Rattle.plan.proofs.Results.{true≠false}
@@ -33,95 +32,59 @@ use Rattle.plan.proofs.Results.{true≠false}
 
 pub record IsInteger (l : Leaf) : Type 0 where
   pub kind : Integer
-  pub is : numberKind l ≡ integer kind
+  pub is : classOf l ≡ Class.Integer kind
   pub patterns : patternsOf l ≡ 2 ^ bitsOf kind
 
 pub integer-kind : (l : Leaf) → isInteger l ≡ true → IsInteger l
-integer-kind Null e = clash (cc)
-integer-kind Boolean e = clash (cc)
-integer-kind Int8 e = record { kind = Integer.Int8; is = refl; patterns = refl }
-integer-kind Int16 e = record { kind = Integer.Int16; is = refl; patterns = refl }
-integer-kind Int32 e = record { kind = Integer.Int32; is = refl; patterns = refl }
-integer-kind Int64 e = record { kind = Integer.Int64; is = refl; patterns = refl }
-integer-kind UInt8 e = record { kind = Integer.UInt8; is = refl; patterns = refl }
-integer-kind UInt16 e = record { kind = Integer.UInt16; is = refl; patterns = refl }
-integer-kind UInt32 e = record { kind = Integer.UInt32; is = refl; patterns = refl }
-integer-kind UInt64 e = record { kind = Integer.UInt64; is = refl; patterns = refl }
-integer-kind Float16 e = clash (cc)
-integer-kind Float32 e = clash (cc)
-integer-kind Float64 e = clash (cc)
-integer-kind Date e = clash (cc)
-integer-kind (Datetime u) e = clash (cc)
-integer-kind String e = clash (cc)
-integer-kind Binary e = clash (cc)
-integer-kind Categorical e = clash (cc)
+integer-kind Leaf.Null e = clash (cc)
+integer-kind Leaf.Boolean e = clash (cc)
+integer-kind (Leaf.Integer i) e = record { kind = i; is = refl; patterns = ap (λ (n : ℕ). 2 ^ n) (integer-bytes i) }
+integer-kind (Leaf.Float f) e = clash (cc)
+integer-kind Leaf.Date e = clash (cc)
+integer-kind (Leaf.Datetime u) e = clash (cc)
+integer-kind Leaf.String e = clash (cc)
+integer-kind Leaf.Binary e = clash (cc)
+integer-kind Leaf.Categorical e = clash (cc)
 
 pub record IsFloat (l : Leaf) : Type 0 where
   pub format : Format
-  pub is : numberKind l ≡ float format
+  pub is : classOf l ≡ Class.Float format
   pub patterns : patternsOf l ≡ 2 ^ widthOf format
 
 pub float-kind : (l : Leaf) → isFloat l ≡ true → IsFloat l
-float-kind Null e = clash (cc)
-float-kind Boolean e = clash (cc)
-float-kind Int8 e = clash (cc)
-float-kind Int16 e = clash (cc)
-float-kind Int32 e = clash (cc)
-float-kind Int64 e = clash (cc)
-float-kind UInt8 e = clash (cc)
-float-kind UInt16 e = clash (cc)
-float-kind UInt32 e = clash (cc)
-float-kind UInt64 e = clash (cc)
-float-kind Float16 e = record { format = Binary16; is = refl; patterns = refl }
-float-kind Float32 e = record { format = Binary32; is = refl; patterns = refl }
-float-kind Float64 e = record { format = Binary64; is = refl; patterns = refl }
-float-kind Date e = clash (cc)
-float-kind (Datetime u) e = clash (cc)
-float-kind String e = clash (cc)
-float-kind Binary e = clash (cc)
-float-kind Categorical e = clash (cc)
+float-kind Leaf.Null e = clash (cc)
+float-kind Leaf.Boolean e = clash (cc)
+float-kind (Leaf.Integer i) e = clash (cc)
+float-kind (Leaf.Float f) e = record { format = f; is = refl; patterns = ap (λ (n : ℕ). 2 ^ n) (float-bytes f) }
+float-kind Leaf.Date e = clash (cc)
+float-kind (Leaf.Datetime u) e = clash (cc)
+float-kind Leaf.String e = clash (cc)
+float-kind Leaf.Binary e = clash (cc)
+float-kind Leaf.Categorical e = clash (cc)
 
 -- a leaf of texts is no other
 text-other : (l : Leaf) → contentOf l ≡ Text → (isInteger l ≡ false) × (isFloat l ≡ false)
-text-other Null e = clash (cc)
-text-other Boolean e = clash (cc)
-text-other Int8 e = clash (cc)
-text-other Int16 e = clash (cc)
-text-other Int32 e = clash (cc)
-text-other Int64 e = clash (cc)
-text-other UInt8 e = clash (cc)
-text-other UInt16 e = clash (cc)
-text-other UInt32 e = clash (cc)
-text-other UInt64 e = clash (cc)
-text-other Float16 e = clash (cc)
-text-other Float32 e = clash (cc)
-text-other Float64 e = clash (cc)
-text-other Date e = clash (cc)
-text-other (Datetime u) e = clash (cc)
-text-other String e = (refl, refl)
-text-other Binary e = (refl, refl)
-text-other Categorical e = (refl, refl)
+text-other Leaf.Null e = clash (cc)
+text-other Leaf.Boolean e = clash (cc)
+text-other (Leaf.Integer i) e = clash (cc)
+text-other (Leaf.Float f) e = clash (cc)
+text-other Leaf.Date e = clash (cc)
+text-other (Leaf.Datetime u) e = clash (cc)
+text-other Leaf.String e = (refl, refl)
+text-other Leaf.Binary e = (refl, refl)
+text-other Leaf.Categorical e = (refl, refl)
 
 -- nor is a date-time
 time-other : (l : Leaf) → isDatetime l ≡ true → (isInteger l ≡ false) × (isFloat l ≡ false)
-time-other Null e = clash (cc)
-time-other Boolean e = clash (cc)
-time-other Int8 e = clash (cc)
-time-other Int16 e = clash (cc)
-time-other Int32 e = clash (cc)
-time-other Int64 e = clash (cc)
-time-other UInt8 e = clash (cc)
-time-other UInt16 e = clash (cc)
-time-other UInt32 e = clash (cc)
-time-other UInt64 e = clash (cc)
-time-other Float16 e = clash (cc)
-time-other Float32 e = clash (cc)
-time-other Float64 e = clash (cc)
-time-other Date e = clash (cc)
-time-other (Datetime u) e = (refl, refl)
-time-other String e = clash (cc)
-time-other Binary e = clash (cc)
-time-other Categorical e = clash (cc)
+time-other Leaf.Null e = clash (cc)
+time-other Leaf.Boolean e = clash (cc)
+time-other (Leaf.Integer i) e = clash (cc)
+time-other (Leaf.Float f) e = clash (cc)
+time-other Leaf.Date e = clash (cc)
+time-other (Leaf.Datetime u) e = (refl, refl)
+time-other Leaf.String e = clash (cc)
+time-other Leaf.Binary e = clash (cc)
+time-other Leaf.Categorical e = clash (cc)
 
 -- ---- each conversion keeps to its target
 
@@ -141,12 +104,12 @@ module _ (i t : Leaf) (n : ℕ) where
 number-over : (l : LeafType) {v : Value} {m : ℕ} → v ≡ vnumber (leafOf l) m → m < patternsOf (leafOf l) → FitsOver (leaf l) v
 number-over l e h = rw e (over-number refl h)
 
-counted-over : (v : TimeUnit) (z : Bytes) (f : Finer) → ((m : ℕ) → f ≡ Count m → m < 2 ^ 64) → FitsOver (leaf (datetime v z)) (counted (Datetime v) f)
+counted-over : (v : TimeUnit) (z : Bytes) (f : Finer) → ((m : ℕ) → f ≡ Count m → m < 2 ^ 64) → FitsOver (leaf (datetime v z)) (counted (Leaf.Datetime v) f)
 unfolding counted
 counted-over v z (Count m) h = over-number refl (h m refl)
 counted-over v z TooLarge h = over-datetime refl
 
-rescaled-over : (c : UnitChange) (v : TimeUnit) (z : Bytes) (n : ℕ) → n < 2 ^ 64 → FitsOver (leaf (datetime v z)) (rescaled c (Datetime v) n)
+rescaled-over : (c : UnitChange) (v : TimeUnit) (z : Bytes) (n : ℕ) → n < 2 ^ 64 → FitsOver (leaf (datetime v z)) (rescaled c (Leaf.Datetime v) n)
 unfolding rescaled
 rescaled-over (multiply f) v z n h = counted-over v z (finer (signed 64 n) f) (λ m e. multiplied-lt (signed 64 n) f m e)
 rescaled-over (divide f) v z n h = over-number refl (divided-lt (signed 64 n) f)

@@ -7,11 +7,13 @@ use lib.ListN.{replicate}
 use lib.Dec.{lit≤}
 use Rattle.layout.specs.Bytes.{Bytes, sameBytes}
 use Rattle.layout.specs.Parser.{Res, refuse, ok, next, choose, byte, chunk, u16}
-use Rattle.layout.specs.Tree.{null, int16, int32, int64, uint32, string, datetime, DataType, leaf, struct, Fields, fnil, fcons, dtypeOf, countFields}
+use Rattle.layout.specs.Tree.{null, string, datetime, DataType, leaf, struct, Fields, fnil, fcons, dtypeOf, countFields, integer}
 use Rattle.layout.specs.Layout.{text, leafKind, kindOf, kind, body, type, ended}
 use Rattle.layout.specs.declared.leaf.TimeUnit.the-variants.{Nanoseconds, Microseconds, Milliseconds}
-use Rattle.layout.specs.declared.leaf.Leaf.the-variants.{Int16, Int32, UInt16, Float16, Float32, Datetime}
-use Rattle.forms.specs.Form.{u16Bytes, textBytes, leafForm, kindForm, form, formFields, unitCode}
+use Rattle.layout.specs.declared.leaf.Leaf.the-variants.{Datetime}
+use Rattle.layout.specs.declared.leaf.Leaf.{Leaf}
+use Rattle.layout.specs.Layout.{unitCode}
+use Rattle.forms.specs.Form.{u16Bytes, textBytes, carried, leafForm, kindForm, form, formFields}
 use Rattle.forms.specs.Readable.{depthOf, depthOfFields}
 use Rattle.forms.specs.Same.{sameDtype, sameFields, sameLeaf}
 use Rattle.rules.specs.declared.outcome.CastOption.the-variants.{NonStrict, Strict, Overflowing}
@@ -35,6 +37,8 @@ use Rattle.plan.specs.Check.{columnAt, structOf, castFits, fromNull, wit
 use Rattle.plan.specs.Convert.{counted, rescaled, convertAs, convert}
 use Rattle.plan.specs.Reach.{valuesIn, valueIn, s-here, o-cast, ReachesOverflow}
 use Rattle.plan.specs.Run.{valueAt, castLeaf, castValue, onStruct, eval, evals, clean, cleanAll, spacious, written, run}
+use Rattle.numeric.specs.declared.integers.Integer.the-variants.{Int16, Int32, Int64, UInt16, UInt32}
+use Rattle.numeric.specs.declared.floats.Format.the-variants.{Binary16, Binary32}
 
 abbrev t : Bytes
 t = 116 ∷ []
@@ -50,13 +54,13 @@ one u = fcons t u fnil
 
 -- S1
 abbrev s1 : Selectors
-s1 = scons (cast (at 0) (leaf int32) Overflowing) (scons (constant s (leaf string) vnull) snil)
+s1 = scons (cast (at 0) (leaf (integer Int32)) Overflowing) (scons (constant s (leaf string) vnull) snil)
 
 abbrev s1-bytes : Bytes
 s1-bytes = 0x50 ∷ 0x4C ∷ 0x4E ∷ 1 ∷ 0 ∷ 2 ∷ 0 ∷ 2 ∷ 0 ∷ 0 ∷ 0 ∷ 4 ∷ 2 ∷ 1 ∷ 1 ∷ 0x73 ∷ 0x0F ∷ 0 ∷ []
 
 s1-encoded : encodePlan s1 ≡ s1-bytes
-unfolding encodePlan encodeSelector encodeSelectors countSelectors u16Bytes textBytes form leafForm encodeValue
+unfolding encodePlan encodeSelector encodeSelectors countSelectors u16Bytes textBytes form leafForm carried encodeValue
 s1-encoded = refl
 
 -- opens every definition that the reading of a plan goes through
@@ -75,19 +79,19 @@ s1-left = refl
 
 -- opens every definition that a check goes through
 unfoldable pub checked : Fields → Fields → Selectors → Answer (Unit {0})
-unfolding check topTypes typeOf typesOf columnAt _>>=_ checkCast checkRename checkStruct structOf castFits fromNull castPasses pairRule chain zonesOf readZone isUtc sameBytes demand resulting withinLimits depthOf depthOfFields countFields form formFields leafForm kindForm textBytes u16Bytes unitCode placed answered against sameFields sameDtype sameLeaf
+unfolding check topTypes typeOf typesOf columnAt _>>=_ checkCast checkRename checkStruct structOf castFits fromNull castPasses pairRule chain zonesOf readZone isUtc sameBytes demand resulting withinLimits depthOf depthOfFields countFields form formFields leafForm carried kindForm textBytes u16Bytes placed answered against sameFields sameDtype sameLeaf
 checked Γ Δ ss = check Γ Δ ss
 
-s1-checked : check (one (leaf int16)) (fcons t (leaf int32) (fcons s (leaf string) fnil)) s1 ≡ accepted tt
+s1-checked : check (one (leaf (integer Int16))) (fcons t (leaf (integer Int32)) (fcons s (leaf string) fnil)) s1 ≡ accepted tt
 unfolding checked
 s1-checked = refl
 
 -- S2, S3
-s2 : check (one (leaf uint32)) (one (leaf int32)) (scons (cast (at 0) (leaf int32) Overflowing) snil) ≡ refusedAt 32 0
+s2 : check (one (leaf (integer UInt32))) (one (leaf (integer Int32))) (scons (cast (at 0) (leaf (integer Int32)) Overflowing) snil) ≡ refusedAt 32 0
 unfolding checked
 s2 = refl
 
-s3 : check (one (leaf uint32)) (one (leaf int64)) (scons (cast (at 0) (leaf int64) Overflowing) snil) ≡ accepted tt
+s3 : check (one (leaf (integer UInt32))) (one (leaf (integer Int64))) (scons (cast (at 0) (leaf (integer Int64)) Overflowing) snil) ≡ accepted tt
 unfolding checked
 s3 = refl
 
@@ -116,15 +120,15 @@ unfoldable pub recorded : Fields → Bytes → Res Values
 unfolding recordOf recordFrom shortEnough renumber values structContent content leafContent contentBy nullable presence byte chunk little next choose recordEnded
 recorded Γ b = recordOf Γ b
 
-s1-record : recordOf (one (leaf int16)) (1 ∷ 0xFE ∷ 0xFF ∷ []) ≡ ok (vcons (vnumber Int16 65534) vnil) 3
+s1-record : recordOf (one (leaf (integer Int16))) (1 ∷ 0xFE ∷ 0xFF ∷ []) ≡ ok (vcons (vnumber (Leaf.Integer Int16) 65534) vnil) 3
 unfolding recorded
 s1-record = refl
 
-s1-ran : run (vcons (vnumber Int16 65534) vnil) s1 6 ≡ accepted (1 ∷ 0xFE ∷ 0xFF ∷ 0xFF ∷ 0xFF ∷ 0 ∷ [])
+s1-ran : run (vcons (vnumber (Leaf.Integer Int16) 65534) vnil) s1 6 ≡ accepted (1 ∷ 0xFE ∷ 0xFF ∷ 0xFF ∷ 0xFF ∷ 0 ∷ [])
 unfolding ran
 s1-ran = refl
 
-s1-short : run (vcons (vnumber Int16 65534) vnil) s1 5 ≡ refusedAt 45 0
+s1-short : run (vcons (vnumber (Leaf.Integer Int16) 65534) vnil) s1 5 ≡ refusedAt 45 0
 unfolding ran
 s1-short = refl
 
@@ -157,15 +161,15 @@ unfolding ran
 s7 = refl
 
 -- S8 to S10: int32 to float32, uint16 to float16
-s8 : convert Int32 Float32 16_777_217 ≡ vnumber Float32 0x4b80_0000
+s8 : convert (Leaf.Integer Int32) (Leaf.Float Binary32) 16_777_217 ≡ vnumber (Leaf.Float Binary32) 0x4b80_0000
 unfolding ran integerToFloat fromInteger rounded
 s8 = refl
 
-s9 : convert UInt16 Float16 65_519 ≡ vnumber Float16 0x7bff
+s9 : convert (Leaf.Integer UInt16) (Leaf.Float Binary16) 65_519 ≡ vnumber (Leaf.Float Binary16) 0x7bff
 unfolding ran integerToFloat fromInteger rounded
 s9 = refl
 
-s10 : convert UInt16 Float16 65_520 ≡ vnumber Float16 0x7c00
+s10 : convert (Leaf.Integer UInt16) (Leaf.Float Binary16) 65_520 ≡ vnumber (Leaf.Float Binary16) 0x7c00
 unfolding ran integerToFloat fromInteger rounded
 s10 = refl
 

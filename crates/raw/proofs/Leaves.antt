@@ -16,10 +16,10 @@ use Rattle.layout.specs.Layout.{Kind, kind, type, body, structType, listType, a
 use Rattle.layout.specs.declared.columns.Siblings.the-variants.{Free}
 use Rattle.layout.specs.declared.cursor.Cursor.{Cursor}
 use Rattle.layout.specs.declared.leaf.Leaf.{Leaf}
-use Rattle.layout.specs.declared.leaf.Leaf.the-variants.{Null, Boolean, Int8, Int16, Int32, Int64, UInt8, UInt16, UInt32, UInt64, Float16, Float32, Float64, Date, Datetime, String, Binary, Categorical}
 use Rattle.layout.specs.declared.types.Head.{Head}
 use Rattle.layout.specs.declared.types.LeafType.{LeafType as LeafSpan}
 use Rattle.layout.specs.declared.version.Version.{Version}
+use Rattle.layout.proofs.Leaves.{leaf-of-type}
 use Rattle.layout.proofs.Ways.{clash}
 use Rattle.layout.proofs.View.{next-ok, leaf-at}
 use Rattle.values.specs.Value.{Value, vnull, vnumber, vtext, vstruct, vlist, varray}
@@ -120,30 +120,6 @@ module _ {k : Leaf} {s : Bytes} {at : ℕ} (X : LeafAt k s at) where
       let z : vnumber k (little b) ≡ X .tree = cc in
       is-number (sym z ∙ ap (vnumber k) (ap little (sym (chunk-in w s at h .1)) ∙ sym f))
 
--- the widest number
-number-eq : {v w : ℕ} → Number v ≡ Number w → v ≡ w
-number-eq e = cc
-
-pub number-wide : (k : Leaf) {w : ℕ} → contentOf k ≡ Number w → w ≤ 8
-number-wide Null e = clash (cc)
-number-wide Boolean e = clash (cc)
-number-wide Int8 e = omega (arith, number-eq e)
-number-wide Int16 e = omega (arith, number-eq e)
-number-wide Int32 e = omega (arith, number-eq e)
-number-wide Int64 e = omega (arith, number-eq e)
-number-wide UInt8 e = omega (arith, number-eq e)
-number-wide UInt16 e = omega (arith, number-eq e)
-number-wide UInt32 e = omega (arith, number-eq e)
-number-wide UInt64 e = omega (arith, number-eq e)
-number-wide Float16 e = omega (arith, number-eq e)
-number-wide Float32 e = omega (arith, number-eq e)
-number-wide Float64 e = omega (arith, number-eq e)
-number-wide Date e = omega (arith, number-eq e)
-number-wide (Datetime u) e = omega (arith, number-eq e)
-number-wide String e = clash (cc)
-number-wide Binary e = clash (cc)
-number-wide Categorical e = clash (cc)
-
 -- ---- a value that is present
 
 -- a list or an array is no number
@@ -207,32 +183,12 @@ pub record LeafIn (k : Leaf) (s : Bytes) (at : ℕ) (v : Value) : Type 0 where
   pub inner : LeafAt k s at
   pub is : inner .tree ≡ v
 
-pub leaf-kind : (k : Leaf) (z : Bytes) → leafOf (leafType k z) ≡ k
-leaf-kind Null z = refl
-leaf-kind Boolean z = refl
-leaf-kind Int8 z = refl
-leaf-kind Int16 z = refl
-leaf-kind Int32 z = refl
-leaf-kind Int64 z = refl
-leaf-kind UInt8 z = refl
-leaf-kind UInt16 z = refl
-leaf-kind UInt32 z = refl
-leaf-kind UInt64 z = refl
-leaf-kind Float16 z = refl
-leaf-kind Float32 z = refl
-leaf-kind Float64 z = refl
-leaf-kind Date z = refl
-leaf-kind (Datetime u) z = refl
-leaf-kind String z = refl
-leaf-kind Binary z = refl
-leaf-kind Categorical z = refl
-
 pub leaf-in : {v : Version} {lay : Bytes} {t : ℕ} {rec : Bytes} {c : ℕ} (X : PresentAt v lay t rec c) {p : Head} {l : LeafSpan} {e : Cursor}
     → headRes lay p ≡ kind lay t → p ≡ Head.Leaf l e → LeafIn (l .leaf) rec c (X .content .tree)
 unfolding content dtypeOf
 leaf-in {lay = lay} {rec = rec} {c = c} X {l = l} h q =
     let (f, g) = leaf-at (X .type) h q in
-    let z : content (dtypeOf (X .type .tree)) rec c ≡ leafContent (l .leaf) rec c = ap (λ (t : ColumnType). content (dtypeOf t) rec c) f ∙ ap (λ (k : Leaf). leafContent k rec c) (leaf-kind (l .leaf) _) in
+    let z : content (dtypeOf (X .type .tree)) rec c ≡ leafContent (l .leaf) rec c = ap (λ (t : ColumnType). content (dtypeOf t) rec c) f ∙ ap (λ (k : Leaf). leafContent k rec c) (leaf-of-type (l .leaf) _) in
     record { inner = record { tree = X .content .tree; end = X .content .end; reads = sym z ∙ X .content .reads }; is = refl }
 
 pub leaf-as : {v w : Value} {r : LeafValue} → v ≡ w → LeafIs v r → LeafIs w r

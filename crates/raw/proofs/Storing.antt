@@ -7,10 +7,10 @@ use native.Mathlib.Omega.{arith}
 use lib.ListN.{length}
 use Rattle.layout.specs.Bytes.{Bytes}
 use Rattle.layout.specs.declared.leaf.Leaf.{Leaf}
-use Rattle.layout.specs.declared.leaf.Leaf.the-variants.{Null, Boolean, Int8, Int16, Int32, Int64, UInt8, UInt16, UInt32, UInt64, Float16, Float32, Float64, Date, Datetime, String, Binary, Categorical}
 use Rattle.layout.proofs.Ways.{clash}
 use Rattle.store.specs.Overlay.{overlay, littleBytes}
 use Rattle.store.proofs.Overlay.{length-little}
+use Rattle.values.proofs.Leaves.{width-small}
 use Rattle.values.specs.Value.{Value, vnull, vnumber, vtext, voverflow, vstruct, vlist, varray}
 use Rattle.values.specs.Content.{widthOf}
 use Rattle.values.specs.Encode.{encodeValue}
@@ -27,26 +27,6 @@ cast-kept k voverflow e = refl
 cast-kept k (vstruct vs) e = refl
 cast-kept k (vlist vs) e = refl
 cast-kept k (varray vs) e = refl
-
-width-small : (k : Leaf) → widthOf k ≤ 8
-width-small Null = omega arith
-width-small Boolean = omega arith
-width-small Int8 = omega arith
-width-small Int16 = omega arith
-width-small Int32 = omega arith
-width-small Int64 = omega arith
-width-small UInt8 = omega arith
-width-small UInt16 = omega arith
-width-small UInt32 = omega arith
-width-small UInt64 = omega arith
-width-small Float16 = omega arith
-width-small Float32 = omega arith
-width-small Float64 = omega arith
-width-small Date = omega arith
-width-small (Datetime u) = omega arith
-width-small String = omega arith
-width-small Binary = omega arith
-width-small Categorical = omega arith
 
 pub number-short : (k : Leaf) (n : ℕ) → length (encodeValue (vnumber k n)) ≤ 9
 unfolding encodeValue

@@ -5,7 +5,6 @@ use Rattle.layout.specs.Bytes.{Bytes}
 use Rattle.layout.specs.Tree.{LeafType, leafOf, zoneOf, null, datetime, string, categorical}
 use Rattle.layout.specs.declared.leaf.TimeUnit.{TimeUnit}
 use Rattle.layout.specs.declared.leaf.Leaf.{Leaf}
-use Rattle.layout.specs.declared.leaf.Leaf.the-variants.{String, Categorical}
 use Rattle.rules.specs.declared.policy.Policy.{Policy}
 use Rattle.rules.specs.declared.zones.Params.{Params}
 use Rattle.rules.specs.declared.zones.Params.the-variants.{Identical, SameAsUtc, Different}
@@ -83,7 +82,7 @@ datetimes-cast Identical = where-pair (λ i t. isDatetime i && isDatetime t && n
 datetimes-cast SameAsUtc = where-pair (λ i t. isDatetime i && isDatetime t && not (sameType SameAsUtc i t)) (chain allOn SameAsUtc) (λ i t. cast (unitOption (unit i) (unit t))) refl
 datetimes-cast Different = where-pair (λ i t. isDatetime i && isDatetime t && not (sameType Different i t)) (chain allOn Different) (λ i t. cast (unitOption (unit i) (unit t))) refl
 
-category-cast : (z : Params) → chain allOn z Categorical String ≡ cast NonStrict
+category-cast : (z : Params) → chain allOn z Leaf.Categorical Leaf.String ≡ cast NonStrict
 unfolding chain
 category-cast z = refl
 

@@ -7,61 +7,66 @@ use lib.Dec.{lit<}
 use lib.ListN.{getD}
 use Rattle.layout.specs.declared.leaf.TimeUnit.the-variants.{Nanoseconds, Microseconds, Milliseconds}
 use Rattle.layout.specs.declared.leaf.Leaf.{Leaf}
-use Rattle.layout.specs.declared.leaf.Leaf.the-variants.{Null, Boolean, Int8, Int16, Int32, Int64, UInt8, UInt16, UInt32, UInt64, Float16, Float32, Float64, Date, Datetime, String, Binary, Categorical}
+use Rattle.numeric.specs.declared.integers.Integer.the-variants.{Int8, Int16, Int32, Int64, UInt8, UInt16, UInt32, UInt64}
+use Rattle.numeric.specs.declared.floats.Format.the-variants.{Binary16, Binary32, Binary64}
 use Rattle.rules.specs.Kinds.{kinds, kindOf}
 
 -- the kinds in the order of their numbers
 abbrev pub leaves : List Leaf
 leaves =
-    Null ∷ Boolean ∷ Int8 ∷ Int16 ∷ Int32 ∷ Int64 ∷ UInt8 ∷ UInt16 ∷ UInt32 ∷ UInt64 ∷ Float16 ∷ Float32 ∷ Float64 ∷ Date
-    ∷ Datetime Nanoseconds ∷ Datetime Microseconds ∷ Datetime Milliseconds ∷ String ∷ Binary ∷ Categorical ∷ []
+    Leaf.Null ∷ Leaf.Boolean
+    ∷ Leaf.Integer Int8 ∷ Leaf.Integer Int16 ∷ Leaf.Integer Int32 ∷ Leaf.Integer Int64
+    ∷ Leaf.Integer UInt8 ∷ Leaf.Integer UInt16 ∷ Leaf.Integer UInt32 ∷ Leaf.Integer UInt64
+    ∷ Leaf.Float Binary16 ∷ Leaf.Float Binary32 ∷ Leaf.Float Binary64 ∷ Leaf.Date
+    ∷ Leaf.Datetime Nanoseconds ∷ Leaf.Datetime Microseconds ∷ Leaf.Datetime Milliseconds
+    ∷ Leaf.String ∷ Leaf.Binary ∷ Leaf.Categorical ∷ []
 
 pub kind< : (l : Leaf) → kindOf l < kinds
-kind< Null = lit< tt
-kind< Boolean = lit< tt
-kind< Int8 = lit< tt
-kind< Int16 = lit< tt
-kind< Int32 = lit< tt
-kind< Int64 = lit< tt
-kind< UInt8 = lit< tt
-kind< UInt16 = lit< tt
-kind< UInt32 = lit< tt
-kind< UInt64 = lit< tt
-kind< Float16 = lit< tt
-kind< Float32 = lit< tt
-kind< Float64 = lit< tt
-kind< Date = lit< tt
-kind< (Datetime Nanoseconds) = lit< tt
-kind< (Datetime Microseconds) = lit< tt
-kind< (Datetime Milliseconds) = lit< tt
-kind< String = lit< tt
-kind< Binary = lit< tt
-kind< Categorical = lit< tt
+kind< Leaf.Null = lit< tt
+kind< Leaf.Boolean = lit< tt
+kind< (Leaf.Integer Int8) = lit< tt
+kind< (Leaf.Integer Int16) = lit< tt
+kind< (Leaf.Integer Int32) = lit< tt
+kind< (Leaf.Integer Int64) = lit< tt
+kind< (Leaf.Integer UInt8) = lit< tt
+kind< (Leaf.Integer UInt16) = lit< tt
+kind< (Leaf.Integer UInt32) = lit< tt
+kind< (Leaf.Integer UInt64) = lit< tt
+kind< (Leaf.Float Binary16) = lit< tt
+kind< (Leaf.Float Binary32) = lit< tt
+kind< (Leaf.Float Binary64) = lit< tt
+kind< Leaf.Date = lit< tt
+kind< (Leaf.Datetime Nanoseconds) = lit< tt
+kind< (Leaf.Datetime Microseconds) = lit< tt
+kind< (Leaf.Datetime Milliseconds) = lit< tt
+kind< Leaf.String = lit< tt
+kind< Leaf.Binary = lit< tt
+kind< Leaf.Categorical = lit< tt
 
 abbrev pub leafAt : ℕ → Leaf
-leafAt k = getD leaves k Null
+leafAt k = getD leaves k Leaf.Null
 
 pub leaf-at : (l : Leaf) → leafAt (kindOf l) ≡ l
-leaf-at Null = refl
-leaf-at Boolean = refl
-leaf-at Int8 = refl
-leaf-at Int16 = refl
-leaf-at Int32 = refl
-leaf-at Int64 = refl
-leaf-at UInt8 = refl
-leaf-at UInt16 = refl
-leaf-at UInt32 = refl
-leaf-at UInt64 = refl
-leaf-at Float16 = refl
-leaf-at Float32 = refl
-leaf-at Float64 = refl
-leaf-at Date = refl
-leaf-at (Datetime Nanoseconds) = refl
-leaf-at (Datetime Microseconds) = refl
-leaf-at (Datetime Milliseconds) = refl
-leaf-at String = refl
-leaf-at Binary = refl
-leaf-at Categorical = refl
+leaf-at Leaf.Null = refl
+leaf-at Leaf.Boolean = refl
+leaf-at (Leaf.Integer Int8) = refl
+leaf-at (Leaf.Integer Int16) = refl
+leaf-at (Leaf.Integer Int32) = refl
+leaf-at (Leaf.Integer Int64) = refl
+leaf-at (Leaf.Integer UInt8) = refl
+leaf-at (Leaf.Integer UInt16) = refl
+leaf-at (Leaf.Integer UInt32) = refl
+leaf-at (Leaf.Integer UInt64) = refl
+leaf-at (Leaf.Float Binary16) = refl
+leaf-at (Leaf.Float Binary32) = refl
+leaf-at (Leaf.Float Binary64) = refl
+leaf-at Leaf.Date = refl
+leaf-at (Leaf.Datetime Nanoseconds) = refl
+leaf-at (Leaf.Datetime Microseconds) = refl
+leaf-at (Leaf.Datetime Milliseconds) = refl
+leaf-at Leaf.String = refl
+leaf-at Leaf.Binary = refl
+leaf-at Leaf.Categorical = refl
 
 -- a kind's number tells the leaf
 pub kind-eq : (i t : Leaf) → kindOf i ≡ kindOf t → i ≡ t
@@ -84,16 +89,16 @@ row f = from (λ k. f (leafAt k)) 0 kinds
 abbrev pub rows : {A : Type 0} → (Leaf → Leaf → A) → List (List A)
 rows f = row (λ i. row (λ t. f i t))
 
-row-at : {A : Type 0} (f : Leaf → A) (l : Leaf) → getD (row f) (kindOf l) (f Null) ≡ f l
+row-at : {A : Type 0} (f : Leaf → A) (l : Leaf) → getD (row f) (kindOf l) (f Leaf.Null) ≡ f l
 row-at f l =
-    getD-from (λ k. f (leafAt k)) (f Null) 0 kinds (kindOf l) (kind< l)
+    getD-from (λ k. f (leafAt k)) (f Leaf.Null) 0 kinds (kindOf l) (kind< l)
     ∙ ap (λ (k : ℕ). f (leafAt k)) (zero-add (kindOf l))
     ∙ ap f (leaf-at l)
 
 pub each-leaf : {A : Type 0} (f g : Leaf → A) → row f ≡ row g → (l : Leaf) → f l ≡ g l
 each-leaf {A} f g e l =
     sym (row-at f l)
-    ∙ ap₂ (λ (xs : List A) (d : A). getD xs (kindOf l) d) e (ap (λ (xs : List A). getD xs 0 (f Null)) e)
+    ∙ ap₂ (λ (xs : List A) (d : A). getD xs (kindOf l) d) e (ap (λ (xs : List A). getD xs 0 (f Leaf.Null)) e)
     ∙ row-at g l
 
 pub each-pair : {A : Type 0} (f g : Leaf → Leaf → A) → rows f ≡ rows g → (i t : Leaf) → f i t ≡ g i t

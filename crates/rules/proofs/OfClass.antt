@@ -1,13 +1,12 @@
 -- What the test of a class says of a leaf.
 use mathlib.Core.Path.{_≡_, refl, sym, ap, _∙_}
 use mathlib.Core.Bool.{Bool, true}
-use Rattle.layout.specs.Tree.{LeafType, leafType, leafOf, zoneOf, null, datetime, string, categorical}
+use Rattle.layout.specs.Tree.{LeafType, leafOf, zoneOf, null, datetime, string, categorical}
 use Rattle.layout.specs.declared.leaf.Leaf.{Leaf}
-use Rattle.layout.specs.declared.leaf.Leaf.the-variants.{Null, Datetime, String, Categorical}
 use Rattle.rules.specs.Choice.{if_then_else_}
-use Rattle.rules.specs.Classes.{integer, float, classOf, isInteger, lowest, highest, isFloat, precision, isDatetime, unit, isNull, isString, isCategorical}
+use Rattle.rules.specs.Classes.{isDatetime, unit, isNull, isString, isCategorical}
 use Rattle.rules.proofs.EachLeaf.{row, rows, each-leaf, each-pair, kind-eq}
-use Rattle.rules.proofs.LeafTypes.{leaf-type-of}
+use Rattle.layout.proofs.Leaves.{type-of-leaf}
 use borrow.Author.Tests.{eqb-true}
 
 -- an equation where a test holds, computed at each kind or pair of kinds
@@ -17,27 +16,18 @@ where-test c f g e l q = sym (ap (λ (b : Bool). if b then f l else g l) q) ∙ 
 pub where-pair : {A : Type 0} (c : Leaf → Leaf → Bool) (f g : Leaf → Leaf → A) → rows (λ i t. if c i t then f i t else g i t) ≡ rows g → (i t : Leaf) → c i t ≡ true → f i t ≡ g i t
 where-pair c f g e i t q = sym (ap (λ (b : Bool). if b then f i t else g i t) q) ∙ each-pair (λ i t. if c i t then f i t else g i t) g e i t
 
-pub integer-class : (l : Leaf) → isInteger l ≡ true → classOf l ≡ integer (lowest l) (highest l)
-integer-class = where-test isInteger classOf (λ l. integer (lowest l) (highest l)) refl
-
-pub float-class : (l : Leaf) → isFloat l ≡ true → classOf l ≡ float (precision l)
-float-class = where-test isFloat classOf (λ l. float (precision l)) refl
-
-pub datetime-leaf : (l : Leaf) → isDatetime l ≡ true → l ≡ Datetime (unit l)
-datetime-leaf = where-test isDatetime (λ l. l) (λ l. Datetime (unit l)) refl
+pub datetime-leaf : (l : Leaf) → isDatetime l ≡ true → l ≡ Leaf.Datetime (unit l)
+datetime-leaf = where-test isDatetime (λ l. l) (λ l. Leaf.Datetime (unit l)) refl
 
 -- the same of leaf types
-of-leaf : (a : LeafType) (l : Leaf) → leafOf a ≡ l → a ≡ leafType l (zoneOf a)
-of-leaf a l e = sym (leaf-type-of a) ∙ ap (λ (l : Leaf). leafType l (zoneOf a)) e
-
 pub null-type : (a : LeafType) → isNull (leafOf a) ≡ true → a ≡ null
-null-type a e = of-leaf a Null (kind-eq (leafOf a) Null (eqb-true _ _ e))
+null-type a e = type-of-leaf a Leaf.Null (kind-eq (leafOf a) Leaf.Null (eqb-true _ _ e))
 
 pub string-type : (a : LeafType) → isString (leafOf a) ≡ true → a ≡ string
-string-type a e = of-leaf a String (kind-eq (leafOf a) String (eqb-true _ _ e))
+string-type a e = type-of-leaf a Leaf.String (kind-eq (leafOf a) Leaf.String (eqb-true _ _ e))
 
 pub categorical-type : (a : LeafType) → isCategorical (leafOf a) ≡ true → a ≡ categorical
-categorical-type a e = of-leaf a Categorical (kind-eq (leafOf a) Categorical (eqb-true _ _ e))
+categorical-type a e = type-of-leaf a Leaf.Categorical (kind-eq (leafOf a) Leaf.Categorical (eqb-true _ _ e))
 
 pub datetime-type : (a : LeafType) → isDatetime (leafOf a) ≡ true → a ≡ datetime (unit (leafOf a)) (zoneOf a)
-datetime-type a e = of-leaf a (Datetime (unit (leafOf a))) (datetime-leaf (leafOf a) e)
+datetime-type a e = type-of-leaf a (Leaf.Datetime (unit (leafOf a))) (datetime-leaf (leafOf a) e)

@@ -20,7 +20,8 @@ use Rattle.rules.specs.Classes.{isDatetime}
 use Rattle.rules.specs.Chain.{sameType, chain}
 use Rattle.rules.specs.Pairs.{pairRule}
 use Rattle.rules.proofs.EachLeaf.{each-pair, kind-eq}
-use Rattle.rules.proofs.LeafTypes.{leaf-of-type, zone-of-type, same-leaf-type}
+use Rattle.layout.proofs.Leaves.{leaf-of-type}
+use Rattle.rules.proofs.LeafTypes.{zone-of-type, same-leaf-type}
 use Rattle.rules.proofs.Way.{Way, way, way-same}
 use Rattle.layout.proofs.OfBytes.{same-bytes-refl, same-bytes-eq}
 use Rattle.rules.proofs.Utc.{zones-identical}

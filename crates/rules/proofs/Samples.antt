@@ -2,7 +2,7 @@
 use mathlib.Core.Path.{_≡_, refl}
 use mathlib.Core.List.{[]}
 use Rattle.layout.specs.Bytes.{sameBytes}
-use Rattle.layout.specs.Tree.{LeafType, int32, int64, uint32, datetime}
+use Rattle.layout.specs.Tree.{LeafType, datetime, integer}
 use Rattle.layout.specs.declared.leaf.TimeUnit.the-variants.{Nanoseconds, Microseconds, Milliseconds}
 use Rattle.rules.specs.declared.outcome.CastOption.the-variants.{NonStrict, Strict, Overflowing}
 use Rattle.rules.specs.Policies.{allOn, policyOf}
@@ -10,17 +10,18 @@ use Rattle.rules.specs.Outcomes.{Verdict, refused, cast}
 use Rattle.rules.specs.Zones.{utc, isUtc, readZone, zonesOf}
 use Rattle.rules.specs.Chain.{chain}
 use Rattle.rules.specs.Pairs.{pairRule}
+use Rattle.numeric.specs.declared.integers.Integer.the-variants.{Int32, Int64, UInt32}
 
 -- opens every definition that a sample computes through
 checked : LeafType → LeafType → Verdict
 unfolding pairRule chain zonesOf readZone isUtc sameBytes
 checked i t = pairRule allOn i t
 
-S2 : pairRule allOn uint32 int32 ≡ refused 17
+S2 : pairRule allOn (integer UInt32) (integer Int32) ≡ refused 17
 unfolding checked
 S2 = refl
 
-S3 : pairRule allOn uint32 int64 ≡ cast Overflowing
+S3 : pairRule allOn (integer UInt32) (integer Int64) ≡ cast Overflowing
 unfolding checked
 S3 = refl
 

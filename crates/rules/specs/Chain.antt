@@ -11,7 +11,8 @@ use Rattle.rules.specs.declared.outcome.CastOption.the-variants.{NonStri
 use Rattle.rules.specs.Choice.{if_then_else_}
 use Rattle.rules.specs.Outcomes.{Verdict, untouched, refused, cast, need}
 use Rattle.rules.specs.Zones.{identical, sameAsUtc}
-use Rattle.rules.specs.Kinds.{kindOf, unitOf}
+use Rattle.layout.specs.Layout.{unitCode}
+use Rattle.rules.specs.Kinds.{kindOf}
 use Rattle.rules.specs.Classes.{isNull, isInteger, isFloat, precision, isDatetime, unit, isCategorical, isString}
 use Rattle.rules.specs.Promotion.{holds}
 
@@ -36,7 +37,7 @@ unitAllowed p Milliseconds Milliseconds = true
 
 -- Strict if the target unit is finer
 abbrev pub unitOption : TimeUnit → TimeUnit → CastOption
-unitOption i t = if ltb (unitOf t) (unitOf i) then Strict else NonStrict
+unitOption i t = if ltb (unitCode t) (unitCode i) then Strict else NonStrict
 
 -- the chain, from the incoming leaf i to the target t
 unfoldable pub chain : Policy → Params → Leaf → Leaf → Verdict

@@ -1,29 +1,32 @@
-// The leaf kinds, each date-time unit apart, and their numbers.
+// The leaf kinds, each date-time unit apart: their numbers, and what a conversion treats each as.
 ghost use mathlib.Core.Path.{_≡_};
 ghost use Rattle.rules.specs.Kinds.{kindOf};
+ghost use Rattle.rules.specs.Classes.{classOf};
 use layout::leaf::Leaf;
 use layout::leaf::TimeUnit;
+use layout::types::float_code;
+use layout::types::integer_code;
+use numeric::floats::Format;
+use numeric::integers::Integer;
 
 pub const KINDS: usize = 20;
 
-// The leaf's number, below KINDS: its place in a row of the table. Integers have their type codes.
+pub enum Class {
+    Integer(Integer),
+    Float(Format),
+    Datetime(TimeUnit),
+    Other,
+}
+
+// The leaf's number, below KINDS: its place in a row of the table. Up to 13 it is the type code.
 pub fn kind(l: Leaf) -> u8
     ensures { λ r. ⌜ r ≡ kindOf l ⌝ }
 {
     match l {
         Leaf::Null => 0,
         Leaf::Boolean => 1,
-        Leaf::Int8 => 2,
-        Leaf::Int16 => 3,
-        Leaf::Int32 => 4,
-        Leaf::Int64 => 5,
-        Leaf::UInt8 => 6,
-        Leaf::UInt16 => 7,
-        Leaf::UInt32 => 8,
-        Leaf::UInt64 => 9,
-        Leaf::Float16 => 10,
-        Leaf::Float32 => 11,
-        Leaf::Float64 => 12,
+        Leaf::Integer(i) => integer_code(i),
+        Leaf::Float(f) => float_code(f),
         Leaf::Date => 13,
         Leaf::Datetime(u) => match u {
             TimeUnit::Nanoseconds => 14,
@@ -33,5 +36,21 @@ pub fn kind(l: Leaf) -> u8
         Leaf::String => 17,
         Leaf::Binary => 18,
         Leaf::Categorical => 19,
+    }
+}
+
+pub fn class_of(l: Leaf) -> Class
+    ensures { λ r. ⌜ r ≡ classOf l ⌝ }
+{
+    match l {
+        Leaf::Null => Class::Other,
+        Leaf::Boolean => Class::Other,
+        Leaf::Integer(i) => Class::Integer(i),
+        Leaf::Float(f) => Class::Float(f),
+        Leaf::Date => Class::Other,
+        Leaf::Datetime(u) => Class::Datetime(u),
+        Leaf::String => Class::Other,
+        Leaf::Binary => Class::Other,
+        Leaf::Categorical => Class::Other,
     }
 }

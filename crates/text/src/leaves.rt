@@ -15,6 +15,7 @@ use layout::leaf::Leaf;
 use layout::leaf::TimeUnit;
 use layout::types::LeafType;
 use numeric::floats::Format;
+use numeric::integers::Integer;
 use values::content::Content;
 use values::content::content_of;
 use values::leaf::number_at;
@@ -27,21 +28,33 @@ pub fn put_unit(unit: TimeUnit) {
     }
 }
 
+fn put_integer(i: Integer) {
+    match i {
+        Integer::Int8 => put(b"int8"),
+        Integer::Int16 => put(b"int16"),
+        Integer::Int32 => put(b"int32"),
+        Integer::Int64 => put(b"int64"),
+        Integer::UInt8 => put(b"uint8"),
+        Integer::UInt16 => put(b"uint16"),
+        Integer::UInt32 => put(b"uint32"),
+        Integer::UInt64 => put(b"uint64"),
+    }
+}
+
+fn put_format(f: Format) {
+    match f {
+        Format::Binary16 => put(b"float16"),
+        Format::Binary32 => put(b"float32"),
+        Format::Binary64 => put(b"float64"),
+    }
+}
+
 fn put_leaf(leaf: Leaf) {
     match leaf {
         Leaf::Null => put(b"null"),
         Leaf::Boolean => put(b"boolean"),
-        Leaf::Int8 => put(b"int8"),
-        Leaf::Int16 => put(b"int16"),
-        Leaf::Int32 => put(b"int32"),
-        Leaf::Int64 => put(b"int64"),
-        Leaf::UInt8 => put(b"uint8"),
-        Leaf::UInt16 => put(b"uint16"),
-        Leaf::UInt32 => put(b"uint32"),
-        Leaf::UInt64 => put(b"uint64"),
-        Leaf::Float16 => put(b"float16"),
-        Leaf::Float32 => put(b"float32"),
-        Leaf::Float64 => put(b"float64"),
+        Leaf::Integer(i) => put_integer(i),
+        Leaf::Float(f) => put_format(f),
         Leaf::Date => put(b"date"),
         Leaf::Datetime(unit) => {
             put(b"date-time ");
@@ -100,16 +113,29 @@ fn magnitude(x: u64, half: u64) -> u64
     half - (x - half)
 }
 
+fn put_integer_pattern(i: Integer, x: u64) {
+    match i {
+        Integer::Int8 => put_signed(x, 0x80),
+        Integer::Int16 => put_signed(x, 0x8000),
+        Integer::Int32 => put_signed(x, 0x8000_0000),
+        Integer::Int64 => put_signed(x, 0x8000_0000_0000_0000),
+        _ => put_number(x),
+    }
+}
+
 // Floats have as many significant digits as IEEE 754 asks for to tell any two of a format apart.
+fn put_float_pattern(f: Format, x: u64) {
+    match f {
+        Format::Binary16 => put_float(x, f, 5, 4),
+        Format::Binary32 => put_float(x, f, 9, 8),
+        Format::Binary64 => put_float(x, f, 17, 16),
+    }
+}
+
 fn put_pattern(leaf: Leaf, x: u64) {
     match leaf {
-        Leaf::Int8 => put_signed(x, 0x80),
-        Leaf::Int16 => put_signed(x, 0x8000),
-        Leaf::Int32 => put_signed(x, 0x8000_0000),
-        Leaf::Int64 => put_signed(x, 0x8000_0000_0000_0000),
-        Leaf::Float16 => put_float(x, Format::Binary16, 5, 4),
-        Leaf::Float32 => put_float(x, Format::Binary32, 9, 8),
-        Leaf::Float64 => put_float(x, Format::Binary64, 17, 16),
+        Leaf::Integer(i) => put_integer_pattern(i, x),
+        Leaf::Float(f) => put_float_pattern(f, x),
         Leaf::Date => {
             put(b"day ");
             put_signed(x, 0x8000_0000);

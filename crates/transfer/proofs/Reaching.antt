@@ -25,7 +25,8 @@ use Rattle.convert.specs.declared.leaf.Converted.{Converted}
 use Rattle.nodes.specs.Raw.{RawAt}
 use Rattle.raw.specs.Number.{leafAnswer, LeafIs}
 use Rattle.raw.specs.declared.leaf.LeafValue.{LeafValue}
-use Rattle.raw.proofs.Leaves.{isNested, leaf-kind}
+use Rattle.layout.proofs.Leaves.{leaf-of-type}
+use Rattle.raw.proofs.Leaves.{isNested}
 use Rattle.raw.proofs.Storing.{cast-kept}
 use Rattle.transfer.specs.Reaching.{Kept, reachedAnswer, ReachedIs}
 use Rattle.transfer.specs.declared.leaf.Reached.{Reached}
@@ -90,7 +91,7 @@ cast-nested (array w t) x e = refl
 pub cast-leaf : {v : Version} {s : Bytes} {at : ℕ} (T : TypeAt v 16 s at) (x : Value) {p : Head} {l : LeafSpan} {c : Cursor} → headRes s p ≡ kind s at → p ≡ Head.Leaf l c
     → castLeaf (l .leaf) x ≡ castValue (dtypeOf (T .tree)) x
 unfolding dtypeOf castValue
-cast-leaf T x {l = l} h q = ap (λ (k : Leaf). castLeaf k x) (sym (leaf-kind (l .leaf) _)) ∙ ap (λ (c : ColumnType). castValue (dtypeOf c) x) (sym (leaf-at T h q .0))
+cast-leaf T x {l = l} h q = ap (λ (k : Leaf). castLeaf k x) (sym (leaf-of-type (l .leaf) _)) ∙ ap (λ (c : ColumnType). castValue (dtypeOf c) x) (sym (leaf-at T h q .0))
 
 module _ {v : Version} {s : Bytes} {at : ℕ} (T : TypeAt v 16 s at) (x : Value) {e : ℕ} {out : Bytes} {k : ℕ} {r : Reached} {new : Bytes} where
   pub nested-reached : isNested (dtypeOf (T .tree)) ≡ true → ReachedIs (clean x) (encodeValue x) e out k r new

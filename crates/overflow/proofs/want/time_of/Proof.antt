@@ -1,4 +1,3 @@
--- `overflow::want::time_of` meets its contract: each arm is a case of `timeOf`. Assumes nothing.
 use borrow.Author.Needs.{needs}
 use Rattle.overflow.proofs.want.time_of.Statement.{statement}
 use Rattle.overflow.proofs.want.time_of.Tie as tie
@@ -7,39 +6,12 @@ pub time-of-spec : {M : Type 1} → statement M
 time-of-spec =
     tie.close
     (tie.spec
+    (λ c κs. search needs)
     (λ c. search needs)
     (λ c. search needs)
     (λ c. search needs)
     (λ c. search needs)
     (λ c. search needs)
     (λ c. search needs)
-    (λ c. search needs)
-    (λ c. search needs)
-    (λ c. search needs)
-    (λ c. search needs)
-    (λ c. search needs)
-    (λ c. search needs)
-    (λ c. search needs)
-    (λ c. search needs)
-    (λ c. search needs)
-    (λ c. search needs)
-    (λ c. search needs)
-    (λ c. search needs)
-    (λ c. rw (c .enum-told .given .1))
-    (λ c. rw (c .enum-told2 .given .1))
-    (λ c. rw (c .enum-told3 .given .1))
-    (λ c. rw (c .enum-told4 .given .1))
-    (λ c. rw (c .enum-told5 .given .1))
-    (λ c. rw (c .enum-told6 .given .1))
-    (λ c. rw (c .enum-told7 .given .1))
-    (λ c. rw (c .enum-told8 .given .1))
-    (λ c. rw (c .enum-told9 .given .1))
-    (λ c. rw (c .enum-told10 .given .1))
-    (λ c. rw (c .enum-told11 .given .1))
-    (λ c. rw (c .enum-told12 .given .1))
-    (λ c. rw (c .enum-told13 .given .1))
-    (λ c. rw (c .enum-told14 .given .1))
-    (λ c. rw (c .before .leaf .given .1))
-    (λ c. rw (c .enum-told15 .given .1))
-    (λ c. rw (c .enum-told16 .given .1))
-    (λ c. rw (c .enum-told17 .given .1)))
+    (λ c. rw (← c .before .before .before .class-of .ensures, c .before .u .given .1))
+    (λ c. search needs))

@@ -1,6 +1,7 @@
 use mathlib.Core.Path.{sym, _∙_}
 use native.Mathlib.Omega.{arith}
-use Rattle.raw.proofs.Leaves.{leaf-nothing, leaf-text, leaf-flag, flag-inside, number-inside, number-wide, leaf-number}
+use Rattle.raw.proofs.Leaves.{leaf-nothing, leaf-text, leaf-flag, flag-inside, number-inside, leaf-number}
+use Rattle.values.proofs.Leaves.{number-small}
 use borrow.Author.Needs.{needs}
 use Rattle.raw.proofs.leaf.present_leaf.Statement.{statement}
 use Rattle.raw.proofs.leaf.present_leaf.Tie as tie
@@ -16,7 +17,7 @@ present-leaf-spec =
     (λ c. omega (arith, c .shared-slice-known2 .given (c .before .before .before .before .before .args .c .at)))
     (λ c. search needs)
     (λ c. search needs)
-    (λ c κs. let e = sym (c .before .before .before .content-of .ensures) ∙ c .before .w .given .1 in (number-inside (c .before .before .before .before .before .pre) e, number-wide (c .before .before .before .before .before .args .leaf) e))
+    (λ c κs. let e = sym (c .before .before .before .content-of .ensures) ∙ c .before .w .given .1 in (number-inside (c .before .before .before .before .before .pre) e, number-small (c .before .before .before .before .before .args .leaf) e))
     (λ c. search needs)
     (λ c. λ X. leaf-nothing X (sym (c .before .before .content-of .ensures) ∙ c .enum-told .given .1))
     (λ c. λ X. leaf-flag X (sym (c .before .before .before .content-of .ensures) ∙ c .before .enum-told2 .given .1))
