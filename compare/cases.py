@@ -1,20 +1,26 @@
 #!/usr/bin/env python3
 # Makes the stored list of cases that the program `cases` replays, and what the program must write.
 #
-#   compare/cases.py [BASE]
+#   compare/cases.py [VECTORS]
+#   compare/cases.py --list FILE     writes the cases of one file of vectors as a list, to standard output (compare/c/vectors)
 #
-# BASE has answers of a second implementation, one JSON object a line (default: ../shared/vectors/base.jsonl beside the repository).
-# Its cases are taken over. Layouts at the edges of document 01's rules are added, whose answers come from the reader below, and builds of
-# the original source (compare/rust/sample.txt). The reader is written from document 01 and shares nothing with the library; where it
-# disagrees with an answer of BASE, nothing is written and the exit status is 1. Which plans one pass is to settle (docs/ARCHITECTURE.md)
+# VECTORS has files with answers of a second implementation, one JSON object a line (default: ../shared/vectors beside the repository).
+# The cases of base.jsonl are taken over, and of L01.jsonl those that only decimals can ask, which stand first there. In base.jsonl no
+# decimal stands; in its policy words bit 14, which is theirs now, is on or off, and changes no answer.
+# Layouts at the edges of the rules of documents 01 and 02 are added, whose answers come from the reader below, and builds of
+# the original source (compare/rust/sample.txt). The reader is written from these documents and shares nothing with the library; where it
+# disagrees with an answer of VECTORS, nothing is written and the exit status is 1. Which plans one pass is to settle (docs/ARCHITECTURE.md)
 # is read from the plans' bytes. Written: crates/cases/stdin and crates/cases/stdout.
+import itertools
 import json
 import os
 import sys
 
 ROOT = os.path.dirname(os.path.dirname(os.path.abspath(__file__)))
 STORED = os.path.join(ROOT, "crates", "cases")
-BASE = os.path.join(os.path.dirname(ROOT), "shared", "vectors", "base.jsonl")
+VECTORS = os.path.join(os.path.dirname(ROOT), "shared", "vectors")
+# Each file of vectors, with how many of its first cases are taken (all where there is no number), and what they are.
+TAKEN = [("base.jsonl", None, "a second implementation's answers"), ("L01.jsonl", 251, "its answers where decimals stand")]
 SAMPLE = os.path.join(ROOT, "compare", "rust", "sample.txt")
 
 HEAD = """\
@@ -31,7 +37,7 @@ HEAD = """\
 """
 
 
-# --- the reader of layouts, by document 01 -------------------------------------------------------------------------------------
+# --- the reader of layouts, by documents 01 and 02 -----------------------------------------------------------------------------
 
 
 class Refused(Exception):
@@ -79,12 +85,16 @@ class Reader:
         if depth > 16:
             raise Refused(4)
         code = self.number(1)
-        if code > 20:
+        if code > 21:
             raise Refused(3)
         if code == 14:
             if self.number(1) > 2:
                 raise Refused(3)
             self.text()
+        elif code == 21:
+            precision, scale = self.number(1), self.number(1)
+            if not 1 <= precision <= 18 or scale > precision:
+                raise Refused(50)
         elif code == 18:
             self.columns(self.number(2), depth + 1, False)
         elif code in (19, 20):
@@ -114,7 +124,7 @@ def read(data):
 
 
 # The bytes of a present leaf value, by its type's code; texts have their length before them.
-WIDTHS = {1: 1, 2: 1, 3: 2, 4: 4, 5: 8, 6: 1, 7: 2, 8: 4, 9: 8, 10: 2, 11: 4, 12: 8, 13: 4, 14: 8}
+WIDTHS = {1: 1, 2: 1, 3: 2, 4: 4, 5: 8, 6: 1, 7: 2, 8: 4, 9: 8, 10: 2, 11: 4, 12: 8, 13: 4, 14: 8, 21: 8}
 
 
 # A plan that was accepted.
@@ -236,6 +246,10 @@ def datetime(unit, zone):
     return bytes([14, unit, len(zone)]) + zone
 
 
+def decimal(precision, scale):
+    return bytes([21, precision, scale])
+
+
 INT8 = b"\x02"
 LIST = b"\x13"
 
@@ -279,7 +293,7 @@ def codes():
     for version, ident in ((1, None), (2, 7)):
         for code in range(256):
             yield lay(version, 1, col(b"a", bytes([code]), ident))
-        for code in list(range(22)) + [255]:
+        for code in list(range(23)) + [255]:
             yield lay(version, 1, col(b"a", bytes([code, 0, 0]), ident))
         for unit in (0, 1, 2, 3, 4, 127, 128, 255):
             yield lay(version, 1, col(b"a", datetime(unit, b""), ident))
@@ -319,7 +333,7 @@ def depths():
                 for kind in (shape[:-1], shape, shape[:-1] + b"\xff", shape[:-1] + datetime(3, b""), shape + b"\x00"):
                     yield lay(version, 1, col(b"a", kind, ident))
         # nothing is read at depth 17: neither a bad code nor an end is seen before it
-        yield lay(version, 1, col(b"a", nested(version, 17, LIST, b"\x15"), ident))
+        yield lay(version, 1, col(b"a", nested(version, 17, LIST, b"\x16"), ident))
         # a struct with no fields has no deeper type
         yield lay(version, 1, col(b"a", nested(version, 16, LIST, struct()), ident))
         yield lay(version, 1, col(b"a", nested(version, 17, LIST, struct()), ident))
@@ -431,6 +445,25 @@ def limits():
     yield lay(1, 4094, *(col(u16(n), b"\x00") for n in range(4093)), col(u16(0), b"\x00"))
 
 
+# Precision and scale at their limits and past them; both bytes are read before they are tested, and before a repeat is looked for.
+def decimals():
+    for version, ident in ((1, None), (2, 7)):
+        for precision, scale in itertools.product((0, 1, 2, 9, 17, 18, 19, 20, 127, 128, 255), (0, 1, 2, 9, 17, 18, 19, 20, 128, 255)):
+            yield lay(version, 1, col(b"a", decimal(precision, scale), ident))
+        for kind in (decimal(18, 18), decimal(0, 0), decimal(19, 3), decimal(3, 4)):
+            for cut in (1, 2, 3):
+                yield lay(version, 1, col(b"a", kind, ident))[:-cut]
+            yield lay(version, 1, col(b"a", kind, ident)) + b"\x00"
+            yield lay(version, 2, col(b"a", kind, ident), col(b"a", INT8, ident))
+            yield lay(version, 2, col(b"a", INT8, ident), col(b"a", kind, ident))
+            yield lay(version, 2, col(b"a", kind, ident), col(b"b", b"\x16", ident and 8))
+            yield lay(version, 1, col(b"a", struct(col(b"x", kind, ident), col(b"y", kind, ident and 8)), ident))
+            for depth in (2, 16, 17):
+                yield lay(version, 1, col(b"a", nested(version, depth, LIST, kind), ident))
+                yield lay(version, 1, col(b"a", nested_structs(version, depth, kind), ident))
+                yield lay(version, 1, col(b"a", nested(version, depth, array(2), kind), ident))
+
+
 GROUPS = [
     ("marks and versions", heads),
     ("type codes and units", codes),
@@ -439,6 +472,7 @@ GROUPS = [
     ("repeated siblings", siblings),
     ("counts", counts),
     ("ends at every byte", prefixes),
+    ("decimals", decimals),
     ("16,384 bytes", limits),
 ]
 
@@ -457,8 +491,13 @@ ARGUMENTS = {
 }
 
 
+# The place of a layout that is read alone; 50 has none.
+def place(number):
+    return 1 if 1 <= number <= 6 else 0
+
+
 def line(data, number):
-    return "layout %s %d %d" % (data.hex() or "-", number, 1 if number else 0)
+    return "layout %s %d %d" % (data.hex() or "-", number, place(number))
 
 
 # A line of another call, whose answer is taken over.
@@ -476,9 +515,10 @@ def other(case):
     return " ".join(words)
 
 
-def taken(path):
+# The cases of a file as lines, of the first so many alone where a number is given.
+def taken(path, most=None):
     lines = []
-    for number, text in enumerate(open(path), 1):
+    for number, text in enumerate(itertools.islice(open(path), most), 1):
         case = json.loads(text)
         if case["op"] not in CALLS:
             continue
@@ -487,7 +527,7 @@ def taken(path):
             continue
         data, out = bytes.fromhex(case["in"]["layout"]), case["out"]
         due = 0 if out == {"ok": True} else out["refuse"]
-        if line(data, read(data)) != line(data, due) or out.get("place", 0) != (1 if due else 0):
+        if read(data) != due or out.get("place", 0) != place(due):
             sys.exit("%s:%d: the reader answers %d, the list says %r" % (path, number, read(data), out))
         lines.append(line(data, due))
     return lines
@@ -508,8 +548,14 @@ def share(name, lines):
 
 
 def main():
-    lines = taken(sys.argv[1] if len(sys.argv) > 1 else BASE)
-    text = [HEAD, "# a second implementation's answers\n"] + [one + "\n" for one in lines]
+    if sys.argv[1:2] == ["--list"]:
+        return print("\n".join(taken(sys.argv[2])))
+    folder = sys.argv[1] if len(sys.argv) > 1 else VECTORS
+    text, lines = [HEAD], []
+    for file, most, title in TAKEN:
+        cases = taken(os.path.join(folder, file), most)
+        text += ["# %s\n" % title] + [one + "\n" for one in cases]
+        lines += cases
     seen = set(lines)
     for title, group in GROUPS:
         text.append("# %s\n" % title)

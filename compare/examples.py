@@ -4,7 +4,7 @@
 #
 #   compare/examples.py
 #
-# Everything is spelled out below by document 01, without the library; .ci/run holds the library to these files (compare/c/examples.c builds each
+# Everything is spelled out below by documents 01 and 02, without the library; .ci/run holds the library to these files (compare/c/examples.c builds each
 # plan again and runs it).
 import os
 import struct
@@ -41,6 +41,10 @@ def text(s):
 
 def datetime(unit, zone=""):
     return bytes([14, unit]) + text(zone)
+
+
+def decimal(precision, scale):
+    return bytes([21, precision, scale])
 
 
 # A column by name, or with an id by number.
@@ -234,6 +238,30 @@ FOLDERS = {
             "plan.pln": plan(cast(position(0), datetime(NANOSECONDS), STRICT)),
             "record.bin": number("q", 9_223_372_036_855),
             "output.bin": b"refused 44\n",
+        },
+    ),
+    "salinometer": (
+        "By name: the salinity of this works was widened from decimal(6,3) to decimal(9,3), and a neighbour still sends decimal(6,3). The plan has a NonStrict"
+        " cast for it, alone and inside the list, and every value is kept: 35.125 stays 35.125, -0.005 stays -0.005, null stays null. The density has the same"
+        " decimal on both sides and is left as it is. With the policy bit `decimal_widening` off the build is refused with 51: the two layouts are right, and"
+        " the works has only to allow the widening. The other way round, where a neighbour was widened and this works still has decimal(6,3), the build is"
+        " refused with 24 under every policy: a salinity of 1000.000 or more has no room in six digits, so that no cast keeps every value. So the works that"
+        " reads is widened before the one that sends.",
+        ALL_ON,
+        {
+            "incoming.lay": layout(
+                1, column("salinity", decimal(6, 3)), column("samples", list_of(decimal(6, 3))), column("density", decimal(5, 4))
+            ),
+            "target.lay": layout(
+                1, column("salinity", decimal(9, 3)), column("samples", list_of(decimal(9, 3))), column("density", decimal(5, 4))
+            ),
+            "plan.pln": plan(
+                cast(position(0), decimal(9, 3), NONSTRICT),
+                list_mapping(position(1), cast(position(0), decimal(9, 3), NONSTRICT)),
+                position(2),
+            ),
+            "record.bin": number("q", 35_125) + many(number("q", -5), NULL, number("q", 999_999)) + number("q", 10_268),
+            "output.bin": number("q", 35_125) + many(number("q", -5), NULL, number("q", 999_999)) + number("q", 10_268),
         },
     ),
 }

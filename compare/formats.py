@@ -14,10 +14,13 @@ FORMATS = "docs/FORMATS.md"
 NEEDED = [
     "examples/older/target.lay",
     "examples/sluice/incoming.lay",
+    "examples/salinometer/incoming.lay",
     "examples/sluice/record.bin",
+    "examples/salinometer/record.bin",
     "examples/sluice/defaults.def",
     "examples/sluice/plan.pln",
     "examples/sluice/output.bin",
+    "examples/salinometer/plan.pln",
 ]
 BLOCK = r"((?: {4}.*\n|\n)+)"
 

@@ -59,11 +59,12 @@ extern "C" {
 #define SELECTOR_RUN_STACK 163840
 
 /* Refusals of a layout or a table of defaults. First its length is tested (4), then its mark and version (1). Then it
- * is read forward by byte, and the first of 2 to 5 that applies is the answer; 6 comes last. */
+ * is read forward by byte, and the first of 2 to 5 and 50 that applies is the answer; 6 comes last. */
 #define SELECTOR_UNKNOWN_MARK 1 /* not a known mark and version */
 #define SELECTOR_ENDS_EARLY 2   /* the bytes end early */
 #define SELECTOR_UNKNOWN_CODE 3 /* unknown type code or unit; of a table: unknown type code, unit, kind or load byte,
-                                   a type that is no leaf, or a value that does not fit its type */
+                                   a wrong precision or scale, a type that is no leaf, or a value that does not fit
+                                   its type */
 #define SELECTOR_TOO_LARGE 4    /* more than 16384 bytes, a name or zone of more than 63, or a type deeper than 16;
                                    of a table: more than 16384 bytes, or a zone of more than 63 */
 #define SELECTOR_REPEATED 5     /* a column repeats a sibling's name or id; of a table: an entry repeats an id of its
@@ -108,6 +109,12 @@ extern "C" {
 #define SELECTOR_OVERFLOW 44        /* a date-time is too large for its finer unit */
 #define SELECTOR_OUTPUT_TOO_LONG 45 /* the output exceeds the buffer or 16384 bytes */
 
+/* Refusals of decimals: 50 of a layout, 51 of a build, 52 of a run's record. */
+#define SELECTOR_DECIMAL_LIMITS 50    /* a decimal's precision is not 1 to 18, or its scale is larger than its
+                                         precision */
+#define SELECTOR_DECIMAL_WIDENING 51  /* a cast to a decimal of larger precision is not allowed */
+#define SELECTOR_DECIMAL_TOO_LARGE 52 /* a decimal of the record has more digits than its precision */
+
 /* The policy word: a bit each, 1 allows; docs/policy.txt is the list. All other bits are ignored, and a later edition
  * may give one a meaning: make a word of these names. SELECTOR_ALLOW_ALL has all of them, and grows with them. */
 #define SELECTOR_ALLOW_NULL_UPCAST (UINT32_C(1) << 0)
@@ -124,21 +131,22 @@ extern "C" {
 #define SELECTOR_INSERT_MISSING_FIELDS (UINT32_C(1) << 11)
 #define SELECTOR_IGNORE_EXTRA_FIELDS (UINT32_C(1) << 12)
 #define SELECTOR_INSERT_MISSING_COLUMNS (UINT32_C(1) << 13)
-#define SELECTOR_ALLOW_ALL UINT32_C(0x3FFF)
+#define SELECTOR_ALLOW_DECIMAL_WIDENING (UINT32_C(1) << 14)
+#define SELECTOR_ALLOW_ALL UINT32_C(0x7FFF)
 
-/* Reads a layout of version 1 or 2 to its end. The answer is 0 where it is accepted. Refusals: 1 to 6. Their place is
- * 1. Stack: SELECTOR_READ_STACK. Time: grows with the bytes; earlier siblings are scanned for a repeated name or id
- * only where a table of bits says that there may be one, so that only layouts made for it take the square of the number
- * of columns. */
+/* Reads a layout of version 1 or 2 to its end. The answer is 0 where it is accepted. Refusals: 1 to 6, 50. The place of
+ * 1 to 6 is 1. Stack: SELECTOR_READ_STACK. Time: grows with the bytes; earlier siblings are scanned for a repeated name
+ * or id only where a table of bits says that there may be one, so that only layouts made for it take the square of the
+ * number of columns. */
 uint64_t selector_read_layout(const uint8_t *layout, size_t length);
 
 /* Builds the plan that takes records of the incoming layout to the target layout, columns matched by name. Both are of
- * version 1. Refusals: 1 to 6, 10 to 24, 27. Stack: SELECTOR_BUILD_STACK. */
+ * version 1. Refusals: 1 to 6, 10 to 24, 27, 50, 51. Stack: SELECTOR_BUILD_STACK. */
 uint64_t selector_build_by_name(uint32_t policy, const uint8_t *incoming, size_t incoming_length,
                                 const uint8_t *target, size_t target_length, uint8_t *plan, size_t plan_length);
 
 /* The same by field id, with defaults for missing fields. Both layouts are of version 2; of a partition's values in the
- * table of defaults the source index, from 0, picks one. Refusals: 1 to 6, 10, 11, 13 to 28.
+ * table of defaults the source index, from 0, picks one. Refusals: 1 to 6, 10, 11, 13 to 28, 50, 51.
  * Stack: SELECTOR_BUILD_STACK. */
 uint64_t selector_build_by_number(uint32_t policy, uint32_t source_index,
                                   const uint8_t *incoming, size_t incoming_length,
@@ -146,15 +154,15 @@ uint64_t selector_build_by_number(uint32_t policy, uint32_t source_index,
                                   const uint8_t *defaults, size_t defaults_length, uint8_t *plan, size_t plan_length);
 
 /* Checks that a plan takes records of the incoming layout to the target layout; the layouts are of either version.
- * Refusals: 1 to 6, 30 to 33. Stack: SELECTOR_CHECK_STACK. Time: bounded by a polynomial in the bytes
+ * Refusals: 1 to 6, 30 to 33, 50. Stack: SELECTOR_CHECK_STACK. Time: bounded by a polynomial in the bytes
  * (docs/ARCHITECTURE.md, "Work and stack"), however large the types that a plan asks for. */
 uint64_t selector_check_plan(const uint8_t *incoming, size_t incoming_length,
                              const uint8_t *target, size_t target_length, const uint8_t *plan, size_t plan_length);
 
 /* Runs a plan over one record of the incoming layout and writes the record of the target layout. All of the check is
- * made first. Refusals: 1 to 6, 30 to 33, 40 to 45. A plan that passes the check, run over a record that fits, can only
- * be refused with 44 or 45. Stack: SELECTOR_RUN_STACK. Time: bounded likewise, however long the output that a plan asks
- * for: 44 is decided without it, and it is written no further than the limit. */
+ * made first. Refusals: 1 to 6, 30 to 33, 40 to 45, 50, 52. A plan that passes the check, run over a record that fits,
+ * can only be refused with 44 or 45. Stack: SELECTOR_RUN_STACK. Time: bounded likewise, however long the output that a
+ * plan asks for: 44 is decided without it, and it is written no further than the limit. */
 uint64_t selector_run(const uint8_t *incoming, size_t incoming_length, const uint8_t *target, size_t target_length,
                       const uint8_t *plan, size_t plan_length, const uint8_t *record, size_t record_length,
                       uint8_t *output, size_t output_length);

@@ -160,7 +160,7 @@ static void damage(call *c) {
         bytes[at] = (uint8_t)(bytes[at] + (random_below(2) == 0 ? 1 : 255));
         break;
     case 5:
-        bytes[at] = (uint8_t)"\x00\x01\x02\x03\x04\x05\x06\x0E\x12\x13\x14\x15\x3F\x40\xFF"[random_below(15)];
+        bytes[at] = (uint8_t)"\x00\x01\x02\x03\x04\x05\x06\x0E\x12\x13\x14\x15\x16\x3F\x40\xFF"[random_below(16)];
         break;
     case 6:
         if (at + run <= length) {
@@ -185,10 +185,10 @@ static const struct {
     enum kind kind;
     uint32_t first, last;
 } refusals[] = {
-    {BUILD_NAME, 1, 6}, {BUILD_NAME, 10, 24}, {BUILD_NAME, 27, 27},
-    {BUILD_NUMBER, 1, 6}, {BUILD_NUMBER, 10, 11}, {BUILD_NUMBER, 13, 28},
-    {CHECK, 1, 6}, {CHECK, 30, 33},
-    {RUN, 1, 6}, {RUN, 30, 33}, {RUN, 40, 45},
+    {BUILD_NAME, 1, 6}, {BUILD_NAME, 10, 24}, {BUILD_NAME, 27, 27}, {BUILD_NAME, 50, 51},
+    {BUILD_NUMBER, 1, 6}, {BUILD_NUMBER, 10, 11}, {BUILD_NUMBER, 13, 28}, {BUILD_NUMBER, 50, 51},
+    {CHECK, 1, 6}, {CHECK, 30, 33}, {CHECK, 50, 50},
+    {RUN, 1, 6}, {RUN, 30, 33}, {RUN, 40, 45}, {RUN, 50, 50}, {RUN, 52, 52},
 };
 
 /* Whether a call of the kind may answer with the number. */

@@ -4,7 +4,7 @@
  *
  * Each input ends right before a page that cannot be read, and in a second pass begins right after one, so that a read outside of it
  * ends the program. Then ROUNDS layouts (default 300,000) are made at random and damaged; each answer is compared with that of a second
- * reader, below, which is written from document 01 alone. One line sums up; the exit status is 1 where anything differs. */
+ * reader, below, which is written from documents 01 and 02 alone. One line sums up; the exit status is 1 where anything differs. */
 #define _DEFAULT_SOURCE
 #include "list.h"
 #include "selector.h"
@@ -26,7 +26,7 @@ static const uint8_t *placed(const uint8_t *bytes, size_t length, int before_end
     return to;
 }
 
-/* --- a second reader of layouts, from document 01 ----------------------------------------------------------------------------- */
+/* --- a second reader of layouts, from documents 01 and 02 --------------------------------------------------------------------- */
 
 typedef struct {
     const uint8_t *bytes;
@@ -104,6 +104,7 @@ static void get_type(reader *r, int depth) {
     if (r->refusal != 0)
         return;
     size_t length;
+    uint32_t precision, scale;
     switch (code) {
     case 14:
         if (get(r, 1) > 2 && r->refusal == 0)
@@ -122,8 +123,14 @@ static void get_type(reader *r, int depth) {
             get_label(r);
         get_type(r, depth + 1);
         break;
+    case 21:
+        precision = get(r, 1);
+        scale = get(r, 1);
+        if (r->refusal == 0 && (precision < 1 || precision > 18 || scale > precision))
+            r->refusal = 50;
+        break;
     default:
-        if (code > 20)
+        if (code > 21)
             r->refusal = 3;
     }
 }
@@ -241,7 +248,7 @@ static void put_columns(text *t, int depth, uint32_t count) {
 }
 
 static void put_type(text *t, int depth) {
-    uint32_t code = random_below(21);
+    uint32_t code = random_below(22);
     if (t->deep && depth < MOST_DEPTH + (int)random_below(2) && random_below(64) != 0)
         code = 18 + random_below(3);
     if (depth > MOST_DEPTH || t->length > 12000)
@@ -250,6 +257,10 @@ static void put_type(text *t, int depth) {
     if (code == 14) {
         put(t, random_below(3), 1);
         put_name(t);
+    } else if (code == 21) {
+        uint32_t precision = 1 + random_below(18);
+        put(t, precision, 1);
+        put(t, random_below(precision + 1), 1);
     } else if (code == 18) {
         put_columns(t, depth + 1, t->deep ? 1 + (random_below(8) == 0) : random_below(4));
     } else if (code >= 19) {
@@ -294,7 +305,7 @@ static void damage(text *t) {
         t->bytes[at] = (uint8_t)(t->bytes[at] + (random_below(2) == 0 ? 1 : 255));
         break;
     case 5: /* a code or a limit */
-        t->bytes[at] = (uint8_t)"\x00\x01\x0E\x12\x13\x14\x15\x3F\x40\xFF"[random_below(10)];
+        t->bytes[at] = (uint8_t)"\x00\x01\x0E\x12\x13\x14\x15\x16\x3F\x40\xFF"[random_below(11)];
         break;
     case 6:
         if (at + run <= t->length) {
@@ -310,7 +321,7 @@ static void damage(text *t) {
     }
 }
 
-static unsigned long met[7];
+static unsigned long met[51];
 
 static void try_random(unsigned long rounds) {
     static text t;
@@ -320,9 +331,10 @@ static void try_random(unsigned long rounds) {
             damage(&t);
         unsigned due = second_answer(t.bytes, t.length);
         uint64_t given = selector_read_layout(placed(t.bytes, t.length, (int)(i % 2)), t.length);
-        if (given != (due == 0 ? 0 : ((uint64_t)due << 32) + 1))
-            differs("round", i, given, due, due != 0);
-        if (SELECTOR_NUMBER(given) < 7)
+        unsigned place = due >= 1 && due <= 6;
+        if (given != ((uint64_t)due << 32) + place)
+            differs("round", i, given, due, place);
+        if (SELECTOR_NUMBER(given) <= 50)
             met[SELECTOR_NUMBER(given)]++;
     }
 }
@@ -337,7 +349,7 @@ int main(int count, char **words) {
     room = guarded(SPACE);
     each_line(words[1], one_line);
     try_random(rounds);
-    printf("%lu cases, %lu random layouts (0 to 6: %lu %lu %lu %lu %lu %lu %lu), %lu differ\n", cases, rounds, met[0], met[1], met[2],
-           met[3], met[4], met[5], met[6], differences);
+    printf("%lu cases, %lu random layouts (0 to 6, 50: %lu %lu %lu %lu %lu %lu %lu %lu), %lu differ\n", cases, rounds, met[0], met[1], met[2],
+           met[3], met[4], met[5], met[6], met[50], differences);
     return differences != 0;
 }

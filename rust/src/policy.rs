@@ -37,8 +37,10 @@ impl Policy {
     pub const IGNORE_EXTRA_STRUCT_FIELDS: Policy = Policy(1 << 12);
     /// A column that is missing is inserted.
     pub const INSERT_MISSING_COLUMNS: Policy = Policy(1 << 13);
+    /// A decimal to one of larger precision at the same scale.
+    pub const DECIMAL_WIDENING: Policy = Policy(1 << 14);
     /// Everything is allowed.
-    pub const ALL: Policy = Policy(0x3FFF);
+    pub const ALL: Policy = Policy(0x7FFF);
 
     /// The policy of a word of the C interface; bits without a meaning are ignored.
     pub const fn from_word(word: u32) -> Policy {

@@ -30,7 +30,8 @@ impl Refusal {
             2 => "the bytes end early",
             3 => {
                 "unknown type code or unit; of a table: unknown type code, unit, kind or load byte, \
-                 a type that is no leaf, or a value that does not fit its type"
+                 a wrong precision or scale, a type that is no leaf, or a value that does not fit its \
+                 type"
             }
             4 => {
                 "more than 16384 bytes, a name or zone of more than 63, or a type deeper than 16; \
@@ -72,6 +73,9 @@ impl Refusal {
             43 => "the record has more than 16384 bytes",
             44 => "a date-time is too large for its finer unit",
             45 => "the output exceeds the buffer or 16384 bytes",
+            50 => "a decimal's precision is not 1 to 18, or its scale is larger than its precision",
+            51 => "a cast to a decimal of larger precision is not allowed",
+            52 => "a decimal of the record has more digits than its precision",
             _ => "unknown",
         }
     }

@@ -1,4 +1,4 @@
-//! The bindings over the library: samples of document 01, the folders of examples/, and what is promised of buffers.
+//! The bindings over the library: samples of document 01, the folders of examples/ with what the one of decimals tells, and what is promised of buffers.
 
 use column_selector::{Plan, Policy, Refusal, build_by_name_into, read_layout};
 use std::fs;
@@ -105,4 +105,23 @@ fn examples() {
         }
     }
     assert!(count >= 3);
+}
+
+/// What examples/salinometer/about.txt says of other policies and of the other way round, and the record that has too many digits.
+#[test]
+fn salinometer() {
+    let folder = PathBuf::from(env!("CARGO_MANIFEST_DIR")).join("../examples/salinometer");
+    let file = |name: &str| fs::read(folder.join(name)).unwrap();
+    let (narrow, wide) = (file("incoming.lay"), file("target.lay"));
+    let off = Policy::ALL - Policy::DECIMAL_WIDENING;
+    let build = |policy, incoming: &[u8], target: &[u8]| {
+        refused(Plan::build_by_name(policy, incoming, target))
+    };
+    assert_eq!(build(off, &narrow, &wide), (51, 0));
+    assert_eq!(build(Policy::ALL, &wide, &narrow), (24, 0));
+    assert_eq!(build(off, &wide, &narrow), (24, 0));
+    let plan = Plan::build_by_name(Policy::DECIMAL_WIDENING, &narrow, &wide).unwrap();
+    let mut record = file("record.bin");
+    record[1..9].copy_from_slice(&1_000_000i64.to_le_bytes());
+    assert_eq!(refused(plan.run(&narrow, &wide, &record)), (52, 0));
 }

@@ -17,18 +17,18 @@ impl Refusal {
     pub fn of(number: u32) -> Refusal {
         Refusal { number, place: 0 }
     }
-}
 
-/// A refusal at that place.
-fn at(place: usize) -> impl Fn(Fault) -> Refusal {
-    move |number| Refusal {
-        number,
-        place: place as u32,
+    /// Of the layout or table at that place, which 50 does not tell.
+    pub fn of_input(place: u32) -> impl Fn(Fault) -> Refusal {
+        move |number| Refusal {
+            number,
+            place: if number == 50 { 0 } else { place },
+        }
     }
 }
 
 pub fn read_layout(bytes: &[u8]) -> Result<(), Refusal> {
-    layout(bytes).map(drop).map_err(at(1))
+    layout(bytes).map(drop).map_err(Refusal::of_input(1))
 }
 
 /// The layouts and the plan of a check or a run.
@@ -41,14 +41,18 @@ struct Read<'a> {
 impl<'a> Read<'a> {
     fn new(incoming: &[u8], target: &[u8], plan: &'a [u8]) -> Result<Read<'a>, Refusal> {
         Ok(Read {
-            incoming: layout(incoming).map_err(at(1))?,
-            target: layout(target).map_err(at(2))?,
+            incoming: layout(incoming).map_err(Refusal::of_input(1))?,
+            target: layout(target).map_err(Refusal::of_input(2))?,
             plan: read_plan(plan).map_err(Refusal::of)?,
         })
     }
 
     fn check(&self) -> Result<(), Refusal> {
-        check(&self.incoming, &self.target, &self.plan).map_err(|(number, place)| at(place)(number))
+        let refusal = |(number, place)| Refusal {
+            number,
+            place: place as u32,
+        };
+        check(&self.incoming, &self.target, &self.plan).map_err(refusal)
     }
 }
 

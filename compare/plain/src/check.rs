@@ -79,6 +79,7 @@ impl<'a> DataType<'a> {
         match self {
             DataType::Leaf(Leaf::Plain(_)) => 1,
             DataType::Leaf(Leaf::Datetime { zone, .. }) => 3 + zone.len(),
+            DataType::Leaf(Leaf::Decimal { .. }) => 3,
             DataType::Nested(nested) => nested.length,
         }
     }

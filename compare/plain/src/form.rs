@@ -10,6 +10,8 @@ pub const PLAN_LIMIT: usize = 65_536;
 pub const RECORD_LIMIT: usize = 16_384;
 pub const TEXT_LIMIT: usize = 63;
 pub const DEPTH_LIMIT: u32 = 16;
+/// The most digits of a decimal.
+pub const PRECISION_LIMIT: u8 = 18;
 
 #[derive(Clone, Debug, PartialEq, Eq)]
 pub struct Column {
@@ -30,11 +32,15 @@ pub enum Type {
 
 #[derive(Clone, Debug, PartialEq, Eq)]
 pub enum Leaf {
-    /// Any leaf but a date-time, by its code.
+    /// Any leaf but a date-time and a decimal, by its code.
     Plain(u8),
     Datetime {
         unit: u8,
         zone: Vec<u8>,
+    },
+    Decimal {
+        precision: u8,
+        scale: u8,
     },
 }
 
@@ -88,10 +94,26 @@ pub fn read_type(bytes: &[u8]) -> Result<(Type, &[u8]), Fault> {
     Ok((type_, reader.rest))
 }
 
+/// In a table the faults of decimals, 50 and 52, are 3.
+fn table_fault(fault: Fault) -> Fault {
+    match fault {
+        50 | 52 => 3,
+        fault => fault,
+    }
+}
+
 impl Reader<'_> {
+    /// A type that must be a leaf.
+    fn leaf_type(&mut self) -> Result<Leaf, Fault> {
+        match self.u8()? {
+            code @ (0..=17 | 21) => self.leaf(code).map_err(table_fault),
+            _ => Err(3),
+        }
+    }
+
     fn table_value(&mut self, leaf: &Leaf) -> Result<LeafValue, Fault> {
         let before = self.rest;
-        let value = self.leaf_value(leaf)?;
+        let value = self.leaf_value(leaf).map_err(table_fault)?;
         let taken = &before[1..before.len() - self.rest.len()];
         Ok((value != Value::Null).then(|| taken.to_vec()))
     }
@@ -198,6 +220,7 @@ fn write_leaf(bytes: &mut Vec<u8>, leaf: &Leaf) {
             bytes.extend([14, *unit]);
             write_text(bytes, zone);
         }
+        Leaf::Decimal { precision, scale } => bytes.extend([21, *precision, *scale]),
     }
 }
 

@@ -6,12 +6,15 @@ pub mod plans;
 pub mod records;
 
 use crate::case::{Case, Number};
-use crate::form::{self, Column, DEPTH_LIMIT, Default, Entry, LAYOUT_LIMIT, Layout, Leaf, Type};
+use crate::form::{
+    self, Column, DEPTH_LIMIT, Default, Entry, LAYOUT_LIMIT, Layout, Leaf, PRECISION_LIMIT, Type,
+};
 use crate::policy::{ALL, BITS};
 use crate::random::Random;
 
 const ELEMENT: u32 = u32::MAX;
-const LEAF_KINDS: u64 = 20;
+/// Each date-time unit apart.
+const LEAF_KINDS: u64 = 21;
 const NAMES: [&str; 10] = ["a", "b", "c", "d", "t", "s", "level", "gate", "é", ""];
 /// The fewest columns of a wide row: so many that the library finds their counterparts by tables.
 const WIDE: u64 = 17;
@@ -233,7 +236,43 @@ fn leaf(random: &mut Random) -> Leaf {
     match random.below(LEAF_KINDS) {
         code @ 0..14 => Leaf::Plain(code as u8),
         code @ 14..17 => Leaf::Plain(code as u8 + 1),
-        _ => datetime(random),
+        17..20 => datetime(random),
+        _ => decimal(random),
+    }
+}
+
+/// Often of the least or the greatest precision, or of the greatest scale.
+fn decimal(random: &mut Random) -> Leaf {
+    let any = 1 + random.below(PRECISION_LIMIT.into()) as u8;
+    let precision = random.pick(&[1, any, any, any, PRECISION_LIMIT]);
+    let any = random.below(u64::from(precision) + 1) as u8;
+    let scale = random.pick(&[0, any, any, any, precision]);
+    Leaf::Decimal { precision, scale }
+}
+
+/// Of the same scale and a precision that is no smaller.
+fn wider_decimal(random: &mut Random, precision: u8, scale: u8) -> Leaf {
+    let more = random.below(u64::from(PRECISION_LIMIT - precision) + 1) as u8;
+    let precision = precision + more;
+    Leaf::Decimal { precision, scale }
+}
+
+fn related_decimal(random: &mut Random, style: &Style, precision: u8, scale: u8) -> Leaf {
+    let change = if style.tame { 0 } else { random.below(8) };
+    match change {
+        0..5 => wider_decimal(random, precision, scale),
+        // A smaller precision, if there is one.
+        5 => {
+            let precision = scale.max(1).max(precision - 1);
+            Leaf::Decimal { precision, scale }
+        }
+        // Another scale, with the same precision or a larger one.
+        6 => {
+            let scale = (scale + 1) % (precision + 1);
+            let precision = random.pick(&[precision, PRECISION_LIMIT]);
+            Leaf::Decimal { precision, scale }
+        }
+        _ => decimal(random),
     }
 }
 
@@ -358,6 +397,7 @@ fn related_leaf(random: &mut Random, style: &Style, from: &Leaf) -> Leaf {
         Leaf::Plain(17) => Leaf::Plain(15),
         Leaf::Plain(_) => from.clone(),
         Leaf::Datetime { .. } => datetime(random),
+        Leaf::Decimal { precision, scale } => related_decimal(random, style, *precision, *scale),
     }
 }
 
@@ -429,6 +469,11 @@ fn leaf_value(random: &mut Random, leaf: &Leaf) -> Option<Vec<u8>> {
     match leaf {
         Leaf::Plain(0) => None,
         Leaf::Plain(1) => Some(vec![random.below(2) as u8]),
+        Leaf::Decimal { .. } => {
+            let mut bytes = Vec::new();
+            records::leaf_bytes(random, &mut bytes, leaf);
+            Some(bytes)
+        }
         leaf => {
             let length = match form::fixed_width(leaf) {
                 Some(width) => width,

@@ -13,6 +13,8 @@ pub enum Kind {
     Date,
     /// With its unit: 0 ns, 1 µs, 2 ms.
     Datetime(u8),
+    /// With its precision; the point, at its scale, has no effect on the bits.
+    Decimal(u8),
 }
 
 impl Kind {
@@ -26,6 +28,7 @@ impl Kind {
             Leaf::Plain(13) => Kind::Date,
             Leaf::Plain(_) => return None,
             Leaf::Datetime { unit, .. } => Kind::Datetime(*unit),
+            Leaf::Decimal { precision, .. } => Kind::Decimal(*precision),
         })
     }
 
@@ -35,7 +38,7 @@ impl Kind {
             Kind::Boolean => 1,
             Kind::Signed(bits) | Kind::Unsigned(bits) | Kind::Float(bits) => bits as usize / 8,
             Kind::Date => 4,
-            Kind::Datetime(_) => 8,
+            Kind::Datetime(_) | Kind::Decimal(_) => 8,
         }
     }
 }
@@ -86,6 +89,11 @@ impl Number {
             _ => self.bits,
         };
         Ok(Number { kind: to, bits })
+    }
+
+    /// Whether a decimal's magnitude is below ten to the precision.
+    pub fn is_within(self, precision: u8) -> bool {
+        (self.bits as i64).unsigned_abs() < 10u64.pow(precision.into())
     }
 
     fn integer(self) -> i128 {

@@ -1,6 +1,6 @@
 //! A cursor over bytes, with what layouts, tables, plans and records have in common.
 
-use crate::form::{Column, DEPTH_LIMIT, Fault, Leaf, TEXT_LIMIT, Type};
+use crate::form::{Column, DEPTH_LIMIT, Fault, Leaf, PRECISION_LIMIT, TEXT_LIMIT, Type};
 use std::collections::HashSet;
 use std::hash::Hash;
 
@@ -44,23 +44,25 @@ impl<'a> Reader<'a> {
         self.take(length)
     }
 
+    /// What follows a leaf's code.
     pub fn leaf(&mut self, code: u8) -> Result<Leaf, Fault> {
-        if code != 14 {
-            return Ok(Leaf::Plain(code));
-        }
-        let unit = self.u8()?;
-        if unit > 2 {
-            return Err(3);
-        }
-        let zone = self.text()?.to_vec();
-        Ok(Leaf::Datetime { unit, zone })
-    }
-
-    /// A type that must be a leaf.
-    pub fn leaf_type(&mut self) -> Result<Leaf, Fault> {
-        match self.u8()? {
-            code @ 0..=17 => self.leaf(code),
-            _ => Err(3),
+        match code {
+            14 => {
+                let unit = self.u8()?;
+                if unit > 2 {
+                    return Err(3);
+                }
+                let zone = self.text()?.to_vec();
+                Ok(Leaf::Datetime { unit, zone })
+            }
+            21 => {
+                let (precision, scale) = (self.u8()?, self.u8()?);
+                match (1..=PRECISION_LIMIT).contains(&precision) && scale <= precision {
+                    true => Ok(Leaf::Decimal { precision, scale }),
+                    false => Err(50),
+                }
+            }
+            code => Ok(Leaf::Plain(code)),
         }
     }
 
@@ -69,7 +71,7 @@ impl<'a> Reader<'a> {
             return Err(4);
         }
         Ok(match self.u8()? {
-            code @ 0..=17 => Type::Leaf(self.leaf(code)?),
+            code @ (0..=17 | 21) => Type::Leaf(self.leaf(code)?),
             18 => Type::Struct(self.columns(depth + 1, false)?),
             19 => Type::List(self.element(depth + 1)?),
             20 => {

@@ -17,6 +17,13 @@ pub fn cast_option(from: &Leaf, to: &Leaf) -> Option<CastOption> {
     }
     match (from, to) {
         (Leaf::Plain(0), _) | (Leaf::Plain(17), Leaf::Plain(15)) => Some(CastOption::NonStrict),
+        (
+            Leaf::Decimal { precision, scale },
+            Leaf::Decimal {
+                precision: wider,
+                scale: same,
+            },
+        ) => (precision < wider && scale == same).then_some(CastOption::NonStrict),
         _ => number_option(Kind::of(from)?, Kind::of(to)?),
     }
 }

@@ -34,13 +34,14 @@ impl<'a> Reader<'a> {
             return Ok(Value::Text(self.take(length.into())?));
         };
         let number = Number::from_bytes(kind, self.take(kind.width())?);
-        if kind == Kind::Boolean && number.bits > 1 {
-            return Err(3);
+        match kind {
+            Kind::Boolean if number.bits > 1 => Err(3),
+            Kind::Decimal(precision) if !number.is_within(precision) => Err(52),
+            _ => Ok(Value::Number(number)),
         }
-        Ok(Value::Number(number))
     }
 
-    /// 2 where the bytes end, 3 where they are bad.
+    /// 2 where the bytes end, 3 where they are bad, 52 where a decimal is too large.
     pub fn value(&mut self, type_: &Type) -> Result<Value<'a>, Fault> {
         if let Type::Leaf(leaf) = type_ {
             return self.leaf_value(leaf);
@@ -76,7 +77,7 @@ impl<'a> Reader<'a> {
     }
 }
 
-/// One value a column: 43, then 40 and 41, then 42.
+/// One value a column: 43, then 40, 41 and 52, then 42.
 pub fn read_record<'a>(columns: &[Column], bytes: &'a [u8]) -> Result<Vec<Value<'a>>, Fault> {
     if bytes.len() > RECORD_LIMIT {
         return Err(43);
@@ -84,6 +85,7 @@ pub fn read_record<'a>(columns: &[Column], bytes: &'a [u8]) -> Result<Vec<Value<
     let mut reader = Reader::new(bytes, 1);
     let values = reader.fields(columns).map_err(|fault| match fault {
         2 => 40u32,
+        52 => 52,
         _ => 41,
     })?;
     reader.end(values).map_err(|_| 42)

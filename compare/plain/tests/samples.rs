@@ -1,6 +1,7 @@
-//! S1 to S12 of document 01 on the check and the run. Where a sample speaks of a build, its plan is written here.
+//! S1 to S12 of document 01 on the check and the run, and the limits of decimals in document 02, L1. Where a sample speaks of a build, its plan is
+//! written here.
 
-use plain::call::{Refusal, check_plan, run};
+use plain::call::{Refusal, check_plan, read_layout, run};
 use plain::form::{Column, Layout, Leaf, Type, write_layout};
 use plain::rules::CastOption::{self, NonStrict, Overflowing, Strict};
 use plain::write::{array_mapping, cast, plan, position, struct_mapping};
@@ -14,6 +15,10 @@ fn leaf(code: u8) -> Type {
 fn time(unit: u8, zone: &str) -> Type {
     let zone = zone.as_bytes().to_vec();
     Type::Leaf(Leaf::Datetime { unit, zone })
+}
+
+fn decimal(precision: u8, scale: u8) -> Type {
+    Type::Leaf(Leaf::Decimal { precision, scale })
 }
 
 fn column(name: &str, type_: Type) -> Column {
@@ -137,5 +142,44 @@ fn s12_array_widths() {
     for selector in [position(0), array_mapping(&position(0), &position(0))] {
         assert_eq!(one(&array(2), &array(3), &selector, &[0]), Err(33));
         assert_eq!(one(&array(2), &array(2), &selector, &[0]), Ok(vec![0]));
+    }
+}
+
+#[test]
+fn l1_limits_of_precision_and_scale() {
+    for (precision, scale) in [(1, 0), (1, 1), (18, 0), (18, 18)] {
+        assert_eq!(read_layout(&layout(&decimal(precision, scale))), Ok(()));
+    }
+    for (precision, scale) in [(0, 0), (19, 0), (1, 2), (18, 19)] {
+        let refused = read_layout(&layout(&decimal(precision, scale)));
+        assert_eq!(refused, Err(Refusal::of(50)));
+    }
+}
+
+#[test]
+fn l1_limits_of_the_magnitude() {
+    let type_ = decimal(18, 0);
+    let run = |value: i64| {
+        let record = present(&value.to_le_bytes());
+        one(&type_, &type_, &position(0), &record).map(|output| output == record)
+    };
+    let limit = 1_000_000_000_000_000_000;
+    assert_eq!([run(limit - 1), run(1 - limit)], [Ok(true), Ok(true)]);
+    assert_eq!([run(limit), run(-limit)], [Err(52), Err(52)]);
+}
+
+#[test]
+fn l1_a_larger_precision_at_the_same_scale() {
+    let value = 12_340i64.to_le_bytes();
+    let salinity = decimal(6, 3);
+    let kept = converted(&salinity, &decimal(9, 3), NonStrict, &value);
+    assert_eq!(kept, Ok(value.to_vec()));
+    for (to, option) in [
+        (decimal(9, 3), Strict),
+        (decimal(5, 3), NonStrict),
+        (decimal(9, 4), NonStrict),
+        (salinity.clone(), NonStrict),
+    ] {
+        assert_eq!(converted(&salinity, &to, option, &value), Err(32));
     }
 }

@@ -58,7 +58,7 @@ fn layouts() {
         let given = call::read_layout(&layout).map(|()| Vec::new());
         assert_eq!(given, words.answer(false), "{line}");
     });
-    assert_eq!(count, 1_669);
+    assert_eq!(count, 2_049);
 }
 
 #[test]
@@ -68,7 +68,7 @@ fn checks() {
         let given = call::check_plan(&incoming, &target, &plan).map(|()| Vec::new());
         assert_eq!(given, words.answer(false), "{line}");
     });
-    assert_eq!(count, 389);
+    assert_eq!(count, 426);
 }
 
 #[test]
@@ -80,7 +80,7 @@ fn runs() {
         let given = call::run(&incoming, &target, &plan, &record, space);
         assert_eq!(given, words.answer(true), "{line}");
     });
-    assert_eq!(count, 383);
+    assert_eq!(count, 432);
 }
 
 /// A build's plan passes the check, and its run over records that fit gives what is due.
@@ -129,5 +129,5 @@ fn builds() {
     let numbers = each("build_number", |line, words| {
         built(&mut random, line, true, words)
     });
-    assert_eq!((names, numbers), (677, 683));
+    assert_eq!((names, numbers), (764, 788));
 }

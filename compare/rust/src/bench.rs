@@ -146,17 +146,54 @@ fn widest(version: u8) -> (usize, Vec<u8>) {
     (count, form::write_layout(&Layout { version, columns }))
 }
 
-fn case(version: u8, count: usize, order: Order, place: Place) -> Case {
+/// By name or by number, as the layouts' version asks.
+fn of_layouts(version: u8, incoming: Vec<u8>, target: Vec<u8>) -> Case {
     let number = (version == 2).then(|| Number {
         source_index: 0,
         defaults: form::write_defaults(&[]),
     });
     Case {
         policy: ALL,
-        incoming: layout(version, count, Role::Incoming, order, place),
-        target: layout(version, count, Role::Target, order, place),
+        incoming,
+        target,
         number,
     }
+}
+
+fn case(version: u8, count: usize, order: Order, place: Place) -> Case {
+    let layout = |role: Role| layout(version, count, role, order, place);
+    of_layouts(version, layout(Role::Incoming), layout(Role::Target))
+}
+
+/// Columns of one leaf type.
+fn layout_of(version: u8, count: usize, leaf: &Leaf) -> Vec<u8> {
+    let column = |index: usize| Column {
+        name: format!("reading_{index}").into_bytes(),
+        id: 1 + index as u32,
+        type_: Type::Leaf(leaf.clone()),
+    };
+    let columns = (0..count).map(column).collect();
+    form::write_layout(&Layout { version, columns })
+}
+
+/// Of the scale 3.
+fn decimal(precision: u8) -> Leaf {
+    Leaf::Decimal {
+        precision,
+        scale: 3,
+    }
+}
+
+/// Columns that each are made a wider decimal.
+fn widened(version: u8, count: usize) -> Case {
+    let layout = |precision: u8| layout_of(version, count, &decimal(precision));
+    of_layouts(version, layout(6), layout(9))
+}
+
+/// Columns of the same names that each are made a wider float, by the same option.
+fn floats(version: u8, count: usize) -> Case {
+    let layout = |code: u8| layout_of(version, count, &Leaf::Plain(code));
+    of_layouts(version, layout(11), layout(12))
 }
 
 // Records.
@@ -165,6 +202,7 @@ fn case(version: u8, count: usize, order: Order, place: Place) -> Case {
 fn write_value(bytes: &mut Vec<u8>, type_: &Type) {
     bytes.push(1);
     match type_ {
+        Type::Leaf(Leaf::Decimal { .. }) => bytes.extend(12_340u64.to_le_bytes()),
         Type::Leaf(leaf) => match form::fixed_width(leaf) {
             Some(width) => bytes.extend(&[5, 4, 3, 2, 1, 0, 0, 0][..width]),
             None => bytes.extend(b"\x07\x00reading"),
@@ -277,6 +315,41 @@ fn building(name: &str, count: usize, case: &Case) -> Result<(), String> {
         },
         || {
             black_box(oracle::original(black_box(case))).ok();
+        },
+    );
+    Ok(())
+}
+
+/// The plan of `widened`.
+fn widening_plan(count: usize) -> Vec<u8> {
+    let wider = Type::Leaf(decimal(9));
+    let cast = |index: usize| {
+        write::cast(
+            &write::position(index as u16),
+            &wider,
+            CastOption::NonStrict,
+        )
+    };
+    write::plan(&(0..count).map(cast).collect::<Vec<_>>())
+}
+
+/// The original has no cast between decimals: it builds floats in their place.
+fn building_decimals(name: &str, version: u8, count: usize) -> Result<(), String> {
+    let (ours, theirs) = (widened(version, count), floats(version, count));
+    let mut plan = vec![0u8; PLAN_LIMIT];
+    let length = Library.build(&ours, &mut plan) as usize;
+    let built = matches!(oracle::original(&theirs), Ok(Answer::Plan(_)));
+    if !built || plan.get(..length) != Some(widening_plan(count).as_slice()) {
+        return Err(differs(name));
+    }
+    line(
+        name,
+        count,
+        || {
+            black_box(Library.build(black_box(&ours), &mut plan));
+        },
+        || {
+            black_box(oracle::original(black_box(&theirs))).ok();
         },
     );
     Ok(())
@@ -416,6 +489,8 @@ impl Planned {
 
 const SMALL: usize = 12;
 const MIDDLE: usize = 100;
+/// The most columns of decimals that are measured; as many fit a layout of either version.
+const MANY: usize = 860;
 
 /// The largest count that is admitted, in steps of ten.
 fn largest(admitted: impl Fn(usize) -> bool) -> usize {
@@ -481,5 +556,36 @@ pub fn run() -> Result<(), String> {
         }
         planned(way, built(Order::Reversed, place))?;
     }
-    planned("everything twice", Planned::twice)
+    planned("everything twice", Planned::twice)?;
+    decimals()
+}
+
+/// Reading, building, checking and running columns of decimals, each made a wider one.
+fn decimals() -> Result<(), String> {
+    println!(
+        "Decimals, each made a wider one (the original, which has no such cast, builds wider floats of the same names):"
+    );
+    let counts = [SMALL, MIDDLE, MANY];
+    for version in [1, 2] {
+        let name = format!("reading, version {version}, decimals");
+        for count in counts {
+            reading(&name, count, &layout_of(version, count, &decimal(9)))?;
+        }
+    }
+    for (version, name) in [
+        (1, "building by name, decimals"),
+        (2, "building by number, decimals"),
+    ] {
+        for count in counts {
+            building_decimals(name, version, count)?;
+        }
+    }
+    let planned = |count: usize| Planned::of(widened(1, count), widening_plan(count)).unwrap();
+    for count in counts {
+        planned(count).checking("checking, decimals", count)?;
+    }
+    for count in counts {
+        planned(count).running("running, decimals", count)?;
+    }
+    Ok(())
 }

@@ -1,10 +1,11 @@
-//! Cases written by hand, at the edges of document 01's rules.
+//! Cases written by hand, at the edges of the rules of documents 01 and 02.
 
 use plain::case::{Case, Number};
 use plain::form::{Column, Default, Entry, Layout, Leaf, LeafValue, Type};
 use plain::form::{write_defaults, write_layout};
 use plain::policy::{
-    self, DATETIME_CONVERT_TIMEZONE, EXTRA_STRUCT_FIELDS, MISSING_COLUMNS, MISSING_STRUCT_FIELDS,
+    self, DATETIME_CONVERT_TIMEZONE, DECIMAL_WIDENING, EXTRA_STRUCT_FIELDS, MISSING_COLUMNS,
+    MISSING_STRUCT_FIELDS, NULL_UPCAST,
 };
 
 /// Every flag on, and bit 15, which is kept for extra top columns.
@@ -23,6 +24,10 @@ fn leaf(code: u8) -> Type {
 fn datetime(unit: u8, zone: &str) -> Type {
     let zone = zone.as_bytes().to_vec();
     Type::Leaf(Leaf::Datetime { unit, zone })
+}
+
+fn decimal(precision: u8, scale: u8) -> Type {
+    Type::Leaf(Leaf::Decimal { precision, scale })
 }
 
 fn list(id: u32, type_: Type) -> Type {
@@ -93,6 +98,7 @@ pub fn cases() -> Vec<Case> {
     structs(&mut cases);
     elements(&mut cases);
     defaults(&mut cases);
+    decimals(&mut cases);
     cases
 }
 
@@ -237,4 +243,35 @@ fn defaults(cases: &mut Vec<Case>) {
     // Nothing is missing, so that nothing is asked for.
     cases.push(by_number(ALL, &top(&field), &top(&field), &entries));
     cases.push(by_number(ALL, &top(&field), &top(&field), &failed));
+}
+
+/// Decimals, with the flag for their widening off: equal ones, a widening, and pairs that no flag allows, alone, as a field and as an element.
+fn decimals(cases: &mut Vec<Case>) {
+    let policy = ALL & !DECIMAL_WIDENING;
+    let field = |type_: &Type| structure(&[int8("z", 2), column("a", 3, type_.clone())]);
+    let element = |type_: &Type| list(4, structure(&[column("a", 5, type_.clone())]));
+    for (to, scale) in [(6, 3), (7, 3), (18, 3), (5, 3), (6, 2), (9, 4), (9, 2)] {
+        let (from, to) = (decimal(6, 3), decimal(to, scale));
+        cases.extend(both(policy, &from, &to));
+        cases.extend(both(policy, &field(&from), &field(&to)));
+        cases.extend(both(policy, &element(&from), &element(&to)));
+    }
+    for other in [leaf(5), leaf(12), leaf(15), structure(&[])] {
+        cases.extend(both(ALL, &decimal(18, 0), &other));
+        cases.extend(both(ALL, &other, &decimal(18, 0)));
+    }
+    cases.extend(both(ALL, &leaf(0), &decimal(1, 1)));
+    cases.extend(both(ALL & !NULL_UPCAST, &leaf(0), &decimal(1, 1)));
+    // The place of a widening is 0, that of what comes before it is not.
+    let top =
+        |second: Type, third: Type| [int8("a", 1), column("b", 2, second), column("c", 3, third)];
+    let from = top(decimal(6, 3), decimal(6, 3));
+    cases.push(by_name(policy, &from, &top(decimal(6, 3), decimal(9, 3))));
+    cases.push(by_name(policy, &from, &top(decimal(6, 2), decimal(9, 3))));
+    cases.push(by_name(policy, &from, &top(decimal(9, 3), decimal(6, 2))));
+    // A missing field of a struct is null, of a type that only the target has.
+    let empty = [column("t", 1, structure(&[]))];
+    let salinity = [column("t", 1, structure(&[column("a", 2, decimal(9, 3))]))];
+    cases.push(by_name(ALL, &empty, &salinity));
+    cases.push(by_number(ALL, &empty, &salinity, &[]));
 }

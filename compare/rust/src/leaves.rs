@@ -1,10 +1,12 @@
-//! Every pair of leaf kinds, date-times with four zones, by name and by number.
+//! Every pair of leaf kinds, date-times with four zones, decimals with four pairs of precision and scale, by name and by number.
 
+use crate::decimals;
 use plain::case::{Case, Number};
 use plain::form::{Column, Layout, Leaf, Type, write_defaults, write_layout};
 use plain::policy::{ALL, BITS};
 
 const ZONES: [&str; 4] = ["", "UTC", "Europe/Oslo", "Etc/UTC"];
+const DECIMALS: [(u8, u8); 4] = [(6, 3), (9, 3), (9, 2), (18, 3)];
 
 fn leaves() -> Vec<Leaf> {
     let mut leaves: Vec<Leaf> = (0..=17)
@@ -17,6 +19,7 @@ fn leaves() -> Vec<Leaf> {
             Leaf::Datetime { unit, zone }
         }));
     }
+    leaves.extend(DECIMALS.map(|(precision, scale)| Leaf::Decimal { precision, scale }));
     leaves
 }
 
@@ -27,7 +30,7 @@ pub fn single_flags() -> Vec<u32> {
     [ALL, 0].into_iter().chain(off).chain(bits).collect()
 }
 
-/// Every setting of the flags for leaves.
+/// Every setting of the original's flags for leaves.
 pub fn all_flags() -> Vec<u32> {
     (0..1 << 11).map(|flags| ALL & !0x7FF | flags).collect()
 }
@@ -66,6 +69,6 @@ pub fn cases(policies: Vec<u32>) -> impl Iterator<Item = Case> {
                 defaults: write_defaults(&[]),
             }),
         };
-        pairs.clone().into_iter().map(case)
+        pairs.clone().into_iter().map(case).map(decimals::flag_off)
     })
 }

@@ -7,6 +7,7 @@ pub mod bench;
 pub mod beside;
 #[cfg(feature = "library")]
 mod clock;
+pub mod decimals;
 pub mod edges;
 pub mod json;
 pub mod leaves;

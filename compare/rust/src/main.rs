@@ -1,7 +1,7 @@
 use compare::leaves;
 use compare::oracle::{self, Answer, Aside};
 use compare::statistics::Statistics;
-use compare::{list, sample, vectors};
+use compare::{decimals, list, sample, vectors};
 use plain::case::Case;
 use plain::generate;
 use plain::random::Random;
@@ -74,7 +74,7 @@ fn run(
 
 fn generated(options: &Options) -> impl Iterator<Item = Case> {
     let mut random = Random::new(options.seed);
-    std::iter::from_fn(move || Some(generate::case(&mut random)))
+    std::iter::from_fn(move || Some(decimals::flag_off(generate::case(&mut random))))
 }
 
 fn leaf_pairs(options: &Options) -> impl Iterator<Item = Case> {

@@ -1,10 +1,12 @@
 //! What the original answers to a case: its arguments turned into the original's types, its selectors into plan bytes, its errors
 //! into numbers.
 
+use crate::decimals;
 use crate::nodes::io_sources::multi_scan::components::column_selector::ColumnSelector;
 use crate::nodes::io_sources::multi_scan::components::column_selector::builder::ColumnSelectorBuilder;
 use crate::nodes::io_sources::multi_scan::components::column_selector::transform::ColumnTransform;
 use crate::nodes::io_sources::multi_scan::components::default_field_values::IcebergDefaultValueProviderRef;
+use plain::call::Refusal;
 use plain::case::Case;
 use plain::form::{self, Column, Default, Entry, Layout, Leaf, LeafValue, Type};
 use plain::policy;
@@ -37,6 +39,8 @@ pub enum Aside {
     MissingTop,
     /// By number, a field is missing in a struct whose default is a value or an error.
     StructDefault,
+    /// Decimals stand in both layouts, and the flag for their widening is on.
+    Widening,
     /// The plan is longer than the buffer or the limit.
     Space,
 }
@@ -57,12 +61,20 @@ pub fn answer(case: &Case) -> Result<Answer, Aside> {
 
 /// The original's answer, also where a struct's default is a value or an error.
 pub fn original(case: &Case) -> Result<Answer, Aside> {
-    let unreadable = |place: u32| move |number: u32| Aside::Unreadable { number, place };
+    let unreadable = |place: u32| {
+        move |number: u32| {
+            let Refusal { number, place } = Refusal::of_input(place)(number);
+            Aside::Unreadable { number, place }
+        }
+    };
     let incoming = form::read_layout(&case.incoming).map_err(unreadable(1))?;
     let target = form::read_layout(&case.target).map_err(unreadable(2))?;
     let version = if case.number.is_some() { 2 } else { 1 };
     if incoming.version != version || target.version != version {
         return Err(Aside::Version);
+    }
+    if case.policy & policy::DECIMAL_WIDENING != 0 && decimals::in_both(&incoming, &target) {
+        return Err(Aside::Widening);
     }
     match &case.number {
         None => by_name(case.policy, &incoming, &target),
@@ -194,6 +206,9 @@ fn leaf_dtype(leaf: &Leaf) -> Result<DataType, Aside> {
             };
             DataType::Datetime(unit, zone)
         }
+        Leaf::Decimal { precision, scale } => {
+            DataType::Decimal((*precision).into(), (*scale).into())
+        }
     })
 }
 
@@ -273,7 +288,7 @@ fn defaults(entries: &[Entry]) -> Result<IcebergDefaultFieldValues, Aside> {
 
 fn refused(error: PolarsError, place: usize) -> Answer {
     let number = number(&error).unwrap_or_else(|| panic!("an error without a number: {error}"));
-    let place = place as u32;
+    let place = if number == 51 { 0 } else { place as u32 };
     Answer::Refused { number, place }
 }
 
@@ -297,7 +312,27 @@ const HINTS: [(&str, u32); 16] = [
     ("physical ID mismatch for fixed size list values column", 25),
 ];
 
-/// Document 01's number of an error, by its kind and text.
+/// Precision and scale of a decimal, as a text has its type.
+fn decimal(text: &str) -> Option<(u8, u8)> {
+    let numbers = text.strip_prefix("Decimal(")?.strip_suffix(")")?;
+    let (precision, scale) = numbers.split_once(", ")?;
+    Some((precision.parse().ok()?, scale.parse().ok()?))
+}
+
+/// A mismatch that says no more: 24, and 51 where its two types are decimals that the flag, which the original lacks, would widen.
+fn plain_mismatch(text: &str) -> u32 {
+    let types = || {
+        let (rest, target) = text.rsplit_once(" != target: ")?;
+        let (_, incoming) = rest.rsplit_once(": incoming: ")?;
+        Some((decimal(incoming)?, decimal(target)?))
+    };
+    match types() {
+        Some(((precision, scale), (wider, same))) if precision < wider && scale == same => 51,
+        _ => 24,
+    }
+}
+
+/// The number of an error by documents 01 and 02, from its kind and text.
 fn number(error: &PolarsError) -> Option<u32> {
     match error {
         PolarsError::ColumnNotFound(_) => Some(11),
@@ -310,7 +345,7 @@ fn number(error: &PolarsError) -> Option<u32> {
         PolarsError::ComputeError(_) => None,
         PolarsError::SchemaMismatch(text) => {
             let hint = HINTS.iter().find(|(hint, _)| text.ends_with(hint));
-            Some(hint.map_or(24, |(_, number)| *number))
+            Some(hint.map_or_else(|| plain_mismatch(text), |(_, number)| *number))
         }
     }
 }
@@ -403,8 +438,10 @@ fn write_dtype(bytes: &mut Vec<u8>, dtype: &DataType) {
         DataType::Struct(_) => 18,
         DataType::List(_) => 19,
         DataType::Array(..) => 20,
+        DataType::Decimal(..) => 21,
     });
     match dtype {
+        DataType::Decimal(precision, scale) => bytes.extend([*precision as u8, *scale as u8]),
         DataType::Datetime(unit, zone) => {
             bytes.push(match unit {
                 TimeUnit::Nanoseconds => 0,

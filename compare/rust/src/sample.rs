@@ -1,5 +1,6 @@
 //! The stored list: cases at the edges and a varied selection of short generated ones, with the original's answers.
 
+use crate::decimals;
 use crate::edges;
 use crate::leaves;
 use crate::list;
@@ -26,7 +27,7 @@ pub fn lines(seed: u64) -> Vec<String> {
         candidate(&mut groups, &mut random, &case);
     }
     for _ in 0..GENERATED {
-        let case = generate::case(&mut random);
+        let case = decimals::flag_off(generate::case(&mut random));
         candidate(&mut groups, &mut random, &case);
     }
     let selected = groups

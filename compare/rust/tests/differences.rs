@@ -1,11 +1,11 @@
-//! Where the original differs from document 01, with the smallest inputs.
+//! Where the original differs from documents 01 and 02, with the smallest inputs.
 
 use compare::oracle::{Answer, Aside, answer, original};
 use plain::case::{Case, Number};
 use plain::form::{Column, Default, Entry, LAYOUT_LIMIT, Layout, Leaf, PLAN_LIMIT, Type};
 use plain::form::{write_defaults, write_layout};
-use plain::policy::ALL;
 use plain::hex::hex;
+use plain::policy::{ALL, DECIMAL_WIDENING};
 
 const INT8: Leaf = Leaf::Plain(2);
 
@@ -99,6 +99,31 @@ fn a_default_of_another_type_is_taken() {
     let expected = format!("504c4e01000100{}{constant}", "040000000100");
     assert_eq!(plan(&original(&case).unwrap()), expected);
     assert_eq!(answer(&case), Err(Aside::StructDefault));
+}
+
+#[test]
+fn a_wider_decimal_is_a_plain_mismatch() {
+    let layout = |precision: u8, scale: u8| {
+        let type_ = Type::Leaf(Leaf::Decimal { precision, scale });
+        let columns = vec![int8("a", 1), column("t", 2, type_)];
+        write_layout(&Layout {
+            version: 1,
+            columns,
+        })
+    };
+    let case = |policy: u32, precision: u8, scale: u8| Case {
+        policy,
+        incoming: layout(1, 0),
+        target: layout(precision, scale),
+        number: None,
+    };
+    let refused = |number: u32, place: u32| Ok(Answer::Refused { number, place });
+    let off = ALL & !DECIMAL_WIDENING;
+    // By document 02 it is 51, and its place is 0; the original says no more than of any mismatch.
+    assert_eq!(answer(&case(off, 2, 0)), refused(51, 0));
+    assert_eq!(answer(&case(off, 2, 1)), refused(24, 1));
+    assert_eq!(answer(&case(off, 1, 1)), refused(24, 1));
+    assert_eq!(answer(&case(ALL, 2, 0)), Err(Aside::Widening));
 }
 
 #[test]

@@ -24,7 +24,7 @@ use Rattle.forms.proofs.Heads.{count-fields}
 use Rattle.forms.proofs.Read.{chosen, ok-eq}
 use borrow.Author.Tests.{eqb-true}
 use Rattle.forms.proofs.Comparing.{split, Split}
-use Rattle.values.specs.Record.{renumber}
+use Rattle.values.proofs.Inside.{renumber-ok}
 use Rattle.plan.specs.Result.{Result, gives, refuses, _>>=_, demand, Answer, accepted, refusedAt, placed, answered}
 use Rattle.plan.specs.Selector.{Selector, Selectors, snil, scons, countSelectors, nesting, nestingAll}
 use Rattle.plan.specs.Check.{Column, typeOf, typesOf, topTypes, against, check}
@@ -395,11 +395,6 @@ pub record PlanAt (s : Bytes) (n : ℕ) : Type 0 where
   pub small : length s ≤ 65536
   pub nests : nestingAll parts ≤ 64
 
-renumbered-ok : {A : Type 0} (f : ℕ → ℕ) (x : Res A) {a : A} {m : ℕ} → renumber f x ≡ ok a m → x ≡ ok a m
-unfolding renumber
-renumbered-ok f (refuse n) e = clash (cc)
-renumbered-ok f (ok a m) e = e
-
 record Read (s : Bytes) (ss : Selectors) : Type 0 where
   count : ℕ
   end : ℕ
@@ -409,7 +404,7 @@ record Read (s : Bytes) (ss : Selectors) : Type 0 where
 read-at : (s : Bytes) {ss : Selectors} {m : ℕ} → readPlan s ≡ ok ss m → Read s ss
 unfolding readPlan planFrom planCounted planSized planVersion ended
 read-at s {ss} {m} e =
-    let e = renumbered-ok (λ n. 30) (planFrom s 0) e in
+    let e = renumber-ok (λ n. 30) (planFrom s 0) e in
     let (x, i, h, e) = next-ok _ _ e in
     let (x, i₁, h₁, e) = next-ok _ _ e in
     let (b, h₁) = chosen _ _ _ h₁ in

@@ -18,6 +18,7 @@ fn width(kind: Leaf) -> usize
         Content::Nothing => 0,
         Content::Flag => 1,
         Content::Number(w) => w as usize,
+        Content::Decimal(_) => 8,
         Content::Text => 0,
     }
 }

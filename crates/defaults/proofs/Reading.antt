@@ -18,7 +18,9 @@ use Rattle.layout.specs.declared.cursor.Moved.{Moved}
 use Rattle.layout.proofs.Ways.{clash, moved-to, moved-refused}
 use Rattle.layout.proofs.View.{next-ok}
 use Rattle.layout.proofs.Whole.{byte-at, u16-at}
-use Rattle.defaults.specs.Table.{Given, initial, partition, failed, Entry, sameKind, repeatsEntry, repeatsAnyEntry, initialEntry, loadedEntry, partitionEntry, givenOf, entry, entries}
+use Rattle.defaults.specs.Table.{Given, initial, partition, failed, Entry, sameKind, repeatsEntry, repeatsAnyEntry, initialEntry, loadedEntry, partitionEntry, givenOf, tableNumber, entry, entries}
+use Rattle.values.specs.Record.{renumber}
+use Rattle.values.proofs.Inside.{renumber-ok}
 use Rattle.defaults.specs.Scan.{kindByte, isOf, scan}
 use Rattle.defaults.specs.Answers.{entryOf}
 use Rattle.defaults.specs.declared.read.EntryRead.{EntryRead}
@@ -73,7 +75,7 @@ u32-at s at {n} {m} h =
 -- ---- an entry
 
 entry-made : (s : Bytes) (at : ℕ) {i k d g m : ℕ} {x : Given} → u32 s at ≡ ok i d → byte s d ≡ ok k g → givenOf k s g ≡ ok x m → entry s at ≡ ok (record { id = record { 0 = i }; given = x }) m
-unfolding entry next
+unfolding entry next renumber
 entry-made s at a b c = rw (a, b, c)
 
 module _ (s : Bytes) (at : ℕ) {p : Long} (e : longRes p ≡ u32 s at) where
@@ -87,9 +89,9 @@ module _ (s : Bytes) (at : ℕ) {p : Long} (e : longRes p ≡ u32 s at) where
     entry-unkind h = rw (← e, f, ← g, h)
 
     module _ {k : ℕ} {o : Cursor} (h : q ≡ Step.Byte k o) {r : Moved} (t : r ≡ movedOf (givenOf k s (o .at))) where
-      pub entry-broken : {n : ℕ} → r ≡ Moved.Refused n → EntryRead.Refused n ≡ entryOf at (entry s at)
-      unfolding entry next entryOf
-      entry-broken u = rw (← e, f, ← g, h, moved-refused (givenOf k s (o .at)) t u)
+      pub entry-broken : {n m : ℕ} → r ≡ Moved.Refused n → m ≡ tableNumber n → EntryRead.Refused m ≡ entryOf at (entry s at)
+      unfolding entry next renumber entryOf
+      entry-broken u x = rw (← e, f, ← g, h, moved-refused (givenOf k s (o .at)) t u, x)
 
       pub entry-read : {m : Cursor} → r ≡ Moved.To m → EntryRead.Is (record { 0 = i }) k o m ≡ entryOf at (entry s at)
       unfolding entryOf
@@ -140,6 +142,7 @@ entry-given s at {t} {m} q =
     let (i, d, a, b) = next-ok _ _ q in
     let (k, g, a₁, b₁) = next-ok _ _ b in
     let (x, o, a₂, b₂) = next-ok _ _ b₁ in
+    let a₂ = renumber-ok tableNumber (givenOf k s g) a₂ in
     let u = u32-at s at a in
     let v = byte-at s d a₁ in
     let w : g ≡ at + 5 = omega arith in

@@ -6,12 +6,15 @@ use lib.ListN.{replicate, take}
 use Rattle.layout.specs.Bytes.{Bytes, sameBytes}
 use Rattle.layout.specs.Parser.{Res, refuse, ok, next, choose, byte, chunk, u16, u32}
 use Rattle.layout.specs.Tree.{integer}
-use Rattle.layout.specs.Layout.{text, unit, leafKind, datetimeKind, sized, ended}
+use Rattle.layout.specs.Layout.{text, unit, leafKind, datetimeKind, decimalParams, decimalKind, sized, ended}
 use Rattle.layout.specs.declared.leaf.Leaf.{Leaf}
+use Rattle.values.specs.Record.{renumber}
 use Rattle.values.specs.Value.{vnull, vnumber, vnil, vcons}
-use Rattle.values.specs.Reading.{presence, nullable, flag, little, longText, contentBy, leafContent, content, value, times}
-use Rattle.defaults.specs.Table.{Given, initial, partition, failed, Entry, sameKind, repeatsAnyEntry, onlyLeaf, defaultType, initialEntry, loadedEntry, partitionEntry, givenOf, entry, entries, tableVersion, tableFrom, table}
+use Rattle.values.specs.Reading.{presence, nullable, flag, little, decimal, longText, contentBy, leafContent, content, value, times}
+use Rattle.defaults.specs.Table.{Given, initial, partition, failed, Entry, sameKind, repeatsAnyEntry, onlyLeaf, defaultType, initialEntry, loadedEntry, partitionEntry, givenOf, tableNumber, entry, entries, tableVersion, tableFrom, table}
 use Rattle.defaults.specs.Lookup.{Taken, refused, nothing, taken, unlessNull, ofSource, givenTo, firstEntry, getDefaultValue}
+use Rattle.numeric.specs.Integers.{signed}
+use Rattle.numeric.specs.Decimals.{withinPrecision}
 use Rattle.numeric.specs.declared.integers.Integer.the-variants.{Int8}
 
 -- `DEF`, version 1, n entries
@@ -20,7 +23,7 @@ tabled n rest = 0x44 ∷ 0x45 ∷ 0x46 ∷ 1 ∷ 0 ∷ n ∷ 0 ∷ rest
 
 -- opens every definition that a sample computes through
 computed : Bytes → Res (List Entry)
-unfolding table tableFrom tableVersion sameBytes sized ended entries entry givenOf partitionEntry loadedEntry initialEntry defaultType onlyLeaf sameKind repeatsAnyEntry leafKind datetimeKind unit text byte chunk u16 u32 value content presence nullable flag little longText contentBy leafContent times next choose
+unfolding table tableFrom tableVersion sameBytes sized ended entries entry tableNumber renumber givenOf partitionEntry loadedEntry initialEntry defaultType onlyLeaf sameKind repeatsAnyEntry leafKind datetimeKind unit text byte chunk u16 u32 value content presence nullable flag little longText contentBy leafContent times next choose decimalKind decimalParams decimal withinPrecision signed
 computed s = table s
 
 -- the default of an id, where the table is read
@@ -94,9 +97,21 @@ repeated-unknown = refl
 -- ---- types, kinds and load bytes
 
 -- a struct's, list's or array's code is 3, even where the bytes end after it
-nested : map (λ c. numberOf (table (tabled 1 (5 ∷ 0 ∷ 0 ∷ 0 ∷ 0 ∷ c ∷ [])))) (18 ∷ 19 ∷ 20 ∷ 21 ∷ []) ≡ 3 ∷ 3 ∷ 3 ∷ 3 ∷ []
+nested : map (λ c. numberOf (table (tabled 1 (5 ∷ 0 ∷ 0 ∷ 0 ∷ 0 ∷ c ∷ [])))) (18 ∷ 19 ∷ 20 ∷ 22 ∷ []) ≡ 3 ∷ 3 ∷ 3 ∷ 3 ∷ []
 unfolding computed
 nested = refl
+
+-- a decimal: the faults of 50 and 52 are 3; an early end is 2
+abbrev scaled : ℕ → ℕ → ℕ → Bytes
+scaled p c b = tabled 1 (5 ∷ 0 ∷ 0 ∷ 0 ∷ 0 ∷ 21 ∷ p ∷ c ∷ 1 ∷ b ∷ 0 ∷ 0 ∷ 0 ∷ 0 ∷ 0 ∷ 0 ∷ 0 ∷ [])
+
+decimals : map (λ s. numberOf (table s)) (scaled 1 0 9 ∷ scaled 1 0 10 ∷ scaled 0 0 0 ∷ scaled 19 0 0 ∷ scaled 3 4 0 ∷ []) ≡ 0 ∷ 3 ∷ 3 ∷ 3 ∷ 3 ∷ []
+unfolding computed
+decimals = refl
+
+decimal-ends : map (λ n. numberOf (table (take n (scaled 1 0 10)))) (13 ∷ 14 ∷ 15 ∷ 23 ∷ []) ≡ 2 ∷ 2 ∷ 2 ∷ 2 ∷ []
+unfolding computed
+decimal-ends = refl
 
 unknown-kind : table (tabled 1 (5 ∷ 0 ∷ 0 ∷ 0 ∷ 2 ∷ [])) ≡ refuse 3
 unfolding computed

@@ -23,7 +23,7 @@ use Rattle.values.specs.Reading.{presence, nullable, little, contentBy, leafCon
 use Rattle.values.specs.Answers.{presenceRes}
 use Rattle.values.specs.Stands.{ValueAt, EachAt}
 use Rattle.values.specs.declared.content.Content.{Content}
-use Rattle.values.specs.declared.content.Content.the-variants.{Nothing, Flag, Number, Text}
+use Rattle.values.specs.declared.content.Content.the-variants.{Nothing, Flag, Number, Decimal, Text}
 use Rattle.values.specs.declared.leaf.Presence.{Presence}
 use Rattle.defaults.specs.Table.{initial, partition, failed, defaultType, initialEntry, loadedEntry, partitionEntry, givenOf}
 use Rattle.defaults.specs.Lookup.{Taken, nothing, taken, isNullValue, unlessNull, ofSource, givenTo}
@@ -45,6 +45,7 @@ unfolding contentBy
 content-present Nothing k s at e = clash (cc)
 content-present Flag k s at {v} e = let (b, i, a, h) = next-ok _ _ e in let z : v ≡ vnumber k b = cc in ap isNullValue z
 content-present (Number w) k s at {v} e = let (b, i, a, h) = next-ok _ _ e in let z : v ≡ vnumber k (little b) = cc in ap isNullValue z
+content-present (Decimal p) k s at {v} e = let (n, i, a, h) = next-ok _ _ e in let z : v ≡ vnumber k n = cc in ap isNullValue z
 content-present Text k s at {v} e = let (b, i, a, h) = next-ok _ _ e in let z : v ≡ vtext b = cc in ap isNullValue z
 
 pub unless-present : (l : LeafType) (v : Value) → isNullValue v ≡ false → unlessNull l v ≡ taken l v

@@ -1,6 +1,6 @@
 -- Document 01, "Defaults", first sentence, and of "Building by number" the reading of the table: 4 over 16,384 bytes; 1 the first five bytes are not
 -- `DEF` and version 1; then forward by byte 2 where the bytes end, 4 a zone over 63 bytes, 3 a type that is no leaf, an unknown unit, kind or load
--- byte or a value that doesn't fit, 5 a repeated id of one kind once that entry is read; last 6 bytes left over.
+-- byte, a decimal's precision or scale, or a value that doesn't fit, 5 a repeated id of one kind once that entry is read; last 6 bytes left over.
 use Prim.Native.Nat.{ℕ, zero, suc}
 use mathlib.Core.List.{List, [], _∷_, _++_}
 use mathlib.Core.Bool.{Bool, true, false, not, _&&_, _||_}
@@ -9,10 +9,11 @@ use lib.Dec.{eqb}
 use Rattle.layout.specs.Bytes.{Bytes, sameBytes}
 use Rattle.layout.specs.Parser.{Res, refuse, ok, Parser, next, choose, _>>=_, _>>_, pure, fail, test, if, byte, u16, u32}
 use Rattle.layout.specs.Tree.{LeafType, leaf}
-use Rattle.layout.specs.Layout.{Kind, aLeaf, aStruct, aList, anArray, plainLeaf, leafKind, datetimeKind, sized, ended}
+use Rattle.layout.specs.Layout.{Kind, aLeaf, aStruct, aList, anArray, plainLeaf, leafKind, datetimeKind, decimalKind, sized, ended}
 use Rattle.layout.specs.declared.columns.FieldId.{FieldId}
 use Rattle.values.specs.Value.{Value, Values}
 use Rattle.values.specs.Reading.{value, times}
+use Rattle.values.specs.Record.{renumber, renumbered}
 
 -- what an entry gives: an initial default; a partition's values, one for each source; a partition whose values could not be loaded
 pub data Given : Type 0 where
@@ -56,7 +57,7 @@ onlyLeaf (anArray w) = fail 3
 unfoldable pub defaultType : Parser LeafType
 defaultType = do
   c ← byte
-  k ← if (eqb c 14) datetimeKind (leafKind (plainLeaf c))
+  k ← if (eqb c 14) datetimeKind (if (eqb c 21) decimalKind (leafKind (plainLeaf c)))
   onlyLeaf k
 
 unfoldable pub initialEntry : Parser Given
@@ -82,11 +83,15 @@ partitionEntry = do
 unfoldable pub givenOf : ℕ → Parser Given
 givenOf k = if (eqb k 0) initialEntry (if (eqb k 1) partitionEntry (fail 3))
 
+-- L1: "In a defaults table the faults of 50 and 52 are 3"
+unfoldable pub tableNumber : ℕ → ℕ
+tableNumber n = choose (eqb n 50) 3 (choose (eqb n 52) 3 n)
+
 unfoldable pub entry : Parser Entry
 entry = do
   i ← u32
   k ← byte
-  g ← givenOf k
+  g ← renumbered tableNumber (givenOf k)
   pure (record { id = record { 0 = i }; given = g })
 
 -- n entries after the earlier ones

@@ -6,7 +6,7 @@ ghost use lib.Dec.{eqb};
 ghost use lib.ListN.{take};
 ghost use Rattle.layout.specs.Bytes.{sameBytes};
 ghost use Rattle.layout.specs.Answers.{movedOf};
-ghost use Rattle.defaults.specs.Table.{initialEntry, loadedEntry, partitionEntry, givenOf, entry, entries, tableMark, table};
+ghost use Rattle.defaults.specs.Table.{initialEntry, loadedEntry, partitionEntry, givenOf, tableNumber, entry, entries, tableMark, table};
 ghost use Rattle.defaults.specs.Scan.{scan};
 ghost use Rattle.defaults.specs.Answers.{entryOf, tableOf};
 use crate::types::LeafRead;
@@ -81,6 +81,17 @@ fn read_given(s: &[u8], kind: u8, c: Cursor) -> Moved
     }
 }
 
+// The refusal of a type or a value, in a table.
+fn table_number(n: u8) -> u8
+    ensures { λ r. ⌜ r ≡ tableNumber n ⌝ }
+{
+    match n {
+        50 => 3,
+        52 => 3,
+        _ => n,
+    }
+}
+
 pub fn read_entry(s: &[u8], c: Cursor) -> EntryRead
     ensures { λ r. ⌜ r ≡ entryOf (c .at) (entry (now (s .entry)) (c .at)) ⌝ }
 {
@@ -88,7 +99,7 @@ pub fn read_entry(s: &[u8], c: Cursor) -> EntryRead
         Long::Is(i, d) => match d.byte(s) {
             Step::Byte(kind, g) => match read_given(s, kind, g) {
                 Moved::To(e) => EntryRead::Is(FieldId(i), kind, g, e),
-                Moved::Refused(k) => EntryRead::Refused(k),
+                Moved::Refused(k) => EntryRead::Refused(table_number(k)),
             },
             Step::Refused(k) => EntryRead::Refused(k),
         },

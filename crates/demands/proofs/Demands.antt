@@ -1,16 +1,34 @@
 -- Demands 1 and 3, sentence by sentence, over bytes and in the terms of the exported calls' contracts: `checkPlan`, `runPlan`, `bufferAfter` (crate plan, specs/Calls.antt), `buildByName`,
 -- `buildByNumber` (crate matching, specs/Calls.antt). `AllBytes` says that a list's numbers are below 256, as those of every lent slice are. Assumes nothing.
-use Prim.Native.Nat.{ℕ}
+use Prim.Native.Nat.{ℕ, _<_, _^_}
 use mathlib.Core.Path.{_≡_, refl, sym, ap, _∙_, subst}
 use lib.ListN.{length, drop}
 use mathlib.Core.List.{List, [], _∷_, _++_}
-use mathlib.Core.Bool.{false}
-use mathlib.Core.Logic.{_↔_}
+use mathlib.Core.Bool.{true, false}
+use mathlib.Core.Logic.{_↔_, _⊎_, inl, inr}
+use native.Mathlib.Omega.{arith}
+use lib.IntN.{natAbs}
+use borrow.Author.Tests.{ltb-true}
 use Rattle.layout.specs.Bytes.{Bytes, AllBytes}
-use Rattle.layout.specs.Parser.{ok}
-use Rattle.layout.specs.Tree.{Layout, Label, ColumnType}
+use Rattle.layout.specs.Parser.{refuse, ok}
+use Rattle.layout.specs.Tree.{decimal, Layout, Label, ColumnType, leaf, fieldsOf}
 use Rattle.layout.specs.Layout.{layout}
-use Rattle.plan.specs.Result.{accepted, refusedAt}
+use Rattle.layout.specs.declared.leaf.Decimal.{Decimal}
+use Rattle.layout.specs.declared.leaf.Leaf.{Leaf}
+use Rattle.layout.proofs.Ways.{clash}
+use Rattle.numeric.specs.Integers.{signed}
+use Rattle.numeric.specs.Decimals.{withinPrecision}
+use Rattle.rules.specs.declared.outcome.CastOption.the-variants.{NonStrict}
+use Rattle.rules.specs.Outcomes.{refused, cast, need}
+use Rattle.rules.specs.Params.{widens, sameDecimal, decimalsOf, paramsOf}
+use Rattle.rules.specs.Chain.{chain}
+use Rattle.rules.specs.Pairs.{pairRule}
+use Rattle.values.specs.Value.{vnumber}
+use Rattle.values.specs.Fits.{Fits, fit-number, FitsAll}
+use Rattle.values.proofs.Round.{record-back}
+use Rattle.plan.specs.Read.{plan}
+use Rattle.plan.specs.Convert.{convertAs, convert}
+use Rattle.plan.specs.Result.{Answer, accepted, refusedAt}
 use Rattle.plan.specs.Selector.{Selector, Selectors}
 use Rattle.plan.specs.Run.{spacious, written}
 use Rattle.plan.specs.Reach.{SelectorAt, ReachesOverflow}
@@ -27,10 +45,12 @@ use Rattle.rules.specs.declared.policy.Policy.{Policy}
 use Rattle.layout.specs.Find.{at, columnAt}
 use Rattle.layout.specs.declared.columns.Position.{Position}
 use Rattle.layout.specs.declared.version.Version.the-variants.{ByName, ByNumber}
-use Rattle.demands.specs.Refusals.{readingLayout, building, checkingPlan, running, refusalIn, Refusal, readLayout, layoutsRead, tableRead, columnCount, selectorCount}
+use Rattle.demands.specs.Refusals.{isIn, tableRefusals, Call, readingLayout, building, checkingPlan, running, placeOf}
+use Rattle.demands.specs.Refusals.{refusalIn, Refusal, Placed, readLayout, layoutsRead, tableRead, columnCount, selectorCount}
 use Rattle.demands.specs.Stated.{FitsLayout, SelectorsOf, LayoutOf, columnsOf, output, Running, PlanTooLong, NumberTooLong}
-use Rattle.demands.proofs.Refusing.{refused-as}
-use Rattle.demands.proofs.Refusals.{read-layout-in, by-name-in, by-number-in, check-plan-in, run-plan-in}
+use Rattle.demands.proofs.Refusing.{refused-in, refused-as}
+use Rattle.demands.proofs.Parsers.{table-in, plan-in}
+use Rattle.demands.proofs.Refusals.{read-layout-in, by-name-in, by-number-in, check-plan-in, run-plan-in, refusal-placed}
 use Rattle.demands.proofs.Passed.{passed-runs, exceeds-exactly, ok-eq}
 use Rattle.demands.proofs.Built.{built-passes, built-due, by-name-past, by-name-back, by-number-past, by-number-back}
 
@@ -44,10 +64,9 @@ refused-unchanged n k buffer = refl
 pub accepted-written : (result buffer : Bytes) → bufferAfter (accepted result) buffer ≡ result ++ drop (length result) buffer
 accepted-written result buffer = refl
 
--- "It returns its number from document 01": a refused call's number is in the call's list (`refusalsOf`) and never 0, and its place is the one that goes
--- with the number: of 1 to 6 that of the first layout or table that is refused, which is refused with this number; of 11 to 26 and 28 a position below the
--- number of the target's columns, of 31 and 32 below that of the plan's top selectors; of all others 0 (`Refusal`, specs/Refusals.antt). How number and place
--- are read out of the word that a call returns stands in crate selector, proofs/Decoded.antt.
+-- "It returns its number from document 01": a refused call's number is in the call's list (`refusalsOf`) and never 0, and it is met at k: of 1 to 6 and 50
+-- the first layout or table that is refused, which is refused with this number; of 11 to 26, 28 and 51 a position below the number of the target's columns, of
+-- 31 and 32 below that of the plan's top selectors; of all others 0 (`Refusal`, specs/Refusals.antt).
 
 pub read-layout-refused : (s : Bytes) {n k : ℕ} → readLayout s ≡ refusedAt n k → Refusal readingLayout (refusalIn (layout s) ∷ []) 0 n k
 read-layout-refused s e = refused-as (read-layout-in s) e
@@ -70,6 +89,11 @@ module _ (incoming target bytes : Bytes) where
   pub run-refused : (rec : Bytes) (room : ℕ) {n k : ℕ} → runPlan incoming target bytes rec room ≡ refusedAt n k
       → Refusal running (layoutsRead incoming target []) (selectorCount bytes) n k
   run-refused rec room e = refused-as (run-plan-in incoming target bytes rec room) e
+
+-- The place of a refusal is the one that goes with its number: `placeOf n k` is k where the number has a place, and of all others, 50, 51 and 52 among them,
+-- 0 (`Placed`). How number and place are read out of the word that a call returns stands in crate selector, proofs/Decoded.antt.
+pub refused-placed : {c : Call} {things : List ℕ} {columns n k : ℕ} → Refusal c things columns n k → Placed things columns n (placeOf n k)
+refused-placed R = refusal-placed R
 
 -- ---- Demand 3: "For every plan that passes the check from one layout to another, and every record that fits the first: the run refuses with 44 exactly when a strict cast that it
 -- reaches multiplies a non-null date-time beyond signed 64 bits. Otherwise, given space, it writes a record that fits the second; short of space it refuses with 45, and
@@ -138,3 +162,51 @@ module _ (p : Policy) (incoming target : Bytes) (space : ℕ) where
 module _ (p : Policy) (index : ℕ) (incoming target defaults : Bytes) (space : ℕ) where
   pub by-number-too-long : (buildByNumber p index incoming target defaults space ≡ refusedAt 27 0) ↔ NumberTooLong p index incoming target defaults space
   by-number-too-long = (λ e. by-number-past p index incoming target defaults space e, λ N. by-number-back p index incoming target defaults space N)
+
+-- ---- Document 02, L1, "Decimal fields". Its numbers 50, 51 and 52 are in the lists above, and demand 3 is said of decimals as of every other type.
+
+-- "value an i64 of magnitude below ten to the precision": so is every decimal of a record that fits, at whatever level
+module _ {lay rec : Bytes} (or : AllBytes rec) (F : FitsLayout lay rec) where
+  pub values-fit : FitsAll (fieldsOf (columnsOf F)) (F .values)
+  values-fit = record-back (fieldsOf (columnsOf F)) rec or (F .values) (F .end) (F .reads) .fits
+
+pub decimal-within : {d : Decimal} {k : Leaf} {n : ℕ} → Fits (leaf (decimal d)) (vnumber k n) → natAbs (signed 64 n) < 10 ^ (d .precision)
+unfolding withinPrecision
+decimal-within {d} {k} {n} (fit-number e h w) = ltb-true (natAbs (signed 64 n)) (10 ^ (d .precision)) (rw (← e) at w)
+
+same-number : {A : Type 0} {m n j k : ℕ} → _≡_ {A = Answer A} (refusedAt m j) (refusedAt n k) → m ≡ n
+same-number e = cc
+
+-- "to fit, a record must now meet no 52 either": where it fits and the plan passed the check, the run does not refuse with 52
+module _ {incoming target bytes rec : Bytes} {F : FitsLayout incoming rec} {room : ℕ} (R : Running incoming target bytes rec F room) where
+  pub no-large-decimal : {k : ℕ} → runPlan incoming target bytes rec room ≡ refusedAt 52 k → ⊥
+  no-large-decimal e = go (R .only)
+    where
+      go : (runPlan incoming target bytes rec room ≡ refusedAt 44 0)
+          ⊎ ((runPlan incoming target bytes rec room ≡ refusedAt 45 0)
+          ⊎ ((b : Bytes) × (runPlan incoming target bytes rec room ≡ accepted b) × FitsLayout target b)) → ⊥
+      go (inl q) = let z : _≡_ {A = ℕ} 52 44 = same-number (sym e ∙ q) in absurd (omega arith)
+      go (inr (inl q)) = let z : _≡_ {A = ℕ} 52 45 = same-number (sym e ∙ q) in absurd (omega arith)
+      go (inr (inr (b, q, G))) = clash (cc)
+
+-- "A new policy flag allows a larger precision at the same scale ..; the cast is NonStrict"; "51 when the widening flag is off, in place of the cast"
+pub widening-rule : (p : Policy) (d e : Decimal) → widens d e ≡ true → pairRule p (decimal d) (decimal e) ≡ need (p .«decimal_widening») 51 (cast NonStrict)
+unfolding pairRule chain paramsOf decimalsOf
+widening-rule p d e h = rw h
+
+-- ".. and keeps the value"
+pub widening-keeps : (d e : Decimal) (n : ℕ) → convert (Leaf.Decimal d) (Leaf.Decimal e) n ≡ vnumber (Leaf.Decimal e) n
+unfolding convert convertAs
+widening-keeps d e n = refl
+
+-- "Other unequal decimals are 24"
+pub unequal-decimals : (p : Policy) (d e : Decimal) → widens d e ≡ false → sameDecimal d e ≡ false → pairRule p (decimal d) (decimal e) ≡ refused 24
+unfolding pairRule chain paramsOf decimalsOf
+unequal-decimals p d e h g = rw (h, g)
+
+-- "In a defaults table the faults of 50 and 52 are 3, in a plan 30": a table is refused with 1 to 6 alone, a plan with 30 alone
+pub table-refused : (defaults : Bytes) {n : ℕ} → table defaults ≡ refuse n → isIn n tableRefusals ≡ true
+table-refused defaults e = refused-in (table-in defaults) e
+
+pub plan-refused : (bytes : Bytes) {n : ℕ} → plan bytes ≡ refuse n → isIn n (30 ∷ []) ≡ true
+plan-refused bytes e = refused-in (plan-in bytes) e

@@ -7,4 +7,5 @@ pub mod Passed
 pub mod Built
 pub mod Demands
 pub mod Table
+pub mod Decimals
 pub mod Projected

@@ -18,8 +18,8 @@ use Rattle.rules.specs.declared.policy.Policy.{Policy}
 use Rattle.rules.specs.declared.outcome.CastOption.{CastOption}
 use Rattle.rules.specs.Choice.{if_then_else_}
 use Rattle.rules.specs.Outcomes.{Verdict, untouched, refused, cast, need}
-use Rattle.rules.specs.Zones.{zonesOf, sameAsUtc}
-use Rattle.rules.specs.Classes.{isNull, isInteger, isFloat, isDatetime, unit, isCategorical, isString}
+use Rattle.rules.specs.Params.{paramsOf, sameAsUtc, widened}
+use Rattle.rules.specs.Classes.{isNull, isInteger, isFloat, isDatetime, unit, isCategorical, isString, isDecimal}
 use Rattle.rules.specs.Promotion.{holds}
 use Rattle.rules.specs.Chain.{sameType, wider, unitAllowed, chain}
 use Rattle.rules.specs.Pairs.{pairRule}
@@ -58,9 +58,9 @@ need-in b n e o = test-in b o (in-refused e)
 pair-in : (p : Policy) (i t : LeafType) → VerdictIn pairRefusals (pairRule p i t)
 unfolding pairRule chain isIn
 pair-in p i t =
-    let z = zonesOf (zoneOf i) (zoneOf t) in
     let a = leafOf i in
     let b = leafOf t in
+    let z = paramsOf a (zoneOf i) b (zoneOf t) in
     test-in (sameType z a b) in-untouched
     (test-in (isNull a) (need-in (p .«null_upcast») 15 refl in-cast)
     (test-in (isInteger a && isInteger b) (need-in (p .«integer_upcast») 16 refl (need-in (holds b a) 17 refl in-cast))
@@ -70,7 +70,8 @@ pair-in p i t =
     (test-in (isDatetime a && isDatetime b)
     (need-in (p .«datetime_convert_timezone» || sameAsUtc z) 21 refl (need-in (unitAllowed p (unit a) (unit b)) 22 refl in-cast))
     (test-in (isCategorical a && isString b) (need-in (p .«categorical_to_string») 23 refl in-cast)
-    (in-refused refl))))))))
+    (test-in (isDecimal a && isDecimal b && widened z) (need-in (p .«decimal_widening») 51 refl in-cast)
+    (in-refused refl)))))))))
 
 -- ---- defaults
 

@@ -6,7 +6,9 @@ use mathlib.Core.List.{List, [], _∷_, _++_}
 use Rattle.layout.specs.Bytes.{Bytes}
 use Rattle.layout.specs.Parser.{Res, refuse, ok, Parser, choose, byte, chunk, u16, u32}
 use Rattle.layout.specs.Tree.{leafOf, Label, ColumnType, DataType, leaf, struct, list, array, Fields, fnil, fcons}
-use Rattle.layout.specs.Layout.{Kind, aLeaf, aStruct, aList, anArray, plainLeaf, text, unit, leafKind, datetimeKind, structKind, arrayKind, kindOf, kind, fieldId, label, elementLabel, columns, listType, arrayType, structType, body, type, topRule, innerRule, deepest, version, sized, ended, counted, layoutFrom, layout}
+use Rattle.layout.specs.Layout.{Kind, aLeaf, aStruct, aList, anArray, plainLeaf, text, unit, leafKind, datetimeKind, decimalParams, decimalKind}
+use Rattle.layout.specs.Layout.{structKind, arrayKind, kindOf, kind, fieldId, label, elementLabel, columns, listType, arrayType, structType, body}
+use Rattle.layout.specs.Layout.{type, topRule, innerRule, deepest, version, sized, ended, counted, layoutFrom, layout}
 use Rattle.layout.specs.declared.leaf.Leaf.{Leaf}
 use Rattle.layout.specs.declared.types.PlainLeaf.{PlainLeaf}
 use Rattle.layout.specs.declared.types.PlainLeaf.the-variants.{Known, Unknown}
@@ -16,10 +18,12 @@ use Rattle.layout.specs.declared.version.Version.the-variants.{ByName, ByNumber
 use Rattle.values.specs.Value.{Value}
 use Rattle.values.specs.Content.{contentOf}
 use Rattle.values.specs.declared.content.Content.{Content}
-use Rattle.values.specs.declared.content.Content.the-variants.{Nothing, Flag, Number, Text}
-use Rattle.values.specs.Reading.{presence, nullable, flag, longText, contentBy, leafContent, times, listContent, arrayContent, structContent, content, values, value}
+use Rattle.values.specs.declared.content.Content.the-variants.{Nothing, Flag, Number, Decimal, Text}
+use Rattle.values.specs.Reading.{presence, nullable, flag, decimal, longText, contentBy, leafContent}
+use Rattle.values.specs.Reading.{times, listContent, arrayContent, structContent, content, values, value}
 use Rattle.values.specs.Record.{recordNumber, renumber, shortEnough, ended as recordEnded, recordFrom, recordOf}
-use Rattle.defaults.specs.Table.{Entry, onlyLeaf, defaultType, initialEntry, loadedEntry, partitionEntry, givenOf, entry, entries, tableVersion, tableFrom, table}
+use Rattle.defaults.specs.Table.{Entry, onlyLeaf, defaultType, initialEntry, loadedEntry, partitionEntry, givenOf}
+use Rattle.defaults.specs.Table.{tableNumber, entry, entries, tableVersion, tableFrom, table}
 use Rattle.plan.specs.Selector.{Selectors}
 use Rattle.plan.specs.Read.{planFrom, plan}
 use Rattle.demands.specs.Refusals.{isIn, layoutRefusals, tableRefusals, recordRefusals}
@@ -27,7 +31,11 @@ use Rattle.demands.proofs.Refusing.{all, RefusesIn, in-ok, in-refuse, n
 
 -- a value's numbers, which a record has in its own (`recordNumber`)
 abbrev pub valueRefusals : List ℕ
-valueRefusals = 2 ∷ 3 ∷ []
+valueRefusals = 2 ∷ 3 ∷ 52 ∷ []
+
+-- an entry's numbers, before 50 and 52 are 3 (`tableNumber`)
+abbrev entryRefusals : List ℕ
+entryRefusals = 50 ∷ 52 ∷ tableRefusals
 
 -- the bytes end: 2, which every list of a parser's numbers has
 module _ {ns : List ℕ} (two : isIn 2 ns ≡ true) (s : Bytes) where
@@ -67,6 +75,11 @@ module _ (s : Bytes) where
   unfolding datetimeKind
   datetime-kind-in at = next-in (unit-in at) (λ u i. next-in (text-in i) (λ z j. in-ok))
 
+  decimal-kind-in : (at : ℕ) → RefusesIn (2 ∷ 50 ∷ []) (decimalKind s at)
+  unfolding decimalKind decimalParams isIn
+  decimal-kind-in at =
+      next-in (next-in (byte-in refl s at) (λ p i. next-in (byte-in refl s i) (λ c j. choose-in _ in-ok (in-refuse refl)))) (λ d i. in-ok)
+
   sized-in : (at : ℕ) → RefusesIn tableRefusals (sized s at)
   unfolding sized isIn
   sized-in at = choose-in _ in-ok (in-refuse refl)
@@ -92,7 +105,8 @@ module _ (s : Bytes) where
       (choose-in _ (struct-kind-in at)
       (choose-in _ in-ok
       (choose-in _ (array-kind-in at)
-      (wider refl (leaf-kind-in (plainLeaf c) at)))))
+      (choose-in _ (wider refl (decimal-kind-in at))
+      (wider refl (leaf-kind-in (plainLeaf c) at))))))
 
   kind-in : (at : ℕ) → RefusesIn layoutRefusals (kind s at)
   unfolding kind isIn
@@ -160,10 +174,11 @@ module _ (s : Bytes) where
   flag-in at = next-in (byte-in refl s at) (λ b i. choose-in _ in-ok (in-refuse refl))
 
   content-by-in : (c : Content) (k : Leaf) (at : ℕ) → RefusesIn valueRefusals (contentBy c k s at)
-  unfolding contentBy longText isIn
+  unfolding contentBy decimal longText isIn
   content-by-in Nothing k at = in-refuse refl
   content-by-in Flag k at = next-in (flag-in at) (λ b i. in-ok)
   content-by-in (Number w) k at = next-in (chunk-in refl s w at) (λ b i. in-ok)
+  content-by-in (Decimal p) k at = next-in (next-in (chunk-in refl s 8 at) (λ b i. choose-in _ in-ok (in-refuse refl))) (λ n i. in-ok)
   content-by-in Text k at = next-in (next-in (u16-in refl s at) (λ n i. chunk-in refl s n i)) (λ b i. in-ok)
 
   module _ (p : Parser Value) (o : (at : ℕ) → RefusesIn valueRefusals (p s at)) where
@@ -202,11 +217,15 @@ module _ (s : Bytes) where
   only-leaf-in aList at = in-refuse refl
   only-leaf-in (anArray w) at = in-refuse refl
 
-  default-type-in : (at : ℕ) → RefusesIn tableRefusals (defaultType s at)
-  unfolding defaultType isIn
-  default-type-in at = next-in (byte-in refl s at) (λ c i. next-in (choose-in _ (datetime-kind-in i) (leaf-kind-in (plainLeaf c) i)) (λ k j. only-leaf-in k j))
+  default-type-in : (at : ℕ) → RefusesIn entryRefusals (defaultType s at)
+  unfolding defaultType isIn all
+  default-type-in at =
+      next-in (byte-in refl s at) (λ c i.
+      next-in
+      (choose-in _ (wider refl (datetime-kind-in i)) (choose-in _ (wider refl (decimal-kind-in i)) (wider refl (leaf-kind-in (plainLeaf c) i)))) (λ k j.
+      wider refl (only-leaf-in k j)))
 
-  given-of-in : (k at : ℕ) → RefusesIn tableRefusals (givenOf k s at)
+  given-of-in : (k at : ℕ) → RefusesIn entryRefusals (givenOf k s at)
   unfolding givenOf initialEntry partitionEntry loadedEntry isIn all
   given-of-in k at =
       choose-in _
@@ -219,8 +238,11 @@ module _ (s : Bytes) where
       (in-refuse refl))
 
   entry-in : (at : ℕ) → RefusesIn tableRefusals (entry s at)
-  unfolding entry isIn
-  entry-in at = next-in (u32-in refl s at) (λ i j. next-in (byte-in refl s j) (λ k m. next-in (given-of-in k m) (λ g o. in-ok)))
+  unfolding entry tableNumber choose isIn all
+  entry-in at =
+      next-in (u32-in refl s at) (λ i j.
+      next-in (byte-in refl s j) (λ k m.
+      next-in (renumber-in tableNumber refl (given-of-in k m)) (λ g o. in-ok)))
 
   entries-in : (n : ℕ) (earlier : List Entry) (at : ℕ) → RefusesIn tableRefusals (entries n earlier s at)
   unfolding entries isIn

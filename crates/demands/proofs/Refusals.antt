@@ -1,14 +1,14 @@
 -- Every exported call's refusals: each has a number of the call's list, and its place. Assumes nothing.
 use Prim.Native.Nat.{ℕ, zero, suc, _+_, _<_, _≤_}
 use mathlib.Core.Path.{_≡_, refl}
-use mathlib.Core.Bool.{Bool, true, false, _&&_, not}
+use mathlib.Core.Bool.{Bool, true, false, _&&_, _||_, not}
 use mathlib.Core.List.{List, [], _∷_}
 use native.Mathlib.Omega.{arith}
 use lib.ListN.{length}
 use lib.Dec.{ltb}
 use borrow.Author.Tests.{ltb-true, not-true}
 use Rattle.layout.specs.Bytes.{Bytes, AllBytes}
-use Rattle.layout.specs.Parser.{Res, refuse, ok}
+use Rattle.layout.specs.Parser.{Res, refuse, ok, choose}
 use Rattle.layout.specs.Tree.{Layout, Columns, countColumns, Fields, fieldsOf}
 use Rattle.layout.specs.Layout.{layout}
 use Rattle.layout.specs.declared.version.Version.{Version}
@@ -28,55 +28,57 @@ use Rattle.defaults.specs.Lookup.{getDefaultValue}
 use Rattle.matching.specs.Default.{Defaults, noDefaults}
 use Rattle.matching.specs.Build.{build}
 use Rattle.matching.specs.Calls.{ofVersion, bothLayouts, writtenPlan, buildByName, buildByNumber}
-use Rattle.demands.specs.Refusals.{isIn, layoutRefusals, tableRefusals, columnRefusals, recordRefusals, Call, readingLayout, building, checkingPlan, running, refusalsOf, layoutPlaced, columnPlaced, refusalIn, FirstRefused, Refusal, readLayout, layoutsRead, tableRead, columnsIn, columnCount, selectorsIn, selectorCount}
+use Rattle.demands.specs.Refusals.{isIn, layoutRefusals, tableRefusals, columnRefusals, recordRefusals, Call, readingLayout, building, checkingPlan}
+use Rattle.demands.specs.Refusals.{refusalsOf, layoutPlaced, columnPlaced, placeOf, layoutMet, columnMet, refusalIn, FirstRefused, Refusal, Placed}
+use Rattle.demands.specs.Refusals.{running, readLayout, layoutsRead, tableRead, columnsIn, columnCount, selectorsIn, selectorCount}
 use Rattle.demands.proofs.Refusing.{all, all-in, RefusesIn, refused-in, demand-in, in-gives, Answers, in-accepted, read-in, placed-in, answered-in}
 use Rattle.demands.proofs.Parsers.{layout-in, table-in, record-in, plan-in}
 use Rattle.demands.proofs.Numbers.{DefaultsIn, none-in, lookup-in, build-in, plan-written-in}
 use Rattle.demands.proofs.Selectors.{selectorRefusals, check-in, run-in}
 
--- ---- a number and its place
+-- ---- a number, and where it is met
 
 -- the call has the number, which is not 0
 unfoldable has : Call → ℕ → Bool
 has c m = isIn m (refusalsOf c) && ltb 0 m
 
--- and its place is that of a layout or table
+-- and is met at a layout or table
 unfoldable asThing : Call → ℕ → Bool
-asThing c m = has c m && (isIn m layoutPlaced && not (isIn m columnPlaced))
+asThing c m = has c m && (isIn m layoutMet && not (isIn m columnMet))
 
--- that of a column
+-- at a column
 unfoldable asColumn : Call → ℕ → Bool
-asColumn c m = has c m && (not (isIn m layoutPlaced) && isIn m columnPlaced)
+asColumn c m = has c m && (not (isIn m layoutMet) && isIn m columnMet)
 
--- 0
+-- at neither
 unfoldable asOther : Call → ℕ → Bool
-asOther c m = has c m && (not (isIn m layoutPlaced) && not (isIn m columnPlaced))
+asOther c m = has c m && (not (isIn m layoutMet) && not (isIn m columnMet))
 
 module _ {c : Call} {things : List ℕ} {columns n k : ℕ} where
-  refusal : has c n ≡ true → (isIn n layoutPlaced ≡ true → FirstRefused 1 things n k) → (isIn n columnPlaced ≡ true → k < columns)
-      → (isIn n layoutPlaced ≡ false → isIn n columnPlaced ≡ false → k ≡ 0) → Refusal c things columns n k
+  refusal : has c n ≡ true → (isIn n layoutMet ≡ true → FirstRefused 1 things n k) → (isIn n columnMet ≡ true → k < columns)
+      → (isIn n layoutMet ≡ false → isIn n columnMet ≡ false → k ≡ 0) → Refusal c things columns n k
   unfolding has
-  refusal h f g z = let (l, p) = both (isIn n (refusalsOf c)) h in record { listed = l; positive = ltb-true 0 n p; ofThing = f; ofColumn = g; ofOther = z }
+  refusal h f g z = let (l, p) = both (isIn n (refusalsOf c)) h in record { listed = l; positive = ltb-true 0 n p; atThing = f; atColumn = g; atNone = z }
 
   at-thing : asThing c n ≡ true → FirstRefused 1 things n k → Refusal c things columns n k
   unfolding asThing
   at-thing e f =
       let (h, e) = both (has c n) e in
-      let (t, u) = both (isIn n layoutPlaced) e in
+      let (t, u) = both (isIn n layoutMet) e in
       refusal h (λ q. f) (λ q. true≠false q (not-true _ u)) (λ q r. true≠false t q)
 
   at-column : asColumn c n ≡ true → k < columns → Refusal c things columns n k
   unfolding asColumn
   at-column e f =
       let (h, e) = both (has c n) e in
-      let (t, u) = both (not (isIn n layoutPlaced)) e in
+      let (t, u) = both (not (isIn n layoutMet)) e in
       refusal h (λ q. true≠false q (not-true _ t)) (λ q. f) (λ q r. true≠false u r)
 
   at-zero : asOther c n ≡ true → k ≡ 0 → Refusal c things columns n k
   unfolding asOther
   at-zero e f =
       let (h, e) = both (has c n) e in
-      let (t, u) = both (not (isIn n layoutPlaced)) e in
+      let (t, u) = both (not (isIn n layoutMet)) e in
       refusal h (λ q. true≠false q (not-true _ t)) (λ q. true≠false q (not-true _ u)) (λ q r. f)
 
 -- ---- the lists, number by number
@@ -267,6 +269,36 @@ run-plan-in incoming target bytes rec room =
     answered-in (checked-in by-run incoming target bytes Γ Δ ss m e) (λ n k r. r) (λ x u.
     other-in (record-in rec Γ) record-as (λ ρ j q. run-in ρ ss room (at-zero overflow-as refl) (at-zero output-length-as refl))))
 
+-- ---- the place
+
+met-at-thing : (n : ℕ) → isIn n layoutPlaced ≡ true → isIn n layoutMet ≡ true
+unfolding all isIn
+met-at-thing n e = all-in (λ m. isIn m layoutMet) layoutPlaced n refl e
+
+met-at-column : (n : ℕ) → isIn n columnPlaced ≡ true → isIn n columnMet ≡ true
+unfolding all isIn
+met-at-column n e = all-in (λ m. isIn m columnMet) columnPlaced n refl e
+
+-- a number that has the place of a layout or table, or of a column, is met there; any other has the place 0
+pub refusal-placed : {c : Call} {things : List ℕ} {columns n k : ℕ} → Refusal c things columns n k → Placed things columns n (placeOf n k)
+unfolding placeOf choose
+refusal-placed {things = things} {columns} {n} {k} R =
+    record {
+      ofThing = λ e. thing (isIn n layoutPlaced) e (R .atThing (met-at-thing n e));
+      ofColumn = λ e. column (isIn n layoutPlaced) (isIn n columnPlaced) e (R .atColumn (met-at-column n e));
+      ofOther = other (isIn n layoutPlaced) (isIn n columnPlaced);
+    }
+  where
+    thing : (a : Bool) → a ≡ true → FirstRefused 1 things n k → FirstRefused 1 things n (choose (a || isIn n columnPlaced) k 0)
+    thing a e h = rw e h
+
+    column : (a b : Bool) → b ≡ true → k < columns → choose (a || b) k 0 < columns
+    column true b e h = h
+    column false b e h = rw e h
+
+    other : (a b : Bool) → a ≡ false → b ≡ false → choose (a || b) k 0 ≡ 0
+    other a b e f = rw (e, f)
+
 -- ---- every place is small
 
 first-within : (i : ℕ) (ms : List ℕ) (n k : ℕ) → FirstRefused i ms n k → k < i + length ms
@@ -275,12 +307,12 @@ first-within i (zero ∷ ms) n k f = let h = first-within (i + 1) ms n k f in om
 first-within i (suc m ∷ ms) n k f = let h = f .1 in omega arith
 
 pub place-small : {c : Call} {things : List ℕ} {columns n k : ℕ} → Refusal c things columns n k → columns < 65536 → length things ≤ 3 → k < 65536
-place-small {things = things} {n = n} {k = k} R h l = go (isIn n layoutPlaced) (isIn n columnPlaced) refl refl
+place-small {things = things} {n = n} {k = k} R h l = go (isIn n layoutMet) (isIn n columnMet) refl refl
   where
-    go : (a b : Bool) → isIn n layoutPlaced ≡ a → isIn n columnPlaced ≡ b → k < 65536
-    go true b p q = let f = first-within 1 things n k (R .ofThing p) in omega arith
-    go false true p q = let f = R .ofColumn q in omega arith
-    go false false p q = let f = R .ofOther p q in omega arith
+    go : (a b : Bool) → isIn n layoutMet ≡ a → isIn n columnMet ≡ b → k < 65536
+    go true b p q = let f = first-within 1 things n k (R .atThing p) in omega arith
+    go false true p q = let f = R .atColumn q in omega arith
+    go false false p q = let f = R .atNone p q in omega arith
 
 pub columns-small : (s : Bytes) → AllBytes s → columnCount s < 65536
 columns-small s o = go (layout s) refl

@@ -14,32 +14,32 @@ use Rattle.matching.specs.Calls.{buildByName}
 use Rattle.matching.proofs.Samples.{built}
 
 -- every flag on, Insert and Ignore
-abbrev on : Policy
-on = policyOf 16383
+abbrev pub on : Policy
+on = policyOf 32767
 
 -- a layout of one column t, and a plan of one selector
-abbrev lay : Bytes → Bytes
+abbrev pub lay : Bytes → Bytes
 lay t = 0x4C ∷ 0x41 ∷ 0x59 ∷ 1 ∷ 0 ∷ 1 ∷ 0 ∷ 1 ∷ 0x74 ∷ t
 
-abbrev pln : Bytes → Bytes
+abbrev pub pln : Bytes → Bytes
 pln s = 0x50 ∷ 0x4C ∷ 0x4E ∷ 1 ∷ 0 ∷ 1 ∷ 0 ∷ s
 
 -- position 0 cast to a type with an option
-abbrev casting : Bytes → ℕ → Bytes
+abbrev pub casting : Bytes → ℕ → Bytes
 casting t o = pln (2 ∷ 0 ∷ 0 ∷ 0 ∷ (t ++ (o ∷ [])))
 
-abbrev build : Bytes → Bytes → Answer Bytes
+abbrev pub build : Bytes → Bytes → Answer Bytes
 build t u = buildByName on (lay t) (lay u) 1000
 
 -- a run of the cast from one type to another over one record
-abbrev run : Bytes → Bytes → ℕ → Bytes → Answer Bytes
+abbrev pub run : Bytes → Bytes → ℕ → Bytes → Answer Bytes
 run t u o r = runPlan (lay t) (lay u) (casting u o) r 1000
 
 -- the types of the samples
 abbrev int32 : Bytes
 int32 = 4 ∷ []
 
-abbrev int64 : Bytes
+abbrev pub int64 : Bytes
 int64 = 5 ∷ []
 
 abbrev uint16 : Bytes

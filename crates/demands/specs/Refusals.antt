@@ -5,7 +5,7 @@ use mathlib.Core.Bool.{Bool, true, false, _||_}
 use mathlib.Core.List.{List, [], _∷_, _++_}
 use lib.Dec.{eqb}
 use Rattle.layout.specs.Bytes.{Bytes}
-use Rattle.layout.specs.Parser.{Res, refuse, ok}
+use Rattle.layout.specs.Parser.{Res, refuse, ok, choose}
 use Rattle.layout.specs.Tree.{Layout, countColumns}
 use Rattle.layout.specs.Layout.{layout}
 use Rattle.layout.specs.declared.version.Version.{Version}
@@ -23,17 +23,17 @@ isIn n (m ∷ ms) = eqb n m || isIn n ms
 
 -- ---- the numbers
 
--- "Reading a layout"
+-- "Reading a layout"; L1: "50 when a layout's precision or scale is outside these limits"
 abbrev pub layoutRefusals : List ℕ
-layoutRefusals = 1 ∷ 2 ∷ 3 ∷ 4 ∷ 5 ∷ 6 ∷ []
+layoutRefusals = 1 ∷ 2 ∷ 3 ∷ 4 ∷ 5 ∷ 6 ∷ 50 ∷ []
 
--- "the defaults are read (1 to 6, ..)"
+-- "the defaults are read (1 to 6, ..)"; L1: "In a defaults table the faults of 50 and 52 are 3"
 abbrev pub tableRefusals : List ℕ
 tableRefusals = 1 ∷ 2 ∷ 3 ∷ 4 ∷ 5 ∷ 6 ∷ []
 
--- "Leaf pairs"
+-- "Leaf pairs"; L1: "51 when the widening flag is off"
 abbrev pub pairRefusals : List ℕ
-pairRefusals = 15 ∷ 16 ∷ 17 ∷ 18 ∷ 19 ∷ 20 ∷ 21 ∷ 22 ∷ 23 ∷ 24 ∷ []
+pairRefusals = 15 ∷ 16 ∷ 17 ∷ 18 ∷ 19 ∷ 20 ∷ 21 ∷ 22 ∷ 23 ∷ 24 ∷ 51 ∷ []
 
 -- a target column: by name "11 .. or 12 to 24", by number "11, 13 to 26, 28"
 abbrev pub columnRefusals : Version → List ℕ
@@ -44,9 +44,9 @@ columnRefusals ByNumber = 11 ∷ 13 ∷ 14 ∷ (pairRefusals ++ (25 ∷ 26 ∷ 2
 abbrev pub checkRefusals : List ℕ
 checkRefusals = 30 ∷ 31 ∷ 32 ∷ 33 ∷ []
 
--- "Running": the record
+-- "Running": the record; L1: "52 when a record's decimal is too large"
 abbrev pub recordRefusals : List ℕ
-recordRefusals = 43 ∷ 40 ∷ 41 ∷ 42 ∷ []
+recordRefusals = 43 ∷ 40 ∷ 41 ∷ 52 ∷ 42 ∷ []
 
 pub data Call : Type 0 where
   readingLayout : Call
@@ -71,6 +71,20 @@ layoutPlaced = 1 ∷ 2 ∷ 3 ∷ 4 ∷ 5 ∷ 6 ∷ []
 abbrev pub columnPlaced : List ℕ
 columnPlaced = 11 ∷ 12 ∷ 13 ∷ 14 ∷ 15 ∷ 16 ∷ 17 ∷ 18 ∷ 19 ∷ 20 ∷ 21 ∷ 22 ∷ 23 ∷ 24 ∷ 25 ∷ 26 ∷ 28 ∷ 31 ∷ 32 ∷ []
 
+-- "else 0": the place of a refusal with the number n that is met at k
+abbrev pub hasPlace : ℕ → Bool
+hasPlace n = isIn n layoutPlaced || isIn n columnPlaced
+
+unfoldable pub placeOf : ℕ → ℕ → ℕ
+placeOf n k = choose (hasPlace n) k 0
+
+-- what is met at a layout or table, or at a column: the numbers that have its place, and 50 and 51, which have none
+abbrev pub layoutMet : List ℕ
+layoutMet = 50 ∷ layoutPlaced
+
+abbrev pub columnMet : List ℕ
+columnMet = 51 ∷ columnPlaced
+
 -- the number with which reading is refused; 0 where it is not
 abbrev pub refusalIn : {A : Type 0} → Res A → ℕ
 refusalIn (refuse n) = n
@@ -83,14 +97,20 @@ FirstRefused i [] n k = ⊥
 FirstRefused i (zero ∷ ms) n k = FirstRefused (i + 1) ms n k
 FirstRefused i (suc m ∷ ms) n k = (n ≡ suc m) × (k ≡ i)
 
--- The call c refuses with n at the place k. It reads the things in turn, as `FirstRefused` has them. The columns are the
+-- The call c refuses with n, met at k. It reads the things in turn, as `FirstRefused` has them. The columns are the
 -- target's top columns; in a check or a run, the plan's top selectors.
 pub record Refusal (c : Call) (things : List ℕ) (columns n k : ℕ) : Type 0 where
   pub listed : isIn n (refusalsOf c) ≡ true
   pub positive : 0 < n
-  pub ofThing : isIn n layoutPlaced ≡ true → FirstRefused 1 things n k
-  pub ofColumn : isIn n columnPlaced ≡ true → k < columns
-  pub ofOther : isIn n layoutPlaced ≡ false → isIn n columnPlaced ≡ false → k ≡ 0
+  pub atThing : isIn n layoutMet ≡ true → FirstRefused 1 things n k
+  pub atColumn : isIn n columnMet ≡ true → k < columns
+  pub atNone : isIn n layoutMet ≡ false → isIn n columnMet ≡ false → k ≡ 0
+
+-- Its place: of 1 to 6 the layout or table; of 11 to 26, 28, 31, 32 the column; of all others, 50, 51 and 52 among them, 0.
+pub record Placed (things : List ℕ) (columns n place : ℕ) : Type 0 where
+  pub ofThing : isIn n layoutPlaced ≡ true → FirstRefused 1 things n place
+  pub ofColumn : isIn n columnPlaced ≡ true → place < columns
+  pub ofOther : isIn n layoutPlaced ≡ false → isIn n columnPlaced ≡ false → place ≡ 0
 
 -- ---- what the calls are lent
 

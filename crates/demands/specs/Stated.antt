@@ -27,7 +27,7 @@ use Rattle.matching.specs.Default.{Defaults}
 use Rattle.matching.specs.Build.{build}
 use Rattle.matching.specs.Calls.{roomFor}
 
--- `FitsLayout lay rec`: rec is "a record that fits" the layout lay: reading it meets none of 40 to 43
+-- `FitsLayout lay rec`: rec is "a record that fits" the layout lay: reading it meets none of 40 to 43, and no 52 (L1)
 pub record FitsLayout (lay rec : Bytes) : Type 0 where
   pub read : Layout
   pub layoutEnd : ℕ

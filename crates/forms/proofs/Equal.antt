@@ -1,5 +1,5 @@
 -- Types with equal forms are equal, whatever stands behind, and comparing part with part decides it. Assumes nothing.
-use Prim.Native.Nat.{ℕ, suc, _+_, _/_, _%_, _<_}
+use Prim.Native.Nat.{ℕ, suc, _+_, _/_, _%_, _≤_, _<_}
 use mathlib.Core.Path.{_≡_, refl, sym, ap, ap₂, _∙_}
 use mathlib.Core.List.{List, [], _∷_, _++_, append-assoc, append-nil}
 use mathlib.Core.Bool.{Bool, true, false, _&&_}
@@ -8,9 +8,10 @@ use lib.ListN.{length}
 use lib.Dec.{eqb}
 use borrow.Author.Tests.{eq-eqb, eqb-true}
 use Rattle.layout.specs.Bytes.{Bytes, sameBytes}
-use Rattle.layout.specs.Tree.{LeafType, leafType, datetime, DataType, leaf, struct, list, array, Fields, fnil, fcons, countFields}
+use Rattle.layout.specs.Tree.{LeafType, leafType, datetime, decimal, DataType, leaf, struct, list, array, Fields, fnil, fcons, countFields}
 use Rattle.layout.specs.Layout.{Kind, aLeaf, aStruct, aList, anArray, plainLeaf}
 use Rattle.layout.specs.declared.leaf.Leaf.{Leaf}
+use Rattle.layout.specs.declared.leaf.Decimal.{Decimal}
 use Rattle.layout.specs.declared.leaf.TimeUnit.{TimeUnit}
 use Rattle.layout.specs.declared.leaf.TimeUnit.the-variants.{Nanoseconds, Microseconds, Milliseconds}
 use Rattle.layout.specs.declared.types.PlainLeaf.the-variants.{Known}
@@ -19,7 +20,7 @@ use Rattle.layout.proofs.OfBytes.{same-bytes-refl, both, same-bytes-eq}
 use Rattle.layout.specs.Layout.{unitCode}
 use Rattle.forms.specs.Form.{u16Bytes, u32Bytes, textBytes, leafForm, kindForm, form, formFields, headOf, restForm}
 use Rattle.forms.specs.Same.{equalTypes, sameLeaf, sameDtype, sameFields}
-use Rattle.forms.proofs.Leaves.{LeafCase, plain, timed, leafCase}
+use Rattle.forms.proofs.Leaves.{LeafCase, plain, timed, scaled, leafCase}
 
 -- ---- each form is read in one way
 
@@ -66,6 +67,9 @@ unit-eq Milliseconds Milliseconds e = refl
 known-eq : {k l : Leaf} → Known k ≡ Known l → k ≡ l
 known-eq e = cc
 
+decimal-eq : {d e : Decimal} → d .precision ≡ e .precision → d .scale ≡ e .scale → d ≡ e
+decimal-eq p q = λ i. record { precision = p i; scale = q i }
+
 leaf-eq : (a b : LeafType) {r q : Bytes} → leafForm a ++ r ≡ leafForm b ++ q → (a ≡ b) × (r ≡ q)
 leaf-eq a b {r} {q} e = go (leafCase a) (leafCase b)
   where
@@ -77,6 +81,21 @@ leaf-eq a b {r} {q} e = go (leafCase a) (leafCase b)
     go (plain k c s n p i f) (timed u z i′ f′) =
         let g : (c ∷ r) ≡ 14 ∷ (unitCode u ∷ (textBytes z ++ q)) = rw (f, f′) at e in
         absurd (n (head-eq g))
+    go (plain k c s n p i f) (scaled d i′ f′) =
+        let g : (c ∷ r) ≡ 21 ∷ (d .precision ∷ (d .scale ∷ q)) = rw (f, f′) at e in
+        absurd (omega (arith, head-eq g))
+    go (scaled d i f) (plain k c s n p i′ f′) =
+        let g : 21 ∷ (d .precision ∷ (d .scale ∷ r)) ≡ c ∷ q = rw (f, f′) at e in
+        absurd (omega (arith, head-eq g))
+    go (timed u z i f) (scaled d i′ f′) =
+        let g : 14 ∷ (unitCode u ∷ (textBytes z ++ r)) ≡ 21 ∷ (d .precision ∷ (d .scale ∷ q)) = rw (f, f′) at e in
+        absurd (omega (arith, head-eq g))
+    go (scaled d i f) (timed u z i′ f′) =
+        let g : 21 ∷ (d .precision ∷ (d .scale ∷ r)) ≡ 14 ∷ (unitCode u ∷ (textBytes z ++ q)) = rw (f, f′) at e in
+        absurd (omega (arith, head-eq g))
+    go (scaled d i f) (scaled d′ i′ f′) =
+        let g : 21 ∷ (d .precision ∷ (d .scale ∷ r)) ≡ 21 ∷ (d′ .precision ∷ (d′ .scale ∷ q)) = rw (f, f′) at e in
+        (i ∙ ap decimal (decimal-eq (head-eq (tail-eq g)) (head-eq (tail-eq (tail-eq g)))) ∙ sym i′, tail-eq (tail-eq (tail-eq g)))
     go (timed u z i f) (plain k c s n p i′ f′) =
         let g : 14 ∷ (unitCode u ∷ (textBytes z ++ r)) ≡ c ∷ q = rw (f, f′) at e in
         absurd (n (sym (head-eq g)))
@@ -85,32 +104,36 @@ leaf-eq a b {r} {q} e = go (leafCase a) (leafCase b)
         let (h, t) = text-eq z z′ (tail-eq (tail-eq g)) in
         (i ∙ ap₂ datetime (unit-eq u u′ (head-eq (tail-eq g))) h ∙ sym i′, t)
 
-leaf-below : (l : LeafType) (r : Bytes) {c : ℕ} {q : Bytes} → leafForm l ++ r ≡ c ∷ q → c < 18
-leaf-below l r {c} {q} e = go (leafCase l)
+-- no leaf has the code of a struct, a list or an array
+leaf-code : (l : LeafType) (r : Bytes) {c : ℕ} {q : Bytes} → leafForm l ++ r ≡ c ∷ q → 18 ≤ c → c ≡ 21
+leaf-code l r {c} {q} e m = go (leafCase l)
   where
-    go : LeafCase l → c < 18
+    go : LeafCase l → c ≡ 21
     go (plain k b s n p i f) =
         let g : b ∷ r ≡ c ∷ q = rw f at e in
-        omega (arith, head-eq g)
+        absurd (omega (arith, head-eq g))
     go (timed u z i f) =
         let g : 14 ∷ (unitCode u ∷ (textBytes z ++ r)) ≡ c ∷ q = rw f at e in
-        omega (arith, head-eq g)
+        absurd (omega (arith, head-eq g))
+    go (scaled d i f) =
+        let g : 21 ∷ (d .precision ∷ (d .scale ∷ r)) ≡ c ∷ q = rw f at e in
+        sym (head-eq g)
 
 pub kind-eq : (k j : Kind) {r q : Bytes} → kindForm k ++ r ≡ kindForm j ++ q → (k ≡ j) × (r ≡ q)
 unfolding kindForm
 kind-eq (aLeaf a) (aLeaf b) e = let (p, q) = leaf-eq a b e in (ap aLeaf p, q)
-kind-eq (aLeaf a) (aStruct n) e = absurd (omega (arith, leaf-below a _ e))
-kind-eq (aLeaf a) aList e = absurd (omega (arith, leaf-below a _ e))
-kind-eq (aLeaf a) (anArray w) e = absurd (omega (arith, leaf-below a _ e))
-kind-eq (aStruct m) (aLeaf b) e = absurd (omega (arith, leaf-below b _ (sym e)))
+kind-eq (aLeaf a) (aStruct n) e = absurd (omega (arith, leaf-code a _ e (omega arith)))
+kind-eq (aLeaf a) aList e = absurd (omega (arith, leaf-code a _ e (omega arith)))
+kind-eq (aLeaf a) (anArray w) e = absurd (omega (arith, leaf-code a _ e (omega arith)))
+kind-eq (aStruct m) (aLeaf b) e = absurd (omega (arith, leaf-code b _ (sym e) (omega arith)))
 kind-eq (aStruct m) (aStruct n) e = let (p, q) = u16-eq m n (tail-eq e) in (ap aStruct p, q)
 kind-eq (aStruct m) aList e = absurd (omega (arith, head-eq e))
 kind-eq (aStruct m) (anArray w) e = absurd (omega (arith, head-eq e))
-kind-eq aList (aLeaf b) e = absurd (omega (arith, leaf-below b _ (sym e)))
+kind-eq aList (aLeaf b) e = absurd (omega (arith, leaf-code b _ (sym e) (omega arith)))
 kind-eq aList (aStruct n) e = absurd (omega (arith, head-eq e))
 kind-eq aList aList e = (refl, tail-eq e)
 kind-eq aList (anArray w) e = absurd (omega (arith, head-eq e))
-kind-eq (anArray v) (aLeaf b) e = absurd (omega (arith, leaf-below b _ (sym e)))
+kind-eq (anArray v) (aLeaf b) e = absurd (omega (arith, leaf-code b _ (sym e) (omega arith)))
 kind-eq (anArray v) (aStruct n) e = absurd (omega (arith, head-eq e))
 kind-eq (anArray v) aList e = absurd (omega (arith, head-eq e))
 kind-eq (anArray v) (anArray w) e = let (p, q) = u32-eq v w (tail-eq e) in (ap anArray p, q)

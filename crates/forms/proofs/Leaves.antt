@@ -6,14 +6,16 @@ use native.Mathlib.Omega.{arith}
 use lib.ListN.{getD, length}
 use Rattle.store.specs.Overlay.{littleBytes}
 use Rattle.layout.specs.Bytes.{Bytes}
-use Rattle.layout.specs.Tree.{LeafType, leafType, null, boolean, integer, float, date, datetime, string, binary, categorical}
+use Rattle.layout.specs.Tree.{LeafType, leafType, null, boolean, integer, float, date, datetime, string, binary, categorical, decimal}
 use Rattle.layout.specs.Layout.{plainLeaf, plainLeaves, integerCode, floatCode, unitCode}
 use Rattle.layout.specs.declared.leaf.TimeUnit.{TimeUnit}
 use Rattle.layout.specs.declared.leaf.Leaf.{Leaf}
+use Rattle.layout.specs.declared.leaf.Decimal.{Decimal}
 use Rattle.layout.specs.declared.types.PlainLeaf.{PlainLeaf}
 use Rattle.layout.specs.declared.types.PlainLeaf.the-variants.{Known, Unknown}
 use Rattle.layout.proofs.Leaves.{integer-coded, float-coded}
 use Rattle.layout.proofs.Ways.{clash}
+use Rattle.forms.specs.Readable.{ReadableLeaf}
 use Rattle.forms.specs.Form.{u16Bytes, u32Bytes, textBytes, carried, leafForm}
 
 -- ---- numbers that fit their field
@@ -36,11 +38,12 @@ little-u32 n h =
     let d : n / 65536 / 256 ≡ n / 256 / 256 / 256 % 256 = high-byte (n / 65536) (omega arith) ∙ ap (λ (m : ℕ). m / 256 % 256) (sym q) in
     rw (a, b, c, d)
 
--- ---- a leaf is its code alone, at whose place the readers' table has it, or a date-time
+-- ---- a leaf is its code alone, at whose place the readers' table has it, or a date-time, or a decimal
 
 pub data LeafCase (l : LeafType) : Type 0 where
   plain : (k : Leaf) (code : ℕ) → code < 18 → (code ≡ 14 → ⊥) → plainLeaf code ≡ Known k → l ≡ leafType k [] → leafForm l ≡ code ∷ [] → LeafCase l
   timed : (u : TimeUnit) (z : Bytes) → l ≡ datetime u z → leafForm l ≡ 14 ∷ unitCode u ∷ textBytes z → LeafCase l
+  scaled : (d : Decimal) → l ≡ decimal d → leafForm l ≡ 21 ∷ d .precision ∷ d .scale ∷ [] → LeafCase l
 
 pub leafCase : (l : LeafType) → LeafCase l
 unfolding leafForm carried
@@ -57,25 +60,34 @@ leafCase (datetime u z) = timed u z refl refl
 leafCase string = plain Leaf.String 15 (omega arith) (λ e. omega arith) refl refl refl
 leafCase binary = plain Leaf.Binary 16 (omega arith) (λ e. omega arith) refl refl refl
 leafCase categorical = plain Leaf.Categorical 17 (omega arith) (λ e. omega arith) refl refl refl
+leafCase (decimal d) = scaled d refl refl
 
--- each leaf of a table, from code i on, has its place for its form
+-- each leaf of a table, from code i on, has its place for its form, and is readable
 abbrev Coded : List PlainLeaf → ℕ → Type 0
 Coded [] i = Unit {0}
-Coded (Known l ∷ xs) i = (leafForm (leafType l []) ≡ i ∷ []) × Coded xs (suc i)
+Coded (Known l ∷ xs) i = ((leafForm (leafType l []) ≡ i ∷ []) × ReadableLeaf (leafType l [])) × Coded xs (suc i)
 Coded (Unknown ∷ xs) i = Coded xs (suc i)
 
 known-is : {k l : Leaf} → Known k ≡ Known l → k ≡ l
 known-is e = cc
 
-coded-at : (xs : List PlainLeaf) (i c : ℕ) {l : Leaf} → Coded xs i → getD xs c Unknown ≡ Known l → leafForm (leafType l []) ≡ (i + c) ∷ []
+coded-at : (xs : List PlainLeaf) (i c : ℕ) {l : Leaf} → Coded xs i → getD xs c Unknown ≡ Known l → (leafForm (leafType l []) ≡ (i + c) ∷ []) × ReadableLeaf (leafType l [])
 coded-at [] i c h e = clash (cc)
-coded-at (Known k ∷ xs) i zero h e = ap (λ (x : Leaf). leafForm (leafType x [])) (sym (known-is e)) ∙ h .0 ∙ ap (λ (n : ℕ). n ∷ []) (let z : i ≡ i + 0 = omega arith in z)
+coded-at (Known k ∷ xs) i zero h e = rw (← known-is e) (h .0 .0 ∙ ap (λ (n : ℕ). n ∷ []) (let z : i ≡ i + 0 = omega arith in z), h .0 .1)
 coded-at (Unknown ∷ xs) i zero h e = clash (cc)
-coded-at (Known k ∷ xs) i (suc c) h e = coded-at xs (suc i) c (h .1) e ∙ ap (λ (n : ℕ). n ∷ []) (let z : suc i + c ≡ i + suc c = omega arith in z)
-coded-at (Unknown ∷ xs) i (suc c) h e = coded-at xs (suc i) c h e ∙ ap (λ (n : ℕ). n ∷ []) (let z : suc i + c ≡ i + suc c = omega arith in z)
+coded-at (Known k ∷ xs) i (suc c) h e =
+    let (f, r) = coded-at xs (suc i) c (h .1) e in
+    (f ∙ ap (λ (n : ℕ). n ∷ []) (let z : suc i + c ≡ i + suc c = omega arith in z), r)
+coded-at (Unknown ∷ xs) i (suc c) h e =
+    let (f, r) = coded-at xs (suc i) c h e in
+    (f ∙ ap (λ (n : ℕ). n ∷ []) (let z : suc i + c ≡ i + suc c = omega arith in z), r)
 
-pub plain-form : (c : ℕ) {l : Leaf} → plainLeaf c ≡ Known l → leafForm (leafType l []) ≡ c ∷ []
+all-coded : Coded plainLeaves 0
 unfolding leafForm carried
+all-coded =
+    ((refl, tt), ((refl, tt), ((refl, tt), ((refl, tt), ((refl, tt), ((refl, tt), ((refl, tt), ((refl, tt), ((refl, tt), ((refl, tt), ((refl, tt), ((refl, tt), ((refl, tt), ((refl, tt), ((refl, tt), ((refl, tt), ((refl, tt), tt)))))))))))))))))
+
+pub plain-form : (c : ℕ) {l : Leaf} → plainLeaf c ≡ Known l → (leafForm (leafType l []) ≡ c ∷ []) × ReadableLeaf (leafType l [])
 plain-form c e =
-    coded-at plainLeaves 0 c (refl, (refl, (refl, (refl, (refl, (refl, (refl, (refl, (refl, (refl, (refl, (refl, (refl, (refl, (refl, (refl, (refl, tt))))))))))))))))) e
-    ∙ ap (λ (n : ℕ). n ∷ []) (let z : 0 + c ≡ c = omega arith in z)
+    let (f, r) = coded-at plainLeaves 0 c all-coded e in
+    (f ∙ ap (λ (n : ℕ). n ∷ []) (let z : 0 + c ≡ c = omega arith in z), r)

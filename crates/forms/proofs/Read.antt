@@ -9,11 +9,12 @@ use lib.Dec.{ltb, leb, eqb}
 use borrow.Author.Tests.{ltb-true, leb-true, eqb-true}
 use Rattle.layout.specs.Bytes.{Bytes, AllBytes}
 use Rattle.layout.specs.Parser.{Res, refuse, ok, next, choose, Parser, byte, chunk, u16, u32, test}
-use Rattle.layout.specs.Tree.{LeafType, leafType, datetime, zoneOf, Label, ColumnType, cleaf, cstruct, clist, carray, Columns, cnil, ccons}
-use Rattle.layout.specs.Layout.{Kind, aLeaf, aStruct, aList, anArray, text, unit, plainLeaf, leafKind, datetimeKind, structKind, arrayKind, kindOf, kind, fieldId, label, elementLabel, repeatsAny, columns, body, structType, listType, arrayType, type}
+use Rattle.layout.specs.Tree.{LeafType, leafType, datetime, decimal, Label, ColumnType, cleaf, cstruct, clist, carray, Columns, cnil, ccons}
+use Rattle.layout.specs.Layout.{Kind, aLeaf, aStruct, aList, anArray, text, unit, validDecimal, decimalParams, plainLeaf, leafKind, datetimeKind, decimalKind, structKind, arrayKind, kindOf, kind, fieldId, label, elementLabel, repeatsAny, columns, body, structType, listType, arrayType, type}
 use Rattle.layout.specs.declared.leaf.TimeUnit.{TimeUnit}
 use Rattle.layout.specs.declared.leaf.TimeUnit.the-variants.{Nanoseconds, Microseconds, Milliseconds}
 use Rattle.layout.specs.declared.leaf.Leaf.{Leaf}
+use Rattle.layout.specs.declared.leaf.Decimal.{Decimal}
 use Rattle.layout.specs.declared.types.PlainLeaf.{PlainLeaf}
 use Rattle.layout.specs.declared.types.PlainLeaf.the-variants.{Known, Unknown}
 use Rattle.layout.specs.declared.version.Version.{Version}
@@ -23,7 +24,7 @@ use Rattle.layout.proofs.Ways.{clash}
 use Rattle.layout.proofs.View.{next-ok}
 use Rattle.layout.specs.Layout.{unitCode}
 use Rattle.forms.specs.Form.{u16Bytes, u32Bytes, textBytes, carried, leafForm, kindForm}
-use Rattle.forms.specs.Readable.{ShortText}
+use Rattle.forms.specs.Readable.{ShortText, ReadableLeaf}
 use Rattle.forms.proofs.Leaves.{plain-form}
 use Rattle.forms.proofs.Slices.{Stands, stands-eq, stands-none, stands-one, stands-append, stands-length}
 use Rattle.layout.proofs.OfBytes.{bytes-part}
@@ -160,9 +161,26 @@ unit-stands s at {u} {m} e =
         let b : i ≡ m = cc in
         stands-eq b (ap (λ (x : ℕ). x ∷ []) (z ∙ ap unitCode a)) p
 
+scaled-as : {s : Bytes} {at x y j m : ℕ} {d : Decimal} → record { precision = x; scale = y } ≡ d → j ≡ m → Stands s at j (x ∷ y ∷ []) → validDecimal x y ≡ true
+    → Stands s at m (d .precision ∷ d .scale ∷ []) × (validDecimal (d .precision) (d .scale) ≡ true)
+scaled-as e f p t =
+    (stands-eq f (ap (λ (d : Decimal). d .precision ∷ d .scale ∷ []) e) p, sym (ap (λ (d : Decimal). validDecimal (d .precision) (d .scale)) e) ∙ t)
+
+pub decimal-stands : (s : Bytes) (at : ℕ) {d : Decimal} {m : ℕ} → decimalParams s at ≡ ok d m
+    → Stands s at m (d .precision ∷ d .scale ∷ []) × (validDecimal (d .precision) (d .scale) ≡ true)
+unfolding decimalParams
+decimal-stands s at {d} {m} e =
+    let (x, i, h, f) = next-ok _ _ e in
+    let (y, j, g, f) = next-ok _ _ f in
+    let (t, f) = chosen (validDecimal x y) _ _ f in
+    let p = byte-stands s at h .0 in
+    let q = byte-stands s i g .0 in
+    scaled-as (ok-eq f .0) (ok-eq f .1) (stands-append p q) t
+
 pub data KindRead (s : Bytes) (at : ℕ) : Kind → ℕ → Type 0 where
   kr-plain : {c m : ℕ} {l : Leaf} {k : LeafType} → byte s at ≡ ok c m → plainLeaf c ≡ Known l → leafType l [] ≡ k → KindRead s at (aLeaf k) m
   kr-timed : {i j m : ℕ} {u : TimeUnit} {z : Bytes} → byte s at ≡ ok 14 i → unit s i ≡ ok u j → text s j ≡ ok z m → KindRead s at (aLeaf (datetime u z)) m
+  kr-scaled : {i m : ℕ} {d : Decimal} → byte s at ≡ ok 21 i → decimalParams s i ≡ ok d m → KindRead s at (aLeaf (decimal d)) m
   kr-struct : {i n m : ℕ} → byte s at ≡ ok 18 i → u16 s i ≡ ok n m → KindRead s at (aStruct n) m
   kr-list : {m : ℕ} → byte s at ≡ ok 19 m → KindRead s at aList m
   kr-array : {i w m : ℕ} → byte s at ≡ ok 20 i → u32 s i ≡ ok w m → KindRead s at (anArray w) m
@@ -179,7 +197,7 @@ plain-read s at c i (Known l) {k} {m} h q e =
 plain-read s at c i Unknown h q e = clash (cc)
 
 pub kind→ : (s : Bytes) (at : ℕ) {k : Kind} {m : ℕ} → kind s at ≡ ok k m → KindRead s at k m
-unfolding kind kindOf datetimeKind structKind arrayKind
+unfolding kind kindOf datetimeKind decimalKind structKind arrayKind
 kind→ s at {k} {m} e =
     let (c, i, h, f) = next-ok _ _ e in
     case c 14 _ _ f (λ z f.
@@ -202,11 +220,16 @@ kind→ s at {k} {m} e =
     let x : anArray n ≡ k = cc in
     let y : o ≡ m = cc in
     kr-is x y (kr-array (rw z at h) h₁)) (λ f.
-    plain-read s at c i (plainLeaf c) h refl f))))
+    case c 21 _ _ f (λ z f.
+    let (d, o, h₁, f) = next-ok _ _ f in
+    let x : aLeaf (decimal d) ≡ k = cc in
+    let y : o ≡ m = cc in
+    kr-is x y (kr-scaled (rw z at h) h₁)) (λ f.
+    plain-read s at c i (plainLeaf c) h refl f)))))
 
 -- what follows of a kind that was read
 abbrev pub ReadableKind : Kind → Type 0
-ReadableKind (aLeaf l) = ShortText (zoneOf l)
+ReadableKind (aLeaf l) = ReadableLeaf l
 ReadableKind (aStruct n) = n < 65536
 ReadableKind aList = Unit {0}
 ReadableKind (anArray w) = w < 4294967296
@@ -215,7 +238,7 @@ pub kind-ends : (s : Bytes) (at : ℕ) {k : Kind} {m : ℕ} → KindRead s at k 
 unfolding kindForm leafForm carried textBytes u16Bytes u32Bytes
 kind-ends s at (kr-plain {c = c} {k = k} h q z) =
     let (p, y) = byte-ends s at h in
-    let l : length (kindForm (aLeaf k)) ≡ 1 = ap length (ap leafForm (sym z) ∙ plain-form c q) in
+    let l : length (kindForm (aLeaf k)) ≡ 1 = ap length (ap leafForm (sym z) ∙ plain-form c q .0) in
     (p, omega arith)
 kind-ends s at (kr-timed {u = u} h q z) =
     let (p, y) = byte-ends s at h in
@@ -225,6 +248,12 @@ kind-ends s at (kr-timed {u = u} h q z) =
     let i = stands-length a in
     let j = stands-length b in
     (omega arith, omega arith)
+kind-ends s at (kr-scaled {d = d} h q) =
+    let (p, y) = byte-ends s at h in
+    let a = decimal-stands s _ q .0 in
+    let b = a .to in
+    let c = stands-length a in
+    (b, omega arith)
 kind-ends s at (kr-struct h q) =
     let (p, y) = byte-ends s at h in
     let (a, b) = u16-ends s _ q in
@@ -235,32 +264,21 @@ kind-ends s at (kr-array h q) =
     let (a, b) = u32-ends s _ q in
     (omega arith, omega arith)
 
--- a leaf that is its code alone has no zone
-short-none : ShortText []
-short-none = (omega arith, λ i. omega arith)
-
-plain-zone : (l : Leaf) → ShortText (zoneOf (leafType l []))
-plain-zone Leaf.Null = short-none
-plain-zone Leaf.Boolean = short-none
-plain-zone (Leaf.Integer i) = short-none
-plain-zone (Leaf.Float f) = short-none
-plain-zone Leaf.Date = short-none
-plain-zone (Leaf.Datetime u) = short-none
-plain-zone Leaf.String = short-none
-plain-zone Leaf.Binary = short-none
-plain-zone Leaf.Categorical = short-none
-
 module _ (s : Bytes) (o : AllBytes s) (at : ℕ) where
   pub kind-stands : {k : Kind} {m : ℕ} → KindRead s at k m → Stands s at m (kindForm k) × ReadableKind k
   unfolding kindForm leafForm carried
   kind-stands (kr-plain {c = c} {l = l} h q z) =
       let (p, y) = byte-stands s at h in
-      rw (← z) (stands-eq refl (sym (plain-form c q)) p, plain-zone l)
+      rw (← z) (stands-eq refl (sym (plain-form c q .0)) p, plain-form c q .1)
   kind-stands (kr-timed h q z) =
       let (p, y) = byte-stands s at h in
       let a = unit-stands s _ q in
       let (b, (c, d)) = text-stands s _ z in
       (stands-append p (stands-append a b), (c, d o))
+  kind-stands (kr-scaled h q) =
+      let (p, y) = byte-stands s at h in
+      let (a, b) = decimal-stands s _ q in
+      (stands-append p a, b)
   kind-stands (kr-struct h q) =
       let (p, y) = byte-stands s at h in
       let (a, b) = u16-stands s o _ q in

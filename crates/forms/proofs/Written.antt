@@ -2,7 +2,7 @@
 use Prim.Native.Nat.{ℕ, zero, suc, _+_, _*_, _/_, _%_, _≤_, _<_, max}
 use mathlib.Core.Path.{_≡_, refl, sym, ap, _∙_}
 use mathlib.Core.List.{List, [], _∷_, _++_, append-assoc}
-use mathlib.Core.Bool.{not}
+use mathlib.Core.Bool.{true, not}
 use native.Mathlib.Omega.{arith}
 use lib.ListN.{length, getD, take, drop, length-append, length-drop}
 use lib.Seq.{drop-drop, getD-drop, drop-append-seam, take-append-seam}
@@ -10,17 +10,18 @@ use lib.Dec.{leb, ltb, eqb}
 use borrow.Author.Tests.{lt-ltb, le-leb, ne-eqb}
 use Rattle.layout.specs.Bytes.{Bytes}
 use Rattle.layout.specs.Parser.{Res, ok, next, choose, byte, chunk, u16, u32}
-use Rattle.layout.specs.Tree.{LeafType, leafType, datetime, zoneOf, Label, ColumnType, cleaf, cstruct, clist, carray, Columns, cnil, ccons, DataType, leaf, struct, list, array, Fields, fnil, fcons, countFields, dtypeOf, fieldsOf}
-use Rattle.layout.specs.Layout.{Kind, aLeaf, aStruct, aList, anArray, text, unit, plainLeaf, leafKind, datetimeKind, structKind, arrayKind, kindOf, kind, fieldId, label, elementLabel, columns, body, structType, listType, arrayType, type}
+use Rattle.layout.specs.Tree.{LeafType, leafType, datetime, decimal, Label, ColumnType, cleaf, cstruct, clist, carray, Columns, cnil, ccons, DataType, leaf, struct, list, array, Fields, fnil, fcons, countFields, dtypeOf, fieldsOf}
+use Rattle.layout.specs.Layout.{Kind, aLeaf, aStruct, aList, anArray, text, unit, validDecimal, decimalParams, plainLeaf, leafKind, datetimeKind, decimalKind, structKind, arrayKind, kindOf, kind, fieldId, label, elementLabel, columns, body, structType, listType, arrayType, type}
 use Rattle.layout.specs.declared.leaf.TimeUnit.{TimeUnit}
+use Rattle.layout.specs.declared.leaf.Decimal.{Decimal}
 use Rattle.layout.specs.declared.leaf.TimeUnit.the-variants.{Nanoseconds, Microseconds, Milliseconds}
 use Rattle.layout.specs.declared.version.Version.the-variants.{ByName}
 use Rattle.layout.specs.declared.columns.Siblings.the-variants.{Free}
 use Rattle.layout.proofs.FreeRule.{repeats-free}
 use Rattle.layout.specs.Layout.{unitCode}
 use Rattle.forms.specs.Form.{u16Bytes, u32Bytes, textBytes, carried, leafForm, kindForm, form, formFields}
-use Rattle.forms.specs.Readable.{Readable, ReadableFields, depthOf, depthOfFields, labelled, labelledFields, named}
-use Rattle.forms.proofs.Leaves.{LeafCase, plain, timed, leafCase}
+use Rattle.forms.specs.Readable.{ReadableLeaf, Readable, ReadableFields, depthOf, depthOfFields, labelled, labelledFields, named}
+use Rattle.forms.proofs.Leaves.{LeafCase, plain, timed, scaled, leafCase}
 
 -- what stands behind a part
 behind : (s : Bytes) (at : ℕ) (xs r : Bytes) → drop at s ≡ xs ++ r → drop (at + length xs) s ≡ r
@@ -87,16 +88,26 @@ timed-at s at u z r l e =
     let y : at + 1 + 1 + length (textBytes z) ≡ at + suc (suc (length (textBytes z))) = omega arith in
     rw (byte-at s at e, unit-at s (at + 1) u f, text-at s (at + 1 + 1) z r l g, y)
 
-plain-at : (s : Bytes) (at : ℕ) (l : LeafType) (r : Bytes) → LeafCase l → length (zoneOf l) ≤ 63 → drop at s ≡ leafForm l ++ r → kind s at ≡ ok (aLeaf l) (at + length (leafForm l))
+scaled-at : (s : Bytes) (at : ℕ) (d : Decimal) (r : Bytes) → validDecimal (d .precision) (d .scale) ≡ true → drop at s ≡ leafForm (decimal d) ++ r
+    → kind s at ≡ ok (aLeaf (decimal d)) (at + length (leafForm (decimal d)))
+unfolding kind kindOf decimalKind decimalParams next choose leafForm carried
+scaled-at s at d r h e =
+    let f = behind s at (21 ∷ []) _ e in
+    let g = behind s (at + 1) (d .precision ∷ []) _ f in
+    let y : at + 1 + 1 + 1 ≡ at + 3 = omega arith in
+    rw (byte-at s at e, byte-at s (at + 1) f, byte-at s (at + 1 + 1) g, h, y)
+
+plain-at : (s : Bytes) (at : ℕ) (l : LeafType) (r : Bytes) → LeafCase l → ReadableLeaf l → drop at s ≡ leafForm l ++ r → kind s at ≡ ok (aLeaf l) (at + length (leafForm l))
 unfolding kind kindOf next choose leafKind
 plain-at s at l r (plain k c b n p i f) h e =
     let g : drop at s ≡ c ∷ r = rw f at e in
-    rw (f, byte-at s at g, ne-eqb c 14 n, ne-eqb c 18 (λ z. omega arith), ne-eqb c 19 (λ z. omega arith), ne-eqb c 20 (λ z. omega arith), p, i)
-plain-at s at l r (timed u z i f) h e = rw i (timed-at s at u z r (rw i at h) (rw i at e))
+    rw (f, byte-at s at g, ne-eqb c 14 n, ne-eqb c 18 (λ z. omega arith), ne-eqb c 19 (λ z. omega arith), ne-eqb c 20 (λ z. omega arith), ne-eqb c 21 (λ z. omega arith), p, i)
+plain-at s at l r (timed u z i f) h e = let k : ReadableLeaf (datetime u z) = rw i at h in rw i (timed-at s at u z r (k .0) (rw i at e))
+plain-at s at l r (scaled d i f) h e = rw i (scaled-at s at d r (rw i at h) (rw i at e))
 
 -- what a kind asks to be read
 abbrev Shown : Kind → Type 0
-Shown (aLeaf l) = length (zoneOf l) ≤ 63
+Shown (aLeaf l) = ReadableLeaf l
 Shown (aStruct n) = Unit {0}
 Shown aList = Unit {0}
 Shown (anArray w) = Unit {0}
@@ -129,7 +140,7 @@ mutual
   pub type-at : (t : DataType) (d : ℕ) (s : Bytes) (at : ℕ) (r : Bytes) → Readable t → depthOf t ≤ d → drop at s ≡ form t ++ r
       → type ByName Free d s at ≡ ok (labelled t) (at + length (form t))
   type-at (leaf l) zero s at r h p e = absurd (omega arith)
-  type-at (leaf l) (suc d) s at r h p e = rw (kind-at s at (aLeaf l) r (h .0) e)
+  type-at (leaf l) (suc d) s at r h p e = rw (kind-at s at (aLeaf l) r h e)
   type-at (struct fs) zero s at r h p e = absurd (omega arith)
   type-at (struct fs) (suc d) s at r h p e =
       let (f, g) = parts s at (kindForm (aStruct (countFields fs))) (formFields fs) r e in

@@ -3,7 +3,7 @@ use Prim.Native.Nat.{ℕ, _/_, _%_}
 use mathlib.Core.List.{[], _∷_, _++_}
 use lib.ListN.{length}
 use Rattle.layout.specs.Bytes.{Bytes}
-use Rattle.layout.specs.Tree.{LeafType, leafOf, null, boolean, integer, float, date, datetime, string, binary, categorical, DataType, leaf, struct, list, array, Fields, fnil, fcons, countFields}
+use Rattle.layout.specs.Tree.{LeafType, leafOf, null, boolean, integer, float, date, datetime, string, binary, categorical, decimal, DataType, leaf, struct, list, array, Fields, fnil, fcons, countFields}
 use Rattle.layout.specs.Layout.{Kind, aLeaf, aStruct, aList, anArray, codeOf, unitCode}
 
 -- Numbers are little-endian. The last byte is not cut to eight bits: a number that fits its field has the field's bytes
@@ -29,6 +29,7 @@ carried (datetime u z) = unitCode u ∷ textBytes z
 carried string = []
 carried binary = []
 carried categorical = []
+carried (decimal d) = d .precision ∷ d .scale ∷ []
 
 unfoldable pub leafForm : LeafType → Bytes
 leafForm l = codeOf (leafOf l) ∷ carried l

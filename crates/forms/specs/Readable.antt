@@ -1,17 +1,34 @@
--- Document 01, "Reading a layout", as conditions on a type: names and zones of at most 63 bytes, numbers within their fields, and the depth.
+-- Document 01, "Reading a layout", as conditions on a type: names and zones of at most 63 bytes, numbers within their fields,
+-- precision and scale within theirs (document 02, L1), and the depth.
 use Prim.Native.Nat.{ℕ, suc, _≤_, _<_, max}
 use mathlib.Core.List.{[]}
 use lib.ListN.{length}
 use Rattle.layout.specs.Bytes.{Bytes, AllBytes}
-use Rattle.layout.specs.Tree.{LeafType, zoneOf, Label, ColumnType, cleaf, cstruct, clist, carray, Columns, cnil, ccons, DataType, leaf, struct, list, array, Fields, fnil, fcons, countFields}
+use mathlib.Core.Path.{_≡_}
+use mathlib.Core.Bool.{true}
+use Rattle.layout.specs.Layout.{validDecimal}
+use Rattle.layout.specs.Tree.{LeafType, null, boolean, integer, float, date, datetime, string, binary, categorical, decimal, Label, ColumnType, cleaf, cstruct, clist, carray, Columns, cnil, ccons, DataType, leaf, struct, list, array, Fields, fnil, fcons, countFields}
 
 -- a name or a zone
 abbrev pub ShortText : Bytes → Type 0
 ShortText b = (length b ≤ 63) × AllBytes b
 
+-- a date-time's zone, a decimal's precision and scale
+abbrev pub ReadableLeaf : LeafType → Type 0
+ReadableLeaf null = Unit {0}
+ReadableLeaf boolean = Unit {0}
+ReadableLeaf (integer i) = Unit {0}
+ReadableLeaf (float f) = Unit {0}
+ReadableLeaf date = Unit {0}
+ReadableLeaf (datetime u z) = ShortText z
+ReadableLeaf string = Unit {0}
+ReadableLeaf binary = Unit {0}
+ReadableLeaf categorical = Unit {0}
+ReadableLeaf (decimal d) = validDecimal (d .precision) (d .scale) ≡ true
+
 abbrev mutual
   pub Readable : DataType → Type 0
-  Readable (leaf l) = ShortText (zoneOf l)
+  Readable (leaf l) = ReadableLeaf l
   Readable (struct fs) = (countFields fs < 65536) × ReadableFields fs
   Readable (list t) = Readable t
   Readable (array w t) = (w < 4294967296) × Readable t

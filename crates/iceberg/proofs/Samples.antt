@@ -8,11 +8,12 @@ use mathlib.Core.List.{List, [], _∷_}
 use lib.Dec.{eqb}
 use Rattle.layout.specs.Bytes.{sameBytes}
 use Rattle.layout.specs.Parser.{ok, choose}
-use Rattle.layout.specs.Tree.{LeafType, null, date, datetime, Label, ColumnType, cleaf, cstruct, clist, carray, Columns, cnil, integer}
+use Rattle.layout.specs.Tree.{LeafType, null, date, datetime, decimal, Label, ColumnType, cleaf, cstruct, clist, carray, Columns, cnil, integer}
 use Rattle.layout.specs.Tree.{ccons, countColumns, dtypeOf, fieldsOf}
 use Rattle.layout.specs.Layout.{layout}
 use Rattle.layout.specs.Find.{findFrom}
 use Rattle.layout.specs.declared.columns.FieldId.{FieldId}
+use Rattle.layout.specs.declared.leaf.Decimal.{Decimal}
 use Rattle.layout.specs.declared.leaf.Leaf.{Leaf}
 use Rattle.layout.specs.declared.leaf.Leaf.the-variants.{Date}
 use Rattle.layout.specs.declared.leaf.TimeUnit.the-variants.{Microseconds}
@@ -23,6 +24,7 @@ use Rattle.forms.specs.Same.{sameLeaf, sameDtype}
 use Rattle.rules.specs.declared.policy.Policy.{Policy}
 use Rattle.rules.specs.Policies.{policyOf, allOn}
 use Rattle.rules.specs.Zones.{zonesOf, readZone, isUtc}
+use Rattle.rules.specs.Params.{decimalsOf, paramsOf}
 use Rattle.rules.specs.Chain.{chain}
 use Rattle.rules.specs.Pairs.{pairRule}
 use Rattle.values.specs.Value.{Value, vnull, vnumber, vstruct, vlist, varray, Values, vnil, vcons}
@@ -50,7 +52,8 @@ use Rattle.iceberg.specs.Differences.{incoming-is-any, valued, outside, 
 use Rattle.iceberg.specs.Differences.{list-default, own-default, by-empty-struct′, initial-nil′, initial-cons′, by-null′, struct-together}
 use Rattle.iceberg.specs.Differences.{by-null-partition′, by-initial′, own-partition, in-element, missing-nil′, missing-cons′, target-is-any, reads-leaf′}
 use Rattle.iceberg.specs.Differences.{reads-struct′, reads-list′, any-element, array-read, leaf-converted, ReadsAll′, reads-nil′, reads-selected′}
-use Rattle.iceberg.specs.Differences.{reads-missing′, reads-none′, reads-more′, AgreesAll, agrees-nil, agrees-selected, agrees-missing, agrees-struct}
+use Rattle.iceberg.specs.Differences.{reads-missing′, reads-none′, reads-more′, AgreesAll, agrees-nil, agrees-selected, agrees-missing}
+use Rattle.iceberg.specs.Differences.{agrees-leaf, agrees-struct}
 use Rattle.iceberg.specs.Refusals.{entry-here, entry-there, of-initial, leaf-for-nested, extra-here, partition-failed, default-type, leaf-pair}
 use Rattle.iceberg.specs.Refusals.{other-kind, list-ids, extra-field, in-struct, RefusesAny, at-selected, missing-raised, missing-default}
 use Rattle.iceberg.specs.Stated.{tupleAt, partitionOf, initialOf, stated}
@@ -61,9 +64,9 @@ use Rattle.numeric.specs.declared.integers.Integer.the-variants.{Int8, Int16, I
 computed : Policy → List Entry → Columns → Columns → Values → Answer Values
 unfolding build buildFrom buildColumnSelector attachTransforms attachFields sought missing missingValue buildIcebergDefaultValue defaultsOf leafDefault
     withField structDefault getDefaultValue firstEntry givenTo ofSource unlessNull leafPart structPart listPart arrayPart isNullType unlessNullType renamed
-    sameElement distinct noExtra ruled isPosition inPlace structSelector listSelector arraySelector findFrom sameBytes sameDtype sameLeaf leafForm carried dtypeOf
-    fieldsOf countColumns countSelectors choose _>>=_ demand placed answered eval evals valueAt mapValues onStruct onList onArray castLeaf castValue pairRule
-    chain zonesOf readZone isUtc convert convertAs counted rescaled widened numberOf signed unsigned pattern
+    sameElement distinct noExtra ruled isPosition inPlace structSelector listSelector arraySelector findFrom sameBytes sameDtype sameLeaf leafForm carried
+    dtypeOf fieldsOf countColumns countSelectors choose _>>=_ demand placed answered eval evals valueAt mapValues onStruct onList onArray castLeaf castValue
+    pairRule chain paramsOf decimalsOf zonesOf readZone isUtc convert convertAs counted rescaled widened numberOf signed unsigned pattern
 computed p es Γ Δ ρ = answered (build ByNumber p (getDefaultValue es 0) Γ Δ) (λ ss. accepted (evals ρ ss))
 
 -- ---- the parts of the samples
@@ -355,7 +358,8 @@ module _ (M : Metadata) where
   number-promotes (reads-leaf e f) = e
 
 -- an element of the id 4,294,967,295 pairs with any
-any-paired : Own [] (listed 2 (cleaf (integer Int8))) (listed 4294967295 (cleaf (integer Int8))) (one (vlist (one five))) (anyElement ∷ []) (one (vlist (one five)))
+any-paired : Own [] (listed 2 (cleaf (integer Int8))) (listed 4294967295 (cleaf (integer Int8))) (one (vlist (one five))) (anyElement ∷ [])
+    (one (vlist (one five)))
 unfolding computed stated choose valueAt promotes dueLeaf sameLeaf sameDtype leafForm carried sameBytes
 any-paired =
     record {
@@ -387,8 +391,8 @@ abbrev typed : LeafType → Columns
 typed l = ccons (label 0x74 1) (cleaf l) cnil
 
 int8-to-int16 : Own [] (typed (integer Int8)) (typed (integer Int16)) (one five) (leafConverted ∷ []) (one (vnumber (Leaf.Integer Int16) 5))
-unfolding computed stated choose valueAt promotes dueLeaf sameLeaf sameDtype leafForm carried sameBytes castLeaf convert convertAs counted rescaled widened numberOf
-    signed unsigned pattern
+unfolding computed stated choose valueAt promotes dueLeaf sameLeaf sameDtype leafForm carried sameBytes castLeaf convert convertAs counted rescaled widened
+    numberOf signed unsigned pattern
 int8-to-int16 =
     record {
       ours = refl;
@@ -414,7 +418,8 @@ unloaded =
     }
 
 -- a default of another type
-unlike : Refusal allOn (record { id = record { 0 = 2 }; given = initial (integer UInt8) (vnumber (Leaf.Integer UInt8) 7) } ∷ []) bare whole emptyRow 28 (row (vnumber (Leaf.Integer UInt8) 7))
+unlike : Refusal allOn (record { id = record { 0 = 2 }; given = initial (integer UInt8) (vnumber (Leaf.Integer UInt8) 7) } ∷ []) bare whole emptyRow 28
+    (row (vnumber (Leaf.Integer UInt8) 7))
 unfolding computed stated partitionOf initialOf firstEntry choose valueAt sameLeaf leafForm carried sameBytes
 unlike =
     record {
@@ -464,15 +469,17 @@ unknown-nested =
     }
 
 -- a promotion that the policy refuses
-not-upcast : Refusal (policyOf 16381) [] (typed (integer Int32)) (typed (integer Int64)) (one (vnumber (Leaf.Integer Int32) 5)) 16 (one (vnumber (Leaf.Integer Int64) 5))
-unfolding computed stated choose valueAt promotes dueLeaf sameLeaf sameDtype leafForm carried sameBytes castLeaf convert convertAs counted rescaled widened numberOf
-    signed unsigned pattern pairRule chain zonesOf readZone isUtc
+not-upcast : Refusal (policyOf 16381) [] (typed (integer Int32)) (typed (integer Int64)) (one (vnumber (Leaf.Integer Int32) 5)) 16
+    (one (vnumber (Leaf.Integer Int64) 5))
+unfolding computed stated choose valueAt promotes dueLeaf sameLeaf sameDtype leafForm carried sameBytes castLeaf convert convertAs counted rescaled widened
+    numberOf signed unsigned pattern pairRule chain paramsOf zonesOf readZone isUtc
 not-upcast = record { ours = refl; why = at-selected (id-here refl) (leaf-pair refl); theirs = reads-selected (id-here refl) (reads-leaf refl refl) reads-nil }
 
 -- element ids are compared; the specification has no reading of them as one field
 unpaired : (computed allOn [] (listed 2 (cleaf (integer Int8))) (listed 3 (cleaf (integer Int8))) (one (vlist (one five))) ≡ refusedAt 25 0)
     × RefusesAny allOn [] outside (allOn .«missing_columns») 11 25 (listed 3 (cleaf (integer Int8))) (listed 2 (cleaf (integer Int8)))
-    × ((zs : Values) → ReadsAll dueLeaf (stated false [] 0 noneEmpty) (listed 3 (cleaf (integer Int8))) (listed 2 (cleaf (integer Int8))) (one (vlist (one five))) zs → ⊥)
+    × ((zs : Values)
+    → ReadsAll dueLeaf (stated false [] 0 noneEmpty) (listed 3 (cleaf (integer Int8))) (listed 2 (cleaf (integer Int8))) (one (vlist (one five))) zs → ⊥)
 unfolding computed
 unpaired = (refl, at-selected (id-here refl) (list-ids (λ e. differ e) any), λ zs r. differ (list-ids-equal r))
   where
@@ -483,7 +490,8 @@ unpaired = (refl, at-selected (id-here refl) (list-ids (λ e. differ e) any), λ
     any (incoming-is-any q) = absurd (omega arith)
     any (target-is-any q) = absurd (omega arith)
 
-    list-ids-equal : {zs : Values} → ReadsAll dueLeaf (stated false [] 0 noneEmpty) (listed 3 (cleaf (integer Int8))) (listed 2 (cleaf (integer Int8))) (one (vlist (one five))) zs
+    list-ids-equal : {zs : Values}
+        → ReadsAll dueLeaf (stated false [] 0 noneEmpty) (listed 3 (cleaf (integer Int8))) (listed 2 (cleaf (integer Int8))) (one (vlist (one five))) zs
         → _≡_ {A = FieldId} (record { 0 = 2 }) (record { 0 = 3 })
     list-ids-equal r = equal-ids _ (first-reads _ refl r .1)
 
@@ -495,5 +503,64 @@ date-to-timestamp : (computed allOn [] (typed date) (typed timestamp) (one (vnum
     × RefusesAny allOn [] outside (allOn .«missing_columns») 11 24 (typed timestamp) (typed date)
     × ((f : LeafType → LeafType → Value → Value)
     → ReadsAll f (stated false [] 0 noneEmpty) (typed timestamp) (typed date) (one (vnumber Date 5)) (one (f date timestamp (vnumber Date 5))))
-unfolding computed valueAt promotes sameLeaf leafForm carried sameBytes pairRule chain zonesOf readZone isUtc textBytes
+unfolding computed valueAt promotes sameLeaf leafForm carried sameBytes pairRule chain paramsOf zonesOf readZone isUtc textBytes
 date-to-timestamp = (refl, at-selected (id-here refl) (leaf-pair refl), λ f. reads-selected (id-here refl) (reads-leaf refl refl) reads-nil)
+
+-- ---- decimals (document 02, L1)
+
+-- a column of decimals of the precision p and the scale s, and a value of it
+abbrev digits : ℕ → ℕ → Decimal
+digits p s = record { precision = p; scale = s }
+
+abbrev decimals : ℕ → ℕ → Columns
+decimals p s = typed (decimal (digits p s))
+
+abbrev fixed : ℕ → ℕ → ℕ → Values
+fixed p s n = one (vnumber (Leaf.Decimal (digits p s)) n)
+
+-- a larger precision at the same scale is a promotion: no difference, and the number is kept
+widening : Sample false [] noneEmpty (decimals 9 2) (decimals 18 2) (fixed 9 2 999999999) [] (fixed 18 2 999999999) (fixed 18 2 999999999)
+unfolding computed stated choose valueAt promotes dueLeaf sameLeaf sameDtype leafForm carried sameBytes castLeaf convert convertAs
+widening =
+    record {
+      ours = refl;
+      reads = reads-selected′ (id-here refl) (reads-leaf′ refl refl) reads-nil′ refl;
+      theirs = reads-selected (id-here refl) (reads-leaf refl refl) reads-nil;
+    }
+
+-- whatever the record holds
+widening-agrees : AgreesAll (stated false [] 0 noneEmpty) outside (decimals 18 2) (decimals 9 2)
+unfolding promotes sameLeaf leafForm carried sameBytes
+widening-agrees = agrees-selected (id-here refl) (agrees-leaf refl) agrees-nil
+
+-- with its flag off it is refused
+not-widened : Refusal (policyOf 16383) [] (decimals 9 2) (decimals 18 2) (fixed 9 2 999999999) 51 (fixed 18 2 999999999)
+unfolding computed stated choose valueAt promotes dueLeaf sameLeaf sameDtype leafForm carried sameBytes castLeaf convert convertAs pairRule chain paramsOf
+    decimalsOf
+not-widened = record { ours = refl; why = at-selected (id-here refl) (leaf-pair refl); theirs = reads-selected (id-here refl) (reads-leaf refl refl) reads-nil }
+
+-- refused with n, and the specification has no reading, either
+record Neither (Γ Δ : Columns) (ρ : Values) (n : ℕ) : Type 0 where
+  ours : computed allOn [] Γ Δ ρ ≡ refusedAt n 0
+  why : RefusesAny allOn [] outside (allOn .«missing_columns») 11 n Δ Γ
+  theirs : (zs : Values) → ReadsAll dueLeaf (stated false [] 0 noneEmpty) Δ Γ ρ zs → ⊥
+
+-- a smaller precision
+narrowing : Neither (decimals 18 2) (decimals 9 2) (fixed 18 2 5) 24
+unfolding computed promotes sameLeaf leafForm carried sameBytes pairRule chain paramsOf decimalsOf
+narrowing =
+    record {
+      ours = refl;
+      why = at-selected (id-here refl) (leaf-pair refl);
+      theirs = λ zs r. true≠false (number-promotes _ (first-reads _ refl r .1)) refl;
+    }
+
+-- another scale, be the precision larger
+other-scale : Neither (decimals 9 2) (decimals 18 3) (fixed 9 2 5) 24
+unfolding computed promotes sameLeaf leafForm carried sameBytes pairRule chain paramsOf decimalsOf
+other-scale =
+    record {
+      ours = refl;
+      why = at-selected (id-here refl) (leaf-pair refl);
+      theirs = λ zs r. true≠false (number-promotes _ (first-reads _ refl r .1)) refl;
+    }

@@ -1,7 +1,7 @@
--- Where a reader of the specification reads on and document 01 refuses to build: one rule for each reason, at the
--- column where it is met, along matched paths. 11 to 28 are document 01's numbers. A refused build is no reading; the
--- list of reasons is complete (proofs/Refusing.antt). Nothing here rests on the builder; `pairRule` is document 01's
--- table of leaf pairs.
+-- Where a reader of the specification reads on and documents 01 and 02 refuse to build: one rule for each reason, at the
+-- column where it is met, along matched paths. 11 to 28 are document 01's numbers, 51 is document 02's. A refused build
+-- is no reading; the list of reasons is complete (proofs/Refusing.antt). Nothing here rests on the builder; `pairRule`
+-- is the documents' table of leaf pairs.
 use Prim.Native.Nat.{ℕ}
 use mathlib.Core.Path.{_≡_}
 use mathlib.Core.Bool.{false}
@@ -69,7 +69,7 @@ module _ (p : Policy) (es : List Entry) where
   mutual
     -- `Refuses q n u t`: the file's type t is not read as the table's type u, n says why
     pub data Refuses : Place → ℕ → ColumnType → ColumnType → Type 0 where
-      -- conversion of a leaf: the rule of its pair, policy included
+      -- conversion of a leaf: the rule of its pair, policy included; 15 to 24, and 51 for the widening of a decimal
       leaf-pair : {q : Place} {n : ℕ} {l m : LeafType} → pairRule p l m ≡ refused n → Refuses q n (cleaf m) (cleaf l)
       -- kinds differ, null against a nested type included
       other-kind : {q : Place} {u t : ColumnType} → OtherKind u t → Refuses q 24 u t

@@ -5,11 +5,14 @@ use Prim.Native.Nat.{ℕ, suc}
 use mathlib.Core.Path.{_≡_}
 use mathlib.Core.Bool.{Bool, true, _&&_, _||_}
 use mathlib.Core.List.{[]}
-use Rattle.layout.specs.Tree.{LeafType, null, date, datetime, Label, ColumnType, cleaf, cstruct, clist, carray, Columns, cnil, float, integer}
+use Rattle.layout.specs.Tree.{LeafType, leafOf, null, date, datetime, Label, ColumnType, cleaf, cstruct, clist, carray, Columns, cnil, float, integer}
 use Rattle.layout.specs.Tree.{ccons}
+use Rattle.layout.specs.declared.leaf.Leaf.{Leaf}
 use Rattle.layout.specs.declared.leaf.TimeUnit.the-variants.{Microseconds, Nanoseconds}
 use Rattle.layout.specs.declared.columns.FieldId.{FieldId}
 use Rattle.forms.specs.Same.{sameLeaf}
+use Rattle.rules.specs.Classes.{isDecimal}
+use Rattle.rules.specs.Params.{widens, decimalOf}
 use Rattle.values.specs.Value.{Value, vnull, vstruct, vlist, Values, vnil, vcons}
 use Rattle.plan.specs.Run.{valueAt}
 use Rattle.numeric.specs.declared.integers.Integer.the-variants.{Int32, Int64}
@@ -96,14 +99,19 @@ module _ (M : Metadata) where
 
 -- ---- a row
 
--- "int to long; float to double; .. from version 3 also unknown to any type, and date to timestamp or timestamp_ns.
--- Nothing else"; and an unchanged type. There are no decimals here.
+-- "decimal(P,S) to decimal(P',S) with P' above P"
+abbrev pub decimalPromotes : Leaf → Leaf → Bool
+decimalPromotes i t = isDecimal i && isDecimal t && widens (decimalOf i) (decimalOf t)
+
+-- "int to long; float to double; decimal(P,S) to decimal(P',S) with P' above P; from version 3 also unknown to any type,
+-- and date to timestamp or timestamp_ns. Nothing else"; and an unchanged type.
 unfoldable pub promotes : LeafType → LeafType → Bool
 promotes l m =
     sameLeaf l m
     || ((sameLeaf l (integer Int32) && sameLeaf m (integer Int64))
     || ((sameLeaf l (float Binary32) && sameLeaf m (float Binary64))
-    || (sameLeaf l null || (sameLeaf l date && (sameLeaf m (datetime Microseconds []) || sameLeaf m (datetime Nanoseconds []))))))
+    || (decimalPromotes (leafOf l) (leafOf m)
+    || (sameLeaf l null || (sameLeaf l date && (sameLeaf m (datetime Microseconds []) || sameLeaf m (datetime Nanoseconds [])))))))
 
 -- `converted l m x`: what the value x of the file's leaf type l is in the table's leaf type m
 module _ (converted : LeafType → LeafType → Value → Value) (M : Metadata) where

@@ -8,7 +8,7 @@ use Rattle.numeric.specs.declared.integers.Integer.the-variants.{Int8, Int16, I
 use Rattle.numeric.specs.declared.floats.Format.{Format}
 use Rattle.numeric.specs.declared.floats.Format.the-variants.{Binary16, Binary32, Binary64}
 use Rattle.layout.specs.Bytes.{Bytes}
-use Rattle.layout.specs.Tree.{LeafType, leafType, leafOf, zoneOf, null, boolean, integer, float, date, datetime, string, binary, categorical}
+use Rattle.layout.specs.Tree.{LeafType, leafType, leafOf, zoneOf, null, boolean, integer, float, date, datetime, string, binary, categorical, decimal}
 use Rattle.layout.specs.Layout.{plainLeaf, integerCode, floatCode}
 use Rattle.layout.specs.declared.leaf.Leaf.{Leaf}
 use Rattle.layout.specs.declared.types.PlainLeaf.the-variants.{Known}
@@ -25,6 +25,7 @@ leaf-of-type (Leaf.Datetime u) z = refl
 leaf-of-type Leaf.String z = refl
 leaf-of-type Leaf.Binary z = refl
 leaf-of-type Leaf.Categorical z = refl
+leaf-of-type (Leaf.Decimal d) z = refl
 
 pub leaf-type-of : (a : LeafType) → leafType (leafOf a) (zoneOf a) ≡ a
 leaf-type-of null = refl
@@ -36,6 +37,7 @@ leaf-type-of (datetime u z) = refl
 leaf-type-of string = refl
 leaf-type-of binary = refl
 leaf-type-of categorical = refl
+leaf-type-of (decimal d) = refl
 
 -- a leaf type of a kind that is known
 pub type-of-leaf : (a : LeafType) (k : Leaf) → leafOf a ≡ k → a ≡ leafType k (zoneOf a)

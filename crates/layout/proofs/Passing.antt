@@ -11,9 +11,9 @@ use borrow.Author.Tests.{lt-ltb, le-ltb, eq-eqb, ne-eqb}
 use Rattle.layout.specs.Bytes.{Bytes}
 use Rattle.layout.specs.Parser.{Res, refuse, ok, next, choose, byte, u16, u32}
 use Rattle.layout.specs.Tree.{Label, ColumnType, leafType, cstruct, clist, carray}
-use Rattle.layout.specs.Layout.{Kind, aLeaf, text, unit, label, fieldId, elementLabel, plainLeaf, leafKind, datetimeKind, structKind, arrayKind, kindOf, kind, body, structType, listType, arrayType, columns, type}
+use Rattle.layout.specs.Layout.{Kind, aLeaf, text, unit, label, fieldId, elementLabel, plainLeaf, leafKind, datetimeKind, decimalParams, decimalKind, structKind, arrayKind, kindOf, kind, body, structType, listType, arrayType, columns, type}
 use Rattle.layout.specs.Pass.{typeRest}
-use Rattle.layout.specs.Answers.{stepRes, shortRes, unitRes, textRes, movedOf}
+use Rattle.layout.specs.Answers.{stepRes, shortRes, unitRes, decimalRes, textRes, movedOf}
 use Rattle.layout.specs.declared.bytes.Span.{Span}
 use Rattle.layout.specs.declared.cursor.Cursor.{Cursor}
 use Rattle.layout.specs.declared.cursor.Step.{Step}
@@ -22,8 +22,10 @@ use Rattle.layout.specs.declared.cursor.Moved.{Moved}
 use Rattle.layout.specs.declared.cursor.Text.{Text}
 use Rattle.layout.specs.declared.leaf.TimeUnit.{TimeUnit}
 use Rattle.layout.specs.declared.leaf.Leaf.{Leaf}
+use Rattle.layout.specs.declared.leaf.Decimal.{Decimal}
 use Rattle.layout.specs.declared.types.PlainLeaf.{PlainLeaf}
 use Rattle.layout.specs.declared.types.Unit.{Unit as UnitRead}
+use Rattle.layout.specs.declared.types.DecimalRead.{DecimalRead}
 use Rattle.layout.specs.declared.columns.Siblings.{Siblings}
 use Rattle.layout.specs.declared.version.Version.{Version}
 use Rattle.layout.proofs.Ways.{clash, moved-to, moved-refused, to-pure, choose-true, choose-false, element-none, element-some, type-deep}
@@ -97,6 +99,17 @@ module _ (s : Bytes) (at : ℕ) {p : UnitRead} (e : unitRes p ≡ unit s at) whe
   unfolding datetimeKind next movedOf
   datetime-unitless f = rw (← e, f)
 
+-- ---- a decimal
+
+module _ (s : Bytes) (at : ℕ) {p : DecimalRead} (e : decimalRes p ≡ decimalParams s at) where
+  pub decimal-whole : {d : Decimal} {c : Cursor} → p ≡ DecimalRead.Is d c → Moved.To c ≡ movedOf (decimalKind s at)
+  unfolding decimalKind next movedOf
+  decimal-whole f = rw (← e, f)
+
+  pub decimal-refused : {k : ℕ} → p ≡ DecimalRead.Refused k → Moved.Refused k ≡ movedOf (decimalKind s at)
+  unfolding decimalKind next movedOf
+  decimal-refused f = rw (← e, f)
+
 -- ---- a type
 
 pub type-unruled : (v : Version) (r : Siblings) (s : Bytes) (at d : ℕ) {o : Moved} → r ≡ Siblings.Free → o ≡ movedOf (type v Siblings.Free d s at) → o ≡ movedOf (type v r d s at)
@@ -129,7 +142,7 @@ module _ (v : Version) (r : Siblings) (s : Bytes) (at d : ℕ) (z : d ≡ 0 → 
     unfolding next movedOf typeRest kindOf choose leafKind body
     pass-plain h =
         let k = sym g ∙ h in
-        rw (← level v r s at d z, ← e, f) (rw (other code 14 refl k, other code 18 refl k, other code 19 refl k, other code 20 refl k, k))
+        rw (← level v r s at d z, ← e, f) (rw (other code 14 refl k, other code 18 refl k, other code 19 refl k, other code 20 refl k, other code 21 refl k, k))
 
     pub pass-on : {o : Moved} → o ≡ movedOf (typeRest v r (d - 1) code s (c .at)) → o ≡ movedOf (type v r d s at)
     unfolding next
@@ -166,6 +179,15 @@ module _ (v : Version) (r : Siblings) (d : ℕ) (s : Bytes) (at : ℕ) {code : �
           zone u (refuse n) = refl
           zone u (ok z n) = refl
 
+  pub rest-decimal : {o : Moved} → code ≡ 21 → o ≡ movedOf (decimalKind s at) → o ≡ movedOf (typeRest v r d code s at)
+  unfolding typeRest kindOf choose decimalKind next movedOf body
+  rest-decimal h e = rw h (e ∙ go (decimalParams s at))
+    where
+      go : (x : Res Decimal) → movedOf (next x (λ p m. ok (aLeaf (leafType (Leaf.Decimal p) [])) m))
+          ≡ movedOf (next (next x (λ p m. ok (aLeaf (leafType (Leaf.Decimal p) [])) m)) (λ k m. body v r (type v r d) k s m))
+      go (refuse n) = refl
+      go (ok p m) = refl
+
   module _ {q : Short} (e : shortRes q ≡ u16 s at) (h : code ≡ 18) where
     pub rest-struct : {n : ℕ} {c : Cursor} {o : Moved} → q ≡ Short.Is n c → o ≡ movedOf (columns v r (type v r d) n [] s (c .at)) → o ≡ movedOf (typeRest v r d code s at)
     unfolding typeRest kindOf choose structKind next body structType
@@ -188,9 +210,10 @@ module _ (v : Version) (r : Siblings) (d : ℕ) (s : Bytes) (at : ℕ) {code : �
     unfolding typeRest kindOf choose arrayKind next movedOf
     rest-widthless f = rw (h, moved-refused (u32 s at) e f)
 
-  pub rest-unknown : (code ≡ 14 → ⊥) → (code ≡ 18 → ⊥) → (code ≡ 19 → ⊥) → (code ≡ 20 → ⊥) → plainLeaf code ≡ PlainLeaf.Unknown → Moved.Refused 3 ≡ movedOf (typeRest v r d code s at)
+  pub rest-unknown : (code ≡ 14 → ⊥) → (code ≡ 18 → ⊥) → (code ≡ 19 → ⊥) → (code ≡ 20 → ⊥) → (code ≡ 21 → ⊥) → plainLeaf code ≡ PlainLeaf.Unknown
+      → Moved.Refused 3 ≡ movedOf (typeRest v r d code s at)
   unfolding typeRest kindOf choose leafKind next movedOf
-  rest-unknown a b c e f = rw (ne-eqb code 14 a, ne-eqb code 18 b, ne-eqb code 19 c, ne-eqb code 20 e, f)
+  rest-unknown a b c e g f = rw (ne-eqb code 14 a, ne-eqb code 18 b, ne-eqb code 19 c, ne-eqb code 20 e, ne-eqb code 21 g, f)
 
 -- an element
 module _ (v : Version) (r : Siblings) (d : ℕ) (s : Bytes) (at : ℕ) where
@@ -253,6 +276,6 @@ module _ (v : Version) (d : ℕ) (s : Bytes) (n from : ℕ) where
 
 pub ruleset type-passed = (type-deep, pass-ended, pass-plain, pass-on)
 
-pub ruleset rest-passed = (rest-datetime, rest-struct, rest-uncounted, rest-list, rest-array, rest-widthless, rest-unknown)
+pub ruleset rest-passed = (rest-datetime, rest-struct, rest-uncounted, rest-list, rest-array, rest-widthless, rest-decimal, rest-unknown)
 
 pub ruleset element-passed = (element-named, element-numbered, element-unlabelled)

@@ -7,10 +7,10 @@ use native.Mathlib.Omega.{arith}
 use lib.ListN.{length, take, drop}
 use lib.Dec.{eqb, leb}
 use borrow.Author.Tests.{lt-ltb, le-ltb, le-leb, lt-leb, eq-eqb, ne-eqb}
-use Rattle.layout.specs.Parser.{Res, refuse, ok, next, choose, chunk, u32}
+use Rattle.layout.specs.Parser.{Res, refuse, ok, next, choose, byte, chunk, u32}
 use Rattle.layout.specs.Tree.{leafType, Label}
-use Rattle.layout.specs.Layout.{aLeaf, label, fieldId, elementLabel, plainLeaf, leafKind, type}
-use Rattle.layout.specs.Answers.{stepRes, shortRes, longRes, unitRes, spanAt, spanIn, textRes, headIn, labelRes, labelAt, textIn, labelIn, movedOf}
+use Rattle.layout.specs.Layout.{Kind, aLeaf, label, fieldId, elementLabel, plainLeaf, leafKind, decimalKind, kindOf, kind, type}
+use Rattle.layout.specs.Answers.{stepRes, shortRes, longRes, unitRes, decimalRes, spanAt, spanIn, textRes, headIn, labelRes, labelAt, textIn, labelIn, movedOf}
 use Rattle.layout.specs.declared.bytes.Span.{Span}
 use Rattle.layout.specs.declared.cursor.Cursor.{Cursor}
 use Rattle.layout.specs.declared.cursor.Step.{Step}
@@ -20,10 +20,12 @@ use Rattle.layout.specs.declared.cursor.Moved.{Moved}
 use Rattle.layout.specs.declared.cursor.Text.{Text}
 use Rattle.layout.specs.declared.leaf.TimeUnit.{TimeUnit}
 use Rattle.layout.specs.declared.leaf.Leaf.{Leaf}
+use Rattle.layout.specs.declared.leaf.Decimal.{Decimal}
 use Rattle.layout.specs.declared.types.LeafType.{LeafType as LeafSpan}
 use Rattle.layout.specs.declared.types.PlainLeaf.{PlainLeaf}
 use Rattle.layout.specs.declared.types.Head.{Head}
 use Rattle.layout.specs.declared.types.Unit.{Unit as UnitRead}
+use Rattle.layout.specs.declared.types.DecimalRead.{DecimalRead}
 use Rattle.layout.specs.declared.columns.Labelled.{Labelled}
 use Rattle.layout.specs.declared.columns.Label.{Label as LabelSpan}
 use Rattle.layout.specs.declared.columns.Siblings.{Siblings}
@@ -146,6 +148,15 @@ module _ {B : Type 0} where
   unfolding next
   unit-off x k e f = rw (← e, f)
 
+  pub decimal-on : (x : Res Decimal) (k : Decimal → ℕ → Res B) {y : Res B} {p : DecimalRead} {d : Decimal} {c : Cursor} → decimalRes p ≡ x → p ≡ DecimalRead.Is d c
+      → y ≡ k d (c .at) → y ≡ next x k
+  unfolding next
+  decimal-on x k e f g = rw (← e, f) g
+
+  pub decimal-off : (x : Res Decimal) (k : Decimal → ℕ → Res B) {p : DecimalRead} {n : ℕ} → decimalRes p ≡ x → p ≡ DecimalRead.Refused n → refuse n ≡ next x k
+  unfolding next
+  decimal-off x k e f = rw (← e, f)
+
   pub text-on : (s : List ℕ) (x : Res (List ℕ)) (k : List ℕ → ℕ → Res B) {y : Res B} {p : Text} {b : Span} {c : Cursor} → textRes s p ≡ x → p ≡ Text.Is b c → y ≡ k (spanAt s b) (c .at) → y ≡ next x k
   unfolding next
   text-on s x k e f g = rw (← e, f) g
@@ -162,7 +173,13 @@ module _ {B : Type 0} where
   unfolding next
   label-off s x k e f = rw (← e, f)
 
-pub ruleset ways = (step-on, step-off, short-on, short-off, long-on, long-off, unit-on, unit-off, text-on, text-off, label-on, label-off, choose-true, choose-false, chunk-fits, chunk-past, chunk-short, id-none-on, id-some, eqb-from, leb-from, element-none, element-some, leaf-known, leaf-unknown, text-in, flag, lt-ltb, le-ltb, le-leb, lt-leb, eq-eqb, ne-eqb)
+-- what a type begins with, where its code is a decimal's
+pub kind-decimal : (s : List ℕ) (at : ℕ) {p : Step} {code : ℕ} {c : Cursor} {y : Res Kind} → stepRes p ≡ byte s at → p ≡ Step.Byte code c → code ≡ 21
+    → y ≡ decimalKind s (c .at) → y ≡ kind s at
+unfolding kind kindOf next choose
+kind-decimal s at e f h g = rw (← e, f, h) g
+
+pub ruleset ways = (step-on, step-off, short-on, short-off, long-on, long-off, unit-on, unit-off, decimal-on, decimal-off, text-on, text-off, label-on, label-off, choose-true, choose-false, chunk-fits, chunk-past, chunk-short, id-none-on, id-some, eqb-from, leb-from, element-none, element-some, leaf-known, leaf-unknown, text-in, flag, lt-ltb, le-ltb, le-leb, lt-leb, eq-eqb, ne-eqb)
 
 -- where only the position is answered
 module _ {A : Type 0} {o : Moved} where

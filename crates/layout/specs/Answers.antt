@@ -14,7 +14,9 @@ use Rattle.layout.specs.declared.cursor.Short.{Short}
 use Rattle.layout.specs.declared.cursor.Long.{Long}
 use Rattle.layout.specs.declared.cursor.Text.{Text}
 use Rattle.layout.specs.declared.leaf.TimeUnit.{TimeUnit}
+use Rattle.layout.specs.declared.leaf.Decimal.{Decimal}
 use Rattle.layout.specs.declared.types.Unit.{Unit as UnitRead}
+use Rattle.layout.specs.declared.types.DecimalRead.{DecimalRead}
 use Rattle.layout.specs.declared.types.LeafType.{LeafType as LeafSpan}
 use Rattle.layout.specs.declared.types.Head.{Head}
 use Rattle.layout.specs.declared.columns.Label.{Label as LabelSpan}
@@ -38,6 +40,10 @@ longRes (Long.Refused n) = refuse n
 abbrev pub unitRes : UnitRead → Res TimeUnit
 unitRes (UnitRead.Is u c) = ok u (c .at)
 unitRes (UnitRead.Refused n) = refuse n
+
+abbrev pub decimalRes : DecimalRead → Res Decimal
+decimalRes (DecimalRead.Is d c) = ok d (c .at)
+decimalRes (DecimalRead.Refused n) = refuse n
 
 -- the bytes of a span
 abbrev pub spanAt : Bytes → Span → Bytes

@@ -1,4 +1,4 @@
--- Document 01, "Reading a layout" and "Layouts": bytes to a tree, or the number of the first refusal.
+-- Document 01, "Reading a layout" and "Layouts", and document 02, L1: bytes to a tree, or the number of the first refusal.
 -- Each parser refuses where the document has the test: 2 where the bytes end, 4 at a length over 63 or at a depth over 16,
 -- 3 at an unknown code or unit, 5 once a sibling that repeats is read.
 use Prim.Native.Nat.{ℕ, zero, suc, _+_, _*_}
@@ -12,6 +12,7 @@ use Rattle.layout.specs.Tree.{LeafType, leafType, Label, ColumnType, cle
 use Rattle.layout.specs.declared.leaf.TimeUnit.{TimeUnit}
 use Rattle.layout.specs.declared.leaf.TimeUnit.the-variants.{Nanoseconds, Microseconds, Milliseconds}
 use Rattle.layout.specs.declared.leaf.Leaf.{Leaf}
+use Rattle.layout.specs.declared.leaf.Decimal.{Decimal}
 use Rattle.numeric.specs.declared.integers.Integer.{Integer}
 use Rattle.numeric.specs.declared.integers.Integer.the-variants.{Int8, Int16, Int32, Int64, UInt8, UInt16, UInt32, UInt64}
 use Rattle.numeric.specs.declared.floats.Format.{Format}
@@ -47,7 +48,7 @@ pub data Kind : Type 0 where
   aList : Kind
   anArray : ℕ → Kind
 
--- the leaves that are their code alone, each at the place of its code; 14 is a date-time
+-- the leaves that are their code alone, each at the place of its code; 14 is a date-time, and 21, past the list, a decimal
 abbrev pub plainLeaves : List PlainLeaf
 plainLeaves =
     Known Leaf.Null ∷ Known Leaf.Boolean
@@ -86,6 +87,7 @@ codeOf (Leaf.Datetime u) = 14
 codeOf Leaf.String = 15
 codeOf Leaf.Binary = 16
 codeOf Leaf.Categorical = 17
+codeOf (Leaf.Decimal d) = 21
 
 unfoldable pub leafKind : PlainLeaf → Parser Kind
 leafKind (Known l) = pure (aLeaf (leafType l []))
@@ -96,6 +98,22 @@ datetimeKind = do
   u ← unit
   z ← text
   pure (aLeaf (leafType (Leaf.Datetime u) z))
+
+-- L1: "precision u8 from 1 to 18, scale u8 from 0 to the precision"
+abbrev pub validDecimal : ℕ → ℕ → Bool
+validDecimal precision scale = leb 1 precision && (leb precision 18 && leb scale precision)
+
+-- "50 when a layout's precision or scale is outside these limits, tested after both bytes are read"
+unfoldable pub decimalParams : Parser Decimal
+decimalParams = do
+  p ← byte
+  s ← byte
+  if (validDecimal p s) (pure (record { precision = p; scale = s })) (fail 50)
+
+unfoldable pub decimalKind : Parser Kind
+decimalKind = do
+  d ← decimalParams
+  pure (aLeaf (leafType (Leaf.Decimal d) []))
 
 unfoldable pub structKind : Parser Kind
 structKind = do
@@ -114,7 +132,8 @@ kindOf c =
     (if (eqb c 18) structKind
     (if (eqb c 19) (pure aList)
     (if (eqb c 20) arrayKind
-    (leafKind (plainLeaf c)))))
+    (if (eqb c 21) decimalKind
+    (leafKind (plainLeaf c))))))
 
 unfoldable pub kind : Parser Kind
 kind = do

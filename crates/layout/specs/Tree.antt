@@ -1,9 +1,10 @@
--- Document 01, "Layouts": types and layouts as trees. antt has no nested recursion, so lists of columns are data types of their own.
+-- Document 01, "Layouts", and document 02, L1: types and layouts as trees. antt has no nested recursion, so lists of columns are data types of their own.
 use Prim.Native.Nat.{ℕ, zero, suc}
 use mathlib.Core.List.{List, []}
 use Rattle.layout.specs.Bytes.{Bytes}
 use Rattle.layout.specs.declared.leaf.TimeUnit.{TimeUnit}
 use Rattle.layout.specs.declared.leaf.Leaf.{Leaf}
+use Rattle.layout.specs.declared.leaf.Decimal.{Decimal}
 use Rattle.numeric.specs.declared.integers.Integer.{Integer}
 use Rattle.numeric.specs.declared.floats.Format.{Format}
 use Rattle.layout.specs.declared.columns.FieldId.{FieldId}
@@ -17,6 +18,7 @@ pub data LeafType : Type 0 where
   date : LeafType
   datetime : TimeUnit → Bytes → LeafType
   string binary categorical : LeafType
+  decimal : Decimal → LeafType
 
 -- the leaf type of a kind and a zone, which only a date-time has
 abbrev pub leafType : Leaf → Bytes → LeafType
@@ -29,6 +31,7 @@ leafType (Leaf.Datetime u) z = datetime u z
 leafType Leaf.String z = string
 leafType Leaf.Binary z = binary
 leafType Leaf.Categorical z = categorical
+leafType (Leaf.Decimal d) z = decimal d
 
 abbrev pub leafOf : LeafType → Leaf
 leafOf null = Leaf.Null
@@ -40,6 +43,7 @@ leafOf (datetime u z) = Leaf.Datetime u
 leafOf string = Leaf.String
 leafOf binary = Leaf.Binary
 leafOf categorical = Leaf.Categorical
+leafOf (decimal d) = Leaf.Decimal d
 
 abbrev pub zoneOf : LeafType → Bytes
 zoneOf null = []
@@ -51,6 +55,7 @@ zoneOf (datetime u z) = z
 zoneOf string = []
 zoneOf binary = []
 zoneOf categorical = []
+zoneOf (decimal d) = []
 
 -- what stands before a column's type: its name and, in version 2, its id (0 in version 1)
 pub record Label : Type 0 where

@@ -8,6 +8,12 @@ pub enum TimeUnit {
     Milliseconds,
 }
 
+// A decimal's digits, and how many of them stand behind its point.
+pub struct Decimal {
+    pub precision: u8,
+    pub scale: u8,
+}
+
 // A leaf's kind. A date-time's zone stands beside it: see `types::LeafType`.
 pub enum Leaf {
     Null,
@@ -19,4 +25,5 @@ pub enum Leaf {
     String,
     Binary,
     Categorical,
+    Decimal(Decimal),
 }

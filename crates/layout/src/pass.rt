@@ -2,7 +2,7 @@
 ghost use mathlib.Core.Path.{_≡_};
 ghost use mathlib.Core.List.{[]};
 ghost use Rattle.layout.specs.Parser.{u32};
-ghost use Rattle.layout.specs.Layout.{label, plainLeaf, datetimeKind, listType, columns, type};
+ghost use Rattle.layout.specs.Layout.{label, plainLeaf, datetimeKind, decimalKind, listType, columns, type};
 ghost use Rattle.layout.specs.Pass.{typeRest};
 ghost use Rattle.layout.specs.Answers.{movedOf};
 ghost use Rattle.layout.specs.declared.columns.Siblings.{Siblings};
@@ -12,6 +12,7 @@ use crate::cursor::Moved;
 use crate::cursor::Short;
 use crate::cursor::Step;
 use crate::cursor::Text;
+use crate::types::DecimalRead;
 use crate::types::PlainLeaf;
 use crate::types::Unit;
 use crate::types::plain_leaf;
@@ -57,6 +58,16 @@ pub fn pass_datetime(s: &[u8], c: Cursor) -> Moved
     }
 }
 
+// A decimal's precision and scale.
+pub fn pass_decimal(s: &[u8], c: Cursor) -> Moved
+    ensures { λ r. ⌜ r ≡ movedOf (decimalKind (now (s .entry)) (c .at)) ⌝ }
+{
+    match c.decimal(s) {
+        DecimalRead::Is(_, d) => Moved::To(d),
+        DecimalRead::Refused(k) => Moved::Refused(k),
+    }
+}
+
 // A type of at most `depth` levels. Most are a code alone.
 pub fn pass_type(s: &[u8], v: Version, depth: u8, c: Cursor) -> Moved
     ensures { λ r. ⌜ r ≡ movedOf (type v Siblings.Free depth (now (s .entry)) (c .at)) ⌝ }
@@ -89,6 +100,7 @@ fn pass_rest(s: &[u8], v: Version, depth: u8, code: u8, c: Cursor) -> Moved
             Moved::To(d) => pass_element(s, v, depth, d),
             Moved::Refused(k) => Moved::Refused(k),
         },
+        21 => pass_decimal(s, c),
         _ => Moved::Refused(3),
     }
 }

@@ -18,6 +18,7 @@ use crate::cursor::Moved;
 use crate::cursor::Short;
 use crate::cursor::Step;
 use crate::pass::pass_datetime;
+use crate::pass::pass_decimal;
 use crate::pass::pass_label;
 use crate::pass::pass_long;
 use crate::pass::pass_type;
@@ -95,6 +96,7 @@ fn read_rest(
             Moved::To(d) => read_element(s, v, rule, depth, d, seen),
             Moved::Refused(k) => Moved::Refused(k),
         },
+        21 => pass_decimal(s, c),
         _ => Moved::Refused(3),
     }
 }

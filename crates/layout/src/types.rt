@@ -1,13 +1,14 @@
 // What a type begins with: its code and what follows up to its columns or its element.
 ghost use mathlib.Core.Path.{_≡_};
-ghost use Rattle.layout.specs.Layout.{unit, plainLeaf, integerCode, floatCode, kind, datetimeKind, structKind, arrayKind};
-ghost use Rattle.layout.specs.Answers.{unitRes, headRes, headIn};
+ghost use Rattle.layout.specs.Layout.{unit, plainLeaf, integerCode, floatCode, validDecimal, decimalParams, kind, datetimeKind, decimalKind, structKind, arrayKind};
+ghost use Rattle.layout.specs.Answers.{unitRes, decimalRes, headRes, headIn};
 use crate::bytes::Span;
 use crate::cursor::Cursor;
 use crate::cursor::Long;
 use crate::cursor::Short;
 use crate::cursor::Step;
 use crate::cursor::Text;
+use crate::leaf::Decimal;
 use crate::leaf::Leaf;
 use crate::leaf::TimeUnit;
 use numeric::floats::Format;
@@ -15,6 +16,11 @@ use numeric::integers::Integer;
 
 pub enum Unit {
     Is(TimeUnit, Cursor),
+    Refused(u8),
+}
+
+pub enum DecimalRead {
+    Is(Decimal, Cursor),
     Refused(u8),
 }
 
@@ -89,6 +95,19 @@ pub fn float_code(f: Format) -> u8
     }
 }
 
+// Whether a decimal may have this precision and scale.
+fn valid_decimal(precision: u8, scale: u8) -> bool
+    ensures { λ r. ⌜ r ≡ validDecimal precision scale ⌝ }
+{
+    if precision < 1 {
+        return false;
+    }
+    if 18 < precision {
+        return false;
+    }
+    scale <= precision
+}
+
 impl Cursor {
     pub fn unit(self, s: &[u8]) -> Unit
         ensures { λ r. ⌜ unitRes r ≡ unit (now (s .entry)) (self .at) ⌝ }
@@ -101,6 +120,25 @@ impl Cursor {
                 _ => Unit::Refused(3),
             },
             Step::Refused(k) => Unit::Refused(k),
+        }
+    }
+
+    // A decimal's precision and scale; 50 once both are read.
+    pub fn decimal(self, s: &[u8]) -> DecimalRead
+        ensures { λ r. ⌜ decimalRes r ≡ decimalParams (now (s .entry)) (self .at) ⌝ }
+    {
+        match self.byte(s) {
+            Step::Byte(precision, c) => match c.byte(s) {
+                Step::Byte(scale, d) => {
+                    if valid_decimal(precision, scale) {
+                        DecimalRead::Is(Decimal { precision, scale }, d)
+                    } else {
+                        DecimalRead::Refused(50)
+                    }
+                }
+                Step::Refused(k) => DecimalRead::Refused(k),
+            },
+            Step::Refused(k) => DecimalRead::Refused(k),
         }
     }
 
@@ -120,6 +158,22 @@ impl Cursor {
                 Text::Refused(k) => Head::Refused(k),
             },
             Unit::Refused(k) => Head::Refused(k),
+        }
+    }
+
+    fn decimal_head(self, s: &[u8]) -> Head
+        ensures { λ r. ⌜ headRes (now (s .entry)) r ≡ decimalKind (now (s .entry)) (self .at) ⌝ }
+        ensures { λ r. ⌜ headIn (now (s .entry)) r ⌝ }
+    {
+        match self.decimal(s) {
+            DecimalRead::Is(d, next) => Head::Leaf(
+                LeafType {
+                    leaf: Leaf::Decimal(d),
+                    zone: Span { start: 0, len: 0 },
+                },
+                next,
+            ),
+            DecimalRead::Refused(k) => Head::Refused(k),
         }
     }
 
@@ -153,6 +207,7 @@ impl Cursor {
                 18 => c.struct_head(s),
                 19 => Head::List(c),
                 20 => c.array_head(s),
+                21 => c.decimal_head(s),
                 _ => match plain_leaf(code) {
                     PlainLeaf::Known(leaf) => Head::Leaf(
                         LeafType {

@@ -17,7 +17,8 @@ use Rattle.values.specs.Fits.{Fits, fit-null, fit-struct, FitsAll, all-nil, all
 use Rattle.values.proofs.Round.{value-fits}
 use Rattle.plan.specs.Result.{gives}
 use Rattle.plan.proofs.Results.{never-refused, gives-eq, bind-gives, demand-gives}
-use Rattle.defaults.specs.Table.{Given, initial, partition, failed, Entry, repeatsAnyEntry, initialEntry, loadedEntry, partitionEntry, givenOf, entry, entries, tableFrom, table}
+use Rattle.values.proofs.Inside.{renumber-ok}
+use Rattle.defaults.specs.Table.{Given, initial, partition, failed, Entry, repeatsAnyEntry, initialEntry, loadedEntry, partitionEntry, givenOf, tableNumber, entry, entries, tableFrom, table}
 use Rattle.defaults.specs.Lookup.{Taken, refused, nothing, taken, isNullValue, unlessNull, ofSource, givenTo, isPartitionOf, isInitialOf, firstEntry, getDefaultValue}
 use Rattle.matching.specs.Default.{Defaults, noDefaults, Default, none, some, orNull, leafDefault, FieldDefaults, structDefault, withField, buildIcebergDefaultValue, defaultsOf, missingValue}
 use Rattle.matching.proofs.Entries.{Match, unmatched, matched, matchOf, ofMatch, first-match}
@@ -180,6 +181,7 @@ module _ (s : Bytes) (o : AllBytes s) where
       let (i, a, p, e) = next-ok _ _ e in
       let (k, b, q, e) = next-ok _ _ e in
       let (g, c, r, e) = next-ok _ _ e in
+      let r = renumber-ok tableNumber (givenOf k s b) r in
       ok-same (λ (x : Entry). GivenFits (x .given)) e (either (eqb k 0) (eqb k 1) (initialEntry s b) (partitionEntry s b) r (λ e. initial-fits b e) (λ e. partition-fits b e))
 
   entries-fit : (n : ℕ) (earlier : List Entry) (at : ℕ) {es : List Entry} {m : ℕ} → EntriesFit earlier → entries n earlier s at ≡ ok es m → EntriesFit es

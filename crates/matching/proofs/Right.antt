@@ -103,7 +103,7 @@ array-same (varray xs) = ap varray (map-same xs)
 -- null's only value is null
 null-value : {x : Value} → Fits (leaf null) x → x ≡ vnull
 null-value fit-null = refl
-null-value (fit-number {n = n} e h) = let z : n < 0 = rw (← e) at h in absurd (omega arith)
+null-value (fit-number {n = n} e h t) = let z : n < 0 = rw (← e) at h in absurd (omega arith)
 null-value (fit-text e h) = clash (cc)
 
 pub from-null-value : (l : LeafType) (o : CastOption) {x : Value} → fromNull l o ≡ true → Fits (leaf l) x → x ≡ vnull

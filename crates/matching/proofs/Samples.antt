@@ -14,6 +14,7 @@ use Rattle.forms.specs.Same.{sameLeaf, sameDtype}
 use Rattle.rules.specs.declared.policy.Policy.{Policy}
 use Rattle.rules.specs.Policies.{policyOf}
 use Rattle.rules.specs.Zones.{zonesOf, readZone, isUtc}
+use Rattle.rules.specs.Params.{paramsOf}
 use Rattle.rules.specs.Chain.{chain}
 use Rattle.rules.specs.Pairs.{pairRule}
 use Rattle.store.specs.Overlay.{littleBytes}
@@ -23,7 +24,8 @@ use Rattle.values.specs.Reading.{presence, nullable, flag, little, longText, co
 use Rattle.plan.specs.Result.{Answer, accepted, refusedAt, _>>=_, demand, placed, answered}
 use Rattle.plan.specs.Selector.{countSelectors}
 use Rattle.plan.specs.Encode.{encodeSelector, encodeSelectors, encodePlan}
-use Rattle.defaults.specs.Table.{initial, partition, Entry, sameKind, repeatsAnyEntry, onlyLeaf, defaultType, initialEntry, loadedEntry, partitionEntry, givenOf, entry, entries, tableVersion, tableFrom, table}
+use Rattle.values.specs.Record.{renumber}
+use Rattle.defaults.specs.Table.{initial, partition, Entry, sameKind, repeatsAnyEntry, onlyLeaf, defaultType, initialEntry, loadedEntry, partitionEntry, givenOf, tableNumber, entry, entries, tableVersion, tableFrom, table}
 use Rattle.defaults.specs.Lookup.{unlessNull, ofSource, givenTo, firstEntry, getDefaultValue}
 use Rattle.matching.specs.Default.{leafDefault, withField, structDefault, buildIcebergDefaultValue, defaultsOf, missingValue}
 use Rattle.matching.specs.Build.{leafPart, structPart, listPart, arrayPart, isNullType, unlessNullType, renamed, sameElement, distinctNames, distinct, noExtra, missing, ruled, isPosition, inPlace, structSelector, listSelector, arraySelector, sought, attachTransforms, attachFields, buildColumnSelector, buildFrom, build}
@@ -37,11 +39,11 @@ unfolding layout layoutFrom sized version sameBytes counted ended columns label 
 laidOut s = layout s
 
 unfoldable pub tabled : Bytes → Res (List Entry)
-unfolding laidOut table tableFrom tableVersion entries entry givenOf partitionEntry loadedEntry initialEntry defaultType onlyLeaf repeatsAnyEntry sameKind presence nullable flag little longText contentBy leafContent times content value
+unfolding laidOut table tableFrom tableVersion entries entry tableNumber renumber givenOf partitionEntry loadedEntry initialEntry defaultType onlyLeaf repeatsAnyEntry sameKind presence nullable flag little longText contentBy leafContent times content value
 tabled s = table s
 
 unfoldable pub built : Policy → ℕ → Bytes → Bytes → Bytes → ℕ → Answer Bytes
-unfolding tabled buildByName buildByNumber bothLayouts readAt ofVersion roomFor writtenPlan build buildFrom buildColumnSelector attachTransforms attachFields sought missing missingValue buildIcebergDefaultValue defaultsOf structDefault withField leafDefault getDefaultValue firstEntry givenTo ofSource unlessNull leafPart structPart listPart arrayPart isNullType unlessNullType renamed sameElement distinctNames distinct noExtra ruled isPosition inPlace structSelector listSelector arraySelector findFrom pairRule chain zonesOf readZone isUtc sameDtype sameLeaf dtypeOf fieldsOf countColumns countFields countSelectors encodePlan encodeSelector encodeSelectors u16Bytes u32Bytes textBytes leafForm carried kindForm form formFields encodeValue encodeValues littleBytes _>>=_ demand placed answered
+unfolding tabled buildByName buildByNumber bothLayouts readAt ofVersion roomFor writtenPlan build buildFrom buildColumnSelector attachTransforms attachFields sought missing missingValue buildIcebergDefaultValue defaultsOf structDefault withField leafDefault getDefaultValue firstEntry givenTo ofSource unlessNull leafPart structPart listPart arrayPart isNullType unlessNullType renamed sameElement distinctNames distinct noExtra ruled isPosition inPlace structSelector listSelector arraySelector findFrom pairRule chain paramsOf zonesOf readZone isUtc sameDtype sameLeaf dtypeOf fieldsOf countColumns countFields countSelectors encodePlan encodeSelector encodeSelectors u16Bytes u32Bytes textBytes leafForm carried kindForm form formFields encodeValue encodeValues littleBytes _>>=_ demand placed answered
 built p k a b d room = buildByNumber p k a b d room
 
 -- ---- layouts, tables and plans

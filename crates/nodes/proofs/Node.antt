@@ -21,11 +21,11 @@ use Rattle.layout.specs.declared.version.Version.{Version}
 use Rattle.layout.proofs.Ways.{clash}
 use Rattle.layout.proofs.View.{next-ok, label-got, label-none, leaf-at, struct-at, list-at, array-at}
 use Rattle.values.specs.Value.{Value, vnull, vnumber, vtext, Values}
-use Rattle.values.specs.Reading.{presence, flag, little, longText, contentBy, leafContent, content as contentOfType, value, values as valuesOf, times}
+use Rattle.values.specs.Reading.{presence, flag, little, longText, contentBy, leafContent, content as contentOfType, value, values as valuesOf, times, decimal}
 use Rattle.values.specs.Answers.{presenceRes, valueMoved}
 use Rattle.values.specs.Stands.{ContentAt}
 use Rattle.values.specs.declared.content.Content.{Content}
-use Rattle.values.specs.declared.content.Content.the-variants.{Nothing, Flag, Number, Text}
+use Rattle.values.specs.declared.content.Content.the-variants.{Nothing, Flag, Number, Decimal, Text}
 use Rattle.values.specs.declared.leaf.Presence.{Presence}
 use Rattle.values.specs.declared.read.ValueRead.{ValueRead}
 use Rattle.values.proofs.Walk.{moved-value, moved-none}
@@ -186,6 +186,7 @@ content-no-parts : (c : Content) (k : Leaf) (s : Bytes) (at : ℕ) (x : Value) {
 unfolding contentBy
 content-no-parts Nothing k s at x e = clash (cc)
 content-no-parts Flag k s at x e = let (b, i, h, g) = next-ok (flag s at) _ e in no-number x {k = k} {n = b} (cc)
+content-no-parts (Decimal p) k s at x e = let (n, i, h, g) = next-ok (decimal p s at) _ e in no-number x {k = k} {n = n} (cc)
 content-no-parts (Number w) k s at x e = let (b, i, h, g) = next-ok (chunk w s at) _ e in no-number x {k = k} {n = little b} (cc)
 content-no-parts Text k s at x e = let (b, i, h, g) = next-ok (longText s at) _ e in no-text x {b = b} (cc)
 

@@ -16,6 +16,7 @@ use Rattle.forms.specs.Readable.{depthOf, depthOfFields}
 use Rattle.forms.specs.Same.{sameDtype, sameFields, sameLeaf}
 use Rattle.rules.specs.declared.outcome.CastOption.the-variants.{Overflowing}
 use Rattle.rules.specs.Zones.{zonesOf, readZone, isUtc}
+use Rattle.rules.specs.Params.{paramsOf}
 use Rattle.rules.specs.Chain.{chain}
 use Rattle.rules.specs.Pairs.{pairRule, castPasses}
 use Rattle.numeric.specs.Integers.{signed, numberOf, pattern, widened}
@@ -65,7 +66,7 @@ unfolding selectors selector selectorRest positionRest constantRest castRest dat
 selectors-read = refl
 
 passes : check (fieldsOf incoming) target ss ≡ accepted tt
-unfolding fieldsOf dtypeOf check topTypes typeOf columnAt _>>=_ checkCast castFits castPasses pairRule chain zonesOf readZone isUtc sameBytes demand resulting withinLimits depthOf form leafForm carried kindForm textBytes u16Bytes placed answered against sameFields sameDtype sameLeaf
+unfolding fieldsOf dtypeOf check topTypes typeOf columnAt _>>=_ checkCast castFits castPasses pairRule chain paramsOf zonesOf readZone isUtc sameBytes demand resulting withinLimits depthOf form leafForm carried kindForm textBytes u16Bytes placed answered against sameFields sameDtype sameLeaf
 passes = refl
 
 is-clean : cleanAll (evals row ss) ≡ true

@@ -128,7 +128,7 @@ mutual
 
   fits-levels : {t : DataType} {v : Value} → FitsOver t v → levels v ≤ depthOf t
   fits-levels over-null = omega arith
-  fits-levels (over-number e h) = omega arith
+  fits-levels (over-number e h t) = omega arith
   fits-levels (over-text e h) = omega arith
   fits-levels (over-datetime e) = omega arith
   fits-levels (over-struct a) = omega (arith, all-levels a)

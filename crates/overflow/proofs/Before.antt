@@ -148,7 +148,7 @@ module _ (c u : TimeUnit) {d : Bounds} (s : Small d) where
       → isBeyond d u (castLeaf (Datetime c) v) ≡ isBeyond (boundsBefore (unitChange c u) d) c v
   unfolding castLeaf isBeyond
   leaf-cast k over-null = refl
-  leaf-cast {l} k (over-number {n = n} e h) =
+  leaf-cast {l} k (over-number {n = n} e h t) =
       let g : n < patternsOf (leafOf l) = rw e h in
       ap (λ (x : Leaf). isBeyond d u (convert x (Datetime c) n)) (sym e) ∙ number-cast k n g ∙ ap (λ (x : Leaf). isBeyond (boundsBefore (unitChange c u) d) c (vnumber x n)) e
   leaf-cast k (over-text e h) = refl

@@ -149,7 +149,7 @@ mutual
 
   pub unclean : {t : DataType} {v : Value} → FitsOver t v → leaves t (λ p u. some (overflowing u) p v) ≡ not (clean v)
   unclean (over-null {t}) = (λ i. leaves t (λ p u. some-null (overflowing u) p i)) ∙ leaves-none t
-  unclean (over-number {l} {k} {n} e h) = rw (← e) (number-leaf l n)
+  unclean (over-number {l} {k} {n} e h t) = rw (← e) (number-leaf l n)
   unclean (over-text {l} {b} e h) = text-leaf (timeOf (leafOf l)) b
   unclean (over-datetime {l} e) = overflow-leaf (leafOf l) e
   unclean (over-struct {vs = vs} a) = unclean-fields vs 0 a refl

@@ -4,7 +4,7 @@ use mathlib.Core.Path.{_≡_, refl}
 use mathlib.Core.Bool.{Bool, true, false}
 use mathlib.Core.List.{List, [], _∷_}
 use Rattle.layout.specs.Bytes.{Bytes}
-use Rattle.layout.specs.Tree.{LeafType, null, boolean, integer, float, date, datetime, string, binary, categorical, DataType, leaf, struct, list, array, Fields}
+use Rattle.layout.specs.Tree.{LeafType, null, boolean, integer, float, date, datetime, string, binary, categorical, decimal, DataType, leaf, struct, list, array, Fields}
 use Rattle.layout.specs.declared.leaf.TimeUnit.{TimeUnit}
 use Rattle.rules.specs.declared.outcome.CastOption.{CastOption}
 use Rattle.values.specs.Value.{Value, Values}
@@ -107,6 +107,7 @@ module _ {Γ : Fields} {ρ : Values} (r : FitsAllOver Γ ρ) where
     leaf-means string w k T = cast-other r w string refl T
     leaf-means binary w k T = cast-other r w binary refl T
     leaf-means categorical w k T = cast-other r w categorical refl T
+    leaf-means (decimal d) w k T = cast-other r w (decimal d) refl T
 
     cast-means : (t : DataType) (p : List ℕ) (w : Want) → SmallWant w → TypedState Γ (state (cast s t o) E p) → Means Γ ρ (state (cast s t o) E p) w (castStop p t w)
     unfolding castStop

@@ -27,10 +27,10 @@ use Rattle.layout.proofs.View.{next-ok, leaf-at, struct-at, array-at}
 use Rattle.layout.proofs.Leaves.{leaf-of-type}
 use Rattle.values.specs.Value.{Value, vnumber, vtext, vstruct, vlist, varray, Values, vnil, vcons, countValues}
 use Rattle.values.specs.Content.{contentOf}
-use Rattle.values.specs.Reading.{flag, little, longText, contentBy, leafContent, listContent, content as contentOfType}
+use Rattle.values.specs.Reading.{flag, little, longText, contentBy, leafContent, listContent, content as contentOfType, decimal}
 use Rattle.values.specs.Stands.{ContentAt}
 use Rattle.values.specs.declared.content.Content.{Content}
-use Rattle.values.specs.declared.content.Content.the-variants.{Nothing, Flag, Number, Text}
+use Rattle.values.specs.declared.content.Content.the-variants.{Nothing, Flag, Number, Decimal, Text}
 use Rattle.values.proofs.Inside.{struct-in, list-in, array-in, number-in, never-uncounted}
 use Rattle.nodes.specs.Raw.{RowAt, ElementsAt, PresentAt}
 use Rattle.nodes.proofs.Deeper.{deeper-type, deeper-columns}
@@ -69,6 +69,7 @@ content-leaf : (c : Content) (k : Leaf) (s : Bytes) (at : ℕ) (x : Value) {m : 
 unfolding contentBy
 content-leaf Nothing k s at x e = clash (cc)
 content-leaf Flag k s at x e = let (b, i, h, g) = next-ok (flag s at) _ e in of-number x {k = k} {n = b} (cc)
+content-leaf (Decimal p) k s at x e = let (n, i, h, g) = next-ok (decimal p s at) _ e in of-number x {k = k} {n = n} (cc)
 content-leaf (Number w) k s at x e = let (b, i, h, g) = next-ok (chunk w s at) _ e in of-number x {k = k} {n = little b} (cc)
 content-leaf Text k s at x e = let (b, i, h, g) = next-ok (longText s at) _ e in of-text x {b = b} (cc)
 
@@ -86,6 +87,7 @@ unfolding contentBy
 content-timeless d u Nothing k s at x q e = clash (cc)
 content-timeless d u Flag k s at x q e = let (b, i, h, g) = next-ok (flag s at) _ e in timeless-number d u x k b q (cc)
 content-timeless d u (Number w) k s at x q e = let (b, i, h, g) = next-ok (chunk w s at) _ e in timeless-number d u x k (little b) q (cc)
+content-timeless d u (Decimal p) k s at x q e = let (n, i, h, g) = next-ok (decimal p s at) _ e in timeless-number d u x k n q (cc)
 content-timeless d u Text k s at x q e = let (b, i, h, g) = next-ok (longText s at) _ e in timeless-text d u x b (cc)
 
 -- a date-time has eight bytes
@@ -99,6 +101,7 @@ time-content (Leaf.Datetime u) e = refl
 time-content Leaf.String e = clash (cc)
 time-content Leaf.Binary e = clash (cc)
 time-content Leaf.Categorical e = clash (cc)
+time-content (Leaf.Decimal d) e = clash (cc)
 
 -- ---- by what the type begins with
 

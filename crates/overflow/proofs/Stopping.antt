@@ -89,21 +89,21 @@ module _ (ρ : Values) (w : Want) (n : Bytes) (t : DataType) (v : Value) (p : Li
 leaf-path : {l : LeafType} {v : Value} (w : Want) (k : ℕ) (p : List ℕ) → FitsOver (leaf l) v → some w (k ∷ p) v ≡ false
 unfolding some somePart
 leaf-path w k p over-null = refl
-leaf-path w k p (over-number e h) = refl
+leaf-path w k p (over-number e h t) = refl
 leaf-path w k p (over-text e h) = refl
 leaf-path w k p (over-datetime e) = refl
 
 leaf-parts : {l : LeafType} {v : Value} → FitsOver (leaf l) v → meets Parts v ≡ false
 unfolding meets isStruct
 leaf-parts over-null = refl
-leaf-parts (over-number e h) = refl
+leaf-parts (over-number e h t) = refl
 leaf-parts (over-text e h) = refl
 leaf-parts (over-datetime e) = refl
 
 leaf-element : {l : LeafType} {v : Value} → FitsOver (leaf l) v → meets Element v ≡ false
 unfolding meets isFilled
 leaf-element over-null = refl
-leaf-element (over-number e h) = refl
+leaf-element (over-number e h t) = refl
 leaf-element (over-text e h) = refl
 leaf-element (over-datetime e) = refl
 
@@ -111,7 +111,7 @@ leaf-element (over-datetime e) = refl
 leaf-beyond : {l : LeafType} {v : Value} (d : Bounds) (u : TimeUnit) → timeOf (leafOf l) ≡ Never → FitsOver (leaf l) v → meets (Beyond d u) v ≡ false
 unfolding meets isBeyond countBeyond
 leaf-beyond d u q over-null = refl
-leaf-beyond d u q (over-number e h) = rw (← e, q)
+leaf-beyond d u q (over-number e h t) = rw (← e, q)
 leaf-beyond d u q (over-text e h) = refl
 leaf-beyond {l} d u q (over-datetime e) = let z = datetime-leaf (leafOf l) e in let y : In _ ≡ Never = rw z at q in clash (cc)
 

@@ -11,7 +11,7 @@ use Rattle.plan.proofs.Results.{true≠false, both, and-true}
 mutual
   pub fits-over : {t : DataType} {v : Value} → Fits t v → FitsOver t v
   fits-over fit-null = over-null
-  fits-over (fit-number e h) = over-number e h
+  fits-over (fit-number e h t) = over-number e h t
   fits-over (fit-text e h) = over-text e h
   fits-over (fit-struct a) = over-struct (all-over a)
   fits-over (fit-list h a) = over-list h (each-over a)
@@ -30,7 +30,7 @@ mutual
 
   pub clean-fits : {t : DataType} {v : Value} → FitsOver t v → clean v ≡ true → Fits t v
   clean-fits over-null c = fit-null
-  clean-fits (over-number e h) c = fit-number e h
+  clean-fits (over-number e h t) c = fit-number e h t
   clean-fits (over-text e h) c = fit-text e h
   clean-fits (over-datetime e) c = true≠false c refl
   clean-fits (over-struct a) c = fit-struct (clean-all a c)
@@ -51,7 +51,7 @@ mutual
 
   pub fits-clean : {t : DataType} {v : Value} → Fits t v → clean v ≡ true
   fits-clean fit-null = refl
-  fits-clean (fit-number e h) = refl
+  fits-clean (fit-number e h t) = refl
   fits-clean (fit-text e h) = refl
   fits-clean (fit-struct a) = all-clean a
   fits-clean (fit-list h a) = each-clean a

@@ -29,7 +29,7 @@ at-over (there a) (over-cons h hs) = at-over a hs
 -- null's only value is null
 null-over : {v : Value} → FitsOver (leaf null) v → v ≡ vnull
 null-over over-null = refl
-null-over (over-number {n = n} e h) = let z : n < 0 = rw (← e) at h in absurd (omega arith)
+null-over (over-number {n = n} e h t) = let z : n < 0 = rw (← e) at h in absurd (omega arith)
 null-over (over-text e h) = clash (cc)
 null-over (over-datetime e) = clash (cc)
 

@@ -18,7 +18,7 @@ use Rattle.rules.specs.declared.outcome.CastOption.{CastOption}
 use Rattle.rules.specs.declared.outcome.CastOption.the-variants.{Strict}
 use Rattle.rules.specs.Chain.{unitOption}
 use Rattle.rules.specs.Pairs.{castPasses}
-use Rattle.rules.proofs.Casts.{Casts, from-null, integer-to-integer, integer-to-float, float-to-float, datetime-to-datetime, category-to-string, passes-casts}
+use Rattle.rules.proofs.Casts.{Casts, from-null, integer-to-integer, integer-to-float, float-to-float, datetime-to-datetime, category-to-string, decimal-to-decimal, passes-casts}
 use Rattle.numeric.specs.declared.times.Finer.{Finer}
 use Rattle.numeric.specs.declared.times.Finer.the-variants.{Count, TooLarge}
 use Rattle.numeric.specs.Integers.{signed}
@@ -251,6 +251,7 @@ number-made {l} {m} (float-to-float ne c d) n h e a =
     let (x, q, k) = floats-convert (leafOf l) (leafOf m) n (float-kind (leafOf l) c) (float-kind (leafOf m) d) in never-number q a
 number-made (datetime-to-datetime {u} {v} {z} {w} ne s) n h e a = rescaled-made u v w n (unitChange u v) refl e s a
 number-made category-to-string n h e a = absurd (omega arith)
+number-made (decimal-to-decimal w) n h e a = never-number refl a
 
 -- only a strict cast overflows
 pub overflow-strict : (l m : LeafType) (o : CastOption) → castPasses l m o ≡ true → (n : ℕ) → n < patternsOf (leafOf l) → convert (leafOf l) (leafOf m) n ≡ voverflow → o ≡ Strict
@@ -263,7 +264,7 @@ overflow-strict l m o e n h q = strict (number-made (passes-casts l m o e) n h r
 leaf-made : {l m : LeafType} {o : CastOption} {x : Value} {p : List ℕ} → Casts l m o → FitsOver (leaf l) x → OverAt (castLeaf (leafOf m) x) p → CastOver x (leaf m) o p
 unfolding castLeaf clean
 leaf-made c over-null a = never refl a
-leaf-made {l} {m} c (over-number {k = k} {n = n} e h) a = number-made c n (rw e h) (rw e) (rw e a)
+leaf-made {l} {m} c (over-number {k = k} {n = n} e h t) a = number-made c n (rw e h) (rw e) (rw e a)
 leaf-made c (over-text e h) a = never refl a
 leaf-made c (over-datetime e) a = came a
 

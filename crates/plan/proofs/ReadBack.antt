@@ -16,6 +16,7 @@ use Rattle.forms.specs.Form.{u16Bytes}
 use Rattle.layout.proofs.OfBytes.{same-bytes-eq}
 use Rattle.forms.proofs.Read.{chosen}
 use Rattle.values.specs.Record.{renumber}
+use Rattle.values.proofs.Inside.{renumber-ok}
 use Rattle.values.proofs.Stand.{Stand, stand-none, stand-append, stand-same, byte-back, ok-same}
 use Rattle.values.proofs.Back.{value-back}
 use Rattle.plan.specs.Selector.{Selector, Selectors, countSelectors, nesting, nestingAll}
@@ -179,11 +180,6 @@ module _ (s : Bytes) (o : AllBytes s) where
 
 -- ---- a plan
 
-renumbered-ok : {A : Type 0} (f : ℕ → ℕ) (x : Res A) {a : A} {m : ℕ} → renumber f x ≡ ok a m → x ≡ ok a m
-unfolding renumber
-renumbered-ok f (refuse n) e = clash (cc)
-renumbered-ok f (ok a m) e = e
-
 refuse-eq : {A : Type 0} {m n : ℕ} → _≡_ {A = Res A} (refuse m) (refuse n) → n ≡ m
 refuse-eq e = cc
 
@@ -222,7 +218,7 @@ all {s} {bs} {m} e P =
 pub plan-back : (s : Bytes) → AllBytes s → {ss : Selectors} {m : ℕ} → plan s ≡ ok ss m → PlanBack s ss m
 unfolding plan planFrom planCounted planSized planVersion ended encodePlan
 plan-back s o e =
-    let e = renumbered-ok (λ n. 30) (planFrom s 0) e in
+    let e = renumber-ok (λ n. 30) (planFrom s 0) e in
     let (x, i, h, e) = next-ok _ _ e in
     let (l, h) = chosen _ _ _ h in
     let (x, i₁, h, e) = next-ok _ _ e in

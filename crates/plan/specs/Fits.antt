@@ -8,14 +8,14 @@ use Rattle.layout.specs.Tree.{LeafType, leafOf, DataType, leaf, struct, list, a
 use Rattle.layout.specs.declared.leaf.Leaf.{Leaf}
 use Rattle.rules.specs.Classes.{isDatetime}
 use Rattle.values.specs.Value.{Value, vnull, vnumber, vtext, voverflow, vstruct, vlist, varray, Values, vnil, vcons, countValues}
-use Rattle.values.specs.Content.{contentOf, patternsOf}
+use Rattle.values.specs.Content.{contentOf, patternsOf, within}
 use Rattle.values.specs.declared.content.Content.the-variants.{Text}
 
 -- the rules of the values' `Fits`, and `over-datetime`
 mutual
   pub data FitsOver : DataType → Value → Type 0 where
     over-null : {t : DataType} → FitsOver t vnull
-    over-number : {l : LeafType} {k : Leaf} {n : ℕ} → leafOf l ≡ k → n < patternsOf k → FitsOver (leaf l) (vnumber k n)
+    over-number : {l : LeafType} {k : Leaf} {n : ℕ} → leafOf l ≡ k → n < patternsOf k → within k n ≡ true → FitsOver (leaf l) (vnumber k n)
     over-text : {l : LeafType} {b : Bytes} → contentOf (leafOf l) ≡ Text → length b < 65536 → FitsOver (leaf l) (vtext b)
     over-datetime : {l : LeafType} → isDatetime (leafOf l) ≡ true → FitsOver (leaf l) voverflow
     over-struct : {fs : Fields} {vs : Values} → FitsAllOver fs vs → FitsOver (struct fs) (vstruct vs)

@@ -7,6 +7,8 @@ use lib.Dec.{leb, ltb}
 use lib.ListN.{length, getD, take, drop, length-drop}
 use lib.Seq.{length-take-le}
 use borrow.Author.Tests.{leb-true, ltb-true}
+use Rattle.numeric.specs.Integers.{signed}
+use Rattle.numeric.specs.Decimals.{withinPrecision}
 use Rattle.layout.specs.Bytes.{Bytes, AllBytes}
 use Rattle.layout.specs.Parser.{refuse, ok, next, choose, byte, chunk}
 use Rattle.layout.specs.Tree.{leafOf, leafType, DataType, leaf, struct, list, array, ColumnType, cstruct, clist, carray, dtypeOf}
@@ -24,11 +26,11 @@ use Rattle.layout.proofs.Ways.{clash}
 use Rattle.layout.proofs.View.{next-ok, leaf-at}
 use Rattle.values.specs.Value.{Value, vnull, vnumber, vtext, vstruct, vlist, varray}
 use Rattle.values.specs.Content.{contentOf}
-use Rattle.values.specs.Reading.{flag, little, longText, contentBy, leafContent, structContent, listContent, arrayContent, content, value}
+use Rattle.values.specs.Reading.{flag, little, longText, contentBy, leafContent, structContent, listContent, arrayContent, content, value, decimal}
 use Rattle.values.specs.Encode.{encodeValue}
 use Rattle.values.specs.Answers.{valueMoved, copied}
 use Rattle.values.specs.declared.content.Content.{Content}
-use Rattle.values.specs.declared.content.Content.the-variants.{Nothing, Flag, Number, Text}
+use Rattle.values.specs.declared.content.Content.the-variants.{Nothing, Flag, Number, Decimal, Text}
 use Rattle.values.specs.declared.read.ValueRead.{ValueRead}
 use Rattle.values.proofs.Walk.{moved-value, moved-none}
 use Rattle.values.proofs.Round.{value-bytes, value-ends}
@@ -108,6 +110,25 @@ module _ {k : Leaf} {s : Bytes} {at : ℕ} (X : LeafAt k s at) where
       let (b, i, h, g) = next-ok (flag s at) _ (by-content e) in
       let z : vnumber k b ≡ X .tree = cc in
       is-number (sym z ∙ ap (vnumber k) (sym (flag-in s at h .1)))
+
+  pub decimal-inside : {p : ℕ} → contentOf k ≡ Decimal p → at + 8 ≤ length s
+  unfolding contentBy decimal
+  decimal-inside {p} e =
+      let (n, i, h, g) = next-ok (decimal p s at) _ (by-content e) in
+      let (b, j, c, f) = next-ok (chunk 8 s at) _ h in
+      chunk-in 8 s at c .0
+
+  pub leaf-decimal : {p n : ℕ} → contentOf k ≡ Decimal p → n ≡ little (take 8 (drop at s)) → LeafIs (X .tree) (LeafValue.Number k n)
+  unfolding contentBy decimal choose
+  leaf-decimal {p} {n} e f =
+      let (m, i, h, g) = next-ok (decimal p s at) _ (by-content e) in
+      let (b, j, c, r) = next-ok (chunk 8 s at) _ h in
+      let z : vnumber k m ≡ X .tree = cc in
+      is-number (sym z ∙ ap (vnumber k) (sym (go j (little b) (withinPrecision p (signed 64 (little b))) r) ∙ ap little (sym (chunk-in 8 s at c .1)) ∙ sym f))
+    where
+      go : {m i : ℕ} (j n : ℕ) (t : Bool) → choose t (ok n j) (refuse 52) ≡ ok m i → n ≡ m
+      go j n true q = cc
+      go j n false q = clash (cc)
 
   pub number-inside : {w : ℕ} → contentOf k ≡ Number w → at + w ≤ length s
   unfolding contentBy

@@ -27,6 +27,7 @@ fn present_leaf(rec: &[u8], leaf: Leaf, c: Cursor) -> LeafValue
         Content::Nothing => LeafValue::Other,
         Content::Flag => LeafValue::Number(leaf, rec[at] as u64),
         Content::Number(w) => LeafValue::Number(leaf, number_at(rec, at, w as usize)),
+        Content::Decimal(_) => LeafValue::Number(leaf, number_at(rec, at, 8)),
         Content::Text => LeafValue::Other,
     }
 }

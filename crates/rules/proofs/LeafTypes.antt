@@ -20,6 +20,7 @@ zone-of-type (Leaf.Datetime u) z = refl
 zone-of-type Leaf.String z = refl
 zone-of-type Leaf.Binary z = refl
 zone-of-type Leaf.Categorical z = refl
+zone-of-type (Leaf.Decimal d) z = refl
 
 pub zone-of : (a : LeafType) → zoneOf a ≡ (if isDatetime (leafOf a) then zoneOf a else [])
 zone-of a = sym (ap zoneOf (leaf-type-of a)) ∙ zone-of-type (leafOf a) (zoneOf a)

@@ -13,3 +13,4 @@ pub mod Ranges
 pub mod Samples
 pub mod Utc
 pub mod Way
+pub mod Compared

@@ -8,14 +8,14 @@ use Rattle.layout.specs.declared.leaf.TimeUnit.{TimeUnit}
 use Rattle.layout.specs.declared.leaf.TimeUnit.the-variants.{Nanoseconds, Microseconds, Milliseconds}
 use Rattle.layout.specs.declared.leaf.Leaf.{Leaf}
 use Rattle.rules.specs.declared.policy.Policy.{Policy}
-use Rattle.rules.specs.declared.zones.Params.{Params}
+use Rattle.rules.specs.declared.params.Params.{Params}
 use Rattle.rules.specs.declared.outcome.CastOption.{CastOption}
 use Rattle.rules.specs.declared.outcome.CastOption.the-variants.{NonStrict, Overflowing}
 use Rattle.rules.specs.Choice.{if_then_else_}
 use Rattle.rules.specs.Policies.{allOn}
 use Rattle.rules.specs.Outcomes.{Verdict, untouched, refused, cast, need}
-use Rattle.rules.specs.Zones.{zonesOf, sameAsUtc}
-use Rattle.rules.specs.Classes.{isNull, isInteger, isFloat, isDatetime, unit, isCategorical, isString}
+use Rattle.rules.specs.Params.{paramsOf, sameAsUtc, widened}
+use Rattle.rules.specs.Classes.{isNull, isInteger, isFloat, isDatetime, unit, isCategorical, isString, isDecimal}
 use Rattle.rules.specs.Promotion.{holds}
 use Rattle.rules.specs.Chain.{sameType, wider, unitAllowed, unitOption, chain}
 use Rattle.rules.specs.Pairs.{pairRule}
@@ -42,6 +42,7 @@ pub record Looser (p q : Policy) : Type 0 where
   pub datetime-microseconds-upcast : Under (p .«datetime_microseconds_upcast») (q .«datetime_microseconds_upcast»)
   pub datetime-milliseconds-upcast : Under (p .«datetime_milliseconds_upcast») (q .«datetime_milliseconds_upcast»)
   pub categorical-to-string : Under (p .«categorical_to_string») (q .«categorical_to_string»)
+  pub decimal-widening : Under (p .«decimal_widening») (q .«decimal_widening»)
 
 -- w is v wherever v is accepted
 pub record Keeps (v w : Verdict) : Type 0 where
@@ -93,11 +94,12 @@ module _ {p q : Policy} (l : Looser p q) where
       (by-flag 21 (under-or (sameAsUtc z) (l .datetime-convert-timezone))
       (by-flag 22 (units (unit i) (unit t)) (same (cast (unitOption (unit i) (unit t))))))
       (by-test (isCategorical i && isString t) (by-flag 23 (l .categorical-to-string) (same (cast NonStrict)))
-      (same (refused 24)))))))))
+      (by-test (isDecimal i && isDecimal t && widened z) (by-flag 51 (l .decimal-widening) (same (cast NonStrict)))
+      (same (refused 24))))))))))
 
   pub rule-loosened : (i t : LeafType) → Keeps (pairRule p i t) (pairRule q i t)
   unfolding pairRule
-  rule-loosened i t = loosened (zonesOf (zoneOf i) (zoneOf t)) (leafOf i) (leafOf t)
+  rule-loosened i t = loosened (paramsOf (leafOf i) (zoneOf i) (leafOf t) (zoneOf t)) (leafOf i) (leafOf t)
 
 -- no policy allows more than the one with every flag on
 on : (a : Bool) → Under a true
@@ -117,6 +119,7 @@ all-on-looser p =
       datetime-microseconds-upcast = on (p .«datetime_microseconds_upcast»);
       datetime-milliseconds-upcast = on (p .«datetime_milliseconds_upcast»);
       categorical-to-string = on (p .«categorical_to_string»);
+      decimal-widening = on (p .«decimal_widening»);
     }
 
 -- so what a policy casts passes the check of a plan

@@ -34,7 +34,7 @@ T-holds false t = absurd t
 
 -- lowest values are not above highest ones; a kind that is no integer has 0 for both
 ordered : (l : Leaf) → lowest l ≤ℤ highest l
-ordered l = leZ-yes (holds-T _ (each-leaf (λ l. leZ (lowest l) (highest l)) (λ l. true) refl l))
+ordered l = leZ-yes (holds-T _ (each-leaf (λ l. leZ (lowest l) (highest l)) (λ l. true) (λ d. refl) l))
 
 pub holds-all : (i t : Leaf) → holds t i ≡ true → (v : ℤ) → Within i v → Within t v
 holds-all i t h v w =

@@ -8,13 +8,14 @@ use Rattle.rules.specs.declared.outcome.CastOption.the-variants.{NonStri
 use Rattle.rules.specs.Policies.{allOn, policyOf}
 use Rattle.rules.specs.Outcomes.{Verdict, refused, cast}
 use Rattle.rules.specs.Zones.{utc, isUtc, readZone, zonesOf}
+use Rattle.rules.specs.Params.{paramsOf, decimalsOf}
 use Rattle.rules.specs.Chain.{chain}
 use Rattle.rules.specs.Pairs.{pairRule}
 use Rattle.numeric.specs.declared.integers.Integer.the-variants.{Int32, Int64, UInt32}
 
 -- opens every definition that a sample computes through
 checked : LeafType → LeafType → Verdict
-unfolding pairRule chain zonesOf readZone isUtc sameBytes
+unfolding pairRule chain paramsOf decimalsOf zonesOf readZone isUtc sameBytes
 checked i t = pairRule allOn i t
 
 S2 : pairRule allOn (integer UInt32) (integer Int32) ≡ refused 17
@@ -43,9 +44,9 @@ S7 : pairRule allOn (datetime Nanoseconds []) (datetime Microseconds []) ≡ cas
 unfolding checked
 S7 = refl
 
--- the word with the fourteen bits set allows everything; bits above have no meaning
-word-all-on : policyOf 16383 ≡ allOn
+-- the word with the fifteen bits set allows everything; bits above have no meaning
+word-all-on : policyOf 32767 ≡ allOn
 word-all-on = refl
 
-word-bits-above : policyOf 16384 ≡ policyOf 0
+word-bits-above : policyOf 32768 ≡ policyOf 0
 word-bits-above = refl

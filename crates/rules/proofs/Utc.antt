@@ -8,7 +8,7 @@ use lib.Dec.{eqb}
 use borrow.Author.Tests.{eqb-true, eq-eqb}
 use Rattle.layout.proofs.OfBytes.{same-bytes-eq, same-bytes-refl}
 use Rattle.layout.specs.Bytes.{Bytes, sameBytes}
-use Rattle.rules.specs.declared.zones.Params.the-variants.{Identical, SameAsUtc, Different}
+use Rattle.rules.specs.declared.params.Params.the-variants.{Identical, SameAsUtc, Different}
 use Rattle.rules.specs.Choice.{if_then_else_}
 use Rattle.rules.specs.Zones.{utc, isUtc, readZone, zonesOf}
 

@@ -4,13 +4,13 @@ use mathlib.Core.Bool.{Bool, true, false, _&&_, _||_}
 use Prim.Native.Nat.{ℕ}
 use Rattle.layout.specs.declared.leaf.Leaf.{Leaf}
 use Rattle.rules.specs.declared.policy.Policy.{Policy}
-use Rattle.rules.specs.declared.zones.Params.{Params}
+use Rattle.rules.specs.declared.params.Params.{Params}
 use Rattle.rules.specs.declared.outcome.CastOption.{CastOption}
 use Rattle.rules.specs.declared.outcome.CastOption.the-variants.{NonStrict, Overflowing}
 use Rattle.rules.specs.Choice.{if_then_else_}
 use Rattle.rules.specs.Outcomes.{Verdict, untouched, refused, cast, need}
-use Rattle.rules.specs.Zones.{sameAsUtc}
-use Rattle.rules.specs.Classes.{isNull, isInteger, isFloat, isDatetime, unit, isCategorical, isString}
+use Rattle.rules.specs.Params.{sameAsUtc, widened}
+use Rattle.rules.specs.Classes.{isNull, isInteger, isFloat, isDatetime, unit, isCategorical, isString, isDecimal}
 use Rattle.rules.specs.Promotion.{holds}
 use Rattle.rules.specs.Chain.{sameType, wider, unitAllowed, unitOption, chain}
 
@@ -23,6 +23,7 @@ pub data Way (z : Params) (i t : Leaf) : Verdict → Type 0 where
   way-integer-float : (isInteger i && isFloat t) ≡ true → Way z i t (cast Overflowing)
   way-datetimes : {o : CastOption} → sameType z i t ≡ false → (isDatetime i && isDatetime t) ≡ true → o ≡ unitOption (unit i) (unit t) → Way z i t (cast o)
   way-category : (isCategorical i && isString t) ≡ true → Way z i t (cast NonStrict)
+  way-decimals : (isDecimal i && isDecimal t && widened z) ≡ true → Way z i t (cast NonStrict)
 
 module _ {z : Params} {i t : Leaf} where
   by-test : (c : Bool) {v w : Verdict} → (c ≡ true → Way z i t v) → (c ≡ false → Way z i t w) → Way z i t (if c then v else w)
@@ -44,7 +45,8 @@ way p z i t =
     by-test (isDatetime i && isDatetime t)
     (λ k. by-need (p .«datetime_convert_timezone» || sameAsUtc z) 21 (λ f. by-need (unitAllowed p (unit i) (unit t)) 22 (λ g. way-datetimes s k refl))) (λ w.
     by-test (isCategorical i && isString t) (λ k. by-need (p .«categorical_to_string») 23 (λ f. way-category k)) (λ w.
-    way-refused 24))))))))
+    by-test (isDecimal i && isDecimal t && widened z) (λ k. by-need (p .«decimal_widening») 51 (λ f. way-decimals k)) (λ w.
+    way-refused 24)))))))))
   where
     first-two : (a b c : Bool) → (a && b && c) ≡ true → (a && b) ≡ true
     first-two true true c e = refl

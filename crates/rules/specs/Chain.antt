@@ -1,24 +1,24 @@
--- Document 01, "Leaf pairs": the chain of policy tests, in the order of source 000's `attach_transforms` after its nested types.
+-- Document 01, "Leaf pairs", and document 02, L1: the chain of policy tests, in the order of source 000's `attach_transforms` after its nested types.
 use mathlib.Core.Bool.{Bool, true, not, _&&_, _||_}
 use lib.Dec.{eqb, ltb}
 use Rattle.layout.specs.declared.leaf.TimeUnit.{TimeUnit}
 use Rattle.layout.specs.declared.leaf.TimeUnit.the-variants.{Nanoseconds, Microseconds, Milliseconds}
 use Rattle.layout.specs.declared.leaf.Leaf.{Leaf}
 use Rattle.rules.specs.declared.policy.Policy.{Policy}
-use Rattle.rules.specs.declared.zones.Params.{Params}
+use Rattle.rules.specs.declared.params.Params.{Params}
 use Rattle.rules.specs.declared.outcome.CastOption.{CastOption}
 use Rattle.rules.specs.declared.outcome.CastOption.the-variants.{NonStrict, Strict, Overflowing}
 use Rattle.rules.specs.Choice.{if_then_else_}
 use Rattle.rules.specs.Outcomes.{Verdict, untouched, refused, cast, need}
-use Rattle.rules.specs.Zones.{identical, sameAsUtc}
+use Rattle.rules.specs.Params.{identical, sameAsUtc, widened}
 use Rattle.layout.specs.Layout.{unitCode}
 use Rattle.rules.specs.Kinds.{kindOf}
-use Rattle.rules.specs.Classes.{isNull, isInteger, isFloat, precision, isDatetime, unit, isCategorical, isString}
+use Rattle.rules.specs.Classes.{isNull, isInteger, isFloat, precision, isDatetime, unit, isCategorical, isString, isDecimal}
 use Rattle.rules.specs.Promotion.{holds}
 
--- the types' version 1 forms have the same bytes: one kind, and of date-times one zone
+-- the types' version 1 forms have the same bytes: one kind, of date-times one zone, of decimals one precision and scale
 abbrev pub sameType : Params → Leaf → Leaf → Bool
-sameType z i t = eqb (kindOf i) (kindOf t) && (not (isDatetime i) || identical z)
+sameType z i t = eqb (kindOf i) (kindOf t) && (not (isDatetime i || isDecimal i) || identical z)
 
 abbrev pub wider : Leaf → Leaf → Bool
 wider t i = ltb (precision i) (precision t)
@@ -53,4 +53,5 @@ chain p z i t =
     (need (unitAllowed p (unit i) (unit t)) 22
     (cast (unitOption (unit i) (unit t))))
     else if isCategorical i && isString t then need (p .«categorical_to_string») 23 (cast NonStrict)
+    else if isDecimal i && isDecimal t && widened z then need (p .«decimal_widening») 51 (cast NonStrict)
     else refused 24

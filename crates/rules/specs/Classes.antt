@@ -21,6 +21,7 @@ classOf (Leaf.Datetime u) = Class.Datetime u
 classOf Leaf.String = Class.Other
 classOf Leaf.Binary = Class.Other
 classOf Leaf.Categorical = Class.Other
+classOf (Leaf.Decimal d) = Class.Other
 
 abbrev pub isInteger : Leaf → Bool
 isInteger l = elim (classOf l) [ Class.Integer i ↦ true | Class.Float f ↦ false | Class.Datetime u ↦ false | Class.Other ↦ false ]
@@ -51,3 +52,6 @@ isString l = eqb (kindOf l) (kindOf Leaf.String)
 
 abbrev pub isCategorical : Leaf → Bool
 isCategorical l = eqb (kindOf l) (kindOf Leaf.Categorical)
+
+abbrev pub isDecimal : Leaf → Bool
+isDecimal l = eqb (kindOf l) 20

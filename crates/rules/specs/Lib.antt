@@ -4,6 +4,7 @@ pub mod Outcomes
 pub mod Zones
 pub mod Kinds
 pub mod Classes
+pub mod Params
 pub mod Promotion
 pub mod Chain
 pub mod Rules

@@ -1,4 +1,4 @@
--- Document 01, "Leaf pairs": what becomes of a pair, the number of each refusal, and the option codes of "Plans, check and run".
+-- Document 01, "Leaf pairs", and document 02, L1: what becomes of a pair, the number of each refusal, and the option codes of "Plans, check and run".
 use Prim.Native.Nat.{ℕ}
 use mathlib.Core.Bool.{Bool}
 use mathlib.Core.List.{List, [], _∷_}
@@ -6,7 +6,7 @@ use lib.ListN.{getD}
 use Rattle.rules.specs.declared.outcome.CastOption.{CastOption}
 use Rattle.rules.specs.declared.outcome.CastOption.the-variants.{NonStrict, Strict, Overflowing}
 use Rattle.rules.specs.declared.outcome.Mismatch.{Mismatch}
-use Rattle.rules.specs.declared.outcome.Mismatch.the-variants.{NullUpcast, IntegerUpcast, IntegerRange, FloatUpcast, FloatDowncast, IntegerToFloat, TimeZone, UnitCast, CategoricalToString, NoRule}
+use Rattle.rules.specs.declared.outcome.Mismatch.the-variants.{NullUpcast, IntegerUpcast, IntegerRange, FloatUpcast, FloatDowncast, IntegerToFloat, TimeZone, UnitCast, CategoricalToString, DecimalWidening, NoRule}
 use Rattle.rules.specs.declared.outcome.Outcome.{Outcome}
 use Rattle.rules.specs.declared.outcome.Outcome.the-variants.{Untouched, Refused, Cast}
 use Rattle.rules.specs.declared.outcome.OptionCode.{OptionCode}
@@ -30,6 +30,7 @@ numberOf IntegerToFloat = 20
 numberOf TimeZone = 21
 numberOf UnitCast = 22
 numberOf CategoricalToString = 23
+numberOf DecimalWidening = 51
 numberOf NoRule = 24
 
 abbrev pub verdictOf : Outcome → Verdict

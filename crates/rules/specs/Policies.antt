@@ -33,6 +33,7 @@ policyOf word =
       «missing_struct_fields» = insertIf (bit 11 word);
       «extra_struct_fields» = ignoreIf (bit 12 word);
       «missing_columns» = insertIf (bit 13 word);
+      «decimal_widening» = bit 14 word;
     }
 
 -- the policy with every flag on, with which the check judges a cast
@@ -53,4 +54,5 @@ allOn =
       «missing_struct_fields» = MissingColumnsPolicy.Insert;
       «extra_struct_fields» = ExtraColumnsPolicy.Ignore;
       «missing_columns» = MissingColumnsPolicy.Insert;
+      «decimal_widening» = true;
     }

@@ -1,9 +1,9 @@
 -- Document 01, "Leaf pairs", 21: how two zones compare, no zone being read as the text UTC (`eq_none_as_utc`). An empty zone is no zone.
-use mathlib.Core.Bool.{Bool, true, false, _||_}
+use mathlib.Core.Bool.{Bool, _||_}
 use mathlib.Core.List.{[], _∷_}
 use Rattle.layout.specs.Bytes.{Bytes, sameBytes}
-use Rattle.rules.specs.declared.zones.Params.{Params}
-use Rattle.rules.specs.declared.zones.Params.the-variants.{Identical, SameAsUtc, Different}
+use Rattle.rules.specs.declared.params.Params.{Params}
+use Rattle.rules.specs.declared.params.Params.the-variants.{Identical, SameAsUtc, Different}
 use Rattle.rules.specs.Choice.{if_then_else_}
 
 -- the text UTC
@@ -20,13 +20,3 @@ readZone zone = if isUtc zone then utc else zone
 
 unfoldable pub zonesOf : Bytes → Bytes → Params
 zonesOf a b = if sameBytes a b then Identical else if sameBytes (readZone a) (readZone b) then SameAsUtc else Different
-
-abbrev pub identical : Params → Bool
-identical Identical = true
-identical SameAsUtc = false
-identical Different = false
-
-abbrev pub sameAsUtc : Params → Bool
-sameAsUtc Identical = true
-sameAsUtc SameAsUtc = true
-sameAsUtc Different = false

@@ -1,4 +1,4 @@
-// The leaf kinds, each date-time unit apart: their numbers, and what a conversion treats each as.
+// The leaf kinds, each date-time unit apart, decimals as one: their numbers, and what a conversion treats each as.
 ghost use mathlib.Core.Path.{_≡_};
 ghost use Rattle.rules.specs.Kinds.{kindOf};
 ghost use Rattle.rules.specs.Classes.{classOf};
@@ -9,8 +9,6 @@ use layout::types::integer_code;
 use numeric::floats::Format;
 use numeric::integers::Integer;
 
-pub const KINDS: usize = 20;
-
 pub enum Class {
     Integer(Integer),
     Float(Format),
@@ -18,7 +16,7 @@ pub enum Class {
     Other,
 }
 
-// The leaf's number, below KINDS: its place in a row of the table. Up to 13 it is the type code.
+// The leaf's number, below 21: its place in the table of pairs. Up to 13 it is the type code.
 pub fn kind(l: Leaf) -> u8
     ensures { λ r. ⌜ r ≡ kindOf l ⌝ }
 {
@@ -36,6 +34,7 @@ pub fn kind(l: Leaf) -> u8
         Leaf::String => 17,
         Leaf::Binary => 18,
         Leaf::Categorical => 19,
+        Leaf::Decimal(_) => 20,
     }
 }
 
@@ -52,5 +51,6 @@ pub fn class_of(l: Leaf) -> Class
         Leaf::String => Class::Other,
         Leaf::Binary => Class::Other,
         Leaf::Categorical => Class::Other,
+        Leaf::Decimal(_) => Class::Other,
     }
 }

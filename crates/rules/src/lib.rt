@@ -3,6 +3,7 @@ pub mod kinds;
 pub mod lossless;
 pub mod outcome;
 pub mod pair;
+pub mod params;
 pub mod policy;
 pub mod table;
 pub mod zones;

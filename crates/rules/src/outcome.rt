@@ -19,6 +19,7 @@ pub enum Mismatch {
     TimeZone,
     UnitCast,
     CategoricalToString,
+    DecimalWidening,
     NoRule,
 }
 
@@ -47,6 +48,7 @@ pub fn mismatch_number(m: Mismatch) -> u8
         Mismatch::TimeZone => 21,
         Mismatch::UnitCast => 22,
         Mismatch::CategoricalToString => 23,
+        Mismatch::DecimalWidening => 51,
         Mismatch::NoRule => 24,
     }
 }

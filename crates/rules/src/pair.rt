@@ -3,7 +3,7 @@ ghost use mathlib.Core.Path.{_≡_};
 ghost use Rattle.layout.specs.Tree.{leafType};
 ghost use Rattle.rules.specs.Outcomes.{numberOf, need, cast, verdictOf};
 ghost use Rattle.rules.specs.Chain.{chain};
-ghost use Rattle.rules.specs.Rules.{integers, datetimes, ruleOf};
+ghost use Rattle.rules.specs.Rules.{integers, datetimes, decimals, ruleOf};
 ghost use Rattle.rules.specs.Pairs.{pairRule, hasOption, castPasses};
 use crate::kinds::kind;
 use crate::lossless::lossless;
@@ -11,12 +11,12 @@ use crate::outcome::CastOption;
 use crate::outcome::Mismatch;
 use crate::outcome::Outcome;
 use crate::outcome::option_code;
+use crate::params::Params;
+use crate::params::compare_params;
+use crate::params::is_identical;
+use crate::params::same_as_utc;
 use crate::policy::Policy;
 use crate::table::table;
-use crate::zones::Params;
-use crate::zones::compare_zones;
-use crate::zones::is_identical;
-use crate::zones::same_as_utc;
 use layout::leaf::Leaf;
 
 // A cast that a flag allows.
@@ -52,6 +52,18 @@ fn datetime(p: Policy, z: Params, flag: bool, o: CastOption) -> Outcome
         attach_cast(flag, Mismatch::UnitCast, o)
     } else {
         Outcome::Refused(Mismatch::TimeZone)
+    }
+}
+
+// A cast between decimals: to a larger precision at the same scale.
+fn decimal(flag: bool, z: Params) -> Outcome
+    ensures { λ r. ⌜ verdictOf r ≡ decimals flag z ⌝ }
+{
+    match z {
+        Params::Identical => Outcome::Untouched,
+        Params::SameAsUtc => Outcome::Refused(Mismatch::NoRule),
+        Params::Widened => attach_cast(flag, Mismatch::DecimalWidening, CastOption::NonStrict),
+        Params::Different => Outcome::Refused(Mismatch::NoRule),
     }
 }
 
@@ -93,6 +105,7 @@ fn apply_rule(p: Policy, z: Params, fits: bool, rule: u8) -> Outcome
             Mismatch::CategoricalToString,
             CastOption::NonStrict,
         ),
+        13 => decimal(p.decimal_widening, z),
         _ => Outcome::Refused(Mismatch::NoRule),
     }
 }
@@ -104,7 +117,9 @@ pub fn leaf_pair(p: Policy, z: Params, incoming: Leaf, target: Leaf) -> Outcome
     let i = kind(incoming);
     let t = kind(target);
     let rules = table();
-    apply_rule(p, z, lossless(i, t), rules[i as usize][t as usize])
+    let row = 3 * (i as usize) + (t as usize) / 7;
+    let column = (t as usize) % 7;
+    apply_rule(p, z, lossless(i, t), rules[row][column])
 }
 
 // The same with the zones beside the two leaves; only date-times have one.
@@ -119,7 +134,7 @@ pub fn leaf_type_pair(
 {
     leaf_pair(
         p,
-        compare_zones(incoming_zone, target_zone),
+        compare_params(incoming, incoming_zone, target, target_zone),
         incoming,
         target,
     )

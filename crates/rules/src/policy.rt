@@ -27,6 +27,7 @@ pub struct Policy {
     pub missing_struct_fields: MissingColumnsPolicy,
     pub extra_struct_fields: ExtraColumnsPolicy,
     pub missing_columns: MissingColumnsPolicy,
+    pub decimal_widening: bool,
 }
 
 fn insert_if(flag: bool) -> MissingColumnsPolicy
@@ -69,6 +70,7 @@ impl Policy {
             missing_struct_fields: insert_if(word / 2048 % 2 == 1),
             extra_struct_fields: ignore_if(word / 4096 % 2 == 1),
             missing_columns: insert_if(word / 8192 % 2 == 1),
+            decimal_widening: word / 16384 % 2 == 1,
         }
     }
 
@@ -91,6 +93,7 @@ impl Policy {
             missing_struct_fields: MissingColumnsPolicy::Insert,
             extra_struct_fields: ExtraColumnsPolicy::Ignore,
             missing_columns: MissingColumnsPolicy::Insert,
+            decimal_widening: true,
         }
     }
 }

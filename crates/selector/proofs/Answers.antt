@@ -1,5 +1,10 @@
 -- What the answers of the crates below say of an exported call's answer. Assumes nothing.
-use Prim.Native.Nat.{ℕ, _+_}
+use Prim.Native.Nat.{ℕ, _+_, _*_, _≤_, _<_}
+use mathlib.Core.Bool.{Bool, true, false}
+use native.Mathlib.Decide.{decLt}
+use Rattle.demands.specs.Refusals.{isIn, hasPlace, placeOf}
+use Rattle.rules.proofs.Interval.{holds-on, fails-on}
+use Rattle.layout.specs.Parser.{choose}
 use native.Mathlib.Omega.{arith}
 use mathlib.Core.Path.{_≡_, refl, sym, ap, _∙_}
 use Rattle.layout.specs.Parser.{Res, refuse, ok}
@@ -16,14 +21,53 @@ use Rattle.plan.specs.Calls.{writeResult, bufferAfter}
 use Rattle.plan.specs.declared.answer.WriteResult.{WriteResult}
 use Rattle.checker.specs.Tops.{planChecked}
 use Rattle.checker.specs.declared.tops.PlanChecked.{PlanChecked}
-use Rattle.selector.specs.Answer.{answer, readAnswer, writtenAnswer, writeAnswer, checkedAnswer, checkAnswer}
+use Rattle.selector.specs.Answer.{answer, refusal, readAnswer, writtenAnswer, writeAnswer, checkedAnswer, checkAnswer}
+
+-- ---- the place of a refusal
+
+module _ (n : ℕ) where
+  pub place-none : n < 1 → false ≡ hasPlace n
+  unfolding isIn
+  place-none h = fails-on hasPlace 0 1 n tt (omega arith) h
+
+  pub place-layout : 1 ≤ n → n < 7 → true ≡ hasPlace n
+  unfolding isIn
+  place-layout l h = holds-on hasPlace 1 6 n tt l h
+
+  pub place-between : 7 ≤ n → n < 11 → false ≡ hasPlace n
+  unfolding isIn
+  place-between l h = fails-on hasPlace 7 4 n tt l h
+
+  pub place-column : 11 ≤ n → n < 27 → true ≡ hasPlace n
+  unfolding isIn
+  place-column l h = holds-on hasPlace 11 16 n tt l h
+
+  pub place-one : {k : ℕ} → n ≡ k → hasPlace k ≡ true → true ≡ hasPlace n
+  place-one e f = sym f ∙ ap hasPlace (sym e)
+
+  pub place-after : 27 ≤ n → n < 256 → (n ≡ 28 → ⊥) → (n ≡ 31 → ⊥) → (n ≡ 32 → ⊥) → false ≡ hasPlace n
+  unfolding isIn
+  place-after l h a b c = go (decLt n 28) (decLt n 31)
+    where
+      go : Dec (n < 28) → Dec (n < 31) → false ≡ hasPlace n
+      go (yes p) q = fails-on hasPlace 27 1 n tt l p
+      go (no p) (yes q) = fails-on hasPlace 29 2 n tt (omega arith) q
+      go (no p) (no q) = fails-on hasPlace 33 223 n tt (omega arith) h
+
+  pub refusal-placed : (k : ℕ) {b : Bool} → b ≡ hasPlace n → b ≡ true → answer n k ≡ refusal n k
+  unfolding placeOf choose
+  refusal-placed k e f = rw (← e, f)
+
+  pub refusal-unplaced : (k : ℕ) {b : Bool} → b ≡ hasPlace n → b ≡ false → n * 4294967296 ≡ refusal n k
+  unfolding placeOf choose
+  refusal-unplaced k e f = rw (← e, f) (let z : n * 4294967296 ≡ n * 4294967296 + 0 = omega arith in z)
 
 pub layout-accepted : (x : Res Layout) {r : LayoutRead} {v : Version} {n : ℕ} {c : Cursor} → r ≡ layoutOf x → r ≡ LayoutRead.Read v n c → 0 ≡ readAnswer x
 unfolding layoutOf
 layout-accepted (refuse k) e f = clash (cc)
 layout-accepted (ok l m) e f = refl
 
-pub layout-refused : (x : Res Layout) {r : LayoutRead} {k a : ℕ} → r ≡ layoutOf x → r ≡ LayoutRead.Refused k → a ≡ answer k 1 → a ≡ readAnswer x
+pub layout-refused : (x : Res Layout) {r : LayoutRead} {k a : ℕ} → r ≡ layoutOf x → r ≡ LayoutRead.Refused k → a ≡ refusal k 1 → a ≡ readAnswer x
 unfolding layoutOf
 layout-refused (refuse n) {k = k} e f g = let h : k ≡ n = cc in rw (← h) g
 layout-refused (ok l m) e f g = clash (cc)
@@ -33,7 +77,7 @@ layout-refused (ok l m) e f g = clash (cc)
 pub written-length : {b : WriteResult} {n : ℕ} → b ≡ WriteResult.Written n → n ≡ writeAnswer b
 written-length {n = n} e = let z : n ≡ 0 + n = omega arith in z ∙ sym (ap writeAnswer e)
 
-pub written-refused : {b : WriteResult} {n k r : ℕ} → b ≡ WriteResult.Refused n k → r ≡ answer n k → r ≡ writeAnswer b
+pub written-refused : {b : WriteResult} {n k r : ℕ} → b ≡ WriteResult.Refused n k → r ≡ refusal n k → r ≡ writeAnswer b
 written-refused e h = h ∙ sym (ap writeAnswer e)
 
 pub written-answered : (x : Answer Bytes) {b : WriteResult} {r : ℕ} → b ≡ writeResult x → r ≡ writeAnswer b → r ≡ writtenAnswer x
@@ -53,7 +97,7 @@ module _ {p q : Policy} (e : p ≡ q) (f : Policy → Answer Bytes) where
 pub checked-passed : {b : PlanChecked} → b ≡ PlanChecked.Passed → 0 ≡ checkAnswer b
 checked-passed e = sym (ap checkAnswer e)
 
-pub checked-refused : {b : PlanChecked} {n k r : ℕ} → b ≡ PlanChecked.Refused n k → r ≡ answer n k → r ≡ checkAnswer b
+pub checked-refused : {b : PlanChecked} {n k r : ℕ} → b ≡ PlanChecked.Refused n k → r ≡ refusal n k → r ≡ checkAnswer b
 checked-refused e h = h ∙ sym (ap checkAnswer e)
 
 pub check-answered : (x : Answer (Unit {0})) {b : PlanChecked} {r : ℕ} → b ≡ planChecked x → r ≡ checkAnswer b → r ≡ checkedAnswer x

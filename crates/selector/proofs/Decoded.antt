@@ -3,10 +3,11 @@
 use Prim.Native.Nat.{ℕ, _<_, _≤_, _^_}
 use native.Mathlib.Omega.{arith}
 use mathlib.Core.Path.{_≡_, refl}
+use mathlib.Core.Bool.{Bool, true, false}
 use mathlib.Core.List.{List, [], _∷_}
 use lib.ListN.{length}
 use Rattle.layout.specs.Bytes.{Bytes, AllBytes}
-use Rattle.layout.specs.Parser.{Res, refuse, ok}
+use Rattle.layout.specs.Parser.{Res, refuse, ok, choose}
 use Rattle.layout.specs.Tree.{Layout}
 use Rattle.layout.specs.Layout.{layout}
 use Rattle.layout.specs.declared.version.Version.the-variants.{ByName, ByNumber}
@@ -14,10 +15,10 @@ use Rattle.rules.specs.Policies.{policyOf}
 use Rattle.plan.specs.Result.{Answer, accepted, refusedAt}
 use Rattle.plan.specs.Calls.{readAt, checkPlan, runPlan}
 use Rattle.matching.specs.Calls.{buildByName, buildByNumber}
-use Rattle.demands.specs.Refusals.{Call, readingLayout, building, checkingPlan, running, refusalIn, Refusal, readLayout, layoutsRead, tableRead, columnCount, selectorCount}
+use Rattle.demands.specs.Refusals.{Call, readingLayout, building, checkingPlan, running, refusalIn, hasPlace, placeOf, Refusal, readLayout, layoutsRead, tableRead, columnCount, selectorCount}
 use Rattle.demands.proofs.Refusing.{Answers, in-accepted, in-refusedAt}
-use Rattle.demands.proofs.Refusals.{read-layout-in, by-name-in, by-number-in, check-plan-in, run-plan-in, place-small, columns-small, selectors-small}
-use Rattle.selector.specs.Answer.{answer, readAnswer, writtenAnswer, checkedAnswer}
+use Rattle.demands.proofs.Refusals.{read-layout-in, by-name-in, by-number-in, check-plan-in, run-plan-in, place-small, refusal-placed, columns-small, selectors-small}
+use Rattle.selector.specs.Answer.{answer, refusal, readAnswer, writtenAnswer, checkedAnswer}
 use Rattle.selector.specs.Decoded.{answerNumber, answerRest, Decoded}
 
 -- the two halves
@@ -27,7 +28,15 @@ halves n k h = (omega (arith, h), omega (arith, h))
 -- the word of an answer
 abbrev word : {A : Type 0} → (A → ℕ) → Answer A → ℕ
 word size (accepted a) = answer 0 (size a)
-word size (refusedAt n k) = answer n k
+word size (refusedAt n k) = refusal n k
+
+shown-small : (n k : ℕ) → placeOf n k ≤ k
+unfolding placeOf choose
+shown-small n k = go (hasPlace n)
+  where
+    go : (b : Bool) → choose b k 0 ≤ k
+    go true = omega arith
+    go false = omega arith
 
 decoded : {c : Call} {things : List ℕ} {columns : ℕ} {A : Type 0} {Q : A → Type 0} {x : Answer A} (size : A → ℕ) → Answers Q (Refusal c things columns) x
     → ((a : A) → Q a → size a < 2 ^ 32) → columns < 65536 → length things ≤ 3 → Decoded c things columns size x (word size x)
@@ -36,9 +45,9 @@ decoded size (in-accepted {a = a} q) fits few three =
     record { accepts = λ z. (a, refl, f); refuses = λ z. absurd (z e) }
 decoded size (in-refusedAt {n = n} {k = k} R) fits few three =
     let s = place-small R few three in
-    let (e, f) = halves n k (omega arith) in
+    let (e, f) = halves n (placeOf n k) (omega (arith, shown-small n k)) in
     let p = R .positive in
-    record { accepts = λ z. absurd (omega arith); refuses = λ z. rw (e, f) (refl, R) }
+    record { accepts = λ z. absurd (omega arith); refuses = λ z. rw (e, f) (k, refl, R, refusal-placed R) }
 
 -- the words of the contracts
 read-word : (x : Res Layout) → word (λ (l : Layout). 0) (readAt 1 x (λ l. accepted l)) ≡ readAnswer x

@@ -7,7 +7,8 @@ ghost use Rattle.layout.specs.Layout.{layout};
 ghost use Rattle.rules.specs.Policies.{policyOf};
 ghost use Rattle.plan.specs.Calls.{checkPlan, runPlan, bufferAfter};
 ghost use Rattle.matching.specs.Calls.{buildByName, buildByNumber};
-ghost use Rattle.selector.specs.Answer.{answer, readAnswer, writeAnswer, writtenAnswer, checkedAnswer, checkAnswer};
+ghost use Rattle.demands.specs.Refusals.{hasPlace};
+ghost use Rattle.selector.specs.Answer.{refusal as refusalOf, readAnswer, writeAnswer, writtenAnswer, checkedAnswer, checkAnswer};
 use calls::build::build_by_name;
 use calls::build::build_by_number;
 use checker::tops::PlanChecked;
@@ -18,10 +19,37 @@ use plan::answer::WriteResult;
 use rules::policy::Policy;
 use run::run::run_plan;
 
-fn refusal(number: u8, place: u32) -> u64
-    ensures { λ r. ⌜ r ≡ answer number place ⌝ }
+// Whether a refusal has a place.
+fn has_place(number: u8) -> bool
+    ensures { λ r. ⌜ r ≡ hasPlace number ⌝ }
 {
-    (number as u64) * 0x1_0000_0000 + (place as u64)
+    if number < 1 {
+        return false;
+    }
+    if number < 7 {
+        return true;
+    }
+    if number < 11 {
+        return false;
+    }
+    if number < 27 {
+        return true;
+    }
+    match number {
+        28 => true,
+        31 => true,
+        32 => true,
+        _ => false,
+    }
+}
+
+fn refusal(number: u8, place: u32) -> u64
+    ensures { λ r. ⌜ r ≡ refusalOf number place ⌝ }
+{
+    if has_place(number) {
+        return (number as u64) * 0x1_0000_0000 + (place as u64);
+    }
+    (number as u64) * 0x1_0000_0000
 }
 
 #[no_mangle]

@@ -14,6 +14,7 @@ use layout::cursor::Step;
 use layout::leaf::Leaf;
 use layout::leaf::TimeUnit;
 use layout::types::LeafType;
+use numeric::decimals::power_of_ten;
 use numeric::floats::Format;
 use numeric::integers::Integer;
 use values::content::Content;
@@ -63,6 +64,13 @@ fn put_leaf(leaf: Leaf) {
         Leaf::String => put(b"string"),
         Leaf::Binary => put(b"binary"),
         Leaf::Categorical => put(b"category"),
+        Leaf::Decimal(d) => {
+            put(b"decimal(");
+            put_number(d.precision as u64);
+            put(b",");
+            put_number(d.scale as u64);
+            put(b")");
+        }
     }
 }
 
@@ -113,6 +121,40 @@ fn magnitude(x: u64, half: u64) -> u64
     half - (x - half)
 }
 
+// The last digits of a number, with zeros in front.
+fn put_digits(m: u64, count: usize)
+    requires { ⌜ count ≤ 18 ⌝ }
+{
+    let mut i = count;
+    while 0 < i {
+        i -= 1;
+        put_number(m / power_of_ten(i) % 10);
+    }
+}
+
+// A magnitude with its point: 12340 at scale 3 is 12.340.
+fn put_scaled(m: u64, scale: u8) {
+    if scale == 0 {
+        return put_number(m);
+    }
+    if 18 < scale {
+        return put_number(m);
+    }
+    let digits = scale as usize;
+    put_number(m / power_of_ten(digits));
+    put(b".");
+    put_digits(m, digits);
+}
+
+fn put_decimal(x: u64, scale: u8) {
+    let half = 0x8000_0000_0000_0000;
+    if x < half {
+        return put_scaled(x, scale);
+    }
+    put(b"-");
+    put_scaled(magnitude(x, half), scale);
+}
+
 fn put_integer_pattern(i: Integer, x: u64) {
     match i {
         Integer::Int8 => put_signed(x, 0x80),
@@ -145,6 +187,7 @@ fn put_pattern(leaf: Leaf, x: u64) {
             put(b" ");
             put_unit(unit);
         }
+        Leaf::Decimal(d) => put_decimal(x, d.scale),
         _ => put_number(x),
     }
 }
@@ -177,6 +220,7 @@ pub fn put_leaf_value(s: &[u8], leaf: Leaf, c: Cursor) {
         Content::Nothing => put(b"null"),
         Content::Flag => put_flag(s, c),
         Content::Number(w) => put_pattern(leaf, pattern(s, c.at, w as usize)),
+        Content::Decimal(_) => put_pattern(leaf, pattern(s, c.at, 8)),
         Content::Text => put_long_text(s, c),
     }
 }

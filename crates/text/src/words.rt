@@ -25,7 +25,7 @@ fn put_reading(number: u8) {
 fn put_table_reading(number: u8) {
     match number {
         3 => put(
-            b"unknown type code, unit, kind or load byte, a type that is no leaf, or a value that does not fit its type",
+            b"unknown type code, unit, kind or load byte, a wrong precision or scale, a type that is no leaf, or a value that does not fit its type",
         ),
         4 => put(b"more than 16384 bytes, or a zone of more than 63"),
         5 => put(b"an entry repeats an id of its kind"),
@@ -96,6 +96,18 @@ fn put_running(number: u8) {
     }
 }
 
+// Of decimals, in each of these.
+fn put_decimals(number: u8) {
+    match number {
+        50 => put(
+            b"a decimal's precision is not 1 to 18, or its scale is larger than its precision",
+        ),
+        51 => put(b"a cast to a decimal of larger precision is not allowed"),
+        52 => put(b"a decimal of the record has more digits than its precision"),
+        _ => put_unknown(),
+    }
+}
+
 fn put_words(number: u8) {
     match number {
         1..=9 => put_reading(number),
@@ -103,6 +115,7 @@ fn put_words(number: u8) {
         20..=29 => put_matching(number),
         30..=39 => put_checking(number),
         40..=49 => put_running(number),
+        50..=52 => put_decimals(number),
         _ => put_unknown(),
     }
 }

@@ -6,7 +6,7 @@ use Rattle.numeric.proofs.Bounds.{integer-bytes-small, float-bytes-small}
 use Rattle.layout.specs.declared.leaf.Leaf.{Leaf}
 use Rattle.values.specs.Content.{contentOf, widthOf, widthIn}
 use Rattle.values.specs.declared.content.Content.{Content}
-use Rattle.values.specs.declared.content.Content.the-variants.{Nothing, Flag, Number, Text}
+use Rattle.values.specs.declared.content.Content.the-variants.{Number}
 
 pub width-small : (k : Leaf) → widthOf k ≤ 8
 width-small Leaf.Null = omega arith
@@ -18,6 +18,7 @@ width-small (Leaf.Datetime u) = omega arith
 width-small Leaf.String = omega arith
 width-small Leaf.Binary = omega arith
 width-small Leaf.Categorical = omega arith
+width-small (Leaf.Decimal d) = omega arith
 
 -- so a number takes at most eight bytes
 pub number-small : (k : Leaf) {w : ℕ} → contentOf k ≡ Number w → w ≤ 8

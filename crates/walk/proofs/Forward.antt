@@ -19,10 +19,10 @@ use Rattle.rules.specs.declared.outcome.OptionCode.{OptionCode}
 use Rattle.rules.specs.declared.outcome.OptionCode.the-variants.{Known, Unknown}
 use Rattle.rules.specs.Outcomes.{optionAt}
 use Rattle.values.specs.Value.{Value}
-use Rattle.values.specs.Reading.{presence, nullable, flag, longText, contentBy, leafContent, times, listContent, arrayContent, structContent, content, values, value}
+use Rattle.values.specs.Reading.{presence, nullable, flag, longText, contentBy, leafContent, times, listContent, arrayContent, structContent, content, values, value, decimal}
 use Rattle.values.specs.Content.{contentOf}
 use Rattle.values.specs.declared.content.Content.{Content}
-use Rattle.values.specs.declared.content.Content.the-variants.{Nothing, Flag, Number, Text}
+use Rattle.values.specs.declared.content.Content.the-variants.{Nothing, Flag, Number, Decimal, Text}
 use Rattle.plan.specs.Selector.{Selector}
 use Rattle.plan.specs.Read.{dataType, knownOption, castOption, selectors, positionRest, constantRest, castRest, renameRest, structRest, listRest, arrayRest, selectorRest, selector}
 
@@ -89,11 +89,13 @@ module _ (s : Bytes) where
       (λ here i. choose-from here _ _ (f i) (ok-from _ (omega arith)))
 
   leaf-from : (c : Content) (l : Leaf) (at : ℕ) → From at (contentBy c l s at)
-  unfolding contentBy flag longText
+  unfolding contentBy flag decimal longText
   leaf-from Nothing l at = refuse-from 3
   leaf-from Flag l at =
       next-from _ _ (next-from _ _ (byte-from at) (λ b i. choose-from (leb b 1) _ _ (ok-from b (omega arith)) (refuse-from 3))) (λ b i. ok-from _ (omega arith))
   leaf-from (Number w) l at = next-from _ _ (chunk-from w at) (λ bs i. ok-from _ (omega arith))
+  leaf-from (Decimal p) l at =
+      next-from _ _ (next-from _ _ (chunk-from 8 at) (λ bs i. choose-from _ _ _ (ok-from _ (omega arith)) (refuse-from 52))) (λ n i. ok-from _ (omega arith))
   leaf-from Text l at = next-from _ _ (next-from _ _ (u16-from at) (λ n i. chunk-from n i)) (λ bs i. ok-from _ (omega arith))
 
   times-from : (p : Parser Value) → ((at : ℕ) → From at (p s at)) → (n at : ℕ) → From at (times n p s at)

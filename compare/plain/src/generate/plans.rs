@@ -1,6 +1,7 @@
 //! Plans that fit an incoming layout, with the target layout that they lead to: transforms over transforms, constants and casts at every level.
 
-use super::{leaf, name, records, type_};
+use super::records::{self, Shares};
+use super::{leaf, name, type_, wider_decimal};
 use crate::form::{self, Column, DEPTH_LIMIT, Leaf, Type};
 use crate::random::Random;
 use crate::rules::{CastOption, cast_option};
@@ -105,7 +106,11 @@ impl Generator<'_> {
         if scope.is_empty() || self.random.percent(20) {
             let column = self.column();
             let mut value = Vec::new();
-            records::value(self.random, &mut value, &column.type_, 15);
+            let shares = Shares {
+                nulls: 15,
+                exceeding: if self.unfit > 0 { 10 } else { 0 },
+            };
+            records::value(self.random, &mut value, &column.type_, shares);
             let bytes = write::constant(&column.name, &column.type_, &value);
             return Made { bytes, column };
         }
@@ -173,7 +178,10 @@ impl Generator<'_> {
             return (bytes, type_);
         }
         for _ in 0..20 {
-            let to = leaf(self.random);
+            let to = match from {
+                Leaf::Decimal { precision, scale } => wider_decimal(self.random, precision, scale),
+                _ => leaf(self.random),
+            };
             if let Some(option) = cast_option(&from, &to) {
                 let type_ = Type::Leaf(to);
                 return (write::cast(&bytes, &type_, option), type_);

@@ -1,34 +1,55 @@
-//! Records that fit a layout, with the values at which conversions change among them.
+//! Records that fit a layout, with the values at which conversions change among them, and records with decimals that are too large.
 
 use crate::form::{Column, Leaf, Type};
 use crate::number::Kind;
 use crate::random::Random;
 
+/// The shares, in percent, of what is not like the other values.
+#[derive(Clone, Copy)]
+pub struct Shares {
+    pub nulls: u64,
+    /// Decimals that are too large for their precision.
+    pub exceeding: u64,
+}
+
 /// A record of the columns; longer than the limit only where the layout leaves no choice.
 pub fn record(random: &mut Random, columns: &[Column]) -> Vec<u8> {
+    record_of(random, columns, 0)
+}
+
+/// The same, but that a decimal may be too large.
+pub fn exceeding_record(random: &mut Random, columns: &[Column]) -> Vec<u8> {
+    record_of(random, columns, 30)
+}
+
+fn record_of(random: &mut Random, columns: &[Column], exceeding: u64) -> Vec<u8> {
     let mut bytes = Vec::new();
     let nulls = if random.percent(10) { 60 } else { 12 };
     for column in columns {
-        value(random, &mut bytes, &column.type_, nulls);
+        let shares = Shares { nulls, exceeding };
+        value(random, &mut bytes, &column.type_, shares);
     }
     bytes
 }
 
-/// A value in the type's form, presence byte first; that share of values, in percent, is null.
-pub fn value(random: &mut Random, bytes: &mut Vec<u8>, type_: &Type, nulls: u64) {
+/// A value in the type's form, presence byte first.
+pub fn value(random: &mut Random, bytes: &mut Vec<u8>, type_: &Type, shares: Shares) {
     // Arrays too wide for a record, and what would make it too long, are null.
     let wide = matches!(type_, Type::Array(width, _) if *width > 64);
     let none = *type_ == Type::Leaf(Leaf::Plain(0));
-    if none || wide || bytes.len() > 8_000 || random.percent(nulls) {
+    if none || wide || bytes.len() > 8_000 || random.percent(shares.nulls) {
         bytes.push(0);
         return;
     }
     bytes.push(1);
     match type_ {
+        Type::Leaf(Leaf::Decimal { precision, .. }) if random.percent(shares.exceeding) => {
+            bytes.extend(too_many_digits(random, *precision).to_le_bytes());
+        }
         Type::Leaf(leaf) => leaf_bytes(random, bytes, leaf),
         Type::Struct(columns) => {
             for column in columns {
-                value(random, bytes, &column.type_, nulls);
+                value(random, bytes, &column.type_, shares);
             }
         }
         Type::List(element) => {
@@ -38,12 +59,12 @@ pub fn value(random: &mut Random, bytes: &mut Vec<u8>, type_: &Type, nulls: u64)
             };
             bytes.extend((count as u16).to_le_bytes());
             for _ in 0..count {
-                value(random, bytes, &element.type_, nulls);
+                value(random, bytes, &element.type_, shares);
             }
         }
         Type::Array(width, element) => {
             for _ in 0..*width {
-                value(random, bytes, &element.type_, nulls);
+                value(random, bytes, &element.type_, shares);
             }
         }
     }
@@ -74,6 +95,7 @@ fn number(random: &mut Random, kind: Kind) -> u64 {
         Kind::Float(32) => f32_bits(random).into(),
         Kind::Float(_) => f64_bits(random),
         Kind::Datetime(_) => count(random) as u64,
+        Kind::Decimal(precision) => digits(random, precision) as u64,
         Kind::Signed(_) | Kind::Unsigned(_) | Kind::Date => integer(random),
     }
 }
@@ -105,6 +127,26 @@ fn count(random: &mut Random) -> i64 {
         _ => random.below(9_000_000_000_000) as i64,
     };
     (size + near).checked_mul(sign).unwrap_or(i64::MIN)
+}
+
+/// Below ten to the precision in magnitude: the largest, near a smaller power of ten, or any.
+fn digits(random: &mut Random, precision: u8) -> i64 {
+    let power = |digits: u8| 10u64.pow(digits.into());
+    let largest = power(precision) - 1;
+    let smaller = power(random.below(u64::from(precision)) as u8);
+    let magnitude = match random.below(4) {
+        0 => largest,
+        1 => smaller.wrapping_sub(random.below(2)),
+        _ => random.below(largest + 1),
+    } as i64;
+    random.pick(&[magnitude, -magnitude])
+}
+
+/// The least magnitude that is too large, or a larger one.
+fn too_many_digits(random: &mut Random, precision: u8) -> i64 {
+    let least = 10i64.pow(precision.into());
+    let more = random.below((i64::MAX - least) as u64 + 1) as i64;
+    random.pick(&[least, -least, least + more, -least - more, i64::MIN])
 }
 
 /// Any bits, or a float near those of 16 bits.

@@ -2,6 +2,7 @@
 
 mod builds;
 mod collisions;
+mod decimals;
 mod large;
 mod limits;
 mod transforms;
@@ -186,5 +187,13 @@ pub fn trials(random: &mut Random) -> Vec<(Trial, Due)> {
     trials.layouts();
     trials.collisions();
     trials.long_plans();
+    trials.decimal_limits();
+    trials.decimal_layouts();
+    trials.decimal_values();
+    trials.decimal_order();
+    trials.decimal_casts();
+    trials.decimal_others();
+    trials.decimal_builds();
+    trials.decimal_defaults();
     trials.made
 }

@@ -7,6 +7,7 @@ use plain::call::{self as plain_call, Refusal};
 use plain::due::{Pairing, due};
 use plain::form::{self, Entry, Layout, PLAN_LIMIT};
 use plain::hex::hex;
+use plain::policy;
 use plain::value::{Value, read_record};
 use std::fmt;
 
@@ -41,11 +42,11 @@ impl Call {
     /// Whether docs/refusals.txt has that refusal for the call.
     pub fn has(self, number: u32) -> bool {
         match self {
-            Call::ReadLayout => matches!(number, 1..=6),
-            Call::BuildByName => matches!(number, 1..=6 | 10..=24 | 27),
-            Call::BuildByNumber => matches!(number, 1..=6 | 10 | 11 | 13..=28),
-            Call::CheckPlan => matches!(number, 1..=6 | 30..=33),
-            Call::Run => matches!(number, 1..=6 | 30..=33 | 40..=45),
+            Call::ReadLayout => matches!(number, 1..=6 | 50),
+            Call::BuildByName => matches!(number, 1..=6 | 10..=24 | 27 | 50 | 51),
+            Call::BuildByNumber => matches!(number, 1..=6 | 10 | 11 | 13..=28 | 50 | 51),
+            Call::CheckPlan => matches!(number, 1..=6 | 30..=33 | 50),
+            Call::Run => matches!(number, 1..=6 | 30..=33 | 40..=45 | 50 | 52),
         }
     }
 }
@@ -273,12 +274,16 @@ impl Judge {
         side: Side,
     ) -> Result<(), Difference> {
         match number(given) {
-            1..=10 => Err("refused as if it could not be read".to_owned()),
+            1..=10 | 50 => Err("refused as if it could not be read".to_owned()),
             27 => match self.library(&trial.resized(PLAN_LIMIT), side)? {
                 Ok(plan) if plan.len() <= trial.space => Err("27 for a plan that fits".to_owned()),
                 Ok(_) => Ok(()),
                 other => same("given space", &other, given),
             },
+            51 if trial.policy & policy::DECIMAL_WIDENING != 0 => {
+                Err("51 though the flag allows it".to_owned())
+            }
+            51 if *given != Err(Refusal::of(51)) => Err("51 with a place".to_owned()),
             // Space is the last test.
             _ => self.expect("without space", &trial.resized(0), given, side),
         }
@@ -319,9 +324,9 @@ struct Arguments {
 }
 
 impl Arguments {
-    /// 1 to 6 and 10 in their order.
+    /// 1 to 6, 50 and 10 in their order.
     fn read(trial: &Trial) -> Result<Arguments, Refusal> {
-        let at = |place: u32| move |number: u32| Refusal { number, place };
+        let at = Refusal::of_input;
         let incoming = form::read_layout(&trial.incoming).map_err(at(1))?;
         let target = form::read_layout(&trial.target).map_err(at(2))?;
         let version = if trial.call == Call::BuildByName {

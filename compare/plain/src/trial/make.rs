@@ -79,6 +79,14 @@ fn space(random: &mut Random) -> usize {
     }
 }
 
+/// Mostly one that fits.
+fn record(random: &mut Random, columns: &[Column]) -> Vec<u8> {
+    match random.percent(5) {
+        true => records::exceeding_record(random, columns),
+        false => records::record(random, columns),
+    }
+}
+
 /// A build of related layouts, with a record for its plan.
 fn build(random: &mut Random) -> Trial {
     let case = generate::case(random);
@@ -112,7 +120,7 @@ fn build(random: &mut Random) -> Trial {
         incoming,
         target,
         defaults: number.defaults,
-        record: records::record(random, &layout.columns),
+        record: record(random, &layout.columns),
         ..Trial::new(call)
     }
 }
@@ -157,7 +165,7 @@ fn planned(random: &mut Random) -> Trial {
     }
     let version = 1 + random.below(2) as u8;
     let trial = Trial {
-        record: records::record(random, &incoming.columns),
+        record: record(random, &incoming.columns),
         incoming: case.incoming,
         target: form::write_layout(&Layout { version, columns }),
         plan,

@@ -55,6 +55,8 @@ pub enum DataType {
     Float16,
     Float32,
     Float64,
+    /// Precision and scale. No rule of the source has decimals: they are equal to themselves, and to nothing else.
+    Decimal(usize, usize),
     Date,
     Datetime(TimeUnit, Option<TimeZone>),
     String,

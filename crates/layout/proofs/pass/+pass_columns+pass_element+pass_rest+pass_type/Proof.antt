@@ -21,6 +21,7 @@ use Rattle.layout.proofs.pass.+pass_columns+pass_element+pass_rest+pass
 use Rattle.layout.proofs.cursor.Cursor.byte.Reads as byte-reads
 use Rattle.layout.proofs.cursor.Cursor.short.Reads as short-reads
 use Rattle.layout.proofs.pass.pass_datetime.Reads as pass-datetime-reads
+use Rattle.layout.proofs.pass.pass_decimal.Reads as pass-decimal-reads
 use Rattle.layout.proofs.pass.pass_label.Reads as pass-label-reads
 use Rattle.layout.proofs.pass.pass_long.Reads as pass-long-reads
 use Rattle.layout.proofs.types.plain_leaf.Reads as plain-leaf-reads
@@ -90,7 +91,7 @@ abbrev pass-element-claims : ℕ → pass-element-lts.Claims
 pass-element-claims t = (pass-type-below t, pass-type.Post, pass-label-reads.Asked, pass-label-reads.Learnt)
 
 abbrev pass-rest-claims : ℕ → pass-rest-lts.Claims
-pass-rest-claims t = (pass-datetime-reads.Asked, pass-datetime-reads.Learnt, short-reads.Asked, short-reads.Learnt, pass-columns-below t, pass-columns.Post, pass-element-below t, pass-element.Post, pass-long-reads.Asked, pass-long-reads.Learnt)
+pass-rest-claims t = (pass-datetime-reads.Asked, pass-datetime-reads.Learnt, short-reads.Asked, short-reads.Learnt, pass-columns-below t, pass-columns.Post, pass-element-below t, pass-element.Post, pass-long-reads.Asked, pass-long-reads.Learnt, pass-decimal-reads.Asked, pass-decimal-reads.Learnt)
 
 abbrev pass-type-claims : ℕ → pass-type-lts.Claims
 pass-type-claims t = (byte-reads.Asked, byte-reads.Learnt, plain-leaf-reads.Asked, plain-leaf-reads.Learnt, pass-rest-below t, pass-rest.Post)
@@ -141,6 +142,8 @@ pub +pass-columns+pass-element+pass-rest+pass-type-spec : {M : Type 1} → state
     (λ c. search needs)
     (λ c κs. search needs)
     (λ c. search needs)
+    (λ c κs. search needs)
+    (λ c. search rest-passed)
     (λ c. search rest-passed)
     (λ c. search rest-passed)
     (λ c. search rest-passed)

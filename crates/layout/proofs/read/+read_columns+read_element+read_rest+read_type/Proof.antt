@@ -26,6 +26,7 @@ use Rattle.layout.proofs.cursor.Cursor.byte.Reads as byte-reads
 use Rattle.layout.proofs.cursor.Cursor.label.Reads as label-reads
 use Rattle.layout.proofs.cursor.Cursor.short.Reads as short-reads
 use Rattle.layout.proofs.pass.pass_datetime.Reads as pass-datetime-reads
+use Rattle.layout.proofs.pass.pass_decimal.Reads as pass-decimal-reads
 use Rattle.layout.proofs.pass.pass_label.Reads as pass-label-reads
 use Rattle.layout.proofs.pass.pass_long.Reads as pass-long-reads
 use Rattle.layout.proofs.pass.pass_type.Reads as pass-type-reads
@@ -97,7 +98,7 @@ abbrev read-element-claims : ℕ → read-element-lts.Claims
 read-element-claims t = (read-type-below t, read-type.Post, pass-label-reads.Asked, pass-label-reads.Learnt)
 
 abbrev read-rest-claims : ℕ → read-rest-lts.Claims
-read-rest-claims t = (pass-datetime-reads.Asked, pass-datetime-reads.Learnt, short-reads.Asked, short-reads.Learnt, read-columns-below t, read-columns.Post, read-element-below t, read-element.Post, pass-long-reads.Asked, pass-long-reads.Learnt)
+read-rest-claims t = (pass-datetime-reads.Asked, pass-datetime-reads.Learnt, short-reads.Asked, short-reads.Learnt, read-columns-below t, read-columns.Post, read-element-below t, read-element.Post, pass-long-reads.Asked, pass-long-reads.Learnt, pass-decimal-reads.Asked, pass-decimal-reads.Learnt)
 
 abbrev read-type-claims : ℕ → read-type-lts.Claims
 read-type-claims t = (pass-type-reads.Asked, pass-type-reads.Learnt, byte-reads.Asked, byte-reads.Learnt, plain-leaf-reads.Asked, plain-leaf-reads.Learnt, read-rest-below t, read-rest.Post)
@@ -150,11 +151,13 @@ pub +read-columns+read-element+read-rest+read-type-spec : {M : Type 1} → state
     (λ c. search needs)
     (λ c κs. search needs)
     (λ c. search needs)
+    (λ c κs. search needs)
     (λ c. (search rest-passed, keeps-same _))
     (λ c. (search rest-passed, c .read-columns .ensures .1))
     (λ c. (search rest-passed, keeps-same _))
     (λ c. (search rest-passed, c .read-element .ensures .1))
     (λ c. (search rest-passed, c .read-element2 .ensures .1))
+    (λ c. (search rest-passed, keeps-same _))
     (λ c. (search rest-passed, keeps-same _))
     (λ c. (search rest-passed, keeps-same _)))
     λ t. read-type-lts.spec (read-type-claims t)

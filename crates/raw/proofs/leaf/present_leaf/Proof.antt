@@ -1,6 +1,6 @@
 use mathlib.Core.Path.{sym, _∙_}
 use native.Mathlib.Omega.{arith}
-use Rattle.raw.proofs.Leaves.{leaf-nothing, leaf-text, leaf-flag, flag-inside, number-inside, leaf-number}
+use Rattle.raw.proofs.Leaves.{leaf-nothing, leaf-text, leaf-flag, flag-inside, number-inside, leaf-number, decimal-inside, leaf-decimal}
 use Rattle.values.proofs.Leaves.{number-small}
 use borrow.Author.Needs.{needs}
 use Rattle.raw.proofs.leaf.present_leaf.Statement.{statement}
@@ -19,7 +19,10 @@ present-leaf-spec =
     (λ c. search needs)
     (λ c κs. let e = sym (c .before .before .before .content-of .ensures) ∙ c .before .w .given .1 in (number-inside (c .before .before .before .before .before .pre) e, number-small (c .before .before .before .before .before .args .leaf) e))
     (λ c. search needs)
+    (λ c κs. (decimal-inside (c .before .before .before .before .pre) (sym (c .before .before .content-of .ensures) ∙ c .enum-told3 .given .1), omega arith))
+    (λ c. search needs)
     (λ c. λ X. leaf-nothing X (sym (c .before .before .content-of .ensures) ∙ c .enum-told .given .1))
     (λ c. λ X. leaf-flag X (sym (c .before .before .before .content-of .ensures) ∙ c .before .enum-told2 .given .1))
     (λ c. λ X. leaf-number X (sym (c .before .before .before .before .content-of .ensures) ∙ c .before .before .w .given .1) (c .number-at .ensures))
-    (λ c. λ X. leaf-text X (sym (c .before .before .content-of .ensures) ∙ c .enum-told3 .given .1)))
+    (λ c. λ X. leaf-decimal X (sym (c .before .before .before .content-of .ensures) ∙ c .before .enum-told3 .given .1) (c .number-at2 .ensures))
+    (λ c. λ X. leaf-text X (sym (c .before .before .content-of .ensures) ∙ c .enum-told4 .given .1)))

@@ -23,6 +23,7 @@ apply-rule-spec =
     (λ c κs. search needs)
     (λ c κs. search needs)
     (λ c κs. search needs)
+    (λ c κs. search needs)
     (λ c. rw (c .match .keys1))
     (λ c. rw (c .before .match .keys2) (c .attach-cast .ensures))
     (λ c. rw (c .before .match .keys3) (c .integer .ensures))
@@ -36,6 +37,7 @@ apply-rule-spec =
     (λ c. rw (c .before .match .keys10) (c .datetime4 .ensures))
     (λ c. rw (c .before .match .keys11) (c .datetime5 .ensures))
     (λ c. rw (c .before .match .keys12) (c .attach-cast5 .ensures))
+    (λ c. rw (c .before .match .keys13) (c .decimal .ensures))
     (λ c.
     let a = c .before .args in
-    sym (first (rules (a .p) (a .z) (a .fits)) (refused 24) (a .rule) refl (none 1 (a .rule) 12 (c .match .rest)))))
+    sym (first (rules (a .p) (a .z) (a .fits)) (refused 24) (a .rule) refl (none 1 (a .rule) 13 (c .match .rest)))))

@@ -1,7 +1,7 @@
 -- `rules::pair::leaf_pair` meets its contract: the table agrees with the chain at the pair that is looked up.
 use mathlib.Core.Path.{_∙_}
-use Rattle.rules.proofs.Agree.{looked-up}
-use Rattle.rules.proofs.EachLeaf.{kind<}
+use native.Mathlib.Omega.{arith}
+use Rattle.rules.proofs.Agree.{looked-up, row-within}
 use borrow.Author.Needs.{needs}
 use Rattle.rules.proofs.pair.leaf_pair.Statement.{statement}
 use Rattle.rules.proofs.pair.leaf_pair.Tie as tie
@@ -13,13 +13,20 @@ leaf-pair-spec =
     (λ c κs. search needs)
     (λ c κs. search needs)
     (λ c κs. search needs)
+    (λ c. search needs)
+    (λ c. search needs)
+    (λ c. search needs)
+    (λ c. search needs)
+    (λ c. search needs)
     (λ c κs. search needs)
     (λ c. search needs)
-    (λ c. search needs)
-    (λ c. search needs)
-    (λ c. rw (c .before .before .before .kind .ensures) (kind< (c .before .before .before .before .args .incoming)))
-    (λ c. rw (c .before .before .kind2 .ensures) (kind< (c .before .before .before .before .args .target)))
+    (λ c.
+    let a = c .before .before .before .before .args in
+    row-within (a .incoming) (a .target) (c .before .before .before .kind .ensures) (c .before .before .kind2 .ensures))
+    (λ c. omega arith)
     (λ c κs. search needs)
-    (λ c. let a = c .before .before .before .before .before .before .args in
-    c .apply-rule .ensures
-    ∙ looked-up (c .before .before .before .table .ensures) (a .p) (a .z) (a .incoming) (a .target) (c .before .before .before .before .before .kind .ensures) (c .before .before .before .before .kind2 .ensures) (c .before .before .lossless .ensures)))
+    (λ c.
+    let a = c .before .before .before .before .before .before .args in
+    let i = c .before .before .before .before .before .kind .ensures in
+    let t = c .before .before .before .before .kind2 .ensures in
+    c .apply-rule .ensures ∙ looked-up (c .before .before .before .table .ensures) (a .p) (a .z) (a .incoming) (a .target) i t (c .before .before .lossless .ensures)))

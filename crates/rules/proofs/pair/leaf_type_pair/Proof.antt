@@ -1,6 +1,6 @@
--- `rules::pair::leaf_type_pair` meets its contract: the zones count between date-times alone.
+-- `rules::pair::leaf_type_pair` meets its contract: what counts beside the kinds counts of the leaf types.
 use mathlib.Core.Path.{ap, _∙_}
-use Rattle.rules.specs.declared.zones.Params.{Params}
+use Rattle.rules.specs.declared.params.Params.{Params}
 use Rattle.rules.specs.Chain.{chain}
 use Rattle.rules.proofs.PairRule.{pair-of-leaves}
 use borrow.Author.Needs.{needs}
@@ -16,5 +16,5 @@ leaf-type-pair-spec =
     (λ c.
     let a = c .before .before .before .before .args in
     c .leaf-pair .ensures
-    ∙ ap (λ (z : Params). chain (a .p) z (a .incoming) (a .target)) (c .before .compare-zones .ensures)
+    ∙ ap (λ (z : Params). chain (a .p) z (a .incoming) (a .target)) (c .before .compare-params .ensures)
     ∙ pair-of-leaves (a .p) (a .incoming) (a .target) _ _))
