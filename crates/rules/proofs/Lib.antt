@@ -1,4 +1,5 @@
 pub mod Agree
+pub mod AnyZones
 pub mod Casts
 pub mod Codes
 pub mod EachLeaf
@@ -11,6 +12,7 @@ pub mod Options
 pub mod PairRule
 pub mod Ranges
 pub mod Samples
+pub mod Spellings
 pub mod Utc
 pub mod Way
 pub mod Compared
