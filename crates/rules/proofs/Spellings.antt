@@ -11,26 +11,19 @@ use Rattle.rules.specs.Zones.{utc, etcUtc, textZ, utcZones, isUtc, readZ
 use Rattle.rules.specs.Params.{paramsOf, decimalsOf}
 use Rattle.rules.specs.Chain.{chain}
 use Rattle.rules.specs.Pairs.{pairRule}
-
-abbrev along : {A : Type 0} → (Bytes → A) → List Bytes → List A
-along f [] = []
-along f (z ∷ zs) = f z ∷ along f zs
+use Rattle.rules.proofs.Grid.{grid}
 
 -- date-times of one unit, no flag on
 abbrev judged : Bytes → Bytes → Verdict
 judged a b = pairRule (policyOf 0) (datetime Microseconds a) (datetime Microseconds b)
 
--- each of the incoming zones against each of the target's
-abbrev pairs : List Bytes → List Bytes → List (List Verdict)
-pairs xs ys = along (λ x. along (judged x) ys) xs
-
 -- opens every definition that a sample computes through
 opened : List Bytes → List (List Verdict)
 unfolding pairRule chain paramsOf decimalsOf zonesOf readZone isUtc sameBytes
-opened zs = pairs zs zs
+opened zs = grid judged zs zs
 
 -- none is another zone; a cast is planned, since the types are unequal
-sixteen : pairs utcZones utcZones
+sixteen : grid judged utcZones utcZones
     ≡ ((untouched ∷ cast NonStrict ∷ cast NonStrict ∷ cast NonStrict ∷ [])
     ∷ (cast NonStrict ∷ untouched ∷ cast NonStrict ∷ cast NonStrict ∷ [])
     ∷ (cast NonStrict ∷ cast NonStrict ∷ untouched ∷ cast NonStrict ∷ [])
@@ -46,11 +39,11 @@ near = (117 ∷ 116 ∷ 99 ∷ []) ∷ (90 ∷ 117 ∷ 108 ∷ 117 ∷ []) ∷ (
 abbrev all-21 : List Verdict
 all-21 = refused 21 ∷ refused 21 ∷ refused 21 ∷ refused 21 ∷ []
 
-near-to-utc : pairs near utcZones ≡ (all-21 ∷ all-21 ∷ all-21 ∷ all-21 ∷ [])
+near-to-utc : grid judged near utcZones ≡ (all-21 ∷ all-21 ∷ all-21 ∷ all-21 ∷ [])
 unfolding opened
 near-to-utc = refl
 
-utc-to-near : pairs utcZones near ≡ (all-21 ∷ all-21 ∷ all-21 ∷ all-21 ∷ [])
+utc-to-near : grid judged utcZones near ≡ (all-21 ∷ all-21 ∷ all-21 ∷ all-21 ∷ [])
 unfolding opened
 utc-to-near = refl
 
