@@ -5,8 +5,9 @@
 #   compare/cases.py --list FILE     writes the cases of one file of vectors as a list, to standard output (compare/c/vectors)
 #
 # VECTORS has files with answers of a second implementation, one JSON object a line (default: ../shared/vectors beside the repository).
-# The cases of base.jsonl are taken over, and of L01.jsonl those that only decimals can ask, which stand first there. In base.jsonl no
-# decimal stands; in its policy words bit 14, which is theirs now, is on or off, and changes no answer.
+# The cases of base.jsonl are taken over, and of L01.jsonl and L02.jsonl those that only decimals can ask and those whose answers the
+# spellings of UTC changed, which stand first there. In base.jsonl no decimal stands; in its policy words bit 14, which is theirs now, is on
+# or off, and changes no answer.
 # Layouts at the edges of the rules of documents 01 and 02 are added, whose answers come from the reader below, and builds of
 # the original source (compare/rust/sample.txt). The reader is written from these documents and shares nothing with the library; where it
 # disagrees with an answer of VECTORS, nothing is written and the exit status is 1. Which plans one pass is to settle (docs/ARCHITECTURE.md)
@@ -20,7 +21,13 @@ ROOT = os.path.dirname(os.path.dirname(os.path.abspath(__file__)))
 STORED = os.path.join(ROOT, "crates", "cases")
 VECTORS = os.path.join(os.path.dirname(ROOT), "shared", "vectors")
 # Each file of vectors, with how many of its first cases are taken (all where there is no number), and what they are.
-TAKEN = [("base.jsonl", None, "a second implementation's answers"), ("L01.jsonl", 251, "its answers where decimals stand")]
+TAKEN = [
+    ("base.jsonl", None, "a second implementation's answers"),
+    ("L01.jsonl", 251, "its answers where decimals stand"),
+    ("L02.jsonl", 23, "its answers where zones count as UTC"),
+]
+# The lines of these files whose answers a later request changed: L2 the one, a build from the zone Etc/UTC to Z that was 21.
+CHANGED = {("base.jsonl", 140)}
 SAMPLE = os.path.join(ROOT, "compare", "rust", "sample.txt")
 
 HEAD = """\
@@ -520,7 +527,7 @@ def taken(path, most=None):
     lines = []
     for number, text in enumerate(itertools.islice(open(path), most), 1):
         case = json.loads(text)
-        if case["op"] not in CALLS:
+        if case["op"] not in CALLS or (os.path.basename(path), number) in CHANGED:
             continue
         if case["op"] != "layout":
             lines.append(other(case))

@@ -141,7 +141,9 @@ extern "C" {
 uint64_t selector_read_layout(const uint8_t *layout, size_t length);
 
 /* Builds the plan that takes records of the incoming layout to the target layout, columns matched by name. Both are of
- * version 1. Refusals: 1 to 6, 10 to 24, 27, 50, 51. Stack: SELECTOR_BUILD_STACK. */
+ * version 1. Where the zones of date-times are compared (21), no zone and the texts UTC, Etc/UTC and Z count as one;
+ * the types are unequal all the same, and the plan has a cast. Refusals: 1 to 6, 10 to 24, 27, 50, 51.
+ * Stack: SELECTOR_BUILD_STACK. */
 uint64_t selector_build_by_name(uint32_t policy, const uint8_t *incoming, size_t incoming_length,
                                 const uint8_t *target, size_t target_length, uint8_t *plan, size_t plan_length);
 

@@ -1,11 +1,11 @@
-//! Every pair of leaf kinds, date-times with four zones, decimals with four pairs of precision and scale, by name and by number.
+//! Every pair of leaf kinds, date-times with seven zones, decimals with four pairs of precision and scale, by name and by number.
 
 use crate::decimals;
 use plain::case::{Case, Number};
 use plain::form::{Column, Layout, Leaf, Type, write_defaults, write_layout};
 use plain::policy::{ALL, BITS};
 
-const ZONES: [&str; 4] = ["", "UTC", "Europe/Oslo", "Etc/UTC"];
+const ZONES: [&str; 7] = ["", "UTC", "Europe/Oslo", "Etc/UTC", "Z", "Zulu", "utc"];
 const DECIMALS: [(u8, u8); 4] = [(6, 3), (9, 3), (9, 2), (18, 3)];
 
 fn leaves() -> Vec<Leaf> {
