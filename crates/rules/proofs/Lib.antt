@@ -1,4 +1,5 @@
 pub mod Agree
+pub mod Allowed
 pub mod Casts
 pub mod Codes
 pub mod EachLeaf
