@@ -15,7 +15,7 @@ import sys
 ROOT = pathlib.Path(__file__).resolve().parent.parent
 CRATES = ROOT / "crates"
 LIMIT = 3000
-STATEMENTS = [("demands", "Demands"), ("demands", "Projected"), ("selector", "Decoded")]
+STATEMENTS = [("demands", "Demands"), ("demands", "Projected"), ("demands", "Loosened"), ("selector", "Decoded")]
 
 WORD = re.compile(r"[^\s(){}\[\],;.λ]+")
 USE = re.compile(r"^(?:ghost )?use Rattle·([a-z]+)(?:·specs|·proofs)?\.(specs|proofs\.proofs|proofs)\.([\w.+-]+)\.\{([^}]*)\}", re.M)

@@ -8,4 +8,6 @@ pub mod Built
 pub mod Demands
 pub mod Table
 pub mod Decimals
+pub mod Loosened
+pub mod Loosenings
 pub mod Projected

@@ -11,4 +11,5 @@ pub mod Nesting
 pub mod ByName
 pub mod Theorems
 pub mod Calls
+pub mod Loosen
 pub mod Samples

@@ -1,5 +1,6 @@
 pub mod Agree
 pub mod AnyZones
+pub mod Allowed
 pub mod Casts
 pub mod EachLeaf
 pub mod Grid

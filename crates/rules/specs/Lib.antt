@@ -1,5 +1,6 @@
 pub mod Choice
 pub mod Policies
+pub mod Allows
 pub mod Outcomes
 pub mod Zones
 pub mod Kinds
