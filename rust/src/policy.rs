@@ -39,8 +39,10 @@ impl Policy {
     pub const INSERT_MISSING_COLUMNS: Policy = Policy(1 << 13);
     /// A decimal to one of larger precision at the same scale.
     pub const DECIMAL_WIDENING: Policy = Policy(1 << 14);
+    /// An incoming column that the target lacks is ignored.
+    pub const IGNORE_EXTRA_COLUMNS: Policy = Policy(1 << 15);
     /// Everything is allowed.
-    pub const ALL: Policy = Policy(0x7FFF);
+    pub const ALL: Policy = Policy(0xFFFF);
 
     /// The policy of a word of the C interface; bits without a meaning are ignored.
     pub const fn from_word(word: u32) -> Policy {

@@ -37,7 +37,7 @@ use Rattle.matching.specs.Default.{Defaults, noDefaults, leafDefault, buildIceb
 use Rattle.matching.specs.Build.{leafPart, structPart, listPart, arrayPart, unlessNullType, sameElement, distinct, distinctNames, missing, ruled, sought, attachTransforms, attachFields, isAbsent, extraColumnErr, extraColumns, buildColumnSelector, buildFrom, build}
 use Rattle.matching.specs.Calls.{roomFor, writtenPlan}
 use Rattle.demands.specs.Refusals.{isIn, pairRefusals, extraRefusals, columnRefusals}
-use Rattle.demands.proofs.Refusing.{all, all-in, ResultIn, in-gives, in-refuses, bind-in, demand-in, result-choose-in, Answers, in-accepted, in-refusedAt, placed-in, answered-in, ColumnRefusal, BuildRefusal, by-extra, by-column}
+use Rattle.demands.proofs.Refusing.{all, all-in, ResultIn, in-gives, in-refuses, bind-in, demand-in, result-choose-in, Answers, in-accepted, in-refusedAt, placed-in, answered-in, answers-as, ColumnRefusal, BuildRefusal, by-extra, by-column}
 
 -- a target column refuses with a number of its list
 abbrev ColumnIn : {A : Type 0} → Version → Result A → Type 0
@@ -232,7 +232,7 @@ module _ (v : Version) where
     where
       go : (b : Bool) {x : Answer (Unit {0})} → Answers (λ x. Unit {0}) (ColumnRefusal extraRefusals count) x
           → Answers (λ x. Unit {0}) (ColumnRefusal extraRefusals count) (choose b (refusedAt 53 i) x)
-      go true o = in-refusedAt (record { among = refl; place = omega (arith, h) })
+      go true o = in-refusedAt {k = i} (record { among = refl; place = omega (arith, h) })
       go false o = o
 
   extra-in : (e : ExtraColumnsPolicy) (fs gs : Columns) → Answers (λ x. Unit {0}) (ColumnRefusal extraRefusals (countColumns fs)) (extraColumns e v fs gs)
@@ -284,7 +284,7 @@ module _ (v : Version) (p : Policy) where
     unfolding build
     build-in to =
         answered-in (extra-in v (p .«extra_columns») fs to) (λ n k r. by-extra r) (λ x u.
-        answered-in (from-in to 0 (countColumns to) (omega arith)) (λ n k r. by-column r) (λ ss u. in-accepted tt))
+        answers-as (from-in to 0 (countColumns to) (omega arith)) (λ n k r. by-column r))
 
 -- 27, and what is written is no longer than a plan may be
 pub plan-written-in : (space : ℕ) (ss : Selectors) {P : ℕ → ℕ → Type 0} → P 27 0 → Answers (λ b. length b ≤ longestPlan) P (writtenPlan space ss)

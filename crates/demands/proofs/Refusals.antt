@@ -65,15 +65,15 @@ asOther c = met c false false false
 
 same-is : (a b : Bool) → same a b ≡ true → a ≡ b
 same-is true true e = refl
-same-is true false e = true≠false refl e
-same-is false true e = true≠false refl e
+same-is true false e = true≠false e refl
+same-is false true e = true≠false e refl
 same-is false false e = refl
 
-module _ {c : Call} {things : List ℕ} {incoming columns n k : ℕ} {a b d : Bool} (e : met c a b d n ≡ true) where
-  has-it : has c n ≡ true
-  unfolding met
-  has-it = both (has c n) e .0
+has-it : (c : Call) (n : ℕ) (a b d : Bool) → met c a b d n ≡ true → has c n ≡ true
+unfolding met
+has-it c n a b d e = both (has c n) e .0
 
+module _ {c : Call} {things : List ℕ} {incoming columns n k : ℕ} {a b d : Bool} (e : met c a b d n ≡ true) where
   refusal : (a ≡ true → FirstRefused 1 things n k) → (b ≡ true → k < columns) → (d ≡ true → k < incoming)
       → (a ≡ false → b ≡ false → d ≡ false → k ≡ 0) → Refusal c things incoming columns n k
   unfolding met has
@@ -165,7 +165,7 @@ module _ {A B : Type 0} {Q : B → Type 0} {c : Call} {things : List ℕ} {incom
       number n e = all-in (asThing c) ns n s (refused-in o e)
 
       positive : (n : ℕ) → x ≡ refuse n → 0 < n
-      positive n e = ltb-true 0 n (both (isIn n (refusalsOf c)) (has-it (number n e)) .1)
+      positive n e = ltb-true 0 n (both (isIn n (refusalsOf c)) (has-it c n true false false (number n e)) .1)
 
   -- a plan or a record, whose refusals have the place 0
   other-in : RefusesIn ns x → all (asOther c) ns ≡ true → ((a : A) (m : ℕ) → x ≡ ok a m → Answers Q (Refusal c things incoming columns) (f a))

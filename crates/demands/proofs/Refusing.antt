@@ -120,6 +120,11 @@ module _ {B : Type 0} {Q : B → Type 0} {P : ℕ → ℕ → Type 0} where
       let r : j ≡ k = cc in
       rw (← q, ← r) p
 
+-- a weaker fact of its refusals
+pub answers-as : {A : Type 0} {S : A → Type 0} {R P : ℕ → ℕ → Type 0} {x : Answer A} → Answers S R x → ((n k : ℕ) → R n k → P n k) → Answers S P x
+answers-as (in-accepted q) h = in-accepted q
+answers-as (in-refusedAt r) h = in-refusedAt (h _ _ r)
+
 -- a refusal of a column: its number is in the list, its place below the count of columns
 pub record ColumnRefusal (ns : List ℕ) (count n k : ℕ) : Type 0 where
   pub among : isIn n ns ≡ true

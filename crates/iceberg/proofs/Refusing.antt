@@ -138,7 +138,7 @@ absent-is absent e = refl
 absent-is (at k l t) e = clash (cc)
 
 first-extra : {fs gs : Columns} {i j : ℕ} → FirstExtra ByNumber gs fs i j → Extra fs gs
-first-extra (first-here q) = extra-here (counterpart-lacks _ _ (absent-is _ q))
+first-extra (first-here {l = l} q) = extra-here (counterpart-lacks l _ (absent-is _ q))
 first-extra (first-later q f) = extra-there (first-extra f)
 
 unpaired : (a b : Label) → sameElement ByNumber a b ≡ false → (a .id ≡ b .id → ⊥) × (OneIsAny a b → ⊥)

@@ -43,8 +43,8 @@ impl Call {
     pub fn has(self, number: u32) -> bool {
         match self {
             Call::ReadLayout => matches!(number, 1..=6 | 50),
-            Call::BuildByName => matches!(number, 1..=6 | 10..=24 | 27 | 50 | 51),
-            Call::BuildByNumber => matches!(number, 1..=6 | 10 | 11 | 13..=28 | 50 | 51),
+            Call::BuildByName => matches!(number, 1..=6 | 10..=24 | 27 | 50 | 51 | 53),
+            Call::BuildByNumber => matches!(number, 1..=6 | 10 | 11 | 13..=28 | 50 | 51 | 53),
             Call::CheckPlan => matches!(number, 1..=6 | 30..=33 | 50),
             Call::Run => matches!(number, 1..=6 | 30..=33 | 40..=45 | 50 | 52),
         }
