@@ -6,8 +6,18 @@ use core::ops::{BitOr, Sub};
 #[derive(Clone, Copy, Debug, PartialEq, Eq, Hash, Default)]
 pub struct Policy(u32);
 
+/// What a build does with an incoming top column that the target lacks.
+#[derive(Clone, Copy, Debug, PartialEq, Eq, Hash, Default)]
+pub enum ExtraColumns {
+    /// It is left out of the plan, as `Policy::ALL` does.
+    #[default]
+    Ignore,
+    /// The first one refuses the build with 53.
+    Raise,
+}
+
 impl Policy {
-    /// Nothing is allowed.
+    /// Nothing is allowed: extra columns are refused.
     pub const NONE: Policy = Policy(0);
     /// Null to any other type.
     pub const NULL_UPCAST: Policy = Policy(1 << 0);
@@ -52,6 +62,14 @@ impl Policy {
     /// The word of the C interface.
     pub const fn word(self) -> u32 {
         self.0
+    }
+
+    /// The same, but for what is done with extra columns.
+    pub const fn with_extra_columns(self, choice: ExtraColumns) -> Policy {
+        match choice {
+            ExtraColumns::Ignore => Policy(self.0 | Policy::IGNORE_EXTRA_COLUMNS.0),
+            ExtraColumns::Raise => Policy(self.0 & !Policy::IGNORE_EXTRA_COLUMNS.0),
+        }
     }
 
     /// Whether all of these are allowed.

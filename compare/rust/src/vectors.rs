@@ -88,9 +88,14 @@ fn one(outcome: &mut Outcome, case: &Case, buffer: usize, stored: &Answer) {
                 (Aside::Version, Answer::Refused { number, .. }) => *number == 10,
                 (Aside::Space, Answer::Refused { number, .. }) => *number == 27,
                 (Aside::Version | Aside::Space, Answer::Plan(_)) => false,
-                (Aside::Text | Aside::MissingTop | Aside::StructDefault | Aside::Widening, _) => {
-                    true
-                }
+                (
+                    Aside::Text
+                    | Aside::MissingTop
+                    | Aside::StructDefault
+                    | Aside::Widening
+                    | Aside::ExtraColumns,
+                    _,
+                ) => true,
             };
             let reason = match aside {
                 Aside::Unreadable { .. } => "a layout or the table can't be read".to_owned(),

@@ -121,7 +121,8 @@ fn extra_among_many(
     first_extra(v, incoming, n, c, target, m, b, whole, &starts, &positions)
 }
 
-// The extra column that refuses a build, under Raise.
+// The extra column that refuses a build, under Raise. That `extra_among_many` is called twice keeps it a function of its own: called once, it would be compiled
+// into its caller, and its table would stand beside the plan's buffer.
 pub fn extra_column(
     policy: ExtraColumnsPolicy,
     v: Version,
@@ -137,11 +138,10 @@ pub fn extra_column(
 {
     match policy {
         ExtraColumnsPolicy::Ignore => ExtraColumn::Nothing,
-        ExtraColumnsPolicy::Raise => {
-            if m <= 16 {
-                return extra_among_few(v, incoming, n, c, target, m, b);
-            }
-            extra_among_many(v, incoming, n, c, target, m, b)
-        }
+        ExtraColumnsPolicy::Raise => match m {
+            0..=16 => extra_among_few(v, incoming, n, c, target, m, b),
+            17 => extra_among_many(v, incoming, n, c, target, m, b),
+            _ => extra_among_many(v, incoming, n, c, target, m, b),
+        },
     }
 }
