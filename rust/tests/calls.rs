@@ -30,9 +30,15 @@ fn sample_s1() {
 fn extra_columns() {
     let strict = Policy::ALL.with_extra_columns(ExtraColumns::Raise);
     assert_eq!(refused(Plan::build_by_name(strict, OURS, OLDER)), (53, 1));
-    assert_eq!(refused(Plan::build_by_name(Policy::ALL, OURS, OLDER)), (17, 0));
+    assert_eq!(
+        refused(Plan::build_by_name(Policy::ALL, OURS, OLDER)),
+        (17, 0)
+    );
     assert!(Plan::build_by_name(strict, OLDER, OURS).is_ok());
-    assert_eq!(strict.with_extra_columns(ExtraColumns::default()), Policy::ALL);
+    assert_eq!(
+        strict.with_extra_columns(ExtraColumns::default()),
+        Policy::ALL
+    );
 }
 
 #[test]

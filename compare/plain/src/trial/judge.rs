@@ -363,7 +363,8 @@ impl Arguments {
             Call::BuildByNumber => incoming.id == target.id,
             _ => incoming.name == target.name,
         };
-        let extra = |incoming: &Column| !self.target.columns.iter().any(|target| same(incoming, target));
+        let targets = &self.target.columns;
+        let extra = |incoming: &Column| !targets.iter().any(|target| same(incoming, target));
         let position = self.incoming.columns.iter().position(extra)?;
         Some(position as u32)
     }
