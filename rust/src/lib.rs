@@ -29,7 +29,7 @@ mod refusal;
 use alloc::vec;
 use alloc::vec::Vec;
 
-pub use policy::Policy;
+pub use policy::{ExtraColumns, Policy};
 pub use refusal::Refusal;
 
 /// The most bytes of a layout, and of a table of defaults.

@@ -6,8 +6,18 @@ use core::ops::{BitOr, Sub};
 #[derive(Clone, Copy, Debug, PartialEq, Eq, Hash, Default)]
 pub struct Policy(u32);
 
+/// What a build does with an incoming top column that the target lacks.
+#[derive(Clone, Copy, Debug, PartialEq, Eq, Hash, Default)]
+pub enum ExtraColumns {
+    /// It is left out of the plan, as `Policy::ALL` does.
+    #[default]
+    Ignore,
+    /// The first one refuses the build with 53.
+    Raise,
+}
+
 impl Policy {
-    /// Nothing is allowed.
+    /// Nothing is allowed: extra columns are refused.
     pub const NONE: Policy = Policy(0);
     /// Null to any other type.
     pub const NULL_UPCAST: Policy = Policy(1 << 0);
@@ -39,8 +49,10 @@ impl Policy {
     pub const INSERT_MISSING_COLUMNS: Policy = Policy(1 << 13);
     /// A decimal to one of larger precision at the same scale.
     pub const DECIMAL_WIDENING: Policy = Policy(1 << 14);
+    /// An incoming column that the target lacks is ignored.
+    pub const IGNORE_EXTRA_COLUMNS: Policy = Policy(1 << 15);
     /// Everything is allowed.
-    pub const ALL: Policy = Policy(0x7FFF);
+    pub const ALL: Policy = Policy(0xFFFF);
 
     /// The policy of a word of the C interface; bits without a meaning are ignored.
     pub const fn from_word(word: u32) -> Policy {
@@ -50,6 +62,14 @@ impl Policy {
     /// The word of the C interface.
     pub const fn word(self) -> u32 {
         self.0
+    }
+
+    /// The same, but for what is done with extra columns.
+    pub const fn with_extra_columns(self, choice: ExtraColumns) -> Policy {
+        match choice {
+            ExtraColumns::Ignore => Policy(self.0 | Policy::IGNORE_EXTRA_COLUMNS.0),
+            ExtraColumns::Raise => Policy(self.0 & !Policy::IGNORE_EXTRA_COLUMNS.0),
+        }
     }
 
     /// Whether all of these are allowed.

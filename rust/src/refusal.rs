@@ -3,7 +3,7 @@
 use core::fmt;
 
 /// A refusal's number and its place: which layout or table, counted from 1 as they are read (1 to 6); the target's top
-/// column (11 to 26, 28) or the plan's top selector (31, 32), from 0; else 0. docs/FORMATS.md says what causes each, and
+/// column (11 to 26, 28), the plan's top selector (31, 32) or the incoming top column (53), from 0; else 0. docs/FORMATS.md says what causes each, and
 /// what to do about it.
 #[derive(Clone, Copy, Debug, PartialEq, Eq, Hash)]
 pub struct Refusal {
@@ -76,6 +76,7 @@ impl Refusal {
             50 => "a decimal's precision is not 1 to 18, or its scale is larger than its precision",
             51 => "a cast to a decimal of larger precision is not allowed",
             52 => "a decimal of the record has more digits than its precision",
+            53 => "an incoming column has no counterpart, and extra columns are not ignored",
             _ => "unknown",
         }
     }
@@ -88,6 +89,7 @@ impl fmt::Display for Refusal {
             1..=6 => write!(f, " (input {})", self.place),
             11..=26 | 28 => write!(f, " (column {})", self.place),
             31 | 32 => write!(f, " (selector {})", self.place),
+            53 => write!(f, " (incoming {})", self.place),
             _ => Ok(()),
         }
     }

@@ -1,6 +1,6 @@
 //! The bindings over the library: samples of document 01, the folders of examples/ with what the one of decimals tells, and what is promised of buffers.
 
-use column_selector::{Plan, Policy, Refusal, build_by_name_into, read_layout};
+use column_selector::{ExtraColumns, Plan, Policy, Refusal, build_by_name_into, read_layout};
 use std::fs;
 use std::path::{Path, PathBuf};
 
@@ -23,6 +23,21 @@ fn sample_s1() {
     assert_eq!(
         plan.run(OLDER, OURS, b"\x01\xFE\xFF").unwrap(),
         b"\x01\xFE\xFF\xFF\xFF\x00"
+    );
+}
+
+#[test]
+fn extra_columns() {
+    let strict = Policy::ALL.with_extra_columns(ExtraColumns::Raise);
+    assert_eq!(refused(Plan::build_by_name(strict, OURS, OLDER)), (53, 1));
+    assert_eq!(
+        refused(Plan::build_by_name(Policy::ALL, OURS, OLDER)),
+        (17, 0)
+    );
+    assert!(Plan::build_by_name(strict, OLDER, OURS).is_ok());
+    assert_eq!(
+        strict.with_extra_columns(ExtraColumns::default()),
+        Policy::ALL
     );
 }
 

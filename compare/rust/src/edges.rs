@@ -9,7 +9,7 @@ use plain::policy::{
 };
 
 /// Every flag on, and bit 15, which is kept for extra top columns.
-const ALL: u32 = policy::ALL | 1 << 15;
+const ALL: u32 = policy::ALL;
 const ELEMENT: u32 = u32::MAX;
 
 fn column(name: &str, id: u32, type_: Type) -> Column {

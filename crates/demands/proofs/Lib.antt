@@ -5,6 +5,7 @@ pub mod Selectors
 pub mod Refusals
 pub mod Passed
 pub mod Built
+pub mod Extra
 pub mod Demands
 pub mod Table
 pub mod Decimals

@@ -1,4 +1,5 @@
 pub mod Lookup
+pub mod Extra
 pub mod Attach
 pub mod InPlace
 pub mod Untouched
