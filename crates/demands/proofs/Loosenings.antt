@@ -12,16 +12,20 @@ use Rattle.demands.proofs.Table.{lay, casting}
 
 -- every flag on; all but integer_upcast; all but missing_columns; integer_upcast alone
 abbrev all : ℕ
-all = 32767
+all = 65535
 
 abbrev no-upcast : ℕ
-no-upcast = 32765
+no-upcast = 65533
 
 abbrev raising : ℕ
-raising = 24575
+raising = 57343
 
 abbrev upcast : ℕ
 upcast = 2
+
+-- all but extra_columns
+abbrev strict : ℕ
+strict = 32767
 
 abbrev build : ℕ → Bytes → Bytes → Answer Bytes
 build word incoming target = buildByName (policyOf word) incoming target 1000
@@ -49,6 +53,9 @@ pub record Loosenings : Type 0 where
   -- a refusal may become a plan: int32 to int64
   pub plan-before : build no-upcast (lay (4 ∷ [])) (lay (5 ∷ [])) ≡ refusedAt 16 0
   pub plan-after : build all (lay (4 ∷ [])) (lay (5 ∷ [])) ≡ accepted (casting (5 ∷ []) 2)
+  -- and so may that of a column that the target does not have
+  pub extra-before : build strict strings (lay (15 ∷ [])) ≡ refusedAt 53 0
+  pub extra-after : build all strings (lay (15 ∷ [])) ≡ accepted (0x50 ∷ 0x4C ∷ 0x4E ∷ 1 ∷ 0 ∷ 1 ∷ 0 ∷ 0 ∷ 1 ∷ 0 ∷ [])
   -- a plan stays
   pub kept-before : build upcast (lay (4 ∷ [])) (lay (5 ∷ [])) ≡ accepted (casting (5 ∷ []) 2)
   pub kept-after : build all (lay (4 ∷ [])) (lay (5 ∷ [])) ≡ accepted (casting (5 ∷ []) 2)
@@ -65,6 +72,8 @@ loosenings =
       default-after = refl;
       plan-before = refl;
       plan-after = refl;
+      extra-before = refl;
+      extra-after = refl;
       kept-before = refl;
       kept-after = refl;
     }

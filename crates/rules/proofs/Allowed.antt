@@ -46,6 +46,7 @@ allows-same A B i =
       «extra_struct_fields» = same-extra _ _ (A .extra-struct-fields) (B .extra-struct-fields) i;
       «missing_columns» = same-missing _ _ (A .missing-columns) (B .missing-columns) i;
       «decimal_widening» = same-flag _ _ (A .decimal-widening) (B .decimal-widening) i;
+      «extra_columns» = same-extra _ _ (A .extra-columns) (B .extra-columns) i;
     }
 
 -- ---- no policy allows more than the one with every flag on
@@ -68,6 +69,7 @@ all-on-allows p =
       extra-struct-fields = λ e. refl;
       missing-columns = λ e. refl;
       decimal-widening = λ e. refl;
+      extra-columns = λ e. refl;
     }
 
 -- ---- the policies of two words
@@ -100,4 +102,5 @@ words-allow a b h =
       extra-struct-fields = ignore-bit (bit 12 a) (bit 12 b) (h 12 (omega arith));
       missing-columns = insert-bit (bit 13 a) (bit 13 b) (h 13 (omega arith));
       decimal-widening = h 14 (omega arith);
+      extra-columns = ignore-bit (bit 15 a) (bit 15 b) (h 15 (omega arith));
     }

@@ -29,7 +29,8 @@ pub record Allows (p q : Policy) : Type 0 where
   pub extra-struct-fields : p .«extra_struct_fields» ≡ Ignore → q .«extra_struct_fields» ≡ Ignore
   pub missing-columns : p .«missing_columns» ≡ Insert → q .«missing_columns» ≡ Insert
   pub decimal-widening : p .«decimal_widening» ⇒ q .«decimal_widening»
+  pub extra-columns : p .«extra_columns» ≡ Ignore → q .«extra_columns» ≡ Ignore
 
 -- the same of two words: each bit with a meaning that is on in a is on in b
 abbrev pub BitsAmong : ℕ → ℕ → Type 0
-BitsAmong a b = (k : ℕ) → k < 15 → bit k a ⇒ bit k b
+BitsAmong a b = (k : ℕ) → k < 16 → bit k a ⇒ bit k b
