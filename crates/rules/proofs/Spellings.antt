@@ -11,7 +11,7 @@ use Rattle.rules.specs.Zones.{utc, etcUtc, textZ, utcZones, isUtc, readZ
 use Rattle.rules.specs.Params.{paramsOf, decimalsOf}
 use Rattle.rules.specs.Chain.{chain}
 use Rattle.rules.specs.Pairs.{pairRule}
-use Rattle.rules.proofs.Grid.{grid}
+use Rattle.rules.proofs.Grid.{along, grid}
 
 -- date-times of one unit, no flag on
 abbrev judged : Bytes → Bytes → Verdict
@@ -56,7 +56,8 @@ finer-unit : pairRule (policyOf 512) (datetime Milliseconds textZ) (datetime Nan
 unfolding opened
 finer-unit = refl
 
--- with every flag on, as the check judges, all of these are the same cast
-near-all-on : pairRule allOn (datetime Microseconds textZ) (datetime Microseconds utc) ≡ pairRule allOn (datetime Microseconds textZ) (datetime Microseconds (117 ∷ 116 ∷ 99 ∷ []))
+-- with every flag on, as the check judges, another zone is the same cast
+any-zone : along (λ z. pairRule allOn (datetime Microseconds textZ) (datetime Microseconds z)) (utc ∷ near) ≡
+    (cast NonStrict ∷ cast NonStrict ∷ cast NonStrict ∷ cast NonStrict ∷ cast NonStrict ∷ [])
 unfolding opened
-near-all-on = refl
+any-zone = refl

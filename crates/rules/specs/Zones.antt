@@ -1,4 +1,5 @@
--- Document 01, "Leaf pairs", 21, and document 02, L2: how two zones compare. What counts as UTC is read as the text UTC (`eq_none_as_utc`), an empty zone being no zone.
+-- Document 01, "Leaf pairs", 21, and document 02, L2: how two zones compare. What counts as UTC is read as the text UTC
+-- (`eq_none_as_utc`); an empty zone is no zone.
 use mathlib.Core.Bool.{Bool, false, _||_}
 use mathlib.Core.List.{List, [], _∷_}
 use Rattle.layout.specs.Bytes.{Bytes, sameBytes}

@@ -13,7 +13,8 @@ is-utc-spec =
     (λ c. utc-absent _ (c .before .same-bytes .ensures) (c .if1 .taken))
     (λ c. search needs)
     (λ c κs. search needs)
-    (λ c. utc-text _ (c .before .before .before .before .same-bytes .ensures) (c .before .before .before .if1 .left) (c .before .same-bytes2 .ensures) (c .if2 .taken))
+    (λ c. utc-text _ (c .before .before .before .before .same-bytes .ensures) (c .before .before .before .if1 .left)
+    (c .before .same-bytes2 .ensures) (c .if2 .taken))
     (λ c. search needs)
     (λ c κs. search needs)
     (λ c. utc-etc _
@@ -23,7 +24,8 @@ is-utc-spec =
     (λ c. search needs)
     (λ c κs. search needs)
     (λ c. utc-z _
-    (c .before .before .before .before .before .before .before .before .before .same-bytes .ensures) (c .before .before .before .before .before .before .before .before .if1 .left)
+    (c .before .before .before .before .before .before .before .before .before .same-bytes .ensures)
+    (c .before .before .before .before .before .before .before .before .if1 .left)
     (c .before .before .before .before .before .before .same-bytes2 .ensures) (c .before .before .before .before .before .if2 .left)
     (c .before .before .before .same-bytes3 .ensures) (c .before .before .if3 .left)
     (c .same-bytes4 .ensures)))
