@@ -7,6 +7,7 @@ pub mod Kinds
 pub mod Classes
 pub mod Params
 pub mod Promotion
+pub mod PrintedList
 pub mod Chain
 pub mod Rules
 pub mod Pairs
