@@ -1,0 +1,166 @@
+//! A plan as text: of each selector what it makes, from what, and how; what the plan drops; what its words mean.
+
+use crate::follow::{dropped, inner_scope, made};
+use crate::form::{Cast, Column, Plan, Selector};
+use crate::path::way_text;
+use crate::terminal::{Paint, Style};
+use crate::text::{name_text, type_text, value_text};
+
+/// What is known beside a plan.
+#[derive(Clone, Copy, Default)]
+pub struct Beside<'a> {
+    pub incoming: Option<&'a [Column]>,
+    pub target: Option<&'a [Column]>,
+    /// Whether the check passes between the two layouts; none without them.
+    pub passes: Option<bool>,
+    /// The top selector that the check refuses.
+    pub refused: Option<usize>,
+}
+
+pub fn plan_text(plan: &Plan, beside: Beside, paint: Paint) -> String {
+    let count = plan.selectors.len();
+    let (version, ending) = (plan.version, if count == 1 { "" } else { "s" });
+    let check = match beside.passes {
+        None => "",
+        Some(true) => ", passes the check",
+        Some(false) => ", is refused by the check",
+    };
+    let mut text = format!("plan version {version}, {count} selector{ending}{check}\n");
+    for (index, selector) in plan.selectors.iter().enumerate() {
+        let column = beside.target.and_then(|target| target.get(index));
+        let (mark, style) = match beside.refused == Some(index) {
+            true => (">>", Style::Bad),
+            false => ("  ", Style::Plain),
+        };
+        let lines = selector_lines(index, selector, column, beside.incoming, 0);
+        for (number, line) in lines.iter().enumerate() {
+            let mark = if number == 0 { mark } else { "  " };
+            text.push_str(&paint.put(style, &format!("{mark} {line}")));
+            text.push('\n');
+        }
+    }
+    if let Some(incoming) = beside.incoming {
+        for way in dropped(&plan.selectors, incoming) {
+            text.push_str(&paint.put(
+                Style::Gone,
+                &format!("dropped: {}", way_text(&way, incoming)),
+            ));
+            text.push('\n');
+        }
+    }
+    text.push_str(&legend(plan));
+    text
+}
+
+/// What the options of the plan's casts mean.
+fn legend(plan: &Plan) -> String {
+    let used = |cast: &Cast| {
+        plan.selectors
+            .iter()
+            .any(|selector| has_cast(selector, *cast))
+    };
+    let lines = Cast::ALL.into_iter().filter(used);
+    lines
+        .map(|cast| format!("{}: {}\n", cast.name(), cast.meaning()))
+        .collect()
+}
+
+fn has_cast(selector: &Selector, wanted: Cast) -> bool {
+    let inner = match selector {
+        Selector::Cast(_, _, cast) => *cast == wanted,
+        Selector::Struct(_, fields) => fields.iter().any(|field| has_cast(field, wanted)),
+        Selector::List(_, element) | Selector::Array(_, element) => has_cast(element, wanted),
+        _ => false,
+    };
+    inner
+        || selector
+            .input()
+            .is_some_and(|input| has_cast(input, wanted))
+}
+
+/// A selector, and below it those inside a mapping.
+fn selector_lines(
+    index: usize,
+    selector: &Selector,
+    column: Option<&Column>,
+    scope: Option<&[Column]>,
+    depth: usize,
+) -> Vec<String> {
+    let made = scope.and_then(|scope| made(selector, scope));
+    let makes = column.or(made.as_ref()).map_or(String::new(), |column| {
+        format!("{} <- ", column_text(column))
+    });
+    let indent = "    ".repeat(depth);
+    let mut lines = vec![format!(
+        "{indent}{index}  {makes}{}",
+        selector_text(selector, scope)
+    )];
+    for mapping in mappings(selector) {
+        let inner = scope.map(|scope| inner_scope(mapping, scope));
+        let members: &[Selector] = match mapping {
+            Selector::Struct(_, fields) => fields,
+            Selector::List(_, element) | Selector::Array(_, element) => {
+                std::slice::from_ref(element)
+            }
+            _ => &[],
+        };
+        for (index, member) in members.iter().enumerate() {
+            lines.extend(selector_lines(
+                index,
+                member,
+                None,
+                inner.as_deref(),
+                depth + 1,
+            ));
+        }
+    }
+    lines
+}
+
+/// The mappings in a chain of transforms, the outermost first.
+fn mappings(selector: &Selector) -> Vec<&Selector> {
+    let mut found = Vec::new();
+    let mut next = Some(selector);
+    while let Some(selector) = next {
+        if let Selector::Struct(..) | Selector::List(..) | Selector::Array(..) = selector {
+            found.push(selector);
+        }
+        next = selector.input();
+    }
+    found
+}
+
+fn column_text(column: &Column) -> String {
+    format!("{}: {}", name_text(&column.name), type_text(&column.of))
+}
+
+/// A chain of transforms on one line.
+fn selector_text(selector: &Selector, scope: Option<&[Column]>) -> String {
+    let input = selector
+        .input()
+        .map_or(String::new(), |input| selector_text(input, scope));
+    match selector {
+        Selector::Position(position) => {
+            match scope.map(|scope| scope.get(usize::from(*position))) {
+                None => format!("position {position}"),
+                Some(None) => format!("position {position}, which is not there"),
+                Some(Some(column)) => format!("position {position} ({})", column_text(column)),
+            }
+        }
+        Selector::Constant(name, of, value) => {
+            format!(
+                "constant {} ({}: {})",
+                value_text(value, of),
+                name_text(name),
+                type_text(of)
+            )
+        }
+        Selector::Cast(_, of, cast) => {
+            format!("cast to {}, {}, of {input}", type_text(of), cast.name())
+        }
+        Selector::Rename(_, name) => format!("rename to {} of {input}", name_text(name)),
+        Selector::Struct(..) => format!("struct mapping of {input}"),
+        Selector::List(..) => format!("list mapping of {input}"),
+        Selector::Array(..) => format!("array mapping of {input}"),
+    }
+}
