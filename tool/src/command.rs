@@ -33,18 +33,19 @@ pub const COMMANDS: &[Command] = &[
 /// Runs the program with its arguments; the exit status.
 pub fn main(given: &[OsString]) -> u8 {
     let json = given.iter().any(|word| word == "--json");
-    match dispatch(given) {
-        Ok(()) => 0,
-        Err(failure) => {
-            let refused = matches!(failure, Failure::Refused(_));
-            if json && refused {
-                if let Err(other) = crate::files::put_text(&format!("{}\n", failure.json()), None) {
-                    return other.status();
-                }
-            } else {
-                // Where standard error can't be written either, the status is all that is left to say it.
-                std::io::stderr().write_all(failure.text().as_bytes()).ok();
-            }
+    let Err(failure) = dispatch(given) else {
+        return 0;
+    };
+    match &failure {
+        Failure::Refused(told) if json => {
+            let written = crate::files::put_text(&format!("{}\n", told.json()), None);
+            written
+                .err()
+                .map_or(failure.status(), |other| other.status())
+        }
+        _ => {
+            // Where standard error can't be written either, the status is all that is left to say it.
+            std::io::stderr().write_all(failure.text().as_bytes()).ok();
             failure.status()
         }
     }

@@ -1,6 +1,5 @@
 //! Why a command ends without its result.
 
-use crate::json::Json;
 use crate::told::Told;
 
 #[derive(Debug)]
@@ -11,14 +10,24 @@ pub enum Failure {
     File(String),
     /// The library refused it.
     Refused(Box<Told>),
+    /// The library refused it, and the answer for programs says so already.
+    Said,
     /// Nobody reads the output any more.
     Pipe,
 }
 
 impl Failure {
+    /// Of a refusal that stands in what was written, if that was for programs.
+    pub fn refused(told: Told, said: bool) -> Failure {
+        match said {
+            true => Failure::Said,
+            false => Failure::Refused(Box::new(told)),
+        }
+    }
+
     pub fn status(&self) -> u8 {
         match self {
-            Failure::Refused(_) => 1,
+            Failure::Refused(_) | Failure::Said => 1,
             Failure::Usage(_) | Failure::File(_) | Failure::Pipe => 2,
         }
     }
@@ -27,18 +36,8 @@ impl Failure {
     pub fn text(&self) -> String {
         match self {
             Failure::Usage(message) | Failure::File(message) => format!("selector: {message}\n"),
-            Failure::Refused(told) => format!("selector: {}", told.text()),
-            Failure::Pipe => String::new(),
-        }
-    }
-
-    pub fn json(&self) -> Json {
-        match self {
-            Failure::Refused(told) => told.json(),
-            Failure::Usage(message) | Failure::File(message) => {
-                Json::Object(vec![("error", message.as_str().into())])
-            }
-            Failure::Pipe => Json::Null,
+            Failure::Refused(told) => told.text(),
+            Failure::Said | Failure::Pipe => String::new(),
         }
     }
 }

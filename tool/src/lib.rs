@@ -19,6 +19,7 @@ pub mod read;
 pub mod terminal;
 pub mod text;
 pub mod told;
+mod wrap;
 pub mod write;
 
 pub use near::nearest;

@@ -5,6 +5,7 @@ use crate::form::{Cast, Column, Plan, Selector};
 use crate::path::way_text;
 use crate::terminal::{Paint, Style};
 use crate::text::{name_text, type_text, value_text};
+use crate::wrap::wrapped;
 
 /// What is known beside a plan.
 #[derive(Clone, Copy, Default)]
@@ -32,7 +33,11 @@ pub fn plan_text(plan: &Plan, beside: Beside, paint: Paint) -> String {
             true => (">>", Style::Bad),
             false => ("  ", Style::Plain),
         };
-        let lines = selector_lines(index, selector, column, beside.incoming, 0);
+        let scope = Scope {
+            columns: beside.incoming,
+            element: false,
+        };
+        let lines = selector_lines(index, selector, column, scope, 0);
         for (number, line) in lines.iter().enumerate() {
             let mark = if number == 0 { mark } else { "  " };
             text.push_str(&paint.put(style, &format!("{mark} {line}")));
@@ -61,7 +66,7 @@ fn legend(plan: &Plan) -> String {
     };
     let lines = Cast::ALL.into_iter().filter(used);
     lines
-        .map(|cast| format!("{}: {}\n", cast.name(), cast.meaning()))
+        .map(|cast| wrapped(&format!("{}: {}", cast.name(), cast.meaning()), 0, 2))
         .collect()
 }
 
@@ -78,40 +83,60 @@ fn has_cast(selector: &Selector, wanted: Cast) -> bool {
             .is_some_and(|input| has_cast(input, wanted))
 }
 
+/// What is around a selector: the columns, where they are known, or the element of a list or array.
+#[derive(Clone, Copy)]
+struct Scope<'a> {
+    columns: Option<&'a [Column]>,
+    element: bool,
+}
+
+impl Scope<'_> {
+    /// A column or field; of an element the type alone, for its name has no effect.
+    fn text(self, column: &Column) -> String {
+        match self.element {
+            true => type_text(&column.of),
+            false => format!("{}: {}", name_text(&column.name), type_text(&column.of)),
+        }
+    }
+}
+
 /// A selector, and below it those inside a mapping.
 fn selector_lines(
     index: usize,
     selector: &Selector,
     column: Option<&Column>,
-    scope: Option<&[Column]>,
+    scope: Scope,
     depth: usize,
 ) -> Vec<String> {
-    let made = scope.and_then(|scope| made(selector, scope));
+    let made = scope.columns.and_then(|columns| made(selector, columns));
     let makes = column.or(made.as_ref()).map_or(String::new(), |column| {
-        format!("{} <- ", column_text(column))
+        format!("{} <- ", scope.text(column))
     });
     let indent = "    ".repeat(depth);
+    let label = if scope.element {
+        "element".to_string()
+    } else {
+        format!("{index} ")
+    };
     let mut lines = vec![format!(
-        "{indent}{index}  {makes}{}",
+        "{indent}{label} {makes}{}",
         selector_text(selector, scope)
     )];
     for mapping in mappings(selector) {
-        let inner = scope.map(|scope| inner_scope(mapping, scope));
-        let members: &[Selector] = match mapping {
-            Selector::Struct(_, fields) => fields,
+        let inner = scope.columns.map(|columns| inner_scope(mapping, columns));
+        let (members, element): (&[Selector], bool) = match mapping {
+            Selector::Struct(_, fields) => (fields, false),
             Selector::List(_, element) | Selector::Array(_, element) => {
-                std::slice::from_ref(element)
+                (std::slice::from_ref(element), true)
             }
-            _ => &[],
+            _ => (&[], false),
+        };
+        let inner = Scope {
+            columns: inner.as_deref(),
+            element,
         };
         for (index, member) in members.iter().enumerate() {
-            lines.extend(selector_lines(
-                index,
-                member,
-                None,
-                inner.as_deref(),
-                depth + 1,
-            ));
+            lines.extend(selector_lines(index, member, None, inner, depth + 1));
         }
     }
     lines
@@ -130,29 +155,37 @@ fn mappings(selector: &Selector) -> Vec<&Selector> {
     found
 }
 
-fn column_text(column: &Column) -> String {
-    format!("{}: {}", name_text(&column.name), type_text(&column.of))
-}
-
 /// A chain of transforms on one line.
-fn selector_text(selector: &Selector, scope: Option<&[Column]>) -> String {
+fn selector_text(selector: &Selector, scope: Scope) -> String {
     let input = selector
         .input()
         .map_or(String::new(), |input| selector_text(input, scope));
     match selector {
         Selector::Position(position) => {
-            match scope.map(|scope| scope.get(usize::from(*position))) {
-                None => format!("position {position}"),
-                Some(None) => format!("position {position}, which is not there"),
-                Some(Some(column)) => format!("position {position} ({})", column_text(column)),
+            let place = if scope.element && *position == 0 {
+                "it".to_string()
+            } else {
+                format!("position {position}")
+            };
+            match scope
+                .columns
+                .map(|columns| columns.get(usize::from(*position)))
+            {
+                None => place,
+                Some(None) => format!("{place}, which is not there"),
+                Some(Some(column)) => format!("{place} ({})", scope.text(column)),
             }
         }
         Selector::Constant(name, of, value) => {
+            let column = Column {
+                name: name.clone(),
+                id: 0,
+                of: of.clone(),
+            };
             format!(
-                "constant {} ({}: {})",
+                "constant {} ({})",
                 value_text(value, of),
-                name_text(name),
-                type_text(of)
+                scope.text(&column)
             )
         }
         Selector::Cast(_, of, cast) => {

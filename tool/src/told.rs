@@ -9,6 +9,7 @@ use crate::lists::{self, Listed};
 use crate::path::{column_at, way_text};
 use crate::read::{self, Fault, File, path_text};
 use crate::text::{Place, type_text};
+use crate::wrap::wrapped;
 use column_selector::Refusal;
 
 /// The files of a call, as far as it has them.
@@ -197,14 +198,10 @@ impl Told {
         self.listed.map_or("", |listed| &listed.name)
     }
 
-    /// For people: the first line says what, the others where and what to do.
+    /// For people: first what, then where and what to do.
     pub fn text(&self) -> String {
-        let mut text = format!(
-            "refused {} {}: {}\n",
-            self.refusal.number(),
-            self.name(),
-            self.words()
-        );
+        let (number, name, words) = (self.refusal.number(), self.name(), self.words());
+        let mut text = wrapped(&format!("selector: refused {number} {name}: {words}"), 0, 2);
         if let (Some(fault), Some(file)) = (&self.fault, &self.file) {
             let at = match self.place {
                 Some(place) => format!("{file}:{place}"),
@@ -216,7 +213,11 @@ impl Told {
             } else {
                 format!(", in {path}")
             };
-            text.push_str(&format!("  {at}{within}: expected {}\n", fault.expected));
+            text.push_str(&wrapped(
+                &format!("{at}{within}: expected {}", fault.expected),
+                2,
+                2,
+            ));
         }
         for (role, about) in [("target", &self.target), ("incoming", &self.incoming)] {
             if let Some(About { file, path, of }) = about {
@@ -227,7 +228,11 @@ impl Told {
             text.push_str(&format!("  {note}\n"));
         }
         if let Some(listed) = self.listed {
-            text.push_str(&format!("  what to do: {}\n", listed.what_to_do));
+            text.push_str(&wrapped(
+                &format!("what to do: {}", listed.what_to_do),
+                2,
+                2,
+            ));
         }
         text
     }

@@ -14,8 +14,9 @@ use column_selector::Refusal;
 pub const COMMAND: Command = Command {
     name: "diff",
     operands: "INCOMING TARGET [PLAN]",
-    about: "Says column by column what a plan does: `=` kept, `~` converted, `>` renamed, `+` filled, `-` dropped, `!` refused.",
-    detail: "Without a PLAN one is built, by the options that `selector build` has; where that is refused, each target column is\n\
+    about: "Says column by column what a plan keeps, converts, renames, fills and drops.",
+    detail: "Signs: `=` kept, `~` converted, `>` renamed, `+` filled, `-` dropped, `!` refused.\n\
+             Without a PLAN one is built, by the options that `selector build` has; where that is refused, each target column is\n\
              built alone, so that every column that is refused is named, and the exit status is 1. A PLAN is checked first.",
     choices: &[
         BY_NAME,
@@ -43,7 +44,7 @@ fn run(args: &Args) -> Result<(), Failure> {
     }
     match diff.refused() {
         None => Ok(()),
-        Some(told) => Err(Failure::Refused(Box::new(told.clone()))),
+        Some(told) => Err(Failure::refused(told.clone(), args.json())),
     }
 }
 
@@ -79,13 +80,17 @@ fn built(args: &Args) -> Result<Diff, Failure> {
     }
 }
 
-/// Each target column by a build of its own; the whole build's refusal where none of them is refused.
+/// Each target column by a build of its own, where the refusal is about one of them.
 fn alone(
     refusal: Refusal,
     inputs: &Inputs,
     incoming: &Layout,
     target: &Layout,
 ) -> Result<Diff, Failure> {
+    let told = tell(refusal, inputs.case());
+    if told.fault.is_some() || told.target.is_none() {
+        return Err(Failure::refused(told, false));
+    }
     let build = inputs.build();
     let mut diff = Diff::default();
     for (index, column) in target.columns.iter().enumerate() {
@@ -96,10 +101,7 @@ fn alone(
             Err(refusal) => diff.rows.push(refused(index, refusal, column, inputs)),
         }
     }
-    match diff.refused() {
-        Some(_) => Ok(diff),
-        None => Err(files::refused(refusal, inputs.case())),
-    }
+    Ok(diff)
 }
 
 /// A build of one column has place 0; in the whole it is the column's.
@@ -110,8 +112,9 @@ fn refused(index: usize, refusal: Refusal, column: &Column, inputs: &Inputs) -> 
         refusal.place
     };
     let told = tell(Refusal { place, ..refusal }, inputs.case());
+    let path = told.target.as_ref().map(|about| about.path.clone());
     Row {
-        target: crate::text::name_text(&column.name),
+        target: path.unwrap_or_else(|| crate::text::name_text(&column.name)),
         to: column.of.clone(),
         change: Change::Refused(Box::new(told)),
         from: None,

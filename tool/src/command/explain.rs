@@ -5,6 +5,7 @@ use crate::failure::Failure;
 use crate::files;
 use crate::json::Json;
 use crate::lists::{self, Listed};
+use crate::wrap::wrapped;
 
 pub const COMMAND: Command = Command {
     name: "explain",
@@ -78,24 +79,9 @@ fn text(listed: &Listed) -> String {
     ];
     let place = (listed.place != "none").then_some(("place", &listed.counts));
     for (head, part) in table.into_iter().chain(parts).chain(place) {
-        text.push_str(&wrapped(&format!("{head}: {part}")));
+        text.push_str(&wrapped(&format!("{head}: {part}"), 2, 2));
     }
     text
-}
-
-/// Lines of at most 100 letters, indented by two, and by four where one goes on.
-fn wrapped(text: &str) -> String {
-    let (mut lines, mut line) = (String::new(), String::from("  "));
-    for word in text.split(' ') {
-        if line.chars().count() + 1 + word.chars().count() > 100 {
-            lines.push_str(line.trim_end());
-            lines.push('\n');
-            line = String::from("    ");
-        }
-        line.push_str(word);
-        line.push(' ');
-    }
-    format!("{lines}{}\n", line.trim_end())
 }
 
 fn json(listed: &Listed) -> Json {

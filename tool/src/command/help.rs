@@ -45,16 +45,18 @@ pub fn overview() -> String {
         text.push_str(&format!("  {:9} {}\n", command.name, command.about));
     }
     text.push_str(
-        "\n`selector help COMMAND` says more, `selector help policy` lists the flags of a policy. Files that hold layouts, tables\n\
-         or records are bytes or text (docs/TEXT.md); `-` is standard input. The exit status is 0 where all is well, 1 where the\n\
-         library refused, 2 on wrong usage or where a file is missing, can't be read or is no text of the form.\n",
+        "\n`selector help COMMAND` says more, `selector help policy` lists the flags of a policy. Files that\n\
+         hold layouts, tables or records are bytes or text (docs/TEXT.md); `-` is standard input. The exit\n\
+         status is 0 where all is well, 1 where the library refused, 2 on wrong usage or where a file is\n\
+         missing, can't be read or is no text of the form.\n",
     );
     text
 }
 
 fn policy() -> String {
     let mut text = String::from(
-        "A policy is `all`, `none`, a number, and flags by name, between commas; `-NAME` takes one away, at the start from all.\n\n",
+        "A policy is `all`, `none`, a number, and flags by name, between commas; `-NAME` takes one away,\n\
+         at the start from all.\n\n",
     );
     for flag in lists::flags() {
         text.push_str(&format!(

@@ -62,14 +62,12 @@ fn kind(input: &Input, layouts: usize) -> Result<File, Failure> {
         return Ok(kind);
     }
     let (name, what) = (&input.name, kind.name());
+    let takes = ["no layout", "one layout", "two layouts"][*allowed.end()];
     Err(Failure::Usage(match (kind, layouts) {
         (File::Record, 0) => {
             format!("show: {name}: a {what} needs its layout: selector show RECORD LAYOUT")
         }
-        _ => format!(
-            "show: {name}: a {what} takes {} layouts at most, not {layouts}",
-            allowed.end()
-        ),
+        _ => format!("show: {name}: a {what} takes {takes}, not {layouts}"),
     }))
 }
 
@@ -162,7 +160,7 @@ fn show_plan(args: &Args, input: &Input, layouts: &[Input]) -> Result<(), Failur
     )?;
     match told {
         None => Ok(()),
-        Some(told) => Err(Failure::Refused(Box::new(told))),
+        Some(told) => Err(Failure::refused(told, args.json())),
     }
 }
 

@@ -32,7 +32,7 @@ fn rows(made: &[Column], target: &[Column], what: &str, path: &mut Vec<Step>) ->
 }
 
 fn types(made: &Type, target: &Type, path: &mut Vec<Step>) -> Option<String> {
-    let how = match (made, target) {
+    match (made, target) {
         (Type::Struct(made), Type::Struct(target)) => rows(made, target, "field", path),
         (Type::List(made), Type::List(target)) => elements(made, target, path),
         (Type::Array(width, made), Type::Array(wanted, target)) if width == wanted => {
@@ -45,8 +45,7 @@ fn types(made: &Type, target: &Type, path: &mut Vec<Step>) -> Option<String> {
                 type_text(target)
             )
         }),
-    };
-    how
+    }
 }
 
 fn elements(made: &Column, target: &Column, path: &mut Vec<Step>) -> Option<String> {

@@ -2,6 +2,7 @@
 
 use super::lex::Token;
 use super::parse::{Kind, Parsed, Parser, Places};
+use crate::args::hint;
 use crate::form::{self, Column, Layout, Leaf, Type, Unit};
 
 pub fn parse_layout(text: &[u8]) -> Parsed<(Layout, Places)> {
@@ -52,10 +53,7 @@ fn of(parser: &mut Parser, version: u16) -> Parsed<Type> {
         }
         word => match leaf(parser, word)? {
             Some(leaf) => Ok(Type::Leaf(leaf)),
-            None => parser.error(
-                place,
-                format!("`{word}` is no type; the types are {}", TYPES.join(", ")),
-            ),
+            None => parser.error(place, format!("`{word}` is no type{}", hint(word, &TYPES))),
         },
     }
 }
@@ -106,7 +104,10 @@ pub fn leaf_type(parser: &mut Parser) -> Parsed<Leaf> {
     let word = parser.any_word("a leaf's type")?;
     match leaf(parser, &word)? {
         Some(leaf) => Ok(leaf),
-        None => parser.error(place, format!("`{word}` is no leaf's type")),
+        None => parser.error(
+            place,
+            format!("`{word}` is no leaf's type{}", hint(&word, &TYPES)),
+        ),
     }
 }
 
