@@ -1,7 +1,7 @@
 //! Arguments of a command by its description.
 
 use crate::failure::Failure;
-use crate::nearest;
+use crate::near::hint;
 use std::ffi::{OsStr, OsString};
 
 /// An option; one with a value says what that is.
@@ -20,7 +20,7 @@ pub struct Command {
     pub operands: &'static str,
     pub about: &'static str,
     pub detail: &'static str,
-    pub choices: &'static [Choice],
+    pub choices: &'static [&'static [Choice]],
     pub least: usize,
     pub most: usize,
     pub run: fn(&Args) -> Result<(), Failure>,
@@ -100,7 +100,7 @@ impl Args {
         value: Option<OsString>,
         rest: &mut impl Iterator<Item = &'a OsString>,
     ) -> Result<(), Failure> {
-        let choices = || command.choices.iter().chain([&HELP]);
+        let choices = || command.choices();
         let named = |choice: &&Choice| choice.name == name || choice.short == Some(name);
         let Some(choice) = choices().find(named) else {
             let known: Vec<&str> = choices().map(|choice| choice.name).collect();
@@ -208,10 +208,6 @@ impl Args {
     }
 }
 
-pub fn hint(word: &str, known: &[&str]) -> String {
-    nearest(word, known).map_or(String::new(), |near| format!("; did you mean `{near}`?"))
-}
-
 fn usage(command: &Command, message: &str) -> Failure {
     let name = command.name;
     Failure::Usage(format!(
@@ -221,6 +217,10 @@ fn usage(command: &Command, message: &str) -> Failure {
 }
 
 impl Command {
+    fn choices(&self) -> impl Iterator<Item = &'static Choice> {
+        self.choices.iter().copied().flatten().chain([&HELP])
+    }
+
     /// How the command is called, on one line.
     pub fn usage(&self) -> String {
         let options = if self.choices.is_empty() {
@@ -244,7 +244,7 @@ impl Command {
             self.about,
             self.detail
         );
-        for choice in self.choices.iter().chain([&HELP]) {
+        for choice in self.choices() {
             let short = choice
                 .short
                 .map_or(String::new(), |short| format!("{short}, "));

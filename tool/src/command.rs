@@ -10,8 +10,9 @@ mod make;
 mod run;
 mod show;
 
-use crate::args::{Args, Command, hint};
+use crate::args::{Args, Command};
 use crate::failure::Failure;
+use crate::near::hint;
 use std::ffi::OsString;
 use std::io::Write;
 

@@ -6,7 +6,7 @@ use crate::json::{Json, cast_json, value_json};
 use crate::path::way_text;
 use crate::read::{Step, path_text};
 use crate::terminal::{Paint, Style};
-use crate::text::{type_text, value_text};
+use crate::text::{brief_type, type_text, value_text};
 use crate::told::Told;
 
 /// What becomes of a target column or field.
@@ -163,12 +163,7 @@ fn walk_inside(
         above,
         all: scope.all,
     };
-    let members: &[Selector] = match mapping {
-        Selector::Struct(_, fields) => fields,
-        Selector::List(_, element) | Selector::Array(_, element) => std::slice::from_ref(element),
-        _ => &[],
-    };
-    for (index, (member, field)) in members.iter().zip(column.of.inside()).enumerate() {
+    for (index, (member, field)) in mapping.members().iter().zip(column.of.inside()).enumerate() {
         path.push(match column.of {
             Type::Struct(_) => Step::Column(index, Some(field.name.clone())),
             _ => Step::Element(None),
@@ -256,10 +251,6 @@ impl Row {
 
 impl Diff {
     pub fn text(&self, paint: Paint) -> String {
-        let short = |of: &Type| match of {
-            Type::Struct(_) => "struct".to_string(),
-            of => type_text(of),
-        };
         let of = |text: &str| text.chars().count();
         let width = self
             .rows
@@ -270,7 +261,7 @@ impl Diff {
         let types = self
             .rows
             .iter()
-            .map(|row| of(&short(&row.to)))
+            .map(|row| of(&brief_type(&row.to)))
             .filter(|width| *width <= 40)
             .max()
             .unwrap_or(0);
@@ -280,7 +271,7 @@ impl Diff {
             let line = format!(
                 "{mark} {:width$}  {:types$}  {}",
                 row.target,
-                short(&row.to),
+                brief_type(&row.to),
                 row.how()
             );
             text.push_str(&paint.put(style, &line));

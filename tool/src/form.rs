@@ -220,6 +220,17 @@ pub enum Selector {
 }
 
 impl Selector {
+    /// The selectors inside a mapping.
+    pub fn members(&self) -> &[Selector] {
+        match self {
+            Selector::Struct(_, fields) => fields,
+            Selector::List(_, element) | Selector::Array(_, element) => {
+                std::slice::from_ref(element)
+            }
+            _ => &[],
+        }
+    }
+
     /// What a transform takes.
     pub fn input(&self) -> Option<&Selector> {
         match self {

@@ -21,5 +21,3 @@ pub mod text;
 pub mod told;
 mod wrap;
 pub mod write;
-
-pub use near::nearest;

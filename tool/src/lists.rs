@@ -1,5 +1,6 @@
 //! The two lists that refusals and policy bits are decided in, docs/refusals.txt and docs/policy.txt, as they stand.
 
+use crate::near::hint;
 use column_selector::Policy;
 use std::sync::OnceLock;
 
@@ -191,8 +192,7 @@ fn named(name: &str) -> Result<Policy, String> {
         "none" => Ok(Policy::NONE),
         _ => flag(name).ok_or_else(|| {
             let known: Vec<&str> = flags().iter().map(|flag| flag.name.as_str()).collect();
-            let hint = crate::nearest(name, &known)
-                .map_or(String::new(), |near| format!("; did you mean `{near}`?"));
+            let hint = hint(name, &known);
             format!("there is no policy flag `{name}`{hint} (`selector help policy` lists them)")
         }),
     }

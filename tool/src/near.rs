@@ -1,13 +1,18 @@
 //! The word that was perhaps meant.
 
 /// Of the words one can choose the nearest to what was written, if it is near at all.
-pub fn nearest<'a>(word: &str, words: &[&'a str]) -> Option<&'a str> {
+fn nearest<'a>(word: &str, words: &[&'a str]) -> Option<&'a str> {
     let most = 1 + word.chars().count() / 3;
     let distances = words.iter().map(|other| (distance(word, other), *other));
     distances
         .filter(|(distance, _)| *distance <= most)
         .min()
         .map(|(_, other)| other)
+}
+
+/// The same as the end of a message.
+pub fn hint(word: &str, words: &[&str]) -> String {
+    nearest(word, words).map_or(String::new(), |near| format!("; did you mean `{near}`?"))
 }
 
 /// How many letters are put in, left out or changed.

@@ -4,7 +4,7 @@ use crate::follow::{dropped, inner_scope, made};
 use crate::form::{Cast, Column, Plan, Selector};
 use crate::path::way_text;
 use crate::terminal::{Paint, Style};
-use crate::text::{name_text, type_text, value_text};
+use crate::text::{brief_type, name_text, value_text};
 use crate::wrap::wrapped;
 
 /// What is known beside a plan.
@@ -71,16 +71,9 @@ fn legend(plan: &Plan) -> String {
 }
 
 fn has_cast(selector: &Selector, wanted: Cast) -> bool {
-    let inner = match selector {
-        Selector::Cast(_, _, cast) => *cast == wanted,
-        Selector::Struct(_, fields) => fields.iter().any(|field| has_cast(field, wanted)),
-        Selector::List(_, element) | Selector::Array(_, element) => has_cast(element, wanted),
-        _ => false,
-    };
-    inner
-        || selector
-            .input()
-            .is_some_and(|input| has_cast(input, wanted))
+    let here = matches!(selector, Selector::Cast(_, _, cast) if *cast == wanted);
+    let mut inside = selector.input().into_iter().chain(selector.members());
+    here || inside.any(|selector| has_cast(selector, wanted))
 }
 
 /// What is around a selector: the columns, where they are known, or the element of a list or array.
@@ -94,8 +87,8 @@ impl Scope<'_> {
     /// A column or field; of an element the type alone, for its name has no effect.
     fn text(self, column: &Column) -> String {
         match self.element {
-            true => type_text(&column.of),
-            false => format!("{}: {}", name_text(&column.name), type_text(&column.of)),
+            true => brief_type(&column.of),
+            false => format!("{}: {}", name_text(&column.name), brief_type(&column.of)),
         }
     }
 }
@@ -124,18 +117,12 @@ fn selector_lines(
     )];
     for mapping in mappings(selector) {
         let inner = scope.columns.map(|columns| inner_scope(mapping, columns));
-        let (members, element): (&[Selector], bool) = match mapping {
-            Selector::Struct(_, fields) => (fields, false),
-            Selector::List(_, element) | Selector::Array(_, element) => {
-                (std::slice::from_ref(element), true)
-            }
-            _ => (&[], false),
-        };
+        let element = !matches!(mapping, Selector::Struct(..));
         let inner = Scope {
             columns: inner.as_deref(),
             element,
         };
-        for (index, member) in members.iter().enumerate() {
+        for (index, member) in mapping.members().iter().enumerate() {
             lines.extend(selector_lines(index, member, None, inner, depth + 1));
         }
     }
@@ -157,25 +144,9 @@ fn mappings(selector: &Selector) -> Vec<&Selector> {
 
 /// A chain of transforms on one line.
 fn selector_text(selector: &Selector, scope: Scope) -> String {
-    let input = selector
-        .input()
-        .map_or(String::new(), |input| selector_text(input, scope));
+    let of = |input: &Selector| selector_text(input, scope);
     match selector {
-        Selector::Position(position) => {
-            let place = if scope.element && *position == 0 {
-                "it".to_string()
-            } else {
-                format!("position {position}")
-            };
-            match scope
-                .columns
-                .map(|columns| columns.get(usize::from(*position)))
-            {
-                None => place,
-                Some(None) => format!("{place}, which is not there"),
-                Some(Some(column)) => format!("{place} ({})", scope.text(column)),
-            }
-        }
+        Selector::Position(position) => position_text(*position, scope),
         Selector::Constant(name, of, value) => {
             let column = Column {
                 name: name.clone(),
@@ -188,12 +159,32 @@ fn selector_text(selector: &Selector, scope: Scope) -> String {
                 scope.text(&column)
             )
         }
-        Selector::Cast(_, of, cast) => {
-            format!("cast to {}, {}, of {input}", type_text(of), cast.name())
+        Selector::Cast(input, to, cast) => {
+            format!(
+                "cast to {}, {}, of {}",
+                brief_type(to),
+                cast.name(),
+                of(input)
+            )
         }
-        Selector::Rename(_, name) => format!("rename to {} of {input}", name_text(name)),
-        Selector::Struct(..) => format!("struct mapping of {input}"),
-        Selector::List(..) => format!("list mapping of {input}"),
-        Selector::Array(..) => format!("array mapping of {input}"),
+        Selector::Rename(input, name) => format!("rename to {} of {}", name_text(name), of(input)),
+        Selector::Struct(input, _) => format!("struct mapping of {}", of(input)),
+        Selector::List(input, _) => format!("list mapping of {}", of(input)),
+        Selector::Array(input, _) => format!("array mapping of {}", of(input)),
+    }
+}
+
+fn position_text(position: u16, scope: Scope) -> String {
+    let place = match scope.element && position == 0 {
+        true => "it".to_string(),
+        false => format!("position {position}"),
+    };
+    match scope
+        .columns
+        .map(|columns| columns.get(usize::from(position)))
+    {
+        None => place,
+        Some(None) => format!("{place}, which is not there"),
+        Some(Some(column)) => format!("{place} ({})", scope.text(column)),
     }
 }

@@ -14,6 +14,7 @@ pub use parse_layout::{parse_layout, type_name};
 pub use parse_record::parse_record;
 pub use parse_table::parse_table;
 pub use print::{
-    Line, aligned, hex, layout_text, record_text, table_text, type_text, value_lines, value_text,
+    Line, aligned, brief_type, hex, layout_text, record_text, table_text, type_text, value_lines,
+    value_text,
 };
 pub use quote::{name_text, quoted};

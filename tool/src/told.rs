@@ -65,53 +65,46 @@ pub fn tell(refusal: Refusal, case: Case) -> Told {
 }
 
 impl Told {
+    /// What the refusal's place counts, by its short name.
+    fn kind(&self) -> &'static str {
+        self.listed.map_or("none", |listed| listed.place.as_str())
+    }
+
     /// Finds the broken bytes; whether there are any.
     fn find_fault(&mut self, case: Case) -> bool {
-        let number = self.refusal.number();
-        let kind = self.listed.map_or("none", |listed| listed.place.as_str());
-        let layouts = [case.incoming, case.target];
-        let inputs = [case.incoming, case.target, case.defaults];
-        let found = match (number, kind) {
-            (_, "input") => {
-                let input = inputs
-                    .get((self.refusal.place as usize).wrapping_sub(1))
-                    .copied()
-                    .flatten();
-                let file = if self.refusal.place == 3 {
-                    File::Table
-                } else {
-                    File::Layout
-                };
-                input.and_then(|input| Some((input, fault_of(input, file, None)?)))
-            }
-            (50, _) => layouts.into_iter().flatten().find_map(|input| {
-                let fault = fault_of(input, File::Layout, None)?;
-                (fault.number() == number).then_some((input, fault))
-            }),
-            (30, _) => case
-                .plan
-                .and_then(|input| Some((input, fault_of(input, File::Plan, None)?))),
-            _ => {
-                let layout = case
-                    .incoming
-                    .and_then(|input| read::read_layout(&input.bytes).ok());
-                case.record.and_then(|input| {
-                    Some((input, fault_of(input, File::Record, layout.as_ref())?))
-                })
-            }
-        };
-        let found = found.filter(|(_, fault)| fault.number() == number);
+        let found = self
+            .broken(case)
+            .into_iter()
+            .flatten()
+            .find_map(|(input, file)| {
+                let fault = fault_of(input, file, case.incoming)?;
+                (fault.number() == self.refusal.number()).then_some((input, fault))
+            });
         let Some((input, fault)) = found else {
             return false;
         };
         self.file = Some(input.name.clone());
-        self.place = input
-            .places
-            .as_ref()
-            .and_then(|places| places.of(&fault.path));
+        let places = input.places.as_ref();
+        self.place = places.and_then(|places| places.of(&fault.path));
         self.note = other_kind(&input.bytes, fault.file);
         self.fault = Some(fault);
         true
+    }
+
+    /// The files that the refusal may be about, and what each is.
+    fn broken<'a>(&self, case: Case<'a>) -> Vec<Option<(&'a Input, File)>> {
+        let of = |input: Option<&'a Input>, file| input.map(|input| (input, file));
+        let [incoming, target] =
+            [case.incoming, case.target].map(|layout| of(layout, File::Layout));
+        let defaults = of(case.defaults, File::Table);
+        match (self.refusal.number(), self.kind(), self.refusal.place) {
+            (_, "input", 1) => vec![incoming],
+            (_, "input", 2) => vec![target],
+            (_, "input", _) => vec![defaults],
+            (50, ..) => vec![incoming, target],
+            (30, ..) => vec![of(case.plan, File::Plan)],
+            _ => vec![of(case.record, File::Record)],
+        }
     }
 
     /// Finds the column that the refusal is about.
@@ -123,8 +116,7 @@ impl Told {
         let (Ok(incoming), Ok(target)) = layouts else {
             return;
         };
-        let kind = self.listed.map_or("none", |listed| listed.place.as_str());
-        match (self.refusal.number(), kind) {
+        match (self.refusal.number(), self.kind()) {
             (10, _) => {
                 let (one, other) = (incoming.version, target.version);
                 self.note = Some(format!(
@@ -238,56 +230,65 @@ impl Told {
     }
 
     pub fn json(&self) -> Json {
-        let about = |about: &Option<About>| {
-            Json::from(about.as_ref().map(|about| {
-                Json::Object(vec![
-                    ("file", about.file.as_str().into()),
-                    ("path", about.path.as_str().into()),
-                    ("type", about.of.as_str().into()),
-                ])
-            }))
-        };
-        let place = |place: Place| {
-            Json::Object(vec![
-                ("line", place.line.into()),
-                ("column", place.column.into()),
-            ])
-        };
-        let fault = self.fault.as_ref().map(|fault| {
-            Json::Object(vec![
-                ("file", self.file.as_deref().into()),
-                ("from", fault.from.into()),
-                ("to", fault.to.into()),
-                ("text", self.place.map(place).into()),
-                ("path", path_text(&fault.path).into()),
-                ("expected", fault.expected.as_str().into()),
-            ])
-        });
+        let what_to_do = self.listed.map(|listed| listed.what_to_do.as_str());
         let fields = vec![
             ("number", self.refusal.number().into()),
             ("name", self.name().into()),
             ("words", self.words().into()),
             ("place", self.refusal.place.into()),
-            ("bytes", fault.into()),
-            ("target", about(&self.target)),
-            ("incoming", about(&self.incoming)),
-            ("note", self.note.as_deref().into()),
             (
-                "do",
-                self.listed.map(|listed| listed.what_to_do.as_str()).into(),
+                "bytes",
+                self.fault
+                    .as_ref()
+                    .map(|fault| self.fault_json(fault))
+                    .into(),
             ),
+            ("target", self.target.as_ref().map(About::json).into()),
+            ("incoming", self.incoming.as_ref().map(About::json).into()),
+            ("note", self.note.as_deref().into()),
+            ("do", what_to_do.into()),
         ];
         Json::Object(vec![("refused", Json::Object(fields))])
     }
+
+    fn fault_json(&self, fault: &Fault) -> Json {
+        let place = self.place.map(|place| {
+            Json::Object(vec![
+                ("line", place.line.into()),
+                ("column", place.column.into()),
+            ])
+        });
+        Json::Object(vec![
+            ("file", self.file.as_deref().into()),
+            ("from", fault.from.into()),
+            ("to", fault.to.into()),
+            ("text", place.into()),
+            ("path", path_text(&fault.path).into()),
+            ("expected", fault.expected.as_str().into()),
+        ])
+    }
 }
 
-/// Where a file's bytes are broken.
-pub fn fault_of(input: &Input, file: File, layout: Option<&Layout>) -> Option<Fault> {
+impl About {
+    fn json(&self) -> Json {
+        Json::Object(vec![
+            ("file", self.file.as_str().into()),
+            ("path", self.path.as_str().into()),
+            ("type", self.of.as_str().into()),
+        ])
+    }
+}
+
+/// Where a file's bytes are broken; a record is one of the incoming layout.
+fn fault_of(input: &Input, file: File, incoming: Option<&Input>) -> Option<Fault> {
     match file {
         File::Layout => read::read_layout(&input.bytes).err(),
         File::Table => read::read_table(&input.bytes).err(),
         File::Plan => read::read_plan(&input.bytes).err(),
-        File::Record => read::read_record(&input.bytes, layout?).err(),
+        File::Record => {
+            let layout = read::read_layout(&incoming?.bytes).ok()?;
+            read::read_record(&input.bytes, &layout).err()
+        }
     }
 }
 

@@ -12,26 +12,29 @@ use crate::told::Case;
 use column_selector::{Defaults, Policy};
 use std::ffi::OsStr;
 
-pub const BY_NAME: Choice = flag("--by-name", "match columns by name (layouts of version 1)");
-pub const BY_NUMBER: Choice = flag(
+const BY_NAME: Choice = flag("--by-name", "match columns by name (layouts of version 1)");
+const BY_NUMBER: Choice = flag(
     "--by-number",
     "match columns by field id (layouts of version 2)",
 );
-pub const POLICY: Choice = valued(
+const POLICY: Choice = valued(
     "--policy",
     "FLAGS",
     "what is allowed; all by default; see `selector help policy`",
 );
-pub const DEFAULT_TABLE: Choice = valued(
+const DEFAULT_TABLE: Choice = valued(
     "--defaults",
     "FILE",
     "a table of defaults for missing fields, by number",
 );
-pub const SOURCE: Choice = valued(
+const SOURCE: Choice = valued(
     "--source",
     "N",
     "which of a partition's values is taken, from 0 (the default)",
 );
+
+/// What a build takes beside its layouts.
+pub const BUILD: &[Choice] = &[BY_NAME, BY_NUMBER, POLICY, DEFAULT_TABLE, SOURCE];
 
 pub const COMMAND: Command = Command {
     name: "build",
@@ -41,15 +44,7 @@ pub const COMMAND: Command = Command {
              --by-number is given, the target layout's version decides. FLAGS are `all`, `none`, a number, and the flags' names,\n\
              between commas; `-NAME` takes one away: --policy all,-integer_upcast. A refused build says the target's column and\n\
              field, and writes nothing. With --json the plan is in the answer, in hexadecimal, unless -o has a file for it.",
-    choices: &[
-        BY_NAME,
-        BY_NUMBER,
-        POLICY,
-        DEFAULT_TABLE,
-        SOURCE,
-        OUTPUT,
-        JSON,
-    ],
+    choices: &[BUILD, &[OUTPUT, JSON]],
     least: 2,
     most: 2,
     run,

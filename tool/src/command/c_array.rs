@@ -13,7 +13,7 @@ pub const COMMAND: Command = Command {
     about: "Writes the bytes of FILE as an array in C.",
     detail: "The array is named after the file, plan.pln being plan_pln, unless --name says otherwise; NAME_length is its length. A\n\
              layout or table of defaults in text is written as its bytes. FILE is `-` for standard input.",
-    choices: &[
+    choices: &[&[
         valued("--name", "NAME", "the array's name"),
         flag(
             "--extern",
@@ -21,7 +21,7 @@ pub const COMMAND: Command = Command {
         ),
         OUTPUT,
         JSON,
-    ],
+    ]],
     least: 1,
     most: 1,
     run,

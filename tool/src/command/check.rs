@@ -15,7 +15,7 @@ pub const COMMAND: Command = Command {
     about: "Checks that the PLAN takes records of the INCOMING layout to the TARGET layout.",
     detail: "Layouts are bytes or text; one of the files is `-` for standard input. A refused plan is said with the selector or\n\
              byte, and with the first column that it makes otherwise than the target has it.",
-    choices: &[JSON],
+    choices: &[&[JSON]],
     least: 3,
     most: 3,
     run,

@@ -1,6 +1,6 @@
 //! `diff`: what becomes of each column.
 
-use super::build::{BY_NAME, BY_NUMBER, DEFAULT_TABLE, Inputs, POLICY, SOURCE};
+use super::build::{BUILD, Inputs};
 use super::check;
 use crate::args::{Args, COLOR, Command, JSON, OUTPUT};
 use crate::diff::{self, Change, Diff, Row};
@@ -18,16 +18,7 @@ pub const COMMAND: Command = Command {
     detail: "Signs: `=` kept, `~` converted, `>` renamed, `+` filled, `-` dropped, `!` refused.\n\
              Without a PLAN one is built, by the options that `selector build` has; where that is refused, each target column is\n\
              built alone, so that every column that is refused is named, and the exit status is 1. A PLAN is checked first.",
-    choices: &[
-        BY_NAME,
-        BY_NUMBER,
-        POLICY,
-        DEFAULT_TABLE,
-        SOURCE,
-        OUTPUT,
-        JSON,
-        COLOR,
-    ],
+    choices: &[BUILD, &[OUTPUT, JSON, COLOR]],
     least: 2,
     most: 3,
     run,

@@ -1,10 +1,11 @@
 //! `explain`: refusals in words.
 
-use crate::args::{Args, Command, JSON, hint};
+use crate::args::{Args, Command, JSON};
 use crate::failure::Failure;
 use crate::files;
 use crate::json::Json;
 use crate::lists::{self, Listed};
+use crate::near::hint;
 use crate::wrap::wrapped;
 
 pub const COMMAND: Command = Command {
@@ -12,7 +13,7 @@ pub const COMMAND: Command = Command {
     operands: "[REFUSAL..]",
     about: "Says what a refusal means, what causes it and what to do about it.",
     detail: "A REFUSAL is a number, as 24, or a name, as TYPE_MISMATCH. Without one, all refusals are listed.",
-    choices: &[JSON],
+    choices: &[&[JSON]],
     least: 0,
     most: usize::MAX,
     run,

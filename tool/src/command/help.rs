@@ -1,10 +1,11 @@
 //! `help`: how to use the program, or a command of it.
 
 use super::{COMMANDS, find};
-use crate::args::{Args, Command, hint};
+use crate::args::{Args, Command};
 use crate::failure::Failure;
 use crate::files;
 use crate::lists;
+use crate::near::hint;
 
 pub const COMMAND: Command = Command {
     name: "help",

@@ -12,7 +12,7 @@ pub const LAYOUT: Command = Command {
     about: "Writes the bytes of a layout that FILE has as text.",
     detail: "The text form is that of docs/TEXT.md, which `selector show` writes. The library reads the bytes before they are\n\
              written; where it refuses them, the place in the text is named. FILE is `-` for standard input.",
-    choices: &[OUTPUT, JSON],
+    choices: &[&[OUTPUT, JSON]],
     least: 1,
     most: 1,
     run: |args| made(args, Kind::Layout),

@@ -17,7 +17,7 @@ pub const COMMAND: Command = Command {
     about: "Runs the PLAN over one RECORD of the INCOMING layout and writes the record of the TARGET layout.",
     detail: "Layouts and the RECORD are bytes or text; one of the files is `-` for standard input. The record is written as bytes,\n\
              with --text or --json as text. A refused run says the byte of the record, or the column, and writes nothing.",
-    choices: &[flag("--text", "write the record as text"), OUTPUT, JSON],
+    choices: &[&[flag("--text", "write the record as text"), OUTPUT, JSON]],
     least: 4,
     most: 4,
     run,

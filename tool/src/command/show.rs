@@ -1,14 +1,15 @@
 //! `show`: bytes as text.
 
 use crate::args::{Args, COLOR, Command, JSON, OUTPUT};
+use crate::diff::dropped_text;
 use crate::failure::Failure;
 use crate::files::{self, Input};
-use crate::form::Layout;
+use crate::form::{self, Layout};
 use crate::json::{self, Json};
 use crate::plan_text::{Beside, plan_text};
 use crate::read::{self, File};
 use crate::text::{self, Kind};
-use crate::told::Case;
+use crate::told::{Case, Told, tell};
 use column_selector::{Incoming, Plan, Refusal, Target};
 
 pub const COMMAND: Command = Command {
@@ -19,7 +20,7 @@ pub const COMMAND: Command = Command {
              of docs/TEXT.md, which `layout`, `defaults` and `record` read back to the same bytes. A plan is written with what\n\
              each selector does; with the incoming LAYOUT also from which columns, and what is dropped; with the target LAYOUT\n\
              too the plan is checked, and a selector that is refused is marked with `>>`. FILE and LAYOUT may be texts.",
-    choices: &[OUTPUT, JSON, COLOR],
+    choices: &[&[OUTPUT, JSON, COLOR]],
     least: 1,
     most: 3,
     run,
@@ -107,61 +108,54 @@ fn show_record(args: &Args, input: Input, layout: &Input) -> Result<(), Failure>
 }
 
 fn show_plan(args: &Args, input: &Input, layouts: &[Input]) -> Result<(), Failure> {
-    let trees: Vec<Layout> = layouts
-        .iter()
-        .map(files::layout_tree)
-        .collect::<Result<_, _>>()?;
+    let trees = layouts.iter().map(files::layout_tree);
+    let trees: Vec<Layout> = trees.collect::<Result<_, _>>()?;
     let case = Case {
         incoming: layouts.first(),
         target: layouts.get(1),
         plan: Some(input),
         ..Case::default()
     };
+    // Without both layouts the check has none to compare with, and says only whether the plan is one.
     let refusal = checked(input, layouts).err();
-    let plan = match (read::read_plan(&input.bytes), refusal) {
+    let refusal = refusal.filter(|refusal| layouts.len() == 2 || refusal.number() == MALFORMED);
+    let told = refusal.map(|refusal| tell(refusal, case));
+    let plan = match (read::read_plan(&input.bytes), told.clone()) {
         (Ok(plan), _) => plan,
-        (Err(_), Some(refusal)) => return Err(files::refused(refusal, case)),
+        (Err(_), Some(told)) => return Err(Failure::refused(told, false)),
         (Err(_), None) => return Err(files::unread(input)),
     };
-    // Without both layouts the check has none to compare with: only that the plan is one is known.
-    let refusal = refusal.filter(|refusal| layouts.len() == 2 || refusal.number() == MALFORMED);
-    let refused = refusal
-        .filter(|refusal| is_selector(*refusal))
-        .map(|refusal| refusal.place as usize);
-    let columns = |index: usize| {
-        trees
-            .get(index)
-            .map(|layout: &Layout| layout.columns.as_slice())
-    };
-    let passes = (layouts.len() == 2).then_some(refusal.is_none());
+    let columns = |index: usize| trees.get(index).map(|layout| layout.columns.as_slice());
     let beside = Beside {
         incoming: columns(0),
         target: columns(1),
-        passes,
-        refused,
+        passes: (layouts.len() == 2).then_some(refusal.is_none()),
+        refused: refusal
+            .filter(|refusal| is_selector(*refusal))
+            .map(|refusal| refusal.place as usize),
     };
-    let told = refusal.map(|refusal| crate::told::tell(refusal, case));
-    let mut fields = json::plan_json(&plan);
-    if let Some(incoming) = beside.incoming {
-        let dropped = crate::diff::dropped_text(&plan.selectors, incoming);
-        fields.push((
-            "dropped",
-            Json::List(dropped.into_iter().map(Json::from).collect()),
-        ));
-    }
-    if let Some(passes) = passes {
-        fields.push(("passes", Json::Truth(passes)));
-        fields.push(("refusal", told.as_ref().map(|told| told.json()).into()));
-    }
     put(
         args,
         &plan_text(&plan, beside, args.paint()?),
-        Json::Object(fields),
+        plan_json(&plan, beside, told.as_ref()),
     )?;
     match told {
         None => Ok(()),
         Some(told) => Err(Failure::refused(told, args.json())),
     }
+}
+
+fn plan_json(plan: &form::Plan, beside: Beside, told: Option<&Told>) -> Json {
+    let mut fields = json::plan_json(plan);
+    if let Some(incoming) = beside.incoming {
+        let dropped = dropped_text(&plan.selectors, incoming).into_iter();
+        fields.push(("dropped", Json::List(dropped.map(Json::from).collect())));
+    }
+    if let Some(passes) = beside.passes {
+        fields.push(("passes", Json::Truth(passes)));
+        fields.push(("refusal", told.map(Told::json).into()));
+    }
+    Json::Object(fields)
 }
 
 const MALFORMED: u32 = 30;

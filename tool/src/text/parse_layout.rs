@@ -2,8 +2,8 @@
 
 use super::lex::Token;
 use super::parse::{Kind, Parsed, Parser, Places};
-use crate::args::hint;
 use crate::form::{self, Column, Layout, Leaf, Type, Unit};
+use crate::near::hint;
 
 pub fn parse_layout(text: &[u8]) -> Parsed<(Layout, Places)> {
     let mut parser = Parser::new(text, Kind::Layout)?;

@@ -24,37 +24,42 @@ fn row(
 ) -> Parsed<Vec<Value>> {
     let mut values: Vec<Option<Value>> = vec![None; columns.len()];
     parser.parts(close, |parser, _| {
-        let place = parser.place();
-        let name = parser.name("a column's name")?;
-        let of_name = |(_, column): &(usize, &Column)| column.name == name;
-        let mut named = columns.iter().enumerate().filter(of_name).peekable();
-        if named.peek().is_none() {
-            return parser.error(
-                place,
-                format!("there is no column {}{}", name_text(&name), known(columns)),
-            );
-        }
-        let Some((index, column)) = named.find(|(index, _)| values[*index].is_none()) else {
-            return parser.error(
-                place,
-                format!("column {} has its value already", name_text(&name)),
-            );
-        };
+        let index = next_of_name(parser, columns, &values)?;
         parser.mark(':')?;
         parser.moved(index);
-        values[index] = Some(value(parser, &column.of)?);
+        values[index] = Some(value(parser, &columns[index].of)?);
         Ok(())
     })?;
     let missing = values.iter().position(Option::is_none);
-    match missing {
-        None => Ok(values.into_iter().flatten().collect()),
-        Some(index) => {
-            let name = name_text(&columns[index].name);
-            parser.error(
-                start,
-                format!("column {name} has no value; where there is none, write `{name}: null`"),
-            )
+    let Some(index) = missing else {
+        return Ok(values.into_iter().flatten().collect());
+    };
+    let name = name_text(&columns[index].name);
+    parser.error(
+        start,
+        format!("column {name} has no value; where there is none, write `{name}: null`"),
+    )
+}
+
+/// A name, and the first column that has it and no value yet.
+fn next_of_name(
+    parser: &mut Parser,
+    columns: &[Column],
+    values: &[Option<Value>],
+) -> Parsed<usize> {
+    let place = parser.place();
+    let name = parser.name("a column's name")?;
+    let named = || (0..columns.len()).filter(|index| columns[*index].name == name);
+    let written = name_text(&name);
+    match named().find(|index| values[*index].is_none()) {
+        Some(index) => Ok(index),
+        None if named().next().is_some() => {
+            parser.error(place, format!("column {written} has its value already"))
         }
+        None => parser.error(
+            place,
+            format!("there is no column {written}{}", known(columns)),
+        ),
     }
 }
 

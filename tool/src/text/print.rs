@@ -115,6 +115,24 @@ pub fn type_text(of: &Type) -> String {
     of_text(of, false)
 }
 
+/// A type in few words: of a struct with many fields, or with others inside, only how many there are.
+pub fn brief_type(of: &Type) -> String {
+    let leaf = |field: &Column| matches!(field.of, Type::Leaf(_));
+    match of {
+        Type::Struct(fields) if fields.len() > 4 || !fields.iter().all(leaf) => {
+            let count = fields.len();
+            format!(
+                "struct of {count} field{}",
+                if count == 1 { "" } else { "s" }
+            )
+        }
+        Type::List(element) | Type::Array(_, element) => {
+            format!("{}{}", row_head(of, false), brief_type(&element.of))
+        }
+        of => type_text(of),
+    }
+}
+
 fn of_text(of: &Type, by_number: bool) -> String {
     match of {
         Type::Leaf(leaf) => leaf_text(leaf),
