@@ -68,7 +68,7 @@ pub fn time_count(text: &str, unit: Unit, zoned: bool) -> Result<i64, String> {
             ));
         }
     };
-    let (clock, part) = time.split_once('.').unwrap_or((time, ""));
+    let (clock, part) = time.split_once('.').unwrap_or((time, "0"));
     let second = clock_seconds(clock).ok_or_else(wrong)?;
     let part = part_count(part, unit).ok_or_else(wrong)??;
     let seconds = date_days(date)? * A_DAY + second - offset;
@@ -104,13 +104,14 @@ fn clock_seconds(clock: &str) -> Option<i64> {
 
 /// A fraction of a second as a count; none where it is no number.
 fn part_count(part: &str, unit: Unit) -> Option<Result<i64, String>> {
+    if part.is_empty() || !part.bytes().all(|byte| byte.is_ascii_digit()) {
+        return None;
+    }
     let kept = part.trim_end_matches('0');
     if kept.len() > unit.digits() {
-        let finer = format!("`.{part}` is finer than {}", unit.name());
-        return digits(&part[..18.min(part.len())]).map(|_| Err(finer));
+        return Some(Err(format!("`.{part}` is finer than {}", unit.name())));
     }
-    let padded = format!("{kept:0<width$}", width = unit.digits());
-    digits(&padded).map(Ok)
+    digits(&format!("{kept:0<width$}", width = unit.digits())).map(Ok)
 }
 
 fn two_digits(text: &str, most: i64) -> Option<i64> {
@@ -200,6 +201,8 @@ mod tests {
             ("1970-01-01T00:00:00.0005", false),
             ("1970-01-01T24:00:00", false),
             ("1970-01-01T00:00", false),
+            ("1970-01-01T00:00:00.", false),
+            ("éT00:00:00.éééééééééé", false),
             ("+999999999-01-01T00:00:00", false),
         ] {
             assert!(time_count(text, ms, zoned).is_err(), "{text}");
