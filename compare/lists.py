@@ -271,8 +271,9 @@ def show(refusals, _):
     compare_sets(file, "has_place", set(refusals.by_number) - refusals.of_place("none"), places)
 
 
-# The lines of the two tables in the Rust crate: number or bit, name, kind of place, words.
+# The lines of the tables in the Rust crate: number or bit, name, kind of place, words.
 REASON = r'^    (\d+) (\w+) (\w+) "((?:[^"\\]|\\.)*)";$'
+PLACE = r'^    (\w+) "(\w+)" "([^"]*)";$'
 FLAG = r'^    (\d+) (\w+) "([^"]*)";$'
 
 
@@ -284,9 +285,9 @@ def rust(refusals, policy):
         for number, name, place, words in re.findall(REASON, read(file), re.M | re.S)
     }
     compare(file, "reasons", due, given)
-    places = re.findall(r"Place::(\w+) => write!\(f, \" \((\w+) \{\}\)\"", read(file))
-    due = {camel(kind): kind for kind in refusals.places if kind != "none"}
-    compare(file, "places", due, dict(places))
+    due = {kind: (camel(kind), capital(words) + ".") for kind, words in refusals.places.items() if kind != "none"}
+    given = {kind: (name, counts) for name, kind, counts in re.findall(PLACE, read(file), re.M)}
+    compare(file, "places", due, given)
     file = "rust/src/policy.rs"
     given = {name: (int(bit), allows) for bit, name, allows in re.findall(FLAG, read(file), re.M)}
     compare(file, "flags", {one.rust: (one.bit, capital(one.allows) + ".") for one in policy.bits}, given)

@@ -2,17 +2,34 @@
 
 use core::fmt;
 
-/// What the place of a refusal counts.
-#[derive(Clone, Copy, Debug, PartialEq, Eq, Hash)]
-pub enum Place {
-    /// Which layout or table was refused, counted from 1 in the order in which they are read.
-    Input,
-    /// The position of the target's top column, from 0.
-    Column,
-    /// The number of the plan's top selector, from 0.
-    Selector,
-    /// Nothing: the place is 0.
-    None,
+/// A line for each kind of place of docs/refusals.txt but `none`: its name here and there, and what it counts.
+macro_rules! places {
+    ($($name:ident $word:literal $counts:literal;)*) => {
+        /// What the place of a refusal counts.
+        #[derive(Clone, Copy, Debug, PartialEq, Eq, Hash)]
+        #[non_exhaustive]
+        pub enum Place {
+            $(#[doc = $counts] $name,)*
+            /// Nothing: the place is 0.
+            None,
+        }
+
+        impl Place {
+            /// What it counts in a word; nothing where it counts nothing.
+            pub const fn word(self) -> Option<&'static str> {
+                match self {
+                    $(Place::$name => Some($word),)*
+                    Place::None => None,
+                }
+            }
+        }
+    };
+}
+
+places! {
+    Input "input" "Which layout or table was refused, counted from 1 in the order in which they are read.";
+    Column "column" "The position of the target's top column, from 0.";
+    Selector "selector" "The number of the plan's top selector, from 0.";
 }
 
 /// A line for each refusal of docs/refusals.txt: number, name, kind of place and words. compare/lists.py holds the two
@@ -139,11 +156,9 @@ impl Refusal {
 impl fmt::Display for Refusal {
     fn fmt(&self, f: &mut fmt::Formatter<'_>) -> fmt::Result {
         write!(f, "refused {}: {}", self.number(), self.reason.meaning())?;
-        match self.reason.place() {
-            Place::Input => write!(f, " (input {})", self.place),
-            Place::Column => write!(f, " (column {})", self.place),
-            Place::Selector => write!(f, " (selector {})", self.place),
-            Place::None => Ok(()),
+        match self.reason.place().word() {
+            Some(word) => write!(f, " ({word} {})", self.place),
+            None => Ok(()),
         }
     }
 }

@@ -1,5 +1,10 @@
 //! Layouts, tables of defaults, records and plans as trees. docs/FORMATS.md has their bytes.
 
+/// The versions of layouts, tables of defaults and plans that are read and written here.
+pub const LAYOUT_VERSIONS: &[u16] = &[1, 2];
+pub const TABLE_VERSIONS: &[u16] = &[1];
+pub const PLAN_VERSIONS: &[u16] = &[1];
+
 /// A name, a zone or a text: any bytes.
 pub type Bytes = Vec<u8>;
 

@@ -9,7 +9,7 @@ const PRECISION_LIMIT: u8 = 18;
 
 pub fn read_layout(bytes: &[u8]) -> Result<Layout, Fault> {
     let mut cursor = Cursor::new(File::Layout, bytes);
-    let version = cursor.start(&[1, 2])?;
+    let version = cursor.start(form::LAYOUT_VERSIONS)?;
     let columns = Types { version }.columns(&mut cursor, 1, true)?;
     cursor.end("the last column")?;
     Ok(Layout { version, columns })

@@ -3,13 +3,13 @@
 use super::cursor::{Cause, Cursor, Fault, File, Read, Step};
 use super::layout::Types;
 use super::value::value;
-use crate::form::{Cast, Plan, Selector};
+use crate::form::{self, Cast, Plan, Selector};
 
 const NEST_LIMIT: usize = 64;
 
 pub fn read_plan(bytes: &[u8]) -> Result<Plan, Fault> {
     let mut cursor = Cursor::new(File::Plan, bytes);
-    let version = cursor.start(&[1])?;
+    let version = cursor.start(form::PLAN_VERSIONS)?;
     let selectors = selectors(&mut cursor, 1)?;
     cursor.end("the last selector")?;
     Ok(Plan { version, selectors })

@@ -3,12 +3,12 @@
 use super::cursor::{Cause, Cursor, Fault, File, Read, Step};
 use super::layout::leaf_type;
 use super::value::value;
-use crate::form::{Default, Entry, Leaf, Table, Type, Value};
+use crate::form::{self, Default, Entry, Leaf, Table, Type, Value};
 use std::collections::HashSet;
 
 pub fn read_table(bytes: &[u8]) -> Result<Table, Fault> {
     let mut cursor = Cursor::new(File::Table, bytes);
-    let version = cursor.start(&[1])?;
+    let version = cursor.start(form::TABLE_VERSIONS)?;
     let count = cursor.u16("the count of entries")?;
     let mut seen = HashSet::new();
     let mut entries = Vec::new();

@@ -7,7 +7,7 @@ use crate::near::hint;
 
 pub fn parse_layout(text: &[u8]) -> Parsed<(Layout, Places)> {
     let mut parser = Parser::new(text, Kind::Layout)?;
-    let version = parser.version(&[1, 2])?;
+    let version = parser.version(form::LAYOUT_VERSIONS)?;
     let columns = columns(&mut parser, version, None)?;
     parser.finish(Layout { version, columns })
 }

@@ -3,11 +3,11 @@
 use super::parse::{Kind, Parsed, Parser, Places};
 use super::parse_layout::leaf_type;
 use super::parse_record::leaf_value;
-use crate::form::{Default, Entry, Table};
+use crate::form::{self, Default, Entry, Table};
 
 pub fn parse_table(text: &[u8]) -> Parsed<(Table, Places)> {
     let mut parser = Parser::new(text, Kind::Defaults)?;
-    let version = parser.version(&[1])?;
+    let version = parser.version(form::TABLE_VERSIONS)?;
     let mut entries = Vec::new();
     parser.parts(None, |parser, _| {
         entries.push(entry(parser)?);
