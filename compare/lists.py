@@ -271,29 +271,30 @@ def show(refusals, _):
     compare_sets(file, "has_place", set(refusals.by_number) - refusals.of_place("none"), places)
 
 
+# The lines of the tables in the Rust crate: number or bit, name, kind of place, words.
+REASON = r'^    (\d+) (\w+) (\w+) "((?:[^"\\]|\\.)*)";$'
+PLACE = r'^    (\w+) "(\w+)" "([^"]*)";$'
+FLAG = r'^    (\d+) (\w+) "([^"]*)";$'
+
+
 def rust(refusals, policy):
     file = "rust/src/refusal.rs"
-    parts = functions(read(file))
-    given = {}
-    for numbers, result in arms(parts.get("meaning", "")):
-        if numbers != "_":
-            for number in numbers_of(numbers):
-                given[number] = unquoted(result.strip('{ "}').replace("\\ ", ""))
-    compare(file, "meaning", refusals.each(said), given)
-    places = {}
-    for numbers, result in arms(parts.get("fmt", "")):
-        match = re.search(r'" \((\w+) \{\}\)"', result)
-        if match:
-            places[match[1]] = numbers_of(numbers)
-    due = {kind: refusals.of_place(kind) for kind in refusals.places if kind != "none"}
-    compare(file, "places", due, places)
+    due = refusals.each(lambda one: (camel(one.name), camel(one.place), said(one)))
+    given = {
+        int(number): (name, place, re.sub(r"\\\n\s*", "", words))
+        for number, name, place, words in re.findall(REASON, read(file), re.M | re.S)
+    }
+    compare(file, "reasons", due, given)
+    due = {kind: (camel(kind), capital(words) + ".") for kind, words in refusals.places.items() if kind != "none"}
+    given = {kind: (name, counts) for name, kind, counts in re.findall(PLACE, read(file), re.M)}
+    compare(file, "places", due, given)
     file = "rust/src/policy.rs"
-    text = read(file)
-    bits = {name: int(bit) for name, bit in re.findall(r"pub const (\w+): Policy = Policy\(1 << (\d+)\);", text)}
-    compare(file, "policy", policy.named("rust"), bits)
-    every = found_once(file, r"pub const ALL: Policy = Policy\(0x([0-9A-F]+)\);", text)
-    if every and int(every, 16) != policy.word():
-        fault(file, "ALL is 0x%s, by the list 0x%X" % (every, policy.word()))
+    given = {name: (int(bit), allows) for bit, name, allows in re.findall(FLAG, read(file), re.M)}
+    compare(file, "flags", {one.rust: (one.bit, capital(one.allows) + ".") for one in policy.bits}, given)
+
+
+def camel(name):
+    return name.title().replace("_", "")
 
 
 # The definition that the builders are proved to follow.

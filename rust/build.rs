@@ -1,4 +1,5 @@
-//! Links libselector.a, which `rt staticlib selector` writes to target/staticlib of the repository. `SELECTOR_LIBRARY` names another folder.
+//! Links libselector.a, which `rt staticlib selector` writes to target/staticlib of the repository. `SELECTOR_LIBRARY`
+//! names another folder.
 
 use std::env;
 use std::path::PathBuf;

@@ -27,7 +27,7 @@ impl Builder for Library {
         };
         match answer {
             Ok(length) => length as u64,
-            Err(refusal) => u64::from(refusal.number) << 32 | u64::from(refusal.place),
+            Err(refusal) => u64::from(refusal.number()) << 32 | u64::from(refusal.place),
         }
     }
 }

@@ -203,7 +203,7 @@ impl Judge {
                 Call::Run => library::run(incoming, target, plan, record, out),
             })?;
         let given = given.map_err(|refusal| Refusal {
-            number: refusal.number,
+            number: refusal.number(),
             place: refusal.place,
         });
         let number = number(&given);

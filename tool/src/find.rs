@@ -1,0 +1,9 @@
+//! Where a refusal comes from, beyond its place: found by more calls of the library, over parts of the same input.
+
+mod build;
+mod check;
+mod run;
+
+pub use build::{Build, Spot};
+pub use check::difference;
+pub use run::refused_column;
