@@ -25,24 +25,36 @@ first-extra-spec =
     (λ c. λ Q. seeking-none (Q .columns) (c .before .before .before .before .pre .0 .0))
     (λ c κs. search needs)
     (λ c. search needs)
-    (λ c κs.
-    (c .before .before .before .before .before .before .before .before .before .before .pre .0 .1,
-    (c .before .before .before .before .before .before .before .before .before .before .pre .1,
-    label-in _ (c .before .before .before .label .ensures .1) (c .before .l .given .1))))
+    (λ c κs. (
+      c .before .before .before .before .before .before .before .before .before .before .pre .0 .1,
+      (
+        c .before .before .before .before .before .before .before .before .before .before .pre .1,
+        label-in _ (c .before .before .before .label .ensures .1) (c .before .l .given .1),
+      ),
+    ))
     (λ c. λ P Q.
     seeking-stop (c .before .before .before .before .before .before .before .loop .inv Q) (c .before .before .before .before .before .before .loop-test .taken)
     (c .before .before .before .before .before .label .ensures .0) (c .before .before .before .l .given .1) (c .before .is-extra .ensures Q)
     (c .if1 .taken) P)
     (λ c κs.
-    column (c .before .before .before .before .before .before .before .loop .inv (c .before .before .before .before .before .before .before .before .before .before .before .before .pre .0 .1))
+    column
+    (c .before .before .before .before .before .before .before .loop .inv
+    (c .before .before .before .before .before .before .before .before .before .before .before .before .pre .0 .1))
     (c .before .before .before .before .before .before .loop-test .taken) (c .before .before .before .before .before .label .ensures .0)
     (c .before .before .before .l .given .1) .head)
     (λ c. search needs)
-    (λ c. λ P Q. seeking-unlabelled (c .before .before .before .before .loop .inv Q) (c .before .before .before .loop-test .taken) (c .before .before .label .ensures .0) (c .enum-told .given .1))
-    (λ c. omega (arith, c .before .before .before .before .before .before .before .before .before .before .before .before .before .fits .n, c .before .before .before .before .before .before .before .loop-test .taken))
+    (λ c. λ P Q. seeking-unlabelled (c .before .before .before .before .loop .inv Q) (c .before .before .before .loop-test .taken)
+    (c .before .before .label .ensures .0) (c .enum-told .given .1))
+    (λ c. omega (
+      arith,
+      c .before .before .before .before .before .before .before .before .before .before .before .before .before .fits .n,
+      c .before .before .before .before .before .before .before .loop-test .taken,
+    ))
     (λ c. omega arith)
     (λ c. λ Q.
-    seeking-more (c .before .before .before .before .before .before .before .before .loop .inv Q) (c .before .before .before .before .before .before .before .loop-test .taken)
-    (c .before .before .before .before .before .before .label .ensures .0) (c .before .before .before .before .l .given .1) (c .before .before .is-extra .ensures Q)
+    seeking-more (c .before .before .before .before .before .before .before .before .loop .inv Q)
+    (c .before .before .before .before .before .before .before .loop-test .taken)
+    (c .before .before .before .before .before .before .label .ensures .0) (c .before .before .before .before .l .given .1)
+    (c .before .before .is-extra .ensures Q)
     (c .before .if1 .left) (c .skip-type .ensures))
     (λ c. λ P Q. seeking-all (c .before .loop .inv Q) (c .loop-test .left) P))

@@ -18,7 +18,8 @@ build-plan-spec =
     let plan = c .before .before .before .before .before .before .before .before .args .plan .now in
     let d = getDefaultValue (T .entries) (c .before .before .before .before .before .before .before .before .args .defaults .«source_index») in
     plan-kept plan (answered-refused (length plan)
-    (build-extra (c .before .before .before .before .before .before .before .before .args .v) (c .before .before .before .before .before .before .before .before .args .policy)
+    (build-extra (c .before .before .before .before .before .before .before .before .args .v)
+    (c .before .before .before .before .before .before .before .before .args .policy)
     d (P .columns) (Q .columns) (c .before .before .before .extra-column .ensures P Q) (c .before .i .given .1))))
     (λ c. search needs)
     (λ c. λ T P Q.
@@ -28,5 +29,6 @@ build-plan-spec =
     plan-as plan (answered-as (length plan)
     (build-plain (c .before .before .before .before .before .before .before .before .before .before .before .args .v)
     (c .before .before .before .before .before .before .before .before .before .before .before .args .policy)
-    d (P .columns) (Q .columns) (c .before .before .before .before .before .before .extra-column .ensures P Q) (c .before .before .before .before .enum-told .given .1)))
+    d (P .columns) (Q .columns) (c .before .before .before .before .before .before .extra-column .ensures P Q)
+    (c .before .before .before .before .enum-told .given .1)))
     (c .before .before .build-matched .ensures T P Q)))
