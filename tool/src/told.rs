@@ -128,7 +128,8 @@ impl Told {
                 self.incoming = about(from, &vec![self.refusal.place as usize], &incoming.columns)
             }
             (_, "selector") => {
-                self.target = about(to, &vec![self.refusal.place as usize], &target.columns)
+                self.target = about(to, &vec![self.refusal.place as usize], &target.columns);
+                self.note = self.refused_selector(case, &incoming);
             }
             (33, _) => self.find_difference(case, &incoming, &target),
             (44 | 45, _) => self.find_column(case, &target),
@@ -144,6 +145,12 @@ impl Told {
                 }
             }
         }
+    }
+
+    fn refused_selector(&self, case: Case, incoming: &Layout) -> Option<String> {
+        let plan = read::read_plan(&case.plan?.bytes).ok()?;
+        let (path, what) = find::refused_selector(self.refusal, &plan, &incoming.columns)?;
+        Some(format!("{}: {what}", path_text(&path)))
     }
 
     fn find_difference(&mut self, case: Case, incoming: &Layout, target: &Layout) {

@@ -208,6 +208,40 @@ fn the_first_difference() {
     assert_eq!(told.target.unwrap().path, "b[].y");
 }
 
+/// The selector inside a top selector that is refused.
+#[test]
+fn the_selector_of_a_check() {
+    let columns = "a: int8, s: struct { x: int8, y: list of struct { p: int8, q: string } }";
+    // A cast of q to int16 in the element of y; a position that is not there as the input of a rename.
+    let cast = [
+        4, 0, 1, 0, 1, 0, 5, 0, 1, 0, 4, 0, 0, 0, 2, 0, 0, 0, 0, 2, 0, 1, 0, 3, 2,
+    ];
+    let gone = [3, 0, 9, 0, 1, b'n'];
+    let kind = [5, 0, 0, 0, 2, 1, 0, 1, 0, 1, 2];
+    for (selector, number, note) in [
+        (
+            &cast[..],
+            32,
+            "selector 0, field 0, element, field 1: cast to int16, Overflowing, of position 1 (q: string)",
+        ),
+        (
+            &gone[..],
+            31,
+            "selector 0, input: position 9, which is not there",
+        ),
+        (
+            &kind[..],
+            32,
+            "selector 0: list mapping of position 0 (a: int8)",
+        ),
+    ] {
+        let plan = [b"PLN\x01\x00\x01\x00".as_slice(), selector].concat();
+        let told = told(columns, columns, &plan, b"");
+        assert_eq!(told.refusal.number(), number);
+        assert_eq!(told.note.as_deref(), Some(note));
+    }
+}
+
 #[test]
 fn the_column_of_a_run() {
     let columns = "a: date-time ms, b: date-time ms, c: date-time ms";
