@@ -5,8 +5,10 @@
 #   compare/cases.py --list FILE     writes the cases of one file of vectors as a list, to standard output (compare/c/vectors)
 #
 # VECTORS has files with answers of a second implementation, one JSON object a line (default: ../shared/vectors beside the repository).
-# The cases of base.jsonl are taken over, and of L01.jsonl those that only decimals can ask, which stand first there. In base.jsonl no
-# decimal stands; in its policy words bit 14, which is theirs now, is on or off, and changes no answer.
+# The cases of base.jsonl are taken over, of L01.jsonl those that only decimals can ask, of L02.jsonl those whose answers the spellings
+# of UTC changed and of L03.jsonl those of extra top columns, which stand first there. In base.jsonl no decimal stands; in its policy
+# words bit 14, which is theirs now, is on or off, and changes no answer. In the files before L03.jsonl bit 15, which refuses extra top
+# columns now where it is off, had no meaning: it is turned on.
 # Layouts at the edges of the rules of documents 01 and 02 are added, whose answers come from the reader below, and builds of
 # the original source (compare/rust/sample.txt). The reader is written from these documents and shares nothing with the library; where it
 # disagrees with an answer of VECTORS, nothing is written and the exit status is 1. Which plans one pass is to settle (docs/ARCHITECTURE.md)
@@ -20,7 +22,17 @@ ROOT = os.path.dirname(os.path.dirname(os.path.abspath(__file__)))
 STORED = os.path.join(ROOT, "crates", "cases")
 VECTORS = os.path.join(os.path.dirname(ROOT), "shared", "vectors")
 # Each file of vectors, with how many of its first cases are taken (all where there is no number), and what they are.
-TAKEN = [("base.jsonl", None, "a second implementation's answers"), ("L01.jsonl", 251, "its answers where decimals stand")]
+TAKEN = [
+    ("base.jsonl", None, "a second implementation's answers"),
+    ("L01.jsonl", 251, "its answers where decimals stand"),
+    ("L02.jsonl", 23, "its answers where zones count as UTC"),
+    ("L03.jsonl", 56, "its answers where columns are extra"),
+]
+# The lines of these files whose answers a later request changed: L2 the one, a build from the zone Etc/UTC to Z that was 21.
+CHANGED = {("base.jsonl", 140)}
+# The files whose policy words have no bit for extra top columns.
+BEFORE_EXTRA_COLUMNS = ("base.jsonl", "L01.jsonl", "L02.jsonl")
+EXTRA_COLUMNS = 1 << 15
 SAMPLE = os.path.join(ROOT, "compare", "rust", "sample.txt")
 
 HEAD = """\
@@ -500,9 +512,11 @@ def line(data, number):
     return "layout %s %d %d" % (data.hex() or "-", number, place(number))
 
 
-# A line of another call, whose answer is taken over.
-def other(case):
+# A line of another call, whose answer is taken over; `on` are policy bits that are turned on.
+def other(case, on):
     given, out = case["in"], case["out"]
+    if "policy" in given:
+        given["policy"] |= on
     words = [case["op"]]
     for name in ARGUMENTS[case["op"]]:
         words.append(str(given[name]) if isinstance(given[name], int) else given[name] or "-")
@@ -518,12 +532,13 @@ def other(case):
 # The cases of a file as lines, of the first so many alone where a number is given.
 def taken(path, most=None):
     lines = []
+    on = EXTRA_COLUMNS if os.path.basename(path) in BEFORE_EXTRA_COLUMNS else 0
     for number, text in enumerate(itertools.islice(open(path), most), 1):
         case = json.loads(text)
-        if case["op"] not in CALLS:
+        if case["op"] not in CALLS or (os.path.basename(path), number) in CHANGED:
             continue
         if case["op"] != "layout":
-            lines.append(other(case))
+            lines.append(other(case, on))
             continue
         data, out = bytes.fromhex(case["in"]["layout"]), case["out"]
         due = 0 if out == {"ok": True} else out["refuse"]

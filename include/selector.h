@@ -29,6 +29,7 @@
  *   1 to 6          which layout or table was refused, counted from 1 in the order in which they are read;
  *   11 to 26, 28    the position of the target's top column, from 0;
  *   31, 32          the number of the plan's top selector, from 0;
+ *   53              the position of the incoming top column, from 0;
  *   all others      0.
  * The tests are made in one order, and the first that applies is the answer. docs/FORMATS.md has the order, and of each
  * refusal what causes it and what to do about it; the numbers and words below are those of docs/refusals.txt.
@@ -115,8 +116,12 @@ extern "C" {
 #define SELECTOR_DECIMAL_WIDENING 51  /* a cast to a decimal of larger precision is not allowed */
 #define SELECTOR_DECIMAL_TOO_LARGE 52 /* a decimal of the record has more digits than its precision */
 
+/* A refusal of a build, before its columns are matched. */
+#define SELECTOR_EXTRA_COLUMN 53 /* an incoming column has no counterpart, and extra columns are not ignored */
+
 /* The policy word: a bit each, 1 allows; docs/policy.txt is the list. All other bits are ignored, and a later edition
- * may give one a meaning: make a word of these names. SELECTOR_ALLOW_ALL has all of them, and grows with them. */
+ * may give one a meaning: a word that was made before SELECTOR_IGNORE_EXTRA_COLUMNS, bit 15, now refuses extra columns,
+ * so make words of these names. SELECTOR_ALLOW_ALL has all of them, and grows with them. */
 #define SELECTOR_ALLOW_NULL_UPCAST (UINT32_C(1) << 0)
 #define SELECTOR_ALLOW_INTEGER_UPCAST (UINT32_C(1) << 1)
 #define SELECTOR_ALLOW_FLOAT_UPCAST (UINT32_C(1) << 2)
@@ -132,7 +137,8 @@ extern "C" {
 #define SELECTOR_IGNORE_EXTRA_FIELDS (UINT32_C(1) << 12)
 #define SELECTOR_INSERT_MISSING_COLUMNS (UINT32_C(1) << 13)
 #define SELECTOR_ALLOW_DECIMAL_WIDENING (UINT32_C(1) << 14)
-#define SELECTOR_ALLOW_ALL UINT32_C(0x7FFF)
+#define SELECTOR_IGNORE_EXTRA_COLUMNS (UINT32_C(1) << 15)
+#define SELECTOR_ALLOW_ALL UINT32_C(0xFFFF)
 
 /* Reads a layout of version 1 or 2 to its end. The answer is 0 where it is accepted. Refusals: 1 to 6, 50. The place of
  * 1 to 6 is 1. Stack: SELECTOR_READ_STACK. Time: grows with the bytes; earlier siblings are scanned for a repeated name
@@ -141,12 +147,14 @@ extern "C" {
 uint64_t selector_read_layout(const uint8_t *layout, size_t length);
 
 /* Builds the plan that takes records of the incoming layout to the target layout, columns matched by name. Both are of
- * version 1. Refusals: 1 to 6, 10 to 24, 27, 50, 51. Stack: SELECTOR_BUILD_STACK. */
+ * version 1. Where the zones of date-times are compared (21), no zone and the texts UTC, Etc/UTC and Z count as one;
+ * the types are unequal all the same, and the plan has a cast. Refusals: 1 to 6, 10 to 24, 27, 50, 51, 53.
+ * Stack: SELECTOR_BUILD_STACK. */
 uint64_t selector_build_by_name(uint32_t policy, const uint8_t *incoming, size_t incoming_length,
                                 const uint8_t *target, size_t target_length, uint8_t *plan, size_t plan_length);
 
 /* The same by field id, with defaults for missing fields. Both layouts are of version 2; of a partition's values in the
- * table of defaults the source index, from 0, picks one. Refusals: 1 to 6, 10, 11, 13 to 28, 50, 51.
+ * table of defaults the source index, from 0, picks one. Refusals: 1 to 6, 10, 11, 13 to 28, 50, 51, 53.
  * Stack: SELECTOR_BUILD_STACK. */
 uint64_t selector_build_by_number(uint32_t policy, uint32_t source_index,
                                   const uint8_t *incoming, size_t incoming_length,

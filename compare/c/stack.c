@@ -160,12 +160,15 @@ static void deepest_of(uint32_t version, uint32_t code, uint32_t from, uint32_t 
 }
 
 /* More than 16 columns or fields have tables on the stack: structs of 18 fields from each level on, and of 32 at every
- * level, whose plan goes into the longer buffer at once. Extra fields are looked for where they are not ignored. */
+ * level, whose plan goes into the longer buffer at once. Extra fields and columns are looked for where they are not
+ * ignored. */
 static void deepest(void) {
     space = SPACE;
     for (uint32_t version = 1; version <= 2; version++)
         for (uint32_t ignore = 0; ignore <= 1; ignore++) {
-            policy = ignore ? SELECTOR_ALLOW_ALL : SELECTOR_ALLOW_ALL & ~SELECTOR_IGNORE_EXTRA_FIELDS;
+            policy = SELECTOR_ALLOW_ALL;
+            if (!ignore)
+                policy &= ~(SELECTOR_IGNORE_EXTRA_FIELDS | SELECTOR_IGNORE_EXTRA_COLUMNS);
             for (uint32_t code = 18; code <= 20; code++)
                 deepest_of(version, code, 0, 1);
             for (uint32_t from = 0; from <= 15; from++)

@@ -48,7 +48,7 @@ mod refusal;
 pub use bytes::{Defaults, Incoming, Layout, Plan, Record, Target};
 #[cfg(feature = "alloc")]
 pub use owned::PlanBuf;
-pub use policy::Policy;
+pub use policy::{ExtraColumns, Policy};
 pub use refusal::{Place, Reason, Refusal};
 
 /// The most bytes of a layout, and of a table of defaults.

@@ -14,6 +14,16 @@ use core::ops::{BitAnd, BitAndAssign, BitOr, BitOrAssign, Sub, SubAssign};
 #[derive(Clone, Copy, PartialEq, Eq, Hash, Default)]
 pub struct Policy(u32);
 
+/// What a build does with an incoming top column that the target lacks.
+#[derive(Clone, Copy, Debug, PartialEq, Eq, Hash, Default)]
+pub enum ExtraColumns {
+    /// It is left out of the plan, as `Policy::ALL` does.
+    #[default]
+    Ignore,
+    /// The first one refuses the build with 53.
+    Raise,
+}
+
 /// A line for each bit of docs/policy.txt: bit, name and what it allows. compare/lists.py holds the two together.
 macro_rules! flags {
     ($($bit:literal $name:ident $allows:literal;)*) => {
@@ -43,10 +53,11 @@ flags! {
     12 IGNORE_EXTRA_STRUCT_FIELDS "A struct's field that the target lacks is ignored.";
     13 INSERT_MISSING_COLUMNS "A column that is missing is inserted.";
     14 DECIMAL_WIDENING "A decimal to one of larger precision at the same scale.";
+    15 IGNORE_EXTRA_COLUMNS "An incoming column that the target lacks is ignored.";
 }
 
 impl Policy {
-    /// Nothing is allowed.
+    /// Nothing is allowed: extra columns are refused.
     pub const NONE: Policy = Policy(0);
 
     /// The policy of a word of the C interface; bits without a meaning are ignored.
@@ -77,6 +88,14 @@ impl Policy {
     /// What the one allows and the other doesn't name; `-` for constants.
     pub const fn difference(self, other: Policy) -> Policy {
         Policy(self.0 & !other.0)
+    }
+
+    /// The same with extra columns ignored or refused.
+    pub const fn with_extra_columns(self, choice: ExtraColumns) -> Policy {
+        match choice {
+            ExtraColumns::Ignore => self.union(Policy::IGNORE_EXTRA_COLUMNS),
+            ExtraColumns::Raise => self.difference(Policy::IGNORE_EXTRA_COLUMNS),
+        }
     }
 }
 

@@ -30,6 +30,7 @@ places! {
     Input "input" "Which layout or table was refused, counted from 1 in the order in which they are read.";
     Column "column" "The position of the target's top column, from 0.";
     Selector "selector" "The number of the plan's top selector, from 0.";
+    Incoming "incoming" "The position of the incoming top column, from 0.";
 }
 
 /// A line for each refusal of docs/refusals.txt: number, name, kind of place and words. compare/lists.py holds the two
@@ -115,6 +116,7 @@ reasons! {
     27 PlanTooLong None "the plan is longer than the buffer or 65536 bytes";
     28 DefaultType Column "the default taken has a type unlike the field's";
     51 DecimalWidening None "a cast to a decimal of larger precision is not allowed";
+    53 ExtraColumn Incoming "an incoming column has no counterpart, and extra columns are not ignored";
     30 MalformedPlan None "malformed plan";
     31 NoSuchPosition Selector "a selector takes a position that is not there";
     32 UnfitTransform Selector "a transform does not fit its input, or its result is too deep or too large a type";

@@ -1,7 +1,7 @@
 //! The bindings over the library: samples of document 01, the folders of examples/ with what the one of decimals tells, and what is promised of buffers.
 
 use column_selector::{
-    Defaults, Incoming, Layout, Place, Plan, PlanBuf, Policy, Reason, Record, Refusal, Target,
+    Defaults, ExtraColumns, Incoming, Layout, Place, Plan, PlanBuf, Policy, Reason, Record, Refusal, Target,
 };
 use std::fs;
 use std::path::{Path, PathBuf};
@@ -41,6 +41,18 @@ fn sample_s1() {
         b"\x01\xFE\xFF\xFF\xFF\x00"
     );
     assert_eq!(PlanBuf::from(plan).into_bytes(), plan.as_bytes());
+}
+
+#[test]
+fn extra_columns() {
+    let strict = Policy::ALL.with_extra_columns(ExtraColumns::Raise);
+    let refusal = by_name(strict, OURS, OLDER).unwrap_err();
+    assert_eq!((refusal.number(), refusal.place), (53, 1));
+    assert_eq!(refusal.reason.place(), Place::Incoming);
+    assert_eq!(refused(by_name(Policy::ALL, OURS, OLDER)), (17, 0));
+    assert!(by_name(strict, OLDER, OURS).is_ok());
+    let default = ExtraColumns::default();
+    assert_eq!(strict.with_extra_columns(default), Policy::ALL);
 }
 
 #[test]

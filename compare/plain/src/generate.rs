@@ -9,7 +9,7 @@ use crate::case::{Case, Number};
 use crate::form::{
     self, Column, DEPTH_LIMIT, Default, Entry, LAYOUT_LIMIT, Layout, Leaf, PRECISION_LIMIT, Type,
 };
-use crate::policy::{ALL, BITS};
+use crate::policy::{ALL, BITS, EXTRA_COLUMNS};
 use crate::random::Random;
 
 const ELEMENT: u32 = u32::MAX;
@@ -85,13 +85,13 @@ fn policy(random: &mut Random, style: &Style) -> u32 {
         (90..96, _) => bit(random),
         _ => 0,
     };
-    // The bits above have no meaning yet; bit 15 is kept for extra top columns, which the original ignores.
+    // The bits above have no meaning yet. Extra top columns are ignored, as the original does.
     let above = if random.percent(25) {
         random.next() as u32 & !ALL
     } else {
         0
     };
-    policy | above | 1 << 15
+    policy | above | EXTRA_COLUMNS
 }
 
 /// No two columns, and by number no two siblings at any level, may have one key: the later ones go.

@@ -15,8 +15,9 @@ pub const MISSING_STRUCT_FIELDS: u32 = 1 << 11;
 pub const EXTRA_STRUCT_FIELDS: u32 = 1 << 12;
 pub const MISSING_COLUMNS: u32 = 1 << 13;
 pub const DECIMAL_WIDENING: u32 = 1 << 14;
+pub const EXTRA_COLUMNS: u32 = 1 << 15;
 
 /// Every flag on, Insert and Ignore.
-pub const ALL: u32 = 0x7FFF;
+pub const ALL: u32 = 0xFFFF;
 /// The bits with a meaning are those below.
 pub const BITS: u32 = u32::BITS - ALL.leading_zeros();

@@ -129,5 +129,5 @@ fn builds() {
     let numbers = each("build_number", |line, words| {
         built(&mut random, line, true, words)
     });
-    assert_eq!((names, numbers), (764, 788));
+    assert_eq!((names, numbers), (841, 853));
 }

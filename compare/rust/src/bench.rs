@@ -9,7 +9,7 @@ use column_selector::call as library;
 use plain::call as plainly;
 use plain::case::{Case, Number};
 use plain::form::{self, Column, LAYOUT_LIMIT, Layout, Leaf, PLAN_LIMIT, RECORD_LIMIT, Type};
-use plain::policy::ALL;
+use plain::policy::{ALL, EXTRA_COLUMNS};
 use plain::rules::CastOption;
 use plain::write;
 use std::hint::black_box;
@@ -301,23 +301,38 @@ fn reading(name: &str, count: usize, layout: &[u8]) -> Result<(), String> {
 }
 
 fn building(name: &str, count: usize, case: &Case) -> Result<(), String> {
+    building_beside(name, count, case, case)
+}
+
+/// Both build the same plan.
+fn building_beside(name: &str, count: usize, ours: &Case, theirs: &Case) -> Result<(), String> {
     let mut plan = vec![0u8; PLAN_LIMIT];
-    let length = Library.build(case, &mut plan) as usize;
+    let length = Library.build(ours, &mut plan) as usize;
     let built = plan.get(..length).map(|plan| Answer::Plan(plan.to_vec()));
-    if built != oracle::original(case).ok() {
+    if built != oracle::original(theirs).ok() {
         return Err(differs(name));
     }
     line(
         name,
         count,
         || {
-            black_box(Library.build(black_box(case), &mut plan));
+            black_box(Library.build(black_box(ours), &mut plan));
         },
         || {
-            black_box(oracle::original(black_box(case))).ok();
+            black_box(oracle::original(black_box(theirs))).ok();
         },
     );
     Ok(())
+}
+
+/// Extra top columns are refused, though none is there; the original ignores them.
+fn building_strict(name: &str, version: u8, count: usize) -> Result<(), String> {
+    let theirs = floats(version, count);
+    let ours = Case {
+        policy: ALL & !EXTRA_COLUMNS,
+        ..floats(version, count)
+    };
+    building_beside(name, count, &ours, &theirs)
 }
 
 /// The plan of `widened`.
@@ -489,6 +504,8 @@ impl Planned {
 
 const SMALL: usize = 12;
 const MIDDLE: usize = 100;
+/// Of the strict builds.
+const WIDE: usize = 700;
 /// The most columns of decimals that are measured; as many fit a layout of either version.
 const MANY: usize = 860;
 
@@ -541,6 +558,14 @@ pub fn run() -> Result<(), String> {
                 count,
                 &case(version, count, Order::Reversed, Place::Top),
             )?;
+        }
+    }
+    for (version, name) in [
+        (1, "building by name, strict"),
+        (2, "building by number, strict"),
+    ] {
+        for count in [SMALL, MIDDLE, WIDE] {
+            building_strict(name, version, count)?;
         }
     }
     let built = |order: Order, place: Place| move |count| Planned::new(count, order, place);

@@ -9,7 +9,7 @@ use plain::policy::{
 };
 
 /// Every flag on, and bit 15, which is kept for extra top columns.
-const ALL: u32 = policy::ALL | 1 << 15;
+const ALL: u32 = policy::ALL;
 const ELEMENT: u32 = u32::MAX;
 
 fn column(name: &str, id: u32, type_: Type) -> Column {
@@ -99,12 +99,13 @@ pub fn cases() -> Vec<Case> {
     elements(&mut cases);
     defaults(&mut cases);
     decimals(&mut cases);
+    zones(&mut cases);
     cases
 }
 
 /// Leaves, null, and types of another kind.
 fn types(cases: &mut Vec<Case>) {
-    // S1, S2, S3, S4 and S12 of document 01, and a pair of zones that are equal as texts UTC.
+    // S1, S2, S3 and S12 of document 01.
     let target = [column("t", 1, leaf(4)), column("s", 2, leaf(15))];
     cases.push(by_name(ALL, &[column("t", 1, leaf(3))], &target));
     cases.push(by_name(
@@ -114,16 +115,6 @@ fn types(cases: &mut Vec<Case>) {
     ));
     cases.extend(both(ALL, &leaf(8), &leaf(4)));
     cases.extend(both(ALL, &leaf(8), &leaf(5)));
-    cases.extend(both(
-        ALL & !DATETIME_CONVERT_TIMEZONE,
-        &datetime(1, ""),
-        &datetime(1, "UTC"),
-    ));
-    cases.extend(both(
-        ALL & !DATETIME_CONVERT_TIMEZONE,
-        &datetime(1, ""),
-        &datetime(1, "Z"),
-    ));
     cases.extend(both(ALL, &array(2, 2, leaf(2)), &array(3, 2, leaf(2))));
 
     let nested = [structure(&[]), list(2, leaf(2)), array(1, 2, leaf(2))];
@@ -274,4 +265,16 @@ fn decimals(cases: &mut Vec<Case>) {
     let salinity = [column("t", 1, structure(&[column("a", 2, decimal(9, 3))]))];
     cases.push(by_name(ALL, &empty, &salinity));
     cases.push(by_number(ALL, &empty, &salinity, &[]));
+}
+
+/// Zones that count as UTC, no zone among them (S4), against each other and against texts that are near them.
+fn zones(cases: &mut Vec<Case>) {
+    let utc = ["", "UTC", "Etc/UTC", "Z"];
+    let near = ["utc", "Zulu", "UTC ", "ETC/UTC"];
+    for from in utc {
+        for to in utc.into_iter().chain(near) {
+            let policy = ALL & !DATETIME_CONVERT_TIMEZONE;
+            cases.extend(both(policy, &datetime(1, from), &datetime(1, to)));
+        }
+    }
 }

@@ -1,11 +1,11 @@
-//! Every pair of leaf kinds, date-times with four zones, decimals with four pairs of precision and scale, by name and by number.
+//! Every pair of leaf kinds, date-times with seven zones, decimals with four pairs of precision and scale, by name and by number.
 
 use crate::decimals;
 use plain::case::{Case, Number};
 use plain::form::{Column, Layout, Leaf, Type, write_defaults, write_layout};
-use plain::policy::{ALL, BITS};
+use plain::policy::{ALL, BITS, EXTRA_COLUMNS};
 
-const ZONES: [&str; 4] = ["", "UTC", "Europe/Oslo", "Etc/UTC"];
+const ZONES: [&str; 7] = ["", "UTC", "Europe/Oslo", "Etc/UTC", "Z", "Zulu", "utc"];
 const DECIMALS: [(u8, u8); 4] = [(6, 3), (9, 3), (9, 2), (18, 3)];
 
 fn leaves() -> Vec<Leaf> {
@@ -23,11 +23,12 @@ fn leaves() -> Vec<Leaf> {
     leaves
 }
 
-/// Everything allowed, nothing allowed, and each flag off or on alone.
+/// Everything allowed, nothing allowed, and each flag off or on alone; extra top columns ignored.
 pub fn single_flags() -> Vec<u32> {
     let bits = (0..BITS).map(|bit| 1 << bit);
     let off = bits.clone().map(|bit| ALL & !bit);
-    [ALL, 0].into_iter().chain(off).chain(bits).collect()
+    let words = [ALL, 0].into_iter().chain(off).chain(bits);
+    words.map(|word| word | EXTRA_COLUMNS).collect()
 }
 
 /// Every setting of the original's flags for leaves.

@@ -169,7 +169,7 @@ fn sample(path: &str, seed: u64) -> ExitCode {
 
 fn vectors(path: &str) -> ExitCode {
     let text = fs::read_to_string(path).unwrap_or_else(|error| panic!("{path}: {error}"));
-    let outcome = vectors::run(&text);
+    let outcome = vectors::run(path, &text);
     for (kind, count) in &outcome.agreed {
         println!("agreed    {count:4} {kind}");
     }

@@ -41,6 +41,8 @@ pub enum Aside {
     StructDefault,
     /// Decimals stand in both layouts, and the flag for their widening is on.
     Widening,
+    /// Extra top columns are refused, which the original ignores.
+    ExtraColumns,
     /// The plan is longer than the buffer or the limit.
     Space,
 }
@@ -72,6 +74,9 @@ pub fn original(case: &Case) -> Result<Answer, Aside> {
     let version = if case.number.is_some() { 2 } else { 1 };
     if incoming.version != version || target.version != version {
         return Err(Aside::Version);
+    }
+    if case.policy & policy::EXTRA_COLUMNS == 0 {
+        return Err(Aside::ExtraColumns);
     }
     if case.policy & policy::DECIMAL_WIDENING != 0 && decimals::in_both(&incoming, &target) {
         return Err(Aside::Widening);

@@ -6,6 +6,7 @@ use crate::oracle::{self, Answer, Aside};
 use plain::case::{Case, Number};
 use plain::form::PLAN_LIMIT;
 use plain::hex::from_hex;
+use plain::policy::EXTRA_COLUMNS;
 use std::collections::BTreeMap;
 
 #[derive(Default)]
@@ -16,15 +17,25 @@ pub struct Outcome {
     pub differed: Vec<String>,
 }
 
+/// The files whose policy words have no bit for extra top columns.
+const BEFORE_EXTRA_COLUMNS: [&str; 3] = ["base.jsonl", "L01.jsonl", "L02.jsonl"];
+
 /// Runs the builds of a file's text; other lines are passed over.
-pub fn run(text: &str) -> Outcome {
+pub fn run(path: &str, text: &str) -> Outcome {
+    let name = path.rsplit('/').next().unwrap_or(path);
+    let on = match BEFORE_EXTRA_COLUMNS.contains(&name) {
+        true => EXTRA_COLUMNS,
+        false => 0,
+    };
     let mut outcome = Outcome::default();
     for line in text.lines() {
         let json = json::read(line).unwrap_or_else(|| panic!("not a vector: {line}"));
         if !json.text("op").is_some_and(|op| op.starts_with("build_")) {
             continue;
         }
-        let (case, buffer, stored) = vector(&json).unwrap_or_else(|| panic!("not a build: {line}"));
+        let (mut case, buffer, stored) =
+            vector(&json).unwrap_or_else(|| panic!("not a build: {line}"));
+        case.policy |= on;
         one(&mut outcome, &case, buffer, &stored);
     }
     outcome
@@ -88,9 +99,14 @@ fn one(outcome: &mut Outcome, case: &Case, buffer: usize, stored: &Answer) {
                 (Aside::Version, Answer::Refused { number, .. }) => *number == 10,
                 (Aside::Space, Answer::Refused { number, .. }) => *number == 27,
                 (Aside::Version | Aside::Space, Answer::Plan(_)) => false,
-                (Aside::Text | Aside::MissingTop | Aside::StructDefault | Aside::Widening, _) => {
-                    true
-                }
+                (
+                    Aside::Text
+                    | Aside::MissingTop
+                    | Aside::StructDefault
+                    | Aside::Widening
+                    | Aside::ExtraColumns,
+                    _,
+                ) => true,
             };
             let reason = match aside {
                 Aside::Unreadable { .. } => "a layout or the table can't be read".to_owned(),

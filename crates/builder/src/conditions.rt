@@ -68,11 +68,10 @@ pub fn needs_rename(v: Version, incoming: &[u8], l: Label, target: &[u8], m: Lab
     }
 }
 
-pub fn ignores(policy: Policy) -> bool
-    ensures { λ r. ⌜ r ≡ ignoresExtra (policy .«extra_struct_fields») ⌝ }
+pub fn ignores(p: ExtraColumnsPolicy) -> bool
+    ensures { λ r. ⌜ r ≡ ignoresExtra p ⌝ }
 {
-    let extra = policy.extra_struct_fields;
-    match extra {
+    match p {
         ExtraColumnsPolicy::Ignore => true,
         ExtraColumnsPolicy::Raise => false,
     }
@@ -109,7 +108,8 @@ pub fn struct_fault(
     if !distinct(incoming, v, depth, n, c) {
         return 12;
     }
-    if ignores(policy) {
+    let extra = policy.extra_struct_fields;
+    if ignores(extra) {
         return 0;
     }
     if no_extra(v, depth, incoming, n, c, target, m, b) {

@@ -39,15 +39,16 @@ use Rattle.plan.specs.Selector.{Selector, Selectors, snil, scons, countSelector
 use Rattle.plan.specs.Encode.{encodeSelectors, encodePlan}
 use Rattle.plan.specs.Read.{longestPlan}
 use Rattle.matching.specs.Default.{Defaults, noDefaults}
-use Rattle.matching.specs.Build.{buildFrom, build}
+use Rattle.matching.specs.Build.{extraColumns, buildFrom, build}
 use Rattle.plan.specs.Calls.{readAt, writeResult, bufferAfter}
 use Rattle.matching.specs.Calls.{sameVersion, ofVersion, bothLayouts, roomFor, writtenPlan, buildByName, buildByNumber}
 use Rattle.matching.proofs.Calls.{of-version}
-use Rattle.calls.specs.Answers.{BothAt, BothIs, columnsMade, WroteColumns, MakesColumns, planHead, written, LongerThan, Attempted}
+use Rattle.calls.specs.Answers.{BothAt, BothIs, extraAnswer, columnsMade, WroteColumns, MakesColumns, planHead, written, LongerThan, Attempted}
 use Rattle.calls.specs.declared.write.Attempt.{Attempt}
 use Rattle.plan.specs.declared.answer.WriteResult.{WriteResult}
 use Rattle.calls.specs.declared.layouts.BothRead.{BothRead}
 use Rattle.calls.specs.declared.columns.ColumnsMade.{ColumnsMade}
+use Rattle.calls.specs.declared.extra.ExtraColumn.{ExtraColumn}
 
 -- ---- the two layouts
 
@@ -254,6 +255,25 @@ pub plan-again : (X : Answer Selectors) {plan same : Bytes} {y : WriteResult} {o
     → (y ≡ writeResult (answered X (writtenPlan (length same)))) × (o ≡ bufferAfter (answered X (writtenPlan (length same))) same)
     → (y ≡ writeResult (answered X (writtenPlan (length plan)))) × (o ≡ bufferAfter (answered X (writtenPlan (length plan))) plan)
 plan-again X {y = y} {o = o} e h = subst (λ (p : Bytes). (y ≡ writeResult (answered X (writtenPlan (length p)))) × (o ≡ bufferAfter (answered X (writtenPlan (length p))) p)) e h
+
+-- ---- 53, and what a build is after it
+
+module _ (v : Version) (p : Policy) (d : Defaults) (fs gs : Columns) {x : ExtraColumn} (e : extraAnswer x ≡ extraColumns (p .«extra_columns») v fs gs) where
+  pub build-extra : {i : ℕ} → x ≡ ExtraColumn.At i → build v p d fs gs ≡ refusedAt 53 i
+  unfolding build answered
+  build-extra h = ap (λ (a : Answer (Unit {0})). answered a (λ u. buildFrom v p d gs fs 0)) (sym e ∙ ap extraAnswer h)
+
+  pub build-plain : x ≡ ExtraColumn.Nothing → build v p d fs gs ≡ buildFrom v p d gs fs 0
+  unfolding build answered
+  build-plain h = ap (λ (a : Answer (Unit {0})). answered a (λ u. buildFrom v p d gs fs 0)) (sym e ∙ ap extraAnswer h)
+
+-- a refusal of the columns is one of the plan
+pub answered-refused : {X : Answer Selectors} {n k : ℕ} (room : ℕ) → X ≡ refusedAt n k → answered X (writtenPlan room) ≡ refusedAt n k
+unfolding answered
+answered-refused room h = rw h
+
+pub answered-as : {X Y : Answer Selectors} (room : ℕ) → X ≡ Y → answered X (writtenPlan room) ≡ answered Y (writtenPlan room)
+answered-as room h = ap (λ (x : Answer Selectors). answered x (writtenPlan room)) h
 
 -- ---- the calls
 

@@ -23,6 +23,7 @@ use Rattle.builder.specs.declared.answer.Made.{Made}
 use Rattle.builder.specs.declared.default.DefaultFieldValues.{DefaultFieldValues}
 use Rattle.calls.specs.declared.write.Attempt.{Attempt}
 use Rattle.calls.specs.declared.columns.ColumnsMade.{ColumnsMade}
+use Rattle.calls.specs.declared.extra.ExtraColumn.{ExtraColumn}
 use Rattle.calls.specs.declared.layouts.BothRead.{BothRead}
 
 -- ---- the two layouts
@@ -38,6 +39,13 @@ pub record BothAt (v : Version) (incoming target : Bytes) (n : ℕ) (c : Cursor)
 abbrev pub BothIs : Version → Bytes → Bytes → BothRead → Type 0
 BothIs v incoming target (BothRead.Read n c m b) = BothAt v incoming target n c m b
 BothIs v incoming target (BothRead.Refused n k) = (f : Columns → Columns → Answer Bytes) → bothLayouts v incoming target f ≡ refusedAt n k
+
+-- ---- extra columns
+
+-- "53 for such a column .., its place being the incoming position"
+abbrev pub extraAnswer : ExtraColumn → Answer (Unit {0})
+extraAnswer (ExtraColumn.At k) = refusedAt 53 k
+extraAnswer ExtraColumn.Nothing = accepted tt
 
 -- ---- the selectors of the target columns
 

@@ -8,13 +8,15 @@ ghost use Rattle.layout.specs.Layout.{deepest};
 ghost use Rattle.layout.specs.Stands.{ColumnsAt};
 ghost use Rattle.defaults.specs.Stands.{TableAt};
 ghost use Rattle.plan.specs.Result.{answered};
-ghost use Rattle.matching.specs.Build.{build};
+ghost use Rattle.matching.specs.Build.{buildFrom, build};
 ghost use Rattle.plan.specs.Calls.{bufferAfter, writeResult};
 ghost use Rattle.matching.specs.Calls.{writtenPlan};
 ghost use Rattle.builder.specs.Answers.{DefaultsAt, defaultsAt};
 ghost use Rattle.calls.specs.Answers.{Attempted, LongerThan, planHead, written};
 use crate::columns::ColumnsMade;
 use crate::columns::build_columns;
+use crate::extra::ExtraColumn;
+use crate::extra::extra_column;
 use builder::default::DefaultFieldValues;
 use builder::write::put_short;
 use layout::cursor::Cursor;
@@ -75,7 +77,7 @@ fn build_in(
     requires { ⌜ TableAt (now table) (defaults .count) (defaults .entries .at) ⌝ }
     requires { ⌜ (length (now target) ≤ 16384) × (length (now table) ≤ 16384) × (b .at ≡ 7) ⌝ }
     requires { ⌜ length (now room) ≤ 65536 ⌝ }
-    ensures { λ r. ⌜ ((T : DefaultsAt (now (table .entry)) defaults) (P : ColumnsAt v deepest (now (incoming .entry)) n (c .at)) (Q : ColumnsAt v deepest (now (target .entry)) m (b .at)) → Attempted (LongerThan (length (now (room .entry))) (build v policy (defaultsAt defaults T) (P .columns) (Q .columns))) (answered (build v policy (defaultsAt defaults T) (P .columns) (Q .columns)) (writtenPlan (length (now (plan .entry))))) (now (plan .entry)) r (now (plan .exit))) ⌝ }
+    ensures { λ r. ⌜ ((T : DefaultsAt (now (table .entry)) defaults) (P : ColumnsAt v deepest (now (incoming .entry)) n (c .at)) (Q : ColumnsAt v deepest (now (target .entry)) m (b .at)) → Attempted (LongerThan (length (now (room .entry))) (buildFrom v policy (defaultsAt defaults T) (Q .columns) (P .columns) 0)) (answered (buildFrom v policy (defaultsAt defaults T) (Q .columns) (P .columns) 0) (writtenPlan (length (now (plan .entry))))) (now (plan .entry)) r (now (plan .exit))) ⌝ }
 {
     put_plan_head(room, m);
     match build_columns(
@@ -114,7 +116,7 @@ fn build_small(
     requires { ⌜ ColumnsAt v deepest (now incoming) n (c .at) × ColumnsAt v deepest (now target) m (b .at) ⌝ }
     requires { ⌜ TableAt (now table) (defaults .count) (defaults .entries .at) ⌝ }
     requires { ⌜ (length (now target) ≤ 16384) × (length (now table) ≤ 16384) × (b .at ≡ 7) ⌝ }
-    ensures { λ r. ⌜ ((T : DefaultsAt (now (table .entry)) defaults) (P : ColumnsAt v deepest (now (incoming .entry)) n (c .at)) (Q : ColumnsAt v deepest (now (target .entry)) m (b .at)) → Attempted (LongerThan 4096 (build v policy (defaultsAt defaults T) (P .columns) (Q .columns))) (answered (build v policy (defaultsAt defaults T) (P .columns) (Q .columns)) (writtenPlan (length (now (plan .entry))))) (now (plan .entry)) r (now (plan .exit))) ⌝ }
+    ensures { λ r. ⌜ ((T : DefaultsAt (now (table .entry)) defaults) (P : ColumnsAt v deepest (now (incoming .entry)) n (c .at)) (Q : ColumnsAt v deepest (now (target .entry)) m (b .at)) → Attempted (LongerThan 4096 (buildFrom v policy (defaultsAt defaults T) (Q .columns) (P .columns) 0)) (answered (buildFrom v policy (defaultsAt defaults T) (Q .columns) (P .columns) 0) (writtenPlan (length (now (plan .entry))))) (now (plan .entry)) r (now (plan .exit))) ⌝ }
 {
     let mut room = [0u8; 4096];
     build_in(
@@ -150,7 +152,7 @@ fn build_large(
     requires { ⌜ ColumnsAt v deepest (now incoming) n (c .at) × ColumnsAt v deepest (now target) m (b .at) ⌝ }
     requires { ⌜ TableAt (now table) (defaults .count) (defaults .entries .at) ⌝ }
     requires { ⌜ (length (now target) ≤ 16384) × (length (now table) ≤ 16384) × (b .at ≡ 7) ⌝ }
-    ensures { λ r. ⌜ ((T : DefaultsAt (now (table .entry)) defaults) (P : ColumnsAt v deepest (now (incoming .entry)) n (c .at)) (Q : ColumnsAt v deepest (now (target .entry)) m (b .at)) → (r ≡ writeResult (answered (build v policy (defaultsAt defaults T) (P .columns) (Q .columns)) (writtenPlan (length (now (plan .entry)))))) × (now (plan .exit) ≡ bufferAfter (answered (build v policy (defaultsAt defaults T) (P .columns) (Q .columns)) (writtenPlan (length (now (plan .entry))))) (now (plan .entry)))) ⌝ }
+    ensures { λ r. ⌜ ((T : DefaultsAt (now (table .entry)) defaults) (P : ColumnsAt v deepest (now (incoming .entry)) n (c .at)) (Q : ColumnsAt v deepest (now (target .entry)) m (b .at)) → (r ≡ writeResult (answered (buildFrom v policy (defaultsAt defaults T) (Q .columns) (P .columns) 0) (writtenPlan (length (now (plan .entry)))))) × (now (plan .exit) ≡ bufferAfter (answered (buildFrom v policy (defaultsAt defaults T) (Q .columns) (P .columns) 0) (writtenPlan (length (now (plan .entry))))) (now (plan .entry)))) ⌝ }
 {
     let mut room = [0u8; 65536];
     match build_in(
@@ -172,8 +174,8 @@ fn build_large(
     }
 }
 
-// The plan between two layouts that were read. For a small target the small room is tried first, and the large one where that was too short.
-pub fn build_plan(
+// The plan between two layouts that were read, once 53 was tested. For a small target the small room is tried first, and the large one where that was too short.
+fn build_matched(
     policy: Policy,
     v: Version,
     incoming: &[u8],
@@ -189,7 +191,7 @@ pub fn build_plan(
     requires { ⌜ ColumnsAt v deepest (now incoming) n (c .at) × ColumnsAt v deepest (now target) m (b .at) ⌝ }
     requires { ⌜ TableAt (now table) (defaults .count) (defaults .entries .at) ⌝ }
     requires { ⌜ (length (now target) ≤ 16384) × (length (now table) ≤ 16384) × (b .at ≡ 7) ⌝ }
-    ensures { λ r. ⌜ ((T : DefaultsAt (now (table .entry)) defaults) (P : ColumnsAt v deepest (now (incoming .entry)) n (c .at)) (Q : ColumnsAt v deepest (now (target .entry)) m (b .at)) → (r ≡ writeResult (answered (build v policy (defaultsAt defaults T) (P .columns) (Q .columns)) (writtenPlan (length (now (plan .entry)))))) × (now (plan .exit) ≡ bufferAfter (answered (build v policy (defaultsAt defaults T) (P .columns) (Q .columns)) (writtenPlan (length (now (plan .entry))))) (now (plan .entry)))) ⌝ }
+    ensures { λ r. ⌜ ((T : DefaultsAt (now (table .entry)) defaults) (P : ColumnsAt v deepest (now (incoming .entry)) n (c .at)) (Q : ColumnsAt v deepest (now (target .entry)) m (b .at)) → (r ≡ writeResult (answered (buildFrom v policy (defaultsAt defaults T) (Q .columns) (P .columns) 0) (writtenPlan (length (now (plan .entry)))))) × (now (plan .exit) ≡ bufferAfter (answered (buildFrom v policy (defaultsAt defaults T) (Q .columns) (P .columns) 0) (writtenPlan (length (now (plan .entry))))) (now (plan .entry)))) ⌝ }
 {
     if target.len() <= 1024 {
         if let Attempt::Answer(r) = build_small(
@@ -221,4 +223,42 @@ pub fn build_plan(
         b,
         plan,
     )
+}
+
+// The plan between two layouts that were read: 53 is tested before the first target column.
+pub fn build_plan(
+    policy: Policy,
+    v: Version,
+    incoming: &[u8],
+    n: u16,
+    c: Cursor,
+    table: &[u8],
+    defaults: DefaultFieldValues,
+    target: &[u8],
+    m: u16,
+    b: Cursor,
+    plan: &mut [u8],
+) -> WriteResult
+    requires { ⌜ ColumnsAt v deepest (now incoming) n (c .at) × ColumnsAt v deepest (now target) m (b .at) ⌝ }
+    requires { ⌜ TableAt (now table) (defaults .count) (defaults .entries .at) ⌝ }
+    requires { ⌜ (length (now target) ≤ 16384) × (length (now table) ≤ 16384) × (b .at ≡ 7) ⌝ }
+    ensures { λ r. ⌜ ((T : DefaultsAt (now (table .entry)) defaults) (P : ColumnsAt v deepest (now (incoming .entry)) n (c .at)) (Q : ColumnsAt v deepest (now (target .entry)) m (b .at)) → (r ≡ writeResult (answered (build v policy (defaultsAt defaults T) (P .columns) (Q .columns)) (writtenPlan (length (now (plan .entry)))))) × (now (plan .exit) ≡ bufferAfter (answered (build v policy (defaultsAt defaults T) (P .columns) (Q .columns)) (writtenPlan (length (now (plan .entry))))) (now (plan .entry)))) ⌝ }
+{
+    let extra = policy.extra_columns;
+    match extra_column(extra, v, incoming, n, c, target, m, b) {
+        ExtraColumn::At(i) => WriteResult::Refused(53, i),
+        ExtraColumn::Nothing => build_matched(
+            policy,
+            v,
+            incoming,
+            n,
+            c,
+            table,
+            defaults,
+            target,
+            m,
+            b,
+            plan,
+        ),
+    }
 }

@@ -2,6 +2,7 @@
 use Prim.Native.Nat.{ℕ}
 use mathlib.Core.Path.{_≡_, refl, sym, ap, _∙_}
 use mathlib.Core.Bool.{Bool, true, false, _&&_}
+use mathlib.Core.List.{List}
 use native.Mathlib.Omega.{arith}
 use Rattle.layout.specs.Bytes.{Bytes, AllBytes}
 use Rattle.layout.specs.Parser.{Res, refuse, ok}
@@ -22,15 +23,16 @@ use Rattle.matching.specs.Default.{Defaults, noDefaults}
 use Rattle.matching.specs.Build.{build}
 use Rattle.matching.specs.Calls.{sameVersion, ofVersion, bothLayouts, roomFor, writtenPlan, buildByName, buildByNumber}
 use Rattle.matching.specs.Due.{dues}
-use Rattle.defaults.specs.Table.{table}
+use Rattle.defaults.specs.Table.{Entry, table}
 use Rattle.defaults.specs.Lookup.{getDefaultValue}
 use Rattle.rules.specs.declared.policy.Policy.{Policy}
 use Rattle.layout.specs.declared.version.Version.{Version}
 use Rattle.layout.specs.declared.version.Version.the-variants.{ByName, ByNumber}
 use Rattle.values.proofs.Round.{record-back}
-use Rattle.demands.specs.Refusals.{isIn, columnRefusals}
+use Rattle.demands.specs.Refusals.{isIn, layoutRefusals, tableRefusals, extraRefusals, columnRefusals}
 use Rattle.demands.specs.Stated.{FitsLayout, LayoutOf, columnsOf, PlanTooLong, NumberTooLong}
-use Rattle.demands.proofs.Refusing.{Answers, in-accepted, in-refusedAt, ColumnRefusal}
+use Rattle.demands.proofs.Parsers.{layout-in, table-in}
+use Rattle.demands.proofs.Refusing.{RefusesIn, refused-in, Answers, in-accepted, in-refusedAt, BuildRefusal, by-extra, by-column}
 use Rattle.demands.proofs.Numbers.{DefaultsIn, none-in, lookup-in, build-in}
 use Rattle.demands.proofs.Passed.{ok-eq, number-eq}
 
@@ -61,9 +63,6 @@ module _ {v : Version} {p : Policy} {d : Defaults} {incoming target bytes rec : 
     unfolding run
     built-due = rw (run-is room, B .due (F .values) record-fits, ← from-eq, ← to-eq)
 
-place-eq : {A : Type 0} {m n j k : ℕ} → _≡_ {A = Answer A} (refusedAt m j) (refusedAt n k) → j ≡ k
-place-eq e = cc
-
 written-fits : (space : ℕ) (ss : Selectors) → roomFor space (encodePlan ss) ≡ true → writtenPlan space ss ≡ accepted (encodePlan ss)
 unfolding writtenPlan placed demand
 written-fits space ss q = rw q
@@ -79,41 +78,56 @@ written-long space ss e = go (roomFor space (encodePlan ss)) refl
     go true q = let w = written-fits space ss q in clash (cc)
     go false q = q
 
--- no column is refused with 27
+-- no column is refused with 27, extra or not
+no-extra : isIn 27 extraRefusals ≡ false
+unfolding isIn
+no-extra = refl
+
 no-column : (v : Version) → isIn 27 (columnRefusals v) ≡ false
 unfolding isIn
 no-column ByName = refl
 no-column ByNumber = refl
 
-built-long : (v : Version) (space : ℕ) {count : ℕ} {x : Answer Selectors} → Answers (λ ss. Unit {0}) (ColumnRefusal (columnRefusals v) count) x
+not-long : {v : Version} {incoming columns n k : ℕ} → BuildRefusal v incoming columns n k → n ≡ 27 → ⊥
+not-long (by-extra R) e = true≠false (ap (λ (m : ℕ). isIn m extraRefusals) (sym e) ∙ R .among) no-extra
+not-long {v = v} (by-column R) e = true≠false (ap (λ (m : ℕ). isIn m (columnRefusals v)) (sym e) ∙ R .among) (no-column v)
+
+built-long : (v : Version) (space : ℕ) {incoming columns : ℕ} {x : Answer Selectors} → Answers (λ ss. Unit {0}) (BuildRefusal v incoming columns) x
     → answered x (λ ss. writtenPlan space ss) ≡ refusedAt 27 0 → (ss : Selectors) × (x ≡ accepted ss) × (roomFor space (encodePlan ss) ≡ false)
 unfolding answered
 built-long v space (in-accepted {a = ss} u) e = (ss, refl, written-long space ss e)
-built-long v space (in-refusedAt R) e = true≠false (ap (λ (m : ℕ). isIn m (columnRefusals v)) (sym (number-eq e)) ∙ R .among) (no-column v)
+built-long v space (in-refusedAt R) e = absurd (not-long R (number-eq e))
 
--- a result that was read, where the refusals of reading have another place than 0
-read-past : {A B : Type 0} (k : ℕ) (r : Res A) (f : A → Answer B) {n : ℕ} → (k ≡ 0 → ⊥) → readAt k r f ≡ refusedAt n 0 → (a : A) × (m : ℕ) × (r ≡ ok a m) × (f a ≡ refusedAt n 0)
+-- a result that was read, where reading does not refuse with the number n
+read-past : {A B : Type 0} (i : ℕ) (r : Res A) (f : A → Answer B) {ns : List ℕ} {n k : ℕ} → RefusesIn ns r → isIn n ns ≡ false → readAt i r f ≡ refusedAt n k
+    → (a : A) × (m : ℕ) × (r ≡ ok a m) × (f a ≡ refusedAt n k)
 unfolding readAt
-read-past k (refuse n) f h e = absurd (h (place-eq e))
-read-past k (ok a m) f h e = (a, m, refl, e)
+read-past i (refuse m) f o h e = true≠false (refused-in o (ap refuse (number-eq e))) h
+read-past i (ok a m) f o h e = (a, m, refl, e)
 
-version-past : {A : Type 0} (b : Bool) (f : Answer A) → placed 0 (demand b 10 (gives tt)) (λ (x : Unit {0}). f) ≡ refusedAt 27 0 → (b ≡ true) × (f ≡ refusedAt 27 0)
+version-past : {A : Type 0} (b : Bool) (f : Answer A) {n k : ℕ} → (10 ≡ n → ⊥) → placed 0 (demand b 10 (gives tt)) (λ (x : Unit {0}). f) ≡ refusedAt n k
+    → (b ≡ true) × (f ≡ refusedAt n k)
 unfolding placed demand
-version-past true f e = (refl, e)
-version-past false f e = absurd (omega (arith, number-eq e))
+version-past true f h e = (refl, e)
+version-past false f h e = absurd (h (number-eq e))
+
+-- the layouts, where the answer is no refusal of reading them, nor 10
+pub layouts-past : (v : Version) (incoming target : Bytes) (f : Columns → Columns → Answer Bytes) {n k : ℕ} → isIn n layoutRefusals ≡ false → (10 ≡ n → ⊥)
+    → bothLayouts v incoming target f ≡ refusedAt n k
+    → (a : Columns) × (b : Columns) × (i : ℕ) × (j : ℕ) × (layout incoming ≡ ok (record { version = v; columns = a }) i) × (layout target ≡ ok (record { version = v; columns = b }) j) × (f a b ≡ refusedAt n k)
+unfolding bothLayouts ofVersion
+layouts-past v incoming target f h g e =
+    let (x, m, q, e) = read-past 1 (layout incoming) _ (layout-in incoming) h e in
+    let (y, n, r, e) = read-past 2 (layout target) _ (layout-in target) h e in
+    let (c, e) = version-past (sameVersion v (x .version) && sameVersion v (y .version)) (f (x .columns) (y .columns)) g e in
+    let (c, d) = both (sameVersion v (x .version)) c in
+    (x .columns, y .columns, m, n, of-version v incoming x q c, of-version v target y r d, e)
+
+pub table-past : (defaults : Bytes) (f : List Entry → Answer Bytes) {n k : ℕ} → isIn n tableRefusals ≡ false → readAt 3 (table defaults) f ≡ refusedAt n k
+    → (es : List Entry) × (m : ℕ) × (table defaults ≡ ok es m) × (f es ≡ refusedAt n k)
+table-past defaults f h e = read-past 3 (table defaults) f (table-in defaults) h e
 
 module _ (v : Version) (p : Policy) (incoming target : Bytes) (space : ℕ) where
-  -- the layouts, where the answer is 27
-  layouts-past : (f : Columns → Columns → Answer Bytes) → bothLayouts v incoming target f ≡ refusedAt 27 0
-      → (a : Columns) × (b : Columns) × (m : ℕ) × (n : ℕ) × (layout incoming ≡ ok (record { version = v; columns = a }) m) × (layout target ≡ ok (record { version = v; columns = b }) n) × (f a b ≡ refusedAt 27 0)
-  unfolding bothLayouts ofVersion
-  layouts-past f e =
-      let (x, m, q, e) = read-past 1 (layout incoming) _ (λ h. omega (arith, h)) e in
-      let (y, n, r, e) = read-past 2 (layout target) _ (λ h. omega (arith, h)) e in
-      let (c, e) = version-past (sameVersion v (x .version) && sameVersion v (y .version)) (f (x .columns) (y .columns)) e in
-      let (c, d) = both (sameVersion v (x .version)) c in
-      (x .columns, y .columns, m, n, of-version v incoming x q c, of-version v target y r d, e)
-
   built-past : (d : Defaults) → DefaultsIn (columnRefusals v) d → (a b : Columns) (m n : ℕ) → layout incoming ≡ ok (record { version = v; columns = a }) m → layout target ≡ ok (record { version = v; columns = b }) n
       → answered (build v p d a b) (λ ss. writtenPlan space ss) ≡ refusedAt 27 0 → PlanTooLong v p d incoming target space
   built-past d o a b m n q r e =
@@ -121,9 +135,9 @@ module _ (v : Version) (p : Policy) (incoming target : Bytes) (space : ℕ) wher
       record { defined = record { from = a; to = b; fromEnd = m; toEnd = n; incomingRead = q; targetRead = r; selectors = ss; built = h }; long = l }
 
 pub by-name-past : (p : Policy) (incoming target : Bytes) (space : ℕ) → buildByName p incoming target space ≡ refusedAt 27 0 → PlanTooLong ByName p noDefaults incoming target space
-unfolding buildByName
+unfolding buildByName isIn
 by-name-past p incoming target space e =
-    let (a, b, m, n, q, r, e) = layouts-past ByName p incoming target space _ e in
+    let (a, b, m, n, q, r, e) = layouts-past ByName incoming target _ refl (λ h. omega (arith, h)) e in
     built-past ByName p incoming target space noDefaults (none-in (columnRefusals ByName)) a b m n q r e
 
 pub by-name-back : (p : Policy) (incoming target : Bytes) (space : ℕ) → PlanTooLong ByName p noDefaults incoming target space → buildByName p incoming target space ≡ refusedAt 27 0
@@ -131,10 +145,10 @@ unfolding buildByName bothLayouts ofVersion readAt placed demand answered
 by-name-back p incoming target space L = rw (L .defined .incomingRead, L .defined .targetRead, L .defined .built, written-exceeds space (L .defined .selectors) (L .long))
 
 pub by-number-past : (p : Policy) (index : ℕ) (incoming target defaults : Bytes) (space : ℕ) → buildByNumber p index incoming target defaults space ≡ refusedAt 27 0 → NumberTooLong p index incoming target defaults space
-unfolding buildByNumber
+unfolding buildByNumber isIn
 by-number-past p index incoming target defaults space e =
-    let (a, b, m, n, q, r, e) = layouts-past ByNumber p incoming target space _ e in
-    let (es, k, t, e) = read-past 3 (table defaults) _ (λ h. omega (arith, h)) e in
+    let (a, b, m, n, q, r, e) = layouts-past ByNumber incoming target _ refl (λ h. omega (arith, h)) e in
+    let (es, k, t, e) = table-past defaults _ refl e in
     record { entries = es; end = k; reads = t; plan = built-past ByNumber p incoming target space (getDefaultValue es index) (lookup-in es index) a b m n q r e }
 
 pub by-number-back : (p : Policy) (index : ℕ) (incoming target defaults : Bytes) (space : ℕ) → NumberTooLong p index incoming target defaults space → buildByNumber p index incoming target defaults space ≡ refusedAt 27 0

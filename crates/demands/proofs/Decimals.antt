@@ -21,7 +21,7 @@ use Rattle.demands.proofs.Table.{on, lay, pln, casting, build, run, int
 
 -- every flag on but decimal_widening
 abbrev off : Policy
-off = policyOf 16383
+off = policyOf 49151
 
 -- a decimal's type
 abbrev digits : ℕ → ℕ → Bytes

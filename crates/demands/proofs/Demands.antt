@@ -28,31 +28,34 @@ use Rattle.values.specs.Fits.{Fits, fit-number, FitsAll}
 use Rattle.values.proofs.Round.{record-back}
 use Rattle.plan.specs.Read.{plan}
 use Rattle.plan.specs.Convert.{convertAs, convert}
-use Rattle.plan.specs.Result.{Answer, accepted, refusedAt}
+use Rattle.plan.specs.Result.{Answer, accepted, refusedAt, answered}
 use Rattle.plan.specs.Selector.{Selector, Selectors}
 use Rattle.plan.specs.Run.{spacious, written}
 use Rattle.plan.specs.Reach.{SelectorAt, ReachesOverflow}
-use Rattle.plan.specs.Calls.{checkPlan, runPlan, bufferAfter}
+use Rattle.plan.specs.Calls.{readAt, checkPlan, runPlan, bufferAfter}
 use Rattle.matching.proofs.Calls.{by-name-built, by-number-built}
 use Rattle.matching.specs.Default.{noDefaults}
-use Rattle.matching.specs.Calls.{buildByName, buildByNumber}
+use Rattle.matching.specs.Build.{buildFrom}
+use Rattle.matching.specs.Calls.{bothLayouts, writtenPlan, buildByName, buildByNumber}
 use Rattle.matching.specs.Due.{dues}
 use Rattle.matching.specs.Untouched.{Untouched, EqualType}
 use Rattle.matching.proofs.Theorems.{build-untouched}
 use Rattle.defaults.specs.Table.{Entry, table}
 use Rattle.defaults.specs.Lookup.{getDefaultValue}
 use Rattle.rules.specs.declared.policy.Policy.{Policy}
+use Rattle.rules.specs.declared.policy.ExtraColumnsPolicy.the-variants.{Ignore}
 use Rattle.layout.specs.Find.{at, columnAt}
 use Rattle.layout.specs.declared.columns.Position.{Position}
 use Rattle.layout.specs.declared.version.Version.the-variants.{ByName, ByNumber}
 use Rattle.demands.specs.Refusals.{isIn, tableRefusals, Call, readingLayout, building, checkingPlan, running, placeOf}
 use Rattle.demands.specs.Refusals.{refusalIn, Refusal, Placed, readLayout, layoutsRead, tableRead, columnCount, selectorCount}
-use Rattle.demands.specs.Stated.{FitsLayout, SelectorsOf, LayoutOf, columnsOf, output, Running, PlanTooLong, NumberTooLong}
+use Rattle.demands.specs.Stated.{FitsLayout, SelectorsOf, LayoutOf, columnsOf, output, Running, PlanTooLong, NumberTooLong, ExtraColumn, NumberExtraColumn}
 use Rattle.demands.proofs.Refusing.{refused-in, refused-as}
 use Rattle.demands.proofs.Parsers.{table-in, plan-in}
 use Rattle.demands.proofs.Refusals.{read-layout-in, by-name-in, by-number-in, check-plan-in, run-plan-in, refusal-placed}
 use Rattle.demands.proofs.Passed.{passed-runs, exceeds-exactly, ok-eq}
 use Rattle.demands.proofs.Built.{built-passes, built-due, by-name-past, by-name-back, by-number-past, by-number-back}
+use Rattle.demands.proofs.Extra.{by-name-raised, by-name-raises, name-ignoring, by-number-raised, by-number-raises, number-ignoring}
 
 -- ---- Demand 1: "No input, however broken, stops a call, and nothing is written by a refused one: it returns its number from document 01 and every lent buffer is unchanged."
 -- A call's contract (crate selector) has no `requires`, and gives its answer and its buffer at exit by these definitions for all bytes; `bufferAfter` is what stands in the buffer.
@@ -66,33 +69,33 @@ accepted-written result buffer = refl
 
 -- "It returns its number from document 01": a refused call's number is in the call's list (`refusalsOf`) and never 0, and it is met at k: of 1 to 6 and 50
 -- the first layout or table that is refused, which is refused with this number; of 11 to 26, 28 and 51 a position below the number of the target's columns, of
--- 31 and 32 below that of the plan's top selectors; of all others 0 (`Refusal`, specs/Refusals.antt).
+-- 31 and 32 below that of the plan's top selectors; of 53 below the number of the incoming columns; of all others 0 (`Refusal`, specs/Refusals.antt).
 
-pub read-layout-refused : (s : Bytes) {n k : ℕ} → readLayout s ≡ refusedAt n k → Refusal readingLayout (refusalIn (layout s) ∷ []) 0 n k
+pub read-layout-refused : (s : Bytes) {n k : ℕ} → readLayout s ≡ refusedAt n k → Refusal readingLayout (refusalIn (layout s) ∷ []) 0 0 n k
 read-layout-refused s e = refused-as (read-layout-in s) e
 
 module _ (p : Policy) (incoming target : Bytes) (space : ℕ) where
   pub by-name-refused : {n k : ℕ} → buildByName p incoming target space ≡ refusedAt n k
-      → Refusal (building ByName) (layoutsRead incoming target []) (columnCount target) n k
+      → Refusal (building ByName) (layoutsRead incoming target []) (columnCount incoming) (columnCount target) n k
   by-name-refused e = refused-as (by-name-in p incoming target space) e
 
 module _ (p : Policy) (index : ℕ) (incoming target defaults : Bytes) (space : ℕ) where
   pub by-number-refused : {n k : ℕ} → buildByNumber p index incoming target defaults space ≡ refusedAt n k
-      → Refusal (building ByNumber) (layoutsRead incoming target (tableRead defaults)) (columnCount target) n k
+      → Refusal (building ByNumber) (layoutsRead incoming target (tableRead defaults)) (columnCount incoming) (columnCount target) n k
   by-number-refused e = refused-as (by-number-in p index incoming target defaults space) e
 
 module _ (incoming target bytes : Bytes) where
   pub check-refused : {n k : ℕ} → checkPlan incoming target bytes ≡ refusedAt n k
-      → Refusal checkingPlan (layoutsRead incoming target []) (selectorCount bytes) n k
+      → Refusal checkingPlan (layoutsRead incoming target []) 0 (selectorCount bytes) n k
   check-refused e = refused-as (check-plan-in incoming target bytes) e
 
   pub run-refused : (rec : Bytes) (room : ℕ) {n k : ℕ} → runPlan incoming target bytes rec room ≡ refusedAt n k
-      → Refusal running (layoutsRead incoming target []) (selectorCount bytes) n k
+      → Refusal running (layoutsRead incoming target []) 0 (selectorCount bytes) n k
   run-refused rec room e = refused-as (run-plan-in incoming target bytes rec room) e
 
 -- The place of a refusal is the one that goes with its number: `placeOf n k` is k where the number has a place, and of all others, 50, 51 and 52 among them,
 -- 0 (`Placed`). How number and place are read out of the word that a call returns stands in crate selector, proofs/Decoded.antt.
-pub refused-placed : {c : Call} {things : List ℕ} {columns n k : ℕ} → Refusal c things columns n k → Placed things columns n (placeOf n k)
+pub refused-placed : {c : Call} {things : List ℕ} {incoming columns n k : ℕ} → Refusal c things incoming columns n k → Placed things incoming columns n (placeOf n k)
 refused-placed R = refusal-placed R
 
 -- ---- Demand 3: "For every plan that passes the check from one layout to another, and every record that fits the first: the run refuses with 44 exactly when a strict cast that it
@@ -210,3 +213,26 @@ table-refused defaults e = refused-in (table-in defaults) e
 
 pub plan-refused : (bytes : Bytes) {n : ℕ} → plan bytes ≡ refuse n → isIn n (30 ∷ []) ≡ true
 plan-refused bytes e = refused-in (plan-in bytes) e
+
+-- ---- Document 02, L3, "Strict top columns": "the first incoming column with no target counterpart refuses the build", "53 for such a column, tested after the
+-- defaults are read and before the first target column, its place being the incoming position". 53 holds exactly where the layouts are read and of the build's version,
+-- by number the table too, a column is extra under Raise, and the place is the first one's position (`ExtraColumn`, specs/Stated.antt).
+
+module _ (p : Policy) (incoming target : Bytes) (space : ℕ) where
+  pub by-name-extra : {k : ℕ} → (buildByName p incoming target space ≡ refusedAt 53 k) ↔ ExtraColumn ByName p incoming target k
+  by-name-extra = (λ e. by-name-raised p incoming target space e, λ E. by-name-raises p incoming target space E)
+
+  -- "Ignore is as before": every answer is what it was, without the test
+  pub by-name-ignoring : p .«extra_columns» ≡ Ignore
+      → buildByName p incoming target space ≡ bothLayouts ByName incoming target (λ a b. answered (buildFrom ByName p noDefaults b a 0) (λ ss. writtenPlan space ss))
+  by-name-ignoring h = name-ignoring p incoming target space h
+
+module _ (p : Policy) (index : ℕ) (incoming target defaults : Bytes) (space : ℕ) where
+  pub by-number-extra : {k : ℕ} → (buildByNumber p index incoming target defaults space ≡ refusedAt 53 k) ↔ NumberExtraColumn p incoming target defaults k
+  by-number-extra = (λ e. by-number-raised p index incoming target defaults space e, λ E. by-number-raises p index incoming target defaults space E)
+
+  pub by-number-ignoring : p .«extra_columns» ≡ Ignore
+      → buildByNumber p index incoming target defaults space
+      ≡ bothLayouts ByNumber incoming target (λ a b. readAt 3 (table defaults) (λ es.
+      answered (buildFrom ByNumber p (getDefaultValue es index) b a 0) (λ ss. writtenPlan space ss)))
+  by-number-ignoring h = number-ignoring p index incoming target defaults space h

@@ -5,7 +5,10 @@ pub mod Selectors
 pub mod Refusals
 pub mod Passed
 pub mod Built
+pub mod Extra
 pub mod Demands
 pub mod Table
 pub mod Decimals
+pub mod Loosened
+pub mod Loosenings
 pub mod Projected

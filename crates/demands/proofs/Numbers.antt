@@ -9,12 +9,14 @@ use lib.Dec.{leb}
 use borrow.Author.Tests.{leb-true}
 use Rattle.layout.specs.Parser.{choose}
 use Rattle.layout.specs.Tree.{LeafType, leafOf, zoneOf, Label, ColumnType, cleaf, cstruct, clist, carray, Columns, cnil, ccons, countColumns}
-use Rattle.layout.specs.Find.{Lookup, absent, at}
+use Rattle.layout.specs.Find.{Lookup, absent, at, counterpart}
 use Rattle.layout.specs.declared.columns.FieldId.{FieldId}
 use Rattle.layout.specs.declared.columns.Position.{Position}
 use Rattle.layout.specs.declared.version.Version.{Version}
 use Rattle.layout.specs.declared.version.Version.the-variants.{ByName, ByNumber}
 use Rattle.rules.specs.declared.policy.Policy.{Policy}
+use Rattle.rules.specs.declared.policy.ExtraColumnsPolicy.{ExtraColumnsPolicy}
+use Rattle.rules.specs.declared.policy.ExtraColumnsPolicy.the-variants.{Ignore, Raise}
 use Rattle.rules.specs.declared.outcome.CastOption.{CastOption}
 use Rattle.rules.specs.Choice.{if_then_else_}
 use Rattle.rules.specs.Outcomes.{Verdict, untouched, refused, cast, need}
@@ -24,7 +26,7 @@ use Rattle.rules.specs.Promotion.{holds}
 use Rattle.rules.specs.Chain.{sameType, wider, unitAllowed, chain}
 use Rattle.rules.specs.Pairs.{pairRule}
 use Rattle.values.specs.Value.{Value, Values, vnil, vcons}
-use Rattle.plan.specs.Result.{Result, gives, refuses, demand, accepted, placed}
+use Rattle.plan.specs.Result.{Result, gives, refuses, demand, Answer, accepted, refusedAt, placed}
 use Rattle.plan.specs.Selector.{Selector, Selectors}
 use Rattle.plan.specs.Encode.{encodePlan}
 use Rattle.plan.specs.Read.{longestPlan}
@@ -32,10 +34,10 @@ use Rattle.plan.proofs.Results.{both}
 use Rattle.defaults.specs.Table.{Given, initial, partition, failed, Entry}
 use Rattle.defaults.specs.Lookup.{Taken, refused as refusedTaken, nothing, taken, isNullValue, unlessNull, ofSource, givenTo, firstEntry, isPartitionOf, isInitialOf, getDefaultValue}
 use Rattle.matching.specs.Default.{Defaults, noDefaults, leafDefault, buildIcebergDefaultValue, defaultsOf, missingValue}
-use Rattle.matching.specs.Build.{leafPart, structPart, listPart, arrayPart, unlessNullType, sameElement, distinct, distinctNames, missing, ruled, sought, attachTransforms, attachFields, buildColumnSelector, buildFrom, build}
+use Rattle.matching.specs.Build.{leafPart, structPart, listPart, arrayPart, unlessNullType, sameElement, distinct, distinctNames, missing, ruled, sought, attachTransforms, attachFields, isAbsent, extraColumnErr, extraColumns, buildColumnSelector, buildFrom, build}
 use Rattle.matching.specs.Calls.{roomFor, writtenPlan}
-use Rattle.demands.specs.Refusals.{isIn, pairRefusals, columnRefusals}
-use Rattle.demands.proofs.Refusing.{all, all-in, ResultIn, in-gives, in-refuses, bind-in, demand-in, result-choose-in, Answers, in-accepted, in-refusedAt, placed-in, answered-in, ColumnRefusal}
+use Rattle.demands.specs.Refusals.{isIn, pairRefusals, extraRefusals, columnRefusals}
+use Rattle.demands.proofs.Refusing.{all, all-in, ResultIn, in-gives, in-refuses, bind-in, demand-in, result-choose-in, Answers, in-accepted, in-refusedAt, placed-in, answered-in, answers-as, ColumnRefusal, BuildRefusal, by-extra, by-column}
 
 -- a target column refuses with a number of its list
 abbrev ColumnIn : {A : Type 0} → Version → Result A → Type 0
@@ -219,6 +221,25 @@ unfolding sameElement demand isIn
 element-in ByName a b o = o
 element-in ByNumber a b o = demand-in (sameElement ByNumber a b) 25 refl o
 
+-- ---- extra columns
+
+module _ (v : Version) where
+  extra-from : (fs gs : Columns) (i count : ℕ) → i + countColumns fs ≤ count
+      → Answers (λ x. Unit {0}) (ColumnRefusal extraRefusals count) (extraColumnErr v fs gs i)
+  unfolding extraColumnErr countColumns choose isIn
+  extra-from cnil gs i count h = in-accepted tt
+  extra-from (ccons l t fs) gs i count h = go (isAbsent (counterpart v l gs)) (extra-from fs gs (i + 1) count (omega (arith, h)))
+    where
+      go : (b : Bool) {x : Answer (Unit {0})} → Answers (λ x. Unit {0}) (ColumnRefusal extraRefusals count) x
+          → Answers (λ x. Unit {0}) (ColumnRefusal extraRefusals count) (choose b (refusedAt 53 i) x)
+      go true o = in-refusedAt {k = i} (record { among = refl; place = omega (arith, h) })
+      go false o = o
+
+  extra-in : (e : ExtraColumnsPolicy) (fs gs : Columns) → Answers (λ x. Unit {0}) (ColumnRefusal extraRefusals (countColumns fs)) (extraColumns e v fs gs)
+  unfolding extraColumns
+  extra-in Ignore fs gs = in-accepted tt
+  extra-in Raise fs gs = extra-from fs gs 0 (countColumns fs) (omega arith)
+
 module _ (v : Version) (p : Policy) where
   mutual
     unfolding attachTransforms attachFields isIn
@@ -251,7 +272,7 @@ module _ (v : Version) (p : Policy) where
     unfolding buildColumnSelector isIn
     column-in l u = sought-in v _ (missing-in o _ 11 l u (in-both v 11 refl)) (λ k m t. bind-in (attach-in u d k t o) (λ s. in-gives))
 
-    from-in : (gs : Columns) (i count : ℕ) → i + countColumns gs ≤ count
+    pub from-in : (gs : Columns) (i count : ℕ) → i + countColumns gs ≤ count
         → Answers (λ ss. Unit {0}) (ColumnRefusal (columnRefusals v) count) (buildFrom v p d gs fs i)
     unfolding buildFrom countColumns
     from-in cnil i count h = in-accepted tt
@@ -259,9 +280,11 @@ module _ (v : Version) (p : Policy) where
         placed-in i (column-in l u) (λ n e. record { among = e; place = omega (arith, h) })
         (λ s. answered-in (from-in gs (i + 1) count (omega (arith, h))) (λ n k r. r) (λ ss x. in-accepted tt))
 
-    pub build-in : (to : Columns) → Answers (λ ss. Unit {0}) (ColumnRefusal (columnRefusals v) (countColumns to)) (build v p d fs to)
+    pub build-in : (to : Columns) → Answers (λ ss. Unit {0}) (BuildRefusal v (countColumns fs) (countColumns to)) (build v p d fs to)
     unfolding build
-    build-in to = from-in to 0 (countColumns to) (omega arith)
+    build-in to =
+        answered-in (extra-in v (p .«extra_columns») fs to) (λ n k r. by-extra r) (λ x u.
+        answers-as (from-in to 0 (countColumns to) (omega arith)) (λ n k r. by-column r))
 
 -- 27, and what is written is no longer than a plan may be
 pub plan-written-in : (space : ℕ) (ss : Selectors) {P : ℕ → ℕ → Type 0} → P 27 0 → Answers (λ b. length b ≤ longestPlan) P (writtenPlan space ss)

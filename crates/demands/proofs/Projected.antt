@@ -37,7 +37,7 @@ use Rattle.matching.proofs.Calls.{Built, by-number-built, built-runs}
 use Rattle.iceberg.specs.Specification.{ReadsAll}
 use Rattle.iceberg.specs.Differences.{Differences, outside, ReadsAll′, AllRead, AgreesAll}
 use Rattle.iceberg.specs.Stated.{stated}
-use Rattle.iceberg.specs.Refusals.{RefusesAny}
+use Rattle.iceberg.specs.Refusals.{RefusesBuild}
 use Rattle.iceberg.proofs.Selecting.{null-due}
 use Rattle.iceberg.proofs.Distinct.{DistinctIdsAll, layout-distinct}
 use Rattle.iceberg.proofs.Specified.{all-specified}
@@ -126,7 +126,7 @@ module _ (p : Policy) (index : ℕ) (incoming target defaults rec : Bytes) (oi :
 module _ (p : Policy) (index : ℕ) (incoming target defaults : Bytes) (space : ℕ) where
   long-or-listed : {es : List Entry} {Γ Δ : Columns} {n j : ℕ}
       → answered (build ByNumber p (getDefaultValue es index) Γ Δ) (λ ss. writtenPlan space ss) ≡ refusedAt n j
-      → (n ≡ 27) ⊎ RefusesAny p es outside (p .«missing_columns») 11 n Δ Γ
+      → (n ≡ 27) ⊎ RefusesBuild p es n Δ Γ
   unfolding answered writtenPlan placed demand
   long-or-listed {es} {Γ} {Δ} {n} {j} e = go (build ByNumber p (getDefaultValue es index) Γ Δ) refl e
     where
@@ -135,12 +135,12 @@ module _ (p : Policy) (index : ℕ) (incoming target defaults : Bytes) (space : 
       long false ss e = sym (number-eq e)
 
       go : (x : Answer Selectors) → build ByNumber p (getDefaultValue es index) Γ Δ ≡ x → answered x (λ ss. writtenPlan space ss) ≡ refusedAt n j
-          → (n ≡ 27) ⊎ RefusesAny p es outside (p .«missing_columns») 11 n Δ Γ
+          → (n ≡ 27) ⊎ RefusesBuild p es n Δ Γ
       go (accepted ss) h e = inl (long (roomFor space (encodePlan ss)) ss e)
       go (refusedAt m k) h e = inr (rw (← number-eq e) (build-refused p es index Γ Δ h))
 
   pub by-number-refused : {es : List Entry} {Γ Δ : Columns} {a b e n j : ℕ} → layout incoming ≡ ok (record { version = ByNumber; columns = Γ }) a
       → layout target ≡ ok (record { version = ByNumber; columns = Δ }) b → table defaults ≡ ok es e
-      → buildByNumber p index incoming target defaults space ≡ refusedAt n j → (n ≡ 27) ⊎ RefusesAny p es outside (p .«missing_columns») 11 n Δ Γ
+      → buildByNumber p index incoming target defaults space ≡ refusedAt n j → (n ≡ 27) ⊎ RefusesBuild p es n Δ Γ
   unfolding buildByNumber bothLayouts ofVersion readAt placed demand
   by-number-refused x y z e = long-or-listed (rw (x, y, z) at e)

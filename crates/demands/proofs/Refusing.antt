@@ -11,7 +11,8 @@ use Rattle.values.specs.Record.{renumber}
 use Rattle.plan.specs.Result.{Result, gives, refuses, _>>=_, demand, Answer, accepted, refusedAt, placed, answered}
 use Rattle.plan.specs.Calls.{readAt}
 use Rattle.plan.proofs.Results.{both, true≠false}
-use Rattle.demands.specs.Refusals.{isIn}
+use Rattle.layout.specs.declared.version.Version.{Version}
+use Rattle.demands.specs.Refusals.{isIn, extraRefusals, columnRefusals}
 
 -- ---- lists of numbers
 
@@ -119,7 +120,17 @@ module _ {B : Type 0} {Q : B → Type 0} {P : ℕ → ℕ → Type 0} where
       let r : j ≡ k = cc in
       rw (← q, ← r) p
 
+-- a weaker fact of its refusals
+pub answers-as : {A : Type 0} {S : A → Type 0} {R P : ℕ → ℕ → Type 0} {x : Answer A} → Answers S R x → ((n k : ℕ) → R n k → P n k) → Answers S P x
+answers-as (in-accepted q) h = in-accepted q
+answers-as (in-refusedAt r) h = in-refusedAt (h _ _ r)
+
 -- a refusal of a column: its number is in the list, its place below the count of columns
 pub record ColumnRefusal (ns : List ℕ) (count n k : ℕ) : Type 0 where
   pub among : isIn n ns ≡ true
   pub place : k < count
+
+-- a build's refusal: of an extra column among the incoming ones, or of a target column
+pub data BuildRefusal (v : Version) (incoming columns n k : ℕ) : Type 0 where
+  by-extra : ColumnRefusal extraRefusals incoming n k → BuildRefusal v incoming columns n k
+  by-column : ColumnRefusal (columnRefusals v) columns n k → BuildRefusal v incoming columns n k

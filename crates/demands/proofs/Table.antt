@@ -15,7 +15,7 @@ use Rattle.matching.proofs.Samples.{built}
 
 -- every flag on, Insert and Ignore
 abbrev pub on : Policy
-on = policyOf 32767
+on = policyOf 65535
 
 -- a layout of one column t, and a plan of one selector
 abbrev pub lay : Bytes → Bytes

@@ -40,6 +40,10 @@ abbrev pub columnRefusals : Version → List ℕ
 columnRefusals ByName = 11 ∷ 12 ∷ 13 ∷ 14 ∷ pairRefusals
 columnRefusals ByNumber = 11 ∷ 13 ∷ 14 ∷ (pairRefusals ++ (25 ∷ 26 ∷ 28 ∷ []))
 
+-- L3: "53 for such a column, tested after the defaults are read and before the first target column"
+abbrev pub extraRefusals : List ℕ
+extraRefusals = 53 ∷ []
+
 -- "Checking a plan", after the layouts
 abbrev pub checkRefusals : List ℕ
 checkRefusals = 30 ∷ 31 ∷ 32 ∷ 33 ∷ []
@@ -56,8 +60,8 @@ pub data Call : Type 0 where
 
 abbrev pub refusalsOf : Call → List ℕ
 refusalsOf readingLayout = layoutRefusals
-refusalsOf (building ByName) = layoutRefusals ++ (10 ∷ (columnRefusals ByName ++ (27 ∷ [])))
-refusalsOf (building ByNumber) = layoutRefusals ++ (10 ∷ (tableRefusals ++ (columnRefusals ByNumber ++ (27 ∷ []))))
+refusalsOf (building ByName) = layoutRefusals ++ (10 ∷ (extraRefusals ++ (columnRefusals ByName ++ (27 ∷ []))))
+refusalsOf (building ByNumber) = layoutRefusals ++ (10 ∷ (tableRefusals ++ (extraRefusals ++ (columnRefusals ByNumber ++ (27 ∷ [])))))
 refusalsOf checkingPlan = layoutRefusals ++ checkRefusals
 refusalsOf running = layoutRefusals ++ (checkRefusals ++ (recordRefusals ++ (44 ∷ 45 ∷ [])))
 
@@ -71,14 +75,18 @@ layoutPlaced = 1 ∷ 2 ∷ 3 ∷ 4 ∷ 5 ∷ 6 ∷ []
 abbrev pub columnPlaced : List ℕ
 columnPlaced = 11 ∷ 12 ∷ 13 ∷ 14 ∷ 15 ∷ 16 ∷ 17 ∷ 18 ∷ 19 ∷ 20 ∷ 21 ∷ 22 ∷ 23 ∷ 24 ∷ 25 ∷ 26 ∷ 28 ∷ 31 ∷ 32 ∷ []
 
+-- L3: of 53 "the incoming position"
+abbrev pub incomingPlaced : List ℕ
+incomingPlaced = 53 ∷ []
+
 -- "else 0": the place of a refusal with the number n that is met at k
 abbrev pub hasPlace : ℕ → Bool
-hasPlace n = isIn n layoutPlaced || isIn n columnPlaced
+hasPlace n = isIn n layoutPlaced || (isIn n columnPlaced || isIn n incomingPlaced)
 
 unfoldable pub placeOf : ℕ → ℕ → ℕ
 placeOf n k = choose (hasPlace n) k 0
 
--- what is met at a layout or table, or at a column: the numbers that have its place, and 50 and 51, which have none
+-- what is met at a layout or table, or at a column: the numbers that have its place, and 50 and 51, which have none; 53 alone is met at an incoming column
 abbrev pub layoutMet : List ℕ
 layoutMet = 50 ∷ layoutPlaced
 
@@ -97,20 +105,24 @@ FirstRefused i [] n k = ⊥
 FirstRefused i (zero ∷ ms) n k = FirstRefused (i + 1) ms n k
 FirstRefused i (suc m ∷ ms) n k = (n ≡ suc m) × (k ≡ i)
 
--- The call c refuses with n, met at k. It reads the things in turn, as `FirstRefused` has them. The columns are the
--- target's top columns; in a check or a run, the plan's top selectors.
-pub record Refusal (c : Call) (things : List ℕ) (columns n k : ℕ) : Type 0 where
+-- The call c refuses with n, met at k. It reads the things in turn, as `FirstRefused` has them. Of a build, `incoming` is
+-- the number of the incoming top columns and `columns` that of the target's; in a check or a run `columns` is that of
+-- the plan's top selectors.
+pub record Refusal (c : Call) (things : List ℕ) (incoming columns n k : ℕ) : Type 0 where
   pub listed : isIn n (refusalsOf c) ≡ true
   pub positive : 0 < n
   pub atThing : isIn n layoutMet ≡ true → FirstRefused 1 things n k
   pub atColumn : isIn n columnMet ≡ true → k < columns
-  pub atNone : isIn n layoutMet ≡ false → isIn n columnMet ≡ false → k ≡ 0
+  pub atIncoming : isIn n incomingPlaced ≡ true → k < incoming
+  pub atNone : isIn n layoutMet ≡ false → isIn n columnMet ≡ false → isIn n incomingPlaced ≡ false → k ≡ 0
 
--- Its place: of 1 to 6 the layout or table; of 11 to 26, 28, 31, 32 the column; of all others, 50, 51 and 52 among them, 0.
-pub record Placed (things : List ℕ) (columns n place : ℕ) : Type 0 where
+-- Its place: of 1 to 6 the layout or table; of 11 to 26, 28, 31, 32 the column; of 53 the incoming column; of all others, 50,
+-- 51 and 52 among them, 0.
+pub record Placed (things : List ℕ) (incoming columns n place : ℕ) : Type 0 where
   pub ofThing : isIn n layoutPlaced ≡ true → FirstRefused 1 things n place
   pub ofColumn : isIn n columnPlaced ≡ true → place < columns
-  pub ofOther : isIn n layoutPlaced ≡ false → isIn n columnPlaced ≡ false → place ≡ 0
+  pub ofIncoming : isIn n incomingPlaced ≡ true → place < incoming
+  pub ofOther : isIn n layoutPlaced ≡ false → isIn n columnPlaced ≡ false → isIn n incomingPlaced ≡ false → place ≡ 0
 
 -- ---- what the calls are lent
 

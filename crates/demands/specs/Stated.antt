@@ -11,6 +11,7 @@ use Rattle.layout.specs.Layout.{layout}
 use Rattle.layout.specs.declared.version.Version.{Version}
 use Rattle.layout.specs.declared.version.Version.the-variants.{ByNumber}
 use Rattle.rules.specs.declared.policy.Policy.{Policy}
+use Rattle.rules.specs.declared.policy.ExtraColumnsPolicy.the-variants.{Raise}
 use Rattle.values.specs.Value.{Values}
 use Rattle.values.specs.Encode.{encodeValues}
 use Rattle.values.specs.Record.{recordOf}
@@ -25,6 +26,7 @@ use Rattle.defaults.specs.Table.{Entry, table}
 use Rattle.defaults.specs.Lookup.{getDefaultValue}
 use Rattle.matching.specs.Default.{Defaults}
 use Rattle.matching.specs.Build.{build}
+use Rattle.matching.specs.Extra.{FirstExtra}
 use Rattle.matching.specs.Calls.{roomFor}
 
 -- `FitsLayout lay rec`: rec is "a record that fits" the layout lay: reading it meets none of 40 to 43, and no 52 (L1)
@@ -93,3 +95,23 @@ pub record NumberTooLong (p : Policy) (index : ℕ) (incoming target defaults : 
   pub end : ℕ
   pub reads : table defaults ≡ ok entries end
   pub plan : PlanTooLong ByNumber p (getDefaultValue entries index) incoming target space
+
+-- ---- an extra column (document 02, L3)
+
+-- under Raise; the first incoming column with no target counterpart has the position k
+pub record ExtraColumn (v : Version) (p : Policy) (incoming target : Bytes) (k : ℕ) : Type 0 where
+  pub from : Columns
+  pub to : Columns
+  pub fromEnd : ℕ
+  pub toEnd : ℕ
+  pub incomingRead : layout incoming ≡ ok (record { version = v; columns = from }) fromEnd
+  pub targetRead : layout target ≡ ok (record { version = v; columns = to }) toEnd
+  pub raises : p .«extra_columns» ≡ Raise
+  pub first : FirstExtra v to from 0 k
+
+-- by number, with the table that was read
+pub record NumberExtraColumn (p : Policy) (incoming target defaults : Bytes) (k : ℕ) : Type 0 where
+  pub entries : List Entry
+  pub end : ℕ
+  pub reads : table defaults ≡ ok entries end
+  pub column : ExtraColumn ByNumber p incoming target k

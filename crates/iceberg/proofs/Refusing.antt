@@ -27,7 +27,9 @@ use Rattle.defaults.specs.Lookup.{getDefaultValue}
 use Rattle.matching.specs.Default.{noDefaults, leafDefault, buildIcebergDefaultValue, defaultsOf, missingValue}
 use Rattle.matching.specs.Build.{Element, leafPart, structPart, listPart, arrayPart, unlessNullType, renamed, elementDefaultId, sameElement, isAbsent, distinct}
 use Rattle.matching.specs.Build.{noExtra, ignores, inserts, missing, ruled, sought, first, arraySelector, attachTransforms, attachFields, buildColumnSelector}
-use Rattle.matching.specs.Build.{buildFrom, build}
+use Rattle.matching.specs.Build.{extraColumns, buildFrom, build}
+use Rattle.matching.specs.Extra.{FirstExtra, first-here, first-later}
+use Rattle.matching.proofs.Extra.{columns-refused}
 use Rattle.matching.proofs.Entries.{Match, unmatched, matched, matchOf, ofMatch, partition-is, initial-is}
 use Rattle.iceberg.specs.Specification.{Lacks}
 use Rattle.iceberg.specs.Differences.{nested-struct, nested-list, nested-array, Place, outside, inside, OneIsAny, incoming-is-any, target-is-any}
@@ -35,7 +37,7 @@ use Rattle.iceberg.specs.Refusals.{EntryOf, entry-here, entry-there, Typ
 use Rattle.iceberg.specs.Refusals.{list-for-struct, array-for-struct, struct-for-list, array-for-list, struct-for-array, list-for-array, Extra}
 use Rattle.iceberg.specs.Refusals.{extra-here, extra-there, NoDefaultFor, partition-failed, default-type, for-a-field, NoDefaultIn, for-first, for-later}
 use Rattle.iceberg.specs.Refusals.{Refuses, leaf-pair, other-kind, other-width, list-ids, array-ids, in-list, in-array, extra-field, in-struct}
-use Rattle.iceberg.specs.Refusals.{RefusesAny, at-selected, missing-raised, missing-default, at-later}
+use Rattle.iceberg.specs.Refusals.{RefusesAny, at-selected, missing-raised, missing-default, at-later, RefusesBuild, extra-column, at-a-column}
 use Rattle.iceberg.proofs.Facts.{asked, found-first}
 use Rattle.iceberg.proofs.Selecting.{id-eq, counterpart-selected, counterpart-lacks}
 
@@ -130,6 +132,14 @@ has-extra (ccons l t fs) gs e = go (counterpart ByNumber l gs) refl e (λ e. has
         → Extra (ccons l t fs) gs
     go absent q e ih = extra-here (counterpart-lacks l gs q)
     go (at k a u) q e ih = extra-there (ih e)
+
+absent-is : (x : Lookup) → isAbsent x ≡ true → x ≡ absent
+absent-is absent e = refl
+absent-is (at k l t) e = clash (cc)
+
+first-extra : {fs gs : Columns} {i j : ℕ} → FirstExtra ByNumber gs fs i j → Extra fs gs
+first-extra (first-here {l = l} q) = extra-here (counterpart-lacks l _ (absent-is _ q))
+first-extra (first-later q f) = extra-there (first-extra f)
 
 unpaired : (a b : Label) → sameElement ByNumber a b ≡ false → (a .id ≡ b .id → ⊥) × (OneIsAny a b → ⊥)
 unfolding sameElement
@@ -300,16 +310,24 @@ module _ (p : Policy) (es : List Entry) (k : ℕ) where
   answered-refused (accepted a) f e = clash (cc)
   answered-refused (refusedAt m i) f {n} {j} e = let q : m ≡ n = cc in let r : i ≡ j = cc in rw (q, r)
 
-  columns-refused : (gs fs : Columns) (i : ℕ) {n j : ℕ} → buildFrom ByNumber p (getDefaultValue es k) gs fs i ≡ refusedAt n j
+  tops-refused : (gs fs : Columns) (i : ℕ) {n j : ℕ} → buildFrom ByNumber p (getDefaultValue es k) gs fs i ≡ refusedAt n j
       → RefusesAny p es outside (p .«missing_columns») 11 n gs fs
   unfolding buildFrom buildColumnSelector
-  columns-refused cnil fs i e = clash (cc)
-  columns-refused (ccons b u gs) fs i e =
+  tops-refused cnil fs i e = clash (cc)
+  tops-refused (ccons b u gs) fs i e =
       placed-refused i _ _ e (λ s. column-refused (p .«missing_columns») 11 outside b u fs (λ j t s. type-refused u outside j t s) s)
-      (λ x h e. at-later (columns-refused gs fs (i + 1) (answered-refused _ _ e)))
+      (λ x h e. at-later (tops-refused gs fs (i + 1) (answered-refused _ _ e)))
 
   -- a build that is refused with n is refused for a listed reason
   pub build-refused : (Γ Δ : Columns) {n j : ℕ} → build ByNumber p (getDefaultValue es k) Γ Δ ≡ refusedAt n j
-      → RefusesAny p es outside (p .«missing_columns») 11 n Δ Γ
-  unfolding build
-  build-refused Γ Δ e = columns-refused Δ Γ 0 e
+      → RefusesBuild p es n Δ Γ
+  unfolding build answered
+  build-refused Γ Δ {n} {j} e = go (extraColumns (p .«extra_columns») ByNumber Γ Δ) refl e
+    where
+      go : (x : Answer (Unit {0})) → extraColumns (p .«extra_columns») ByNumber Γ Δ ≡ x
+          → answered x (λ u. buildFrom ByNumber p (getDefaultValue es k) Δ Γ 0) ≡ refusedAt n j → RefusesBuild p es n Δ Γ
+      go (accepted u) q e = at-a-column (tops-refused Δ Γ 0 e)
+      go (refusedAt m i) q e =
+          let (r, (s, f)) = columns-refused (p .«extra_columns») ByNumber Γ Δ q in
+          let z : m ≡ n = cc in
+          rw (← z, s) (extra-column r (first-extra f))

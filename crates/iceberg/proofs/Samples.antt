@@ -37,7 +37,7 @@ use Rattle.plan.specs.Selector.{countSelectors}
 use Rattle.plan.specs.Run.{valueAt, mapValues, onStruct, onList, onArray, castLeaf, castValue, eval, evals}
 use Rattle.plan.proofs.Results.{true≠false}
 use Rattle.matching.specs.Default.{leafDefault, withField, structDefault, buildIcebergDefaultValue, defaultsOf, missingValue}
-use Rattle.matching.specs.Build.{leafPart, structPart, listPart, arrayPart, isNullType, unlessNullType, renamed, sameElement, distinct, noExtra, missing, ruled}
+use Rattle.matching.specs.Build.{leafPart, structPart, listPart, arrayPart, isNullType, unlessNullType, renamed, sameElement, distinct, noExtra, extraColumnErr, extraColumns, missing, ruled}
 use Rattle.matching.specs.Build.{isPosition, inPlace, structSelector, listSelector, arraySelector, sought, attachTransforms, attachFields, buildColumnSelector}
 use Rattle.matching.specs.Build.{buildFrom, build}
 use Rattle.matching.specs.Due.{dueLeaf}
@@ -55,7 +55,7 @@ use Rattle.iceberg.specs.Differences.{reads-struct′, reads-list′, an
 use Rattle.iceberg.specs.Differences.{reads-missing′, reads-none′, reads-more′, AgreesAll, agrees-nil, agrees-selected, agrees-missing}
 use Rattle.iceberg.specs.Differences.{agrees-leaf, agrees-struct}
 use Rattle.iceberg.specs.Refusals.{entry-here, entry-there, of-initial, leaf-for-nested, extra-here, partition-failed, default-type, leaf-pair}
-use Rattle.iceberg.specs.Refusals.{other-kind, list-ids, extra-field, in-struct, RefusesAny, at-selected, missing-raised, missing-default}
+use Rattle.iceberg.specs.Refusals.{other-kind, list-ids, extra-field, in-struct, RefusesAny, at-selected, missing-raised, missing-default, RefusesBuild, extra-column}
 use Rattle.iceberg.specs.Stated.{tupleAt, partitionOf, initialOf, stated}
 use Rattle.iceberg.proofs.Facts.{hiding-null}
 use Rattle.numeric.specs.declared.integers.Integer.the-variants.{Int8, Int16, Int32, Int64, UInt8}
@@ -64,7 +64,7 @@ use Rattle.numeric.specs.declared.integers.Integer.the-variants.{Int8, Int16, I
 computed : Policy → List Entry → Columns → Columns → Values → Answer Values
 unfolding build buildFrom buildColumnSelector attachTransforms attachFields sought missing missingValue buildIcebergDefaultValue defaultsOf leafDefault
     withField structDefault getDefaultValue firstEntry givenTo ofSource unlessNull leafPart structPart listPart arrayPart isNullType unlessNullType renamed
-    sameElement distinct noExtra ruled isPosition inPlace structSelector listSelector arraySelector findFrom sameBytes sameDtype sameLeaf leafForm carried
+    sameElement distinct noExtra extraColumnErr extraColumns ruled isPosition inPlace structSelector listSelector arraySelector findFrom sameBytes sameDtype sameLeaf leafForm carried
     dtypeOf fieldsOf countColumns countSelectors choose _>>=_ demand placed answered eval evals valueAt mapValues onStruct onList onArray castLeaf castValue
     pairRule chain paramsOf decimalsOf zonesOf readZone isUtc convert convertAs counted rescaled widened numberOf signed unsigned pattern
 computed p es Γ Δ ρ = answered (build ByNumber p (getDefaultValue es 0) Γ Δ) (λ ss. accepted (evals ρ ss))
@@ -429,7 +429,7 @@ unlike =
     }
 
 -- Raise: a missing column, a missing field, an extra field
-raised-column : Refusal (policyOf 8191) [] none whole vnil 11 (one vnull)
+raised-column : Refusal (policyOf 57343) [] none whole vnil 11 (one vnull)
 unfolding computed stated firstEntry
 raised-column =
     record {
@@ -438,7 +438,7 @@ raised-column =
       theirs = reads-missing lacks-nil (by-initial refl no-transform (by-null refl nothing-defined)) reads-nil;
     }
 
-raised-field : Refusal (policyOf 14335) [] bare whole emptyRow 14 (row vnull)
+raised-field : Refusal (policyOf 63487) [] bare whole emptyRow 14 (row vnull)
 unfolding computed stated firstEntry valueAt
 raised-field =
     record {
@@ -449,7 +449,7 @@ raised-field =
           reads-nil;
     }
 
-raised-extra : Refusal (policyOf 12287) [] whole bare (row five) 13 emptyRow
+raised-extra : Refusal (policyOf 61439) [] whole bare (row five) 13 emptyRow
 unfolding computed stated firstEntry valueAt
 raised-extra =
     record {
@@ -457,6 +457,12 @@ raised-extra =
       why = at-selected (id-here refl) (extra-field refl (extra-here lacks-nil));
       theirs = reads-selected (id-here refl) (reads-struct reads-nil) reads-nil;
     }
+
+-- and an extra column
+raised-extra-column : (computed (policyOf 32767) [] whole none (row five) ≡ refusedAt 53 0) × RefusesBuild (policyOf 32767) [] 53 none whole
+    × ReadsAll dueLeaf (stated false [] 0 noneEmpty) none whole (row five) vnil
+unfolding computed
+raised-extra-column = (refl, extra-column refl (extra-here lacks-nil), reads-nil)
 
 -- null (unknown) against a nested type
 unknown-nested : Refusal allOn [] (typed null) whole (one vnull) 24 (one vnull)
@@ -469,7 +475,7 @@ unknown-nested =
     }
 
 -- a promotion that the policy refuses
-not-upcast : Refusal (policyOf 16381) [] (typed (integer Int32)) (typed (integer Int64)) (one (vnumber (Leaf.Integer Int32) 5)) 16
+not-upcast : Refusal (policyOf 65533) [] (typed (integer Int32)) (typed (integer Int64)) (one (vnumber (Leaf.Integer Int32) 5)) 16
     (one (vnumber (Leaf.Integer Int64) 5))
 unfolding computed stated choose valueAt promotes dueLeaf sameLeaf sameDtype leafForm carried sameBytes castLeaf convert convertAs counted rescaled widened
     numberOf signed unsigned pattern pairRule chain paramsOf zonesOf readZone isUtc
@@ -534,7 +540,7 @@ unfolding promotes sameLeaf leafForm carried sameBytes
 widening-agrees = agrees-selected (id-here refl) (agrees-leaf refl) agrees-nil
 
 -- with its flag off it is refused
-not-widened : Refusal (policyOf 16383) [] (decimals 9 2) (decimals 18 2) (fixed 9 2 999999999) 51 (fixed 18 2 999999999)
+not-widened : Refusal (policyOf 49151) [] (decimals 9 2) (decimals 18 2) (fixed 9 2 999999999) 51 (fixed 18 2 999999999)
 unfolding computed stated choose valueAt promotes dueLeaf sameLeaf sameDtype leafForm carried sameBytes castLeaf convert convertAs pairRule chain paramsOf
     decimalsOf
 not-widened = record { ours = refl; why = at-selected (id-here refl) (leaf-pair refl); theirs = reads-selected (id-here refl) (reads-leaf refl refl) reads-nil }

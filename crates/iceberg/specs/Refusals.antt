@@ -1,5 +1,5 @@
 -- Where a reader of the specification reads on and documents 01 and 02 refuse to build: one rule for each reason, at the
--- column where it is met, along matched paths. 11 to 28 are document 01's numbers, 51 is document 02's. A refused build
+-- column where it is met, along matched paths. 11 to 28 are document 01's numbers, 51 and 53 are document 02's. A refused build
 -- is no reading; the list of reasons is complete (proofs/Refusing.antt). Nothing here rests on the builder; `pairRule`
 -- is the documents' table of leaf pairs.
 use Prim.Native.Nat.{ℕ}
@@ -96,3 +96,9 @@ module _ (p : Policy) (es : List Entry) where
           → RefusesAny outside m r n (ccons b u gs) fs
       at-later : {q : Place} {m : MissingColumnsPolicy} {r n : ℕ} {b : Label} {u : ColumnType} {gs fs : Columns} → RefusesAny q m r n gs fs
           → RefusesAny q m r n (ccons b u gs) fs
+
+  -- `RefusesBuild n gs fs`: a build from the file's columns fs to the table's gs is refused with n
+  pub data RefusesBuild : ℕ → Columns → Columns → Type 0 where
+    -- Raise: an extra column
+    extra-column : {gs fs : Columns} → p .«extra_columns» ≡ ExtraColumnsPolicy.Raise → Extra fs gs → RefusesBuild 53 gs fs
+    at-a-column : {n : ℕ} {gs fs : Columns} → RefusesAny outside (p .«missing_columns») 11 n gs fs → RefusesBuild n gs fs

@@ -23,7 +23,7 @@ use Rattle.plan.specs.Selector.{Selector, position, constant, cast, Selectors, 
 use Rattle.plan.specs.Check.{castFits, fromNull}
 use Rattle.plan.proofs.Results.{never-refused, gives-eq, accepted-eq, both, bind-gives, demand-gives, placed-accepted, answered-accepted}
 use Rattle.matching.specs.Default.{Defaults, noDefaults, missingValue}
-use Rattle.matching.specs.Build.{leafPart, structPart, Element, listPart, arrayPart, isNullType, isByName, unlessNullType, renamed, sameElement, distinct, inserts, missing, ruled, structSelector, listSelector, arraySelector, first, sought, attachTransforms, attachFields, buildColumnSelector, buildFrom, build}
+use Rattle.matching.specs.Build.{leafPart, structPart, Element, listPart, arrayPart, isNullType, isByName, unlessNullType, renamed, sameElement, distinct, extraColumns, inserts, missing, ruled, structSelector, listSelector, arraySelector, first, sought, attachTransforms, attachFields, buildColumnSelector, buildFrom, build}
 
 module _ (v : Version) where
   mutual
@@ -181,4 +181,6 @@ module _ (v : Version) (p : Policy) where
 
   pub build→ : (d : Defaults) (Γ Δ : Columns) {ss : Selectors} → build v p d Γ Δ ≡ accepted ss → AttachAll v d Δ Γ ss
   unfolding build
-  build→ d Γ Δ e = buildFrom→ Δ d Γ 0 e
+  build→ d Γ Δ e =
+      let (x, q, e) = answered-accepted (extraColumns (p .«extra_columns») v Γ Δ) _ e in
+      buildFrom→ Δ d Γ 0 e

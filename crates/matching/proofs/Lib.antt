@@ -1,4 +1,5 @@
 pub mod Lookup
+pub mod Extra
 pub mod Attach
 pub mod InPlace
 pub mod Untouched
@@ -11,4 +12,5 @@ pub mod Nesting
 pub mod ByName
 pub mod Theorems
 pub mod Calls
+pub mod Loosen
 pub mod Samples

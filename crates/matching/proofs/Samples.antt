@@ -2,6 +2,7 @@
 use Prim.Native.Nat.{ℕ}
 use mathlib.Core.Path.{_≡_, refl}
 use mathlib.Core.List.{List, [], _∷_, _++_}
+use lib.ListN.{length}
 use Rattle.layout.specs.Bytes.{Bytes, sameBytes}
 use Rattle.layout.specs.Parser.{Res, refuse, ok, next, choose, byte, chunk, u16, u32}
 use Rattle.layout.specs.Tree.{Layout, dtypeOf, fieldsOf, countColumns, countFields, integer}
@@ -28,7 +29,7 @@ use Rattle.values.specs.Record.{renumber}
 use Rattle.defaults.specs.Table.{initial, partition, Entry, sameKind, repeatsAnyEntry, onlyLeaf, defaultType, initialEntry, loadedEntry, partitionEntry, givenOf, tableNumber, entry, entries, tableVersion, tableFrom, table}
 use Rattle.defaults.specs.Lookup.{unlessNull, ofSource, givenTo, firstEntry, getDefaultValue}
 use Rattle.matching.specs.Default.{leafDefault, withField, structDefault, buildIcebergDefaultValue, defaultsOf, missingValue}
-use Rattle.matching.specs.Build.{leafPart, structPart, listPart, arrayPart, isNullType, unlessNullType, renamed, sameElement, distinctNames, distinct, noExtra, missing, ruled, isPosition, inPlace, structSelector, listSelector, arraySelector, sought, attachTransforms, attachFields, buildColumnSelector, buildFrom, build}
+use Rattle.matching.specs.Build.{leafPart, structPart, listPart, arrayPart, isNullType, unlessNullType, renamed, sameElement, distinctNames, distinct, noExtra, extraColumnErr, extraColumns, missing, ruled, isPosition, inPlace, structSelector, listSelector, arraySelector, sought, attachTransforms, attachFields, buildColumnSelector, buildFrom, build}
 use Rattle.plan.specs.Calls.{readAt}
 use Rattle.matching.specs.Calls.{ofVersion, bothLayouts, roomFor, writtenPlan, buildByName, buildByNumber}
 use Rattle.numeric.specs.declared.integers.Integer.the-variants.{Int8}
@@ -43,7 +44,7 @@ unfolding laidOut table tableFrom tableVersion entries entry tableNumber renumbe
 tabled s = table s
 
 unfoldable pub built : Policy → ℕ → Bytes → Bytes → Bytes → ℕ → Answer Bytes
-unfolding tabled buildByName buildByNumber bothLayouts readAt ofVersion roomFor writtenPlan build buildFrom buildColumnSelector attachTransforms attachFields sought missing missingValue buildIcebergDefaultValue defaultsOf structDefault withField leafDefault getDefaultValue firstEntry givenTo ofSource unlessNull leafPart structPart listPart arrayPart isNullType unlessNullType renamed sameElement distinctNames distinct noExtra ruled isPosition inPlace structSelector listSelector arraySelector findFrom pairRule chain paramsOf zonesOf readZone isUtc sameDtype sameLeaf dtypeOf fieldsOf countColumns countFields countSelectors encodePlan encodeSelector encodeSelectors u16Bytes u32Bytes textBytes leafForm carried kindForm form formFields encodeValue encodeValues littleBytes _>>=_ demand placed answered
+unfolding tabled buildByName buildByNumber bothLayouts readAt ofVersion roomFor writtenPlan build buildFrom buildColumnSelector attachTransforms attachFields sought missing missingValue buildIcebergDefaultValue defaultsOf structDefault withField leafDefault getDefaultValue firstEntry givenTo ofSource unlessNull leafPart structPart listPart arrayPart isNullType unlessNullType renamed sameElement distinctNames distinct noExtra extraColumnErr extraColumns ruled isPosition inPlace structSelector listSelector arraySelector findFrom pairRule chain paramsOf zonesOf readZone isUtc sameDtype sameLeaf dtypeOf fieldsOf countColumns countFields countSelectors encodePlan encodeSelector encodeSelectors u16Bytes u32Bytes textBytes leafForm carried kindForm form formFields encodeValue encodeValues littleBytes _>>=_ demand placed answered
 built p k a b d room = buildByNumber p k a b d room
 
 -- ---- layouts, tables and plans
@@ -75,21 +76,24 @@ entryOf i k r = i ∷ 0 ∷ 0 ∷ 0 ∷ k ∷ r
 abbrev planned : ℕ → Bytes → Bytes
 planned n ss = 0x50 ∷ 0x4C ∷ 0x4E ∷ 1 ∷ 0 ∷ n ∷ 0 ∷ ss
 
--- every flag on; extra fields under Raise; missing fields under Raise; missing columns under Raise; null_upcast off
+-- every flag on; extra fields under Raise; missing fields under Raise; missing columns under Raise; null_upcast off; extra columns under Raise
 abbrev on : Policy
-on = policyOf 16383
+on = policyOf 65535
 
 abbrev noExtras : Policy
-noExtras = policyOf 12287
+noExtras = policyOf 61439
 
 abbrev noMissing : Policy
-noMissing = policyOf 14335
+noMissing = policyOf 63487
 
 abbrev noMissingColumns : Policy
-noMissingColumns = policyOf 8191
+noMissingColumns = policyOf 57343
 
 abbrev noNulls : Policy
-noNulls = policyOf 16382
+noNulls = policyOf 65534
+
+abbrev noExtraColumns : Policy
+noExtraColumns = policyOf 32767
 
 -- one column t by name, with room for the plan
 abbrev byName : Policy → Bytes → Bytes → Answer Bytes
@@ -149,7 +153,7 @@ unfolding built
 extra-and-repeated = refl
 
 -- 13 before 14
-extra-and-missing : byName (policyOf 10239) (structOf 1 (named 0x62 (3 ∷ []))) (structOf 1 (named 0x61 (3 ∷ []))) ≡ refusedAt 13 0
+extra-and-missing : byName (policyOf 59391) (structOf 1 (named 0x62 (3 ∷ []))) (structOf 1 (named 0x61 (3 ∷ []))) ≡ refusedAt 13 0
 unfolding built
 extra-and-missing = refl
 
@@ -267,6 +271,64 @@ missing-in-element : byNumber on (defaults 1 initialSeven) (19 ∷ numbered 0x65
     ≡ accepted (planned 1 (5 ∷ 0 ∷ 0 ∷ 0 ∷ 4 ∷ 0 ∷ 0 ∷ 0 ∷ 1 ∷ 0 ∷ 1 ∷ 1 ∷ 0x61 ∷ 2 ∷ 0 ∷ []))
 unfolding built
 missing-in-element = refl
+
+-- ---- extra top columns (document 02, L3)
+
+-- a build by name of columns of int16, whose names are the bytes ns, to those of the names ms
+abbrev columnsOf : List ℕ → Bytes
+columnsOf [] = []
+columnsOf (c ∷ cs) = named c (3 ∷ columnsOf cs)
+
+abbrev matched : Policy → List ℕ → List ℕ → Answer Bytes
+matched p ns ms = buildByName p (laid 1 (length ns) (columnsOf ns)) (laid 1 (length ms) (columnsOf ms)) 1000
+
+-- of two extra columns the first, with its position among the incoming ones
+extra-column : matched noExtraColumns (0x74 ∷ 0x75 ∷ 0x78 ∷ 0x79 ∷ []) (0x75 ∷ 0x74 ∷ []) ≡ refusedAt 53 2
+unfolding built
+extra-column = refl
+
+extra-ignored : matched on (0x74 ∷ 0x75 ∷ 0x78 ∷ 0x79 ∷ []) (0x75 ∷ 0x74 ∷ []) ≡ accepted (planned 2 (0 ∷ 1 ∷ 0 ∷ 0 ∷ 0 ∷ 0 ∷ []))
+unfolding built
+extra-ignored = refl
+
+-- under Raise a build with no extra column is accepted, also where a target column is missing
+no-extra-column : matched noExtraColumns (0x74 ∷ []) (0x75 ∷ 0x74 ∷ []) ≡ accepted (planned 2 (1 ∷ 1 ∷ 0x75 ∷ 3 ∷ 0 ∷ 0 ∷ 0 ∷ 0 ∷ []))
+unfolding built
+no-extra-column = refl
+
+-- before 11
+extra-and-missing-column : matched (policyOf 24575) (0x78 ∷ []) (0x74 ∷ []) ≡ refusedAt 53 0
+unfolding built
+extra-and-missing-column = refl
+
+-- before a column's 24
+extra-and-mismatch : buildByName noExtraColumns (laid 1 2 (named 0x74 (15 ∷ named 0x78 (3 ∷ [])))) (laid 1 1 (named 0x74 (3 ∷ []))) 1000 ≡ refusedAt 53 1
+unfolding built
+extra-and-mismatch = refl
+
+-- by number an extra column has an id that the target lacks, whatever its name
+extra-by-number : buildByNumber noExtraColumns 0 (laid 2 2 (numbered 0x73 1 (3 ∷ numbered 0x74 2 (3 ∷ [])))) (laid 2 1 (numbered 0x74 1 (3 ∷ []))) none 1000 ≡ refusedAt 53 1
+unfolding built
+extra-by-number = refl
+
+-- after 10, and after the table's faults
+extra-after-version : buildByNumber noExtraColumns 0 (laid 2 1 (numbered 0x74 1 (3 ∷ []))) (laid 1 0 []) none 1000 ≡ refusedAt 10 0
+unfolding built
+extra-after-version = refl
+
+extra-after-table : buildByNumber noExtraColumns 0 (laid 2 1 (numbered 0x74 1 (3 ∷ []))) (laid 2 0 []) (defaults 2 (initialSeven ++ initialSeven)) 1000 ≡ refusedAt 5 3
+unfolding built
+extra-after-table = refl
+
+-- before 27
+extra-before-length : buildByName noExtraColumns (laid 1 1 (named 0x78 (3 ∷ []))) (laid 1 0 []) 0 ≡ refusedAt 53 0
+unfolding built
+extra-before-length = refl
+
+-- a struct's extra field stays with 13
+extra-field-ignored : byName noExtraColumns (structOf 1 (named 0x61 (3 ∷ []))) (structOf 0 []) ≡ accepted (planned 1 (4 ∷ 0 ∷ 0 ∷ 0 ∷ 0 ∷ 0 ∷ []))
+unfolding built
+extra-field-ignored = refl
 
 -- ---- reading a table
 

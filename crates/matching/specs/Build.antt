@@ -17,7 +17,7 @@ use Rattle.rules.specs.declared.outcome.CastOption.the-variants.{NonStrict}
 use Rattle.rules.specs.Outcomes.{Verdict, untouched, refused}
 use Rattle.rules.specs.Classes.{isNull}
 use Rattle.rules.specs.Pairs.{pairRule}
-use Rattle.plan.specs.Result.{Result, gives, refuses, _>>=_, demand, Answer, accepted, placed, answered}
+use Rattle.plan.specs.Result.{Result, gives, refuses, _>>=_, demand, Answer, accepted, refusedAt, placed, answered}
 use Rattle.plan.specs.Selector.{Selector, position, constant, cast, rename, structMapping, listMapping, arrayMapping, Selectors, snil, scons, countSelectors}
 use Rattle.matching.specs.Default.{Defaults, noDefaults, missingValue}
 
@@ -100,7 +100,7 @@ unfoldable pub distinct : Version → Columns → Bool
 distinct ByName cs = distinctNames cs
 distinct ByNumber cs = true
 
--- ---- 11, 13 and 14
+-- ---- 11, 13, 14 and 53
 
 -- each of the incoming fields fs has a counterpart in the target's gs
 unfoldable pub noExtra : Version → Columns → Columns → Bool
@@ -114,6 +114,17 @@ ignores ExtraColumnsPolicy.Raise = false
 abbrev pub inserts : MissingColumnsPolicy → Bool
 inserts MissingColumnsPolicy.Insert = true
 inserts MissingColumnsPolicy.Raise = false
+
+-- 53 (document 02, L3). `extra_column_err`: "the first incoming column with no target counterpart refuses the build", "its place being the incoming position";
+-- the incoming columns are fs, the first's position being i, the target's gs
+unfoldable pub extraColumnErr : Version → Columns → Columns → ℕ → Answer (Unit {0})
+extraColumnErr v cnil gs i = accepted tt
+extraColumnErr v (ccons l t fs) gs i = choose (isAbsent (counterpart v l gs)) (refusedAt 53 i) (extraColumnErr v fs gs (i + 1))
+
+-- "A policy value Raise for top columns"; "Ignore is as before"
+unfoldable pub extraColumns : ExtraColumnsPolicy → Version → Columns → Columns → Answer (Unit {0})
+extraColumns ExtraColumnsPolicy.Ignore v fs gs = accepted tt
+extraColumns ExtraColumnsPolicy.Raise v fs gs = extraColumnErr v fs gs 0
 
 -- a column with no counterpart: a constant under Insert, else the refusal n
 unfoldable pub missing : Defaults → Bool → ℕ → Label → ColumnType → Result Selector
@@ -201,6 +212,6 @@ buildFrom v p d cnil fs i = accepted snil
 buildFrom v p d (ccons l u gs) fs i =
     placed i (buildColumnSelector v p d l u fs) (λ s. answered (buildFrom v p d gs fs (i + 1)) (λ ss. accepted (scons s ss)))
 
--- the plan from the incoming columns to the target columns
+-- the plan from the incoming columns to the target columns; 53 is tested "before the first target column"
 unfoldable pub build : Version → Policy → Defaults → Columns → Columns → Answer Selectors
-build v p d incoming target = buildFrom v p d target incoming 0
+build v p d incoming target = answered (extraColumns (p .«extra_columns») v incoming target) (λ x. buildFrom v p d target incoming 0)

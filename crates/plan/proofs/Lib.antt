@@ -1,5 +1,6 @@
 pub mod Samples
 pub mod Results
+pub mod Kept
 pub mod Typed
 pub mod Over
 pub mod Leaves

@@ -1,8 +1,8 @@
 -- A test that antt computes at each number of an interval, and what it gives at any number there.
 use mathlib.Core.Path.{_≡_, refl, subst}
 use mathlib.Core.Bool.{Bool, true, false, not, _&&_}
-use Prim.Native.Nat.{ℕ, zero, suc, _+_, _≤_, _<_}
-use native.Mathlib.Decide.{ℕ-discrete}
+use Prim.Native.Nat.{ℕ, zero, suc, _+_, _≤_, _<_, zero-le}
+use native.Mathlib.Decide.{ℕ-discrete, decLe}
 use native.Mathlib.Omega.{arith}
 use lib.Dec.{T}
 
@@ -45,3 +45,11 @@ holds-on f a n t e l h = is-true (f t) (at f a n t e l h)
 
 pub fails-on : (f : ℕ → Bool) (a n t : ℕ) → T (every (λ x. not (f x)) a n) → a ≤ t → t < a + n → false ≡ f t
 fails-on f a n t e l h = is-false (f t) (at (λ x. not (f x)) a n t e l h)
+
+-- f is false below a, and at the n numbers from b
+pub fails-off : (f : ℕ → Bool) (a b n t : ℕ) → T (every (λ x. not (f x)) 0 a) → T (every (λ x. not (f x)) b n) → (a ≤ t → b ≤ t) → t < b + n → false ≡ f t
+fails-off f a b n t e e′ h l = go (decLe a t)
+  where
+    go : Dec (a ≤ t) → false ≡ f t
+    go (yes p) = fails-on f b n t e′ (h p) l
+    go (no p) = fails-on f 0 a t e zero-le (omega arith)

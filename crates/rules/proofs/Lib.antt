@@ -1,7 +1,9 @@
 pub mod Agree
+pub mod AnyZones
+pub mod Allowed
 pub mod Casts
-pub mod Codes
 pub mod EachLeaf
+pub mod Grid
 pub mod Interval
 pub mod Keys
 pub mod LeafTypes
@@ -9,8 +11,10 @@ pub mod Loosen
 pub mod OfClass
 pub mod Options
 pub mod PairRule
+pub mod Promoted
 pub mod Ranges
 pub mod Samples
+pub mod Spellings
 pub mod Utc
 pub mod Way
 pub mod Compared

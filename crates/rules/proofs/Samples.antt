@@ -44,9 +44,9 @@ S7 : pairRule allOn (datetime Nanoseconds []) (datetime Microseconds []) ≡ cas
 unfolding checked
 S7 = refl
 
--- the word with the fifteen bits set allows everything; bits above have no meaning
-word-all-on : policyOf 32767 ≡ allOn
+-- the word with the sixteen bits set allows everything; bits above have no meaning
+word-all-on : policyOf 65535 ≡ allOn
 word-all-on = refl
 
-word-bits-above : policyOf 32768 ≡ policyOf 0
+word-bits-above : policyOf 65536 ≡ policyOf 0
 word-bits-above = refl

@@ -1,11 +1,13 @@
 pub mod Choice
 pub mod Policies
+pub mod Allows
 pub mod Outcomes
 pub mod Zones
 pub mod Kinds
 pub mod Classes
 pub mod Params
 pub mod Promotion
+pub mod PrintedList
 pub mod Chain
 pub mod Rules
 pub mod Pairs

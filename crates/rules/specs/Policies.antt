@@ -34,6 +34,7 @@ policyOf word =
       «extra_struct_fields» = ignoreIf (bit 12 word);
       «missing_columns» = insertIf (bit 13 word);
       «decimal_widening» = bit 14 word;
+      «extra_columns» = ignoreIf (bit 15 word);
     }
 
 -- the policy with every flag on, with which the check judges a cast
@@ -55,4 +56,5 @@ allOn =
       «extra_struct_fields» = ExtraColumnsPolicy.Ignore;
       «missing_columns» = MissingColumnsPolicy.Insert;
       «decimal_widening» = true;
+      «extra_columns» = ExtraColumnsPolicy.Ignore;
     }

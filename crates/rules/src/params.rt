@@ -7,8 +7,8 @@ use crate::zones::compare_zones;
 use layout::leaf::Decimal;
 use layout::leaf::Leaf;
 
-// How they compare: the same bytes; the same once no zone is read as UTC; the same scale and a larger precision in the
-// target; or none of these.
+// How they compare: the same bytes; zones that both count as UTC; the same scale and a larger precision in the target;
+// or none of these.
 pub enum Params {
     Identical,
     SameAsUtc,

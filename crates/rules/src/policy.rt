@@ -28,6 +28,7 @@ pub struct Policy {
     pub extra_struct_fields: ExtraColumnsPolicy,
     pub missing_columns: MissingColumnsPolicy,
     pub decimal_widening: bool,
+    pub extra_columns: ExtraColumnsPolicy,
 }
 
 fn insert_if(flag: bool) -> MissingColumnsPolicy
@@ -71,6 +72,7 @@ impl Policy {
             extra_struct_fields: ignore_if(word / 4096 % 2 == 1),
             missing_columns: insert_if(word / 8192 % 2 == 1),
             decimal_widening: word / 16384 % 2 == 1,
+            extra_columns: ignore_if(word / 32768 % 2 == 1),
         }
     }
 
@@ -94,6 +96,7 @@ impl Policy {
             extra_struct_fields: ExtraColumnsPolicy::Ignore,
             missing_columns: MissingColumnsPolicy::Insert,
             decimal_widening: true,
+            extra_columns: ExtraColumnsPolicy::Ignore,
         }
     }
 }

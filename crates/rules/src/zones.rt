@@ -4,16 +4,20 @@ ghost use Rattle.rules.specs.Zones.{isUtc, zonesOf};
 use crate::params::Params;
 use layout::bytes::same_bytes;
 
-const UTC: [u8; 3] = [85, 84, 67];
-
-// Whether a zone is read as UTC where zones are compared: it is absent, or the text UTC.
+// Whether a zone counts as UTC where zones are compared: it is absent, or one of three texts.
 pub fn is_utc(zone: &[u8]) -> bool
     ensures { λ r. ⌜ r ≡ isUtc (now (zone .entry)) ⌝ }
 {
-    if zone.len() == 0 {
+    if same_bytes(zone, b"") {
         return true;
     }
-    same_bytes(zone, &UTC)
+    if same_bytes(zone, b"UTC") {
+        return true;
+    }
+    if same_bytes(zone, b"Etc/UTC") {
+        return true;
+    }
+    same_bytes(zone, b"Z")
 }
 
 pub fn compare_zones(a: &[u8], b: &[u8]) -> Params

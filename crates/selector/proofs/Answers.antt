@@ -45,14 +45,15 @@ module _ (n : ℕ) where
   pub place-one : {k : ℕ} → n ≡ k → hasPlace k ≡ true → true ≡ hasPlace n
   place-one e f = sym f ∙ ap hasPlace (sym e)
 
-  pub place-after : 27 ≤ n → n < 256 → (n ≡ 28 → ⊥) → (n ≡ 31 → ⊥) → (n ≡ 32 → ⊥) → false ≡ hasPlace n
+  pub place-after : 27 ≤ n → n < 256 → (n ≡ 28 → ⊥) → (n ≡ 31 → ⊥) → (n ≡ 32 → ⊥) → (n ≡ 53 → ⊥) → false ≡ hasPlace n
   unfolding isIn
-  place-after l h a b c = go (decLt n 28) (decLt n 31)
+  place-after l h a b c d = go (decLt n 28) (decLt n 31) (decLt n 53)
     where
-      go : Dec (n < 28) → Dec (n < 31) → false ≡ hasPlace n
-      go (yes p) q = fails-on hasPlace 27 1 n tt l p
-      go (no p) (yes q) = fails-on hasPlace 29 2 n tt (omega arith) q
-      go (no p) (no q) = fails-on hasPlace 33 223 n tt (omega arith) h
+      go : Dec (n < 28) → Dec (n < 31) → Dec (n < 53) → false ≡ hasPlace n
+      go (yes p) q r = fails-on hasPlace 27 1 n tt l p
+      go (no p) (yes q) r = fails-on hasPlace 29 2 n tt (omega arith) q
+      go (no p) (no q) (yes r) = fails-on hasPlace 33 20 n tt (omega arith) r
+      go (no p) (no q) (no r) = fails-on hasPlace 54 202 n tt (omega arith) h
 
   pub refusal-placed : (k : ℕ) {b : Bool} → b ≡ hasPlace n → b ≡ true → answer n k ≡ refusal n k
   unfolding placeOf choose

@@ -38,13 +38,13 @@ shown-small n k = go (hasPlace n)
     go true = omega arith
     go false = omega arith
 
-decoded : {c : Call} {things : List ℕ} {columns : ℕ} {A : Type 0} {Q : A → Type 0} {x : Answer A} (size : A → ℕ) → Answers Q (Refusal c things columns) x
-    → ((a : A) → Q a → size a < 2 ^ 32) → columns < 65536 → length things ≤ 3 → Decoded c things columns size x (word size x)
-decoded size (in-accepted {a = a} q) fits few three =
+decoded : {c : Call} {things : List ℕ} {incoming columns : ℕ} {A : Type 0} {Q : A → Type 0} {x : Answer A} (size : A → ℕ) → Answers Q (Refusal c things incoming columns) x
+    → ((a : A) → Q a → size a < 2 ^ 32) → incoming < 65536 → columns < 65536 → length things ≤ 3 → Decoded c things incoming columns size x (word size x)
+decoded size (in-accepted {a = a} q) fits some few three =
     let (e, f) = halves 0 (size a) (fits a q) in
     record { accepts = λ z. (a, refl, f); refuses = λ z. absurd (z e) }
-decoded size (in-refusedAt {n = n} {k = k} R) fits few three =
-    let s = place-small R few three in
+decoded size (in-refusedAt {n = n} {k = k} R) fits some few three =
+    let s = place-small R some few three in
     let (e, f) = halves n (placeOf n k) (omega (arith, shown-small n k)) in
     let p = R .positive in
     record { accepts = λ z. absurd (omega arith); refuses = λ z. rw (e, f) (k, refl, R, refusal-placed R) }
@@ -65,35 +65,35 @@ checked-word (refusedAt n k) = refl
 
 -- ---- each call
 
-pub read-layout-decoded : (s : Bytes) → Decoded readingLayout (refusalIn (layout s) ∷ []) 0 (λ l. 0) (readLayout s) (readAnswer (layout s))
-read-layout-decoded s = rw (← read-word (layout s)) (decoded (λ l. 0) (read-layout-in s) (λ l q. omega arith) (omega arith) (omega arith))
+pub read-layout-decoded : (s : Bytes) → Decoded readingLayout (refusalIn (layout s) ∷ []) 0 0 (λ l. 0) (readLayout s) (readAnswer (layout s))
+read-layout-decoded s = rw (← read-word (layout s)) (decoded (λ l. 0) (read-layout-in s) (λ l q. omega arith) (omega arith) (omega arith) (omega arith))
 
-module _ (policy : ℕ) (incoming target : Bytes) (o : AllBytes target) (space : ℕ) where
-  pub by-name-decoded : Decoded (building ByName) (layoutsRead incoming target []) (columnCount target) length
+module _ (policy : ℕ) (incoming target : Bytes) (oi : AllBytes incoming) (ot : AllBytes target) (space : ℕ) where
+  pub by-name-decoded : Decoded (building ByName) (layoutsRead incoming target []) (columnCount incoming) (columnCount target) length
       (buildByName (policyOf policy) incoming target space) (writtenAnswer (buildByName (policyOf policy) incoming target space))
   by-name-decoded =
       rw (← written-word (buildByName (policyOf policy) incoming target space))
-      (decoded length (by-name-in (policyOf policy) incoming target space) (λ b q. omega arith) (columns-small target o) (omega arith))
+      (decoded length (by-name-in (policyOf policy) incoming target space) (λ b q. omega arith) (columns-small incoming oi) (columns-small target ot) (omega arith))
 
   pub by-number-decoded : (index : ℕ) (defaults : Bytes)
-      → Decoded (building ByNumber) (layoutsRead incoming target (tableRead defaults)) (columnCount target) length
+      → Decoded (building ByNumber) (layoutsRead incoming target (tableRead defaults)) (columnCount incoming) (columnCount target) length
       (buildByNumber (policyOf policy) index incoming target defaults space)
       (writtenAnswer (buildByNumber (policyOf policy) index incoming target defaults space))
   by-number-decoded index defaults =
       rw (← written-word (buildByNumber (policyOf policy) index incoming target defaults space))
       (decoded length (by-number-in (policyOf policy) index incoming target defaults space) (λ b q. omega arith)
-      (columns-small target o) (omega arith))
+      (columns-small incoming oi) (columns-small target ot) (omega arith))
 
 module _ (incoming target bytes : Bytes) (o : AllBytes bytes) where
-  pub check-decoded : Decoded checkingPlan (layoutsRead incoming target []) (selectorCount bytes) (λ x. 0)
+  pub check-decoded : Decoded checkingPlan (layoutsRead incoming target []) 0 (selectorCount bytes) (λ x. 0)
       (checkPlan incoming target bytes) (checkedAnswer (checkPlan incoming target bytes))
   check-decoded =
       rw (← checked-word (checkPlan incoming target bytes))
-      (decoded (λ x. 0) (check-plan-in incoming target bytes) (λ x q. omega arith) (selectors-small bytes o) (omega arith))
+      (decoded (λ x. 0) (check-plan-in incoming target bytes) (λ x q. omega arith) (omega arith) (selectors-small bytes o) (omega arith))
 
   pub run-decoded : (rec : Bytes) (room : ℕ)
-      → Decoded running (layoutsRead incoming target []) (selectorCount bytes) length
+      → Decoded running (layoutsRead incoming target []) 0 (selectorCount bytes) length
       (runPlan incoming target bytes rec room) (writtenAnswer (runPlan incoming target bytes rec room))
   run-decoded rec room =
       rw (← written-word (runPlan incoming target bytes rec room))
-      (decoded length (run-plan-in incoming target bytes rec room) (λ b q. omega arith) (selectors-small bytes o) (omega arith))
+      (decoded length (run-plan-in incoming target bytes rec room) (λ b q. omega arith) (omega arith) (selectors-small bytes o) (omega arith))

@@ -39,6 +39,7 @@ fn has_place(number: u8) -> bool
         28 => true,
         31 => true,
         32 => true,
+        53 => true,
         _ => false,
     }
 }

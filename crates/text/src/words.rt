@@ -96,14 +96,15 @@ fn put_running(number: u8) {
     }
 }
 
-// Of decimals, in each of these.
-fn put_decimals(number: u8) {
+// Of document 02's requests.
+fn put_requested(number: u8) {
     match number {
         50 => put(
             b"a decimal's precision is not 1 to 18, or its scale is larger than its precision",
         ),
         51 => put(b"a cast to a decimal of larger precision is not allowed"),
         52 => put(b"a decimal of the record has more digits than its precision"),
+        53 => put(b"an incoming column has no counterpart, and extra columns are not ignored"),
         _ => put_unknown(),
     }
 }
@@ -115,7 +116,7 @@ fn put_words(number: u8) {
         20..=29 => put_matching(number),
         30..=39 => put_checking(number),
         40..=49 => put_running(number),
-        50..=52 => put_decimals(number),
+        50..=53 => put_requested(number),
         _ => put_unknown(),
     }
 }
@@ -127,6 +128,7 @@ fn has_place(number: u8) -> bool {
         11..=26 => true,
         28 => true,
         31..=32 => true,
+        53 => true,
         _ => false,
     }
 }

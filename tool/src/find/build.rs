@@ -2,7 +2,6 @@
 
 use crate::follow::Way;
 use crate::form::{Column, Layout, Selector, Type};
-use crate::lists;
 use crate::read::read_plan;
 use crate::write::layout_bytes;
 use column_selector::{Defaults, Incoming, Place, PlanBuf, Policy, Refusal, Target};
@@ -60,9 +59,8 @@ impl Build<'_> {
     /// The same for columns that are fields elsewhere: a missing column is what a missing field is there, and others
     /// that are left over are not looked at.
     fn inner(&self) -> Self {
-        let extra = lists::flag("extra_columns").unwrap_or(Policy::NONE);
         Build {
-            policy: self.policy | extra,
+            policy: self.policy | Policy::IGNORE_EXTRA_COLUMNS,
             ..*self
         }
     }

@@ -5,7 +5,7 @@ use crate::tally::Tally;
 use column_selector::call as library;
 use plain::call::{self as plain_call, Refusal};
 use plain::due::{Pairing, due};
-use plain::form::{self, Entry, Layout, PLAN_LIMIT};
+use plain::form::{self, Column, Entry, Layout, PLAN_LIMIT};
 use plain::hex::hex;
 use plain::policy;
 use plain::value::{Value, read_record};
@@ -43,8 +43,8 @@ impl Call {
     pub fn has(self, number: u32) -> bool {
         match self {
             Call::ReadLayout => matches!(number, 1..=6 | 50),
-            Call::BuildByName => matches!(number, 1..=6 | 10..=24 | 27 | 50 | 51),
-            Call::BuildByNumber => matches!(number, 1..=6 | 10 | 11 | 13..=28 | 50 | 51),
+            Call::BuildByName => matches!(number, 1..=6 | 10..=24 | 27 | 50 | 51 | 53),
+            Call::BuildByNumber => matches!(number, 1..=6 | 10 | 11 | 13..=28 | 50 | 51 | 53),
             Call::CheckPlan => matches!(number, 1..=6 | 30..=33 | 50),
             Call::Run => matches!(number, 1..=6 | 30..=33 | 40..=45 | 50 | 52),
         }
@@ -244,6 +244,11 @@ impl Judge {
             Ok(arguments) => arguments,
             Err(refusal) => return same("reading", given, &Err(refusal)),
         };
+        if let Some(place) = arguments.extra(trial) {
+            let due = Err(Refusal { number: 53, place });
+            same("an extra column", given, &due)?;
+            return self.expect("without space", &trial.resized(0), &due, side);
+        }
         let Ok(plan) = given else {
             return self.judge_refused(trial, given, side);
         };
@@ -284,6 +289,7 @@ impl Judge {
                 Err("51 though the flag allows it".to_owned())
             }
             51 if *given != Err(Refusal::of(51)) => Err("51 with a place".to_owned()),
+            53 => Err("53 though no column is extra, or such are ignored".to_owned()),
             // Space is the last test.
             _ => self.expect("without space", &trial.resized(0), given, side),
         }
@@ -346,6 +352,21 @@ impl Arguments {
             target,
             entries,
         })
+    }
+
+    /// Under Raise, the position of the first incoming column without a counterpart.
+    fn extra(&self, trial: &Trial) -> Option<u32> {
+        if trial.policy & policy::EXTRA_COLUMNS != 0 {
+            return None;
+        }
+        let same = |incoming: &Column, target: &Column| match trial.call {
+            Call::BuildByNumber => incoming.id == target.id,
+            _ => incoming.name == target.name,
+        };
+        let targets = &self.target.columns;
+        let extra = |incoming: &Column| !targets.iter().any(|target| same(incoming, target));
+        let position = self.incoming.columns.iter().position(extra)?;
+        Some(position as u32)
     }
 
     /// The record due, for a buffer of that length; where the record doesn't fit, why.

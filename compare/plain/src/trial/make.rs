@@ -113,8 +113,14 @@ fn build(random: &mut Random) -> Trial {
         };
         *other = generate::case(random).target;
     }
+    // The generator ignores extra top columns, as the original does.
+    let raise = if random.percent(20) {
+        policy::EXTRA_COLUMNS
+    } else {
+        0
+    };
     Trial {
-        policy: case.policy,
+        policy: case.policy & !raise,
         source_index: number.source_index,
         space: space(random),
         incoming,

@@ -17,4 +17,5 @@ has-place-spec =
     (λ c. unfold isIn in place-one _ (c .match .keys1) refl)
     (λ c. unfold isIn in place-one _ (c .match .keys2) refl)
     (λ c. unfold isIn in place-one _ (c .match .keys3) refl)
-    (λ c. place-after _ (c .before .if4 .left) (omega arith) (c .match .rest .0 .0 .1) (c .match .rest .0 .1) (c .match .rest .1)))
+    (λ c. unfold isIn in place-one _ (c .match .keys4) refl)
+    (λ c. place-after _ (c .before .if4 .left) (omega arith) (c .match .rest .0 .0 .0 .1) (c .match .rest .0 .0 .1) (c .match .rest .0 .1) (c .match .rest .1)))

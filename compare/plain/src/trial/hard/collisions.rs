@@ -144,6 +144,24 @@ impl Trials<'_> {
         }
     }
 
+    /// Extra top columns under Raise: two of them, of which the first is refused; none.
+    fn extra_columns(&mut self, call: Call, version: u8, columns: &[Column]) {
+        let strict = policy::ALL & !policy::EXTRA_COLUMNS;
+        let fewer = [&columns[..1], &columns[3..]].concat();
+        for (incoming, target, number) in [(columns, &fewer[..], 53), (&fewer[..], columns, 0)] {
+            let trial = Trial {
+                policy: strict,
+                space: 70_000,
+                incoming: layout(version, incoming.to_vec()),
+                target: layout(version, target.to_vec()),
+                defaults: form::write_defaults(&[]),
+                record: incoming.iter().flat_map(|_| [1, 1]).collect(),
+                ..Trial::new(call)
+            };
+            self.add(trial, number);
+        }
+    }
+
     pub(super) fn collisions(&mut self) {
         let names = equal_names();
         self.siblings(1, &names);
@@ -160,6 +178,9 @@ impl Trials<'_> {
             self.turned_round(Call::BuildByNumber, 2, &bits, levels);
             self.turned_round(Call::BuildByNumber, 2, &labels, levels);
         }
+        self.extra_columns(Call::BuildByName, 1, &names);
+        self.extra_columns(Call::BuildByNumber, 2, &bits);
+        self.extra_columns(Call::BuildByNumber, 2, &labels);
         let few: Vec<Column> = within(Vec::new(), 1);
         for levels in 1..4 {
             self.struct_faults(&names, levels);

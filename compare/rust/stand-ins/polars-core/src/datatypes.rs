@@ -14,13 +14,13 @@ pub enum TimeUnit {
 pub struct TimeZone(pub PlSmallStr);
 
 impl TimeZone {
-    /// Are the zones equal, no zone being read as the text UTC?
+    /// Are the zones equal, or does each count as UTC: no zone, `UTC`, `Etc/UTC` or `Z`?
     pub fn eq_none_as_utc(left: Option<&TimeZone>, right: Option<&TimeZone>) -> bool {
-        let text = |zone: Option<&TimeZone>| match zone {
-            Some(TimeZone(text)) => text.clone(),
-            None => PlSmallStr::from("UTC"),
+        let is_utc = |zone: Option<&TimeZone>| match zone {
+            Some(TimeZone(text)) => ["UTC", "Etc/UTC", "Z"].contains(&text.as_str()),
+            None => true,
         };
-        text(left) == text(right)
+        left == right || is_utc(left) && is_utc(right)
     }
 }
 

@@ -1,30 +1,49 @@
--- `rules::lossless::lossless` meets its contract: in each part of the codes the comparison is the range rule.
-use mathlib.Core.Path.{sym, _∙_}
+-- `rules::lossless::lossless` meets its contract: on each range of targets the range rule is computed once.
 use native.Mathlib.Omega.{arith}
-use Rattle.rules.proofs.Codes.{Code, code-bounds, incoming-other, target-other, signed-both, to-signed, to-unsigned, unsigned-both}
-use borrow.Author.Tests.{not-true, not-false}
+use Rattle.rules.specs.Promotion.{promotes}
+use Rattle.rules.proofs.Interval.{holds-on, fails-on, fails-off}
+use Rattle.rules.proofs.Keys.{none}
 use borrow.Author.Needs.{needs}
 use Rattle.rules.proofs.lossless.lossless.Statement.{statement}
 use Rattle.rules.proofs.lossless.lossless.Tie as tie
-
--- past the two first tests both codes are of integers
-codes : (c : tie.Else2) → Code (c .before .before .before .before .args .incoming) × Code (c .before .before .before .before .args .target)
-codes c = (code-bounds _ (omega arith) (sym (c .before .before .before .is-integer .ensures) ∙ not-false _ (c .before .before .if1 .left)), code-bounds _ (omega arith) (sym (c .before .is-integer2 .ensures) ∙ not-false _ (c .if2 .left)))
 
 pub lossless-spec : {M : Type 1} → statement M
 lossless-spec =
     tie.close
     (tie.spec
-    (λ c κs. search needs)
-    (λ c. incoming-other (c .before .before .args .incoming) (c .before .before .args .target) (sym (c .before .is-integer .ensures) ∙ not-true _ (c .if1 .taken)))
-    (λ c κs. search needs)
-    (λ c. target-other (c .before .before .before .before .args .incoming) (c .before .before .before .before .args .target) (sym (c .before .is-integer2 .ensures) ∙ not-true _ (c .if2 .taken)))
-    (λ c. let (I, J) = codes (c .before .before) in
-    signed-both _ _ I J (c .if4 .taken) (c .before .if3 .taken))
+    (λ c. rw (c .before .before .match .keys1) (holds-on (promotes 2) 2 4 (c .before .before .before .args .target) tt (omega arith) (omega arith)))
+    (λ c. rw (c .before .match .keys1) (fails-on (promotes 2) 0 2 (c .before .before .args .target) tt (omega arith) (omega arith)))
+    (λ c. rw (c .before .before .match .keys1) (fails-on (promotes 2) 6 250 (c .before .before .before .args .target) tt (omega arith) (omega arith)))
+    (λ c. rw (c .before .before .match .keys2) (holds-on (promotes 3) 3 3 (c .before .before .before .args .target) tt (omega arith) (omega arith)))
+    (λ c. rw (c .before .match .keys2) (fails-on (promotes 3) 0 3 (c .before .before .args .target) tt (omega arith) (omega arith)))
+    (λ c. rw (c .before .before .match .keys2) (fails-on (promotes 3) 6 250 (c .before .before .before .args .target) tt (omega arith) (omega arith)))
+    (λ c. rw (c .before .before .match .keys3) (holds-on (promotes 4) 4 2 (c .before .before .before .args .target) tt (omega arith) (omega arith)))
+    (λ c. rw (c .before .match .keys3) (fails-on (promotes 4) 0 4 (c .before .before .args .target) tt (omega arith) (omega arith)))
+    (λ c. rw (c .before .before .match .keys3) (fails-on (promotes 4) 6 250 (c .before .before .before .args .target) tt (omega arith) (omega arith)))
     (λ c. search needs)
-    (λ c. let (I, J) = codes (c .before .before) in
-    to-signed _ _ I J (c .if4 .left) (c .before .if3 .taken))
-    (λ c. let (I, J) = codes (c .before .before) in
-    to-unsigned _ _ I J (c .if5 .taken) (c .before .if3 .left))
-    (λ c. let (I, J) = codes (c .before .before) in
-    unsigned-both _ _ I J (c .if5 .left) (c .before .if3 .left)))
+    (λ c. rw (c .before .match .keys4)
+    (fails-off (promotes 5) 5 6 250 (c .before .before .args .target) tt tt (none 5 (c .before .before .args .target) 1 (c .match2 .rest)) (omega arith)))
+    (λ c. rw (c .before .before .match .keys5) (holds-on (promotes 6) 3 7 (c .before .before .before .args .target) tt (omega arith) (omega arith)))
+    (λ c. rw (c .before .match .keys5) (fails-on (promotes 6) 0 3 (c .before .before .args .target) tt (omega arith) (omega arith)))
+    (λ c. rw (c .before .before .match .keys5) (fails-on (promotes 6) 10 246 (c .before .before .before .args .target) tt (omega arith) (omega arith)))
+    (λ c. rw (c .before .before .match .keys6) (holds-on (promotes 7) 4 2 (c .before .before .before .args .target) tt (omega arith) (omega arith)))
+    (λ c. rw (c .before .before .before .before .match .keys6)
+    (holds-on (promotes 7) 7 3 (c .before .before .before .before .before .args .target) tt (omega arith) (omega arith)))
+    (λ c. rw (c .before .match .keys6) (fails-on (promotes 7) 0 4 (c .before .before .args .target) tt (omega arith) (omega arith)))
+    (λ c. rw (c .before .before .before .match .keys6)
+    (fails-on (promotes 7) 6 1 (c .before .before .before .before .args .target) tt (omega arith) (omega arith)))
+    (λ c. rw (c .before .before .before .before .match .keys6)
+    (fails-on (promotes 7) 10 246 (c .before .before .before .before .before .args .target) tt (omega arith) (omega arith)))
+    (λ c. rw (c .before .before .match .keys7)
+    (fails-off (promotes 8) 5 6 2 (c .before .before .before .args .target) tt tt
+    (none 5 (c .before .before .before .args .target) 1 (c .before .match3 .rest)) (omega arith)))
+    (λ c. rw (c .before .before .before .match .keys7)
+    (fails-on (promotes 8) 10 246 (c .before .before .before .before .args .target) tt (omega arith) (omega arith)))
+    (λ c. search needs)
+    (λ c. rw (c .before .before .before .match .keys7)
+    (holds-on (promotes 8) 8 2 (c .before .before .before .before .args .target) tt (omega arith) (omega arith)))
+    (λ c. search needs)
+    (λ c. rw (c .before .match .keys8)
+    (fails-off (promotes 9) 9 10 246 (c .before .before .args .target) tt tt (none 9 (c .before .before .args .target) 1 (c .match4 .rest)) (omega arith)))
+    (λ c. fails-off (λ x. promotes x (c .before .args .target)) 2 10 246 (c .before .args .incoming) tt tt
+    (none 2 (c .before .args .incoming) 8 (c .match .rest)) (omega arith)))

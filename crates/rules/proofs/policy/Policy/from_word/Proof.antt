@@ -17,4 +17,5 @@ from-word-spec =
     (λ c κs. search needs)
     (λ c κs. search needs)
     (λ c κs. search needs)
-    (λ c. rw (c .insert-if2 .ensures, c .before .ignore-if .ensures, c .before .before .insert-if .ensures, by-one (c .before .before .before .args .word))))
+    (λ c κs. search needs)
+    (λ c. rw (c .ignore-if2 .ensures, c .before .insert-if2 .ensures, c .before .before .ignore-if .ensures, c .before .before .before .insert-if .ensures, by-one (c .before .before .before .before .args .word))))

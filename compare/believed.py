@@ -1,0 +1,177 @@
+#!/usr/bin/env python3
+"""What a reader must believe, worked out from the sources.
+
+Follows every definition that the contracts of the exported calls (crates/selector/src/lib.rt) cite, and every one that
+the statements of the theorems (STATEMENTS) cite, down to the last. The files of specs/ so met must be the files that
+docs/ARCHITECTURE.md lists under "What a reader must believe", and no others; and they must have fewer lines than its
+limit. Prints the counts; exit status 1 where the document differs.
+
+usage: compare/believed.py [--list]
+"""
+import pathlib
+import re
+import sys
+
+ROOT = pathlib.Path(__file__).resolve().parent.parent
+CRATES = ROOT / "crates"
+LIMIT = 3000
+STATEMENTS = [("demands", "Demands"), ("demands", "Projected"), ("demands", "Loosened"), ("selector", "Decoded")]
+
+WORD = re.compile(r"[^\s(){}\[\],;.λ]+")
+USE = re.compile(r"^(?:ghost )?use Rattle·([a-z]+)(?:·specs|·proofs)?\.(specs|proofs\.proofs|proofs)\.([\w.+-]+)\.\{([^}]*)\}", re.M)
+HEAD = re.compile(r"^(?:unfoldable |abbrev |opaque )*(?:pub )?(record|data)? ?([^\s(:{]+)(?:\s+[({][^)}]*[)}])*\s+:(?:\s|$)")
+PART = re.compile(r"^(?:pub )?([^\s:(]+) :")
+
+
+class Module:
+    """A file of specs/ or proofs/: what it names from elsewhere, and the words of each of its definitions."""
+
+    def __init__(self, path):
+        text = path.read_text()
+        self.lines = text.count("\n")
+        self.names = {}
+        for crate, kind, module, names in USE.findall(text):
+            for name in names.replace("\n", " ").split(","):
+                if name.strip():
+                    there, _, here = name.strip().partition(" as ")
+                    self.names[(here or there).strip()] = (crate, kind.split(".")[0], module, there.strip())
+        self.words = {}
+        self.owner = {}
+        self.scan(text)
+
+    def scan(self, text):
+        current, is_type, opened = None, False, [0]
+        for line in text.split("\n"):
+            body = line.strip()
+            if not body or body.startswith("--") or line.startswith("use "):
+                continue
+            indent = len(line) - len(line.lstrip())
+            while indent < opened[-1]:
+                opened.pop()
+            if body.endswith("mutual") or body.startswith("module "):
+                opened.append(indent + 2)
+                current, is_type = None, False
+                continue
+            head = HEAD.match(body) if indent == opened[-1] else None
+            part = PART.match(body) if is_type and indent > opened[-1] else None
+            if head:
+                current, is_type = head.group(2), bool(head.group(1))
+                self.words.setdefault(current, set())
+            elif part:
+                self.owner[part.group(1)] = current
+            if current:
+                self.words[current] |= set(WORD.findall(line))
+
+
+def modules():
+    found = {}
+    for kind in ("specs", "proofs"):
+        for path in sorted(CRATES.glob(f"*/{kind}/*.antt")):
+            found[(path.parts[-3], kind, path.stem)] = Module(path)
+    return found
+
+
+def resolve(all_modules, place, word):
+    """The definition that a word names inside a file, or None where it is no definition of ours."""
+    module = all_modules[place]
+    if word in module.words:
+        return (place, word)
+    if word in module.owner:
+        return (place, module.owner[word])
+    if word in module.names:
+        crate, kind, name, there = module.names[word]
+        if (crate, kind, name) in all_modules and (crate, kind, name) != place:
+            return resolve(all_modules, (crate, kind, name), there)
+    return None
+
+
+def followed(all_modules, starts):
+    seen, todo = set(), list(starts)
+    while todo:
+        item = todo.pop()
+        if item in seen:
+            continue
+        seen.add(item)
+        place, name = item
+        for word in all_modules[place].words[name]:
+            found = resolve(all_modules, place, word)
+            if found and found not in seen:
+                todo.append(found)
+    return seen
+
+
+def cited_by_calls(all_modules):
+    """The definitions that the exported calls' contracts name."""
+    text = (CRATES / "selector/src/lib.rt").read_text()
+    for crate, kind, module, names in USE.findall(text):
+        for name in names.split(","):
+            found = resolve(all_modules, (crate, "specs", module), name.strip().partition(" as ")[0])
+            if found:
+                yield found
+
+
+def statements(text):
+    """The lines that state a theorem: its signature, and the module line that its variables stand in."""
+    indent = None
+    for line in text.split("\n"):
+        here = len(line) - len(line.lstrip())
+        if indent is not None and line.strip() and here > indent:
+            yield line
+            continue
+        indent = here if line.strip().startswith(("pub ", "module _ ")) else None
+        if indent is not None:
+            yield line
+            if line.rstrip().endswith("where"):
+                indent = None
+
+
+def cited_by_theorems(all_modules):
+    """The definitions that the theorems' statements name: of specs/ alone, since a lemma is no statement."""
+    for crate, name in STATEMENTS:
+        place = (crate, "proofs", name)
+        for line in statements((CRATES / f"{crate}/proofs/{name}.antt").read_text()):
+            for word in WORD.findall(line):
+                found = resolve(all_modules, place, word)
+                if found and found[0][1] == "specs":
+                    yield found
+
+
+def files_of(items):
+    return {f"crates/{crate}/specs/{name}.antt" for (crate, kind, name), _ in items if kind == "specs"}
+
+
+def listed():
+    text = (ROOT / "docs/ARCHITECTURE.md").read_text()
+    part = text.split("## What a reader must believe", 1)[1].split("\n## ", 1)[0]
+    tables = part.split("The theorems", 1)
+    return [set(re.findall(r"`(crates/[a-z]+/specs/\w+\.antt)`", table)) for table in tables]
+
+
+def compare(what, need, have):
+    for path in sorted(need - have):
+        print(f"docs/ARCHITECTURE.md leaves out {path}, which {what} cite")
+    for path in sorted(have - need):
+        print(f"docs/ARCHITECTURE.md lists {path}, which no {what} cite")
+    return need == have
+
+
+def main():
+    all_modules = modules()
+    calls = files_of(followed(all_modules, cited_by_calls(all_modules)))
+    theorems = files_of(followed(all_modules, cited_by_theorems(all_modules))) - calls
+    count = {name: sum((ROOT / p).read_text().count("\n") for p in paths) for name, paths in
+             (("calls", calls), ("theorems", theorems))}
+    if "--list" in sys.argv:
+        print("\n".join(sorted(calls)) + "\n--\n" + "\n".join(sorted(theorems)))
+    tables = listed()
+    good = len(tables) == 2 and all([compare("contracts", calls, tables[0]), compare("theorems", theorems, tables[1])])
+    print(f"to be believed: {len(calls)} files, {count['calls']} lines for the calls; "
+          f"{len(theorems)} more, {count['theorems']} lines, for the theorems")
+    if count["calls"] >= LIMIT:
+        print(f"the first are to be under {LIMIT} lines")
+        good = False
+    sys.exit(0 if good else 1)
+
+
+if __name__ == "__main__":
+    main()

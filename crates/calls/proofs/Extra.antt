@@ -1,0 +1,109 @@
+-- The loop that looks for an extra column: what is answered of the columns that are left is answered of all. Assumes nothing.
+use Prim.Native.Nat.{ℕ, _+_, _-_, _≤_, _<_}
+use mathlib.Core.Path.{_≡_, refl, sym, ap, _∙_}
+use mathlib.Core.Bool.{Bool, true, false}
+use mathlib.Core.List.{[]}
+use native.Mathlib.Omega.{arith}
+use Rattle.layout.specs.Bytes.{Bytes}
+use Rattle.layout.specs.Parser.{ok, choose}
+use Rattle.layout.specs.Tree.{Columns, cnil}
+use Rattle.layout.specs.Layout.{label, columns, type, deepest}
+use Rattle.layout.specs.Find.{Lookup, absent, at, Finds, counterpart}
+use Rattle.layout.specs.Answers.{labelRes, labelAt}
+use Rattle.layout.specs.Stands.{TypeAt, ColumnsAt}
+use Rattle.layout.specs.declared.columns.Label.{Label as LabelSpan}
+use Rattle.layout.specs.declared.columns.Labelled.{Labelled}
+use Rattle.layout.specs.declared.columns.Position.{Position}
+use Rattle.layout.specs.declared.columns.Siblings.the-variants.{Free}
+use Rattle.layout.specs.declared.cursor.Cursor.{Cursor}
+use Rattle.layout.specs.declared.find.Found.{Found}
+use Rattle.layout.specs.declared.version.Version.{Version}
+use Rattle.layout.proofs.Ways.{clash}
+use Rattle.layout.proofs.View.{same-columns, no-column, FirstAt, first-at, first-labelled}
+use Rattle.rules.specs.declared.policy.ExtraColumnsPolicy.{ExtraColumnsPolicy}
+use Rattle.rules.specs.declared.policy.ExtraColumnsPolicy.the-variants.{Ignore, Raise}
+use Rattle.plan.specs.Result.{Answer, accepted, refusedAt}
+use Rattle.matching.specs.Build.{isAbsent, extraColumnErr, extraColumns}
+use Rattle.calls.specs.Answers.{extraAnswer}
+use Rattle.calls.specs.declared.extra.ExtraColumn.{ExtraColumn}
+
+-- ---- a look-up
+
+module _ (v : Version) (s : Bytes) where
+  pub found-some : (x : Lookup) {r : Found} {k : Position} {l : LabelSpan} {c : Cursor} → Finds v deepest s x r → r ≡ Found.At k l c → false ≡ isAbsent x
+  found-some absent {r} {k} {l} {c} f e = let z : Found.Absent ≡ Found.At k l c = sym f ∙ e in clash (cc)
+  found-some (at k l t) f e = refl
+
+  pub found-none : (x : Lookup) {r : Found} → Finds v deepest s x r → r ≡ Found.Absent → true ≡ isAbsent x
+  found-none absent f e = refl
+  found-none (at k l t) f e = let z : Found.At k (f .span) (f .start) ≡ Found.Absent = sym (f .is) ∙ e in clash (cc)
+
+-- ---- the loop: after i of n columns
+
+pub record Seeking (v : Version) (gs : Columns) (s : Bytes) (n from at i : ℕ) : Type 0 where
+  pub within : i ≤ n
+  pub rest : ColumnsAt v deepest s (n - i) at
+  pub answer : (P : ColumnsAt v deepest s n from) → extraColumnErr v (P .columns) gs 0 ≡ extraColumnErr v (rest .columns) gs i
+
+pub seeking-none : {v : Version} (gs : Columns) {s : Bytes} {n from : ℕ} → ColumnsAt v deepest s n from → Seeking v gs s n from from 0
+seeking-none {v} gs {s} {n} {from} P =
+    let e : n ≡ n - 0 = omega arith in
+    record {
+      within = omega arith;
+      rest = record { columns = P .columns; end = P .end; reads = ap (λ (j : ℕ). columns v Free (type v Free deepest) j [] s from) (sym e) ∙ P .reads };
+      answer = λ Q. ap (λ (cs : Columns). extraColumnErr v cs gs 0) (same-columns Q P .0);
+    }
+
+module _ {v : Version} {gs : Columns} {s : Bytes} {n from here i : ℕ} (W : Seeking v gs s n from here i) where
+  -- no column is left
+  pub seeking-all : n ≤ i → (P : ColumnsAt v deepest s n from) → accepted tt ≡ extraColumnErr v (P .columns) gs 0
+  unfolding extraColumnErr
+  seeking-all h P =
+      let (z, q) = no-column (W .rest) (let y : n - i ≡ 0 = omega arith in y) in
+      sym (W .answer P ∙ ap (λ (cs : Columns). extraColumnErr v cs gs i) z)
+
+  -- a column that stands there has a label
+  pub seeking-unlabelled : {B : Type 0} → i < n → {q : Labelled} {x : ℕ} → labelRes s q ≡ label v s here → q ≡ Labelled.Refused x → B
+  seeking-unlabelled lt e f = first-labelled (W .rest) (λ z. omega arith) e f
+
+  module _ (lt : i < n) {q : Labelled} {l : LabelSpan} {c : Cursor} (e : labelRes s q ≡ label v s here) (f : q ≡ Labelled.Is l c) where
+    -- the next column
+    pub column : FirstAt v deepest s (n - i) here (W .rest) (labelAt s l) (c .at)
+    column = first-at (W .rest) (λ z. omega arith) e f
+
+    -- the answer from it on, by whether it is extra
+    abbrev from-here : Bool → Answer (Unit {0})
+    from-here b = choose b (refusedAt 53 i) (extraColumnErr v (column .tail .columns) gs (i + 1))
+
+    split : {b : Bool} → b ≡ isAbsent (counterpart v (labelAt s l) gs) → (P : ColumnsAt v deepest s n from) → extraColumnErr v (P .columns) gs 0 ≡ from-here b
+    unfolding extraColumnErr
+    split g P = W .answer P ∙ ap (λ (cs : Columns). extraColumnErr v cs gs i) (column .is) ∙ ap from-here (sym g)
+
+    module _ {b : Bool} (g : b ≡ isAbsent (counterpart v (labelAt s l) gs)) where
+      pub seeking-stop : b ≡ true → (P : ColumnsAt v deepest s n from) → refusedAt 53 i ≡ extraColumnErr v (P .columns) gs 0
+      unfolding choose
+      seeking-stop h P = sym (split g P ∙ ap from-here h)
+
+      pub seeking-more : b ≡ false → {a : ℕ} → ((Q : TypeAt v deepest s (c .at)) → a ≡ Q .end) → Seeking v gs s n from a (i + 1)
+      unfolding choose
+      seeking-more h {a} skip =
+          let less : n - i - 1 ≡ n - (i + 1) = omega arith in
+          record {
+            within = omega arith;
+            rest = record { columns = column .tail .columns; end = column .tail .end; reads = tail-reads less (skip (column .head)) };
+            answer = λ P. split g P ∙ ap from-here h;
+          }
+        where
+          tail-reads : {y : ℕ} → n - i - 1 ≡ n - (i + 1) → y ≡ column .head .end → columns v Free (type v Free deepest) (n - (i + 1)) [] s y ≡ ok (column .tail .columns) (column .tail .end)
+          tail-reads less E = rw (← less, E) (column .tail .reads)
+
+-- ---- the policy
+
+module _ {e : ExtraColumnsPolicy} (v : Version) (fs gs : Columns) where
+  pub ignoring : e ≡ Ignore → accepted tt ≡ extraColumns e v fs gs
+  unfolding extraColumns
+  ignoring h = rw h
+
+  pub raising : e ≡ Raise → {r : ExtraColumn} → extraAnswer r ≡ extraColumnErr v fs gs 0 → extraAnswer r ≡ extraColumns e v fs gs
+  unfolding extraColumns
+  raising h a = rw h a
