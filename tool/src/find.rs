@@ -7,5 +7,5 @@ mod selector;
 
 pub use build::{Build, Spot};
 pub use check::difference;
-pub use run::refused_column;
+pub use run::Run;
 pub use selector::refused_selector;

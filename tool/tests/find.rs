@@ -260,6 +260,23 @@ fn the_column_of_a_run() {
         (said.refusal.number(), said.target.unwrap().path.as_str()),
         (44, "b")
     );
+    // In a renamed struct's list: the field that is too large by itself.
+    let columns = "s: struct { a: int8, t: list of struct { x: date-time ms, y: date-time ms } }";
+    let target = columns
+        .replace("ms", "ns")
+        .replace("s: struct { a: int8, t:", "r: struct { t:");
+    let finer = |position| [2, 0, position, 0, 14, 0, 0, 1];
+    let mut plan = b"PLN\x01\x00\x01\x00".to_vec();
+    plan.extend([3, 4, 0, 0, 0, 1, 0, 5, 0, 1, 0, 4, 0, 0, 0, 2, 0]);
+    plan.extend([finer(0), finer(1)].concat());
+    plan.extend([1, b'r']);
+    let mut record = vec![1, 0, 1, 1, 0, 1, 0, 1];
+    record.extend(i64::MAX.to_le_bytes());
+    let said = told(columns, &target, &plan, &record);
+    assert_eq!(
+        (said.refusal.number(), said.target.unwrap().path.as_str()),
+        (44, "r.t[].y")
+    );
     // A list of 1,500 int8 becomes three of int64: with the second there are more than 16,384 bytes.
     let mut record = vec![1, 0xDC, 0x05];
     record.extend([1, 7].repeat(1500));
