@@ -1,3 +1,3 @@
 pub mod Building
-pub mod Extra
+pub mod Seeking
 pub mod Plans

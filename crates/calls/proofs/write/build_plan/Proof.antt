@@ -1,24 +1,10 @@
 -- `calls::write::build_plan` meets its contract. Assumes nothing.
-use Rattle.calls.proofs.Plans.{attempt-answered, attempt-short, plan-again}
-use Rattle.matching.specs.Build.{build}
+use Rattle.calls.proofs.Plans.{build-extra, build-plain, answered-refused, answered-as, plan-kept, plan-as}
 use Rattle.defaults.specs.Lookup.{getDefaultValue}
-use mathlib.Core.Logic.{⊎-elim}
-use mathlib.Core.Path.{_≡_, ap, _∙_}
 use lib.ListN.{length}
 use borrow.Author.Needs.{needs}
 use Rattle.calls.proofs.write.build_plan.Statement.{statement}
 use Rattle.calls.proofs.write.build_plan.Tie as tie
-
--- an attempt in a room that was too short left the buffer as it was
-kept : (c : tie.Joined1) → c .if1 .plan ≡ c .before .before .before .before .before .args .plan .now
-kept c =
-    ⊎-elim
-    (λ w.
-    let (i, a, s, p, k, m, t, e) = w in
-    let (l, q) = attempt-short _ _ _ (s .result) _ (s .ensures (c .before .before .before .before .before .pre .1 .0) (c .before .before .before .before .before .pre .0 .0) (c .before .before .before .before .before .pre .0 .1)) (t .given .1) in
-    e ∙ q)
-    (λ w. w .1)
-    (c .if1 .came)
 
 pub build-plan-spec : {M : Type 1} → statement M
 build-plan-spec =
@@ -27,9 +13,22 @@ build-plan-spec =
     (λ c κs. search needs)
     (λ c. search needs)
     (λ c. search needs)
-    (λ c. λ T P Q. attempt-answered _ _ _ (c .before .before .before .before .before .build-small .result) _ (c .before .before .before .before .before .build-small .ensures T P Q) (c .before .r .given .1))
-    (λ c. search needs)
     (λ c κs. search needs)
-    (λ c. c .before .before .build-large .kept .1 .1 .1 .1 .1 .1 .1 .1 .1 .1 .0 ∙ ap length (kept (c .before .before .before .before)))
     (λ c. λ T P Q.
-    plan-again (build (c .before .before .before .before .before .before .before .before .before .args .v) (c .before .before .before .before .before .before .before .before .before .args .policy) (getDefaultValue (T .entries) (c .before .before .before .before .before .before .before .before .before .args .defaults .«source_index»)) (P .columns) (Q .columns)) (kept (c .before .before .before .before)) (c .before .before .build-large .ensures T P Q)))
+    let plan = c .before .before .before .before .before .before .before .before .args .plan .now in
+    let d = getDefaultValue (T .entries) (c .before .before .before .before .before .before .before .before .args .defaults .«source_index») in
+    plan-kept plan (answered-refused (length plan)
+    (build-extra (c .before .before .before .before .before .before .before .before .args .v)
+    (c .before .before .before .before .before .before .before .before .args .policy)
+    d (P .columns) (Q .columns) (c .before .before .before .extra-column .ensures P Q) (c .before .i .given .1))))
+    (λ c. search needs)
+    (λ c. λ T P Q.
+    let plan = c .before .before .before .before .before .before .before .before .before .before .before .args .plan .now in
+    let d = getDefaultValue (T .entries)
+    (c .before .before .before .before .before .before .before .before .before .before .before .args .defaults .«source_index») in
+    plan-as plan (answered-as (length plan)
+    (build-plain (c .before .before .before .before .before .before .before .before .before .before .before .args .v)
+    (c .before .before .before .before .before .before .before .before .before .before .before .args .policy)
+    d (P .columns) (Q .columns) (c .before .before .before .before .before .before .extra-column .ensures P Q)
+    (c .before .before .before .before .enum-told .given .1)))
+    (c .before .before .build-matched .ensures T P Q)))

@@ -104,6 +104,6 @@ module _ {e : ExtraColumnsPolicy} (v : Version) (fs gs : Columns) where
   unfolding extraColumns
   ignoring h = rw h
 
-  pub raising : e ≡ Raise → {r : ExtraColumn} → extraAnswer r ≡ extraColumnErr v fs gs 0 → extraAnswer r ≡ extraColumns e v fs gs
+  pub raising : e ≡ Raise → (r : ExtraColumn) → extraAnswer r ≡ extraColumnErr v fs gs 0 → extraAnswer r ≡ extraColumns e v fs gs
   unfolding extraColumns
-  raising h a = rw h a
+  raising h r a = rw h a
