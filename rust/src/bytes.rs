@@ -67,7 +67,7 @@ impl<'a> Defaults<'a> {
     }
 
     /// The same table; of a partition's values the source index, from 0, picks one.
-    pub const fn source(self, source_index: u32) -> Defaults<'a> {
+    pub const fn with_source(self, source_index: u32) -> Defaults<'a> {
         Defaults {
             source_index,
             ..self

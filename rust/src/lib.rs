@@ -1,8 +1,9 @@
-//! Safe bindings of the column selector: a controller receives its neighbour's record, laid out as the neighbour lays it out, and puts every reading into
-//! its own layout. A [`Plan`], built once from the two layouts, says how; [`Plan::run_into`] does it for one record.
+//! Safe bindings of the column selector: a controller receives its neighbour's record, laid out as the neighbour lays
+//! it out, and puts every reading into its own layout. A [`Plan`], built once from the two layouts, says how;
+//! [`Plan::run_into`] does it for one record.
 //!
-//! The library behind it is proved: each call answers as its definition says, ends on all inputs, and a refused call changes nothing of a lent buffer. These
-//! bindings add no rule of their own; they are not proved.
+//! The library behind it is proved: each call answers as its definition says, ends on all inputs, and a refused call
+//! changes nothing of a lent buffer. These bindings add no rule of their own; they are not proved.
 //!
 //! ```
 //! use column_selector::{Incoming, Layout, Plan, Policy, Record, Target};
@@ -27,10 +28,11 @@
 //! let plan = Plan::build_by_name_into(Policy::ALL, target, incoming, &mut buffer);
 //! ```
 //!
-//! The feature `alloc`, which is on by default, adds [`PlanBuf`] and [`Plan::run`], whose results own their bytes; without it nothing of the crate allocates.
-//! [`call`] has the functions of the C interface over slices.
+//! The feature `alloc`, which is on by default, adds `PlanBuf` and `Plan::run`, whose results own their bytes;
+//! without it nothing of the crate allocates. [`call`] has the functions of the C interface over slices.
 //!
-//! The stack that a call takes stands in `include/selector.h`: at most 136 KiB for a build, 160 KiB for a check or a run.
+//! The stack that a call takes stands in `include/selector.h`: at most 136 KiB for a build, 160 KiB for a check or a
+//! run.
 #![no_std]
 #![warn(missing_docs)]
 

@@ -1,7 +1,8 @@
 //! The bindings over the library: samples of document 01, the folders of examples/ with what the one of decimals tells, and what is promised of buffers.
 
 use column_selector::{
-    Defaults, ExtraColumns, Incoming, Layout, Place, Plan, PlanBuf, Policy, Reason, Record, Refusal, Target,
+    Defaults, ExtraColumns, Incoming, Layout, Place, Plan, PlanBuf, Policy, Reason, Record,
+    Refusal, Target,
 };
 use std::fs;
 use std::path::{Path, PathBuf};
@@ -191,10 +192,10 @@ fn sources() {
     };
     let table = Defaults::new(table);
     assert_eq!(run(table), b"\x01\x05");
-    assert_eq!(run(table.source(1)), b"\x01\x06");
-    assert_eq!(run(table.source(2)), b"\x00");
+    assert_eq!(run(table.with_source(1)), b"\x01\x06");
+    assert_eq!(run(table.with_source(2)), b"\x00");
     assert_eq!(run(Defaults::NONE), b"\x00");
-    assert_eq!(table.source(2).source_index(), 2);
+    assert_eq!(table.with_source(2).source_index(), 2);
 }
 
 /// What examples/salinometer/about.txt says of other policies and of the other way round, and the record that has too many digits.

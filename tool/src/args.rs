@@ -257,3 +257,62 @@ impl Command {
         text
     }
 }
+
+#[cfg(test)]
+mod tests {
+    use super::*;
+
+    const COMMAND: Command = Command {
+        name: "try",
+        operands: "ONE [TWO]",
+        about: "",
+        detail: "",
+        choices: &[&[OUTPUT, JSON], &[COLOR]],
+        least: 1,
+        most: 2,
+        run: |_| Ok(()),
+    };
+
+    fn parse(words: &[&str]) -> Result<Args, String> {
+        let words: Vec<OsString> = words.iter().map(OsString::from).collect();
+        Args::parse(&COMMAND, &words).map_err(|failure| failure.text())
+    }
+
+    #[test]
+    fn words() {
+        let args = parse(&["one", "-o", "file", "--json", "-"]).unwrap();
+        assert_eq!(args.operands, ["one", "-"]);
+        assert_eq!(args.output(), Some(OsStr::new("file")));
+        assert!(args.json() && !args.wants_help());
+        let args = parse(&["--output=a=b", "--", "--json"]).unwrap();
+        assert_eq!(args.operands, ["--json"]);
+        assert_eq!(args.output(), Some(OsStr::new("a=b")));
+        assert!(!args.json());
+        assert!(parse(&["--help"]).unwrap().wants_help());
+    }
+
+    #[test]
+    fn wrong_words() {
+        for (words, part) in [
+            (&[][..], "too few arguments"),
+            (&["1", "2", "3"][..], "too many arguments"),
+            (&["-", "-"][..], "can be read once only"),
+            (&["1", "--jsno"][..], "did you mean `--json`"),
+            (&["1", "--json=1"][..], "takes no value"),
+            (&["1", "-o"][..], "lacks its FILE"),
+            (&["1", "--json", "--json"][..], "stands twice"),
+        ] {
+            let error = parse(words).unwrap_err();
+            assert!(error.contains(part), "{error}");
+            assert!(error.contains("usage: selector try [OPTION..] ONE [TWO]"));
+        }
+    }
+
+    #[test]
+    fn help_names_every_option() {
+        let help = COMMAND.help();
+        for name in ["-o, --output FILE", "--json", "--color WHEN", "-h, --help"] {
+            assert!(help.contains(name), "{help}");
+        }
+    }
+}

@@ -159,7 +159,7 @@ fn walk_inside(
         .zip(mapping.input().and_then(position_of));
     let above = above.map(|(above, position)| [above, &[position]].concat());
     let inner = Scope {
-        columns: inner_scope(mapping, &scope.columns),
+        columns: inner_scope(mapping, &scope.columns).unwrap_or_default(),
         above,
         all: scope.all,
     };

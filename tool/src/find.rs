@@ -3,7 +3,9 @@
 mod build;
 mod check;
 mod run;
+mod selector;
 
 pub use build::{Build, Spot};
 pub use check::difference;
-pub use run::refused_column;
+pub use run::Run;
+pub use selector::refused_selector;

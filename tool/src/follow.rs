@@ -71,14 +71,13 @@ fn element_of<'a>(mapping: &Selector, input: &'a Type) -> Option<&'a [Column]> {
     }
 }
 
-/// What is around the inner selectors of a mapping; nothing where it does not fit.
-pub fn inner_scope(mapping: &Selector, scope: &[Column]) -> Vec<Column> {
-    let input = mapping.input().and_then(|input| made(input, scope));
-    let inner = input.and_then(|input| match (mapping, &input.of) {
+/// What is around the inner selectors of a mapping; none where it does not fit its input.
+pub fn inner_scope(mapping: &Selector, scope: &[Column]) -> Option<Vec<Column>> {
+    let input = made(mapping.input()?, scope)?;
+    match (mapping, &input.of) {
         (Selector::Struct(..), Type::Struct(fields)) => Some(fields.clone()),
         (mapping, of) => element_of(mapping, of).map(<[Column]>::to_vec),
-    });
-    inner.unwrap_or_default()
+    }
 }
 
 /// The places of incoming columns and fields, by their indexes from the top; an element is at 0.

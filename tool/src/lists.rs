@@ -101,8 +101,25 @@ pub fn refusals() -> &'static [Listed] {
                 listed.extend(refusal_of(&block, &section, &places));
             }
         }
+        spell_out(&mut listed);
         listed
     })
+}
+
+/// Where one says `As for 40.`, what is said there stands here too.
+fn spell_out(listed: &mut [Listed]) {
+    for index in 0..listed.len() {
+        let text = listed[index].what_to_do.strip_prefix("As for ");
+        let Some((number, rest)) = text.and_then(|text| text.split_once('.')) else {
+            continue;
+        };
+        let other = listed
+            .iter()
+            .find(|other| other.number.to_string() == number);
+        if let Some(other) = other {
+            listed[index].what_to_do = format!("{}{rest}", other.what_to_do);
+        }
+    }
 }
 
 fn refusal_of(block: &Block, section: &str, places: &[(String, String)]) -> Option<Listed> {
@@ -212,6 +229,23 @@ mod tests {
         }
         let all = flags().iter().fold(0, |word, flag| word | 1 << flag.bit);
         assert_eq!(all, Policy::ALL.word());
+    }
+
+    #[test]
+    fn nothing_is_said_by_number_alone() {
+        for listed in refusals() {
+            assert!(
+                !listed.what_to_do.starts_with("As for"),
+                "{}",
+                listed.number
+            );
+        }
+        assert!(
+            refusal(52)
+                .unwrap()
+                .what_to_do
+                .starts_with("See that the record")
+        );
     }
 
     #[test]

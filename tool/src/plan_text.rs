@@ -116,7 +116,9 @@ fn selector_lines(
         selector_text(selector, scope)
     )];
     for mapping in mappings(selector) {
-        let inner = scope.columns.map(|columns| inner_scope(mapping, columns));
+        let inner = scope
+            .columns
+            .map(|columns| inner_scope(mapping, columns).unwrap_or_default());
         let element = !matches!(mapping, Selector::Struct(..));
         let inner = Scope {
             columns: inner.as_deref(),
@@ -140,6 +142,12 @@ fn mappings(selector: &Selector) -> Vec<&Selector> {
         next = selector.input();
     }
     found
+}
+
+/// A selector among columns, on one line.
+pub fn described(selector: &Selector, columns: &[Column]) -> String {
+    let (columns, element) = (Some(columns), false);
+    selector_text(selector, Scope { columns, element })
 }
 
 /// A chain of transforms on one line.

@@ -10,7 +10,7 @@ use crate::path::{column_at, way_text};
 use crate::read::{self, Fault, File, path_text};
 use crate::text::{Place, type_text};
 use crate::wrap::wrapped;
-use column_selector::Refusal;
+use column_selector::{Reason, Refusal};
 
 /// The files of a call, as far as it has them.
 #[derive(Clone, Copy, Default)]
@@ -128,10 +128,14 @@ impl Told {
                 self.incoming = about(from, &vec![self.refusal.place as usize], &incoming.columns)
             }
             (_, "selector") => {
-                self.target = about(to, &vec![self.refusal.place as usize], &target.columns)
+                self.target = about(to, &vec![self.refusal.place as usize], &target.columns);
+                self.note = self.refused_selector(case, &incoming);
             }
             (33, _) => self.find_difference(case, &incoming, &target),
-            (44 | 45, _) => self.find_column(case, &target),
+            (44 | 45, _) => {
+                let way = self.run_way(case, &incoming, &target);
+                self.target = way.and_then(|way| about(to, &way, &target.columns));
+            }
             _ => {
                 let spot = case
                     .build
@@ -146,6 +150,12 @@ impl Told {
         }
     }
 
+    fn refused_selector(&self, case: Case, incoming: &Layout) -> Option<String> {
+        let plan = read::read_plan(&case.plan?.bytes).ok()?;
+        let (path, what) = find::refused_selector(self.refusal, &plan, &incoming.columns)?;
+        Some(format!("{}: {what}", path_text(&path)))
+    }
+
     fn find_difference(&mut self, case: Case, incoming: &Layout, target: &Layout) {
         let plan = case.plan.and_then(|plan| read::read_plan(&plan.bytes).ok());
         let made = plan.and_then(|plan| made_row(&plan.selectors, &incoming.columns));
@@ -158,17 +168,20 @@ impl Told {
         self.note = Some(how);
     }
 
-    fn find_column(&mut self, case: Case, target: &Layout) {
-        let (Some(from), Some(to), Some(plan), Some(record)) =
-            (case.incoming, case.target, case.plan, case.record)
-        else {
-            return;
+    /// The target's column in which a run is refused; a field inside it where one by itself is.
+    fn run_way(&self, case: Case, incoming: &Layout, target: &Layout) -> Option<Way> {
+        let plan = read::read_plan(&case.plan?.bytes).ok()?;
+        let run = find::Run {
+            refusal: self.refusal,
+            incoming: &case.incoming?.bytes,
+            record: &case.record?.bytes,
         };
-        let plan = read::read_plan(&plan.bytes).ok();
-        let found = plan.and_then(|plan| {
-            find::refused_column(self.refusal, &from.bytes, target, &plan, &record.bytes)
-        });
-        self.target = found.and_then(|index| about(to, &vec![index], &target.columns));
+        let index = run.column(&plan, target)?;
+        let inside = match self.refusal.reason {
+            Reason::Overflow => run.field(plan.selectors.get(index)?, &incoming.columns),
+            _ => Way::new(),
+        };
+        Some([vec![index], inside].concat())
     }
 
     /// The words of the list; of a table where one is refused.

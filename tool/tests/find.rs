@@ -208,6 +208,40 @@ fn the_first_difference() {
     assert_eq!(told.target.unwrap().path, "b[].y");
 }
 
+/// The selector inside a top selector that is refused.
+#[test]
+fn the_selector_of_a_check() {
+    let columns = "a: int8, s: struct { x: int8, y: list of struct { p: int8, q: string } }";
+    // A cast of q to int16 in the element of y; a position that is not there as the input of a rename.
+    let cast = [
+        4, 0, 1, 0, 1, 0, 5, 0, 1, 0, 4, 0, 0, 0, 2, 0, 0, 0, 0, 2, 0, 1, 0, 3, 2,
+    ];
+    let gone = [3, 0, 9, 0, 1, b'n'];
+    let kind = [5, 0, 0, 0, 2, 1, 0, 1, 0, 1, 2];
+    for (selector, number, note) in [
+        (
+            &cast[..],
+            32,
+            "selector 0, field 0, element, field 1: cast to int16, Overflowing, of position 1 (q: string)",
+        ),
+        (
+            &gone[..],
+            31,
+            "selector 0, input: position 9, which is not there",
+        ),
+        (
+            &kind[..],
+            32,
+            "selector 0: list mapping of position 0 (a: int8)",
+        ),
+    ] {
+        let plan = [b"PLN\x01\x00\x01\x00".as_slice(), selector].concat();
+        let told = told(columns, columns, &plan, b"");
+        assert_eq!(told.refusal.number(), number);
+        assert_eq!(told.note.as_deref(), Some(note));
+    }
+}
+
 #[test]
 fn the_column_of_a_run() {
     let columns = "a: date-time ms, b: date-time ms, c: date-time ms";
@@ -225,6 +259,23 @@ fn the_column_of_a_run() {
     assert_eq!(
         (said.refusal.number(), said.target.unwrap().path.as_str()),
         (44, "b")
+    );
+    // In a renamed struct's list: the field that is too large by itself.
+    let columns = "s: struct { a: int8, t: list of struct { x: date-time ms, y: date-time ms } }";
+    let target = columns
+        .replace("ms", "ns")
+        .replace("s: struct { a: int8, t:", "r: struct { t:");
+    let finer = |position| [2, 0, position, 0, 14, 0, 0, 1];
+    let mut plan = b"PLN\x01\x00\x01\x00".to_vec();
+    plan.extend([3, 4, 0, 0, 0, 1, 0, 5, 0, 1, 0, 4, 0, 0, 0, 2, 0]);
+    plan.extend([finer(0), finer(1)].concat());
+    plan.extend([1, b'r']);
+    let mut record = vec![1, 0, 1, 1, 0, 1, 0, 1];
+    record.extend(i64::MAX.to_le_bytes());
+    let said = told(columns, &target, &plan, &record);
+    assert_eq!(
+        (said.refusal.number(), said.target.unwrap().path.as_str()),
+        (44, "r.t[].y")
     );
     // A list of 1,500 int8 becomes three of int64: with the second there are more than 16,384 bytes.
     let mut record = vec![1, 0xDC, 0x05];

@@ -110,7 +110,7 @@ impl Inputs {
         Build {
             by_number: self.by_number,
             policy: self.policy,
-            defaults: table.source(self.source),
+            defaults: table.with_source(self.source),
         }
     }
 

@@ -26,6 +26,10 @@ pub const COMMAND: Command = Command {
 
 fn run(args: &Args) -> Result<(), Failure> {
     let diff = match args.operand(2) {
+        Some(_) if BUILD.iter().any(|choice| args.has(choice.name)) => {
+            let message = "diff: a PLAN is given, so that the options of a build have no effect";
+            return Err(Failure::Usage(message.to_string()));
+        }
         Some(_) => checked(args)?,
         None => built(args)?,
     };

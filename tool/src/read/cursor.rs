@@ -229,11 +229,12 @@ impl<'a> Cursor<'a> {
     pub fn take(&mut self, count: usize, what: &str) -> Read<&'a [u8]> {
         let left = self.bytes.len() - self.at;
         if count > left {
-            let more = count - left;
-            let expected = format!(
-                "{more} more byte{} of {what}",
-                if more == 1 { "" } else { "s" }
-            );
+            let expected = match (left, count - left) {
+                (0, 1) => what.to_string(),
+                (0, _) => format!("{what}, {count} bytes"),
+                (_, 1) => format!("1 more byte of {what}"),
+                (_, more) => format!("{more} more bytes of {what}"),
+            };
             let end = self.bytes.len();
             return Err(self.fault_at(Cause::End, end, end, expected));
         }

@@ -2,6 +2,7 @@
 
 use super::cursor::{Cause, Cursor, Fault, File, Read, Step};
 use crate::form::{self, Column, Layout, Leaf, Type, Unit};
+use crate::text::name_text;
 use std::collections::HashSet;
 
 const DEPTH_LIMIT: usize = 16;
@@ -25,36 +26,34 @@ impl Types {
     pub const PLAIN: Types = Types { version: 1 };
 
     fn columns(&self, cursor: &mut Cursor, depth: usize, top: bool) -> Read<Vec<Column>> {
-        let count = cursor.u16(if top {
-            "the count of columns"
-        } else {
-            "the count of fields"
-        })?;
-        let (mut names, mut ids) = (HashSet::new(), HashSet::new());
+        let what = if top { "columns" } else { "fields" };
+        let count = cursor.u16(&format!("the count of {what}"))?;
+        let mut seen = HashSet::new();
         let mut columns = Vec::new();
         for index in 0..usize::from(count) {
             let column = cursor.within(Step::Column(index, None), |cursor| {
                 let from = cursor.at;
                 let (column, named) = self.column(cursor, index, depth)?;
-                let new = match form::by_number(self.version) {
-                    true => ids.insert(column.id),
-                    false => !top || names.insert(column.name.clone()),
-                };
-                if new {
-                    return Ok(column);
+                match self.label(&column, top) {
+                    Some(label) if !seen.insert(label.clone()) => {
+                        let expected = format!("no second one of the {label} among these {what}");
+                        Err(cursor.fault_at(Cause::Repeated, from, named, expected))
+                    }
+                    _ => Ok(column),
                 }
-                let expected = match form::by_number(self.version) {
-                    true => format!(
-                        "an id that no sibling before it has, not {} again",
-                        column.id
-                    ),
-                    false => "a name that no column before it has".to_string(),
-                };
-                Err(cursor.fault_at(Cause::Repeated, from, named, expected))
             })?;
             columns.push(column);
         }
         Ok(columns)
+    }
+
+    /// What no sibling may have too.
+    fn label(&self, column: &Column, top: bool) -> Option<String> {
+        match (form::by_number(self.version), top) {
+            (true, _) => Some(format!("id {}", column.id)),
+            (false, true) => Some(format!("name {}", name_text(&column.name))),
+            (false, false) => None,
+        }
     }
 
     /// A column, and where its name and id end.
