@@ -19,7 +19,7 @@ use Rattle.plan.specs.Check.{Column, columnAt, elementOf, structOf, listOf, arr
 use Rattle.plan.specs.Reach.{SelectorAt as Nth, s-here, s-there}
 use Rattle.walk.specs.State.{Frame, fields, element, State, state}
 use Rattle.walk.specs.Moves.{Input, i-cast, i-rename, i-struct, i-list, i-array, Part, p-field, p-list, p-array}
-use Rattle.walk.specs.Types.{c-fields, c-list, c-array, a-here}
+use Rattle.walk.specs.Types.{c-fields, c-list, c-array}
 use Rattle.walk.specs.Parts.{CastAt, RenameAt, StructAt, ListAt, ArrayAt, HeadIs}
 use Rattle.walk.specs.Standing.{WalkAt, rank, StepsTo}
 use Rattle.walk.specs.declared.walk.Walk.{Walk}
@@ -169,12 +169,15 @@ module _ {incoming : Bytes} {v : Version} {n : ℕ} {plan : Bytes} {w : Walk} {s
           takes = T .takes;
           column = passed .0;
           passes = passed .1;
-          typed = record {
+          named = record {
             columns = C .columns;
-            place = state i (C .frames) [];
+            selector = i;
+            frames = C .frames;
             standing = steps .standing;
             shallow = T .shallow;
-            typed = record { scope = Δ; column = passed .0; scoped = C .scoped; passes = passed .1; along = a-here };
+            scope = Δ;
+            scoped = C .scoped;
+            passes = passed .1;
           };
         }
 

@@ -17,7 +17,7 @@ use Rattle.walk.specs.Types.{ScopeOf}
 use Rattle.walk.specs.Standing.{WalkAt}
 use Rattle.walk.specs.declared.walk.Walk.{Walk}
 use Rattle.checker.specs.Shallow.{Shallow}
-use Rattle.checker.specs.Standing.{TypedAt}
+use Rattle.checker.specs.Standing.{NamedAt}
 use Rattle.checker.specs.declared.place.TypeHead.{TypeHead}
 use Rattle.checker.specs.declared.selector.Checked.{Checked}
 use Rattle.checker.specs.declared.selector.Rest.{Rest}
@@ -57,7 +57,7 @@ pub record PassedInput (incoming : Bytes) (v : Version) (n : ℕ) (plan : Bytes)
   pub takes : Input s input
   pub column : Column
   pub passes : typeOf Δ input ≡ gives column
-  pub typed : TypedAt incoming v n plan x (column .type)
+  pub named : NamedAt incoming v n plan x column
 
 -- at the mapping s, whose input i has passed and gives the type t
 pub record MappingAt (incoming : Bytes) (v : Version) (n : ℕ) (plan : Bytes) (w : Walk) (s i : Selector) (t : DataType) : Type 0 where

@@ -10,7 +10,7 @@ ghost use Rattle.plan.specs.Selector.{Selector, Selectors, countSelectors, stru
 ghost use Rattle.plan.specs.Check.{Column, columnAt, typeOf, resulting, checkCast};
 ghost use Rattle.walk.specs.Stands.{SelectorAt};
 ghost use Rattle.walk.specs.Parts.{OptionAt};
-ghost use Rattle.checker.specs.Standing.{TypeHeadIs, ScopedAt, TypedAt};
+ghost use Rattle.checker.specs.Standing.{TypeHeadIs, ScopedAt, TypedAt, NamedAt};
 ghost use Rattle.checker.specs.Checking.{checkedOf, fittingOf, isTransform, CheckingAt, PassedInput, nothingLeft, fieldsLeft, listedLeft, arrayedLeft, RestIs, MappingAt, Elements, fieldsResult, elementResult};
 use crate::cast::cast_fits;
 use crate::head::type_head;
@@ -91,24 +91,6 @@ fn cast_result(incoming: &[u8], v: Version, n: u16, plan: &[u8], x: Walk, input:
     fitting(within_limits(incoming, v, n, plan, t))
 }
 
-// A rename whose input, at which `x` stands, has passed.
-fn rename_result(incoming: &[u8], v: Version, n: u16, plan: &[u8], x: Walk) -> Checked
-    requires { ⌜ ((t : DataType) × TypedAt (now incoming) v n (now plan) x t) ⌝ }
-    ensures { λ r. ⌜ ((t : DataType) (name : Bytes) → TypedAt (now (incoming .entry)) v n (now (plan .entry)) x t → r ≡ checkedOf (resulting name t)) ⌝ }
-{
-    let r = resolve(incoming, v, n, plan, x);
-    fitting(within_limits(incoming, v, n, plan, r))
-}
-
-// What the input of a mapping begins with.
-fn input_head(incoming: &[u8], v: Version, n: u16, plan: &[u8], x: Walk) -> TypeHead
-    requires { ⌜ ((t : DataType) × TypedAt (now incoming) v n (now plan) x t) ⌝ }
-    ensures { λ h. ⌜ ((t : DataType) → TypedAt (now (incoming .entry)) v n (now (plan .entry)) x t → TypeHeadIs (now (incoming .entry)) (now (plan .entry)) t h) ⌝ }
-{
-    let r = resolve(incoming, v, n, plan, x);
-    type_head(incoming, v, n, plan, r)
-}
-
 // Whether the selector at `c` transforms what another gives.
 fn is_transform(plan: &[u8], c: Cursor) -> bool
     ensures { λ r. ⌜ ((P : SelectorAt (now (plan .entry)) (c .at)) → r ≡ isTransform (P .tree)) ⌝ }
@@ -123,6 +105,27 @@ fn is_transform(plan: &[u8], c: Cursor) -> bool
         SelectorHead::Array(_) => true,
         SelectorHead::Refused => false,
     }
+}
+
+// A rename whose input, at which `x` stands, has passed. What a transform gives was found within the limits by its own check.
+fn rename_result(incoming: &[u8], v: Version, n: u16, plan: &[u8], x: Walk) -> Checked
+    requires { ⌜ ((a : Column) × NamedAt (now incoming) v n (now plan) x a) ⌝ }
+    ensures { λ r. ⌜ ((a : Column) (name : Bytes) → NamedAt (now (incoming .entry)) v n (now (plan .entry)) x a → r ≡ checkedOf (resulting name (a .type))) ⌝ }
+{
+    if is_transform(plan, Cursor { at: x.at }) {
+        return Checked::Passed;
+    }
+    let r = resolve(incoming, v, n, plan, x);
+    fitting(within_limits(incoming, v, n, plan, r))
+}
+
+// What the input of a mapping begins with.
+fn input_head(incoming: &[u8], v: Version, n: u16, plan: &[u8], x: Walk) -> TypeHead
+    requires { ⌜ ((t : DataType) × TypedAt (now incoming) v n (now plan) x t) ⌝ }
+    ensures { λ h. ⌜ ((t : DataType) → TypedAt (now (incoming .entry)) v n (now (plan .entry)) x t → TypeHeadIs (now (incoming .entry)) (now (plan .entry)) t h) ⌝ }
+{
+    let r = resolve(incoming, v, n, plan, x);
+    type_head(incoming, v, n, plan, r)
 }
 
 // A position or a constant.

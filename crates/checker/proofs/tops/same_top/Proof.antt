@@ -1,5 +1,5 @@
 -- `checker::tops::same_top` meets its contract. Assumes nothing.
-use Rattle.checker.proofs.Topping.{named-typed}
+use Rattle.checker.proofs.Resolving.{named-typed}
 use Rattle.checker.proofs.Alike.{field-differs, field-goes}
 use Rattle.forms.proofs.Comparing.{behind-label, never-unlabelled}
 use Rattle.layout.proofs.View.{label-got}
