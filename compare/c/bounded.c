@@ -195,6 +195,8 @@ static void expect_turned(int listed, int mappings) {
         failed = 1;
 }
 
+#include "slow_checks.h"
+
 int main(void) {
     const int64_t fits = 9223372036854, exceeds = 9223372036855;
     incoming_of(&incoming);
@@ -224,5 +226,6 @@ int main(void) {
         expect_turned(listed, 7);
         expect_turned(listed, 60);
     }
+    slow_checks();
     return failed;
 }
