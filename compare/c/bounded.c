@@ -231,6 +231,8 @@ static void expect_missing(int version) {
         failed = 1;
 }
 
+#include "slow_checks.h"
+
 int main(void) {
     const int64_t fits = 9223372036854, exceeds = 9223372036855;
     incoming_of(&incoming);
@@ -262,5 +264,6 @@ int main(void) {
     }
     expect_missing(1);
     expect_missing(2);
+    slow_checks();
     return failed;
 }
