@@ -16,7 +16,7 @@ use Rattle.plan.specs.Result.{Answer, accepted, refusedAt, placed, demand, give
 use Rattle.plan.specs.Selector.{Selectors}
 use Rattle.plan.specs.Encode.{planMark, encodeSelectors, encodePlan}
 use Rattle.plan.specs.Calls.{bufferAfter, writeResult}
-use Rattle.matching.specs.Build.{buildFrom}
+use Rattle.matching.specs.Build.{extraColumnErr, buildFrom}
 use Rattle.matching.specs.Calls.{bothLayouts, roomFor}
 use Rattle.builder.specs.Answers.{DefaultsAt, defaultsAt}
 use Rattle.builder.specs.declared.answer.Made.{Made}
@@ -46,6 +46,11 @@ BothIs v incoming target (BothRead.Refused n k) = (f : Columns → Columns → A
 abbrev pub extraAnswer : ExtraColumn → Answer (Unit {0})
 extraAnswer (ExtraColumn.At k) = refusedAt 53 k
 extraAnswer ExtraColumn.Nothing = accepted tt
+
+-- n incoming columns at `at`, m target columns at `bt`
+abbrev pub FoundExtra : Version → Bytes → ℕ → ℕ → Bytes → ℕ → ℕ → ExtraColumn → Type 0
+FoundExtra v incoming n at target m bt r =
+    (P : ColumnsAt v deepest incoming n at) (Q : ColumnsAt v deepest target m bt) → extraAnswer r ≡ extraColumnErr v (P .columns) (Q .columns) 0
 
 -- ---- the selectors of the target columns
 

@@ -6,8 +6,8 @@ ghost use Rattle.layout.specs.Find.{counterpart};
 ghost use Rattle.layout.specs.Layout.{deepest};
 ghost use Rattle.layout.specs.Stands.{ColumnsAt};
 ghost use Rattle.labels.specs.Table.{Table};
-ghost use Rattle.matching.specs.Build.{isAbsent, extraColumnErr, extraColumns};
-ghost use Rattle.calls.specs.Answers.{extraAnswer};
+ghost use Rattle.matching.specs.Build.{isAbsent, extraColumns};
+ghost use Rattle.calls.specs.Answers.{extraAnswer, FoundExtra};
 use labels::TABLE_SIZE;
 use labels::fill;
 use labels::find_in;
@@ -63,7 +63,7 @@ fn first_extra(
 ) -> ExtraColumn
     requires { ⌜ ColumnsAt v deepest (now incoming) n (c .at) × ColumnsAt v deepest (now target) m (b .at) ⌝ }
     requires { ⌜ (whole ≡ true → Table v deepest (now target) m (b .at) (now starts) (now positions)) ⌝ }
-    ensures { λ r. ⌜ ((P : ColumnsAt v deepest (now (incoming .entry)) n (c .at)) (Q : ColumnsAt v deepest (now (target .entry)) m (b .at)) → extraAnswer r ≡ extraColumnErr v (P .columns) (Q .columns) 0) ⌝ }
+    ensures { λ r. ⌜ FoundExtra v (now (incoming .entry)) n (c .at) (now (target .entry)) m (b .at) r ⌝ }
 {
     let mut at = c.at;
     let mut i: u16 = 0;
@@ -95,7 +95,7 @@ fn extra_among_few(
     b: Cursor,
 ) -> ExtraColumn
     requires { ⌜ ColumnsAt v deepest (now incoming) n (c .at) × ColumnsAt v deepest (now target) m (b .at) ⌝ }
-    ensures { λ r. ⌜ ((P : ColumnsAt v deepest (now (incoming .entry)) n (c .at)) (Q : ColumnsAt v deepest (now (target .entry)) m (b .at)) → extraAnswer r ≡ extraColumnErr v (P .columns) (Q .columns) 0) ⌝ }
+    ensures { λ r. ⌜ FoundExtra v (now (incoming .entry)) n (c .at) (now (target .entry)) m (b .at) r ⌝ }
 {
     let array = [0u16; 1];
     let none = &array[..];
@@ -113,7 +113,7 @@ fn extra_among_many(
     b: Cursor,
 ) -> ExtraColumn
     requires { ⌜ ColumnsAt v deepest (now incoming) n (c .at) × ColumnsAt v deepest (now target) m (b .at) ⌝ }
-    ensures { λ r. ⌜ ((P : ColumnsAt v deepest (now (incoming .entry)) n (c .at)) (Q : ColumnsAt v deepest (now (target .entry)) m (b .at)) → extraAnswer r ≡ extraColumnErr v (P .columns) (Q .columns) 0) ⌝ }
+    ensures { λ r. ⌜ FoundExtra v (now (incoming .entry)) n (c .at) (now (target .entry)) m (b .at) r ⌝ }
 {
     let mut starts = [0u16; TABLE_SIZE];
     let mut positions = [0u16; TABLE_SIZE];
