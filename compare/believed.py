@@ -14,12 +14,24 @@ import sys
 
 ROOT = pathlib.Path(__file__).resolve().parent.parent
 CRATES = ROOT / "crates"
-LIMIT = 3000
-STATEMENTS = [("demands", "Demands"), ("demands", "Projected"), ("demands", "Loosened"), ("selector", "Decoded")]
+# 3,000 lines for the base; each request adds its own.
+LIMIT = 3300
+STATEMENTS = [
+    ("demands", "Demands"),
+    ("demands", "Projected"),
+    ("demands", "Loosened"),
+    ("demands", "Owners"),
+    ("selector", "Decoded"),
+]
 
 WORD = re.compile(r"[^\s(){}\[\],;.λ]+")
-USE = re.compile(r"^(?:ghost )?use Rattle·([a-z]+)(?:·specs|·proofs)?\.(specs|proofs\.proofs|proofs)\.([\w.+-]+)\.\{([^}]*)\}", re.M)
-HEAD = re.compile(r"^(?:unfoldable |abbrev |opaque )*(?:pub )?(record|data)? ?([^\s(:{]+)(?:\s+[({][^)}]*[)}])*\s+:(?:\s|$)")
+USE = re.compile(
+    r"^(?:ghost )?use Rattle·([a-z]+)(?:·specs|·proofs)?\.(specs|proofs\.proofs|proofs)\.([\w.+-]+)\.\{([^}]*)\}",
+    re.M,
+)
+HEAD = re.compile(
+    r"^(?:unfoldable |abbrev |opaque )*(?:pub )?(record|data)? ?([^\s(:{]+)(?:\s+[({][^)}]*[)}])*\s+:(?:\s|$)"
+)
 PART = re.compile(r"^(?:pub )?([^\s:(]+) :")
 
 

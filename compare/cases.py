@@ -9,6 +9,7 @@
 # of UTC changed and of L03.jsonl those of extra top columns, which stand first there. In base.jsonl no decimal stands; in its policy
 # words bit 14, which is theirs now, is on or off, and changes no answer. In the files before L03.jsonl bit 15, which refuses extra top
 # columns now where it is off, had no meaning: it is turned on.
+# Of L07.jsonl those are taken whose layouts are of version 2, for the others ask what the library does not know yet.
 # Layouts at the edges of the rules of documents 01 and 02 are added, whose answers come from the reader below, and builds of
 # the original source (compare/rust/sample.txt). The reader is written from these documents and shares nothing with the library; where it
 # disagrees with an answer of VECTORS, nothing is written and the exit status is 1. Which plans one pass is to settle (docs/ARCHITECTURE.md)
@@ -27,6 +28,7 @@ TAKEN = [
     ("L01.jsonl", 251, "its answers where decimals stand"),
     ("L02.jsonl", 23, "its answers where zones count as UTC"),
     ("L03.jsonl", 56, "its answers where columns are extra"),
+    ("L07.jsonl", None, "its answers where tables have owners"),
 ]
 # The lines of these files whose answers a later request changed: L2 the one, a build from the zone Etc/UTC to Z that was 21.
 CHANGED = {("base.jsonl", 140)}
@@ -42,7 +44,7 @@ HEAD = """\
 # The rest is the place of a refusal, the result's bytes of an accepted build or run, and 0 of an accepted reading or check.
 #   layout <layout> <number> <rest>
 #   build_name <policy> <buffer's length> <incoming> <target> <number> <rest>
-#   build_number <policy> <source index> <buffer's length> <incoming> <target> <defaults> <number> <rest>
+#   build_number <policy> <source index> <owner> <buffer's length> <incoming> <target> <defaults> <number> <rest>
 #   check <incoming> <target> <plan> <number> <rest>
 #   run <buffer's length> <incoming> <target> <plan> <record> <number> <rest>
 # `#` starts a comment.
@@ -497,7 +499,7 @@ CALLS = ("layout", "build_name", "build_number", "check", "run")
 # The words of a call's arguments, in the order of a line.
 ARGUMENTS = {
     "build_name": ("policy", "buffer", "incoming", "target"),
-    "build_number": ("policy", "source_index", "buffer", "incoming", "target", "defaults"),
+    "build_number": ("policy", "source_index", "owner", "buffer", "incoming", "target", "defaults"),
     "check": ("incoming", "target", "plan"),
     "run": ("buffer", "incoming", "target", "plan", "record"),
 }
@@ -514,7 +516,7 @@ def line(data, number):
 
 # A line of another call, whose answer is taken over; `on` are policy bits that are turned on.
 def other(case, on):
-    given, out = case["in"], case["out"]
+    given, out = {"owner": 0, **case["in"]}, case["out"]
     if "policy" in given:
         given["policy"] |= on
     words = [case["op"]]
@@ -529,13 +531,19 @@ def other(case, on):
     return " ".join(words)
 
 
+# Whether a case with an owner asks what the library knows: layouts of version 2 alone.
+def known(given):
+    layouts = [given.get(name, "")[6:10] for name in ("incoming", "target")]
+    return "owner" not in given or layouts == ["0200", "0200"]
+
+
 # The cases of a file as lines, of the first so many alone where a number is given.
 def taken(path, most=None):
     lines = []
     on = EXTRA_COLUMNS if os.path.basename(path) in BEFORE_EXTRA_COLUMNS else 0
     for number, text in enumerate(itertools.islice(open(path), most), 1):
         case = json.loads(text)
-        if case["op"] not in CALLS or (os.path.basename(path), number) in CHANGED:
+        if case["op"] not in CALLS or not known(case["in"]) or (os.path.basename(path), number) in CHANGED:
             continue
         if case["op"] != "layout":
             lines.append(other(case, on))

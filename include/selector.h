@@ -153,10 +153,11 @@ uint64_t selector_read_layout(const uint8_t *layout, size_t length);
 uint64_t selector_build_by_name(uint32_t policy, const uint8_t *incoming, size_t incoming_length,
                                 const uint8_t *target, size_t target_length, uint8_t *plan, size_t plan_length);
 
-/* The same by field id, with defaults for missing fields. Both layouts are of version 2; of a partition's values in the
- * table of defaults the source index, from 0, picks one. Refusals: 1 to 6, 10, 11, 13 to 28, 50, 51, 53.
- * Stack: SELECTOR_BUILD_STACK. */
-uint64_t selector_build_by_number(uint32_t policy, uint32_t source_index,
+/* The same by field id, with defaults for missing fields. Both layouts are of version 2. Of the table of defaults the
+ * entries of the owner count, and in a table of version 1 all entries; of a partition's values the source index, from 0,
+ * picks one. Entries of other owners change no answer, but a fault in one refuses the table. Refusals: 1 to 6, 10, 11,
+ * 13 to 28, 50, 51, 53. Stack: SELECTOR_BUILD_STACK. */
+uint64_t selector_build_by_number(uint32_t policy, uint32_t source_index, uint16_t owner,
                                   const uint8_t *incoming, size_t incoming_length,
                                   const uint8_t *target, size_t target_length,
                                   const uint8_t *defaults, size_t defaults_length, uint8_t *plan, size_t plan_length);

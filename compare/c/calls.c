@@ -37,6 +37,7 @@ static const char *const names[KINDS] = {"build_name", "build_number", "check", 
 typedef struct {
     enum kind kind;
     uint32_t policy, source_index;
+    uint16_t owner;
     size_t space; /* the lent buffer's length */
     int inputs;
     uint8_t bytes[INPUTS][SPACE];
@@ -58,7 +59,7 @@ static uint64_t made(const call *c, int before_end) {
     case BUILD_NAME:
         return selector_build_by_name(c->policy, in[0], n[0], in[1], n[1], out, c->space);
     case BUILD_NUMBER:
-        return selector_build_by_number(c->policy, c->source_index, in[0], n[0], in[1], n[1], in[2], n[2], out, c->space);
+        return selector_build_by_number(c->policy, c->source_index, c->owner, in[0], n[0], in[1], n[1], in[2], n[2], out, c->space);
     case CHECK:
         return selector_check_plan(in[0], n[0], in[1], n[1], in[2], n[2]);
     default:
@@ -83,6 +84,7 @@ static int parse(enum kind kind, char *rest, call *c, char **number, char **last
     c->kind = kind;
     c->space = 0;
     c->policy = c->source_index = 0;
+    c->owner = 0;
     c->inputs = kind == BUILD_NAME ? 2 : kind == RUN ? 4 : 3;
     if (kind == BUILD_NAME || kind == BUILD_NUMBER) {
         c->policy = (uint32_t)strtoul(word ? word : "", NULL, 10);
@@ -90,6 +92,8 @@ static int parse(enum kind kind, char *rest, call *c, char **number, char **last
     }
     if (kind == BUILD_NUMBER) {
         c->source_index = (uint32_t)strtoul(word ? word : "", NULL, 10);
+        word = strtok(NULL, " ");
+        c->owner = (uint16_t)strtoul(word ? word : "", NULL, 10);
         word = strtok(NULL, " ");
     }
     if (kind != CHECK) {

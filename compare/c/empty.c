@@ -28,7 +28,7 @@ static uint64_t call(enum kind kind, const arguments *a) {
     case BUILD_NAME:
         return selector_build_by_name(SELECTOR_ALLOW_ALL, p[0], n[0], p[1], n[1], p[2], n[2]);
     case BUILD_NUMBER:
-        return selector_build_by_number(SELECTOR_ALLOW_ALL, 0, p[0], n[0], p[1], n[1], p[2], n[2], p[3], n[3]);
+        return selector_build_by_number(SELECTOR_ALLOW_ALL, 0, 0, p[0], n[0], p[1], n[1], p[2], n[2], p[3], n[3]);
     case CHECK:
         return selector_check_plan(p[0], n[0], p[1], n[1], p[2], n[2]);
     default:

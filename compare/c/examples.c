@@ -50,7 +50,7 @@ static int carry(const char *folder) {
     }
     uint64_t answer;
     if (load(folder, "defaults.def", &defaults)) {
-        answer = selector_build_by_number(SELECTOR_ALLOW_ALL, 0, incoming.data, incoming.length, target.data, target.length, defaults.data,
+        answer = selector_build_by_number(SELECTOR_ALLOW_ALL, 0, 0, incoming.data, incoming.length, target.data, target.length, defaults.data,
                                           defaults.length, plan.data, sizeof plan.data);
     } else {
         answer = selector_build_by_name(SELECTOR_ALLOW_ALL, incoming.data, incoming.length, target.data, target.length, plan.data, sizeof plan.data);

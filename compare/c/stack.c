@@ -23,6 +23,7 @@ static size_t most[KINDS];
 
 static enum kind kind;
 static uint32_t policy, source_index;
+static uint16_t owner;
 static uint8_t bytes[INPUTS][SPACE], buffer[SPACE];
 static size_t length[INPUTS], space;
 
@@ -32,7 +33,7 @@ static void *call(void *unused) {
         selector_build_by_name(policy, bytes[0], length[0], bytes[1], length[1], buffer, space);
         break;
     case BUILD_NUMBER:
-        selector_build_by_number(policy, source_index, bytes[0], length[0], bytes[1], length[1], bytes[2], length[2], buffer, space);
+        selector_build_by_number(policy, source_index, owner, bytes[0], length[0], bytes[1], length[1], bytes[2], length[2], buffer, space);
         break;
     case CHECK:
         selector_check_plan(bytes[0], length[0], bytes[1], length[1], bytes[2], length[2]);
@@ -83,6 +84,8 @@ static void one_case(enum kind k, char *rest) {
     }
     if (k == BUILD_NUMBER) {
         source_index = (uint32_t)strtoul(word, NULL, 10);
+        word = strtok(NULL, " ");
+        owner = (uint16_t)strtoul(word, NULL, 10);
         word = strtok(NULL, " ");
     }
     if (k != CHECK) {

@@ -46,23 +46,25 @@ pub struct Incoming<'a>(pub Layout<'a>);
 #[derive(Clone, Copy, Debug, PartialEq, Eq, Hash)]
 pub struct Target<'a>(pub Layout<'a>);
 
-/// A table of defaults, and which of a partition's values counts.
+/// A table of defaults, which of a partition's values counts, and whose entries do.
 #[derive(Clone, Copy, Debug, PartialEq, Eq, Hash)]
 pub struct Defaults<'a> {
     bytes: &'a [u8],
     source_index: u32,
+    owner: u16,
 }
 
 impl<'a> Defaults<'a> {
     /// A table without entries.
     pub const NONE: Defaults<'static> = Defaults::new(b"DEF\x01\x00\x00\x00");
 
-    /// Bytes that were stored or received, of which nothing is tested. Of a partition's values the first counts.
+    /// Bytes that were stored or received, of which nothing is tested. Of a partition's values the first counts, and of
+    /// a table of version 2 the entries of owner 0.
     pub const fn new(bytes: &'a [u8]) -> Defaults<'a> {
-        let source_index = 0;
         Defaults {
             bytes,
-            source_index,
+            source_index: 0,
+            owner: 0,
         }
     }
 
@@ -74,9 +76,19 @@ impl<'a> Defaults<'a> {
         }
     }
 
+    /// The same table; of version 2 the entries of this owner count, of version 1 all.
+    pub const fn with_owner(self, owner: u16) -> Defaults<'a> {
+        Defaults { owner, ..self }
+    }
+
     /// The table's bytes.
     pub const fn as_bytes(self) -> &'a [u8] {
         self.bytes
+    }
+
+    /// Whose entries count.
+    pub const fn owner(self) -> u16 {
+        self.owner
     }
 
     /// Which of a partition's values counts.

@@ -19,6 +19,7 @@ unsafe extern "C" {
     fn selector_build_by_number(
         policy: u32,
         source_index: u32,
+        owner: u16,
         incoming: *const u8,
         incoming_length: usize,
         target: *const u8,
@@ -92,6 +93,7 @@ pub fn build_by_name(
 pub fn build_by_number(
     policy: u32,
     source_index: u32,
+    owner: u16,
     incoming: &[u8],
     target: &[u8],
     defaults: &[u8],
@@ -101,6 +103,7 @@ pub fn build_by_number(
         selector_build_by_number(
             policy,
             source_index,
+            owner,
             incoming.as_ptr(),
             incoming.len(),
             target.as_ptr(),

@@ -27,6 +27,7 @@ impl<'a> Plan<'a> {
         let length = call::build_by_number(
             policy.word(),
             defaults.source_index(),
+            defaults.owner(),
             incoming.0.as_bytes(),
             target.0.as_bytes(),
             defaults.as_bytes(),

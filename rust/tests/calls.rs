@@ -198,6 +198,26 @@ fn sources() {
     assert_eq!(table.with_source(2).source_index(), 2);
 }
 
+/// Of a table of version 2 the owner's entries count; one of version 1 is every owner's.
+#[test]
+fn owners() {
+    let none = b"LAY\x02\x00\x00\x00";
+    let to = b"LAY\x02\x00\x01\x00\x01t\x07\x00\x00\x00\x02";
+    let (from, to) = (incoming(none), target(to));
+    let run = |defaults| {
+        let built = PlanBuf::build_by_number(Policy::ALL, from, to, defaults).unwrap();
+        built.plan().run(from, to, Record::new(b"")).unwrap()
+    };
+    let one = Defaults::new(b"DEF\x01\x00\x01\x00\x07\x00\x00\x00\x00\x02\x01\x05");
+    assert_eq!(run(one.with_owner(9)), b"\x01\x05");
+    let two = b"DEF\x02\x00\x02\x00\x01\x00\x07\x00\x00\x00\x00\x02\x01\x05\x02\x00\x07\x00\x00\x00\x00\x02\x01\x06";
+    let two = Defaults::new(two);
+    assert_eq!(run(two), b"\x00");
+    assert_eq!(run(two.with_owner(1)), b"\x01\x05");
+    assert_eq!(run(two.with_owner(2)), b"\x01\x06");
+    assert_eq!(two.with_owner(2).owner(), 2);
+}
+
 /// What examples/salinometer/about.txt says of other policies and of the other way round, and the record that has too many digits.
 #[test]
 fn salinometer() {

@@ -2,7 +2,7 @@
 
 /// The versions of layouts, tables of defaults and plans that are read and written here.
 pub const LAYOUT_VERSIONS: &[u16] = &[1, 2];
-pub const TABLE_VERSIONS: &[u16] = &[1];
+pub const TABLE_VERSIONS: &[u16] = &[1, 2];
 pub const PLAN_VERSIONS: &[u16] = &[1];
 
 /// A name, a zone or a text: any bytes.
@@ -194,8 +194,15 @@ pub struct Table {
     pub entries: Vec<Entry>,
 }
 
+/// Whether entries of a table's version have owners.
+pub fn owned(version: u16) -> bool {
+    version >= 2
+}
+
 #[derive(Clone, Debug, PartialEq, Eq)]
 pub struct Entry {
+    /// Whose entry it is; none in version 1, where it is every owner's.
+    pub owner: Option<u16>,
     pub id: u32,
     pub default: Default,
 }

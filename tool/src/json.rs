@@ -220,7 +220,8 @@ pub fn table_json(table: &Table) -> Json {
 }
 
 fn entry_json(entry: &Entry) -> Json {
-    let mut fields = vec![("id", entry.id.into())];
+    let owner = entry.owner.map(|owner| ("owner", u32::from(owner).into()));
+    let mut fields: Vec<_> = owner.into_iter().chain([("id", entry.id.into())]).collect();
     match &entry.default {
         Default::Initial(leaf, value) => {
             let of = Type::Leaf(leaf.clone());

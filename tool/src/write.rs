@@ -13,6 +13,9 @@ pub fn table_bytes(table: &Table) -> Result<Vec<u8>, String> {
     let mut out = Out::start(b"DEF", table.version);
     out.count(table.entries.len(), "entries")?;
     for entry in &table.entries {
+        if form::owned(table.version) {
+            out.bytes.extend(entry.owner.unwrap_or(0).to_le_bytes());
+        }
         out.bytes.extend(entry.id.to_le_bytes());
         match &entry.default {
             Default::Initial(leaf, value) => {

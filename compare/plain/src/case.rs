@@ -13,5 +13,6 @@ pub struct Case {
 #[derive(Clone, Debug, PartialEq, Eq)]
 pub struct Number {
     pub source_index: u32,
+    pub owner: u16,
     pub defaults: Vec<u8>,
 }

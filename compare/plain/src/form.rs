@@ -143,24 +143,32 @@ impl Reader<'_> {
     }
 }
 
-pub fn read_defaults(bytes: &[u8]) -> Result<Vec<Entry>, Fault> {
+/// The entries of a table that count for an owner: in version 1 all.
+pub fn read_defaults(bytes: &[u8], owner: u16) -> Result<Vec<Entry>, Fault> {
     if bytes.len() > LAYOUT_LIMIT {
         return Err(4);
     }
-    let [b'D', b'E', b'F', 1, 0, rest @ ..] = bytes else {
-        return Err(1);
+    let (version, rest) = match bytes {
+        [b'D', b'E', b'F', version @ (1 | 2), 0, rest @ ..] => (*version, rest),
+        _ => return Err(1),
     };
     let mut reader = Reader::new(rest, 1);
     let count = reader.u16()?;
     let mut entries = Vec::new();
     let mut seen = Siblings::default();
     for _ in 0..count {
+        let whose = match version {
+            1 => None,
+            _ => Some(reader.u16()?),
+        };
         let entry = reader.entry()?;
         let initial = matches!(entry.default, Default::Initial(..));
-        if !seen.insert((entry.id, initial)) {
+        if !seen.insert((whose, entry.id, initial)) {
             return Err(5);
         }
-        entries.push(entry);
+        if whose.is_none_or(|whose| whose == owner) {
+            entries.push(entry);
+        }
     }
     reader.end(entries)
 }
@@ -234,27 +242,43 @@ fn write_leaf_value(bytes: &mut Vec<u8>, value: &LeafValue) {
     bytes.extend(value.iter().flatten());
 }
 
+fn write_entry(bytes: &mut Vec<u8>, entry: &Entry) {
+    bytes.extend(entry.id.to_le_bytes());
+    match &entry.default {
+        Default::Initial(leaf, value) => {
+            bytes.push(0);
+            write_leaf(bytes, leaf);
+            write_leaf_value(bytes, value);
+        }
+        Default::Failed => bytes.extend([1, 1]),
+        Default::Loaded(leaf, values) => {
+            bytes.extend([1, 0]);
+            write_leaf(bytes, leaf);
+            bytes.extend((values.len() as u16).to_le_bytes());
+            for value in values {
+                write_leaf_value(bytes, value);
+            }
+        }
+    }
+}
+
+/// A table of version 1.
 pub fn write_defaults(entries: &[Entry]) -> Vec<u8> {
     let mut bytes = b"DEF\x01\x00".to_vec();
     bytes.extend((entries.len() as u16).to_le_bytes());
     for entry in entries {
-        bytes.extend(entry.id.to_le_bytes());
-        match &entry.default {
-            Default::Initial(leaf, value) => {
-                bytes.push(0);
-                write_leaf(&mut bytes, leaf);
-                write_leaf_value(&mut bytes, value);
-            }
-            Default::Failed => bytes.extend([1, 1]),
-            Default::Loaded(leaf, values) => {
-                bytes.extend([1, 0]);
-                write_leaf(&mut bytes, leaf);
-                bytes.extend((values.len() as u16).to_le_bytes());
-                for value in values {
-                    write_leaf_value(&mut bytes, value);
-                }
-            }
-        }
+        write_entry(&mut bytes, entry);
+    }
+    bytes
+}
+
+/// A table of version 2: each entry with its owner.
+pub fn write_owned(entries: &[(u16, Entry)]) -> Vec<u8> {
+    let mut bytes = b"DEF\x02\x00".to_vec();
+    bytes.extend((entries.len() as u16).to_le_bytes());
+    for (owner, entry) in entries {
+        bytes.extend(owner.to_le_bytes());
+        write_entry(&mut bytes, entry);
     }
     bytes
 }

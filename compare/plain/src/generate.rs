@@ -59,10 +59,10 @@ fn one(random: &mut Random, style: &Style) -> Case {
         } else {
             random.below(4) as u32
         };
-        let entries = defaults(random, &[&incoming, &target]);
         Number {
             source_index,
-            defaults: form::write_defaults(&entries),
+            owner: random.pick(&OWNERS),
+            defaults: table(random, &[&incoming, &target]),
         }
     });
     let version = if style.by_number { 2 } else { 1 };
@@ -418,6 +418,24 @@ fn ids(columns: &[Column], found: &mut Vec<(u32, Option<Leaf>)>) {
             }
         }
     }
+}
+
+/// The owners of entries: two of one low byte, and one that has none.
+const OWNERS: [u16; 4] = [1, 2, 257, 65535];
+
+/// A table of either version; in version 2 the entries of the owners stand among each other.
+fn table(random: &mut Random, layouts: &[&[Column]]) -> Vec<u8> {
+    if random.percent(50) {
+        return form::write_defaults(&defaults(random, layouts));
+    }
+    let mut owned: Vec<(u16, Entry)> = Vec::new();
+    for owner in &OWNERS[..3] {
+        for entry in defaults(random, layouts) {
+            let at = random.below(owned.len() as u64 + 1) as usize;
+            owned.insert(at, (*owner, entry));
+        }
+    }
+    form::write_owned(&owned)
 }
 
 fn defaults(random: &mut Random, layouts: &[&[Column]]) -> Vec<Entry> {

@@ -87,6 +87,7 @@ fn runs() {
 fn built(random: &mut Random, line: &str, by_number: bool, mut words: Words) {
     let _policy = words.number();
     let source_index = if by_number { words.number() } else { 0 };
+    let owner = if by_number { words.number() } else { 0 };
     let _space = words.number();
     let (incoming, target) = (words.bytes(), words.bytes());
     let defaults = if by_number { words.bytes() } else { Vec::new() };
@@ -103,7 +104,7 @@ fn built(random: &mut Random, line: &str, by_number: bool, mut words: Words) {
         form::read_layout(&incoming).unwrap(),
         form::read_layout(&target).unwrap(),
     );
-    let entries = by_number.then(|| form::read_defaults(&defaults).unwrap());
+    let entries = by_number.then(|| form::read_defaults(&defaults, owner as u16).unwrap());
     let pairing = match &entries {
         Some(entries) => Pairing::ByNumber(entries, source_index as u32),
         None => Pairing::ByName,
@@ -129,5 +130,5 @@ fn builds() {
     let numbers = each("build_number", |line, words| {
         built(&mut random, line, true, words)
     });
-    assert_eq!((names, numbers), (841, 853));
+    assert_eq!((names, numbers), (841, 979));
 }

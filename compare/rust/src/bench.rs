@@ -150,6 +150,7 @@ fn widest(version: u8) -> (usize, Vec<u8>) {
 fn of_layouts(version: u8, incoming: Vec<u8>, target: Vec<u8>) -> Case {
     let number = (version == 2).then(|| Number {
         source_index: 0,
+        owner: 0,
         defaults: form::write_defaults(&[]),
     });
     Case {

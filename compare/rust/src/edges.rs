@@ -77,6 +77,7 @@ fn by_number(policy: u32, incoming: &[Column], target: &[Column], entries: &[Ent
         target: layout(2, target),
         number: Some(Number {
             source_index: 1,
+            owner: 0,
             defaults: write_defaults(entries),
         }),
     }

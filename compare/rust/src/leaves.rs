@@ -67,6 +67,7 @@ pub fn cases(policies: Vec<u32>) -> impl Iterator<Item = Case> {
             target,
             number: (version == 2).then(|| Number {
                 source_index: 0,
+                owner: 0,
                 defaults: write_defaults(&[]),
             }),
         };

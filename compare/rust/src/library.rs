@@ -19,6 +19,7 @@ impl Builder for Library {
             Some(number) => call::build_by_number(
                 *policy,
                 number.source_index,
+                number.owner,
                 incoming,
                 target,
                 &number.defaults,

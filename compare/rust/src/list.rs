@@ -19,9 +19,10 @@ pub fn line(case: &Case, buffer: usize, answer: &Answer) -> String {
     match &case.number {
         None => format!("build_name {policy} {buffer} {incoming} {target} {answer}"),
         Some(number) => {
-            let (index, defaults) = (number.source_index, hex(&number.defaults));
+            let (index, owner) = (number.source_index, number.owner);
+            let defaults = hex(&number.defaults);
             format!(
-                "build_number {policy} {index} {buffer} {incoming} {target} {defaults} {answer}"
+                "build_number {policy} {index} {owner} {buffer} {incoming} {target} {defaults} {answer}"
             )
         }
     }

@@ -84,7 +84,8 @@ pub fn original(case: &Case) -> Result<Answer, Aside> {
     match &case.number {
         None => by_name(case.policy, &incoming, &target),
         Some(number) => {
-            let entries = form::read_defaults(&number.defaults).map_err(unreadable(3))?;
+            let entries =
+                form::read_defaults(&number.defaults, number.owner).map_err(unreadable(3))?;
             let defaults = defaults(&entries)?;
             let provider =
                 IcebergDefaultValueProviderRef::new(&defaults, number.source_index as usize);

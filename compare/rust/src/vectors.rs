@@ -48,6 +48,7 @@ fn vector(json: &Json) -> Option<(Case, usize, Answer)> {
         "build_name" => None,
         _ => Some(Number {
             source_index: arguments.number("source_index")? as u32,
+            owner: arguments.number("owner").unwrap_or(0) as u16,
             defaults: bytes("defaults")?,
         }),
     };

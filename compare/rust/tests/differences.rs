@@ -31,6 +31,7 @@ fn by_number(incoming: &[Column], target: &[Column], entries: &[Entry]) -> Case 
         target: layout(2, target),
         number: Some(Number {
             source_index: 0,
+            owner: 0,
             defaults: write_defaults(entries),
         }),
     }
@@ -201,6 +202,7 @@ fn by_number_defaults_pass_the_limit() {
         target: layout(&[field]),
         number: Some(Number {
             source_index: 0,
+            owner: 0,
             defaults: write_defaults(&[initial(2, text, &value)]),
         }),
     };

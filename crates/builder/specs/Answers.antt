@@ -34,7 +34,7 @@ use Rattle.builder.specs.declared.answer.Made.{Made}
 use Rattle.builder.specs.declared.answer.Made.the-variants.{Refused, Bare, Built}
 use Rattle.builder.specs.declared.answer.Row.{Row}
 use Rattle.builder.specs.declared.answer.Row.the-variants.{Failed, Done}
-use Rattle.builder.specs.declared.default.DefaultFieldValues.{DefaultFieldValues}
+use Rattle.defaults.specs.declared.lookup.DefaultFieldValues.{DefaultFieldValues}
 use Rattle.builder.specs.declared.default.DefaultMade.{DefaultMade}
 use Rattle.builder.specs.declared.default.DefaultsMade.{DefaultsMade}
 use Rattle.builder.specs.declared.parts.LeafPart.{LeafPart}
@@ -179,9 +179,9 @@ pub record MakesRow (b e : ℕ) (out : Bytes) (k : ℕ) (X : Result Selectors) (
   pub answer : r ≡ rowOf 0 X
   pub wrote : WroteRow b e out k X out′
 
--- the defaults that the code is given: n entries of a table, at a source index
+-- the defaults that the code is given: an owner's entries of a table, at a source index
 abbrev pub DefaultsAt : Bytes → DefaultFieldValues → Type 0
-DefaultsAt table dv = TableAt table (dv .count) (dv .entries .at)
+DefaultsAt table dv = TableAt table dv
 
 abbrev pub defaultsAt : {table : Bytes} (dv : DefaultFieldValues) → DefaultsAt table dv → Defaults
 defaultsAt dv T = getDefaultValue (T .entries) (dv .«source_index»)

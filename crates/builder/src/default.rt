@@ -20,6 +20,7 @@ ghost use Rattle.builder.specs.Answers.{Makes, MakesDefault, MakesDefaul
 use crate::answer::Made;
 use crate::leaf::leaf_rule;
 use crate::write::put_constant_head;
+use defaults::lookup::DefaultFieldValues;
 use defaults::lookup::DefaultValue;
 use defaults::lookup::get_default_value;
 use defaults::types::read_leaf_value;
@@ -36,13 +37,6 @@ use rules::outcome::Outcome;
 use rules::policy::Policy;
 use store::copy;
 use store::put;
-
-// The defaults of a build: by number those of a table that was read, at a source index. With no entries there are none: so by name, and inside elements.
-pub struct DefaultFieldValues {
-    pub count: u16,
-    pub entries: Cursor,
-    pub source_index: u32,
-}
 
 // A refusal's number; no default, and a null was written; or the length of the value that was written.
 pub enum DefaultMade {
@@ -161,13 +155,12 @@ fn put_leaf_default(
     out: &mut [u8],
     k: usize,
 ) -> DefaultMade
-    requires { ⌜ TableAt (now table) (defaults .count) (defaults .entries .at) ⌝ }
+    requires { ⌜ TableAt (now table) defaults ⌝ }
     requires { ⌜ spanIn (now target) (u .zone) ⌝ }
     requires { ⌜ (length (now table) ≤ 16384) × (k + 16384 < 2 ^ 64) ⌝ }
-    ensures { λ r. ⌜ ((b e : ℕ) (T : TableAt (now (table .entry)) (defaults .count) (defaults .entries .at)) → b < e → MakesDefault b e (now (out .entry)) k (leafDefault (leafAt (now (target .entry)) u) (getDefaultValue (T .entries) (defaults .«source_index») id)) r (now (out .exit))) ⌝ }
+    ensures { λ r. ⌜ ((b e : ℕ) (T : TableAt (now (table .entry)) defaults) → b < e → MakesDefault b e (now (out .entry)) k (leafDefault (leafAt (now (target .entry)) u) (getDefaultValue (T .entries) (defaults .«source_index») id)) r (now (out .exit))) ⌝ }
 {
-    let entries = defaults.entries;
-    match get_default_value(table, defaults.count, entries, defaults.source_index, id) {
+    match get_default_value(table, defaults, id) {
         DefaultValue::Failed => DefaultMade::Refused(26),
         DefaultValue::Nothing => put_none(out, k),
         DefaultValue::At(m, c) => put_taken(table, m, c, target, u, out, k),
@@ -187,9 +180,9 @@ pub fn build_iceberg_default_value(
     k: usize,
 ) -> DefaultMade
     requires { ⌜ TypeAt v depth (now target) (b .at) ⌝ }
-    requires { ⌜ TableAt (now table) (defaults .count) (defaults .entries .at) ⌝ }
+    requires { ⌜ TableAt (now table) defaults ⌝ }
     requires { ⌜ (length (now table) ≤ 16384) × (k + 16384 * length (now target) < 2 ^ 64 + 16384 * b .at) ⌝ }
-    ensures { λ r. ⌜ ((T : TableAt (now (table .entry)) (defaults .count) (defaults .entries .at)) (Q : TypeAt v depth (now (target .entry)) (b .at)) → MakesDefault (b .at) (Q .end) (now (out .entry)) k (buildIcebergDefaultValue (getDefaultValue (T .entries) (defaults .«source_index»)) id (Q .tree)) r (now (out .exit))) ⌝ }
+    ensures { λ r. ⌜ ((T : TableAt (now (table .entry)) defaults) (Q : TypeAt v depth (now (target .entry)) (b .at)) → MakesDefault (b .at) (Q .end) (now (out .entry)) k (buildIcebergDefaultValue (getDefaultValue (T .entries) (defaults .«source_index»)) id (Q .tree)) r (now (out .exit))) ⌝ }
 {
     match b.head(target) {
         Head::Leaf(u, _) => put_leaf_default(table, defaults, id, target, u, out, k),
@@ -224,9 +217,9 @@ fn put_defaults(
     k: usize,
 ) -> DefaultsMade
     requires { ⌜ ColumnsAt v depth (now target) n (c .at) ⌝ }
-    requires { ⌜ TableAt (now table) (defaults .count) (defaults .entries .at) ⌝ }
+    requires { ⌜ TableAt (now table) defaults ⌝ }
     requires { ⌜ (length (now table) ≤ 16384) × (k + 16384 * length (now target) < 2 ^ 64 + 16384 * c .at) ⌝ }
-    ensures { λ r. ⌜ ((T : TableAt (now (table .entry)) (defaults .count) (defaults .entries .at)) (Q : ColumnsAt v depth (now (target .entry)) n (c .at)) → MakesDefaults (c .at) (Q .end) (now (out .entry)) k (defaultsOf (getDefaultValue (T .entries) (defaults .«source_index»)) (Q .columns)) r (now (out .exit))) ⌝ }
+    ensures { λ r. ⌜ ((T : TableAt (now (table .entry)) defaults) (Q : ColumnsAt v depth (now (target .entry)) n (c .at)) → MakesDefaults (c .at) (Q .end) (now (out .entry)) k (defaultsOf (getDefaultValue (T .entries) (defaults .«source_index»)) (Q .columns)) r (now (out .exit))) ⌝ }
 {
     let mut at = c.at;
     let mut to = k;
@@ -291,9 +284,9 @@ pub fn put_missing(
 ) -> Made
     requires { ⌜ spanIn (now target) (l .name) × (l .name .len ≤ 63) ⌝ }
     requires { ⌜ TypeAt v depth (now target) (b .at) ⌝ }
-    requires { ⌜ TableAt (now table) (defaults .count) (defaults .entries .at) ⌝ }
+    requires { ⌜ TableAt (now table) defaults ⌝ }
     requires { ⌜ (length (now target) ≤ 16384) × (length (now table) ≤ 16384) × (k ≤ 65536 * b .at) ⌝ }
-    ensures { λ r. ⌜ ((from : ℕ) (T : TableAt (now (table .entry)) (defaults .count) (defaults .entries .at)) (Q : TypeAt v depth (now (target .entry)) (b .at)) → from < b .at → Makes from (Q .end) (now (out .entry)) k (missing (getDefaultValue (T .entries) (defaults .«source_index»)) insert number (labelAt (now (target .entry)) l) (Q .tree)) r (now (out .exit))) ⌝ }
+    ensures { λ r. ⌜ ((from : ℕ) (T : TableAt (now (table .entry)) defaults) (Q : TypeAt v depth (now (target .entry)) (b .at)) → from < b .at → Makes from (Q .end) (now (out .entry)) k (missing (getDefaultValue (T .entries) (defaults .«source_index»)) insert number (labelAt (now (target .entry)) l) (Q .tree)) r (now (out .exit))) ⌝ }
 {
     if !insert {
         return Made::Refused(number);

@@ -31,9 +31,13 @@ use Rattle.forms.specs.Form.{u16Bytes}
 use Rattle.forms.proofs.Read.{label-ends}
 use Rattle.forms.proofs.Theorems.{columns-reach}
 use Rattle.rules.specs.declared.policy.Policy.{Policy}
-use Rattle.defaults.specs.Table.{Entry, entries, table}
+use Rattle.defaults.specs.declared.lookup.DefaultFieldValues.{DefaultFieldValues}
+use Rattle.defaults.specs.declared.read.TableVersion.{TableVersion}
+use Rattle.defaults.specs.declared.read.TableVersion.the-variants.{Shared}
+use Rattle.defaults.specs.Table.{Entry, entriesOf, entries, table}
 use Rattle.defaults.specs.Lookup.{getDefaultValue, firstEntry}
 use Rattle.defaults.specs.Stands.{TableAt}
+use Rattle.defaults.proofs.Whole.{TableGot}
 use Rattle.plan.specs.Result.{Result, gives, refuses, demand, Answer, accepted, refusedAt, placed, answered}
 use Rattle.plan.specs.Selector.{Selector, Selectors, snil, scons, countSelectors}
 use Rattle.plan.specs.Encode.{encodeSelectors, encodePlan}
@@ -278,38 +282,52 @@ answered-as room h = ap (λ (x : Answer Selectors). answered x (writtenPlan room
 -- ---- the calls
 
 -- no entries stand anywhere, and give no defaults
-pub no-table : (s : Bytes) (at : ℕ) → TableAt s 0 at
-unfolding entries
-no-table s at = record { entries = []; end = at; reads = refl }
+abbrev noValues : DefaultFieldValues
+noValues = record { version = Shared; count = 0; entries = record { at = 0 }; owner = 0; «source_index» = 0 }
 
-no-entries : {s : Bytes} {at : ℕ} (T : TableAt s 0 at) (k : ℕ) → getDefaultValue (T .entries) k ≡ noDefaults
-unfolding entries getDefaultValue firstEntry
-no-entries T k = let h = T .reads in let e : T .entries ≡ [] = cc in ap (λ (es : List Entry). getDefaultValue es k) e ∙ (λ i j. noDefaults j)
+pub no-table : (s : Bytes) → TableAt s noValues
+unfolding entries entriesOf
+no-table s = record { all = []; end = 0; reads = refl; entries = []; owned = refl }
+
+no-entries : {s : Bytes} (T : TableAt s noValues) (k : ℕ) → getDefaultValue (T .entries) k ≡ noDefaults
+unfolding entries entriesOf getDefaultValue firstEntry
+no-entries T k =
+    let h = T .reads in
+    let a : T .all ≡ [] = cc in
+    let e : T .entries ≡ [] = T .owned ∙ ap (entriesOf 0) a in
+    ap (λ (es : List Entry). getDefaultValue es k) e ∙ (λ i j. noDefaults j)
 
 module _ (p : Policy) (incoming target : Bytes) (room : ℕ) where
   pub by-name-refused : {n k : ℕ} → ((f : Columns → Columns → Answer Bytes) → bothLayouts ByName incoming target f ≡ refusedAt n k) → buildByName p incoming target room ≡ refusedAt n k
   unfolding buildByName
   by-name-refused h = h _
 
-  pub by-name-built : {n : ℕ} {c : Cursor} {m : ℕ} {b : Cursor} (B : BothAt ByName incoming target n c m b) {s : Bytes} {at : ℕ} (T : TableAt s 0 at) (k : ℕ)
+  pub by-name-built : {n : ℕ} {c : Cursor} {m : ℕ} {b : Cursor} (B : BothAt ByName incoming target n c m b) {s : Bytes} (T : TableAt s noValues) (k : ℕ)
       → buildByName p incoming target room ≡ answered (build ByName p (getDefaultValue (T .entries) k) (B .from .columns) (B .to .columns)) (writtenPlan room)
   unfolding buildByName
   by-name-built B T k = B .is _ ∙ ap (λ (d : Defaults). answered (build ByName p d (B .from .columns) (B .to .columns)) (writtenPlan room)) (sym (no-entries T k))
 
-module _ (p : Policy) (index : ℕ) (incoming target defaults : Bytes) (room : ℕ) where
-  pub by-number-refused : {n k : ℕ} → ((f : Columns → Columns → Answer Bytes) → bothLayouts ByNumber incoming target f ≡ refusedAt n k) → buildByNumber p index incoming target defaults room ≡ refusedAt n k
+module _ (p : Policy) (index owner : ℕ) (incoming target defaults : Bytes) (room : ℕ) where
+  pub by-number-refused : {n k : ℕ} → ((f : Columns → Columns → Answer Bytes) → bothLayouts ByNumber incoming target f ≡ refusedAt n k)
+      → buildByNumber p index owner incoming target defaults room ≡ refusedAt n k
   unfolding buildByNumber
   by-number-refused h = h _
 
   module _ {n : ℕ} {c : Cursor} {m : ℕ} {b : Cursor} (B : BothAt ByNumber incoming target n c m b) where
-    pub by-number-untabled : {k : ℕ} → table defaults ≡ refuse k → buildByNumber p index incoming target defaults room ≡ refusedAt k 3
+    pub by-number-untabled : {k : ℕ} → table defaults ≡ refuse k → buildByNumber p index owner incoming target defaults room ≡ refusedAt k 3
     unfolding buildByNumber readAt
     by-number-untabled h = B .is _ ∙ rw h
 
-    pub by-number-built : {es : List Entry} {z : ℕ} → table defaults ≡ ok es z
-        → buildByNumber p index incoming target defaults room ≡ answered (build ByNumber p (getDefaultValue es index) (B .from .columns) (B .to .columns)) (writtenPlan room)
+    pub by-number-built : {w : TableVersion} {l : ℕ} {d : Cursor}
+        (G : TableGot defaults (record { version = w; count = l; entries = d; owner = owner; «source_index» = index }))
+        → buildByNumber p index owner incoming target defaults room
+        ≡ answered (build ByNumber p (getDefaultValue (G .entries .entries) index) (B .from .columns) (B .to .columns)) (writtenPlan room)
     unfolding buildByNumber readAt
-    by-number-built h = B .is _ ∙ rw h
+    by-number-built G =
+        B .is _
+        ∙ rw (G .reads)
+        (ap (λ (es : List Entry). answered (build ByNumber p (getDefaultValue es index) (B .from .columns) (B .to .columns)) (writtenPlan room))
+        (sym (G .owned)))
 
 -- an answer and a buffer, under another name of what they are
 pub plan-as : {X Y : Answer Bytes} {y : WriteResult} {o : Bytes} (out : Bytes) → X ≡ Y → (y ≡ writeResult Y) × (o ≡ bufferAfter Y out) → (y ≡ writeResult X) × (o ≡ bufferAfter X out)

@@ -20,7 +20,7 @@ use Rattle.matching.specs.Build.{buildFrom}
 use Rattle.matching.specs.Calls.{bothLayouts, roomFor}
 use Rattle.builder.specs.Answers.{DefaultsAt, defaultsAt}
 use Rattle.builder.specs.declared.answer.Made.{Made}
-use Rattle.builder.specs.declared.default.DefaultFieldValues.{DefaultFieldValues}
+use Rattle.defaults.specs.declared.lookup.DefaultFieldValues.{DefaultFieldValues}
 use Rattle.calls.specs.declared.write.Attempt.{Attempt}
 use Rattle.calls.specs.declared.columns.ColumnsMade.{ColumnsMade}
 use Rattle.calls.specs.declared.extra.ExtraColumn.{ExtraColumn}

@@ -6,8 +6,9 @@ ghost use Rattle.matching.specs.Calls.{buildByName, buildByNumber};
 use crate::layouts::BothRead;
 use crate::layouts::read_both;
 use crate::write::build_plan;
-use builder::default::DefaultFieldValues;
+use defaults::lookup::DefaultFieldValues;
 use defaults::read::TableRead;
+use defaults::read::TableVersion;
 use defaults::read::read_table;
 use layout::cursor::Cursor;
 use layout::version::Version;
@@ -22,8 +23,10 @@ pub fn build_by_name(policy: Policy, incoming: &[u8], target: &[u8], plan: &mut 
     match read_both(Version::ByName, incoming, target) {
         BothRead::Read(n, c, m, b) => {
             let none = DefaultFieldValues {
+                version: TableVersion::Shared,
                 count: 0,
                 entries: Cursor { at: 0 },
+                owner: 0,
                 source_index: 0,
             };
             build_plan(
@@ -44,24 +47,31 @@ pub fn build_by_name(policy: Policy, incoming: &[u8], target: &[u8], plan: &mut 
     }
 }
 
-// After 10 the defaults are read, of which the source's count.
+// After 10 the defaults are read, of which the owner's count, and of these the source's.
 pub fn build_by_number(
     policy: Policy,
     source_index: u32,
+    owner: u16,
     incoming: &[u8],
     target: &[u8],
     defaults: &[u8],
     plan: &mut [u8],
 ) -> WriteResult
-    ensures { λ r. ⌜ r ≡ writeResult (buildByNumber policy «source_index» (now (incoming .entry)) (now (target .entry)) (now (defaults .entry)) (length (now (plan .entry)))) ⌝ }
-    ensures { λ _. ⌜ now (plan .exit) ≡ bufferAfter (buildByNumber policy «source_index» (now (incoming .entry)) (now (target .entry)) (now (defaults .entry)) (length (now (plan .entry)))) (now (plan .entry)) ⌝ }
+    ensures { λ r. ⌜ r ≡ writeResult (buildByNumber policy «source_index» owner (now (incoming .entry)) (now (target .entry)) (now (defaults .entry)) (length (now (plan .entry)))) ⌝ }
+    ensures { λ _. ⌜ now (plan .exit) ≡ bufferAfter (buildByNumber policy «source_index» owner (now (incoming .entry)) (now (target .entry)) (now (defaults .entry)) (length (now (plan .entry)))) (now (plan .entry)) ⌝ }
 {
     match read_both(Version::ByNumber, incoming, target) {
         BothRead::Read(n, c, m, b) => match read_table(defaults) {
-            TableRead::Read { count, entries } => {
+            TableRead::Read {
+                version,
+                count,
+                entries,
+            } => {
                 let values = DefaultFieldValues {
+                    version,
                     count,
                     entries,
+                    owner,
                     source_index,
                 };
                 build_plan(

@@ -12,7 +12,7 @@ use builder::answer::Made;
 use builder::answer::is_refused;
 use builder::answer::len_of;
 use builder::conditions::inserts;
-use builder::default::DefaultFieldValues;
+use defaults::lookup::DefaultFieldValues;
 use labels::TABLE_SIZE;
 use labels::fill;
 use labels::find_in;
@@ -58,7 +58,7 @@ fn build_each(
     k: usize,
 ) -> ColumnsMade
     requires { ⌜ ColumnsAt v deepest (now incoming) n (c .at) × ColumnsAt v deepest (now target) m (b .at) ⌝ }
-    requires { ⌜ TableAt (now table) (defaults .count) (defaults .entries .at) ⌝ }
+    requires { ⌜ TableAt (now table) defaults ⌝ }
     requires { ⌜ (length (now target) ≤ 16384) × (length (now table) ≤ 16384) × (k ≤ 65536 * b .at) ⌝ }
     requires { ⌜ (whole ≡ true → Table v deepest (now incoming) n (c .at) (now starts) (now positions)) ⌝ }
     ensures { λ r. ⌜ BuiltColumns policy v (now (table .entry)) defaults (now (incoming .entry)) n (c .at) (now (target .entry)) m (b .at) (now (out .entry)) k r (now (out .exit)) ⌝ }
@@ -120,7 +120,7 @@ fn build_few(
     k: usize,
 ) -> ColumnsMade
     requires { ⌜ ColumnsAt v deepest (now incoming) n (c .at) × ColumnsAt v deepest (now target) m (b .at) ⌝ }
-    requires { ⌜ TableAt (now table) (defaults .count) (defaults .entries .at) ⌝ }
+    requires { ⌜ TableAt (now table) defaults ⌝ }
     requires { ⌜ (length (now target) ≤ 16384) × (length (now table) ≤ 16384) × (k ≤ 65536 * b .at) ⌝ }
     ensures { λ r. ⌜ BuiltColumns policy v (now (table .entry)) defaults (now (incoming .entry)) n (c .at) (now (target .entry)) m (b .at) (now (out .entry)) k r (now (out .exit)) ⌝ }
 {
@@ -161,7 +161,7 @@ fn build_many(
     k: usize,
 ) -> ColumnsMade
     requires { ⌜ ColumnsAt v deepest (now incoming) n (c .at) × ColumnsAt v deepest (now target) m (b .at) ⌝ }
-    requires { ⌜ TableAt (now table) (defaults .count) (defaults .entries .at) ⌝ }
+    requires { ⌜ TableAt (now table) defaults ⌝ }
     requires { ⌜ (length (now target) ≤ 16384) × (length (now table) ≤ 16384) × (k ≤ 65536 * b .at) ⌝ }
     ensures { λ r. ⌜ BuiltColumns policy v (now (table .entry)) defaults (now (incoming .entry)) n (c .at) (now (target .entry)) m (b .at) (now (out .entry)) k r (now (out .exit)) ⌝ }
 {
@@ -203,7 +203,7 @@ pub fn build_columns(
     k: usize,
 ) -> ColumnsMade
     requires { ⌜ ColumnsAt v deepest (now incoming) n (c .at) × ColumnsAt v deepest (now target) m (b .at) ⌝ }
-    requires { ⌜ TableAt (now table) (defaults .count) (defaults .entries .at) ⌝ }
+    requires { ⌜ TableAt (now table) defaults ⌝ }
     requires { ⌜ (length (now target) ≤ 16384) × (length (now table) ≤ 16384) × (k ≤ 65536 * b .at) ⌝ }
     ensures { λ r. ⌜ BuiltColumns policy v (now (table .entry)) defaults (now (incoming .entry)) n (c .at) (now (target .entry)) m (b .at) (now (out .entry)) k r (now (out .exit)) ⌝ }
 {

@@ -17,8 +17,8 @@ use crate::columns::ColumnsMade;
 use crate::columns::build_columns;
 use crate::extra::ExtraColumn;
 use crate::extra::extra_column;
-use builder::default::DefaultFieldValues;
 use builder::write::put_short;
+use defaults::lookup::DefaultFieldValues;
 use layout::cursor::Cursor;
 use layout::version::Version;
 use plan::answer::WriteResult;
@@ -74,7 +74,7 @@ fn build_in(
     plan: &mut [u8],
 ) -> Attempt
     requires { ⌜ ColumnsAt v deepest (now incoming) n (c .at) × ColumnsAt v deepest (now target) m (b .at) ⌝ }
-    requires { ⌜ TableAt (now table) (defaults .count) (defaults .entries .at) ⌝ }
+    requires { ⌜ TableAt (now table) defaults ⌝ }
     requires { ⌜ (length (now target) ≤ 16384) × (length (now table) ≤ 16384) × (b .at ≡ 7) ⌝ }
     requires { ⌜ length (now room) ≤ 65536 ⌝ }
     ensures { λ r. ⌜ ((T : DefaultsAt (now (table .entry)) defaults) (P : ColumnsAt v deepest (now (incoming .entry)) n (c .at)) (Q : ColumnsAt v deepest (now (target .entry)) m (b .at)) → Attempted (LongerThan (length (now (room .entry))) (buildFrom v policy (defaultsAt defaults T) (Q .columns) (P .columns) 0)) (answered (buildFrom v policy (defaultsAt defaults T) (Q .columns) (P .columns) 0) (writtenPlan (length (now (plan .entry))))) (now (plan .entry)) r (now (plan .exit))) ⌝ }
@@ -114,7 +114,7 @@ fn build_small(
     plan: &mut [u8],
 ) -> Attempt
     requires { ⌜ ColumnsAt v deepest (now incoming) n (c .at) × ColumnsAt v deepest (now target) m (b .at) ⌝ }
-    requires { ⌜ TableAt (now table) (defaults .count) (defaults .entries .at) ⌝ }
+    requires { ⌜ TableAt (now table) defaults ⌝ }
     requires { ⌜ (length (now target) ≤ 16384) × (length (now table) ≤ 16384) × (b .at ≡ 7) ⌝ }
     ensures { λ r. ⌜ ((T : DefaultsAt (now (table .entry)) defaults) (P : ColumnsAt v deepest (now (incoming .entry)) n (c .at)) (Q : ColumnsAt v deepest (now (target .entry)) m (b .at)) → Attempted (LongerThan 4096 (buildFrom v policy (defaultsAt defaults T) (Q .columns) (P .columns) 0)) (answered (buildFrom v policy (defaultsAt defaults T) (Q .columns) (P .columns) 0) (writtenPlan (length (now (plan .entry))))) (now (plan .entry)) r (now (plan .exit))) ⌝ }
 {
@@ -150,7 +150,7 @@ fn build_large(
     plan: &mut [u8],
 ) -> WriteResult
     requires { ⌜ ColumnsAt v deepest (now incoming) n (c .at) × ColumnsAt v deepest (now target) m (b .at) ⌝ }
-    requires { ⌜ TableAt (now table) (defaults .count) (defaults .entries .at) ⌝ }
+    requires { ⌜ TableAt (now table) defaults ⌝ }
     requires { ⌜ (length (now target) ≤ 16384) × (length (now table) ≤ 16384) × (b .at ≡ 7) ⌝ }
     ensures { λ r. ⌜ ((T : DefaultsAt (now (table .entry)) defaults) (P : ColumnsAt v deepest (now (incoming .entry)) n (c .at)) (Q : ColumnsAt v deepest (now (target .entry)) m (b .at)) → (r ≡ writeResult (answered (buildFrom v policy (defaultsAt defaults T) (Q .columns) (P .columns) 0) (writtenPlan (length (now (plan .entry)))))) × (now (plan .exit) ≡ bufferAfter (answered (buildFrom v policy (defaultsAt defaults T) (Q .columns) (P .columns) 0) (writtenPlan (length (now (plan .entry))))) (now (plan .entry)))) ⌝ }
 {
@@ -189,7 +189,7 @@ fn build_matched(
     plan: &mut [u8],
 ) -> WriteResult
     requires { ⌜ ColumnsAt v deepest (now incoming) n (c .at) × ColumnsAt v deepest (now target) m (b .at) ⌝ }
-    requires { ⌜ TableAt (now table) (defaults .count) (defaults .entries .at) ⌝ }
+    requires { ⌜ TableAt (now table) defaults ⌝ }
     requires { ⌜ (length (now target) ≤ 16384) × (length (now table) ≤ 16384) × (b .at ≡ 7) ⌝ }
     ensures { λ r. ⌜ ((T : DefaultsAt (now (table .entry)) defaults) (P : ColumnsAt v deepest (now (incoming .entry)) n (c .at)) (Q : ColumnsAt v deepest (now (target .entry)) m (b .at)) → (r ≡ writeResult (answered (buildFrom v policy (defaultsAt defaults T) (Q .columns) (P .columns) 0) (writtenPlan (length (now (plan .entry)))))) × (now (plan .exit) ≡ bufferAfter (answered (buildFrom v policy (defaultsAt defaults T) (Q .columns) (P .columns) 0) (writtenPlan (length (now (plan .entry))))) (now (plan .entry)))) ⌝ }
 {
@@ -240,7 +240,7 @@ pub fn build_plan(
     plan: &mut [u8],
 ) -> WriteResult
     requires { ⌜ ColumnsAt v deepest (now incoming) n (c .at) × ColumnsAt v deepest (now target) m (b .at) ⌝ }
-    requires { ⌜ TableAt (now table) (defaults .count) (defaults .entries .at) ⌝ }
+    requires { ⌜ TableAt (now table) defaults ⌝ }
     requires { ⌜ (length (now target) ≤ 16384) × (length (now table) ≤ 16384) × (b .at ≡ 7) ⌝ }
     ensures { λ r. ⌜ ((T : DefaultsAt (now (table .entry)) defaults) (P : ColumnsAt v deepest (now (incoming .entry)) n (c .at)) (Q : ColumnsAt v deepest (now (target .entry)) m (b .at)) → (r ≡ writeResult (answered (build v policy (defaultsAt defaults T) (P .columns) (Q .columns)) (writtenPlan (length (now (plan .entry)))))) × (now (plan .exit) ≡ bufferAfter (answered (build v policy (defaultsAt defaults T) (P .columns) (Q .columns)) (writtenPlan (length (now (plan .entry))))) (now (plan .entry)))) ⌝ }
 {

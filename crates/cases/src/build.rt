@@ -26,6 +26,7 @@ fn build_number(
     line: &[u8],
     policy: u32,
     source_index: u32,
+    owner: u16,
     incoming: &[u8],
     target: &[u8],
     defaults: &[u8],
@@ -34,12 +35,13 @@ fn build_number(
     let given = selector::selector_build_by_number(
         policy,
         source_index,
+        owner,
         incoming,
         target,
         defaults,
         plan,
     );
-    written(line, 7, given, plan)
+    written(line, 8, given, plan)
 }
 
 // build_name <policy> <buffer's length> <incoming> <target> <number> <rest>
@@ -59,7 +61,7 @@ pub fn build_name_case(line: &[u8]) -> Outcome {
     build_name(line, policy, &incoming[..a], &target[..b], &mut plan[..n])
 }
 
-// build_number <policy> <source index> <buffer's length> <incoming> <target> <defaults> <number> <rest>
+// build_number <policy> <source index> <owner> <buffer's length> <incoming> <target> <defaults> <number> <rest>
 pub fn build_number_case(line: &[u8]) -> Outcome {
     let Decimal::Is(policy) = number(word(line, 1)) else {
         return Outcome::Malformed;
@@ -67,24 +69,31 @@ pub fn build_number_case(line: &[u8]) -> Outcome {
     let Decimal::Is(source_index) = number(word(line, 2)) else {
         return Outcome::Malformed;
     };
-    if !has_layouts(line, 4) {
+    let Decimal::Is(owner) = number(word(line, 3)) else {
+        return Outcome::Malformed;
+    };
+    if 65535 < owner {
         return Outcome::Malformed;
     }
-    if !has_bytes(line, 6, 16640) {
+    if !has_layouts(line, 5) {
+        return Outcome::Malformed;
+    }
+    if !has_bytes(line, 7, 16640) {
         return Outcome::Malformed;
     }
     let mut incoming = short_buffer();
-    let a = take_bytes(line, 4, &mut incoming);
+    let a = take_bytes(line, 5, &mut incoming);
     let mut target = short_buffer();
-    let b = take_bytes(line, 5, &mut target);
+    let b = take_bytes(line, 6, &mut target);
     let mut defaults = short_buffer();
-    let c = take_bytes(line, 6, &mut defaults);
+    let c = take_bytes(line, 7, &mut defaults);
     let mut plan = filled_buffer();
-    let n = room_in(line, 3, &plan);
+    let n = room_in(line, 4, &plan);
     build_number(
         line,
         policy,
         source_index,
+        owner as u16,
         &incoming[..a],
         &target[..b],
         &defaults[..c],

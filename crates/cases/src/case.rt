@@ -55,7 +55,7 @@ pub fn answer_word(kind: Kind) -> usize {
     match kind {
         Kind::Layout => 2,
         Kind::BuildName => 5,
-        Kind::BuildNumber => 7,
+        Kind::BuildNumber => 8,
         Kind::Check => 4,
         Kind::Run => 6,
         Kind::Unknown => 0,

@@ -50,7 +50,7 @@ fn is_settled(kind: Kind, line: &[u8]) -> bool {
     match kind {
         Kind::Layout => false,
         Kind::BuildName => plan_settled(line, 3, 6),
-        Kind::BuildNumber => plan_settled(line, 4, 8),
+        Kind::BuildNumber => plan_settled(line, 5, 9),
         Kind::Check => plan_settled(line, 1, 3),
         Kind::Run => record_settled(line),
         Kind::Unknown => false,

@@ -28,16 +28,22 @@ use Rattle.forms.proofs.Equal.{same-dtype-eq}
 use Rattle.forms.proofs.Heads.{head-at}
 use Rattle.forms.proofs.Comparing.{struct-known, list-known, array-known, StructIs, ListIs, ArrayIs, split, Split}
 use Rattle.plan.specs.Check.{Column, column}
+use Rattle.walk.specs.Stands.{SelectorAt}
+use Rattle.walk.specs.declared.walk.Walk.{Walk}
 use Rattle.plan.proofs.Results.{true≠false}
 use Rattle.nodes.specs.Typed.{TypeIs}
-use Rattle.checker.specs.Standing.{PartOf, ResolvedAt, headKind, TypeHeadIs}
+use Rattle.checker.specs.Standing.{PartOf, NamedAt, MappedAt, ResolvedAt, headKind, TypeHeadIs}
+use Rattle.checker.specs.Children.{PassedTo}
 use Rattle.checker.specs.Same.{endsFrom, endsOf, codeOf}
 use Rattle.checker.specs.declared.same.Ends.{Ends}
 use Rattle.checker.specs.declared.same.HeadCode.{HeadCode}
 use Rattle.checker.specs.declared.place.TypeHead.{TypeHead}
+use Rattle.checker.specs.declared.resolve.Source.{Source}
 use Rattle.checker.specs.declared.resolve.Resolved.{Resolved}
 use Rattle.checker.proofs.Fields.{column-there}
-use Rattle.checker.proofs.Fitting.{is-struct, is-list, is-array, element-part, array-element-part, dropFields, drop-next, drop-all, field-part}
+use Rattle.checker.proofs.Headed.{from-mapping}
+use Rattle.checker.proofs.Children.{ChildAt, made-more, made-named}
+use Rattle.checker.proofs.Fitting.{is-struct, is-list, is-array, element-part, array-element-part, dropFields, drop-next, drop-all}
 
 -- ---- answers
 
@@ -123,14 +129,14 @@ module _ {incoming plan : Bytes} {t : DataType} {h : TypeHead} (H : TypeHeadIs i
     array-there i = array-known Q (head-there (sym (H .kind) ∙ ap (headKind incoming plan) i) (omega arith))
 
     module _ {m : Version} {n : ℕ} {q : Resolved} (R : ResolvedAt incoming m n plan q t) {r : Ends} where
-      pub structs-same : {k : ℕ} (i : h ≡ TypeHead.Struct k)
-          → ((fs : Fields) (C : ColumnsAt v (d - 1) s k (g .at)) → ResolvedAt incoming m n plan q (struct fs) → countFields fs ≡ k → r ≡ endsOf (sameFields fs (fieldsOf (C .columns))) (C .end))
+      pub structs-same : {k : ℕ} → q .source ≡ Source.Mapped → (i : h ≡ TypeHead.Struct k)
+          → ((fs : Fields) (C : ColumnsAt v (d - 1) s k (g .at)) → MappedAt incoming m n plan (q .walk) (struct fs) → countFields fs ≡ k → r ≡ endsOf (sameFields fs (fieldsOf (C .columns))) (C .end))
           → r ≡ endsOf (sameDtype t (dtypeOf (Q .tree))) (Q .end)
       unfolding sameDtype dtypeOf
-      structs-same i o =
+      structs-same y i o =
           let (fs, (p, c)) = is-struct H i in
           let S = struct-there i in
-          o fs (S .inner) (subst (λ (u : DataType). ResolvedAt incoming m n plan q u) p R) c
+          o fs (S .inner) (subst (λ (u : DataType). MappedAt incoming m n plan (q .walk) u) p (from-mapping R y)) c
           ∙ ap (λ (j : ℕ). endsOf (sameFields fs (fieldsOf (S .inner .columns))) j) (sym (S .ends))
           ∙ ap (λ (u : DataType). endsOf (sameDtype (struct fs) u) (Q .end)) (sym (ap dtypeOf (S .is)))
           ∙ ap (λ (u : DataType). endsOf (sameDtype u (dtypeOf (Q .tree))) (Q .end)) (sym p)
@@ -184,32 +190,34 @@ abbrev pub columns-as : {v : Version} {d : ℕ} {s : Bytes} {n m at to : ℕ} �
 columns-as {v} {d} {s} {n} {m} {at} {to} e g P =
     record { columns = P .columns; end = P .end; reads = sym (ap (λ (k : ℕ). columnsOf v Free (type v Free d) k [] s at) e ∙ ap (λ (o : ℕ). columnsOf v Free (type v Free d) m [] s o) g) ∙ P .reads }
 
-pub record Matching (incoming : Bytes) (v : Version) (n : ℕ) (plan : Bytes) (r : Resolved) (count : ℕ) (target : Bytes) (vt : Version) (depth from at k : ℕ) : Type 0 where
+pub record Matching (incoming : Bytes) (v : Version) (n : ℕ) (plan : Bytes) (w : Walk) (count : ℕ) (target : Bytes) (vt : Version) (depth base from at k : ℕ) : Type 0 where
   pub some : Fields
-  pub start : ResolvedAt incoming v n plan r (struct some)
+  pub start : MappedAt incoming v n plan w (struct some)
   pub counted : countFields some ≡ count
   pub within : k ≤ count
+  pub passed : PassedTo plan (w .at) k from
   pub rest : ColumnsAt vt depth target (count - k) at
-  pub keeps : (fs : Fields) (Q : ColumnsAt vt depth target count from) → ResolvedAt incoming v n plan r (struct fs) → countFields fs ≡ count
+  pub keeps : (fs : Fields) (Q : ColumnsAt vt depth target count base) → MappedAt incoming v n plan w (struct fs) → countFields fs ≡ count
       → endsOf (sameFields fs (fieldsOf (Q .columns))) (Q .end) ≡ endsOf (sameFields (dropFields k fs) (fieldsOf (rest .columns))) (rest .end)
 
-module _ {incoming : Bytes} {v : Version} {n : ℕ} {plan : Bytes} {r : Resolved} {count : ℕ} {target : Bytes} {vt : Version} {depth from : ℕ} where
-  pub matching-start : {fs : Fields} → ResolvedAt incoming v n plan r (struct fs) → countFields fs ≡ count → ColumnsAt vt depth target count from
-      → Matching incoming v n plan r count target vt depth from from 0
+module _ {incoming : Bytes} {v : Version} {n : ℕ} {plan : Bytes} {w : Walk} {count : ℕ} {target : Bytes} {vt : Version} {depth base : ℕ} where
+  pub matching-start : {fs : Fields} → MappedAt incoming v n plan w (struct fs) → countFields fs ≡ count → ColumnsAt vt depth target count base → {from : ℕ} → PassedTo plan (w .at) 0 from
+      → Matching incoming v n plan w count target vt depth base from base 0
   unfolding dropFields
-  matching-start {fs} R c C = record {
+  matching-start {fs} R c C B = record {
     some = fs;
     start = R;
     counted = c;
     within = omega arith;
+    passed = B;
     rest = columns-as (let e : count ≡ count - 0 = omega arith in e) refl C;
     keeps = λ gs Q S c.
         let z = same-columns Q C in
         ap (λ (j : ℕ). endsOf (sameFields gs (fieldsOf (Q .columns))) j) (z .1) ∙ ap (λ (cs : Columns). endsOf (sameFields gs (fieldsOf cs)) (C .end)) (z .0);
   }
 
-  module _ {at k : ℕ} (O : Matching incoming v n plan r count target vt depth from at k) where
-    pub matching-end : count ≤ k → (fs : Fields) (Q : ColumnsAt vt depth target count from) → ResolvedAt incoming v n plan r (struct fs) → countFields fs ≡ count
+  module _ {from at k : ℕ} (O : Matching incoming v n plan w count target vt depth base from at k) where
+    pub matching-end : count ≤ k → (fs : Fields) (Q : ColumnsAt vt depth target count base) → MappedAt incoming v n plan w (struct fs) → countFields fs ≡ count
         → Ends.At (record { at = at }) ≡ endsOf (sameFields fs (fieldsOf (Q .columns))) (Q .end)
     unfolding endsOf sameFields fieldsOf
     matching-end h fs Q R c =
@@ -222,65 +230,70 @@ module _ {incoming : Bytes} {v : Version} {n : ℕ} {plan : Bytes} {r : Resolved
       pub matching-first : Split vt depth target (count - k) at (O .rest)
       matching-first = split (O .rest) (λ z. omega arith)
 
-      pub matching-asks : (t : DataType) × (a : Column) × ResolvedAt incoming v n plan r t × PartOf t k a
-      matching-asks = let (a, e) = column-there (O .some) k (let c = O .counted in omega arith) in (struct (O .some), a, O .start, field-part (O .some) k e)
+      below : k < countFields (O .some)
+      below = let c = O .counted in omega arith
 
-      module _ {f : Ends} (F : (t : DataType) (a : Column) (E : ColumnAt vt depth target at) → ResolvedAt incoming v n plan r t → PartOf t k a
-          → f ≡ endsOf (sameBytes (a .name) (E .label .name) && sameDtype (a .type) (dtypeOf (E .inner .tree))) (E .inner .end)) where
-        record Here (fs : Fields) (Q : ColumnsAt vt depth target count from) : Type 0 where
-          names : Bool
-          types : Bool
-          answers : f ≡ endsOf (names && types) (matching-first .first .inner .end)
-          is : endsOf (sameFields fs (fieldsOf (Q .columns))) (Q .end)
-              ≡ endsOf (names && (types && sameFields (dropFields (suc k) fs) (fieldsOf (matching-first .tail .columns)))) (matching-first .tail .end)
+      module _ {x : Walk} (g : ChildAt w k from x) where
+        pub matching-asks : (a : Column) × NamedAt incoming v n plan x a
+        matching-asks = let (a, e) = column-there (O .some) k below in (a, made-named (O .start) (O .passed) below g (O .start) e)
 
-        here : (fs : Fields) (Q : ColumnsAt vt depth target count from) → ResolvedAt incoming v n plan r (struct fs) → countFields fs ≡ count → Here fs Q
-        unfolding sameFields fieldsOf
-        here fs Q R c =
-            let (a, e) = column-there fs k (omega arith) in
-            let S = matching-first in
-            record {
-              names = sameBytes (a .name) (S .first .label .name);
-              types = sameDtype (a .type) (dtypeOf (S .first .inner .tree));
-              answers = F (struct fs) a (S .first) R (field-part fs k e);
-              is = O .keeps fs Q R c ∙ ap (λ (gs : Fields). endsOf (sameFields gs (fieldsOf (O .rest .columns))) (O .rest .end)) (drop-next fs k e)
-                  ∙ ap (λ (cs : Columns). endsOf (sameFields (fcons (a .name) (a .type) (dropFields (suc k) fs)) (fieldsOf cs)) (O .rest .end)) (S .is)
-                  ∙ ap (λ (j : ℕ). endsOf (sameBytes (a .name) (S .first .label .name) && (sameDtype (a .type) (dtypeOf (S .first .inner .tree)) && sameFields (dropFields (suc k) fs) (fieldsOf (S .tail .columns)))) j) (sym (S .ends));
-            }
+        module _ {f : Ends} (F : (a : Column) (E : ColumnAt vt depth target at) → NamedAt incoming v n plan x a
+            → f ≡ endsOf (sameBytes (a .name) (E .label .name) && sameDtype (a .type) (dtypeOf (E .inner .tree))) (E .inner .end)) where
+          record Here (fs : Fields) (Q : ColumnsAt vt depth target count base) : Type 0 where
+            names : Bool
+            types : Bool
+            answers : f ≡ endsOf (names && types) (matching-first .first .inner .end)
+            is : endsOf (sameFields fs (fieldsOf (Q .columns))) (Q .end)
+                ≡ endsOf (names && (types && sameFields (dropFields (suc k) fs) (fieldsOf (matching-first .tail .columns)))) (matching-first .tail .end)
 
-        pub matching-no : f ≡ Ends.Differ → (fs : Fields) (Q : ColumnsAt vt depth target count from) → ResolvedAt incoming v n plan r (struct fs) → countFields fs ≡ count
-            → Ends.Differ ≡ endsOf (sameFields fs (fieldsOf (Q .columns))) (Q .end)
-        unfolding endsOf
-        matching-no e fs Q R c =
-            let H = here fs Q R c in
-            sym (H .is ∙ none (H .names) (H .types) (sameFields (dropFields (suc k) fs) (fieldsOf (matching-first .tail .columns))) (ends-differ (H .names && H .types) (matching-first .first .inner .end) (sym (H .answers) ∙ e)) (matching-first .tail .end))
-          where
-            none : (x y z : Bool) → (x && y) ≡ false → (j : ℕ) → endsOf (x && (y && z)) j ≡ Ends.Differ
-            none true true z p j = true≠false refl p
-            none true false z p j = refl
-            none false y z p j = refl
+          here : (fs : Fields) (Q : ColumnsAt vt depth target count base) → MappedAt incoming v n plan w (struct fs) → countFields fs ≡ count → Here fs Q
+          unfolding sameFields fieldsOf
+          here fs Q R c =
+              let (a, e) = column-there fs k (omega arith) in
+              let S = matching-first in
+              record {
+                names = sameBytes (a .name) (S .first .label .name);
+                types = sameDtype (a .type) (dtypeOf (S .first .inner .tree));
+                answers = F a (S .first) (made-named (O .start) (O .passed) below g R e);
+                is = O .keeps fs Q R c ∙ ap (λ (gs : Fields). endsOf (sameFields gs (fieldsOf (O .rest .columns))) (O .rest .end)) (drop-next fs k e)
+                    ∙ ap (λ (cs : Columns). endsOf (sameFields (fcons (a .name) (a .type) (dropFields (suc k) fs)) (fieldsOf cs)) (O .rest .end)) (S .is)
+                    ∙ ap (λ (j : ℕ). endsOf (sameBytes (a .name) (S .first .label .name) && (sameDtype (a .type) (dtypeOf (S .first .inner .tree)) && sameFields (dropFields (suc k) fs) (fieldsOf (S .tail .columns)))) j) (sym (S .ends));
+              }
 
-        -- where the first column ends
-        at-end : {x : Cursor} → f ≡ Ends.At x → matching-first .first .inner .end ≡ x .at
-        at-end e =
-            let (t, a, R, P) = matching-asks in
-            sym (ends-at (sameBytes (a .name) (matching-first .first .label .name) && sameDtype (a .type) (dtypeOf (matching-first .first .inner .tree))) (matching-first .first .inner .end) (sym (F t a (matching-first .first) R P) ∙ e) .1)
-
-        pub matching-more : {x : Cursor} → f ≡ Ends.At x → Matching incoming v n plan r count target vt depth from (x .at) (k + 1)
-        matching-more {x} e = record {
-          some = O .some;
-          start = O .start;
-          counted = O .counted;
-          within = omega arith;
-          rest = columns-as (let z : count - k - 1 ≡ count - (k + 1) = omega arith in z) (at-end e) (matching-first .tail);
-          keeps = λ fs Q R c.
+          pub matching-no : f ≡ Ends.Differ → (fs : Fields) (Q : ColumnsAt vt depth target count base) → MappedAt incoming v n plan w (struct fs) → countFields fs ≡ count
+              → Ends.Differ ≡ endsOf (sameFields fs (fieldsOf (Q .columns))) (Q .end)
+          unfolding endsOf
+          matching-no e fs Q R c =
               let H = here fs Q R c in
-              let z : suc k ≡ k + 1 = omega arith in
-              H .is ∙ all (H .names) (H .types) (sameFields (dropFields (suc k) fs) (fieldsOf (matching-first .tail .columns))) (ends-at (H .names && H .types) (matching-first .first .inner .end) (sym (H .answers) ∙ e) .0) (matching-first .tail .end)
-              ∙ ap (λ (j : ℕ). endsOf (sameFields (dropFields j fs) (fieldsOf (matching-first .tail .columns))) (matching-first .tail .end)) z;
-        }
-          where
-            all : (x y z : Bool) → (x && y) ≡ true → (j : ℕ) → endsOf (x && (y && z)) j ≡ endsOf z j
-            all true true z p j = refl
-            all true false z p j = true≠false p refl
-            all false y z p j = true≠false p refl
+              sym (H .is ∙ none (H .names) (H .types) (sameFields (dropFields (suc k) fs) (fieldsOf (matching-first .tail .columns))) (ends-differ (H .names && H .types) (matching-first .first .inner .end) (sym (H .answers) ∙ e)) (matching-first .tail .end))
+            where
+              none : (x y z : Bool) → (x && y) ≡ false → (j : ℕ) → endsOf (x && (y && z)) j ≡ Ends.Differ
+              none true true z p j = true≠false refl p
+              none true false z p j = refl
+              none false y z p j = refl
+
+          -- where the first column ends
+          at-end : {y : Cursor} → f ≡ Ends.At y → matching-first .first .inner .end ≡ y .at
+          at-end e =
+              let (a, N) = matching-asks in
+              sym (ends-at (sameBytes (a .name) (matching-first .first .label .name) && sameDtype (a .type) (dtypeOf (matching-first .first .inner .tree))) (matching-first .first .inner .end) (sym (F a (matching-first .first) N) ∙ e) .1)
+
+          pub matching-more : {y : Cursor} → f ≡ Ends.At y → {d : ℕ} → ((P : SelectorAt plan from) → d ≡ P .end) → Matching incoming v n plan w count target vt depth base d (y .at) (k + 1)
+          matching-more {y} e s = record {
+            some = O .some;
+            start = O .start;
+            counted = O .counted;
+            within = omega arith;
+            passed = made-more (O .start) (O .passed) below s;
+            rest = columns-as (let z : count - k - 1 ≡ count - (k + 1) = omega arith in z) (at-end e) (matching-first .tail);
+            keeps = λ fs Q R c.
+                let H = here fs Q R c in
+                let z : suc k ≡ k + 1 = omega arith in
+                H .is ∙ all (H .names) (H .types) (sameFields (dropFields (suc k) fs) (fieldsOf (matching-first .tail .columns))) (ends-at (H .names && H .types) (matching-first .first .inner .end) (sym (H .answers) ∙ e) .0) (matching-first .tail .end)
+                ∙ ap (λ (j : ℕ). endsOf (sameFields (dropFields j fs) (fieldsOf (matching-first .tail .columns))) (matching-first .tail .end)) z;
+          }
+            where
+              all : (x y z : Bool) → (x && y) ≡ true → (j : ℕ) → endsOf (x && (y && z)) j ≡ endsOf z j
+              all true true z p j = refl
+              all true false z p j = true≠false p refl
+              all false y z p j = true≠false p refl

@@ -22,14 +22,16 @@ use Rattle.plan.specs.Result.{Result, gives, refuses, _>>=_, demand}
 use Rattle.plan.specs.Check.{Column, column, columnAt, castFits, withinLimits, resulting, checkCast}
 use Rattle.walk.specs.State.{Frame}
 use Rattle.walk.specs.Types.{ScopeOf, c-top, c-fields, c-list, c-array}
+use Rattle.walk.specs.Stands.{SelectorAt}
 use Rattle.walk.specs.Parts.{OptionAt}
 use Rattle.walk.specs.declared.walk.Walk.{Walk}
-use Rattle.checker.specs.Standing.{partsOf, headKind, TypeHeadIs, ResolvedAt, ScopedAt, EnclosingIs}
-use Rattle.checker.specs.Checking.{checkedOf, fittingOf}
+use Rattle.checker.specs.Standing.{partsOf, headKind, TypeHeadIs, NamedAt, ResolvedAt, ScopedAt, EnclosingIs}
+use Rattle.checker.specs.Checking.{checkedOf, fittingOf, isTransform}
 use Rattle.checker.specs.declared.selector.Checked.{Checked}
 use Rattle.checker.specs.declared.place.TypeHead.{TypeHead}
 use Rattle.checker.specs.declared.resolve.Source.{Source}
 use Rattle.checker.specs.declared.resolve.Resolved.{Resolved}
+use Rattle.checker.proofs.Given.{transform-within}
 use Rattle.checker.proofs.Room.{entries-count}
 use Rattle.checker.proofs.Fields.{column-there, column-past}
 
@@ -67,6 +69,14 @@ module _ {A B : Type 0} (x : Result A) (f : A → Result B) where
 pub passed-gives : {A : Type 0} (x : Result A) → checkedOf x ≡ Checked.Passed → (a : A) × (x ≡ gives a)
 passed-gives (gives a) e = (a, refl)
 passed-gives (refuses n) e = clash (cc)
+
+-- ---- a rename of what a transform gives
+
+pub renamed-transform : {incoming : Bytes} {v : Version} {n : ℕ} {plan : Bytes} {x : Walk} {a : Column} {b : Bool} → NamedAt incoming v n plan x a
+    → ((P : SelectorAt plan (x .at)) → b ≡ isTransform (P .tree)) → b ≡ true → (name : Bytes) → Checked.Passed ≡ checkedOf (resulting name (a .type))
+renamed-transform {a = a} N f e name =
+    let h = ap isTransform (sym (N .standing .selector)) ∙ sym (f (N .standing .here)) ∙ e in
+    ap fittingOf (sym (transform-within (N .scope) (N .selector) h (N .passes))) ∙ result-is name (a .type)
 
 -- ---- positions
 

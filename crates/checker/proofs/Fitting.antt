@@ -19,10 +19,13 @@ use Rattle.forms.specs.Readable.{depthOf, depthOfFields}
 use Rattle.plan.specs.Result.{gives}
 use Rattle.plan.specs.Check.{Column, column, columnAt, withinLimits}
 use Rattle.plan.proofs.Results.{never-refused, gives-eq}
+use Rattle.walk.specs.Stands.{SelectorAt}
+use Rattle.walk.specs.declared.walk.Walk.{Walk}
 use Rattle.nodes.specs.Typed.{TypeIs, SizeOf}
 use Rattle.nodes.specs.declared.types.FormSize.{FormSize}
 use Rattle.direct.specs.Places.{bytesOf, NameAt}
-use Rattle.checker.specs.Standing.{partsOf, PartOf, Made, made-struct, made-list, made-array, ResolvedAt, headKind, TypeHeadIs}
+use Rattle.checker.specs.Standing.{partsOf, PartOf, TypedAt, NamedAt, Made, made-struct, made-list, made-array, MappedAt, ResolvedAt, Resolves, headKind, TypeHeadIs}
+use Rattle.checker.specs.Children.{PassedTo}
 use Rattle.checker.specs.Limits.{fitOf, typeFit, fieldsFit, isWithin}
 use Rattle.checker.specs.declared.limits.Fit.{Fit}
 use Rattle.direct.specs.declared.place.Name.{Name}
@@ -31,7 +34,9 @@ use Rattle.checker.specs.declared.place.TypeHead.{TypeHead}
 use Rattle.checker.specs.declared.resolve.Source.{Source}
 use Rattle.checker.specs.declared.resolve.Resolved.{Resolved}
 use Rattle.checker.proofs.Fields.{column-there}
+use Rattle.checker.proofs.Resolving.{named-typed}
 use Rattle.checker.proofs.Headed.{from-mapping}
+use Rattle.checker.proofs.Children.{ChildAt, made-more, made-named}
 
 -- ---- numbers
 
@@ -259,14 +264,16 @@ module _ {incoming plan : Bytes} {t : DataType} {h : TypeHead} (H : TypeHeadIs i
   pub struct-short : {n : ℕ} (l r : ℕ) → h ≡ TypeHead.Struct n → r < 3 → Fit.Over ≡ typeFit t l r
   struct-short l r e k = let (fs, (q, c)) = is-struct e in fit-struct-short fs l r k ∙ ap (λ (u : DataType). typeFit u l r) (sym q)
 
-  pub struct-asks : {v : Version} {m : ℕ} {q : Resolved} {n : ℕ} → ResolvedAt incoming v m plan q t → h ≡ TypeHead.Struct n → (fs : Fields) × ResolvedAt incoming v m plan q (struct fs) × (countFields fs ≡ n)
-  struct-asks {v} {m} {q} R e = let (fs, (p, c)) = is-struct e in (fs, subst (λ (u : DataType). ResolvedAt incoming v m plan q u) p R, c)
+  -- a mapping makes it
+  pub struct-asks : {v : Version} {m : ℕ} {q : Resolved} {n : ℕ} → ResolvedAt incoming v m plan q t → q .source ≡ Source.Mapped → h ≡ TypeHead.Struct n
+      → (fs : Fields) × MappedAt incoming v m plan (q .walk) (struct fs) × (countFields fs ≡ n)
+  struct-asks {v} {m} {q} R z e = let (fs, (p, c)) = is-struct e in (fs, subst (λ (u : DataType). MappedAt incoming v m plan (q .walk) u) p (from-mapping R z), c)
 
-  pub struct-fits : {v : Version} {m : ℕ} {q : Resolved} {n : ℕ} {f : Fit} (l r : ℕ) → ResolvedAt incoming v m plan q t → h ≡ TypeHead.Struct n → (l ≡ 0 → ⊥) → 3 ≤ r
-      → ((fs : Fields) → ResolvedAt incoming v m plan q (struct fs) → countFields fs ≡ n → f ≡ fieldsFit fs (l - 1) (r - 3)) → f ≡ typeFit t l r
-  struct-fits {v} {m} {q} l r R e z k g =
+  pub struct-fits : {v : Version} {m : ℕ} {q : Resolved} {n : ℕ} {f : Fit} (l r : ℕ) → ResolvedAt incoming v m plan q t → q .source ≡ Source.Mapped → h ≡ TypeHead.Struct n → (l ≡ 0 → ⊥) → 3 ≤ r
+      → ((fs : Fields) → MappedAt incoming v m plan (q .walk) (struct fs) → countFields fs ≡ n → f ≡ fieldsFit fs (l - 1) (r - 3)) → f ≡ typeFit t l r
+  struct-fits {v} {m} {q} l r R y e z k g =
       let (fs, (p, c)) = is-struct e in
-      g fs (subst (λ (u : DataType). ResolvedAt incoming v m plan q u) p R) c ∙ fit-struct fs l r z k ∙ ap (λ (u : DataType). typeFit u l r) (sym p)
+      g fs (subst (λ (u : DataType). MappedAt incoming v m plan (q .walk) u) p (from-mapping R y)) c ∙ fit-struct fs l r z k ∙ ap (λ (u : DataType). typeFit u l r) (sym p)
 
   module _ {v : Version} {m : ℕ} {q : Resolved} (R : ResolvedAt incoming v m plan q t) where
     pub list-asks : h ≡ TypeHead.List → (u : DataType) × (a : Column) × ResolvedAt incoming v m plan q u × PartOf u 0 a
@@ -313,76 +320,83 @@ name-long {incoming} {plan} {m} {b} N =
     let i = N .inside in
     sym (length-take-le (m .span .len) (drop (m .span .start) (bytesOf incoming plan (m .place))) (let e = length-drop (m .span .start) (bytesOf incoming plan (m .place)) in omega arith)) ∙ ap length (N .is)
 
-pub field-part : (fs : Fields) (k : ℕ) {a : Column} → columnAt fs k ≡ gives a → PartOf (struct fs) k a
-unfolding partsOf
-field-part fs k e = record { found = e }
-
-pub record Fitting (incoming : Bytes) (v : Version) (n : ℕ) (plan : Bytes) (r : Resolved) (count levels room left k : ℕ) : Type 0 where
+pub record Fitting (incoming : Bytes) (v : Version) (n : ℕ) (plan : Bytes) (w : Walk) (count levels room at left k : ℕ) : Type 0 where
   pub some : Fields
-  pub start : ResolvedAt incoming v n plan r (struct some)
+  pub start : MappedAt incoming v n plan w (struct some)
   pub counted : countFields some ≡ count
   pub within : k ≤ count
-  pub keeps : (fs : Fields) → ResolvedAt incoming v n plan r (struct fs) → countFields fs ≡ count → fieldsFit fs levels room ≡ fieldsFit (dropFields k fs) levels left
+  pub passed : PassedTo plan (w .at) k at
+  pub keeps : (fs : Fields) → MappedAt incoming v n plan w (struct fs) → countFields fs ≡ count → fieldsFit fs levels room ≡ fieldsFit (dropFields k fs) levels left
 
-module _ {incoming : Bytes} {v : Version} {n : ℕ} {plan : Bytes} {r : Resolved} {count levels room : ℕ} where
-  pub fitting-start : {fs : Fields} → ResolvedAt incoming v n plan r (struct fs) → countFields fs ≡ count → Fitting incoming v n plan r count levels room room 0
+module _ {incoming : Bytes} {v : Version} {n : ℕ} {plan : Bytes} {w : Walk} {count levels room : ℕ} where
+  pub fitting-start : {fs : Fields} {at : ℕ} → MappedAt incoming v n plan w (struct fs) → countFields fs ≡ count → PassedTo plan (w .at) 0 at → Fitting incoming v n plan w count levels room at room 0
   unfolding dropFields
-  fitting-start {fs} R e = record { some = fs; start = R; counted = e; within = omega arith; keeps = λ gs S c. refl }
+  fitting-start {fs} M e B = record { some = fs; start = M; counted = e; within = omega arith; passed = B; keeps = λ gs S c. refl }
 
-  module _ {left k : ℕ} (O : Fitting incoming v n plan r count levels room left k) where
-    pub fitting-end : count ≤ k → (fs : Fields) → ResolvedAt incoming v n plan r (struct fs) → countFields fs ≡ count → Fit.Left left ≡ fieldsFit fs levels room
-    fitting-end h fs R c =
-        fit-no-fields levels left ∙ ap (λ (gs : Fields). fieldsFit gs levels left) (sym (drop-all fs k (omega arith))) ∙ sym (O .keeps fs R c)
+  module _ {at left k : ℕ} (O : Fitting incoming v n plan w count levels room at left k) where
+    pub fitting-end : count ≤ k → (fs : Fields) → MappedAt incoming v n plan w (struct fs) → countFields fs ≡ count → Fit.Left left ≡ fieldsFit fs levels room
+    fitting-end h fs M c =
+        fit-no-fields levels left ∙ ap (λ (gs : Fields). fieldsFit gs levels left) (sym (drop-all fs k (omega arith))) ∙ sym (O .keeps fs M c)
 
-    module _ (h : k < count) where
-      pub fitting-asks : (t : DataType) × (a : Column) × ResolvedAt incoming v n plan r t × PartOf t k a
-      fitting-asks = let (a, e) = column-there (O .some) k (let c = O .counted in omega arith) in (struct (O .some), a, O .start, field-part (O .some) k e)
+    module _ (h : k < count) {x : Walk} (g : ChildAt w k at x) where
+      below : k < countFields (O .some)
+      below = let c = O .counted in omega arith
 
-      module _ {m : Name} (N : (t : DataType) (a : Column) → ResolvedAt incoming v n plan r t → PartOf t k a → NameAt incoming plan m (a .name)) where
+      pub fitting-asks : (a : Column) × NamedAt incoming v n plan x a
+      fitting-asks = let (a, e) = column-there (O .some) k below in (a, made-named (O .start) (O .passed) below g (O .start) e)
+
+      pub fitting-typed : (t : DataType) × TypedAt incoming v n plan x t
+      fitting-typed = let (a, N) = fitting-asks in (a .type, named-typed N)
+
+      module _ {m : Name} (N : (a : Column) → NamedAt incoming v n plan x a → NameAt incoming plan m (a .name)) where
         -- the field k of any reading of the type
         record Here (fs : Fields) : Type 0 where
           field : Column
-          part : PartOf (struct fs) k field
+          named : NamedAt incoming v n plan x field
           long : m .span .len ≡ length (field .name)
           is : fieldsFit fs levels room ≡ fieldsFit (fcons (field .name) (field .type) (dropFields (suc k) fs)) levels left
 
-        here : (fs : Fields) → ResolvedAt incoming v n plan r (struct fs) → countFields fs ≡ count → Here fs
-        here fs R c =
+        here : (fs : Fields) → MappedAt incoming v n plan w (struct fs) → countFields fs ≡ count → Here fs
+        here fs M c =
             let (a, e) = column-there fs k (omega arith) in
-            let P = field-part fs k e in
+            let A = made-named (O .start) (O .passed) below g M e in
             record {
               field = a;
-              part = P;
-              long = name-long (N (struct fs) a R P);
-              is = O .keeps fs R c ∙ ap (λ (gs : Fields). fieldsFit gs levels left) (drop-next fs k e);
+              named = A;
+              long = name-long (N a A);
+              is = O .keeps fs M c ∙ ap (λ (gs : Fields). fieldsFit gs levels left) (drop-next fs k e);
             }
 
-        pub fitting-named : left ≤ m .span .len → (fs : Fields) → ResolvedAt incoming v n plan r (struct fs) → countFields fs ≡ count → Fit.Over ≡ fieldsFit fs levels room
-        fitting-named q fs R c = let H = here fs R c in let e = H .long in fit-name (H .field .name) (H .field .type) (dropFields (suc k) fs) levels left (omega arith) ∙ sym (H .is)
+        pub fitting-named : left ≤ m .span .len → (fs : Fields) → MappedAt incoming v n plan w (struct fs) → countFields fs ≡ count → Fit.Over ≡ fieldsFit fs levels room
+        fitting-named q fs M c = let H = here fs M c in let e = H .long in fit-name (H .field .name) (H .field .type) (dropFields (suc k) fs) levels left (omega arith) ∙ sym (H .is)
 
-        module _ (q : m .span .len < left) {p : Resolved} (T : (t : DataType) (a : Column) → ResolvedAt incoming v n plan r t → PartOf t k a → ResolvedAt incoming v n plan p (a .type)) where
+        module _ (q : m .span .len < left) {p : Resolved} (T : (t : DataType) → TypedAt incoming v n plan x t → Resolves incoming v n plan x t p) where
+          part-resolved : {fs : Fields} (H : Here fs) → ResolvedAt incoming v n plan p (H .field .type)
+          part-resolved H = T (H .field .type) (named-typed (H .named)) .resolved
+
           pub fitting-part : (t : DataType) × ResolvedAt incoming v n plan p t
-          fitting-part = let H = here (O .some) (O .start) (O .counted) in (_, T (struct (O .some)) (H .field) (O .start) (H .part))
+          fitting-part = (_, part-resolved (here (O .some) (O .start) (O .counted)))
 
           module _ {f : Fit} (F : (t : DataType) → ResolvedAt incoming v n plan p t → f ≡ typeFit t levels (left - m .span .len - 1)) where
-            fit-here : (fs : Fields) (R : ResolvedAt incoming v n plan r (struct fs)) (H : Here fs) → f ≡ typeFit (H .field .type) levels (left - length (H .field .name) - 1)
-            fit-here fs R H = F (H .field .type) (T (struct fs) (H .field) R (H .part)) ∙ ap (λ (i : ℕ). typeFit (H .field .type) levels (left - i - 1)) (H .long)
+            fit-here : {fs : Fields} (H : Here fs) → f ≡ typeFit (H .field .type) levels (left - length (H .field .name) - 1)
+            fit-here H = F (H .field .type) (part-resolved H) ∙ ap (λ (i : ℕ). typeFit (H .field .type) levels (left - i - 1)) (H .long)
 
-            pub fitting-over : f ≡ Fit.Over → (fs : Fields) → ResolvedAt incoming v n plan r (struct fs) → countFields fs ≡ count → Fit.Over ≡ fieldsFit fs levels room
-            fitting-over e fs R c =
-                let H = here fs R c in
+            pub fitting-over : f ≡ Fit.Over → (fs : Fields) → MappedAt incoming v n plan w (struct fs) → countFields fs ≡ count → Fit.Over ≡ fieldsFit fs levels room
+            fitting-over e fs M c =
+                let H = here fs M c in
                 let z = H .long in
-                fit-field-over (H .field .name) (H .field .type) (dropFields (suc k) fs) levels left (omega arith) (sym (fit-here fs R H) ∙ e) ∙ sym (H .is)
+                fit-field-over (H .field .name) (H .field .type) (dropFields (suc k) fs) levels left (omega arith) (sym (fit-here H) ∙ e) ∙ sym (H .is)
 
-            pub fitting-more : {x : ℕ} → f ≡ Fit.Left x → Fitting incoming v n plan r count levels room x (k + 1)
-            fitting-more {x} e = record {
+            pub fitting-more : {y : ℕ} → f ≡ Fit.Left y → {d : ℕ} → ((P : SelectorAt plan at) → d ≡ P .end) → Fitting incoming v n plan w count levels room d y (k + 1)
+            fitting-more {y} e s = record {
               some = O .some;
               start = O .start;
               counted = O .counted;
               within = omega arith;
-              keeps = λ fs R c.
-                  let H = here fs R c in
+              passed = made-more (O .start) (O .passed) below s;
+              keeps = λ fs M c.
+                  let H = here fs M c in
                   let z = H .long in
-                  let y : suc k ≡ k + 1 = omega arith in
-                  H .is ∙ fit-field (H .field .name) (H .field .type) (dropFields (suc k) fs) levels left (omega arith) (sym (fit-here fs R H) ∙ e) ∙ ap (λ (i : ℕ). fieldsFit (dropFields i fs) levels x) y;
+                  let i : suc k ≡ k + 1 = omega arith in
+                  H .is ∙ fit-field (H .field .name) (H .field .type) (dropFields (suc k) fs) levels left (omega arith) (sym (fit-here H) ∙ e) ∙ ap (λ (j : ℕ). fieldsFit (dropFields j fs) levels y) i;
             }

@@ -8,6 +8,7 @@ pub mod Resolving
 pub mod Making
 pub mod Headed
 pub mod Parting
+pub mod Children
 pub mod Naming
 pub mod Fitting
 pub mod Alike

@@ -3,7 +3,7 @@ use Prim.Native.Nat.{ℕ, zero, suc, _<_}
 use mathlib.Core.Path.{_≡_, refl, sym, ap, _∙_, subst}
 use mathlib.Core.List.{[], _∷_}
 use native.Mathlib.Omega.{arith}
-use Rattle.layout.specs.Tree.{DataType, struct, array, Fields}
+use Rattle.layout.specs.Tree.{DataType, struct, array, Fields, countFields}
 use Rattle.layout.specs.Layout.{aStruct, aList}
 use Rattle.layout.proofs.Ways.{clash}
 use Rattle.forms.specs.Form.{headOf}
@@ -67,6 +67,16 @@ pub made-never : {X : Type 0} {Γ : Fields} {x : State} {t : DataType} {s : Sele
 made-never {s = z} (made-struct a b c d) e h = let q : 4 ≡ codeOf z = ap codeOf e in absurd (omega arith)
 made-never {s = z} (made-list a b c d) e h = let q : 5 ≡ codeOf z = ap codeOf e in absurd (omega arith)
 made-never {s = z} (made-array a b c d) e h = let q : 6 ≡ codeOf z = ap codeOf e in absurd (omega arith)
+
+-- the selectors of what makes a struct, as many as its fields
+pub record MadeStruct (x : State) (gs : Fields) : Type 0 where
+  pub input : Selector
+  pub parts : Selectors
+  pub is : x .selector ≡ structMapping input parts
+  pub count : countFields gs ≡ countSelectors parts
+
+pub made-parts : {Γ : Fields} {x : State} {gs : Fields} → Made Γ x (struct gs) → MadeStruct x gs
+made-parts (made-struct {s = s} {ss = ss} {fs = fs} a b c d) = record { input = s; parts = ss; is = refl; count = types-count fs ss d }
 
 -- ---- the input
 

@@ -340,21 +340,3 @@ module _ {incoming : Bytes} {v : Version} {n : ℕ} {plan : Bytes} where
 
               pub naming-child : Naming incoming v n plan w y
               naming-child = goes-on (λ b B. let F = direct f B in (b, (child-named g (F .mapped) (F .found), refl)))
-
--- ---- part_name
-
-module _ {incoming : Bytes} {v : Version} {n : ℕ} {plan : Bytes} {q : Resolved} {k : ℕ} {d : PartName}
-    (j : (m : ℕ) (t : DataType) (a : Column) → ResolvedAt incoming v m plan q t → PartOf t k a → MappedNameIs incoming v m plan (q .walk) k a d)
-    {t : DataType} {a : Column} (R : ResolvedAt incoming v n plan q t) (P : PartOf t k a) where
-  answer : {p : PartName} → d ≡ p → mappedNameAnswer incoming v n plan (q .walk) k a p
-  answer {p} f = subst (λ (p : PartName). mappedNameAnswer incoming v n plan (q .walk) k a p) f (j n t a R P .answer)
-
-  pub part-name-is : {m : Name} → d ≡ PartName.Is m → NameAt incoming plan m (a .name)
-  part-name-is f = answer f
-
-  pub part-name-asks : d ≡ PartName.Child → ((z : State) × WalkAt plan (q .walk) z) × (q .walk .deep < 64)
-  part-name-asks f = child-asks (answer f .mapped)
-
-  pub part-named : d ≡ PartName.Child → {y : Walk} (g : (z : State) (l : Frame) (s : Selector) → WalkAt plan (q .walk) z → z .path ≡ [] → Part (z .selector) k l s → StepsTo plan (state s (l ∷ z .frames) []) (q .walk) y)
-      → NamedAt incoming v n plan y a
-  part-named f g = let F = answer f in child-named g (F .mapped) (F .found)

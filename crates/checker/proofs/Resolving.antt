@@ -1,7 +1,7 @@
 -- What `stop` and `resolve` answer on each way. Assumes nothing.
 use Prim.Native.Nat.{ℕ, _+_, _≤_, _<_}
 use mathlib.Core.Path.{_≡_, sym, _∙_, subst}
-use mathlib.Core.List.{List}
+use mathlib.Core.List.{List, []}
 use native.Mathlib.Omega.{arith}
 use lib.ListN.{length}
 use lib.Seq.{slice}
@@ -14,17 +14,18 @@ use Rattle.layout.specs.declared.cursor.Cursor.{Cursor}
 use Rattle.layout.specs.declared.version.Version.{Version}
 use Rattle.layout.specs.declared.version.Version.the-variants.{ByName}
 use Rattle.plan.specs.Selector.{Selector, nesting}
+use Rattle.plan.specs.Check.{Column}
 use Rattle.nodes.specs.Typed.{LeadsAt}
 use Rattle.checker.specs.Shallow.{Shallow}
 use Rattle.walk.specs.State.{State, state}
 use Rattle.walk.specs.Moves.{Input, i-rename}
-use Rattle.walk.specs.Types.{Along}
+use Rattle.walk.specs.Types.{Along, a-here}
 use Rattle.walk.specs.Standing.{WalkAt, rank, Located, StepsTo}
 use Rattle.walk.specs.Parts.{HeadIs}
 use Rattle.walk.specs.declared.walk.Walk.{Walk}
 use Rattle.walk.specs.declared.head.SelectorHead.{SelectorHead}
 use Rattle.walk.proofs.Heads.{is-position, is-constant, is-cast, is-rename, is-struct, is-list, is-array}
-use Rattle.checker.specs.Standing.{ColumnAlong, TypedAt, SourceAt, Resolves, StoppedAt, RenameStop, stopAnswer, StopIs}
+use Rattle.checker.specs.Standing.{ColumnAlong, TypedAt, NamedAt, SourceAt, Resolves, StoppedAt, RenameStop, stopAnswer, StopIs}
 use Rattle.checker.specs.declared.resolve.Stop.{Stop}
 use Rattle.checker.specs.declared.resolve.Source.{Source}
 use Rattle.checker.specs.declared.resolve.Resolved.{Resolved}
@@ -37,6 +38,16 @@ use Rattle.checker.proofs.Fields.{FieldHere}
 -- under the selector's other name
 pub selected : {x : State} {s : Selector} → x .selector ≡ s → Shallow x → Shallow (state s (x .frames) (x .path))
 selected {x} e H = record { here = subst (λ (y : Selector). nesting y + length (x .frames) ≤ 64) e (H .here); frames = H .frames }
+
+-- at a selector, with no path left
+pub named-typed : {incoming : Bytes} {v : Version} {n : ℕ} {plan : Bytes} {w : Walk} {a : Column} → NamedAt incoming v n plan w a → TypedAt incoming v n plan w (a .type)
+named-typed {a = a} N = record {
+  columns = N .columns;
+  place = state (N .selector) (N .frames) [];
+  standing = N .standing;
+  shallow = N .shallow;
+  typed = record { scope = N .scope; column = a; scoped = N .scoped; passes = N .passes; along = a-here };
+}
 
 -- the walk x goes on for w
 pub record Onward (incoming : Bytes) (v : Version) (n : ℕ) (plan : Bytes) (w x : Walk) : Type 0 where

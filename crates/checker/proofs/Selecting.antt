@@ -5,7 +5,7 @@ use mathlib.Core.Bool.{Bool, true, false, true≢false}
 use mathlib.Core.List.{[], _∷_}
 use native.Mathlib.Omega.{arith}
 use Rattle.layout.specs.Bytes.{Bytes}
-use Rattle.layout.specs.Tree.{DataType, leaf, struct, list, array, Fields, fcons, dtypeOf}
+use Rattle.layout.specs.Tree.{DataType, leaf, struct, list, array, Fields, fcons, countFields, dtypeOf}
 use Rattle.layout.specs.Layout.{Kind}
 use Rattle.layout.specs.declared.bytes.Span.{Span}
 use Rattle.layout.specs.declared.columns.Position.{Position}
@@ -19,15 +19,18 @@ use Rattle.plan.specs.Check.{Column, columnAt, elementOf, structOf, listOf, arr
 use Rattle.plan.specs.Reach.{SelectorAt as Nth, s-here, s-there}
 use Rattle.walk.specs.State.{Frame, fields, element, State, state}
 use Rattle.walk.specs.Moves.{Input, i-cast, i-rename, i-struct, i-list, i-array, Part, p-field, p-list, p-array}
-use Rattle.walk.specs.Types.{c-fields, c-list, c-array, a-here}
+use Rattle.walk.specs.Types.{c-fields, c-list, c-array}
+use Rattle.walk.specs.Stands.{SelectorAt}
 use Rattle.walk.specs.Parts.{CastAt, RenameAt, StructAt, ListAt, ArrayAt, HeadIs}
 use Rattle.walk.specs.Standing.{WalkAt, rank, StepsTo}
 use Rattle.walk.specs.declared.walk.Walk.{Walk}
 use Rattle.walk.specs.declared.head.SelectorHead.{SelectorHead}
 use Rattle.walk.proofs.Heads.{is-position, is-constant}
+use Rattle.walk.proofs.Standing.{walk-small}
 use Rattle.checker.specs.Shallow.{Shallow}
 use Rattle.checker.specs.Same.{codeOf}
 use Rattle.checker.specs.Standing.{headKind, TypeHeadIs, made-struct, made-list, made-array, MappedAt, ResolvedAt, ScopedAt}
+use Rattle.checker.specs.Children.{PartStands, PassedTo}
 use Rattle.checker.specs.Checking.{checkedOf, fittingOf, isTransform, CheckingAt, PassedInput, nothingLeft, fieldsLeft, listedLeft, arrayedLeft, restAnswer, RestIs, MappingAt, Elements, of-list, of-array, fieldsResult, elementResult}
 use Rattle.checker.specs.declared.selector.Checked.{Checked}
 use Rattle.checker.specs.declared.selector.Rest.{Rest}
@@ -37,6 +40,7 @@ use Rattle.checker.specs.declared.resolve.Resolved.{Resolved}
 use Rattle.checker.proofs.Room.{cast-shallow, rename-shallow, struct-shallow, list-shallow, array-shallow, field-shallow, element-shallow, array-element-shallow, entries-count}
 use Rattle.checker.proofs.Resolving.{selected}
 use Rattle.checker.proofs.Making.{nth-there}
+use Rattle.checker.proofs.Children.{ChildAt, part-stands, passed-more}
 use Rattle.checker.proofs.Checks.{result-is, bind-refused, bind-gives, passed-gives}
 use Rattle.checker.proofs.Outer.{behind}
 use Rattle.checker.proofs.Fitting.{is-struct, is-list, is-array}
@@ -47,8 +51,8 @@ ToInput w x = (p : Bytes) (z : State) (s : Selector) → WalkAt p w z → Input 
 abbrev ToChild : Bytes → Walk → ℕ → Walk → Type 0
 ToChild plan w k x = (z : State) (f : Frame) (s : Selector) → WalkAt plan w z → z .path ≡ [] → Part (z .selector) k f s → StepsTo plan (state s (f ∷ z .frames) []) w x
 
-abbrev Answers : Bytes → Version → ℕ → Bytes → Walk → Checked → Type 0
-Answers incoming v n plan x r = (s : Selector) (Δ : Fields) → CheckingAt incoming v n plan x s Δ → r ≡ checkedOf (typeOf Δ s)
+abbrev Answers : Bytes → Version → ℕ → Bytes → Walk → ℕ → Checked → Type 0
+Answers incoming v n plan x m r = (s : Selector) (Δ : Fields) → CheckingAt incoming v n plan x s Δ → countFields Δ ≡ m → r ≡ checkedOf (typeOf Δ s)
 
 -- ---- the selector where the walk stands
 
@@ -148,19 +152,19 @@ module _ {incoming : Bytes} {v : Version} {n : ℕ} {plan : Bytes} {w : Walk} {s
     checking-input : CheckingAt incoming v n plan x i Δ
     checking-input = record { columns = C .columns; frames = C .frames; standing = steps .standing; shallow = T .shallow; scoped = C .scoped }
 
-    pub input-asks : (i : Selector) × (Δ : Fields) × CheckingAt incoming v n plan x i Δ
-    input-asks = (i, Δ, checking-input)
+    pub input-asks : {m : ℕ} → countFields Δ ≡ m → (i : Selector) × (Δ : Fields) × CheckingAt incoming v n plan x i Δ × (countFields Δ ≡ m)
+    input-asks c = (i, Δ, checking-input, c)
 
     pub input-falls : rank x < rank w
     input-falls = steps .falls
 
-    module _ {r : Checked} (h : Answers incoming v n plan x r) where
+    module _ {m : ℕ} (c : countFields Δ ≡ m) {r : Checked} (h : Answers incoming v n plan x m r) where
       pub input-refused : {k : ℕ} → r ≡ Checked.Refused k → Checked.Refused k ≡ checkedOf (typeOf Δ s)
-      input-refused e = bind-refused (typeOf Δ i) f (sym (h i Δ checking-input) ∙ e) ∙ ap checkedOf (sym (T .typed))
+      input-refused e = bind-refused (typeOf Δ i) f (sym (h i Δ checking-input c) ∙ e) ∙ ap checkedOf (sym (T .typed))
 
       module _ (e : r ≡ Checked.Passed) where
         passed : (a : Column) × (typeOf Δ i ≡ gives a)
-        passed = passed-gives (typeOf Δ i) (sym (h i Δ checking-input) ∙ e)
+        passed = passed-gives (typeOf Δ i) (sym (h i Δ checking-input c) ∙ e)
 
         pub input-passed : PassedInput incoming v n plan w x s Δ
         input-passed = record {
@@ -169,12 +173,15 @@ module _ {incoming : Bytes} {v : Version} {n : ℕ} {plan : Bytes} {w : Walk} {s
           takes = T .takes;
           column = passed .0;
           passes = passed .1;
-          typed = record {
+          named = record {
             columns = C .columns;
-            place = state i (C .frames) [];
+            selector = i;
+            frames = C .frames;
             standing = steps .standing;
             shallow = T .shallow;
-            typed = record { scope = Δ; column = passed .0; scoped = C .scoped; passes = passed .1; along = a-here };
+            scope = Δ;
+            scoped = C .scoped;
+            passes = passed .1;
           };
         }
 
@@ -317,6 +324,7 @@ module _ {incoming : Bytes} {v : Version} {n : ℕ} {plan : Bytes} {w x : Walk} 
             name = R .column .name;
             mapping = input-mapping R T (K .is) q;
             counted = c;
+            columns = j;
             left = sym (input-given R T (a-struct (R .column) (K .fields .selectors .trees) q refl));
           })
       go TypeHead.List H e = rest-as e (refused H (λ z. omega arith))
@@ -390,6 +398,10 @@ mapped-as {incoming} {v} {n} {plan} {t = t} e M = subst (λ (r : Resolved). Reso
 
 -- ---- list and array mappings
 
+pub one-element : (t : DataType) → countFields (elementOf t) ≡ 1
+unfolding countFields
+one-element t = refl
+
 pub record ElementStep (incoming : Bytes) (v : Version) (n : ℕ) (plan : Bytes) (w : Walk) (t : DataType) (e : Selector) (x : Walk) : Type 0 where
   pub checking : CheckingAt incoming v n plan x e (elementOf t)
   pub falls : rank x < rank w
@@ -413,18 +425,25 @@ module _ {incoming : Bytes} {v : Version} {n : ℕ} {plan : Bytes} {w : Walk} wh
   element-made (of-list M) h = record { columns = M .columns; place = _; standing = M .standing; shallow = M .shallow; made = made-list (M .scoped) (M .passes) (M .kind) h }
   element-made (of-array M) h = record { columns = M .columns; place = _; standing = M .standing; shallow = M .shallow; made = made-array (M .scoped) (M .passes) (M .kind) h }
 
-  module _ {t : DataType} {e : Selector} {f : DataType → DataType} (E : Elements incoming v n plan w t e f) {x : Walk} (g : ToChild plan w 0 x) {r : Checked} (h : Answers incoming v n plan x r) where
+  module _ {t : DataType} {e : Selector} {f : DataType → DataType} (E : Elements incoming v n plan w t e f) {x : Walk} (g : ToChild plan w 0 x) {r : Checked} (h : Answers incoming v n plan x 1 r) where
+    element-answer : r ≡ checkedOf (typeOf (elementOf t) e)
+    element-answer = h e (elementOf t) (element-step E g .checking) (one-element t)
+
     pub element-refused : {k : ℕ} (name : Bytes) → r ≡ Checked.Refused k → Checked.Refused k ≡ checkedOf (elementResult t e f name)
-    element-refused name p = bind-refused (typeOf (elementOf t) e) (λ d. resulting name (f (d .type))) (sym (h e (elementOf t) (element-step E g .checking)) ∙ p)
+    element-refused name p = bind-refused (typeOf (elementOf t) e) (λ d. resulting name (f (d .type))) (sym element-answer ∙ p)
 
     module _ (p : r ≡ Checked.Passed) where
       pub element-passed : (d : Column) × (typeOf (elementOf t) e ≡ gives d)
-      element-passed = passed-gives (typeOf (elementOf t) e) (sym (h e (elementOf t) (element-step E g .checking)) ∙ p)
+      element-passed = passed-gives (typeOf (elementOf t) e) (sym element-answer ∙ p)
 
       pub element-given : (name : Bytes) {q : Checked} → q ≡ fittingOf (withinLimits (f (element-passed .0 .type))) → q ≡ checkedOf (elementResult t e f name)
       element-given name o = bind-gives (typeOf (elementOf t) e) (λ d. resulting name (f (d .type))) (element-passed .1) (o ∙ result-is name (f (element-passed .0 .type)))
 
 -- ---- struct mappings
+
+-- what `first_child` and `child_at` ask
+pub mapping-asks : {incoming : Bytes} {v : Version} {n : ℕ} {plan : Bytes} {w : Walk} {i : Selector} {ss : Selectors} {u : DataType} → MappingAt incoming v n plan w (structMapping i ss) i u → (w .at < 65536) × (w .deep < 64)
+mapping-asks {i = i} {ss = ss} M = (walk-small (M .standing), let a = entries-count (M .standing .entries) in let b = nests-struct i ss in omega (arith, M .shallow .here))
 
 unfoldable pub dropSelectors : ℕ → Selectors → Selectors
 dropSelectors zero ss = ss
@@ -456,28 +475,32 @@ types-passed fs s ss e = let (a, q) = passed-gives (typeOf fs s) e in rw q (go a
     go c (gives a) = refl
     go c (refuses n) = refl
 
-pub record Passing (incoming : Bytes) (v : Version) (n : ℕ) (plan : Bytes) (w : Walk) (count k : ℕ) : Type 0 where
+pub record Passing (incoming : Bytes) (v : Version) (n : ℕ) (plan : Bytes) (w : Walk) (count m at k : ℕ) : Type 0 where
   pub input : Selector
   pub parts : Selectors
   pub scope : Fields
   pub start : MappingAt incoming v n plan w (structMapping input parts) input (struct scope)
   pub counted : countSelectors parts ≡ count
+  pub columns : countFields scope ≡ m
   pub within : k ≤ count
-  pub keeps : (i : Selector) (ss : Selectors) (fs : Fields) → MappingAt incoming v n plan w (structMapping i ss) i (struct fs) → countSelectors ss ≡ count
+  pub passed : PassedTo plan (w .at) k at
+  pub keeps : (i : Selector) (ss : Selectors) (fs : Fields) → MappingAt incoming v n plan w (structMapping i ss) i (struct fs) → countSelectors ss ≡ count → countFields fs ≡ m
       → checkedOf (typesOf fs ss) ≡ checkedOf (typesOf fs (dropSelectors k ss))
 
-module _ {incoming : Bytes} {v : Version} {n : ℕ} {plan : Bytes} {w : Walk} {count : ℕ} where
-  pub passing-start : {i : Selector} {ss : Selectors} {fs : Fields} → MappingAt incoming v n plan w (structMapping i ss) i (struct fs) → countSelectors ss ≡ count → Passing incoming v n plan w count 0
+module _ {incoming : Bytes} {v : Version} {n : ℕ} {plan : Bytes} {w : Walk} {count m : ℕ} where
+  pub passing-start : {i : Selector} {ss : Selectors} {fs : Fields} → MappingAt incoming v n plan w (structMapping i ss) i (struct fs) → countSelectors ss ≡ count → countFields fs ≡ m
+      → {at : ℕ} → PassedTo plan (w .at) 0 at → Passing incoming v n plan w count m at 0
   unfolding dropSelectors
-  passing-start {i} {ss} {fs} M c = record { input = i; parts = ss; scope = fs; start = M; counted = c; within = omega arith; keeps = λ j rs gs N d. refl }
+  passing-start {i} {ss} {fs} M c f B = record { input = i; parts = ss; scope = fs; start = M; counted = c; columns = f; within = omega arith; passed = B; keeps = λ j rs gs N d e. refl }
 
-  module _ {k : ℕ} (O : Passing incoming v n plan w count k) where
-    pub passing-child-asks : ((x : State) × WalkAt plan w x) × (w .deep < 64)
-    passing-child-asks =
-        let M = O .start in
-        ((state (structMapping (O .input) (O .parts)) (M .frames) [], M .standing), let a = entries-count (M .standing .entries) in let b = nests-struct (O .input) (O .parts) in omega (arith, M .shallow .here))
+  module _ {at k : ℕ} (O : Passing incoming v n plan w count m at k) where
+    module _ (h : k < count) {x : Walk} (j : ChildAt w k at x) where
+      stands : PartStands plan (w .at) k at
+      stands = let c = O .counted in part-stands (O .start .standing .here) (O .start .standing .selector) (O .passed) (omega arith)
 
-    module _ (h : k < count) {x : Walk} (g : ToChild plan w k x) where
+      g : ToChild plan w k x
+      g = j plan stands
+
       record Child (ss : Selectors) (fs : Fields) : Type 0 where
         part : Selector
         nth : Nth ss k part
@@ -495,52 +518,54 @@ module _ {incoming : Bytes} {v : Version} {n : ℕ} {plan : Bytes} {w : Walk} {c
             falls = S .falls;
           }
 
-      pub passing-asks : (s : Selector) × (Δ : Fields) × CheckingAt incoming v n plan x s Δ
-      passing-asks = let N = child (O .start) (O .counted) in (N .part, O .scope, N .checking)
+      pub passing-asks : (s : Selector) × (Δ : Fields) × CheckingAt incoming v n plan x s Δ × (countFields Δ ≡ m)
+      passing-asks = let N = child (O .start) (O .counted) in (N .part, O .scope, N .checking, O .columns)
 
       pub passing-falls : rank x < rank w
       passing-falls = child (O .start) (O .counted) .falls
 
-      module _ {r : Checked} (f : Answers incoming v n plan x r) where
-        rest-is : {i : Selector} {ss : Selectors} {fs : Fields} (M : MappingAt incoming v n plan w (structMapping i ss) i (struct fs)) (c : countSelectors ss ≡ count)
+      module _ {r : Checked} (f : Answers incoming v n plan x m r) where
+        rest-is : {i : Selector} {ss : Selectors} {fs : Fields} (M : MappingAt incoming v n plan w (structMapping i ss) i (struct fs)) (c : countSelectors ss ≡ count) → countFields fs ≡ m
             → checkedOf (typesOf fs ss) ≡ checkedOf (typesOf fs (scons (child M c .part) (dropSelectors (suc k) ss)))
-        rest-is {i} {ss} {fs} M c = O .keeps i ss fs M c ∙ ap (λ (rs : Selectors). checkedOf (typesOf fs rs)) (drop-nth (child M c .nth))
+        rest-is {i} {ss} {fs} M c d = O .keeps i ss fs M c d ∙ ap (λ (rs : Selectors). checkedOf (typesOf fs rs)) (drop-nth (child M c .nth))
 
-        pub passing-refused : {j : ℕ} → r ≡ Checked.Refused j → (i : Selector) (ss : Selectors) (fs : Fields) (name : Bytes) → MappingAt incoming v n plan w (structMapping i ss) i (struct fs) → countSelectors ss ≡ count
-            → Checked.Refused j ≡ checkedOf (fieldsResult fs ss name)
-        passing-refused e i ss fs name M c =
+        pub passing-refused : {q : ℕ} → r ≡ Checked.Refused q → (i : Selector) (ss : Selectors) (fs : Fields) (name : Bytes) → MappingAt incoming v n plan w (structMapping i ss) i (struct fs) → countSelectors ss ≡ count → countFields fs ≡ m
+            → Checked.Refused q ≡ checkedOf (fieldsResult fs ss name)
+        passing-refused e i ss fs name M c d =
             let N = child M c in
-            bind-refused (typesOf fs ss) (λ gs. resulting name (struct gs)) (rest-is M c ∙ types-refused fs (N .part) (dropSelectors (suc k) ss) (sym (f (N .part) fs (N .checking)) ∙ e))
+            bind-refused (typesOf fs ss) (λ gs. resulting name (struct gs)) (rest-is M c d ∙ types-refused fs (N .part) (dropSelectors (suc k) ss) (sym (f (N .part) fs (N .checking) d) ∙ e))
 
-        pub passing-more : r ≡ Checked.Passed → Passing incoming v n plan w count (k + 1)
-        passing-more e = record {
+        pub passing-more : r ≡ Checked.Passed → {y : ℕ} → ((P : SelectorAt plan at) → y ≡ P .end) → Passing incoming v n plan w count m y (k + 1)
+        passing-more e s = record {
           input = O .input;
           parts = O .parts;
           scope = O .scope;
           start = O .start;
           counted = O .counted;
+          columns = O .columns;
           within = omega arith;
-          keeps = λ i ss fs M c.
+          passed = let c = O .counted in passed-more (O .start .standing .here) (O .start .standing .selector) (O .passed) (omega arith) s;
+          keeps = λ i ss fs M c d.
               let N = child M c in
               let z : suc k ≡ k + 1 = omega arith in
-              rest-is M c ∙ types-passed fs (N .part) (dropSelectors (suc k) ss) (sym (f (N .part) fs (N .checking)) ∙ e) ∙ ap (λ (j : ℕ). checkedOf (typesOf fs (dropSelectors j ss))) z;
+              rest-is M c d ∙ types-passed fs (N .part) (dropSelectors (suc k) ss) (sym (f (N .part) fs (N .checking) d) ∙ e) ∙ ap (λ (j : ℕ). checkedOf (typesOf fs (dropSelectors j ss))) z;
         }
 
     module _ (h : count ≤ k) where
-      all-passed : {i : Selector} {ss : Selectors} {fs : Fields} → MappingAt incoming v n plan w (structMapping i ss) i (struct fs) → countSelectors ss ≡ count → (gs : Fields) × (typesOf fs ss ≡ gives gs)
+      all-passed : {i : Selector} {ss : Selectors} {fs : Fields} → MappingAt incoming v n plan w (structMapping i ss) i (struct fs) → countSelectors ss ≡ count → countFields fs ≡ m → (gs : Fields) × (typesOf fs ss ≡ gives gs)
       unfolding typesOf
-      all-passed {i} {ss} {fs} M c =
-          passed-gives (typesOf fs ss) (O .keeps i ss fs M c ∙ ap (λ (rs : Selectors). checkedOf (typesOf fs rs)) (drop-none ss k (omega arith)))
+      all-passed {i} {ss} {fs} M c d =
+          passed-gives (typesOf fs ss) (O .keeps i ss fs M c d ∙ ap (λ (rs : Selectors). checkedOf (typesOf fs rs)) (drop-none ss k (omega arith)))
 
       struct-made : {i : Selector} {ss : Selectors} {fs gs : Fields} → MappingAt incoming v n plan w (structMapping i ss) i (struct fs) → typesOf fs ss ≡ gives gs → MappedAt incoming v n plan w (struct gs)
       struct-made M e = record { columns = M .columns; place = _; standing = M .standing; shallow = M .shallow; made = made-struct (M .scoped) (M .passes) (M .kind) e }
 
       module _ {c : Cursor} {q : Resolved} (e : q ≡ record { source = Source.Mapped; at = c; walk = w }) where
         pub passing-limits : (t : DataType) × ResolvedAt incoming v n plan q t
-        passing-limits = let (gs, p) = all-passed (O .start) (O .counted) in (struct gs, mapped-as e (struct-made (O .start) p))
+        passing-limits = let (gs, p) = all-passed (O .start) (O .counted) (O .columns) in (struct gs, mapped-as e (struct-made (O .start) p))
 
         pub passing-end : {r : Checked} {b : Bool} → r ≡ fittingOf b → ((t : DataType) → ResolvedAt incoming v n plan q t → b ≡ withinLimits t)
-            → (i : Selector) (ss : Selectors) (fs : Fields) (name : Bytes) → MappingAt incoming v n plan w (structMapping i ss) i (struct fs) → countSelectors ss ≡ count → r ≡ checkedOf (fieldsResult fs ss name)
-        passing-end f l i ss fs name M d =
-            let (gs, p) = all-passed M d in
+            → (i : Selector) (ss : Selectors) (fs : Fields) (name : Bytes) → MappingAt incoming v n plan w (structMapping i ss) i (struct fs) → countSelectors ss ≡ count → countFields fs ≡ m → r ≡ checkedOf (fieldsResult fs ss name)
+        passing-end f l i ss fs name M d y =
+            let (gs, p) = all-passed M d y in
             bind-gives (typesOf fs ss) (λ gs. resulting name (struct gs)) p (f ∙ ap fittingOf (l (struct gs) (mapped-as e (struct-made M p))) ∙ result-is name (struct gs))

@@ -36,13 +36,13 @@ use Rattle.plan.proofs.ReadBack.{plan-back}
 use Rattle.plan.specs.Calls.{readAt}
 use Rattle.walk.specs.State.{state}
 use Rattle.walk.specs.Stands.{SelectorAt, SelectorsAt}
-use Rattle.walk.specs.Types.{ScopeOf, c-top, a-here}
+use Rattle.walk.specs.Types.{ScopeOf, c-top}
 use Rattle.walk.specs.Standing.{WalkAt}
 use Rattle.walk.specs.declared.walk.Walk.{Walk}
 use Rattle.walk.proofs.View.{first-at, no-selector, selectors-counted}
 use Rattle.walk.proofs.Forward.{selectors-from, selector-behind}
 use Rattle.checker.specs.Shallow.{Shallow}
-use Rattle.checker.specs.Standing.{TypedAt, NamedAt}
+use Rattle.checker.specs.Standing.{NamedAt}
 use Rattle.checker.specs.Same.{endsOf}
 use Rattle.checker.specs.Checking.{checkedOf, CheckingAt}
 use Rattle.checker.specs.Tops.{planChecked, TopsAt, TypedTops}
@@ -197,17 +197,6 @@ module _ {incoming : Bytes} {v : Version} {n : ℕ} {plan : Bytes} {count from :
                   let F = first-top U more in
                   (F .parts, (tops-as z (next-tops U more s), d ∙ ap (λ (ts : Selectors). planChecked (topTypes Γ ts k)) (F .is) ∙ top-passed Γ (F .head .tree) (F .parts) k (sym (f (F .head .tree) Γ (top-checking U more s g)) ∙ q)));
             }
-
--- ---- same_top
-
-pub named-typed : {incoming : Bytes} {v : Version} {n : ℕ} {plan : Bytes} {w : Walk} {a : Column} → NamedAt incoming v n plan w a → TypedAt incoming v n plan w (a .type)
-named-typed {a = a} N = record {
-  columns = N .columns;
-  place = state (N .selector) (N .frames) [];
-  standing = N .standing;
-  shallow = N .shallow;
-  typed = record { scope = N .scope; column = a; scoped = N .scoped; passes = N .passes; along = a-here };
-}
 
 -- ---- same_tops
 

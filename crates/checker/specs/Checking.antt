@@ -4,7 +4,7 @@ use mathlib.Core.Path.{_≡_}
 use mathlib.Core.Bool.{Bool, true, false}
 use mathlib.Core.List.{List, []}
 use Rattle.layout.specs.Bytes.{Bytes}
-use Rattle.layout.specs.Tree.{DataType, struct, list, array, Fields, fieldsOf}
+use Rattle.layout.specs.Tree.{DataType, struct, list, array, Fields, fieldsOf, countFields}
 use Rattle.layout.specs.Layout.{deepest}
 use Rattle.layout.specs.Stands.{ColumnsAt}
 use Rattle.layout.specs.declared.version.Version.{Version}
@@ -17,7 +17,7 @@ use Rattle.walk.specs.Types.{ScopeOf}
 use Rattle.walk.specs.Standing.{WalkAt}
 use Rattle.walk.specs.declared.walk.Walk.{Walk}
 use Rattle.checker.specs.Shallow.{Shallow}
-use Rattle.checker.specs.Standing.{TypedAt}
+use Rattle.checker.specs.Standing.{NamedAt}
 use Rattle.checker.specs.declared.place.TypeHead.{TypeHead}
 use Rattle.checker.specs.declared.selector.Checked.{Checked}
 use Rattle.checker.specs.declared.selector.Rest.{Rest}
@@ -57,7 +57,7 @@ pub record PassedInput (incoming : Bytes) (v : Version) (n : ℕ) (plan : Bytes)
   pub takes : Input s input
   pub column : Column
   pub passes : typeOf Δ input ≡ gives column
-  pub typed : TypedAt incoming v n plan x (column .type)
+  pub named : NamedAt incoming v n plan x column
 
 -- at the mapping s, whose input i has passed and gives the type t
 pub record MappingAt (incoming : Bytes) (v : Version) (n : ℕ) (plan : Bytes) (w : Walk) (s i : Selector) (t : DataType) : Type 0 where
@@ -91,7 +91,7 @@ nothingLeft (Checked.Refused k) = Rest.Refused k
 -- a mapping's selectors, where its input has its kind
 abbrev pub fieldsLeft : TypeHead → ℕ → Rest
 fieldsLeft (TypeHead.Leaf p l) count = Rest.Refused 32
-fieldsLeft (TypeHead.Struct n) count = Rest.Fields count
+fieldsLeft (TypeHead.Struct n) count = Rest.Fields count n
 fieldsLeft TypeHead.List count = Rest.Refused 32
 fieldsLeft (TypeHead.Array w) count = Rest.Refused 32
 
@@ -107,14 +107,15 @@ arrayedLeft (TypeHead.Struct n) = Rest.Refused 32
 arrayedLeft TypeHead.List = Rest.Refused 32
 arrayedLeft (TypeHead.Array w) = Rest.Element
 
--- the check of s is that of a struct mapping's selectors, and then of its result
-pub record FieldsLeft (incoming : Bytes) (v : Version) (n : ℕ) (plan : Bytes) (w : Walk) (s : Selector) (Δ : Fields) (count : ℕ) : Type 0 where
+-- the check of s is that of a struct mapping's count selectors, over m columns, and then of its result
+pub record FieldsLeft (incoming : Bytes) (v : Version) (n : ℕ) (plan : Bytes) (w : Walk) (s : Selector) (Δ : Fields) (count m : ℕ) : Type 0 where
   pub input : Selector
   pub parts : Selectors
   pub scope : Fields
   pub name : Bytes
   pub mapping : MappingAt incoming v n plan w (structMapping input parts) input (struct scope)
   pub counted : countSelectors parts ≡ count
+  pub columns : countFields scope ≡ m
   pub left : checkedOf (typeOf Δ s) ≡ checkedOf (fieldsResult scope parts name)
 
 -- of the selector of a list or array mapping
@@ -129,7 +130,7 @@ pub record ElementLeft (incoming : Bytes) (v : Version) (n : ℕ) (plan : Bytes)
 abbrev pub restAnswer : Bytes → Version → ℕ → Bytes → Walk → Selector → Fields → Rest → Type 0
 restAnswer incoming v n plan w s Δ Rest.Passed = Checked.Passed ≡ checkedOf (typeOf Δ s)
 restAnswer incoming v n plan w s Δ (Rest.Refused k) = Checked.Refused k ≡ checkedOf (typeOf Δ s)
-restAnswer incoming v n plan w s Δ (Rest.Fields count) = FieldsLeft incoming v n plan w s Δ count
+restAnswer incoming v n plan w s Δ (Rest.Fields count m) = FieldsLeft incoming v n plan w s Δ count m
 restAnswer incoming v n plan w s Δ Rest.Element = ElementLeft incoming v n plan w s Δ
 
 pub record RestIs (incoming : Bytes) (v : Version) (n : ℕ) (plan : Bytes) (w : Walk) (s : Selector) (Δ : Fields) (r : Rest) : Type 0 where

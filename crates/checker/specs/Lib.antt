@@ -1,5 +1,6 @@
 pub mod Shallow
 pub mod Standing
+pub mod Children
 pub mod Limits
 pub mod Same
 pub mod Checking

@@ -8,17 +8,22 @@ ghost use Rattle.forms.specs.Readable.{depthOf};
 ghost use Rattle.plan.specs.Check.{Column, withinLimits};
 ghost use Rattle.nodes.specs.Typed.{TypeIs};
 ghost use Rattle.checker.specs.declared.resolve.Source.{Source as SourceOf};
-ghost use Rattle.checker.specs.Standing.{PartOf, ResolvedAt};
+ghost use Rattle.checker.specs.Standing.{PartOf, MappedAt, ResolvedAt};
 ghost use Rattle.checker.specs.Limits.{fitOf, typeFit, fieldsFit};
+use crate::child::child_at;
+use crate::child::first_child;
 use crate::head::type_head;
-use crate::name::part_name;
+use crate::name::name_at;
 use crate::part::part;
 use crate::place::TypeHead;
 use crate::resolve::Resolved;
 use crate::resolve::Source;
+use crate::resolve::resolve;
 use layout::cursor::Cursor;
 use layout::version::Version;
 use nodes::types::form_size;
+use walk::head::skip_selector;
+use walk::walk::Walk;
 
 // The bytes that are left, or the limits are passed.
 pub enum Fit {
@@ -85,7 +90,8 @@ fn mapped_fit(
             if room < 3 {
                 return Fit::Over;
             }
-            fields_fit(incoming, v, n, plan, r, count, levels - 1, room - 3)
+            let w = r.walk;
+            fields_fit(incoming, v, n, plan, w, count, levels - 1, room - 3)
         }
         TypeHead::List => element_fit(incoming, v, n, plan, r, 1, levels - 1, room),
         TypeHead::Array(_) => element_fit(incoming, v, n, plan, r, 5, levels - 1, room),
@@ -113,35 +119,41 @@ fn element_fit(
     type_fit(incoming, v, n, plan, p, levels, room - head)
 }
 
-// Of the names and types of a struct's fields.
+// Of the names and types of the fields that the struct mapping where the walk stands makes.
 fn fields_fit(
     incoming: &[u8],
     v: Version,
     n: u16,
     plan: &[u8],
-    r: Resolved,
+    w: Walk,
     count: u16,
     levels: u8,
     room: usize,
 ) -> Fit
-    requires { ⌜ ((fs : Fields) × ResolvedAt (now incoming) v n (now plan) r (struct fs) × (countFields fs ≡ count)) ⌝ }
-    ensures { λ f. ⌜ ((fs : Fields) → ResolvedAt (now (incoming .entry)) v n (now (plan .entry)) r (struct fs) → countFields fs ≡ count → f ≡ fieldsFit fs levels room) ⌝ }
+    requires { ⌜ ((fs : Fields) × MappedAt (now incoming) v n (now plan) w (struct fs) × (countFields fs ≡ count)) ⌝ }
+    ensures { λ f. ⌜ ((fs : Fields) → MappedAt (now (incoming .entry)) v n (now (plan .entry)) w (struct fs) → countFields fs ≡ count → f ≡ fieldsFit fs levels room) ⌝ }
 {
+    let first = first_child(plan, w);
+    let mut at = first.at;
     let mut left = room;
     let mut k: u16 = 0;
     while k < count {
-        let name = part_name(incoming, v, n, plan, r, k);
+        let c = Cursor { at };
+        let x = child_at(w, k, c);
+        let name = name_at(incoming, v, n, plan, x);
         let len = name.span.len;
         if left <= len {
             return Fit::Over;
         }
-        let p = part(incoming, v, n, plan, r, k);
+        let p = resolve(incoming, v, n, plan, x);
         match type_fit(incoming, v, n, plan, p, levels, left - len - 1) {
             Fit::Left(rest) => {
                 left = rest;
             }
             Fit::Over => return Fit::Over,
         }
+        let d = skip_selector(plan, c);
+        at = d.at;
         k += 1;
     }
     Fit::Left(left)

@@ -161,17 +161,3 @@ pub fn name_at(incoming: &[u8], v: Version, n: u16, plan: &[u8], w: Walk) -> Nam
         }
     }
 }
-
-// Of the part `k` of a type.
-pub fn part_name(incoming: &[u8], v: Version, n: u16, plan: &[u8], r: Resolved, k: u16) -> Name
-    requires { ⌜ ((t : DataType) × (a : Column) × ResolvedAt (now incoming) v n (now plan) r t × PartOf t k a) ⌝ }
-    ensures { λ m. ⌜ ((t : DataType) (a : Column) → ResolvedAt (now (incoming .entry)) v n (now (plan .entry)) r t → PartOf t k a → NameAt (now (incoming .entry)) (now (plan .entry)) m (a .name)) ⌝ }
-{
-    match direct_name(incoming, v, plan, r, k) {
-        PartName::Is(name) => name,
-        PartName::Child => {
-            let w = r.walk;
-            name_at(incoming, v, n, plan, w.child(plan, k))
-        }
-    }
-}

@@ -11,14 +11,17 @@ ghost use Rattle.forms.specs.Same.{sameDtype, sameFields};
 ghost use Rattle.forms.specs.Labelled.{ElementAt, ColumnAt};
 ghost use Rattle.plan.specs.Check.{Column};
 ghost use Rattle.checker.specs.declared.resolve.Source.{Source as SourceOf};
-ghost use Rattle.checker.specs.Standing.{PartOf, ResolvedAt, headKind};
+ghost use Rattle.checker.specs.Standing.{PartOf, NamedAt, MappedAt, ResolvedAt, headKind};
 ghost use Rattle.checker.specs.Same.{endsFrom, endsOf, codeOf};
+use crate::child::child_at;
+use crate::child::first_child;
 use crate::head::type_head;
-use crate::name::part_name;
+use crate::name::name_at;
 use crate::part::part;
 use crate::place::TypeHead;
 use crate::resolve::Resolved;
 use crate::resolve::Source;
+use crate::resolve::resolve;
 use direct::place::same_name;
 use forms::compare::Same;
 use forms::compare::same_type;
@@ -27,6 +30,8 @@ use layout::columns::Labelled;
 use layout::cursor::Cursor;
 use layout::types::Head;
 use layout::version::Version;
+use walk::head::skip_selector;
+use walk::walk::Walk;
 
 // Where the target's type ends, if it is the same.
 pub enum Ends {
@@ -144,18 +149,10 @@ fn same_mapped(
     let e = head_end(target, c);
     match h {
         TypeHead::Leaf(_, _) => Ends::Differ,
-        TypeHead::Struct(count) => same_fields(
-            incoming,
-            v,
-            n,
-            plan,
-            r,
-            count,
-            target,
-            vt,
-            depth - 1,
-            e,
-        ),
+        TypeHead::Struct(count) => {
+            let w = r.walk;
+            same_fields(incoming, v, n, plan, w, count, target, vt, depth - 1, e)
+        }
         TypeHead::List => same_element(incoming, v, n, plan, r, target, vt, depth - 1, e),
         TypeHead::Array(_) => same_element(incoming, v, n, plan, r, target, vt, depth - 1, e),
     }
@@ -186,64 +183,69 @@ fn same_element(
     }
 }
 
-// The field `k`, and the target's column at `c`.
-fn same_field(
+// The column that the selector where the walk stands gives, and the target's column at `c`: names and types.
+pub fn same_column(
     incoming: &[u8],
     v: Version,
     n: u16,
     plan: &[u8],
-    r: Resolved,
-    k: u16,
+    w: Walk,
     target: &[u8],
     vt: Version,
     depth: u8,
     c: Cursor,
 ) -> Ends
-    requires { ⌜ ((t : DataType) × (a : Column) × ResolvedAt (now incoming) v n (now plan) r t × PartOf t k a) ⌝ }
+    requires { ⌜ ((a : Column) × NamedAt (now incoming) v n (now plan) w a) ⌝ }
     requires { ⌜ ColumnAt vt depth (now target) (c .at) ⌝ }
-    ensures { λ e. ⌜ ((t : DataType) (a : Column) (E : ColumnAt vt depth (now (target .entry)) (c .at)) → ResolvedAt (now (incoming .entry)) v n (now (plan .entry)) r t → PartOf t k a → e ≡ endsOf (sameBytes (a .name) (E .label .name) && sameDtype (a .type) (dtypeOf (E .inner .tree))) (E .inner .end)) ⌝ }
+    ensures { λ e. ⌜ ((a : Column) (E : ColumnAt vt depth (now (target .entry)) (c .at)) → NamedAt (now (incoming .entry)) v n (now (plan .entry)) w a → e ≡ endsOf (sameBytes (a .name) (E .label .name) && sameDtype (a .type) (dtypeOf (E .inner .tree))) (E .inner .end)) ⌝ }
 {
     match c.label(target, vt) {
         Labelled::Is(l, d) => {
-            let name = part_name(incoming, v, n, plan, r, k);
+            let name = name_at(incoming, v, n, plan, w);
             let q = l.name;
             if !same_name(incoming, plan, name, target, q) {
                 return Ends::Differ;
             }
-            let p = part(incoming, v, n, plan, r, k);
-            same_as(incoming, v, n, plan, p, target, vt, depth, d)
+            let r = resolve(incoming, v, n, plan, w);
+            same_as(incoming, v, n, plan, r, target, vt, depth, d)
         }
         Labelled::Refused(_) => Ends::Differ,
     }
 }
 
-// `count` fields, and as many of the target's columns.
+// The `count` fields that the struct mapping where the walk stands makes, and as many of the target's columns.
 fn same_fields(
     incoming: &[u8],
     v: Version,
     n: u16,
     plan: &[u8],
-    r: Resolved,
+    w: Walk,
     count: u16,
     target: &[u8],
     vt: Version,
     depth: u8,
     c: Cursor,
 ) -> Ends
-    requires { ⌜ ((fs : Fields) × ResolvedAt (now incoming) v n (now plan) r (struct fs) × (countFields fs ≡ count)) ⌝ }
+    requires { ⌜ ((fs : Fields) × MappedAt (now incoming) v n (now plan) w (struct fs) × (countFields fs ≡ count)) ⌝ }
     requires { ⌜ ColumnsAt vt depth (now target) count (c .at) ⌝ }
-    ensures { λ e. ⌜ ((fs : Fields) (Q : ColumnsAt vt depth (now (target .entry)) count (c .at)) → ResolvedAt (now (incoming .entry)) v n (now (plan .entry)) r (struct fs) → countFields fs ≡ count → e ≡ endsOf (sameFields fs (fieldsOf (Q .columns))) (Q .end)) ⌝ }
+    ensures { λ e. ⌜ ((fs : Fields) (Q : ColumnsAt vt depth (now (target .entry)) count (c .at)) → MappedAt (now (incoming .entry)) v n (now (plan .entry)) w (struct fs) → countFields fs ≡ count → e ≡ endsOf (sameFields fs (fieldsOf (Q .columns))) (Q .end)) ⌝ }
 {
+    let first = first_child(plan, w);
+    let mut from = first.at;
     let mut at = c.at;
     let mut k: u16 = 0;
     while k < count {
+        let p = Cursor { at: from };
+        let x = child_at(w, k, p);
         let d = Cursor { at };
-        match same_field(incoming, v, n, plan, r, k, target, vt, depth, d) {
+        match same_column(incoming, v, n, plan, x, target, vt, depth, d) {
             Ends::At(e) => {
                 at = e.at;
             }
             Ends::Differ => return Ends::Differ,
         }
+        let q = skip_selector(plan, p);
+        from = q.at;
         k += 1;
     }
     Ends::At(Cursor { at })

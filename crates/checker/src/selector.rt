@@ -2,6 +2,7 @@
 // result)."
 ghost use mathlib.Core.Path.{_≡_};
 ghost use mathlib.Core.Bool.{true, false};
+ghost use Prim.Native.Nat.{ℕ};
 ghost use Rattle.layout.specs.Bytes.{Bytes};
 ghost use Rattle.layout.specs.Tree.{Fields, struct, countFields, DataType, dtypeOf};
 ghost use Rattle.layout.specs.Stands.{TypeAt};
@@ -10,9 +11,11 @@ ghost use Rattle.plan.specs.Selector.{Selector, Selectors, countSelectors, stru
 ghost use Rattle.plan.specs.Check.{Column, columnAt, typeOf, resulting, checkCast};
 ghost use Rattle.walk.specs.Stands.{SelectorAt};
 ghost use Rattle.walk.specs.Parts.{OptionAt};
-ghost use Rattle.checker.specs.Standing.{TypeHeadIs, ScopedAt, TypedAt};
+ghost use Rattle.checker.specs.Standing.{TypeHeadIs, ScopedAt, TypedAt, NamedAt};
 ghost use Rattle.checker.specs.Checking.{checkedOf, fittingOf, isTransform, CheckingAt, PassedInput, nothingLeft, fieldsLeft, listedLeft, arrayedLeft, RestIs, MappingAt, Elements, fieldsResult, elementResult};
 use crate::cast::cast_fits;
+use crate::child::child_at;
+use crate::child::first_child;
 use crate::head::type_head;
 use crate::limits::within_limits;
 use crate::part::enclosing;
@@ -64,11 +67,11 @@ fn scope_count(incoming: &[u8], v: Version, n: u16, plan: &[u8], w: Walk) -> u16
     }
 }
 
-fn check_position(incoming: &[u8], v: Version, n: u16, plan: &[u8], w: Walk, k: Position) -> Checked
-    requires { ⌜ ((Δ : Fields) × ScopedAt (now incoming) v n (now plan) w Δ) ⌝ }
-    ensures { λ r. ⌜ ((Δ : Fields) → ScopedAt (now (incoming .entry)) v n (now (plan .entry)) w Δ → r ≡ checkedOf (columnAt Δ (k .0))) ⌝ }
+// The position `k` among so many columns.
+fn check_position(k: Position, scope: u16) -> Checked
+    ensures { λ r. ⌜ ((Δ : Fields) → countFields Δ ≡ scope → r ≡ checkedOf (columnAt Δ (k .0))) ⌝ }
 {
-    if k.0 < scope_count(incoming, v, n, plan, w) {
+    if k.0 < scope {
         Checked::Passed
     } else {
         Checked::Refused(31)
@@ -91,24 +94,6 @@ fn cast_result(incoming: &[u8], v: Version, n: u16, plan: &[u8], x: Walk, input:
     fitting(within_limits(incoming, v, n, plan, t))
 }
 
-// A rename whose input, at which `x` stands, has passed.
-fn rename_result(incoming: &[u8], v: Version, n: u16, plan: &[u8], x: Walk) -> Checked
-    requires { ⌜ ((t : DataType) × TypedAt (now incoming) v n (now plan) x t) ⌝ }
-    ensures { λ r. ⌜ ((t : DataType) (name : Bytes) → TypedAt (now (incoming .entry)) v n (now (plan .entry)) x t → r ≡ checkedOf (resulting name t)) ⌝ }
-{
-    let r = resolve(incoming, v, n, plan, x);
-    fitting(within_limits(incoming, v, n, plan, r))
-}
-
-// What the input of a mapping begins with.
-fn input_head(incoming: &[u8], v: Version, n: u16, plan: &[u8], x: Walk) -> TypeHead
-    requires { ⌜ ((t : DataType) × TypedAt (now incoming) v n (now plan) x t) ⌝ }
-    ensures { λ h. ⌜ ((t : DataType) → TypedAt (now (incoming .entry)) v n (now (plan .entry)) x t → TypeHeadIs (now (incoming .entry)) (now (plan .entry)) t h) ⌝ }
-{
-    let r = resolve(incoming, v, n, plan, x);
-    type_head(incoming, v, n, plan, r)
-}
-
 // Whether the selector at `c` transforms what another gives.
 fn is_transform(plan: &[u8], c: Cursor) -> bool
     ensures { λ r. ⌜ ((P : SelectorAt (now (plan .entry)) (c .at)) → r ≡ isTransform (P .tree)) ⌝ }
@@ -125,14 +110,34 @@ fn is_transform(plan: &[u8], c: Cursor) -> bool
     }
 }
 
-// A position or a constant.
-fn check_source(incoming: &[u8], v: Version, n: u16, plan: &[u8], w: Walk) -> Checked
-    requires { ⌜ ((s : Selector) × (Δ : Fields) × CheckingAt (now incoming) v n (now plan) w s Δ × (isTransform s ≡ false)) ⌝ }
-    ensures { λ r. ⌜ ((s : Selector) (Δ : Fields) → CheckingAt (now (incoming .entry)) v n (now (plan .entry)) w s Δ → isTransform s ≡ false → r ≡ checkedOf (typeOf Δ s)) ⌝ }
+// A rename whose input, at which `x` stands, has passed. What a transform gives was found within the limits by its own check.
+fn rename_result(incoming: &[u8], v: Version, n: u16, plan: &[u8], x: Walk) -> Checked
+    requires { ⌜ ((a : Column) × NamedAt (now incoming) v n (now plan) x a) ⌝ }
+    ensures { λ r. ⌜ ((a : Column) (name : Bytes) → NamedAt (now (incoming .entry)) v n (now (plan .entry)) x a → r ≡ checkedOf (resulting name (a .type))) ⌝ }
+{
+    if is_transform(plan, Cursor { at: x.at }) {
+        return Checked::Passed;
+    }
+    let r = resolve(incoming, v, n, plan, x);
+    fitting(within_limits(incoming, v, n, plan, r))
+}
+
+// What the input of a mapping begins with.
+fn input_head(incoming: &[u8], v: Version, n: u16, plan: &[u8], x: Walk) -> TypeHead
+    requires { ⌜ ((t : DataType) × TypedAt (now incoming) v n (now plan) x t) ⌝ }
+    ensures { λ h. ⌜ ((t : DataType) → TypedAt (now (incoming .entry)) v n (now (plan .entry)) x t → TypeHeadIs (now (incoming .entry)) (now (plan .entry)) t h) ⌝ }
+{
+    let r = resolve(incoming, v, n, plan, x);
+    type_head(incoming, v, n, plan, r)
+}
+
+// A position, among so many columns, or a constant.
+fn check_source(plan: &[u8], w: Walk, scope: u16) -> Checked
+    ensures { λ r. ⌜ ((incoming : Bytes) (v : VersionOf) (n : ℕ) (s : Selector) (Δ : Fields) → CheckingAt incoming v n (now (plan .entry)) w s Δ → countFields Δ ≡ scope → isTransform s ≡ false → r ≡ checkedOf (typeOf Δ s)) ⌝ }
 {
     let c = Cursor { at: w.at };
     match head(plan, c) {
-        SelectorHead::Position(k) => check_position(incoming, v, n, plan, w, k),
+        SelectorHead::Position(k) => check_position(k, scope),
         SelectorHead::Constant(_, _) => Checked::Passed,
         SelectorHead::Cast(_) => Checked::Passed,
         SelectorHead::Rename(_) => Checked::Passed,
@@ -143,12 +148,12 @@ fn check_source(incoming: &[u8], v: Version, n: u16, plan: &[u8], w: Walk) -> Ch
     }
 }
 
-// What is left of a transform's check once its input has passed: nothing; or the selectors of a struct mapping, so many of them; or the
-// selector of a list or array mapping.
+// What is left of a transform's check once its input has passed: nothing; or the selectors of a struct mapping, so many of them over so
+// many columns; or the selector of a list or array mapping.
 pub enum Rest {
     Passed,
     Refused(u8),
-    Fields(u16),
+    Fields(u16, u16),
     Element,
 }
 
@@ -167,7 +172,7 @@ fn fields_left(h: TypeHead, count: u16) -> Rest
 {
     match h {
         TypeHead::Leaf(_, _) => Rest::Refused(32),
-        TypeHead::Struct(_) => Rest::Fields(count),
+        TypeHead::Struct(n) => Rest::Fields(count, n),
         TypeHead::List => Rest::Refused(32),
         TypeHead::Array(_) => Rest::Refused(32),
     }
@@ -218,45 +223,58 @@ fn check_input(incoming: &[u8], v: Version, n: u16, plan: &[u8], w: Walk, x: Wal
     }
 }
 
-// The selector at which the walk stands.
-pub fn check_selector(incoming: &[u8], v: Version, n: u16, plan: &[u8], w: Walk) -> Checked
-    requires { ⌜ ((s : Selector) × (Δ : Fields) × CheckingAt (now incoming) v n (now plan) w s Δ) ⌝ }
-    ensures { λ r. ⌜ ((s : Selector) (Δ : Fields) → CheckingAt (now (incoming .entry)) v n (now (plan .entry)) w s Δ → r ≡ checkedOf (typeOf Δ s)) ⌝ }
+// The selector at which the walk stands, where positions take from so many columns.
+fn check_scoped(incoming: &[u8], v: Version, n: u16, plan: &[u8], w: Walk, scope: u16) -> Checked
+    requires { ⌜ ((s : Selector) × (Δ : Fields) × CheckingAt (now incoming) v n (now plan) w s Δ × (countFields Δ ≡ scope)) ⌝ }
+    ensures { λ r. ⌜ ((s : Selector) (Δ : Fields) → CheckingAt (now (incoming .entry)) v n (now (plan .entry)) w s Δ → countFields Δ ≡ scope → r ≡ checkedOf (typeOf Δ s)) ⌝ }
 {
     if is_transform(plan, Cursor { at: w.at }) {
-        return check_transform(incoming, v, n, plan, w);
+        return check_transform(incoming, v, n, plan, w, scope);
     }
-    check_source(incoming, v, n, plan, w)
+    check_source(plan, w, scope)
 }
 
 // The input of a transform, then what is left. What a level of nesting keeps on the stack is here and in the two functions below; the
 // larger work is done in functions that return before the next level.
-fn check_transform(incoming: &[u8], v: Version, n: u16, plan: &[u8], w: Walk) -> Checked
-    requires { ⌜ ((s : Selector) × (Δ : Fields) × CheckingAt (now incoming) v n (now plan) w s Δ × (isTransform s ≡ true)) ⌝ }
-    ensures { λ r. ⌜ ((s : Selector) (Δ : Fields) → CheckingAt (now (incoming .entry)) v n (now (plan .entry)) w s Δ → isTransform s ≡ true → r ≡ checkedOf (typeOf Δ s)) ⌝ }
+fn check_transform(incoming: &[u8], v: Version, n: u16, plan: &[u8], w: Walk, scope: u16) -> Checked
+    requires { ⌜ ((s : Selector) × (Δ : Fields) × CheckingAt (now incoming) v n (now plan) w s Δ × (countFields Δ ≡ scope) × (isTransform s ≡ true)) ⌝ }
+    ensures { λ r. ⌜ ((s : Selector) (Δ : Fields) → CheckingAt (now (incoming .entry)) v n (now (plan .entry)) w s Δ → countFields Δ ≡ scope → isTransform s ≡ true → r ≡ checkedOf (typeOf Δ s)) ⌝ }
 {
     let x = w.to_input();
-    match check_selector(incoming, v, n, plan, x) {
+    match check_scoped(incoming, v, n, plan, x, scope) {
         Checked::Passed => match check_input(incoming, v, n, plan, w, x) {
             Rest::Passed => Checked::Passed,
             Rest::Refused(k) => Checked::Refused(k),
-            Rest::Fields(count) => check_fields(incoming, v, n, plan, w, count),
+            Rest::Fields(count, m) => check_fields(incoming, v, n, plan, w, count, m),
             Rest::Element => check_element(incoming, v, n, plan, w),
         },
         Checked::Refused(k) => Checked::Refused(k),
     }
 }
 
-// The selectors of a struct mapping, then its result.
-fn check_fields(incoming: &[u8], v: Version, n: u16, plan: &[u8], w: Walk, count: u16) -> Checked
-    requires { ⌜ ((i : Selector) × (ss : Selectors) × (fs : Fields) × MappingAt (now incoming) v n (now plan) w (structMapping i ss) i (struct fs) × (countSelectors ss ≡ count)) ⌝ }
-    ensures { λ r. ⌜ ((i : Selector) (ss : Selectors) (fs : Fields) (name : Bytes) → MappingAt (now (incoming .entry)) v n (now (plan .entry)) w (structMapping i ss) i (struct fs) → countSelectors ss ≡ count → r ≡ checkedOf (fieldsResult fs ss name)) ⌝ }
+// The selectors of a struct mapping, whose positions take from so many columns, then its result.
+fn check_fields(
+    incoming: &[u8],
+    v: Version,
+    n: u16,
+    plan: &[u8],
+    w: Walk,
+    count: u16,
+    scope: u16,
+) -> Checked
+    requires { ⌜ ((i : Selector) × (ss : Selectors) × (fs : Fields) × MappingAt (now incoming) v n (now plan) w (structMapping i ss) i (struct fs) × (countSelectors ss ≡ count) × (countFields fs ≡ scope)) ⌝ }
+    ensures { λ r. ⌜ ((i : Selector) (ss : Selectors) (fs : Fields) (name : Bytes) → MappingAt (now (incoming .entry)) v n (now (plan .entry)) w (structMapping i ss) i (struct fs) → countSelectors ss ≡ count → countFields fs ≡ scope → r ≡ checkedOf (fieldsResult fs ss name)) ⌝ }
 {
+    let first = first_child(plan, w);
+    let mut at = first.at;
     let mut k: u16 = 0;
     while k < count {
-        let x = w.child(plan, k);
-        match check_selector(incoming, v, n, plan, x) {
+        let c = Cursor { at };
+        let x = child_at(w, k, c);
+        match check_scoped(incoming, v, n, plan, x, scope) {
             Checked::Passed => {
+                let d = skip_selector(plan, c);
+                at = d.at;
                 k += 1;
             }
             Checked::Refused(j) => return Checked::Refused(j),
@@ -266,17 +284,26 @@ fn check_fields(incoming: &[u8], v: Version, n: u16, plan: &[u8], w: Walk, count
     fitting(within_limits(incoming, v, n, plan, r))
 }
 
-// The selector of a list or array mapping, then its result.
+// The selector of a list or array mapping, then its result. Its positions take from the element alone.
 fn check_element(incoming: &[u8], v: Version, n: u16, plan: &[u8], w: Walk) -> Checked
     requires { ⌜ ((t : DataType) × (e : Selector) × (f : DataType → DataType) × Elements (now incoming) v n (now plan) w t e f) ⌝ }
     ensures { λ r. ⌜ ((t : DataType) (e : Selector) (f : DataType → DataType) (name : Bytes) → Elements (now (incoming .entry)) v n (now (plan .entry)) w t e f → r ≡ checkedOf (elementResult t e f name)) ⌝ }
 {
     let x = w.child(plan, 0);
-    match check_selector(incoming, v, n, plan, x) {
+    match check_scoped(incoming, v, n, plan, x, 1) {
         Checked::Passed => {
             let r = found_in(Source::Mapped, Cursor { at: 0 }, w);
             fitting(within_limits(incoming, v, n, plan, r))
         }
         Checked::Refused(k) => Checked::Refused(k),
     }
+}
+
+// The selector at which the walk stands.
+pub fn check_selector(incoming: &[u8], v: Version, n: u16, plan: &[u8], w: Walk) -> Checked
+    requires { ⌜ ((s : Selector) × (Δ : Fields) × CheckingAt (now incoming) v n (now plan) w s Δ) ⌝ }
+    ensures { λ r. ⌜ ((s : Selector) (Δ : Fields) → CheckingAt (now (incoming .entry)) v n (now (plan .entry)) w s Δ → r ≡ checkedOf (typeOf Δ s)) ⌝ }
+{
+    let scope = scope_count(incoming, v, n, plan, w);
+    check_scoped(incoming, v, n, plan, w, scope)
 }

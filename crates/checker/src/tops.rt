@@ -1,26 +1,17 @@
 // The check of a plan: the layouts, 30, each selector (31, 32), and 33 last.
 ghost use mathlib.Core.Path.{_≡_};
-ghost use mathlib.Core.Bool.{_&&_};
-ghost use Rattle.layout.specs.Bytes.{sameBytes};
-ghost use Rattle.layout.specs.Tree.{Fields, dtypeOf, fieldsOf};
+ghost use Rattle.layout.specs.Tree.{Fields, fieldsOf};
 ghost use Rattle.layout.specs.Stands.{ColumnsAt};
-ghost use Rattle.forms.specs.Same.{sameDtype, sameFields};
-ghost use Rattle.forms.specs.Labelled.{ColumnAt};
+ghost use Rattle.forms.specs.Same.{sameFields};
 ghost use Rattle.plan.specs.Selector.{Selectors};
-ghost use Rattle.plan.specs.Check.{Column, topTypes, check};
-ghost use Rattle.checker.specs.Standing.{NamedAt};
-ghost use Rattle.checker.specs.Same.{endsOf};
+ghost use Rattle.plan.specs.Check.{topTypes, check};
 ghost use Rattle.checker.specs.Tops.{planChecked, TopsAt, TypedTops};
 ghost use Rattle.plan.specs.Calls.{checkPlan};
-use crate::name::name_at;
-use crate::resolve::resolve;
 use crate::same::Ends;
-use crate::same::same_as;
+use crate::same::same_column;
 use crate::selector::Checked;
 use crate::selector::check_selector;
-use direct::place::same_name;
 use infer::target::fits_target;
-use layout::columns::Labelled;
 use layout::cursor::Cursor;
 use layout::read::LayoutRead;
 use layout::read::read_layout;
@@ -28,7 +19,6 @@ use layout::version::Version;
 use plan::read::PlanRead;
 use plan::read::read_plan;
 use walk::head::skip_selector;
-use walk::walk::Walk;
 use walk::walk::top;
 
 // Passed, or the refusal's number and place.
@@ -66,35 +56,6 @@ fn check_tops(
     PlanChecked::Passed
 }
 
-// The column that a selector gives, and the target's column at `c`: names and types.
-fn same_top(
-    incoming: &[u8],
-    v: Version,
-    n: u16,
-    plan: &[u8],
-    w: Walk,
-    target: &[u8],
-    vt: Version,
-    c: Cursor,
-) -> Ends
-    requires { ⌜ ((a : Column) × NamedAt (now incoming) v n (now plan) w a) ⌝ }
-    requires { ⌜ ColumnAt vt 16 (now target) (c .at) ⌝ }
-    ensures { λ r. ⌜ ((a : Column) (E : ColumnAt vt 16 (now (target .entry)) (c .at)) → NamedAt (now (incoming .entry)) v n (now (plan .entry)) w a → r ≡ endsOf (sameBytes (a .name) (E .label .name) && sameDtype (a .type) (dtypeOf (E .inner .tree))) (E .inner .end)) ⌝ }
-{
-    match c.label(target, vt) {
-        Labelled::Is(l, d) => {
-            let name = name_at(incoming, v, n, plan, w);
-            let q = l.name;
-            if !same_name(incoming, plan, name, target, q) {
-                return Ends::Differ;
-            }
-            let r = resolve(incoming, v, n, plan, w);
-            same_as(incoming, v, n, plan, r, target, vt, 16, d)
-        }
-        Labelled::Refused(_) => Ends::Differ,
-    }
-}
-
 // As many selectors, which have passed, and columns of the target.
 fn same_tops(
     incoming: &[u8],
@@ -119,7 +80,7 @@ fn same_tops(
         let e = skip_selector(plan, d);
         let w = top(at, e.at);
         let f = Cursor { at: bt };
-        match same_top(incoming, v, n, plan, w, target, vt, f) {
+        match same_column(incoming, v, n, plan, w, target, vt, 16, f) {
             Ends::At(g) => {
                 at = e.at;
                 bt = g.at;

@@ -31,6 +31,7 @@ use Rattle.defaults.specs.Answers.{leafRes, leafIn}
 use Rattle.defaults.specs.Stands.{GivenAt, LoadedAt, Answers}
 use Rattle.defaults.specs.declared.lookup.DefaultValue.{DefaultValue}
 use Rattle.defaults.specs.declared.types.LeafRead.{LeafRead}
+use Rattle.defaults.specs.declared.read.EntryKind.the-variants.{Initial, Partition}
 use Rattle.defaults.proofs.Ways.{leaf-content}
 
 -- the answer for what is taken, under another name
@@ -165,9 +166,9 @@ type-got s e f = sym e ∙ ap (leafRes s) f
 type-none : (s : Bytes) {x : Res LeafType} {q : LeafRead} {k : ℕ} → leafRes s q ≡ x → q ≡ LeafRead.Refused k → x ≡ refuse k
 type-none s e f = sym e ∙ ap (leafRes s) f
 
-module _ {s : Bytes} {at : ℕ} (P : GivenAt 0 s at) where
+module _ {s : Bytes} {at : ℕ} (P : GivenAt Initial s at) where
   initial-reads : initialEntry s at ≡ ok (P .given) (P .end)
-  unfolding givenOf choose
+  unfolding givenOf
   initial-reads = P .reads
 
   module _ {q : LeafRead} (e : leafRes s q ≡ defaultType s at) where
@@ -229,9 +230,9 @@ module _ {s : Bytes} {at : ℕ} (P : LoadedAt s at) {q : LeafRead} (e : leafRes 
 
 -- ---- a partition, by its load byte
 
-module _ {s : Bytes} {at : ℕ} (P : GivenAt 1 s at) where
+module _ {s : Bytes} {at : ℕ} (P : GivenAt Partition s at) where
   partition-reads : partitionEntry s at ≡ ok (P .given) (P .end)
-  unfolding givenOf choose
+  unfolding givenOf
   partition-reads = P .reads
 
   module _ {p : Step} (e : stepRes p ≡ byte s at) where

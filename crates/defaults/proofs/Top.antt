@@ -8,26 +8,78 @@ use lib.ListN.{length, take, length-append, length-take}
 use lib.Dec.{eqb}
 use borrow.Author.Tests.{le-leb, lt-leb, eq-eqb, ne-eqb}
 use Rattle.layout.specs.Bytes.{Bytes, sameBytes}
-use Rattle.layout.specs.Parser.{ok, next, choose, test, u16}
+use Rattle.layout.specs.Parser.{refuse, ok, next, choose, test, u16}
 use Rattle.layout.specs.Layout.{sized, ended}
 use Rattle.layout.specs.Answers.{movedOf, shortRes}
+use Rattle.layout.specs.declared.columns.FieldId.{FieldId}
 use Rattle.layout.specs.declared.cursor.Cursor.{Cursor}
 use Rattle.layout.specs.declared.cursor.Moved.{Moved}
 use Rattle.layout.specs.declared.cursor.Short.{Short}
 use Rattle.layout.proofs.Ways.{moved-to, moved-refused}
 use Rattle.layout.proofs.View.{next-ok}
 use Rattle.layout.proofs.Whole.{tested}
-use Rattle.defaults.specs.Table.{Entry, repeatsAnyEntry, entry, entries, tableMark, tableVersion, tableFrom, table}
-use Rattle.defaults.specs.Answers.{tableOf}
+use Rattle.defaults.specs.Table.{OwnedEntry, repeatsAnyEntry, ownedEntry, entries, tableMark, tableVersion, countedTable, tableFrom, table}
+use Rattle.defaults.specs.Table.{countsFor, sameKind, sameOwner}
+use Rattle.defaults.specs.Answers.{versionRes, tableOf}
+use Rattle.defaults.specs.Scan.{isOf}
+use Rattle.defaults.specs.declared.read.Owner.{Owner}
+use Rattle.defaults.specs.declared.read.EntryKind.{EntryKind}
+use Rattle.defaults.specs.declared.read.EntryKind.the-variants.{Initial, Partition}
+use Rattle.defaults.specs.declared.read.TableVersion.{TableVersion}
+use Rattle.defaults.specs.declared.read.VersionRead.{VersionRead}
 use Rattle.defaults.specs.declared.read.TableRead.{TableRead}
 
--- two tests of an entry
-module _ (i j k l : ℕ) where
-  pub of-same : i ≡ j → eqb k l ≡ (eqb i j && eqb k l)
-  of-same h = rw (eq-eqb i j h)
+-- ---- the tests of an entry
 
-  pub of-other : (i ≡ j → ⊥) → false ≡ (eqb i j && eqb k l)
-  of-other h = rw (ne-eqb i j h)
+module _ (o : Owner) (i : FieldId) (k : EntryKind) (p : Owner) (j : FieldId) (l : EntryKind) where
+  pub of-other-id : (i .0 ≡ j .0 → ⊥) → false ≡ isOf o i k p j l
+  of-other-id h = rw (ne-eqb (i .0) (j .0) h)
+
+  module _ (h : i .0 ≡ j .0) {b : Bool} (x : b ≡ sameKind k l) where
+    pub of-other-kind : b ≡ false → false ≡ isOf o i k p j l
+    of-other-kind y = rw (eq-eqb (i .0) (j .0) h, ← x, y)
+
+    pub of-same : {c : Bool} → b ≡ true → c ≡ sameOwner o p → c ≡ isOf o i k p j l
+    of-same y z = rw (eq-eqb (i .0) (j .0) h, ← x, y) z
+
+pub ruleset of-ways = (of-other-id, of-other-kind, of-same)
+
+module _ (a b : Owner) where
+  pub every-first : a ≡ Owner.Every → true ≡ sameOwner a b
+  unfolding sameOwner
+  every-first h = rw h
+
+  module _ {n : ℕ} (h : a ≡ Owner.Only n) where
+    pub every-second : b ≡ Owner.Every → true ≡ sameOwner a b
+    unfolding sameOwner countsFor
+    every-second g = rw (h, g)
+
+    pub both-only : {m : ℕ} → b ≡ Owner.Only m → eqb n m ≡ sameOwner a b
+    unfolding sameOwner countsFor
+    both-only g = rw (h, g)
+
+pub ruleset same-owner-ways = (every-first, every-second, both-only)
+
+module _ (a b : EntryKind) where
+  pub both-initial : a ≡ Initial → b ≡ Initial → true ≡ sameKind a b
+  unfolding sameKind
+  both-initial h g = rw (h, g)
+
+  pub initial-partition : a ≡ Initial → b ≡ Partition → false ≡ sameKind a b
+  unfolding sameKind
+  initial-partition h g = rw (h, g)
+
+  pub partition-initial : a ≡ Partition → b ≡ Initial → false ≡ sameKind a b
+  unfolding sameKind
+  partition-initial h g = rw (h, g)
+
+  pub both-partition : a ≡ Partition → b ≡ Partition → true ≡ sameKind a b
+  unfolding sameKind
+  both-partition h g = rw (h, g)
+
+pub ruleset same-kind-ways = (both-initial, initial-partition, partition-initial, both-partition)
+
+-- ---- the mark
 
 -- a mark longer than the bytes is not theirs
 shorter : (a b : Bytes) → length a < length b → sameBytes a b ≡ false
@@ -37,33 +89,38 @@ shorter [] (y ∷ ys) h = refl
 shorter (x ∷ xs) [] h = refl
 shorter (x ∷ xs) (y ∷ ys) h = rw (shorter xs ys (omega arith)) (and-false (eqb x y))
 
-pub mark-short : (s : Bytes) → length s < 5 → false ≡ sameBytes (take 5 s) tableMark
-mark-short s h = let k : length (take 5 s) < 5 = simp length-take (omega arith) in sym (shorter (take 5 s) tableMark k)
+pub mark-short : (s : Bytes) → length s < 5 → refuse 1 ≡ tableVersion s 0
+unfolding tableVersion choose
+mark-short s h =
+    let k : length (take 5 s) < 5 = simp length-take (omega arith) in
+    rw (shorter (take 5 s) (tableMark 1) k, shorter (take 5 s) (tableMark 2) k)
 
 -- ---- entries that were read
 
 -- the first of them, and the others
-pub record FirstEntry (n : ℕ) (es : List Entry) (s : Bytes) (at : ℕ) (fs : List Entry) (m : ℕ) : Type 0 where
-  pub tree : Entry
+pub record FirstEntry (v : TableVersion) (n : ℕ) (es : List OwnedEntry) (s : Bytes) (at : ℕ) (fs : List OwnedEntry) (m : ℕ) : Type 0 where
+  pub tree : OwnedEntry
   pub end : ℕ
-  pub reads : entry s at ≡ ok tree end
-  pub rest : entries n (es ++ (tree ∷ [])) s end ≡ ok fs m
+  pub reads : ownedEntry v s at ≡ ok tree end
+  pub rest : entries v n (es ++ (tree ∷ [])) s end ≡ ok fs m
 
-pub first-entry : (n : ℕ) (es : List Entry) (s : Bytes) (at : ℕ) {fs : List Entry} {m : ℕ} → entries (suc n) es s at ≡ ok fs m → FirstEntry n es s at fs m
+pub first-entry : (v : TableVersion) (n : ℕ) (es : List OwnedEntry) (s : Bytes) (at : ℕ) {fs : List OwnedEntry} {m : ℕ} → entries v (suc n) es s at ≡ ok fs m
+    → FirstEntry v n es s at fs m
 unfolding entries
-first-entry n es s at h =
-    let (e, i, a, b) = next-ok (entry s at) _ h in
+first-entry v n es s at h =
+    let (e, i, a, b) = next-ok (ownedEntry v s at) _ h in
     let (u, j, a₁, b₁) = next-ok (test (not (repeatsAnyEntry e es)) 5 s i) _ b in
     let w : j ≡ i = tested (not (repeatsAnyEntry e es)) 5 s i a₁ .1 in
-    record { tree = e; end = i; reads = a; rest = ap (λ (o : ℕ). entries n (es ++ (e ∷ [])) s o) (sym w) ∙ b₁ }
+    record { tree = e; end = i; reads = a; rest = ap (λ (o : ℕ). entries v n (es ++ (e ∷ [])) s o) (sym w) ∙ b₁ }
 
 -- as many entries are read as were asked for
-pub entries-count : (n : ℕ) (es : List Entry) (s : Bytes) (at : ℕ) {fs : List Entry} {m : ℕ} → entries n es s at ≡ ok fs m → length fs ≡ length es + n
+pub entries-count : (v : TableVersion) (n : ℕ) (es : List OwnedEntry) (s : Bytes) (at : ℕ) {fs : List OwnedEntry} {m : ℕ} → entries v n es s at ≡ ok fs m
+    → length fs ≡ length es + n
 unfolding entries
-entries-count zero es s at {fs} h = let e : fs ≡ es = cc in rw e (omega arith)
-entries-count (suc n) es s at {fs} {m} h =
-    let F = first-entry n es s at h in
-    let r = entries-count n (es ++ (F .tree ∷ [])) s (F .end) (F .rest) in
+entries-count v zero es s at {fs} h = let e : fs ≡ es = cc in rw e (omega arith)
+entries-count v (suc n) es s at {fs} {m} h =
+    let F = first-entry v n es s at h in
+    let r = entries-count v n (es ++ (F .tree ∷ [])) s (F .end) (F .rest) in
     let l = length-append es (F .tree ∷ []) in
     omega arith
 
@@ -74,35 +131,37 @@ module _ (s : Bytes) where
   unfolding table tableFrom sized tableOf next choose
   table-big h = rw (lt-leb (length s) 16384 h)
 
-  module _ (small : length s ≤ 16384) {b : Bool} (x : b ≡ sameBytes (take 5 s) tableMark) where
-    pub table-unmarked : b ≡ false → TableRead.Refused 1 ≡ tableOf (table s)
-    unfolding table tableFrom sized tableVersion tableOf next choose
-    table-unmarked y = let z : sameBytes (take 5 s) tableMark ≡ false = sym x ∙ y in rw (le-leb (length s) 16384 small, z)
+  module _ (small : length s ≤ 16384) {q : VersionRead} (x : versionRes q ≡ tableVersion s 0) where
+    pub table-unmarked : {k : ℕ} → q ≡ VersionRead.Refused k → TableRead.Refused k ≡ tableOf (table s)
+    unfolding table tableFrom sized tableOf next choose
+    table-unmarked y = rw (le-leb (length s) 16384 small, ← x, y)
 
-    module _ (y : b ≡ true) where
-      z : sameBytes (take 5 s) tableMark ≡ true
-      z = sym x ∙ y
+    pub table-marked : {v : TableVersion} {r : TableRead} → q ≡ VersionRead.Is v → r ≡ tableOf (countedTable v s 5) → r ≡ tableOf (table s)
+    unfolding table tableFrom sized next choose
+    table-marked y h = rw (le-leb (length s) 16384 small, ← x, y) h
 
-      module _ {q : Short} (g : shortRes q ≡ u16 s 5) where
-        pub table-uncounted : {k : ℕ} → q ≡ Short.Refused k → TableRead.Refused k ≡ tableOf (table s)
-        unfolding table tableFrom sized tableVersion tableOf next choose
-        table-uncounted h = rw (le-leb (length s) 16384 small, z, ← g, h)
+pub ruleset table-ways = (table-big, table-unmarked, table-marked)
 
-        module _ {n : ℕ} {c : Cursor} {o : Moved} (h : q ≡ Short.Is n c) (i : o ≡ movedOf (entries n [] s (c .at))) where
-          pub table-broken : {k : ℕ} → o ≡ Moved.Refused k → TableRead.Refused k ≡ tableOf (table s)
-          unfolding table tableFrom sized tableVersion tableOf next choose
-          table-broken j = rw (le-leb (length s) 16384 small, z, ← g, h, moved-refused (entries n [] s (c .at)) i j)
+module _ (s : Bytes) (v : TableVersion) {q : Short} (g : shortRes q ≡ u16 s 5) where
+  pub table-uncounted : {k : ℕ} → q ≡ Short.Refused k → TableRead.Refused k ≡ tableOf (countedTable v s 5)
+  unfolding countedTable tableOf next
+  table-uncounted h = rw (← g, h)
 
-          module _ {d : Cursor} (j : o ≡ Moved.To d) where
-            pub table-longer : (d .at ≡ length s → ⊥) → TableRead.Refused 6 ≡ tableOf (table s)
-            unfolding table tableFrom sized tableVersion ended tableOf next choose
-            table-longer k = rw (le-leb (length s) 16384 small, z, ← g, h, moved-to (entries n [] s (c .at)) i j .1, ne-eqb (d .at) (length s) k)
+  module _ {n : ℕ} {c : Cursor} {o : Moved} (h : q ≡ Short.Is n c) (i : o ≡ movedOf (entries v n [] s (c .at))) where
+    pub table-broken : {k : ℕ} → o ≡ Moved.Refused k → TableRead.Refused k ≡ tableOf (countedTable v s 5)
+    unfolding countedTable tableOf next
+    table-broken j = rw (← g, h, moved-refused (entries v n [] s (c .at)) i j)
 
-            pub table-read : d .at ≡ length s → TableRead.Read n (record { at = 7 }) ≡ tableOf (table s)
-            unfolding table tableFrom sized tableVersion ended tableOf next choose
-            table-read k =
-                let t = moved-to (entries n [] s (c .at)) i j in
-                let l : length (t .0) ≡ n = let e = entries-count n [] s (c .at) (t .1) in e ∙ (let w : 0 + n ≡ n = omega arith in w) in
-                rw (le-leb (length s) 16384 small, z, ← g, h, t .1, eq-eqb (d .at) (length s) k) (ap (λ (m : ℕ). TableRead.Read m (record { at = 7 })) (sym l))
+    module _ {d : Cursor} (j : o ≡ Moved.To d) where
+      pub table-longer : (d .at ≡ length s → ⊥) → TableRead.Refused 6 ≡ tableOf (countedTable v s 5)
+      unfolding countedTable ended tableOf next choose
+      table-longer k = rw (← g, h, moved-to (entries v n [] s (c .at)) i j .1, ne-eqb (d .at) (length s) k)
 
-pub ruleset table-ways = (table-big, table-unmarked, table-uncounted, table-broken, table-longer, table-read)
+      pub table-read : d .at ≡ length s → TableRead.Read v n (record { at = 7 }) ≡ tableOf (countedTable v s 5)
+      unfolding countedTable ended tableOf next choose
+      table-read k =
+          let t = moved-to (entries v n [] s (c .at)) i j in
+          let l : length (t .0) ≡ n = let e = entries-count v n [] s (c .at) (t .1) in e ∙ (let w : 0 + n ≡ n = omega arith in w) in
+          rw (← g, h, t .1, eq-eqb (d .at) (length s) k) (ap (λ (m : ℕ). TableRead.Read v m (record { at = 7 })) (sym l))
+
+pub ruleset counted-ways = (table-uncounted, table-broken, table-longer, table-read)

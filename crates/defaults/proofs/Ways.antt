@@ -21,9 +21,14 @@ use Rattle.values.specs.Value.{vcons}
 use Rattle.values.specs.Reading.{presence, nullable, leafContent, content, value, times}
 use Rattle.values.specs.Answers.{presenceRes}
 use Rattle.values.specs.declared.leaf.Presence.{Presence}
-use Rattle.defaults.specs.Table.{initial, partition, onlyLeaf, defaultType, initialEntry, loadedEntry, partitionEntry, givenOf}
+use Rattle.defaults.specs.Table.{initial, partition, onlyLeaf, defaultType, initialEntry, loadedEntry, partitionEntry, givenOf, ownerOf}
 use Rattle.defaults.specs.Answers.{leafRes}
 use Rattle.defaults.specs.declared.types.LeafRead.{LeafRead}
+use Rattle.defaults.specs.declared.read.Owner.{Owner}
+use Rattle.defaults.specs.declared.read.TableVersion.{TableVersion}
+use Rattle.defaults.specs.declared.read.TableVersion.the-variants.{Shared, ByOwner}
+use Rattle.defaults.specs.declared.read.EntryKind.{EntryKind}
+use Rattle.defaults.specs.declared.read.EntryKind.the-variants.{Initial, Partition}
 
 -- ---- a leaf type
 
@@ -171,17 +176,33 @@ module _ (s : Bytes) (at : ℕ) {p : Step} (e : stepRes p ≡ byte s at) where
     unfolding partitionEntry next choose movedOf
     load-unknown x y = rw (← e, f, ne-eqb b 0 x, ne-eqb b 1 y)
 
-module _ (s : Bytes) (k at : ℕ) where
-  pub given-initial : {r : Moved} → k ≡ 0 → r ≡ movedOf (initialEntry s at) → r ≡ movedOf (givenOf k s at)
-  unfolding givenOf choose
+module _ (s : Bytes) (k : EntryKind) (at : ℕ) where
+  pub given-initial : {r : Moved} → k ≡ Initial → r ≡ movedOf (initialEntry s at) → r ≡ movedOf (givenOf k s at)
+  unfolding givenOf
   given-initial h g = rw h g
 
-  pub given-partition : {r : Moved} → k ≡ 1 → r ≡ movedOf (partitionEntry s at) → r ≡ movedOf (givenOf k s at)
-  unfolding givenOf choose
+  pub given-partition : {r : Moved} → k ≡ Partition → r ≡ movedOf (partitionEntry s at) → r ≡ movedOf (givenOf k s at)
+  unfolding givenOf
   given-partition h g = rw h g
 
-  pub given-unknown : (k ≡ 0 → ⊥) → (k ≡ 1 → ⊥) → Moved.Refused 3 ≡ movedOf (givenOf k s at)
-  unfolding givenOf choose movedOf
-  given-unknown x y = rw (ne-eqb k 0 x, ne-eqb k 1 y)
+pub ruleset given-ways = (initial-untyped, initial-typed, loaded-untyped, loaded-uncounted, loaded-counted, load-none, load-good, load-failed, load-unknown)
 
-pub ruleset given-ways = (initial-untyped, initial-typed, loaded-untyped, loaded-uncounted, loaded-counted, load-none, load-good, load-failed, load-unknown, given-initial, given-partition, given-unknown)
+pub ruleset kind-ways = (given-initial, given-partition)
+
+-- ---- an entry's owner
+
+module _ (s : Bytes) (v : TableVersion) (at : ℕ) where
+  pub owner-every : v ≡ Shared → ok Owner.Every at ≡ ownerOf v s at
+  unfolding ownerOf
+  owner-every h = rw h
+
+  module _ (h : v ≡ ByOwner) {q : Short} (e : shortRes q ≡ u16 s at) where
+    pub owner-only : {n : ℕ} {c : Cursor} → q ≡ Short.Is n c → ok (Owner.Only n) (c .at) ≡ ownerOf v s at
+    unfolding ownerOf next
+    owner-only f = rw (h, ← e, f)
+
+    pub owner-none : {k : ℕ} → q ≡ Short.Refused k → refuse k ≡ ownerOf v s at
+    unfolding ownerOf next
+    owner-none f = rw (h, ← e, f)
+
+pub ruleset owner-ways = (owner-every, owner-only, owner-none)

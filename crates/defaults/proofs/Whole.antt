@@ -1,6 +1,6 @@
 -- From the answers of `read_table` and `get_default_value` to what stands in the bytes. Assumes nothing.
 use Prim.Native.Nat.{ℕ, zero, suc, _+_, _≤_}
-use mathlib.Core.Path.{_≡_, refl, sym, ap, _∙_}
+use mathlib.Core.Path.{_≡_, refl, sym, ap, ap₂, _∙_}
 use mathlib.Core.List.{List, [], _∷_}
 use mathlib.Core.Bool.{Bool, true, false}
 use native.Mathlib.Omega.{arith}
@@ -22,34 +22,39 @@ use Rattle.values.specs.Value.{Value, vnull, Values, vnil, vcons}
 use Rattle.values.specs.Reading.{presence, nullable, content, value}
 use Rattle.values.specs.Fits.{Fits}
 use Rattle.values.proofs.Round.{value-fits}
-use Rattle.defaults.specs.Table.{Given, initial, partition, failed, Entry, entries, tableMark, tableVersion, tableFrom, table}
+use Rattle.defaults.specs.Table.{Given, initial, partition, failed, Entry, entriesOf, entries, tableMark, tableVersion, TableTree}
+use Rattle.defaults.specs.Table.{countedTable, tableFrom, table}
 use Rattle.defaults.specs.Lookup.{Taken, refused, nothing, taken, isNullValue, unlessNull, ofSource, givenTo, isPartitionOf, isInitialOf, firstEntry, getDefaultValue}
 use Rattle.defaults.specs.Answers.{tableOf}
 use Rattle.defaults.specs.Stands.{TableAt, Answers}
+use Rattle.defaults.specs.declared.lookup.DefaultFieldValues.{DefaultFieldValues}
 use Rattle.defaults.specs.declared.lookup.DefaultValue.{DefaultValue}
+use Rattle.defaults.specs.declared.read.TableVersion.{TableVersion}
+use Rattle.defaults.specs.declared.read.TableVersion.the-variants.{Shared, ByOwner}
 use Rattle.defaults.specs.declared.read.TableRead.{TableRead}
 use Rattle.defaults.proofs.Top.{entries-count}
 
 -- ---- a table that was read
 
-version-at : (s : Bytes) (at : ℕ) {u : Unit {0}} {m : ℕ} → tableVersion s at ≡ ok u m → m ≡ 5
+version-at : (s : Bytes) (at : ℕ) {v : TableVersion} {m : ℕ} → tableVersion s at ≡ ok v m → m ≡ 5
 unfolding tableVersion choose
-version-at s at {u} {m} h = go (sameBytes (take 5 s) tableMark) h
+version-at s at {v} {m} h = go (sameBytes (take 5 s) (tableMark 1)) (sameBytes (take 5 s) (tableMark 2)) h
   where
-    go : (b : Bool) → choose b (ok tt 5) (refuse 1) ≡ ok u m → m ≡ 5
-    go true e = cc
-    go false e = clash (cc)
+    go : (b c : Bool) → choose b (ok Shared 5) (choose c (ok ByOwner 5) (refuse 1)) ≡ ok v m → m ≡ 5
+    go true c e = cc
+    go false true e = cc
+    go false false e = clash (cc)
 
-record Parts (s : Bytes) (es : List Entry) (m : ℕ) : Type 0 where
+record Parts (s : Bytes) (t : TableTree) (m : ℕ) : Type 0 where
   small : length s ≤ 16384
   count : ℕ
-  reads : entries count [] s 7 ≡ ok es m
+  reads : entries (t .version) count [] s 7 ≡ ok (t .entries) m
 
-parts : (s : Bytes) {es : List Entry} {m : ℕ} → table s ≡ ok es m → Parts s es m
-unfolding table tableFrom sized ended
-parts s {es} {m} h =
+parts : (s : Bytes) {t : TableTree} {m : ℕ} → table s ≡ ok t m → Parts s t m
+unfolding table tableFrom countedTable sized ended
+parts s {t} {m} h =
     let (u, i, a, b) = next-ok _ _ h in
-    let (w, j, a₁, b₁) = next-ok _ _ b in
+    let (v, j, a₁, b₁) = next-ok _ _ b in
     let (k, o, a₂, b₂) = next-ok _ _ b₁ in
     let (fs, e, a₃, b₃) = next-ok _ _ b₂ in
     let (x, e′, a₄, b₄) = next-ok _ _ b₃ in
@@ -58,50 +63,61 @@ parts s {es} {m} h =
     let p = version-at s i a₁ in
     let q = u16-at s j a₂ in
     let r : o ≡ 7 = omega arith in
-    let f : fs ≡ es = cc in
     let g : e ≡ m = sym (y .1) ∙ (let g′ : e′ ≡ m = cc in g′) in
-    record {
-      small = leb-true _ _ (z .0);
-      count = k;
-      reads = ap (λ (i : ℕ). entries k [] s i) (sym r) ∙ a₃ ∙ ap (λ (l : List Entry). ok l e) f ∙ ap (ok es) g;
-    }
+    rw (← ap (treeIn t) b₄)
+    (record { small = leb-true _ _ (z .0); count = k; reads = ap (λ (i : ℕ). entries v k [] s i) (sym r) ∙ a₃ ∙ ap (ok fs) g })
+  where
+    treeIn : TableTree → Res TableTree → TableTree
+    treeIn t (refuse n) = t
+    treeIn t (ok x m) = x
 
--- a table of n entries, which begin at an offset
-pub record TableGot (s : Bytes) (n at : ℕ) : Type 0 where
-  pub entries : TableAt s n at
-  pub starts : at ≡ 7
-  pub reads : table s ≡ ok (entries .entries) (entries .end)
+-- a table whose version, number of entries and their start were answered, for an owner and a source
+pub record TableGot (s : Bytes) (d : DefaultFieldValues) : Type 0 where
+  pub entries : TableAt s d
+  pub tree : TableTree
+  pub reads : table s ≡ ok tree (entries .end)
+  pub owned : entries .entries ≡ entriesOf (d .owner) (tree .entries)
 
 -- what `read_table` answered
-pub table-at : (s : Bytes) {r : TableRead} {n : ℕ} {c : Cursor} → r ≡ tableOf (table s) → r ≡ TableRead.Read n c → TableGot s n (c .at)
+pub table-at : (s : Bytes) {r : TableRead} {v : TableVersion} {n : ℕ} {c : Cursor} (o k : ℕ) → r ≡ tableOf (table s) → r ≡ TableRead.Read v n c
+    → TableGot s (record { version = v; count = n; entries = c; owner = o; «source_index» = k })
 unfolding tableOf
-table-at s {r} {n} {c} e f = go (table s) refl e
+table-at s {r} {v} {n} {c} o k e f = go (table s) refl e
   where
-    go : (x : Res (List Entry)) → table s ≡ x → r ≡ tableOf x → TableGot s n (c .at)
+    go : (x : Res TableTree) → table s ≡ x → r ≡ tableOf x → TableGot s (record { version = v; count = n; entries = c; owner = o; «source_index» = k })
     go (refuse k) q e = clash (cc)
-    go (ok es m) q e =
-        let h : TableRead.Read (length es) (record { at = 7 }) ≡ TableRead.Read n c = sym e ∙ f in
+    go (ok t m) q e =
+        let h : TableRead.Read (t .version) (length (t .entries)) (record { at = 7 }) ≡ TableRead.Read v n c = sym e ∙ f in
         let P = parts s q in
-        let l = entries-count (P .count) [] s 7 (P .reads) in
-        let k : length es ≡ n = cc in
-        let o : 7 ≡ c .at = cc in
-        let i : n ≡ P .count = sym k ∙ l ∙ (let z : 0 + P .count ≡ P .count = omega arith in z) in
+        let l = entries-count (t .version) (P .count) [] s 7 (P .reads) in
+        let w : t .version ≡ v = cc in
+        let j : length (t .entries) ≡ n = cc in
+        let b : 7 ≡ c .at = cc in
+        let i : n ≡ P .count = sym j ∙ l ∙ (let z : 0 + P .count ≡ P .count = omega arith in z) in
         record {
-          entries = record { entries = es; end = m; reads = ap (λ (j : ℕ). entries j [] s (c .at)) i ∙ ap (λ (j : ℕ). entries (P .count) [] s j) (sym o) ∙ P .reads };
-          starts = sym o;
+          entries = record {
+            all = t .entries;
+            end = m;
+            reads = ap₂ (λ (u : TableVersion) (j : ℕ). entries u j [] s (c .at)) (sym w) i
+                ∙ ap (λ (j : ℕ). entries (t .version) (P .count) [] s j) (sym b) ∙ P .reads;
+            entries = entriesOf o (t .entries);
+            owned = refl;
+          };
+          tree = t;
           reads = q;
+          owned = refl;
         }
 
 pub table-refused : (s : Bytes) {r : TableRead} {k : ℕ} → r ≡ tableOf (table s) → r ≡ TableRead.Refused k → table s ≡ refuse k
 unfolding tableOf
 table-refused s {r} {k} e f = go (table s) e
   where
-    go : (x : Res (List Entry)) → r ≡ tableOf x → x ≡ refuse k
+    go : (x : Res TableTree) → r ≡ tableOf x → x ≡ refuse k
     go (refuse n) e = cc
-    go (ok es m) e = clash (cc)
+    go (ok t m) e = clash (cc)
 
 -- a table that was read is within its limit
-pub table-small : (s : Bytes) {es : List Entry} {m : ℕ} → table s ≡ ok es m → length s ≤ 16384
+pub table-small : (s : Bytes) {t : TableTree} {m : ℕ} → table s ≡ ok t m → length s ≤ 16384
 table-small s h = parts s h .small
 
 -- ---- what `get_default_value` answered

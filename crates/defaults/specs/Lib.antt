@@ -1,5 +1,5 @@
 pub mod Table
 pub mod Lookup
-pub mod Scan
 pub mod Answers
+pub mod Scan
 pub mod Stands

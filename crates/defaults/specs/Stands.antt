@@ -10,19 +10,23 @@ use Rattle.layout.specs.declared.cursor.Cursor.{Cursor}
 use Rattle.layout.specs.declared.types.LeafType.{LeafType as LeafSpan}
 use Rattle.values.specs.Value.{Value}
 use Rattle.values.specs.Reading.{value}
-use Rattle.defaults.specs.Table.{Given, givenOf, Entry, loadedEntry, entries as entriesOf}
+use Rattle.defaults.specs.Table.{Given, givenOf, Entry, OwnedEntry, entriesOf, loadedEntry, entries as readEntries}
 use Rattle.defaults.specs.Lookup.{Taken, refused, nothing, taken}
 use Rattle.defaults.specs.declared.lookup.DefaultValue.{DefaultValue}
-use Rattle.defaults.specs.declared.lookup.EntryFound.{EntryFound}
+use Rattle.defaults.specs.declared.lookup.DefaultFieldValues.{DefaultFieldValues}
+use Rattle.defaults.specs.declared.read.EntryKind.{EntryKind}
+use Rattle.defaults.specs.declared.read.EntryFound.{EntryFound}
 
--- n entries
-pub record TableAt (s : Bytes) (n at : ℕ) : Type 0 where
-  pub entries : List Entry
+-- a table, and the entries of the owner that a build names
+pub record TableAt (s : Bytes) (d : DefaultFieldValues) : Type 0 where
+  pub all : List OwnedEntry
   pub end : ℕ
-  pub reads : entriesOf n [] s at ≡ ok entries end
+  pub reads : readEntries (d .version) (d .count) [] s (d .entries .at) ≡ ok all end
+  pub entries : List Entry
+  pub owned : entries ≡ entriesOf (d .owner) all
 
 -- what an entry of the kind k gives
-pub record GivenAt (k : ℕ) (s : Bytes) (at : ℕ) : Type 0 where
+pub record GivenAt (k : EntryKind) (s : Bytes) (at : ℕ) : Type 0 where
   pub given : Given
   pub end : ℕ
   pub reads : givenOf k s at ≡ ok given end
@@ -41,13 +45,13 @@ pub data First : Type 0 where
   first : Given → First
 
 -- the answer r says where that stands which an entry of the kind k gives
-pub record FoundEntry (s : Bytes) (k : ℕ) (g : Given) (r : EntryFound) : Type 0 where
+pub record FoundEntry (s : Bytes) (k : EntryKind) (g : Given) (r : EntryFound) : Type 0 where
   pub start : Cursor
   pub end : ℕ
   pub is : r ≡ EntryFound.At start
   pub reads : givenOf k s (start .at) ≡ ok g end
 
-abbrev pub FindsEntry : Bytes → ℕ → First → EntryFound → Type 0
+abbrev pub FindsEntry : Bytes → EntryKind → First → EntryFound → Type 0
 FindsEntry s k absent r = r ≡ EntryFound.Absent
 FindsEntry s k (first g) r = FoundEntry s k g r
 

@@ -4,12 +4,16 @@ ghost use Prim.Native.Nat.{ℕ};
 ghost use Rattle.layout.specs.Tree.{leaf};
 ghost use Rattle.layout.specs.Answers.{leafAt, spanIn};
 ghost use Rattle.values.specs.Stands.{ValueAt, EachAt};
-ghost use Rattle.defaults.specs.Lookup.{unlessNull, ofSource, givenTo, firstEntry, getDefaultValue};
-ghost use Rattle.defaults.specs.Scan.{isOf};
-ghost use Rattle.defaults.specs.Stands.{TableAt, GivenAt, LoadedAt, first, absent, FindsEntry, Answers};
-use crate::read::EntryRead;
-use crate::read::is_of;
-use crate::read::read_entry;
+ghost use Rattle.defaults.specs.Lookup.{unlessNull, ofSource, givenTo, getDefaultValue};
+ghost use Rattle.defaults.specs.Scan.{seek};
+ghost use Rattle.defaults.specs.Stands.{TableAt, GivenAt, LoadedAt, Answers};
+ghost use Rattle.defaults.specs.declared.read.Owner.{Owner};
+ghost use Rattle.defaults.specs.declared.read.EntryKind.the-variants.{Initial, Partition};
+use crate::read::EntryFound;
+use crate::read::EntryKind;
+use crate::read::Owner;
+use crate::read::TableVersion;
+use crate::read::find_entry;
 use crate::types::LeafRead;
 use crate::types::read_leaf_type;
 use crate::types::read_leaf_values;
@@ -22,10 +26,14 @@ use layout::types::LeafType;
 use values::leaf::Presence;
 use values::leaf::read_presence;
 
-// Where that begins which an entry gives.
-pub enum EntryFound {
-    At(Cursor),
-    Absent,
+// The defaults of a build: by number those that a table that was read has for an owner, at a source index. With no entries there are none: so by name,
+// and inside elements.
+pub struct DefaultFieldValues {
+    pub version: TableVersion,
+    pub count: u16,
+    pub entries: Cursor,
+    pub owner: u16,
+    pub source_index: u32,
 }
 
 // 26, the values could not be loaded; no default; or a value's type and where the value begins, which is not null.
@@ -33,29 +41,6 @@ pub enum DefaultValue {
     Failed,
     Nothing,
     At(LeafType, Cursor),
-}
-
-// The first of `n` entries from a cursor that is of this id and kind.
-fn find_entry(s: &[u8], n: u16, c: Cursor, id: FieldId, kind: u8) -> EntryFound
-    requires { ⌜ TableAt (now s) n (c .at) ⌝ }
-    ensures { λ r. ⌜ ((P : TableAt (now (s .entry)) n (c .at)) → FindsEntry (now (s .entry)) kind (firstEntry (isOf id kind) first (P .entries) absent) r) ⌝ }
-{
-    let mut at = c.at;
-    let mut i: u16 = 0;
-    while i < n {
-        let d = Cursor { at };
-        match read_entry(s, d) {
-            EntryRead::Is(j, k, g, e) => {
-                if is_of(id, kind, j, k) {
-                    return EntryFound::At(g);
-                }
-                at = e.at;
-            }
-            EntryRead::Refused(_) => return EntryFound::Absent,
-        }
-        i += 1;
-    }
-    EntryFound::Absent
 }
 
 // A value, unless it is null.
@@ -87,8 +72,8 @@ fn of_source(s: &[u8], l: LeafType, n: u16, c: Cursor, source_index: u32) -> Def
 }
 
 fn initial_value(s: &[u8], c: Cursor) -> DefaultValue
-    requires { ⌜ GivenAt 0 (now s) (c .at) ⌝ }
-    ensures { λ r. ⌜ ((k : ℕ) (P : GivenAt 0 (now (s .entry)) (c .at)) → Answers (now (s .entry)) (givenTo k (P .given)) r) ⌝ }
+    requires { ⌜ GivenAt Initial (now s) (c .at) ⌝ }
+    ensures { λ r. ⌜ ((k : ℕ) (P : GivenAt Initial (now (s .entry)) (c .at)) → Answers (now (s .entry)) (givenTo k (P .given)) r) ⌝ }
 {
     match read_leaf_type(s, c) {
         LeafRead::Is(l, d) => unless_null(s, l, d),
@@ -110,8 +95,8 @@ fn loaded_value(s: &[u8], c: Cursor, source_index: u32) -> DefaultValue
 }
 
 fn partition_value(s: &[u8], c: Cursor, source_index: u32) -> DefaultValue
-    requires { ⌜ GivenAt 1 (now s) (c .at) ⌝ }
-    ensures { λ r. ⌜ ((P : GivenAt 1 (now (s .entry)) (c .at)) → Answers (now (s .entry)) (givenTo «source_index» (P .given)) r) ⌝ }
+    requires { ⌜ GivenAt Partition (now s) (c .at) ⌝ }
+    ensures { λ r. ⌜ ((P : GivenAt Partition (now (s .entry)) (c .at)) → Answers (now (s .entry)) (givenTo «source_index» (P .given)) r) ⌝ }
 {
     match c.byte(s) {
         Step::Byte(b, d) => {
@@ -125,20 +110,31 @@ fn partition_value(s: &[u8], c: Cursor, source_index: u32) -> DefaultValue
     }
 }
 
-// A partition entry wins, and where it gives nothing no initial one is tried.
-pub fn get_default_value(
-    s: &[u8],
-    n: u16,
-    entries: Cursor,
-    source_index: u32,
-    id: FieldId,
-) -> DefaultValue
-    requires { ⌜ TableAt (now s) n (entries .at) ⌝ }
-    ensures { λ r. ⌜ ((P : TableAt (now (s .entry)) n (entries .at)) → Answers (now (s .entry)) (getDefaultValue (P .entries) «source_index» id) r) ⌝ }
+// The first entry of the owner with this id and kind.
+fn find_own(s: &[u8], defaults: DefaultFieldValues, id: FieldId, kind: EntryKind) -> EntryFound
+    ensures { λ r. ⌜ r ≡ seek (defaults .version) (Owner.Only (defaults .owner)) id kind (defaults .count) (now (s .entry)) (defaults .entries .at) ⌝ }
 {
-    match find_entry(s, n, entries, id, 1) {
-        EntryFound::At(c) => partition_value(s, c, source_index),
-        EntryFound::Absent => match find_entry(s, n, entries, id, 0) {
+    let version = defaults.version;
+    let entries = defaults.entries;
+    find_entry(
+        s,
+        version,
+        defaults.count,
+        entries,
+        Owner::Only(defaults.owner),
+        id,
+        kind,
+    )
+}
+
+// A partition entry wins, and where it gives nothing no initial one is tried.
+pub fn get_default_value(s: &[u8], defaults: DefaultFieldValues, id: FieldId) -> DefaultValue
+    requires { ⌜ TableAt (now s) defaults ⌝ }
+    ensures { λ r. ⌜ ((P : TableAt (now (s .entry)) defaults) → Answers (now (s .entry)) (getDefaultValue (P .entries) (defaults .«source_index») id) r) ⌝ }
+{
+    match find_own(s, defaults, id, EntryKind::Partition) {
+        EntryFound::At(c) => partition_value(s, c, defaults.source_index),
+        EntryFound::Absent => match find_own(s, defaults, id, EntryKind::Initial) {
             EntryFound::At(c) => initial_value(s, c),
             EntryFound::Absent => DefaultValue::Nothing,
         },

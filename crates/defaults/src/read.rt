@@ -1,14 +1,11 @@
 // Reading the table of defaults.
 ghost use mathlib.Core.Path.{_≡_};
 ghost use mathlib.Core.List.{[]};
-ghost use mathlib.Core.Bool.{_&&_};
-ghost use lib.Dec.{eqb};
-ghost use lib.ListN.{take};
-ghost use Rattle.layout.specs.Bytes.{sameBytes};
 ghost use Rattle.layout.specs.Answers.{movedOf};
-ghost use Rattle.defaults.specs.Table.{initialEntry, loadedEntry, partitionEntry, givenOf, tableNumber, entry, entries, tableMark, table};
-ghost use Rattle.defaults.specs.Scan.{scan};
-ghost use Rattle.defaults.specs.Answers.{entryOf, tableOf};
+ghost use Rattle.defaults.specs.Table.{sameKind, sameOwner, initialEntry, loadedEntry, partitionEntry, entryKind, givenOf};
+ghost use Rattle.defaults.specs.Table.{tableNumber, entry, ownerOf, entries, tableVersion, countedTable, table};
+ghost use Rattle.defaults.specs.Answers.{kindRes, ownerRes, versionRes, entryOf, entryRead, tableOf};
+ghost use Rattle.defaults.specs.Scan.{isOf, seek, isFound};
 use crate::types::LeafRead;
 use crate::types::read_leaf_type;
 use crate::types::read_leaf_value;
@@ -21,17 +18,62 @@ use layout::cursor::Moved;
 use layout::cursor::Short;
 use layout::cursor::Step;
 
-const MARK: [u8; 5] = [0x44, 0x45, 0x46, 1, 0];
+const SHARED: [u8; 5] = [0x44, 0x45, 0x46, 1, 0];
 
-// An entry's id and kind, where that begins which it gives, and where it ends.
-pub enum EntryRead {
-    Is(FieldId, u8, Cursor, Cursor),
+const BY_OWNER: [u8; 5] = [0x44, 0x45, 0x46, 2, 0];
+
+// Version 1, whose entries count for every owner, and version 2, with an owner before each id.
+pub enum TableVersion {
+    Shared,
+    ByOwner,
+}
+
+// Whose an entry is.
+pub enum Owner {
+    Every,
+    Only(u16),
+}
+
+// By an entry's kind byte: 0 an initial default, 1 a partition's values.
+pub enum EntryKind {
+    Initial,
+    Partition,
+}
+
+pub enum KindRead {
+    Is(EntryKind, Cursor),
     Refused(u8),
 }
 
-// The number of entries and where they begin.
+pub enum OwnerRead {
+    Is(Owner, Cursor),
+    Refused(u8),
+}
+
+// An entry's owner, id and kind, where that begins which it gives, and where it ends.
+pub enum EntryRead {
+    Is(Owner, FieldId, EntryKind, Cursor, Cursor),
+    Refused(u8),
+}
+
+// Where that begins which an entry gives.
+pub enum EntryFound {
+    At(Cursor),
+    Absent,
+}
+
+pub enum VersionRead {
+    Is(TableVersion),
+    Refused(u8),
+}
+
+// The version, the number of entries and where they begin.
 pub enum TableRead {
-    Read { count: u16, entries: Cursor },
+    Read {
+        version: TableVersion,
+        count: u16,
+        entries: Cursor,
+    },
     Refused(u8),
 }
 
@@ -70,14 +112,26 @@ fn read_partition(s: &[u8], c: Cursor) -> Moved
     }
 }
 
+fn read_kind(s: &[u8], c: Cursor) -> KindRead
+    ensures { λ r. ⌜ kindRes r ≡ entryKind (now (s .entry)) (c .at) ⌝ }
+{
+    match c.byte(s) {
+        Step::Byte(b, d) => match b {
+            0 => KindRead::Is(EntryKind::Initial, d),
+            1 => KindRead::Is(EntryKind::Partition, d),
+            _ => KindRead::Refused(3),
+        },
+        Step::Refused(k) => KindRead::Refused(k),
+    }
+}
+
 // What an entry gives, by its kind.
-fn read_given(s: &[u8], kind: u8, c: Cursor) -> Moved
+fn read_given(s: &[u8], kind: EntryKind, c: Cursor) -> Moved
     ensures { λ r. ⌜ r ≡ movedOf (givenOf kind (now (s .entry)) (c .at)) ⌝ }
 {
     match kind {
-        0 => read_initial(s, c),
-        1 => read_partition(s, c),
-        _ => Moved::Refused(3),
+        EntryKind::Initial => read_initial(s, c),
+        EntryKind::Partition => read_partition(s, c),
     }
 }
 
@@ -92,61 +146,137 @@ fn table_number(n: u8) -> u8
     }
 }
 
-pub fn read_entry(s: &[u8], c: Cursor) -> EntryRead
-    ensures { λ r. ⌜ r ≡ entryOf (c .at) (entry (now (s .entry)) (c .at)) ⌝ }
+// An entry of this owner, from its id on.
+fn read_numbered(s: &[u8], owner: Owner, c: Cursor) -> EntryRead
+    ensures { λ r. ⌜ r ≡ entryOf owner (c .at) (entry (now (s .entry)) (c .at)) ⌝ }
 {
     match c.long(s) {
-        Long::Is(i, d) => match d.byte(s) {
-            Step::Byte(kind, g) => match read_given(s, kind, g) {
-                Moved::To(e) => EntryRead::Is(FieldId(i), kind, g, e),
+        Long::Is(i, d) => match read_kind(s, d) {
+            KindRead::Is(kind, g) => match read_given(s, kind, g) {
+                Moved::To(e) => EntryRead::Is(owner, FieldId(i), kind, g, e),
                 Moved::Refused(k) => EntryRead::Refused(table_number(k)),
             },
-            Step::Refused(k) => EntryRead::Refused(k),
+            KindRead::Refused(k) => EntryRead::Refused(k),
         },
         Long::Refused(k) => EntryRead::Refused(k),
     }
 }
 
-// Whether an entry's id and kind are these.
-pub fn is_of(id: FieldId, kind: u8, i: FieldId, k: u8) -> bool
-    ensures { λ r. ⌜ r ≡ (eqb (id .0) (i .0) && eqb kind k) ⌝ }
+fn read_owner(s: &[u8], version: TableVersion, c: Cursor) -> OwnerRead
+    ensures { λ r. ⌜ ownerRes r ≡ ownerOf version (now (s .entry)) (c .at) ⌝ }
 {
-    if id.0 == i.0 { kind == k } else { false }
+    match version {
+        TableVersion::Shared => OwnerRead::Is(Owner::Every, c),
+        TableVersion::ByOwner => match c.short(s) {
+            Short::Is(n, d) => OwnerRead::Is(Owner::Only(n), d),
+            Short::Refused(k) => OwnerRead::Refused(k),
+        },
+    }
 }
 
-// Whether one of the `n` entries from a cursor is of this id and kind.
-fn repeats(s: &[u8], n: u16, c: Cursor, id: FieldId, kind: u8) -> bool
-    ensures { λ r. ⌜ r ≡ scan id kind n (now (s .entry)) (c .at) ⌝ }
+pub fn read_entry(s: &[u8], version: TableVersion, c: Cursor) -> EntryRead
+    ensures { λ r. ⌜ r ≡ entryRead version (now (s .entry)) (c .at) ⌝ }
+{
+    match read_owner(s, version, c) {
+        OwnerRead::Is(owner, d) => read_numbered(s, owner, d),
+        OwnerRead::Refused(k) => EntryRead::Refused(k),
+    }
+}
+
+fn same_kind(a: EntryKind, b: EntryKind) -> bool
+    ensures { λ r. ⌜ r ≡ sameKind a b ⌝ }
+{
+    match a {
+        EntryKind::Initial => match b {
+            EntryKind::Initial => true,
+            EntryKind::Partition => false,
+        },
+        EntryKind::Partition => match b {
+            EntryKind::Initial => false,
+            EntryKind::Partition => true,
+        },
+    }
+}
+
+// Whether there is an owner for whom both count.
+fn same_owner(a: Owner, b: Owner) -> bool
+    ensures { λ r. ⌜ r ≡ sameOwner a b ⌝ }
+{
+    match a {
+        Owner::Every => true,
+        Owner::Only(n) => match b {
+            Owner::Every => true,
+            Owner::Only(m) => n == m,
+        },
+    }
+}
+
+// Whether an entry's owner, id and kind, `o`, `i` and `k`, are those looked for.
+fn is_of(owner: Owner, id: FieldId, kind: EntryKind, o: Owner, i: FieldId, k: EntryKind) -> bool
+    ensures { λ r. ⌜ r ≡ isOf owner id kind o i k ⌝ }
+{
+    if id.0 == i.0 {
+        if same_kind(kind, k) {
+            same_owner(owner, o)
+        } else {
+            false
+        }
+    } else {
+        false
+    }
+}
+
+// The first of the `n` entries from a cursor that counts for this owner and is of this id and kind.
+pub fn find_entry(
+    s: &[u8],
+    version: TableVersion,
+    n: u16,
+    c: Cursor,
+    owner: Owner,
+    id: FieldId,
+    kind: EntryKind,
+) -> EntryFound
+    ensures { λ r. ⌜ r ≡ seek version owner id kind n (now (s .entry)) (c .at) ⌝ }
 {
     let mut at = c.at;
     let mut i: u16 = 0;
     while i < n {
         let d = Cursor { at };
-        match read_entry(s, d) {
-            EntryRead::Is(j, k, _, e) => {
-                if is_of(id, kind, j, k) {
-                    return true;
+        match read_entry(s, version, d) {
+            EntryRead::Is(o, j, k, g, e) => {
+                if is_of(owner, id, kind, o, j, k) {
+                    return EntryFound::At(g);
                 }
                 at = e.at;
             }
-            EntryRead::Refused(_) => return false,
+            EntryRead::Refused(_) => return EntryFound::Absent,
         }
         i += 1;
     }
-    false
+    EntryFound::Absent
 }
 
-// `n` entries, of which none may have the id and the kind of an earlier one.
-fn read_entries(s: &[u8], n: u16, c: Cursor) -> Moved
-    ensures { λ r. ⌜ r ≡ movedOf (entries n [] (now (s .entry)) (c .at)) ⌝ }
+fn is_found(found: EntryFound) -> bool
+    ensures { λ r. ⌜ r ≡ isFound found ⌝ }
+{
+    match found {
+        EntryFound::At(_) => true,
+        EntryFound::Absent => false,
+    }
+}
+
+// `n` entries, of which none may have the id and the kind of an earlier one that counts for the same owner.
+fn read_entries(s: &[u8], version: TableVersion, n: u16, c: Cursor) -> Moved
+    ensures { λ r. ⌜ r ≡ movedOf (entries version n [] (now (s .entry)) (c .at)) ⌝ }
 {
     let mut at = c.at;
     let mut i: u16 = 0;
     while i < n {
         let d = Cursor { at };
-        match read_entry(s, d) {
-            EntryRead::Is(id, kind, _, e) => {
-                if repeats(s, i, c, id, kind) {
+        match read_entry(s, version, d) {
+            EntryRead::Is(owner, id, kind, _, e) => {
+                let earlier = find_entry(s, version, i, c, owner, id, kind);
+                if is_found(earlier) {
                     return Moved::Refused(5);
                 }
                 at = e.at;
@@ -158,13 +288,43 @@ fn read_entries(s: &[u8], n: u16, c: Cursor) -> Moved
     Moved::To(Cursor { at })
 }
 
-fn is_marked(s: &[u8]) -> bool
-    ensures { λ r. ⌜ r ≡ sameBytes (take 5 (now (s .entry))) tableMark ⌝ }
+fn read_version(s: &[u8]) -> VersionRead
+    ensures { λ r. ⌜ versionRes r ≡ tableVersion (now (s .entry)) 0 ⌝ }
 {
     if s.len() < 5 {
-        return false;
+        return VersionRead::Refused(1);
     }
-    same_bytes(&s[..5], &MARK)
+    if same_bytes(&s[..5], &SHARED) {
+        return VersionRead::Is(TableVersion::Shared);
+    }
+    if same_bytes(&s[..5], &BY_OWNER) {
+        return VersionRead::Is(TableVersion::ByOwner);
+    }
+    VersionRead::Refused(1)
+}
+
+// The rest of a table of this version, from the number of its entries on.
+fn read_counted(s: &[u8], version: TableVersion) -> TableRead
+    ensures { λ r. ⌜ r ≡ tableOf (countedTable version (now (s .entry)) 5) ⌝ }
+{
+    let c = Cursor { at: 5 };
+    match c.short(s) {
+        Short::Is(n, d) => match read_entries(s, version, n, d) {
+            Moved::To(e) => {
+                if e.at == s.len() {
+                    TableRead::Read {
+                        version,
+                        count: n,
+                        entries: Cursor { at: 7 },
+                    }
+                } else {
+                    TableRead::Refused(6)
+                }
+            }
+            Moved::Refused(k) => TableRead::Refused(k),
+        },
+        Short::Refused(k) => TableRead::Refused(k),
+    }
 }
 
 pub fn read_table(s: &[u8]) -> TableRead
@@ -173,25 +333,8 @@ pub fn read_table(s: &[u8]) -> TableRead
     if 16384 < s.len() {
         return TableRead::Refused(4);
     }
-    if is_marked(s) {
-        let c = Cursor { at: 5 };
-        match c.short(s) {
-            Short::Is(n, d) => match read_entries(s, n, d) {
-                Moved::To(e) => {
-                    if e.at == s.len() {
-                        TableRead::Read {
-                            count: n,
-                            entries: Cursor { at: 7 },
-                        }
-                    } else {
-                        TableRead::Refused(6)
-                    }
-                }
-                Moved::Refused(k) => TableRead::Refused(k),
-            },
-            Short::Refused(k) => TableRead::Refused(k),
-        }
-    } else {
-        TableRead::Refused(1)
+    match read_version(s) {
+        VersionRead::Is(v) => read_counted(s, v),
+        VersionRead::Refused(k) => TableRead::Refused(k),
     }
 }

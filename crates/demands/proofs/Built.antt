@@ -23,7 +23,7 @@ use Rattle.matching.specs.Default.{Defaults, noDefaults}
 use Rattle.matching.specs.Build.{build}
 use Rattle.matching.specs.Calls.{sameVersion, ofVersion, bothLayouts, roomFor, writtenPlan, buildByName, buildByNumber}
 use Rattle.matching.specs.Due.{dues}
-use Rattle.defaults.specs.Table.{Entry, table}
+use Rattle.defaults.specs.Table.{entriesOf, TableTree, table}
 use Rattle.defaults.specs.Lookup.{getDefaultValue}
 use Rattle.rules.specs.declared.policy.Policy.{Policy}
 use Rattle.layout.specs.declared.version.Version.{Version}
@@ -123,8 +123,8 @@ layouts-past v incoming target f h g e =
     let (c, d) = both (sameVersion v (x .version)) c in
     (x .columns, y .columns, m, n, of-version v incoming x q c, of-version v target y r d, e)
 
-pub table-past : (defaults : Bytes) (f : List Entry → Answer Bytes) {n k : ℕ} → isIn n tableRefusals ≡ false → readAt 3 (table defaults) f ≡ refusedAt n k
-    → (es : List Entry) × (m : ℕ) × (table defaults ≡ ok es m) × (f es ≡ refusedAt n k)
+pub table-past : (defaults : Bytes) (f : TableTree → Answer Bytes) {n k : ℕ} → isIn n tableRefusals ≡ false → readAt 3 (table defaults) f ≡ refusedAt n k
+    → (t : TableTree) × (m : ℕ) × (table defaults ≡ ok t m) × (f t ≡ refusedAt n k)
 table-past defaults f h e = read-past 3 (table defaults) f (table-in defaults) h e
 
 module _ (v : Version) (p : Policy) (incoming target : Bytes) (space : ℕ) where
@@ -144,15 +144,18 @@ pub by-name-back : (p : Policy) (incoming target : Bytes) (space : ℕ) → Plan
 unfolding buildByName bothLayouts ofVersion readAt placed demand answered
 by-name-back p incoming target space L = rw (L .defined .incomingRead, L .defined .targetRead, L .defined .built, written-exceeds space (L .defined .selectors) (L .long))
 
-pub by-number-past : (p : Policy) (index : ℕ) (incoming target defaults : Bytes) (space : ℕ) → buildByNumber p index incoming target defaults space ≡ refusedAt 27 0 → NumberTooLong p index incoming target defaults space
+pub by-number-past : (p : Policy) (index owner : ℕ) (incoming target defaults : Bytes) (space : ℕ)
+    → buildByNumber p index owner incoming target defaults space ≡ refusedAt 27 0 → NumberTooLong p index owner incoming target defaults space
 unfolding buildByNumber isIn
-by-number-past p index incoming target defaults space e =
+by-number-past p index owner incoming target defaults space e =
     let (a, b, m, n, q, r, e) = layouts-past ByNumber incoming target _ refl (λ h. omega (arith, h)) e in
-    let (es, k, t, e) = table-past defaults _ refl e in
-    record { entries = es; end = k; reads = t; plan = built-past ByNumber p incoming target space (getDefaultValue es index) (lookup-in es index) a b m n q r e }
+    let (x, k, t, e) = table-past defaults _ refl e in
+    let es = entriesOf owner (x .entries) in
+    record { tree = x; end = k; reads = t; plan = built-past ByNumber p incoming target space (getDefaultValue es index) (lookup-in es index) a b m n q r e }
 
-pub by-number-back : (p : Policy) (index : ℕ) (incoming target defaults : Bytes) (space : ℕ) → NumberTooLong p index incoming target defaults space → buildByNumber p index incoming target defaults space ≡ refusedAt 27 0
+pub by-number-back : (p : Policy) (index owner : ℕ) (incoming target defaults : Bytes) (space : ℕ) → NumberTooLong p index owner incoming target defaults space
+    → buildByNumber p index owner incoming target defaults space ≡ refusedAt 27 0
 unfolding buildByNumber bothLayouts ofVersion readAt placed demand answered
-by-number-back p index incoming target defaults space N =
+by-number-back p index owner incoming target defaults space N =
     let L = N .plan in
     rw (L .defined .incomingRead, L .defined .targetRead, N .reads, L .defined .built, written-exceeds space (L .defined .selectors) (L .long))

@@ -43,7 +43,7 @@ second t = 0x4C ∷ 0x41 ∷ 0x59 ∷ 1 ∷ 0 ∷ 2 ∷ 0 ∷ 1 ∷ 0x73 ∷ 1 �
 -- a build by number of one column, of the type decimal(9,2), which the incoming layout lacks; its initial default is of the type t, and r stands behind it
 abbrev defaulted : Bytes → Bytes → Answer Bytes
 defaulted t r =
-    buildByNumber on 0 (0x4C ∷ 0x41 ∷ 0x59 ∷ 2 ∷ 0 ∷ 0 ∷ 0 ∷ []) (0x4C ∷ 0x41 ∷ 0x59 ∷ 2 ∷ 0 ∷ 1 ∷ 0 ∷ 1 ∷ 0x74 ∷ 1 ∷ 0 ∷ 0 ∷ 0 ∷ digits 9 2)
+    buildByNumber on 0 0 (0x4C ∷ 0x41 ∷ 0x59 ∷ 2 ∷ 0 ∷ 0 ∷ 0 ∷ []) (0x4C ∷ 0x41 ∷ 0x59 ∷ 2 ∷ 0 ∷ 1 ∷ 0 ∷ 1 ∷ 0x74 ∷ 1 ∷ 0 ∷ 0 ∷ 0 ∷ digits 9 2)
     (0x44 ∷ 0x45 ∷ 0x46 ∷ 1 ∷ 0 ∷ 1 ∷ 0 ∷ 1 ∷ 0 ∷ 0 ∷ 0 ∷ 0 ∷ (t ++ r)) 1000
 
 -- 10^18 - 1 and 10^18, and these below zero; 10^9 - 1 and 10^9

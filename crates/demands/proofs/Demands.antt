@@ -40,7 +40,7 @@ use Rattle.matching.specs.Calls.{bothLayouts, writtenPlan, buildByName, buildBy
 use Rattle.matching.specs.Due.{dues}
 use Rattle.matching.specs.Untouched.{Untouched, EqualType}
 use Rattle.matching.proofs.Theorems.{build-untouched}
-use Rattle.defaults.specs.Table.{Entry, table}
+use Rattle.defaults.specs.Table.{entriesOf, TableTree, table}
 use Rattle.defaults.specs.Lookup.{getDefaultValue}
 use Rattle.rules.specs.declared.policy.Policy.{Policy}
 use Rattle.rules.specs.declared.policy.ExtraColumnsPolicy.the-variants.{Ignore}
@@ -79,10 +79,10 @@ module _ (p : Policy) (incoming target : Bytes) (space : ℕ) where
       → Refusal (building ByName) (layoutsRead incoming target []) (columnCount incoming) (columnCount target) n k
   by-name-refused e = refused-as (by-name-in p incoming target space) e
 
-module _ (p : Policy) (index : ℕ) (incoming target defaults : Bytes) (space : ℕ) where
-  pub by-number-refused : {n k : ℕ} → buildByNumber p index incoming target defaults space ≡ refusedAt n k
+module _ (p : Policy) (index owner : ℕ) (incoming target defaults : Bytes) (space : ℕ) where
+  pub by-number-refused : {n k : ℕ} → buildByNumber p index owner incoming target defaults space ≡ refusedAt n k
       → Refusal (building ByNumber) (layoutsRead incoming target (tableRead defaults)) (columnCount incoming) (columnCount target) n k
-  by-number-refused e = refused-as (by-number-in p index incoming target defaults space) e
+  by-number-refused e = refused-as (by-number-in p index owner incoming target defaults space) e
 
 module _ (incoming target bytes : Bytes) where
   pub check-refused : {n k : ℕ} → checkPlan incoming target bytes ≡ refusedAt n k
@@ -119,10 +119,10 @@ module _ (p : Policy) (incoming target : Bytes) (oi : AllBytes incoming) (ot : A
   pub by-name-passes : checkPlan incoming target bytes ≡ accepted tt
   by-name-passes = built-passes (by-name-built p incoming target space oi ot built)
 
-module _ (p : Policy) (index : ℕ) (incoming target defaults : Bytes) (oi : AllBytes incoming) (ot : AllBytes target) (od : AllBytes defaults) (space : ℕ) {bytes : Bytes}
-    (built : buildByNumber p index incoming target defaults space ≡ accepted bytes) where
+module _ (p : Policy) (index owner : ℕ) (incoming target defaults : Bytes) (oi : AllBytes incoming) (ot : AllBytes target)
+    (od : AllBytes defaults) (space : ℕ) {bytes : Bytes} (built : buildByNumber p index owner incoming target defaults space ≡ accepted bytes) where
   pub by-number-passes : checkPlan incoming target bytes ≡ accepted tt
-  by-number-passes = built-passes (by-number-built p index incoming target defaults space oi ot od built .built)
+  by-number-passes = built-passes (by-number-built p index owner incoming target defaults space oi ot od built .built)
 
 -- ---- "For every record that fits the incoming one, the run of such a plan between these same two, unless it refuses as just said, writes exactly the record that document 01
 -- calls due: each target field holds the incoming field of the same path, converted by rule, or else its default or null." The due values are `dues` (crate matching,
@@ -133,14 +133,18 @@ module _ (p : Policy) (incoming target rec : Bytes) (oi : AllBytes incoming) (ot
   pub by-name-due : runPlan incoming target bytes rec room ≡ written (dues ByName noDefaults (T .read .columns) (columnsOf F) (F .values)) room
   by-name-due = built-due (by-name-built p incoming target space oi ot built) or F T room
 
-module _ (p : Policy) (index : ℕ) (incoming target defaults rec : Bytes) (oi : AllBytes incoming) (ot : AllBytes target) (od : AllBytes defaults) (or : AllBytes rec) (space : ℕ) {bytes : Bytes}
-    (built : buildByNumber p index incoming target defaults space ≡ accepted bytes) (F : FitsLayout incoming rec) (T : LayoutOf target) (room : ℕ) where
+module _ (p : Policy) (index owner : ℕ) (incoming target defaults rec : Bytes) (oi : AllBytes incoming) (ot : AllBytes target)
+    (od : AllBytes defaults) (or : AllBytes rec) (space : ℕ) {bytes : Bytes}
+    (built : buildByNumber p index owner incoming target defaults space ≡ accepted bytes) (F : FitsLayout incoming rec) (T : LayoutOf target) (room : ℕ) where
   -- the table that was read
-  pub by-number-due : (es : List Entry) {e : ℕ} → table defaults ≡ ok es e → runPlan incoming target bytes rec room ≡ written (dues ByNumber (getDefaultValue es index) (T .read .columns) (columnsOf F) (F .values)) room
-  by-number-due es t =
-      let B = by-number-built p index incoming target defaults space oi ot od built in
+  pub by-number-due : (t : TableTree) {e : ℕ} → table defaults ≡ ok t e
+      → runPlan incoming target bytes rec room
+      ≡ written (dues ByNumber (getDefaultValue (entriesOf owner (t .entries)) index) (T .read .columns) (columnsOf F) (F .values)) room
+  by-number-due t r =
+      let B = by-number-built p index owner incoming target defaults space oi ot od built in
       built-due (B .built) or F T room
-      ∙ ap (λ (xs : List Entry). written (dues ByNumber (getDefaultValue xs index) (T .read .columns) (columnsOf F) (F .values)) room) (ok-eq (B .tableRead) t)
+      ∙ ap (λ (x : TableTree). written (dues ByNumber (getDefaultValue (entriesOf owner (x .entries)) index) (T .read .columns) (columnsOf F) (F .values)) room)
+      (ok-eq (B .tableRead) r)
 
 -- ---- "Matched by name, a built plan leaves a target column untouched exactly when the incoming column of that name has an equal type." The target column at the position j
 -- has the label b and the type u; its selector is s.
@@ -162,9 +166,10 @@ module _ (p : Policy) (incoming target : Bytes) (space : ℕ) where
   pub by-name-too-long : (buildByName p incoming target space ≡ refusedAt 27 0) ↔ PlanTooLong ByName p noDefaults incoming target space
   by-name-too-long = (λ e. by-name-past p incoming target space e, λ L. by-name-back p incoming target space L)
 
-module _ (p : Policy) (index : ℕ) (incoming target defaults : Bytes) (space : ℕ) where
-  pub by-number-too-long : (buildByNumber p index incoming target defaults space ≡ refusedAt 27 0) ↔ NumberTooLong p index incoming target defaults space
-  by-number-too-long = (λ e. by-number-past p index incoming target defaults space e, λ N. by-number-back p index incoming target defaults space N)
+module _ (p : Policy) (index owner : ℕ) (incoming target defaults : Bytes) (space : ℕ) where
+  pub by-number-too-long : (buildByNumber p index owner incoming target defaults space ≡ refusedAt 27 0)
+      ↔ NumberTooLong p index owner incoming target defaults space
+  by-number-too-long = (λ e. by-number-past p index owner incoming target defaults space e, λ N. by-number-back p index owner incoming target defaults space N)
 
 -- ---- Document 02, L1, "Decimal fields". Its numbers 50, 51 and 52 are in the lists above, and demand 3 is said of decimals as of every other type.
 
@@ -227,12 +232,12 @@ module _ (p : Policy) (incoming target : Bytes) (space : ℕ) where
       → buildByName p incoming target space ≡ bothLayouts ByName incoming target (λ a b. answered (buildFrom ByName p noDefaults b a 0) (λ ss. writtenPlan space ss))
   by-name-ignoring h = name-ignoring p incoming target space h
 
-module _ (p : Policy) (index : ℕ) (incoming target defaults : Bytes) (space : ℕ) where
-  pub by-number-extra : {k : ℕ} → (buildByNumber p index incoming target defaults space ≡ refusedAt 53 k) ↔ NumberExtraColumn p incoming target defaults k
-  by-number-extra = (λ e. by-number-raised p index incoming target defaults space e, λ E. by-number-raises p index incoming target defaults space E)
+module _ (p : Policy) (index owner : ℕ) (incoming target defaults : Bytes) (space : ℕ) where
+  pub by-number-extra : {k : ℕ} → (buildByNumber p index owner incoming target defaults space ≡ refusedAt 53 k) ↔ NumberExtraColumn p incoming target defaults k
+  by-number-extra = (λ e. by-number-raised p index owner incoming target defaults space e, λ E. by-number-raises p index owner incoming target defaults space E)
 
   pub by-number-ignoring : p .«extra_columns» ≡ Ignore
-      → buildByNumber p index incoming target defaults space
-      ≡ bothLayouts ByNumber incoming target (λ a b. readAt 3 (table defaults) (λ es.
-      answered (buildFrom ByNumber p (getDefaultValue es index) b a 0) (λ ss. writtenPlan space ss)))
-  by-number-ignoring h = number-ignoring p index incoming target defaults space h
+      → buildByNumber p index owner incoming target defaults space
+      ≡ bothLayouts ByNumber incoming target (λ a b. readAt 3 (table defaults) (λ t.
+      answered (buildFrom ByNumber p (getDefaultValue (entriesOf owner (t .entries)) index) b a 0) (λ ss. writtenPlan space ss)))
+  by-number-ignoring h = number-ignoring p index owner incoming target defaults space h

@@ -15,7 +15,7 @@ use Rattle.plan.specs.Encode.{encodePlan}
 use Rattle.plan.specs.Selector.{Selectors}
 use Rattle.plan.specs.Calls.{readAt}
 use Rattle.plan.proofs.Results.{true≠false}
-use Rattle.defaults.specs.Table.{table}
+use Rattle.defaults.specs.Table.{entriesOf, table}
 use Rattle.defaults.specs.Lookup.{getDefaultValue}
 use Rattle.matching.specs.Default.{Defaults, noDefaults}
 use Rattle.matching.specs.Build.{extraColumns, buildFrom, build}
@@ -87,31 +87,32 @@ module _ (p : Policy) (incoming target : Bytes) (space : ℕ) where
 
 -- ---- by number
 
-module _ (p : Policy) (index : ℕ) (incoming target defaults : Bytes) (space : ℕ) where
-  pub by-number-raised : {k : ℕ} → buildByNumber p index incoming target defaults space ≡ refusedAt 53 k → NumberExtraColumn p incoming target defaults k
+module _ (p : Policy) (index owner : ℕ) (incoming target defaults : Bytes) (space : ℕ) where
+  pub by-number-raised : {k : ℕ} → buildByNumber p index owner incoming target defaults space ≡ refusedAt 53 k → NumberExtraColumn p incoming target defaults k
   unfolding buildByNumber isIn
   by-number-raised e =
       let (a, b, m, n, q, r, e) = layouts-past ByNumber incoming target _ refl (λ h. omega (arith, h)) e in
-      let (es, j, t, e) = table-past defaults _ refl e in
+      let (x, j, t, e) = table-past defaults _ refl e in
+      let es = entriesOf owner (x .entries) in
       let (s, f) = raised ByNumber p space (getDefaultValue es index) (lookup-in es index) a b e in
       record {
-        entries = es;
+        tree = x;
         end = j;
         reads = t;
         column = record { from = a; to = b; fromEnd = m; toEnd = n; incomingRead = q; targetRead = r; raises = s; first = f };
       }
 
-  pub by-number-raises : {k : ℕ} → NumberExtraColumn p incoming target defaults k → buildByNumber p index incoming target defaults space ≡ refusedAt 53 k
+  pub by-number-raises : {k : ℕ} → NumberExtraColumn p incoming target defaults k → buildByNumber p index owner incoming target defaults space ≡ refusedAt 53 k
   unfolding buildByNumber bothLayouts ofVersion readAt placed demand answered
   by-number-raises N =
       let E = N .column in
-      rw (E .incomingRead, E .targetRead, N .reads, build-raised ByNumber p (getDefaultValue (N .entries) index) (E .from) (E .to) (E .raises) (E .first))
+      rw (E .incomingRead, E .targetRead, N .reads, build-raised ByNumber p (getDefaultValue (entriesOf owner (N .tree .entries)) index) (E .from) (E .to) (E .raises) (E .first))
 
   pub number-ignoring : p .«extra_columns» ≡ Ignore
-      → buildByNumber p index incoming target defaults space
-      ≡ bothLayouts ByNumber incoming target (λ a b. readAt 3 (table defaults) (λ es.
-      answered (buildFrom ByNumber p (getDefaultValue es index) b a 0) (λ ss. writtenPlan space ss)))
+      → buildByNumber p index owner incoming target defaults space
+      ≡ bothLayouts ByNumber incoming target (λ a b. readAt 3 (table defaults) (λ t.
+      answered (buildFrom ByNumber p (getDefaultValue (entriesOf owner (t .entries)) index) b a 0) (λ ss. writtenPlan space ss)))
   unfolding buildByNumber
   number-ignoring h =
       ap (bothLayouts ByNumber incoming target)
-      (λ i a b. readAt 3 (table defaults) (λ es. answered (build-ignoring ByNumber p (getDefaultValue es index) a b h i) (λ ss. writtenPlan space ss)))
+      (λ i a b. readAt 3 (table defaults) (λ t. answered (build-ignoring ByNumber p (getDefaultValue (entriesOf owner (t .entries)) index) a b h i) (λ ss. writtenPlan space ss)))

@@ -10,5 +10,6 @@ pub mod Demands
 pub mod Table
 pub mod Decimals
 pub mod Loosened
+pub mod Owners
 pub mod Loosenings
 pub mod Projected

@@ -9,7 +9,7 @@ use Rattle.rules.specs.declared.policy.Policy.{Policy}
 use Rattle.rules.specs.Policies.{policyOf}
 use Rattle.rules.specs.Allows.{Allows, BitsAmong}
 use Rattle.rules.proofs.Allowed.{words-allow}
-use Rattle.defaults.specs.Table.{table}
+use Rattle.defaults.specs.Table.{entriesOf, table}
 use Rattle.defaults.specs.Lookup.{getDefaultValue}
 use Rattle.plan.specs.Result.{Answer, accepted, answered}
 use Rattle.plan.proofs.Kept.{KeptAnswer, same, same-answer, by-place, by-answer, by-reading}
@@ -36,12 +36,12 @@ module _ {p q : Policy} (A : Allows p q) (incoming target : Bytes) (room : ℕ) 
   unfolding buildByName
   by-name-loosened e = both-kept ByName incoming target _ _ (written-kept A room ByName noDefaults) .kept plan e
 
-  pub by-number-loosened : (index : ℕ) (defaults : Bytes) → buildByNumber p index incoming target defaults room ≡ accepted plan
-      → buildByNumber q index incoming target defaults room ≡ accepted plan
+  pub by-number-loosened : (index owner : ℕ) (defaults : Bytes) → buildByNumber p index owner incoming target defaults room ≡ accepted plan
+      → buildByNumber q index owner incoming target defaults room ≡ accepted plan
   unfolding buildByNumber
-  by-number-loosened index defaults e =
+  by-number-loosened index owner defaults e =
       both-kept ByNumber incoming target _ _
-      (λ a b. by-reading 3 (table defaults) _ _ (λ es. written-kept A room ByNumber (getDefaultValue es index) a b)) .kept plan e
+      (λ a b. by-reading 3 (table defaults) _ _ (λ t. written-kept A room ByNumber (getDefaultValue (entriesOf owner (t .entries)) index) a b)) .kept plan e
 
 -- ---- The same of the policy words that a caller holds: every bit of the first is among the second's.
 
@@ -49,6 +49,6 @@ module _ (a b : ℕ) (among : BitsAmong a b) (incoming target : Bytes) (room : �
   pub by-name-word-loosened : buildByName (policyOf a) incoming target room ≡ accepted plan → buildByName (policyOf b) incoming target room ≡ accepted plan
   by-name-word-loosened e = by-name-loosened (words-allow a b among) incoming target room e
 
-  pub by-number-word-loosened : (index : ℕ) (defaults : Bytes) → buildByNumber (policyOf a) index incoming target defaults room ≡ accepted plan
-      → buildByNumber (policyOf b) index incoming target defaults room ≡ accepted plan
-  by-number-word-loosened index defaults e = by-number-loosened (words-allow a b among) incoming target room index defaults e
+  pub by-number-word-loosened : (index owner : ℕ) (defaults : Bytes) → buildByNumber (policyOf a) index owner incoming target defaults room ≡ accepted plan
+      → buildByNumber (policyOf b) index owner incoming target defaults room ≡ accepted plan
+  by-number-word-loosened index owner defaults e = by-number-loosened (words-allow a b among) incoming target room index owner defaults e

@@ -22,8 +22,12 @@ use Rattle.values.specs.declared.content.Content.the-variants.{Nothing, Flag, N
 use Rattle.values.specs.Reading.{presence, nullable, flag, decimal, longText, contentBy, leafContent}
 use Rattle.values.specs.Reading.{times, listContent, arrayContent, structContent, content, values, value}
 use Rattle.values.specs.Record.{recordNumber, renumber, shortEnough, ended as recordEnded, recordFrom, recordOf}
-use Rattle.defaults.specs.Table.{Entry, onlyLeaf, defaultType, initialEntry, loadedEntry, partitionEntry, givenOf}
-use Rattle.defaults.specs.Table.{tableNumber, entry, entries, tableVersion, tableFrom, table}
+use Rattle.defaults.specs.Table.{OwnedEntry, onlyLeaf, defaultType, initialEntry, loadedEntry, partitionEntry, entryKind, givenOf}
+use Rattle.defaults.specs.Table.{tableNumber, entry, ownerOf, ownedEntry, entries, tableVersion, countedTable, tableFrom, table}
+use Rattle.defaults.specs.declared.read.EntryKind.{EntryKind}
+use Rattle.defaults.specs.declared.read.EntryKind.the-variants.{Initial, Partition}
+use Rattle.defaults.specs.declared.read.TableVersion.{TableVersion}
+use Rattle.defaults.specs.declared.read.TableVersion.the-variants.{Shared, ByOwner}
 use Rattle.plan.specs.Selector.{Selectors}
 use Rattle.plan.specs.Read.{planFrom, plan}
 use Rattle.demands.specs.Refusals.{isIn, layoutRefusals, tableRefusals, recordRefusals}
@@ -225,37 +229,45 @@ module _ (s : Bytes) where
       (choose-in _ (wider refl (datetime-kind-in i)) (choose-in _ (wider refl (decimal-kind-in i)) (wider refl (leaf-kind-in (plainLeaf c) i)))) (λ k j.
       wider refl (only-leaf-in k j)))
 
-  given-of-in : (k at : ℕ) → RefusesIn entryRefusals (givenOf k s at)
+  given-of-in : (k : EntryKind) (at : ℕ) → RefusesIn entryRefusals (givenOf k s at)
   unfolding givenOf initialEntry partitionEntry loadedEntry isIn all
-  given-of-in k at =
-      choose-in _
-      (next-in (default-type-in at) (λ l i. next-in (wider refl (value-in (leaf l) i)) (λ v j. in-ok)))
-      (choose-in _
-      (next-in (byte-in refl s at) (λ b i.
+  given-of-in Initial at = next-in (default-type-in at) (λ l i. next-in (wider refl (value-in (leaf l) i)) (λ v j. in-ok))
+  given-of-in Partition at =
+      next-in (byte-in refl s at) (λ b i.
       choose-in _
       (next-in (default-type-in i) (λ l j. next-in (u16-in refl s j) (λ n m. next-in (wider refl (times-in _ (value-in (leaf l)) n m)) (λ vs o. in-ok))))
-      (choose-in _ in-ok (in-refuse refl))))
-      (in-refuse refl))
+      (choose-in _ in-ok (in-refuse refl)))
+
+  entry-kind-in : (at : ℕ) → RefusesIn tableRefusals (entryKind s at)
+  unfolding entryKind isIn
+  entry-kind-in at = next-in (byte-in refl s at) (λ b i. choose-in _ in-ok (choose-in _ in-ok (in-refuse refl)))
 
   entry-in : (at : ℕ) → RefusesIn tableRefusals (entry s at)
   unfolding entry tableNumber choose isIn all
   entry-in at =
       next-in (u32-in refl s at) (λ i j.
-      next-in (byte-in refl s j) (λ k m.
+      next-in (entry-kind-in j) (λ k m.
       next-in (renumber-in tableNumber refl (given-of-in k m)) (λ g o. in-ok)))
 
-  entries-in : (n : ℕ) (earlier : List Entry) (at : ℕ) → RefusesIn tableRefusals (entries n earlier s at)
-  unfolding entries isIn
-  entries-in zero earlier at = in-ok
-  entries-in (suc n) earlier at = next-in (entry-in at) (λ e i. next-in (choose-in _ in-ok (in-refuse refl)) (λ u j. entries-in n (earlier ++ (e ∷ [])) j))
+  owner-in : (v : TableVersion) (at : ℕ) → RefusesIn tableRefusals (ownerOf v s at)
+  unfolding ownerOf isIn
+  owner-in Shared at = in-ok
+  owner-in ByOwner at = next-in (u16-in refl s at) (λ n i. in-ok)
+
+  entries-in : (v : TableVersion) (n : ℕ) (earlier : List OwnedEntry) (at : ℕ) → RefusesIn tableRefusals (entries v n earlier s at)
+  unfolding entries ownedEntry isIn
+  entries-in v zero earlier at = in-ok
+  entries-in v (suc n) earlier at =
+      next-in (next-in (owner-in v at) (λ o i. next-in (entry-in i) (λ e j. in-ok))) (λ e i.
+      next-in (choose-in _ in-ok (in-refuse refl)) (λ u j. entries-in v n (earlier ++ (e ∷ [])) j))
 
   pub table-in : RefusesIn tableRefusals (table s)
-  unfolding table tableFrom tableVersion isIn
+  unfolding table tableFrom countedTable tableVersion isIn
   table-in =
       next-in (sized-in 0) (λ u i.
-      next-in (choose-in _ in-ok (in-refuse refl)) (λ w j.
+      next-in (choose-in _ in-ok (choose-in _ in-ok (in-refuse refl))) (λ v j.
       next-in (u16-in refl s j) (λ n k.
-      next-in (entries-in n [] k) (λ es m.
+      next-in (entries-in v n [] k) (λ es m.
       next-in (ended-in m) (λ x o. in-ok)))))
 
   -- ---- a record, and a plan

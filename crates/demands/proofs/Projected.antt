@@ -27,7 +27,7 @@ use Rattle.plan.specs.Reach.{ReachesOverflow}
 use Rattle.plan.specs.Calls.{readAt, runPlan}
 use Rattle.plan.proofs.Results.{accepted-eq, both}
 use Rattle.plan.proofs.Theorems.{Runs}
-use Rattle.defaults.specs.Table.{Entry, table}
+use Rattle.defaults.specs.Table.{Entry, entriesOf, TableTree, table}
 use Rattle.defaults.specs.Lookup.{getDefaultValue}
 use Rattle.matching.specs.Default.{Defaults}
 use Rattle.matching.specs.Build.{build}
@@ -80,50 +80,50 @@ module _ {p : Policy} {d : Defaults} {incoming target bytes rec : Bytes} (B : Bu
         ok-eq (ap (λ (cs : Columns). recordOf (fieldsOf cs) out) (sym to-eq) ∙ G .reads)
         (output-reads (built-runs B (record-fits B or F) room) (sym (run-is B or F room) ∙ ran))
 
--- For every plan that `buildByNumber` writes, with the defaults table that was read, and every record that fits the
+-- For every plan that `buildByNumber` writes, with the owner's entries of the defaults table that was read, and every record that fits the
 -- incoming layout: where the run accepts, the record that it writes, read with the target's layout, is the reading of
 -- the row. (That it fits the target's layout is `run-passed`, Demands.antt.) Whether a null partition value is present
 -- and which fields default to `{}` or `[]` is free.
-module _ (p : Policy) (index : ℕ) (incoming target defaults rec : Bytes) (oi : AllBytes incoming) (ot : AllBytes target) (od : AllBytes defaults)
-    (or : AllBytes rec) (space : ℕ) {bytes : Bytes} (built : buildByNumber p index incoming target defaults space ≡ accepted bytes)
-    (es : List Entry) {e : ℕ} (read : table defaults ≡ ok es e) (F : FitsLayout incoming rec) (room : ℕ) {out : Bytes}
+module _ (p : Policy) (index owner : ℕ) (incoming target defaults rec : Bytes) (oi : AllBytes incoming) (ot : AllBytes target) (od : AllBytes defaults)
+    (or : AllBytes rec) (space : ℕ) {bytes : Bytes} (built : buildByNumber p index owner incoming target defaults space ≡ accepted bytes)
+    (t : TableTree) {e : ℕ} (read : table defaults ≡ ok t e) (F : FitsLayout incoming rec) (room : ℕ) {out : Bytes}
     (ran : runPlan incoming target bytes rec room ≡ accepted out) (G : FitsLayout target out) (nulls : Bool) (empties : FieldId → Bool) where
   -- (a) It reads by the specification's rules, but for the listed differences that the reading names,
-  pub by-number-reads : AllRead dueLeaf (stated nulls es index empties) outside (columnsOf G) (columnsOf F) (F .values) (G .values)
+  pub by-number-reads : AllRead dueLeaf (stated nulls (entriesOf owner (t .entries)) index empties) outside (columnsOf G) (columnsOf F) (F .values) (G .values)
   by-number-reads =
-      let N = by-number-built p index incoming target defaults space oi ot od built in
+      let N = by-number-built p index owner incoming target defaults space oi ot od built in
       let B = N .built in
-      let x : es ≡ N .entries = ok-eq read (N .tableRead) in
+      let x : t ≡ N .tree = ok-eq read (N .tableRead) in
       rw (x, to-eq B or F room ran G, from-eq B or F, output-is B or F room ran G)
-      (build-reads p nulls (N .entries) index empties (B .from) (B .to) (B .built) (record-fits B or F))
+      (build-reads p nulls (entriesOf owner (N .tree .entries)) index empties (B .from) (B .to) (B .built) (record-fits B or F))
 
   -- (b) where it names none, by the specification's alone,
   pub by-number-projects : by-number-reads .differences ≡ []
-      → ReadsAll dueLeaf (stated nulls es index empties) (columnsOf G) (columnsOf F) (F .values) (G .values)
-  by-number-projects e = all-specified dueLeaf (stated nulls es index empties) (by-number-reads .reads) e
+      → ReadsAll dueLeaf (stated nulls (entriesOf owner (t .entries)) index empties) (columnsOf G) (columnsOf F) (F .values) (G .values)
+  by-number-projects e = all-specified dueLeaf (stated nulls (entriesOf owner (t .entries)) index empties) (by-number-reads .reads) e
 
   distinct : DistinctIdsAll (columnsOf F)
-  distinct = incoming-distinct (by-number-built p index incoming target defaults space oi ot od built .built) or F
+  distinct = incoming-distinct (by-number-built p index owner incoming target defaults space oi ot od built .built) or F
 
   -- (c) and there is no other reading, with these or other differences;
   pub by-number-reads-only : {ds : Differences} {ys : Values}
-      → ReadsAll′ dueLeaf (stated nulls es index empties) outside ds (columnsOf G) (columnsOf F) (F .values) ys
+      → ReadsAll′ dueLeaf (stated nulls (entriesOf owner (t .entries)) index empties) outside ds (columnsOf G) (columnsOf F) (F .values) ys
       → (ds ≡ by-number-reads .differences) × (ys ≡ G .values)
-  by-number-reads-only r = all′-one dueLeaf (stated nulls es index empties) null-due distinct r (by-number-reads .reads)
+  by-number-reads-only r = all′-one dueLeaf (stated nulls (entriesOf owner (t .entries)) index empties) null-due distinct r (by-number-reads .reads)
 
   -- the specification has no other, either.
   pub by-number-projects-only : by-number-reads .differences ≡ [] → {ys : Values}
-      → ReadsAll dueLeaf (stated nulls es index empties) (columnsOf G) (columnsOf F) (F .values) ys → ys ≡ G .values
-  by-number-projects-only e r = all-one dueLeaf (stated nulls es index empties) null-due distinct r (by-number-projects e)
+      → ReadsAll dueLeaf (stated nulls (entriesOf owner (t .entries)) index empties) (columnsOf G) (columnsOf F) (F .values) ys → ys ≡ G .values
+  by-number-projects-only e r = all-one dueLeaf (stated nulls (entriesOf owner (t .entries)) index empties) null-due distinct r (by-number-projects e)
 
   -- Where the columns agree, no record meets a difference.
-  pub by-number-agrees : AgreesAll (stated nulls es index empties) outside (columnsOf G) (columnsOf F)
-      → ReadsAll dueLeaf (stated nulls es index empties) (columnsOf G) (columnsOf F) (F .values) (G .values)
-  by-number-agrees a = by-number-projects (all-none dueLeaf (stated nulls es index empties) (by-number-reads .reads) a distinct)
+  pub by-number-agrees : AgreesAll (stated nulls (entriesOf owner (t .entries)) index empties) outside (columnsOf G) (columnsOf F)
+      → ReadsAll dueLeaf (stated nulls (entriesOf owner (t .entries)) index empties) (columnsOf G) (columnsOf F) (F .values) (G .values)
+  by-number-agrees a = by-number-projects (all-none dueLeaf (stated nulls (entriesOf owner (t .entries)) index empties) (by-number-reads .reads) a distinct)
 
 -- Where the layouts and the table are read and the build is refused, other than for the plan's length (27), it is for a
 -- listed reason.
-module _ (p : Policy) (index : ℕ) (incoming target defaults : Bytes) (space : ℕ) where
+module _ (p : Policy) (index owner : ℕ) (incoming target defaults : Bytes) (space : ℕ) where
   long-or-listed : {es : List Entry} {Γ Δ : Columns} {n j : ℕ}
       → answered (build ByNumber p (getDefaultValue es index) Γ Δ) (λ ss. writtenPlan space ss) ≡ refusedAt n j
       → (n ≡ 27) ⊎ RefusesBuild p es n Δ Γ
@@ -139,8 +139,9 @@ module _ (p : Policy) (index : ℕ) (incoming target defaults : Bytes) (space : 
       go (accepted ss) h e = inl (long (roomFor space (encodePlan ss)) ss e)
       go (refusedAt m k) h e = inr (rw (← number-eq e) (build-refused p es index Γ Δ h))
 
-  pub by-number-refused : {es : List Entry} {Γ Δ : Columns} {a b e n j : ℕ} → layout incoming ≡ ok (record { version = ByNumber; columns = Γ }) a
-      → layout target ≡ ok (record { version = ByNumber; columns = Δ }) b → table defaults ≡ ok es e
-      → buildByNumber p index incoming target defaults space ≡ refusedAt n j → (n ≡ 27) ⊎ RefusesBuild p es n Δ Γ
+  pub by-number-refused : {t : TableTree} {Γ Δ : Columns} {a b e n j : ℕ} → layout incoming ≡ ok (record { version = ByNumber; columns = Γ }) a
+      → layout target ≡ ok (record { version = ByNumber; columns = Δ }) b → table defaults ≡ ok t e
+      → buildByNumber p index owner incoming target defaults space ≡ refusedAt n j
+      → (n ≡ 27) ⊎ RefusesBuild p (entriesOf owner (t .entries)) n Δ Γ
   unfolding buildByNumber bothLayouts ofVersion readAt placed demand
   by-number-refused x y z e = long-or-listed (rw (x, y, z) at e)

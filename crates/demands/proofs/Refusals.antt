@@ -24,6 +24,7 @@ use Rattle.plan.proofs.Results.{both, true≠false}
 use Rattle.plan.proofs.ReadBack.{plan-back}
 use Rattle.forms.proofs.Heads.{count-fields}
 use Rattle.matching.proofs.Limits.{layout-limits}
+use Rattle.defaults.specs.Table.{entriesOf}
 use Rattle.defaults.specs.Lookup.{getDefaultValue}
 use Rattle.matching.specs.Default.{Defaults, noDefaults}
 use Rattle.matching.specs.Build.{build}
@@ -227,14 +228,15 @@ by-name-in p incoming target space =
     build-layouts-in ByName p incoming target [] space _ (λ a b i j r q.
     columns-in ByName p incoming target [] space noDefaults (none-in (columnRefusals ByName)) r q)
 
-pub by-number-in : (p : Policy) (index : ℕ) (incoming target defaults : Bytes) (space : ℕ)
+pub by-number-in : (p : Policy) (index owner : ℕ) (incoming target defaults : Bytes) (space : ℕ)
     → Answers (λ b. length b ≤ longestPlan) (Refusal (building ByNumber) (layoutsRead incoming target (tableRead defaults)) (columnCount incoming) (columnCount target))
-    (buildByNumber p index incoming target defaults space)
+    (buildByNumber p index owner incoming target defaults space)
 unfolding buildByNumber
-by-number-in p index incoming target defaults space =
+by-number-in p index owner incoming target defaults space =
     let more = tableRead defaults in
     build-layouts-in ByNumber p incoming target more space _ (λ a b i j r q.
-    thing-in 3 [] (table-in defaults) table-as (λ n f. past 1 (refusalIn (layout target) ∷ more) n 3 r (past 2 more n 3 q f)) (λ es m t.
+    thing-in 3 [] (table-in defaults) table-as (λ n f. past 1 (refusalIn (layout target) ∷ more) n 3 r (past 2 more n 3 q f)) (λ x m t.
+    let es = entriesOf owner (x .entries) in
     columns-in ByNumber p incoming target more space (getDefaultValue es index) (lookup-in es index) r q))
 
 -- ---- the check and the run

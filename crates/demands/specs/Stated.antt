@@ -2,7 +2,7 @@
 use Prim.Native.Nat.{ℕ}
 use mathlib.Core.Path.{_≡_}
 use mathlib.Core.Bool.{true, false}
-use mathlib.Core.List.{List}
+use mathlib.Core.List.{List, [], _∷_}
 use mathlib.Core.Logic.{_↔_, _⊎_}
 use Rattle.layout.specs.Bytes.{Bytes}
 use Rattle.layout.specs.Parser.{ok}
@@ -22,7 +22,7 @@ use Rattle.plan.specs.Read.{plan}
 use Rattle.plan.specs.Run.{evals, spacious}
 use Rattle.plan.specs.Reach.{ReachesOverflow}
 use Rattle.plan.specs.Calls.{runPlan}
-use Rattle.defaults.specs.Table.{Entry, table}
+use Rattle.defaults.specs.Table.{Entry, OwnedEntry, entriesOf, TableTree, table}
 use Rattle.defaults.specs.Lookup.{getDefaultValue}
 use Rattle.matching.specs.Default.{Defaults}
 use Rattle.matching.specs.Build.{build}
@@ -89,12 +89,12 @@ pub record PlanTooLong (v : Version) (p : Policy) (d : Defaults) (incoming targe
   pub defined : Defined v p d incoming target
   pub long : roomFor space (encodePlan (defined .selectors)) ≡ false
 
--- by number, with the table that was read
-pub record NumberTooLong (p : Policy) (index : ℕ) (incoming target defaults : Bytes) (space : ℕ) : Type 0 where
-  pub entries : List Entry
+-- by number, with the owner's entries of the table that was read
+pub record NumberTooLong (p : Policy) (index owner : ℕ) (incoming target defaults : Bytes) (space : ℕ) : Type 0 where
+  pub tree : TableTree
   pub end : ℕ
-  pub reads : table defaults ≡ ok entries end
-  pub plan : PlanTooLong ByNumber p (getDefaultValue entries index) incoming target space
+  pub reads : table defaults ≡ ok tree end
+  pub plan : PlanTooLong ByNumber p (getDefaultValue (entriesOf owner (tree .entries)) index) incoming target space
 
 -- ---- an extra column (document 02, L3)
 
@@ -111,7 +111,24 @@ pub record ExtraColumn (v : Version) (p : Policy) (incoming target : Bytes) (k :
 
 -- by number, with the table that was read
 pub record NumberExtraColumn (p : Policy) (incoming target defaults : Bytes) (k : ℕ) : Type 0 where
-  pub entries : List Entry
+  pub tree : TableTree
   pub end : ℕ
-  pub reads : table defaults ≡ ok entries end
+  pub reads : table defaults ≡ ok tree end
   pub column : ExtraColumn ByNumber p incoming target k
+
+-- ---- document 02, L7: two tables and one owner
+
+-- "two accepted tables, of either version, that have the same entries of one owner (owner bytes aside) in the same order"
+pub record SameEntries (owner : ℕ) (left right : Bytes) : Type 0 where
+  pub tree : TableTree
+  pub end : ℕ
+  pub reads : table left ≡ ok tree end
+  pub other : TableTree
+  pub otherEnd : ℕ
+  pub otherReads : table right ≡ ok other otherEnd
+  pub same : entriesOf owner (tree .entries) ≡ entriesOf owner (other .entries)
+
+-- a table's entries, owners aside
+unfoldable pub bare : List OwnedEntry → List Entry
+bare [] = []
+bare (e ∷ es) = e .entry ∷ bare es

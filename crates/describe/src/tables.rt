@@ -1,9 +1,12 @@
-// A table of defaults, one entry to a line.
+// A table of defaults, one entry to a line; in version 2 its owner comes first.
 use crate::columns::put_start;
 use crate::records::put_value;
 use crate::types::put_type;
+use defaults::read::EntryKind;
 use defaults::read::EntryRead;
+use defaults::read::Owner;
 use defaults::read::TableRead;
+use defaults::read::TableVersion;
 use defaults::read::read_entry;
 use defaults::read::read_table;
 use defaults::types::LeafRead;
@@ -70,14 +73,21 @@ fn put_partition(s: &[u8], c: Cursor) {
     }
 }
 
-fn put_entry(s: &[u8], id: FieldId, kind: u8, c: Cursor) {
+fn put_owner(owner: Owner) {
+    if let Owner::Only(n) = owner {
+        put(b"owner ");
+        put_number(n as u64);
+        put(b"  ");
+    }
+}
+
+fn put_entry(s: &[u8], id: FieldId, kind: EntryKind, c: Cursor) {
     put(b"id ");
     put_number(id.0 as u64);
     put(b"  ");
-    if kind == 0 {
-        put_initial(s, c);
-    } else {
-        put_partition(s, c);
+    match kind {
+        EntryKind::Initial => put_initial(s, c),
+        EntryKind::Partition => put_partition(s, c),
     }
 }
 
@@ -92,14 +102,15 @@ fn put_heading(n: u16) {
 }
 
 // `n` entries from `c`.
-fn put_entries(s: &[u8], n: u16, c: Cursor) {
+fn put_entries(s: &[u8], version: TableVersion, n: u16, c: Cursor) {
     let mut at = c.at;
     let mut i: u16 = 0;
     while i < n {
         let d = Cursor { at };
-        let EntryRead::Is(id, kind, given, end) = read_entry(s, d) else {
+        let EntryRead::Is(owner, id, kind, given, end) = read_entry(s, version, d) else {
             return;
         };
+        put_owner(owner);
         put_entry(s, id, kind, given);
         at = end.at;
         i += 1;
@@ -108,9 +119,13 @@ fn put_entries(s: &[u8], n: u16, c: Cursor) {
 
 pub fn put_table(s: &[u8]) {
     match read_table(s) {
-        TableRead::Read { count, entries } => {
+        TableRead::Read {
+            version,
+            count,
+            entries,
+        } => {
             put_heading(count);
-            put_entries(s, count, entries);
+            put_entries(s, version, count, entries);
         }
         TableRead::Refused(k) => put_table_refusal(k),
     }

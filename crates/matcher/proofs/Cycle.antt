@@ -23,7 +23,8 @@ use Rattle.forms.specs.Form.{u16Bytes, textBytes}
 use Rattle.forms.proofs.Read.{type→, columns→}
 use Rattle.forms.proofs.ReadBack.{columns-extent}
 use Rattle.rules.specs.declared.policy.Policy.{Policy}
-use Rattle.defaults.specs.Table.{entries}
+use Rattle.defaults.specs.declared.read.TableVersion.the-variants.{Shared}
+use Rattle.defaults.specs.Table.{entriesOf, entries}
 use Rattle.defaults.specs.Lookup.{nothing, firstEntry, getDefaultValue}
 use Rattle.defaults.specs.Stands.{TableAt}
 use Rattle.plan.specs.Result.{Result, gives, refuses, _>>=_, demand}
@@ -214,9 +215,9 @@ module _ (v : Version) (p : Policy) (d : Defaults) (l : Label) (u : ColumnType) 
 -- ---- an element
 
 -- with no entries there are no defaults
-pub none-at : (table : Bytes) → TableAt table 0 0
-unfolding entries
-none-at table = record { entries = []; end = 0; reads = refl }
+pub none-at : (table : Bytes) → TableAt table (record { version = Shared; count = 0; entries = record { at = 0 }; owner = 0; «source_index» = 0 })
+unfolding entries entriesOf
+none-at table = record { all = []; end = 0; reads = refl; entries = []; owned = refl }
 
 pub none-is : (table : Bytes) (n : ℕ) → getDefaultValue (none-at table .entries) n ≡ noDefaults
 unfolding getDefaultValue firstEntry none-at

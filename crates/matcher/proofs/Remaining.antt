@@ -34,7 +34,7 @@ use Rattle.builder.specs.declared.answer.Made.{Made}
 use Rattle.builder.specs.declared.answer.Made.the-variants.{Refused, Bare, Built}
 use Rattle.builder.specs.declared.answer.Row.{Row}
 use Rattle.builder.specs.declared.answer.Row.the-variants.{Failed, Done}
-use Rattle.builder.specs.declared.default.DefaultFieldValues.{DefaultFieldValues}
+use Rattle.defaults.specs.declared.lookup.DefaultFieldValues.{DefaultFieldValues}
 use Rattle.builder.proofs.Rows.{before, makes-room, row-stop, row-more, row-wrote-stopped, row-wrote}
 
 -- ---- answers one behind the other

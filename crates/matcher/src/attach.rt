@@ -28,7 +28,6 @@ use builder::conditions::needs_rename;
 use builder::conditions::put_null_cast;
 use builder::conditions::same_element;
 use builder::conditions::struct_fault;
-use builder::default::DefaultFieldValues;
 use builder::default::put_missing;
 use builder::leaf::attach_leaf;
 use builder::parts::ElementPart;
@@ -41,6 +40,8 @@ use builder::parts::struct_part;
 use builder::write::put_head;
 use builder::write::put_position;
 use builder::write::put_short;
+use defaults::lookup::DefaultFieldValues;
+use defaults::read::TableVersion;
 use forms::write::write_text;
 use labels::TABLE_SIZE;
 use labels::fill;
@@ -73,7 +74,7 @@ pub fn attach_transforms(
     tables: u8,
 ) -> Made
     requires { ⌜ TypeAt v depth (now incoming) (c .at) × TypeAt v depth (now target) (b .at) ⌝ }
-    requires { ⌜ TableAt (now table) (defaults .count) (defaults .entries .at) ⌝ }
+    requires { ⌜ TableAt (now table) defaults ⌝ }
     requires { ⌜ (length (now target) ≤ 16384) × (length (now table) ≤ 16384) × (k ≤ 65536 * b .at + 1) ⌝ }
     ensures { λ r. ⌜ Attached policy v depth (now (table .entry)) defaults (now (incoming .entry)) (c .at) (now (target .entry)) (b .at) position (now (out .entry)) k r (now (out .exit)) ⌝ }
 {
@@ -157,7 +158,7 @@ fn attach_nested(
     tables: u8,
 ) -> Made
     requires { ⌜ TypeAt v depth (now incoming) (c .at) × TypeAt v depth (now target) (b .at) ⌝ }
-    requires { ⌜ TableAt (now table) (defaults .count) (defaults .entries .at) ⌝ }
+    requires { ⌜ TableAt (now table) defaults ⌝ }
     requires { ⌜ (length (now target) ≤ 16384) × (length (now table) ≤ 16384) × (k ≤ 65536 * b .at + 1) ⌝ }
     ensures { λ r. ⌜ ((T : DefaultsAt (now (table .entry)) defaults) (P : TypeAt v depth (now (incoming .entry)) (c .at)) (Q : TypeAt v depth (now (target .entry)) (b .at)) → Makes (b .at) (Q .end) (now (out .entry)) k (unlessNullType v policy position (Q .tree) (P .tree) (attachNested v policy (defaultsAt defaults T) (Q .tree) position (P .tree))) r (now (out .exit))) ⌝ }
 {
@@ -216,7 +217,7 @@ fn attach_struct(
     tables: u8,
 ) -> Made
     requires { ⌜ TypeAt v depth (now incoming) (c .at) × ColumnsAt v (depth - 1) (now target) m (b .at) ⌝ }
-    requires { ⌜ TableAt (now table) (defaults .count) (defaults .entries .at) ⌝ }
+    requires { ⌜ TableAt (now table) defaults ⌝ }
     requires { ⌜ (length (now target) ≤ 16384) × (length (now table) ≤ 16384) × (b .at ≤ length (now target)) × (k + 6 ≤ 65536 * b .at) ⌝ }
     ensures { λ r. ⌜ ((from : ℕ) (T : DefaultsAt (now (table .entry)) defaults) (P : TypeAt v depth (now (incoming .entry)) (c .at)) (Q : ColumnsAt v (depth - 1) (now (target .entry)) m (b .at)) → from < b .at → Makes from (Q .end) (now (out .entry)) k (attachStruct v policy (defaultsAt defaults T) (Q .columns) position (P .tree)) r (now (out .exit))) ⌝ }
 {
@@ -275,7 +276,7 @@ fn attach_row(
     tables: u8,
 ) -> Row
     requires { ⌜ ColumnsAt v depth (now incoming) n (c .at) × ColumnsAt v depth (now target) m (b .at) ⌝ }
-    requires { ⌜ TableAt (now table) (defaults .count) (defaults .entries .at) ⌝ }
+    requires { ⌜ TableAt (now table) defaults ⌝ }
     requires { ⌜ (length (now target) ≤ 16384) × (length (now table) ≤ 16384) × (k ≤ 65536 * b .at) ⌝ }
     ensures { λ r. ⌜ AttachedFields policy v depth (now (table .entry)) defaults (now (incoming .entry)) n (c .at) (now (target .entry)) m (b .at) (now (out .entry)) k r (now (out .exit)) ⌝ }
 {
@@ -367,7 +368,7 @@ fn attach_few(
     tables: u8,
 ) -> Row
     requires { ⌜ ColumnsAt v depth (now incoming) n (c .at) × ColumnsAt v depth (now target) m (b .at) ⌝ }
-    requires { ⌜ TableAt (now table) (defaults .count) (defaults .entries .at) ⌝ }
+    requires { ⌜ TableAt (now table) defaults ⌝ }
     requires { ⌜ (length (now target) ≤ 16384) × (length (now table) ≤ 16384) × (k ≤ 65536 * b .at) ⌝ }
     ensures { λ r. ⌜ AttachedFields policy v depth (now (table .entry)) defaults (now (incoming .entry)) n (c .at) (now (target .entry)) m (b .at) (now (out .entry)) k r (now (out .exit)) ⌝ }
 {
@@ -412,7 +413,7 @@ fn attach_many(
     tables: u8,
 ) -> Row
     requires { ⌜ ColumnsAt v depth (now incoming) n (c .at) × ColumnsAt v depth (now target) m (b .at) ⌝ }
-    requires { ⌜ TableAt (now table) (defaults .count) (defaults .entries .at) ⌝ }
+    requires { ⌜ TableAt (now table) defaults ⌝ }
     requires { ⌜ (length (now target) ≤ 16384) × (length (now table) ≤ 16384) × (k ≤ 65536 * b .at) ⌝ }
     ensures { λ r. ⌜ AttachedFields policy v depth (now (table .entry)) defaults (now (incoming .entry)) n (c .at) (now (target .entry)) m (b .at) (now (out .entry)) k r (now (out .exit)) ⌝ }
 {
@@ -478,7 +479,7 @@ fn attach_fields(
     tables: u8,
 ) -> Row
     requires { ⌜ ColumnsAt v depth (now incoming) n (c .at) × ColumnsAt v depth (now target) m (b .at) ⌝ }
-    requires { ⌜ TableAt (now table) (defaults .count) (defaults .entries .at) ⌝ }
+    requires { ⌜ TableAt (now table) defaults ⌝ }
     requires { ⌜ (length (now target) ≤ 16384) × (length (now table) ≤ 16384) × (k ≤ 65536 * b .at) ⌝ }
     requires { ⌜ (whole ≡ true → Table v depth (now incoming) n (c .at) (now starts) (now positions)) ⌝ }
     ensures { λ r. ⌜ AttachedFields policy v depth (now (table .entry)) defaults (now (incoming .entry)) n (c .at) (now (target .entry)) m (b .at) (now (out .entry)) k r (now (out .exit)) ⌝ }
@@ -557,7 +558,7 @@ pub fn attach_field(
     tables: u8,
 ) -> Made
     requires { ⌜ ((fs : Columns) × Finds v depth (now incoming) (counterpart v (labelAt (now target) l) fs) found) × TypeAt v depth (now target) (b .at) ⌝ }
-    requires { ⌜ TableAt (now table) (defaults .count) (defaults .entries .at) ⌝ }
+    requires { ⌜ TableAt (now table) defaults ⌝ }
     requires { ⌜ spanIn (now target) (l .name) × (l .name .len ≤ 63) ⌝ }
     requires { ⌜ (length (now target) ≤ 16384) × (length (now table) ≤ 16384) × (k ≤ 65536 * b .at) ⌝ }
     ensures { λ r. ⌜ ((from : ℕ) (T : DefaultsAt (now (table .entry)) defaults) (fs : Columns) (Q : TypeAt v depth (now (target .entry)) (b .at)) → Finds v depth (now (incoming .entry)) (counterpart v (labelAt (now (target .entry)) l) fs) found → from < b .at → Makes from (Q .end) (now (out .entry)) k (attachField v policy (defaultsAt defaults T) insert number (labelAt (now (target .entry)) l) (Q .tree) fs) r (now (out .exit))) ⌝ }
@@ -615,7 +616,7 @@ fn attach_renamed(
     tables: u8,
 ) -> Made
     requires { ⌜ TypeAt v depth (now incoming) (c .at) × TypeAt v depth (now target) (b .at) ⌝ }
-    requires { ⌜ TableAt (now table) (defaults .count) (defaults .entries .at) ⌝ }
+    requires { ⌜ TableAt (now table) defaults ⌝ }
     requires { ⌜ spanIn (now incoming) (m .name) × spanIn (now target) (l .name) × (l .name .len ≤ 63) ⌝ }
     requires { ⌜ (length (now target) ≤ 16384) × (length (now table) ≤ 16384) × (k ≤ 65536 * b .at) ⌝ }
     ensures { λ r. ⌜ ((from : ℕ) (T : DefaultsAt (now (table .entry)) defaults) (P : TypeAt v depth (now (incoming .entry)) (c .at)) (Q : TypeAt v depth (now (target .entry)) (b .at)) → from ≤ b .at → (needsRename v (labelAt (now (target .entry)) l) (labelAt (now (incoming .entry)) m) ≡ true → from < b .at) → Makes from (Q .end) (now (out .entry)) k (attachRenamed v policy (defaultsAt defaults T) (labelAt (now (target .entry)) l) (Q .tree) position (labelAt (now (incoming .entry)) m) (P .tree)) r (now (out .exit))) ⌝ }
@@ -692,8 +693,10 @@ fn attach_element(
     }
     put_head(out, k, code, position);
     let none = DefaultFieldValues {
+        version: TableVersion::Shared,
         count: 0,
         entries: Cursor { at: 0 },
+        owner: 0,
         source_index: 0,
     };
     let made = attach_renamed(

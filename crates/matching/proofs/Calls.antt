@@ -2,7 +2,6 @@
 use Prim.Native.Nat.{ℕ, _≤_}
 use mathlib.Core.Path.{_≡_, refl, sym, ap, _∙_}
 use mathlib.Core.Bool.{true}
-use mathlib.Core.List.{List}
 use lib.ListN.{length}
 use lib.Dec.{leb}
 use borrow.Author.Tests.{leb-true}
@@ -27,7 +26,7 @@ use Rattle.plan.specs.Run.{evals, spacious, run}
 use Rattle.plan.specs.Reach.{ReachesOverflow}
 use Rattle.plan.specs.Formed.{FormedAll}
 use Rattle.plan.proofs.Results.{both, accepted-eq, gives-eq, demand-gives, placed-accepted, answered-accepted}
-use Rattle.defaults.specs.Table.{Entry, table}
+use Rattle.defaults.specs.Table.{entriesOf, TableTree, table}
 use Rattle.defaults.specs.Lookup.{getDefaultValue}
 use Rattle.plan.proofs.Theorems.{Runs, plan-runs}
 use Rattle.matching.specs.Default.{Defaults, noDefaults}
@@ -126,24 +125,25 @@ by-name-built p incoming target room oi ot e =
     let B = both-read ByName incoming target _ e in
     built-of ByName p noDefaults incoming target room oi ot good-none (B .incomingRead) (B .targetRead) (B .next)
 
--- the table that was read, and what was built with it
-pub record BuiltByNumber (p : Policy) (index : ℕ) (incoming target defaults bytes : Bytes) : Type 0 where
-  pub entries : List Entry
+-- the table that was read, and what was built with its entries of an owner
+pub record BuiltByNumber (p : Policy) (index owner : ℕ) (incoming target defaults bytes : Bytes) : Type 0 where
+  pub tree : TableTree
   pub end : ℕ
-  pub tableRead : table defaults ≡ ok entries end
-  pub built : Built ByNumber p (getDefaultValue entries index) incoming target bytes
+  pub tableRead : table defaults ≡ ok tree end
+  pub built : Built ByNumber p (getDefaultValue (entriesOf owner (tree .entries)) index) incoming target bytes
 
-pub by-number-built : (p : Policy) (index : ℕ) (incoming target defaults : Bytes) (room : ℕ) {b : Bytes} → AllBytes incoming → AllBytes target → AllBytes defaults → buildByNumber p index incoming target defaults room ≡ accepted b
-    → BuiltByNumber p index incoming target defaults b
+pub by-number-built : (p : Policy) (index owner : ℕ) (incoming target defaults : Bytes) (room : ℕ) {b : Bytes} → AllBytes incoming → AllBytes target
+    → AllBytes defaults → buildByNumber p index owner incoming target defaults room ≡ accepted b → BuiltByNumber p index owner incoming target defaults b
 unfolding buildByNumber
-by-number-built p index incoming target defaults room oi ot od e =
+by-number-built p index owner incoming target defaults room oi ot od e =
     let B = both-read ByNumber incoming target _ e in
-    let (es, m, q, e) = read-at 3 (table defaults) _ (B .next) in
+    let (t, m, q, e) = read-at 3 (table defaults) _ (B .next) in
     record {
-      entries = es;
+      tree = t;
       end = m;
       tableRead = q;
-      built = built-of ByNumber p (getDefaultValue es index) incoming target room oi ot (table-good defaults od index q) (B .incomingRead) (B .targetRead) e;
+      built = built-of ByNumber p (getDefaultValue (entriesOf owner (t .entries)) index) incoming target room oi ot (table-good defaults od index owner q)
+          (B .incomingRead) (B .targetRead) e;
     }
 
 -- ---- the run of a plan that was built, between its own two layouts

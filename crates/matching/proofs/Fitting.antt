@@ -18,7 +18,11 @@ use Rattle.values.proofs.Round.{value-fits}
 use Rattle.plan.specs.Result.{gives}
 use Rattle.plan.proofs.Results.{never-refused, gives-eq, bind-gives, demand-gives}
 use Rattle.values.proofs.Inside.{renumber-ok}
-use Rattle.defaults.specs.Table.{Given, initial, partition, failed, Entry, repeatsAnyEntry, initialEntry, loadedEntry, partitionEntry, givenOf, tableNumber, entry, entries, tableFrom, table}
+use Rattle.defaults.specs.Table.{Given, initial, partition, failed, Entry, OwnedEntry, countsFor, entriesOf, repeatsAnyEntry, initialEntry, loadedEntry}
+use Rattle.defaults.specs.Table.{partitionEntry, givenOf, tableNumber, entry, ownedEntry, entries, TableTree, countedTable, tableFrom, table}
+use Rattle.defaults.specs.declared.read.EntryKind.{EntryKind}
+use Rattle.defaults.specs.declared.read.EntryKind.the-variants.{Initial, Partition}
+use Rattle.defaults.specs.declared.read.TableVersion.{TableVersion}
 use Rattle.defaults.specs.Lookup.{Taken, refused, nothing, taken, isNullValue, unlessNull, ofSource, givenTo, isPartitionOf, isInitialOf, firstEntry, getDefaultValue}
 use Rattle.matching.specs.Default.{Defaults, noDefaults, Default, none, some, orNull, leafDefault, FieldDefaults, structDefault, withField, buildIcebergDefaultValue, defaultsOf, missingValue}
 use Rattle.matching.proofs.Entries.{Match, unmatched, matched, matchOf, ofMatch, first-match}
@@ -134,9 +138,23 @@ entries-good es k g =
 ok-same : {A : Type 0} (P : A → Type 0) {a b : A} {m n : ℕ} → ok a m ≡ ok b n → P a → P b
 ok-same P {a} {b} e p = let q : a ≡ b = cc in rw (← q) p
 
-entries-end : (x : Entry) {es : List Entry} → EntriesFit es → GivenFits (x .given) → EntriesFit (es ++ (x ∷ []))
-entries-end x e-nil g = e-cons g e-nil
-entries-end x (e-cons h hs) g = e-cons h (entries-end x hs g)
+-- the same with owners
+data OwnedFit : List OwnedEntry → Type 0 where
+  o-nil : OwnedFit []
+  o-cons : {x : OwnedEntry} {es : List OwnedEntry} → GivenFits (x .entry .given) → OwnedFit es → OwnedFit (x ∷ es)
+
+owned-end : (x : OwnedEntry) {es : List OwnedEntry} → OwnedFit es → GivenFits (x .entry .given) → OwnedFit (es ++ (x ∷ []))
+owned-end x o-nil g = o-cons g o-nil
+owned-end x (o-cons h hs) g = o-cons h (owned-end x hs g)
+
+own-fit : (n : ℕ) {es : List OwnedEntry} → OwnedFit es → EntriesFit (entriesOf n es)
+unfolding entriesOf choose
+own-fit n o-nil = e-nil
+own-fit n (o-cons {x} {es} h hs) = go (countsFor n (x .owner)) (own-fit n hs)
+  where
+    go : (b : Bool) → EntriesFit (entriesOf n es) → EntriesFit (choose b (x .entry ∷ entriesOf n es) (entriesOf n es))
+    go true ih = e-cons h ih
+    go false ih = ih
 
 module _ (s : Bytes) (o : AllBytes s) where
   times-fit : (t : DataType) (n at : ℕ) {xs : Values} {m : ℕ} → times n (value t) s at ≡ ok xs m → FitsEach t xs
@@ -175,29 +193,42 @@ module _ (s : Bytes) (o : AllBytes s) where
       let (b, i, p, e) = next-ok _ _ e in
       either (eqb b 0) (eqb b 1) (loadedEntry s i) (ok failed i) e (λ e. loaded-fits i e) (λ e. ok-same GivenFits e g-failed)
 
+  given-of-fits : (k : EntryKind) (at : ℕ) {g : Given} {m : ℕ} → givenOf k s at ≡ ok g m → GivenFits g
+  unfolding givenOf
+  given-of-fits Initial at e = initial-fits at e
+  given-of-fits Partition at e = partition-fits at e
+
   entry-fits : (at : ℕ) {x : Entry} {m : ℕ} → entry s at ≡ ok x m → GivenFits (x .given)
-  unfolding entry givenOf
+  unfolding entry
   entry-fits at e =
       let (i, a, p, e) = next-ok _ _ e in
       let (k, b, q, e) = next-ok _ _ e in
       let (g, c, r, e) = next-ok _ _ e in
       let r = renumber-ok tableNumber (givenOf k s b) r in
-      ok-same (λ (x : Entry). GivenFits (x .given)) e (either (eqb k 0) (eqb k 1) (initialEntry s b) (partitionEntry s b) r (λ e. initial-fits b e) (λ e. partition-fits b e))
+      ok-same (λ (x : Entry). GivenFits (x .given)) e (given-of-fits k b r)
 
-  entries-fit : (n : ℕ) (earlier : List Entry) (at : ℕ) {es : List Entry} {m : ℕ} → EntriesFit earlier → entries n earlier s at ≡ ok es m → EntriesFit es
+  owned-fits : (v : TableVersion) (at : ℕ) {x : OwnedEntry} {m : ℕ} → ownedEntry v s at ≡ ok x m → GivenFits (x .entry .given)
+  unfolding ownedEntry
+  owned-fits v at e =
+      let (o, i, p, e) = next-ok _ _ e in
+      let (x, j, q, e) = next-ok _ _ e in
+      ok-same (λ (x : OwnedEntry). GivenFits (x .entry .given)) e (entry-fits i q)
+
+  entries-fit : (v : TableVersion) (n : ℕ) (earlier : List OwnedEntry) (at : ℕ) {es : List OwnedEntry} {m : ℕ} → OwnedFit earlier
+      → entries v n earlier s at ≡ ok es m → OwnedFit es
   unfolding entries
-  entries-fit zero earlier at h e = ok-same EntriesFit e h
-  entries-fit (suc n) earlier at h e =
+  entries-fit v zero earlier at h e = ok-same OwnedFit e h
+  entries-fit v (suc n) earlier at h e =
       let (x, i, p, e) = next-ok _ _ e in
       let (u, j, q, e) = next-ok (test (not (repeatsAnyEntry x earlier)) 5 s i) _ e in
-      entries-fit n (earlier ++ (x ∷ [])) j (entries-end x h (entry-fits at p)) e
+      entries-fit v n (earlier ++ (x ∷ [])) j (owned-end x h (owned-fits v at p)) e
 
-  pub table-good : {es : List Entry} {m : ℕ} (k : ℕ) → table s ≡ ok es m → Good (getDefaultValue es k)
-  unfolding table tableFrom
-  table-good {es} k e =
+  pub table-good : {t : TableTree} {m : ℕ} (k owner : ℕ) → table s ≡ ok t m → Good (getDefaultValue (entriesOf owner (t .entries)) k)
+  unfolding table tableFrom countedTable
+  table-good {t} k owner e =
       let (u, i, p, e) = next-ok _ _ e in
-      let (u, j, p, e) = next-ok _ _ e in
+      let (v, j, p, e) = next-ok _ _ e in
       let (n, a, p, e) = next-ok _ _ e in
       let (xs, b, q, e) = next-ok _ _ e in
       let (u, c, p, e) = next-ok _ _ e in
-      entries-good es k (ok-same EntriesFit e (entries-fit n [] a e-nil q))
+      entries-good (entriesOf owner (t .entries)) k (own-fit owner (ok-same (λ (t : TableTree). OwnedFit (t .entries)) e (entries-fit v n [] a o-nil q)))

@@ -17,10 +17,10 @@ use Rattle.rules.specs.Allows.{_⇒_, Allows}
 use Rattle.rules.proofs.Loosen.{Keeps, or-implies, rule-loosened}
 use Rattle.plan.specs.Result.{Result}
 use Rattle.plan.specs.Selector.{Selector}
-use Rattle.plan.proofs.Kept.{Kept, KeptAnswer, same, refusing, by-bind, by-test, by-demand, by-choice, same-answer, by-place, by-answer}
+use Rattle.plan.proofs.Kept.{Kept, KeptAnswer, same, refusing, by-bind, by-test, by-demand, by-choice, same-answer, passing, by-place, by-answer}
 use Rattle.matching.specs.Default.{Defaults, noDefaults}
-use Rattle.matching.specs.Build.{isNullType, isByName, unlessNullType, sameElement, distinct, noExtra, ignores, inserts, missing, ruled, first, sought}
-use Rattle.matching.specs.Build.{attachTransforms, attachFields, buildColumnSelector, buildFrom, extraColumns, build}
+use Rattle.matching.specs.Build.{isNullType, isByName, unlessNullType, sameElement, distinct, noExtra, ignores, inserts, missing, ruled, first, sought, extraColumnErr, extraColumns}
+use Rattle.matching.specs.Build.{attachTransforms, attachFields, buildColumnSelector, buildFrom, build}
 
 -- a lookup
 by-sought : (l : Lookup) {x y : Result Selector} (f g : Position → Label → ColumnType → Result Selector) → Kept x y
@@ -46,13 +46,12 @@ still-ignores : (a b : ExtraColumnsPolicy) → (a ≡ Ignore → b ≡ Ignore) �
 still-ignores ExtraColumnsPolicy.Ignore b h e = rw (h refl)
 still-ignores ExtraColumnsPolicy.Raise b h e = clash (cc)
 
--- Ignore finds no column extra
-extra-kept : (v : Version) (fs gs : Columns) (a b : ExtraColumnsPolicy) → (a ≡ Ignore → b ≡ Ignore)
-    → KeptAnswer (extraColumns a v fs gs) (extraColumns b v fs gs)
+-- 53
+extra-kept : (a b : ExtraColumnsPolicy) (v : Version) (fs gs : Columns) → (a ≡ Ignore → b ≡ Ignore) → KeptAnswer (extraColumns a v fs gs) (extraColumns b v fs gs)
 unfolding extraColumns
-extra-kept v fs gs ExtraColumnsPolicy.Ignore b h = rw (h refl) (same-answer _)
-extra-kept v fs gs ExtraColumnsPolicy.Raise ExtraColumnsPolicy.Ignore h = record { kept = λ x e. refl }
-extra-kept v fs gs ExtraColumnsPolicy.Raise ExtraColumnsPolicy.Raise h = same-answer _
+extra-kept ExtraColumnsPolicy.Ignore b v fs gs h = rw (h refl) (same-answer _)
+extra-kept ExtraColumnsPolicy.Raise ExtraColumnsPolicy.Ignore v fs gs h = passing (extraColumnErr v fs gs 0)
+extra-kept ExtraColumnsPolicy.Raise ExtraColumnsPolicy.Raise v fs gs h = same-answer _
 
 -- ---- the builders
 
@@ -116,4 +115,4 @@ module _ (v : Version) {p q : Policy} (A : Allows p q) where
       → KeptAnswer (build v p d incoming target) (build v q d incoming target)
   unfolding build
   build-kept d incoming target =
-      by-answer _ _ (extra-kept v incoming target _ _ (A .extra-columns)) (λ x. from-kept target d incoming 0)
+      by-answer _ _ (extra-kept _ _ v incoming target (A .extra-columns)) (λ x. from-kept target d incoming 0)

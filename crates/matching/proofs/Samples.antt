@@ -26,7 +26,11 @@ use Rattle.plan.specs.Result.{Answer, accepted, refusedAt, _>>=_, demand, place
 use Rattle.plan.specs.Selector.{countSelectors}
 use Rattle.plan.specs.Encode.{encodeSelector, encodeSelectors, encodePlan}
 use Rattle.values.specs.Record.{renumber}
-use Rattle.defaults.specs.Table.{initial, partition, Entry, sameKind, repeatsAnyEntry, onlyLeaf, defaultType, initialEntry, loadedEntry, partitionEntry, givenOf, tableNumber, entry, entries, tableVersion, tableFrom, table}
+use Rattle.defaults.specs.declared.read.Owner.{Owner}
+use Rattle.defaults.specs.declared.read.TableVersion.the-variants.{Shared}
+use Rattle.defaults.specs.Table.{Given, initial, partition, OwnedEntry}
+use Rattle.defaults.specs.Table.{countsFor, entriesOf, sameKind, sameOwner, repeatsAnyEntry, onlyLeaf, defaultType, initialEntry, loadedEntry, partitionEntry}
+use Rattle.defaults.specs.Table.{entryKind, givenOf, tableNumber, entry, ownerOf, ownedEntry, entries, tableVersion, TableTree, countedTable, tableFrom, table}
 use Rattle.defaults.specs.Lookup.{unlessNull, ofSource, givenTo, firstEntry, getDefaultValue}
 use Rattle.matching.specs.Default.{leafDefault, withField, structDefault, buildIcebergDefaultValue, defaultsOf, missingValue}
 use Rattle.matching.specs.Build.{leafPart, structPart, listPart, arrayPart, isNullType, unlessNullType, renamed, sameElement, distinctNames, distinct, noExtra, extraColumnErr, extraColumns, missing, ruled, isPosition, inPlace, structSelector, listSelector, arraySelector, sought, attachTransforms, attachFields, buildColumnSelector, buildFrom, build}
@@ -39,13 +43,13 @@ unfoldable pub laidOut : Bytes → Res Layout
 unfolding layout layoutFrom sized version sameBytes counted ended columns label text byte chunk u16 u32 fieldId type kind kindOf leafKind datetimeKind structKind arrayKind unit body structType listType arrayType elementLabel repeatsAny next choose
 laidOut s = layout s
 
-unfoldable pub tabled : Bytes → Res (List Entry)
-unfolding laidOut table tableFrom tableVersion entries entry tableNumber renumber givenOf partitionEntry loadedEntry initialEntry defaultType onlyLeaf repeatsAnyEntry sameKind presence nullable flag little longText contentBy leafContent times content value
+unfoldable pub tabled : Bytes → Res TableTree
+unfolding laidOut table tableFrom countedTable tableVersion entries ownedEntry ownerOf entry tableNumber renumber entryKind givenOf partitionEntry loadedEntry initialEntry defaultType onlyLeaf repeatsAnyEntry sameKind sameOwner countsFor presence nullable flag little longText contentBy leafContent times content value
 tabled s = table s
 
-unfoldable pub built : Policy → ℕ → Bytes → Bytes → Bytes → ℕ → Answer Bytes
-unfolding tabled buildByName buildByNumber bothLayouts readAt ofVersion roomFor writtenPlan build buildFrom buildColumnSelector attachTransforms attachFields sought missing missingValue buildIcebergDefaultValue defaultsOf structDefault withField leafDefault getDefaultValue firstEntry givenTo ofSource unlessNull leafPart structPart listPart arrayPart isNullType unlessNullType renamed sameElement distinctNames distinct noExtra extraColumnErr extraColumns ruled isPosition inPlace structSelector listSelector arraySelector findFrom pairRule chain paramsOf zonesOf readZone isUtc sameDtype sameLeaf dtypeOf fieldsOf countColumns countFields countSelectors encodePlan encodeSelector encodeSelectors u16Bytes u32Bytes textBytes leafForm carried kindForm form formFields encodeValue encodeValues littleBytes _>>=_ demand placed answered
-built p k a b d room = buildByNumber p k a b d room
+unfoldable pub built : Policy → ℕ → ℕ → Bytes → Bytes → Bytes → ℕ → Answer Bytes
+unfolding tabled buildByName buildByNumber bothLayouts readAt ofVersion roomFor writtenPlan build buildFrom buildColumnSelector attachTransforms attachFields sought missing missingValue buildIcebergDefaultValue defaultsOf structDefault withField leafDefault entriesOf getDefaultValue firstEntry givenTo ofSource unlessNull leafPart structPart listPart arrayPart isNullType unlessNullType renamed sameElement distinctNames distinct noExtra extraColumnErr extraColumns ruled isPosition inPlace structSelector listSelector arraySelector findFrom pairRule chain paramsOf zonesOf readZone isUtc sameDtype sameLeaf dtypeOf fieldsOf countColumns countFields countSelectors encodePlan encodeSelector encodeSelectors u16Bytes u32Bytes textBytes leafForm carried kindForm form formFields encodeValue encodeValues littleBytes _>>=_ demand placed answered
+built p k o a b d room = buildByNumber p k o a b d room
 
 -- ---- layouts, tables and plans
 
@@ -101,7 +105,7 @@ byName p t u = buildByName p (laid 1 1 (named 0x74 t)) (laid 1 1 (named 0x74 u))
 
 -- one column t of the id 1 by number
 abbrev byNumber : Policy → Bytes → Bytes → Bytes → Answer Bytes
-byNumber p d t u = buildByNumber p 0 (laid 2 1 (numbered 0x74 1 t)) (laid 2 1 (numbered 0x74 1 u)) d 1000
+byNumber p d t u = buildByNumber p 0 0 (laid 2 1 (numbered 0x74 1 t)) (laid 2 1 (numbered 0x74 1 u)) d 1000
 
 -- ---- S1 to S4, S12
 
@@ -261,7 +265,7 @@ unfolding built
 missing-raises = refl
 
 -- a missing top column: its struct's default has the field's default, and null where none
-missing-column : buildByNumber on 0 (laid 2 0 []) (laid 2 1 (numbered 0x74 1 (structOf 2 (numbered 0x61 2 (2 ∷ numbered 0x62 3 (2 ∷ [])))))) (defaults 1 initialSeven) 1000
+missing-column : buildByNumber on 0 0 (laid 2 0 []) (laid 2 1 (numbered 0x74 1 (structOf 2 (numbered 0x61 2 (2 ∷ numbered 0x62 3 (2 ∷ [])))))) (defaults 1 initialSeven) 1000
     ≡ accepted (planned 1 (1 ∷ 1 ∷ 0x74 ∷ structOf 2 (1 ∷ 0x61 ∷ 2 ∷ 1 ∷ 0x62 ∷ 2 ∷ 1 ∷ 1 ∷ 7 ∷ 0 ∷ [])))
 unfolding built
 missing-column = refl
@@ -332,8 +336,12 @@ extra-field-ignored = refl
 
 -- ---- reading a table
 
+-- what an entry of version 1 gives for the id 2
+abbrev shared : Given → OwnedEntry
+shared g = record { owner = Owner.Every; entry = record { id = record { 0 = 2 }; given = g } }
+
 two-kinds : table (defaults 2 (initialSeven ++ entryOf 2 1 (0 ∷ 2 ∷ 1 ∷ 0 ∷ 0 ∷ [])))
-    ≡ ok (record { id = record { 0 = 2 }; given = initial (integer Int8) (vnumber (Leaf.Integer Int8) 7) } ∷ record { id = record { 0 = 2 }; given = partition (integer Int8) (vcons vnull vnil) } ∷ []) 25
+    ≡ ok (record { version = Shared; entries = shared (initial (integer Int8) (vnumber (Leaf.Integer Int8) 7)) ∷ shared (partition (integer Int8) (vcons vnull vnil)) ∷ [] }) 25
 unfolding tabled
 two-kinds = refl
 
@@ -376,10 +384,38 @@ unfolding tabled
 wrong-mark = refl
 
 -- the order of a build's readings: both layouts, 10, then the table
-order : buildByNumber on 0 (laid 2 0 []) (laid 1 0 []) [] 1000 ≡ refusedAt 10 0
+order : buildByNumber on 0 0 (laid 2 0 []) (laid 1 0 []) [] 1000 ≡ refusedAt 10 0
 unfolding built
 order = refl
 
-order-table : buildByNumber on 0 (laid 2 0 []) (laid 2 1 (numbered 0x74 1 (0 ∷ []))) [] 1000 ≡ refusedAt 1 3
+order-table : buildByNumber on 0 0 (laid 2 0 []) (laid 2 1 (numbered 0x74 1 (0 ∷ []))) [] 1000 ≡ refusedAt 1 3
 unfolding built
 order-table = refl
+
+-- ---- document 02, L7: a build names its owner. Owners 1 and 258 have an int8 for the id 2
+
+abbrev owned : Bytes
+owned = 0x44 ∷ 0x45 ∷ 0x46 ∷ 2 ∷ 0 ∷ 2 ∷ 0 ∷ 1 ∷ 0 ∷ (initialSeven ++ (2 ∷ 1 ∷ entryOf 2 0 (2 ∷ 1 ∷ 9 ∷ [])))
+
+abbrev missingOf : ℕ → Bytes → Answer Bytes
+missingOf n d = buildByNumber on 0 n (laid 2 0 []) (laid 2 1 (numbered 0x61 2 (2 ∷ []))) d 1000
+
+abbrev constantOf : Bytes → Answer Bytes
+constantOf v = accepted (planned 1 (1 ∷ 1 ∷ 0x61 ∷ 2 ∷ v))
+
+own : missingOf 1 owned ≡ constantOf (1 ∷ 7 ∷ [])
+unfolding built
+own = refl
+
+neighbour : missingOf 258 owned ≡ constantOf (1 ∷ 9 ∷ [])
+unfolding built
+neighbour = refl
+
+-- not the low byte alone
+neither : missingOf 2 owned ≡ constantOf (0 ∷ [])
+unfolding built
+neither = refl
+
+every : missingOf 3 (defaults 1 initialSeven) ≡ constantOf (1 ∷ 7 ∷ [])
+unfolding built
+every = refl

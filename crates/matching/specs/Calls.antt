@@ -14,7 +14,7 @@ use Rattle.plan.specs.Selector.{Selectors}
 use Rattle.plan.specs.Encode.{encodePlan}
 use Rattle.plan.specs.Calls.{readAt}
 use Rattle.plan.specs.Read.{longestPlan}
-use Rattle.defaults.specs.Table.{table}
+use Rattle.defaults.specs.Table.{entriesOf, table}
 use Rattle.defaults.specs.Lookup.{getDefaultValue}
 use Rattle.matching.specs.Default.{noDefaults}
 use Rattle.matching.specs.Build.{build}
@@ -45,8 +45,9 @@ writtenPlan room ss = placed 0 (demand (roomFor room (encodePlan ss)) 27 (gives 
 unfoldable pub buildByName : Policy → Bytes → Bytes → ℕ → Answer Bytes
 buildByName p incoming target room = bothLayouts ByName incoming target (λ a b. answered (build ByName p noDefaults a b) (λ ss. writtenPlan room ss))
 
--- after 10 the defaults are read; the index is the source's
-unfoldable pub buildByNumber : Policy → ℕ → Bytes → Bytes → Bytes → ℕ → Answer Bytes
-buildByNumber p index incoming target defaults room =
+-- after 10 the defaults are read; the index is the source's, and of the table the entries of the owner count (document 02, L7)
+unfoldable pub buildByNumber : Policy → ℕ → ℕ → Bytes → Bytes → Bytes → ℕ → Answer Bytes
+buildByNumber p index owner incoming target defaults room =
     bothLayouts ByNumber incoming target
-    (λ a b. readAt 3 (table defaults) (λ es. answered (build ByNumber p (getDefaultValue es index) a b) (λ ss. writtenPlan room ss)))
+    (λ a b. readAt 3 (table defaults)
+    (λ t. answered (build ByNumber p (getDefaultValue (entriesOf owner (t .entries)) index) a b) (λ ss. writtenPlan room ss)))

@@ -49,6 +49,10 @@ by-choice false k k′ = k′
 pub same-answer : {A : Type 0} (x : Answer A) → KeptAnswer x x
 same-answer x = record { kept = λ a e. e }
 
+-- a test that the second does not make
+pub passing : (x : Answer (Unit {0})) → KeptAnswer x (accepted tt)
+passing x = record { kept = λ a e. refl }
+
 pub refusing-answer : {A : Type 0} (n k : ℕ) (y : Answer A) → KeptAnswer (refusedAt n k) y
 refusing-answer n k y = record { kept = λ a e. clash (cc) }
 

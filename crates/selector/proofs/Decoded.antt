@@ -75,13 +75,13 @@ module _ (policy : ℕ) (incoming target : Bytes) (oi : AllBytes incoming) (ot :
       rw (← written-word (buildByName (policyOf policy) incoming target space))
       (decoded length (by-name-in (policyOf policy) incoming target space) (λ b q. omega arith) (columns-small incoming oi) (columns-small target ot) (omega arith))
 
-  pub by-number-decoded : (index : ℕ) (defaults : Bytes)
+  pub by-number-decoded : (index owner : ℕ) (defaults : Bytes)
       → Decoded (building ByNumber) (layoutsRead incoming target (tableRead defaults)) (columnCount incoming) (columnCount target) length
-      (buildByNumber (policyOf policy) index incoming target defaults space)
-      (writtenAnswer (buildByNumber (policyOf policy) index incoming target defaults space))
-  by-number-decoded index defaults =
-      rw (← written-word (buildByNumber (policyOf policy) index incoming target defaults space))
-      (decoded length (by-number-in (policyOf policy) index incoming target defaults space) (λ b q. omega arith)
+      (buildByNumber (policyOf policy) index owner incoming target defaults space)
+      (writtenAnswer (buildByNumber (policyOf policy) index owner incoming target defaults space))
+  by-number-decoded index owner defaults =
+      rw (← written-word (buildByNumber (policyOf policy) index owner incoming target defaults space))
+      (decoded length (by-number-in (policyOf policy) index owner incoming target defaults space) (λ b q. omega arith)
       (columns-small incoming oi) (columns-small target ot) (omega arith))
 
 module _ (incoming target bytes : Bytes) (o : AllBytes bytes) where

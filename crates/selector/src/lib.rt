@@ -93,17 +93,19 @@ pub extern "C" fn selector_build_by_name(
 pub extern "C" fn selector_build_by_number(
     policy: u32,
     source_index: u32,
+    owner: u16,
     incoming: &[u8],
     target: &[u8],
     defaults: &[u8],
     plan: &mut [u8],
 ) -> u64
-    ensures { λ r. ⌜ r ≡ writtenAnswer (buildByNumber (policyOf policy) «source_index» (now (incoming .entry)) (now (target .entry)) (now (defaults .entry)) (length (now (plan .entry)))) ⌝ }
-    ensures { λ _. ⌜ now (plan .exit) ≡ bufferAfter (buildByNumber (policyOf policy) «source_index» (now (incoming .entry)) (now (target .entry)) (now (defaults .entry)) (length (now (plan .entry)))) (now (plan .entry)) ⌝ }
+    ensures { λ r. ⌜ r ≡ writtenAnswer (buildByNumber (policyOf policy) «source_index» owner (now (incoming .entry)) (now (target .entry)) (now (defaults .entry)) (length (now (plan .entry)))) ⌝ }
+    ensures { λ _. ⌜ now (plan .exit) ≡ bufferAfter (buildByNumber (policyOf policy) «source_index» owner (now (incoming .entry)) (now (target .entry)) (now (defaults .entry)) (length (now (plan .entry)))) (now (plan .entry)) ⌝ }
 {
     written(build_by_number(
         Policy::from_word(policy),
         source_index,
+        owner,
         incoming,
         target,
         defaults,

@@ -32,9 +32,14 @@ const SOURCE: Choice = valued(
     "N",
     "which of a partition's values is taken, from 0 (the default)",
 );
+const OWNER: Choice = valued(
+    "--owner",
+    "N",
+    "whose entries of a table of version 2 count; 0 by default",
+);
 
 /// What a build takes beside its layouts.
-pub const BUILD: &[Choice] = &[BY_NAME, BY_NUMBER, POLICY, DEFAULT_TABLE, SOURCE];
+pub const BUILD: &[Choice] = &[BY_NAME, BY_NUMBER, POLICY, DEFAULT_TABLE, SOURCE, OWNER];
 
 pub const COMMAND: Command = Command {
     name: "build",
@@ -58,6 +63,7 @@ pub struct Inputs {
     by_number: bool,
     policy: Policy,
     source: u32,
+    owner: u16,
 }
 
 impl Inputs {
@@ -68,30 +74,14 @@ impl Inputs {
             .map_or(Ok(Policy::ALL), |text| lists::policy(&text));
         let policy = policy.map_err(Failure::Usage)?;
         let source = args.number(SOURCE.name, u32::MAX)?.unwrap_or(0);
+        let owner = args.number(OWNER.name, u32::from(u16::MAX))?.unwrap_or(0) as u16;
         let table = args.value(DEFAULT_TABLE.name);
         let defaults = table
             .map(|path| files::load(path, Kind::Defaults, None))
             .transpose()?;
         let incoming = files::load(operand(0), Kind::Layout, None)?;
         let target = files::load(operand(1), Kind::Layout, None)?;
-        let by_number = match (args.has(BY_NAME.name), args.has(BY_NUMBER.name)) {
-            (true, true) => {
-                return Err(Failure::Usage(
-                    "--by-name and --by-number exclude each other".to_string(),
-                ));
-            }
-            (true, false) => false,
-            (false, true) => true,
-            (false, false) => target
-                .bytes
-                .get(3)
-                .is_some_and(|version| form::by_number(u16::from(*version))),
-        };
-        if !by_number && (args.has(DEFAULT_TABLE.name) || args.has(SOURCE.name)) {
-            return Err(Failure::Usage(
-                "--defaults and --source are for builds by number".to_string(),
-            ));
-        }
+        let by_number = by_number(args, &target)?;
         Ok(Inputs {
             incoming,
             target,
@@ -99,6 +89,7 @@ impl Inputs {
             by_number,
             policy,
             source,
+            owner,
         })
     }
 
@@ -110,7 +101,7 @@ impl Inputs {
         Build {
             by_number: self.by_number,
             policy: self.policy,
-            defaults: table.with_source(self.source),
+            defaults: table.with_source(self.source).with_owner(self.owner),
         }
     }
 
@@ -122,6 +113,24 @@ impl Inputs {
             build: Some(self.build()),
             ..Case::default()
         }
+    }
+}
+
+/// Whether columns are matched by number: as the options say, else as the target's version does.
+fn by_number(args: &Args, target: &Input) -> Result<bool, Failure> {
+    let wrong = |message: &str| Err(Failure::Usage(message.to_string()));
+    let by_number = match (args.has(BY_NAME.name), args.has(BY_NUMBER.name)) {
+        (true, true) => return wrong("--by-name and --by-number exclude each other"),
+        (false, false) => {
+            let version = target.bytes.get(3);
+            version.is_some_and(|version| form::by_number(u16::from(*version)))
+        }
+        (_, by_number) => by_number,
+    };
+    let others = [DEFAULT_TABLE, SOURCE, OWNER];
+    match !by_number && others.iter().any(|choice| args.has(choice.name)) {
+        true => wrong("--defaults, --source and --owner are for builds by number"),
+        false => Ok(by_number),
     }
 }
 

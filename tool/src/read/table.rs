@@ -15,9 +15,9 @@ pub fn read_table(bytes: &[u8]) -> Result<Table, Fault> {
     for index in 0..usize::from(count) {
         let entry = cursor.within(Step::Entry(index, None), |cursor| {
             let from = cursor.at;
-            let (entry, kind_read) = entry(cursor, index)?;
+            let (entry, kind_read) = entry(cursor, index, form::owned(version))?;
             let initial = matches!(entry.default, Default::Initial(..));
-            if seen.insert((entry.id, initial)) {
+            if seen.insert((entry.owner, entry.id, initial)) {
                 return Ok(entry);
             }
             let kind = if initial {
@@ -35,7 +35,11 @@ pub fn read_table(bytes: &[u8]) -> Result<Table, Fault> {
 }
 
 /// An entry, and where its id and kind end.
-fn entry(cursor: &mut Cursor, index: usize) -> Read<(Entry, usize)> {
+fn entry(cursor: &mut Cursor, index: usize, owned: bool) -> Read<(Entry, usize)> {
+    let owner = match owned {
+        true => Some(cursor.u16("the entry's owner")?),
+        false => None,
+    };
     let id = cursor.u32("the entry's id")?;
     cursor.know(Step::Entry(index, Some(id)));
     let partition = flag(
@@ -59,7 +63,7 @@ fn entry(cursor: &mut Cursor, index: usize) -> Read<(Entry, usize)> {
             false => loaded(cursor)?,
         },
     };
-    Ok((Entry { id, default }, kind_read))
+    Ok((Entry { owner, id, default }, kind_read))
 }
 
 fn loaded(cursor: &mut Cursor) -> Read<Default> {

@@ -10,14 +10,21 @@ pub fn parse_table(text: &[u8]) -> Parsed<(Table, Places)> {
     let version = parser.version(form::TABLE_VERSIONS)?;
     let mut entries = Vec::new();
     parser.parts(None, |parser, _| {
-        entries.push(entry(parser)?);
+        entries.push(entry(parser, form::owned(version))?);
         Ok(())
     })?;
     parser.finish(Table { version, entries })
 }
 
-/// `@6 initial int8: 40`, `@7 partition string: ["north"]` or `@8 partition failed`.
-fn entry(parser: &mut Parser) -> Parsed<Entry> {
+/// `@6 initial int8: 40`, `@7 partition string: ["north"]` or `@8 partition failed`; in version 2 after `owner 3`.
+fn entry(parser: &mut Parser, owned: bool) -> Parsed<Entry> {
+    let owner = match owned {
+        true => {
+            parser.word("owner")?;
+            Some(parser.number(u64::from(u16::MAX), "an owner")? as u16)
+        }
+        false => None,
+    };
     parser.mark('@')?;
     let id = parser.number(u64::from(u32::MAX), "a field id")? as u32;
     let default = if parser.is_word("initial") {
@@ -32,7 +39,7 @@ fn entry(parser: &mut Parser) -> Parsed<Entry> {
     } else {
         return parser.wrong("`initial` or `partition`");
     };
-    Ok(Entry { id, default })
+    Ok(Entry { owner, id, default })
 }
 
 fn partition(parser: &mut Parser) -> Parsed<Default> {

@@ -170,7 +170,10 @@ fn leaf_text(leaf: &Leaf) -> String {
 pub fn table_text(table: &Table) -> String {
     let mut lines = vec![Line::new(format!("defaults version {}", table.version))];
     for entry in &table.entries {
-        let head = format!("@{} ", entry.id);
+        let owner = entry
+            .owner
+            .map_or(String::new(), |owner| format!("owner {owner} "));
+        let head = format!("{owner}@{} ", entry.id);
         match &entry.default {
             Default::Initial(leaf, value) => {
                 let head = format!("{head}initial {}: ", leaf_text(leaf));

@@ -203,6 +203,7 @@ impl Random {
     }
 
     pub fn table(&mut self) -> Table {
+        let version = 1 + self.below(2) as u16;
         let entries = (0..self.below(6))
             .map(|index| {
                 let leaf = self.leaf();
@@ -215,14 +216,12 @@ impl Random {
                     }
                 };
                 Entry {
+                    owner: (version == 2).then(|| self.next() as u16),
                     id: self.next() as u32 & !7 | index as u32,
                     default,
                 }
             })
             .collect();
-        Table {
-            version: 1,
-            entries,
-        }
+        Table { version, entries }
     }
 }

@@ -57,6 +57,7 @@ pub struct Trial {
     pub call: Call,
     pub policy: u32,
     pub source_index: u32,
+    pub owner: u16,
     /// The length of the buffer for the result.
     pub space: usize,
     pub incoming: Vec<u8>,
@@ -72,6 +73,7 @@ impl Trial {
             call,
             policy: 0,
             source_index: 0,
+            owner: 0,
             space: 0,
             incoming: Vec::new(),
             target: Vec::new(),
@@ -117,6 +119,7 @@ impl fmt::Display for Trial {
         let Trial {
             policy,
             source_index,
+            owner,
             space,
             ..
         } = self;
@@ -129,7 +132,7 @@ impl fmt::Display for Trial {
             Call::BuildByName => write!(f, "{policy} {space} {incoming} {target}, record {record}"),
             Call::BuildByNumber => write!(
                 f,
-                "{policy} {source_index} {space} {incoming} {target} {defaults}, record {record}"
+                "{policy} {source_index} {owner} {space} {incoming} {target} {defaults}, record {record}"
             ),
             Call::CheckPlan => write!(f, "{incoming} {target} {plan}"),
             Call::Run => write!(f, "{space} {incoming} {target} {plan} {record}"),
@@ -189,6 +192,7 @@ impl Judge {
         let Trial {
             policy,
             source_index,
+            owner,
             ..
         } = *trial;
         let given = self
@@ -196,9 +200,15 @@ impl Judge {
             .lend(trial.space, side, |out| match trial.call {
                 Call::ReadLayout => library::read_layout(incoming),
                 Call::BuildByName => library::build_by_name(policy, incoming, target, out),
-                Call::BuildByNumber => {
-                    library::build_by_number(policy, source_index, incoming, target, defaults, out)
-                }
+                Call::BuildByNumber => library::build_by_number(
+                    policy,
+                    source_index,
+                    owner,
+                    incoming,
+                    target,
+                    defaults,
+                    out,
+                ),
                 Call::CheckPlan => library::check_plan(incoming, target, plan),
                 Call::Run => library::run(incoming, target, plan, record, out),
             })?;
@@ -344,7 +354,9 @@ impl Arguments {
             return Err(Refusal::of(10));
         }
         let entries = match trial.call {
-            Call::BuildByNumber => form::read_defaults(&trial.defaults).map_err(at(3))?,
+            Call::BuildByNumber => {
+                form::read_defaults(&trial.defaults, trial.owner).map_err(at(3))?
+            }
             _ => Vec::new(),
         };
         Ok(Arguments {

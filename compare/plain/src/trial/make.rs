@@ -96,6 +96,7 @@ fn build(random: &mut Random) -> Trial {
     };
     let number = case.number.unwrap_or(Number {
         source_index: 0,
+        owner: 0,
         defaults: Vec::new(),
     });
     let mut incoming = case.incoming;
@@ -122,6 +123,7 @@ fn build(random: &mut Random) -> Trial {
     Trial {
         policy: case.policy & !raise,
         source_index: number.source_index,
+        owner: number.owner,
         space: space(random),
         incoming,
         target,
@@ -139,6 +141,7 @@ fn built(random: &mut Random) -> Trial {
     let Trial {
         policy,
         source_index,
+        owner,
         incoming,
         target,
         defaults,
@@ -149,6 +152,7 @@ fn built(random: &mut Random) -> Trial {
         _ => library::build_by_number(
             *policy,
             *source_index,
+            *owner,
             incoming,
             target,
             defaults,
@@ -209,6 +213,7 @@ fn noise(random: &mut Random) -> Trial {
     Trial {
         policy: random.next() as u32,
         source_index: random.below(3) as u32,
+        owner: random.below(3) as u16,
         space: random.below(300) as usize,
         incoming: marked(random, b"LAY"),
         target: marked(random, b"LAY"),

@@ -69,7 +69,7 @@ put-defaults-claims t = (label-reads.Asked, label-reads.Learnt, build-iceberg-de
 
 abbrev put-defaults-Inv-loop : put-defaults-lts.InvT-loop
 put-defaults-Inv-loop v depth table defaults target n out₀ k at₀ to₀ any₀ i₀ out at to any i =
-    (T : TableAt table (defaults .count) (defaults .entries .at)) → Defaulting (getDefaultValue (T .entries) (defaults .«source_index»)) v depth target n at₀ out₀ k out at to any i
+    (T : TableAt table defaults) → Defaulting (getDefaultValue (T .entries) (defaults .«source_index»)) v depth target n at₀ out₀ k out at to any i
 
 abbrev put-defaults-μ-loop : put-defaults-lts.MeasureT-loop
 put-defaults-μ-loop v depth table defaults target n out₀ k at₀ to₀ any₀ i₀ out at to any i = n - i

@@ -11,10 +11,10 @@ build-by-name-spec =
     (λ c κs. search needs)
     (λ c. search needs)
     (λ c κs. let B = both-at _ _ _ (c .before .before .before .before .read-both .result) (c .before .before .before .before .read-both .ensures) (c .before .before .n .given .1) in
-    ((B .from, B .to), (no-table _ _, (B .small, B .small, B .starts))))
+    ((B .from, B .to), (no-table _, (B .small, B .small, B .starts))))
     (λ c. search needs)
     (λ c. search needs)
     (λ c. let B = both-at _ _ _ (c .before .before .before .before .before .before .before .read-both .result) (c .before .before .before .before .before .before .before .read-both .ensures) (c .before .before .before .before .before .n .given .1) in
-    let T = no-table _ 0 in
+    let T = no-table _ in
     plan-as _ (by-name-built _ _ _ _ B T 0) (c .before .before .build-plan .ensures T (B .from) (B .to)))
     (λ c. plan-kept _ (by-name-refused _ _ _ _ (both-refused _ _ _ (c .before .before .before .read-both .result) (c .before .before .before .read-both .ensures) (c .before .k .given .1)))))

@@ -13,7 +13,7 @@ use Rattle.calls.proofs.columns.build_each.Tie as tie
 
 abbrev Inv-loop : tie.InvT-loop
 Inv-loop policy v incoming n c whole starts positions table defaults target m out₀ k insert at₀ to₀ i₀ out at to i =
-    (T : TableAt table (defaults .count) (defaults .entries .at)) (P : ColumnsAt v deepest incoming n (c .at)) → Building policy (getDefaultValue (T .entries) (defaults .«source_index»)) (P .columns) v target m at₀ out₀ k out at to i
+    (T : TableAt table defaults) (P : ColumnsAt v deepest incoming n (c .at)) → Building policy (getDefaultValue (T .entries) (defaults .«source_index»)) (P .columns) v target m at₀ out₀ k out at to i
 
 abbrev μ-loop : tie.MeasureT-loop
 μ-loop policy v incoming n c whole starts positions table defaults target m out₀ k insert at₀ to₀ i₀ out at to i = m - i

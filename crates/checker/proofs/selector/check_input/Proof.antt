@@ -2,6 +2,7 @@
 use mathlib.Core.Path.{refl, sym, _∙_}
 use Rattle.walk.proofs.Heads.{is-position, is-constant, is-cast, is-rename, is-struct, is-list, is-array, never-refused}
 use Rattle.walk.proofs.View.{selectors-counted}
+use Rattle.checker.proofs.Resolving.{named-typed}
 use Rattle.checker.proofs.Selecting.{by-cast, by-rename, no-source, input-given, a-rename, none-left, some-fields, some-list, some-array}
 use borrow.Author.Needs.{needs}
 use Rattle.checker.proofs.selector.check_input.Statement.{statement}
@@ -15,27 +16,27 @@ check-input-spec =
     (λ c. search needs)
     (λ c. search needs)
     (λ c. search needs)
-    (λ c κs. let (s, Δ, R) = c .before .before .before .before .before .before .pre in let K = is-cast (c .before .before .before .head .ensures (R .checking .standing .here)) (c .before .input .given .1) in (R .column, K .input, K .type, K .option, R .typed))
+    (λ c κs. let (s, Δ, R) = c .before .before .before .before .before .before .pre in let K = is-cast (c .before .before .before .head .ensures (R .checking .standing .here)) (c .before .input .given .1) in (R .column, K .input, K .type, K .option, named-typed (R .named)))
     (λ c κs. search needs)
     (λ c. search needs)
-    (λ c κs. let (s, Δ, R) = c .before .before .before .before .before .pre in (_, R .typed))
+    (λ c κs. let (s, Δ, R) = c .before .before .before .before .before .pre in (_, R .named))
     (λ c κs. search needs)
     (λ c. search needs)
     (λ c κs. search needs)
-    (λ c κs. let (s, Δ, R) = c .before .before .before .before .before .before .before .pre in (_, R .typed))
+    (λ c κs. let (s, Δ, R) = c .before .before .before .before .before .before .before .pre in (_, named-typed (R .named)))
     (λ c κs. search needs)
     (λ c. search needs)
-    (λ c κs. let (s, Δ, R) = c .before .before .before .before .before .pre in (_, R .typed))
+    (λ c κs. let (s, Δ, R) = c .before .before .before .before .before .pre in (_, named-typed (R .named)))
     (λ c κs. search needs)
     (λ c. search needs)
-    (λ c κs. let (s, Δ, R) = c .before .before .before .before .before .pre in (_, R .typed))
+    (λ c κs. let (s, Δ, R) = c .before .before .before .before .before .pre in (_, named-typed (R .named)))
     (λ c κs. search needs)
     (λ c. search needs)
     (λ c. λ s Δ R. no-source R (is-position (c .before .before .head .ensures (R .checking .standing .here)) (c .enum-told .given .1) .1) refl)
     (λ c. λ s Δ R. no-source R (is-constant (c .before .before .head .ensures (R .checking .standing .here)) (c .enum-told2 .given .1) .is) refl)
-    (λ c. λ s Δ R. let K = is-cast (c .before .before .before .before .before .head .ensures (R .checking .standing .here)) (c .before .before .before .input .given .1) in none-left (c .nothing-left .ensures) (input-given R (by-cast (R .checking) K) (c .before .cast-result .ensures (R .column) (K .input) (K .type) (K .option) (R .typed))))
-    (λ c. λ s Δ R. let K = is-rename (c .before .before .before .before .head .ensures (R .checking .standing .here)) (c .before .before .enum-told3 .given .1) in none-left (c .nothing-left2 .ensures) (input-given R (by-rename (R .checking) K) (a-rename (R .column) (K .name .bytes) (c .before .rename-result .ensures (R .column .type) (K .name .bytes) (R .typed)))))
-    (λ c. λ s Δ R. let K = is-struct (c .before .before .before .before .before .before .head .ensures (R .checking .standing .here)) (c .before .before .before .before .input2 .given .1) in some-fields R K (c .before .input-head .ensures (R .column .type) (R .typed)) (selectors-counted _ (K .fields .selectors) ∙ sym (c .before .before .struct-fields .ensures (K .input) (K .fields) .count)) (c .fields-left .ensures))
-    (λ c. λ s Δ R. let K = is-list (c .before .before .before .before .head .ensures (R .checking .standing .here)) (c .before .before .enum-told4 .given .1) in some-list R K (c .before .input-head2 .ensures (R .column .type) (R .typed)) (c .listed-left .ensures))
-    (λ c. λ s Δ R. let K = is-array (c .before .before .before .before .head .ensures (R .checking .standing .here)) (c .before .before .enum-told5 .given .1) in some-array R K (c .before .input-head3 .ensures (R .column .type) (R .typed)) (c .arrayed-left .ensures))
+    (λ c. λ s Δ R. let K = is-cast (c .before .before .before .before .before .head .ensures (R .checking .standing .here)) (c .before .before .before .input .given .1) in none-left (c .nothing-left .ensures) (input-given R (by-cast (R .checking) K) (c .before .cast-result .ensures (R .column) (K .input) (K .type) (K .option) (named-typed (R .named)))))
+    (λ c. λ s Δ R. let K = is-rename (c .before .before .before .before .head .ensures (R .checking .standing .here)) (c .before .before .enum-told3 .given .1) in none-left (c .nothing-left2 .ensures) (input-given R (by-rename (R .checking) K) (a-rename (R .column) (K .name .bytes) (c .before .rename-result .ensures (R .column) (K .name .bytes) (R .named)))))
+    (λ c. λ s Δ R. let K = is-struct (c .before .before .before .before .before .before .head .ensures (R .checking .standing .here)) (c .before .before .before .before .input2 .given .1) in some-fields R K (c .before .input-head .ensures (R .column .type) (named-typed (R .named))) (selectors-counted _ (K .fields .selectors) ∙ sym (c .before .before .struct-fields .ensures (K .input) (K .fields) .count)) (c .fields-left .ensures))
+    (λ c. λ s Δ R. let K = is-list (c .before .before .before .before .head .ensures (R .checking .standing .here)) (c .before .before .enum-told4 .given .1) in some-list R K (c .before .input-head2 .ensures (R .column .type) (named-typed (R .named))) (c .listed-left .ensures))
+    (λ c. λ s Δ R. let K = is-array (c .before .before .before .before .head .ensures (R .checking .standing .here)) (c .before .before .enum-told5 .given .1) in some-array R K (c .before .input-head3 .ensures (R .column .type) (named-typed (R .named))) (c .arrayed-left .ensures))
     (λ c. λ s Δ R. never-refused (c .before .before .head .ensures (R .checking .standing .here)) (c .enum-told6 .given .1)))

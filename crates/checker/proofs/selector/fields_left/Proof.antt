@@ -15,6 +15,6 @@ fields-left-spec =
     (λ c. search needs)
     (λ c. search needs)
     (λ c. sym (ap (λ (h : TypeHead). fieldsLeft h (c .before .before .args .count)) (c .enum-told .given .1)))
+    (λ c. sym (ap (λ (h : TypeHead). fieldsLeft h (c .before .before .before .args .count)) (c .before .h .given .1)))
     (λ c. sym (ap (λ (h : TypeHead). fieldsLeft h (c .before .before .args .count)) (c .enum-told2 .given .1)))
-    (λ c. sym (ap (λ (h : TypeHead). fieldsLeft h (c .before .before .args .count)) (c .enum-told3 .given .1)))
-    (λ c. sym (ap (λ (h : TypeHead). fieldsLeft h (c .before .before .args .count)) (c .enum-told4 .given .1))))
+    (λ c. sym (ap (λ (h : TypeHead). fieldsLeft h (c .before .before .args .count)) (c .enum-told3 .given .1))))

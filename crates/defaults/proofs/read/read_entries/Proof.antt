@@ -7,10 +7,10 @@ use Rattle.defaults.proofs.read.read_entries.Statement.{statement}
 use Rattle.defaults.proofs.read.read_entries.Tie as tie
 
 abbrev Inv-loop : tie.InvT-loop
-Inv-loop s n c at₀ i₀ at i = Reading s n (c .at) i at
+Inv-loop s version n c at₀ i₀ at i = Reading version s n (c .at) i at
 
 abbrev μ-loop : tie.MeasureT-loop
-μ-loop s n c at₀ i₀ at i = n - i
+μ-loop s version n c at₀ i₀ at i = n - i
 
 pub read-entries-spec : {M : Type 1} → statement M
 read-entries-spec =
@@ -21,6 +21,7 @@ read-entries-spec =
     (λ c. search (reading-none, needs))
     (λ c κs. search needs)
     (λ c. search needs)
+    (λ c κs. search needs)
     (λ c κs. search needs)
     (λ c. search reading-repeated)
     (λ c. search needs)

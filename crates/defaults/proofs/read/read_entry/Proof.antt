@@ -1,6 +1,6 @@
--- `defaults::read::read_entry` meets its contract: each way through it is found by the rules `entry-ways`. Assumes nothing.
+-- `defaults::read::read_entry` meets its contract: each way has its rule. Assumes nothing.
 use borrow.Author.Needs.{needs}
-use Rattle.defaults.proofs.Reading.{entry-ways}
+use Rattle.defaults.proofs.Reading.{owned-ways}
 use Rattle.defaults.proofs.read.read_entry.Statement.{statement}
 use Rattle.defaults.proofs.read.read_entry.Tie as tie
 
@@ -12,13 +12,5 @@ read-entry-spec =
     (λ c. search needs)
     (λ c κs. search needs)
     (λ c. search needs)
-    (λ c κs. search needs)
-    (λ c. search needs)
-    (λ c. search needs)
-    (λ c κs. search needs)
-    (λ c. search needs)
-    (λ c. search needs)
-    (λ c. search (entry-ways, needs))
-    (λ c. search (entry-ways, needs))
-    (λ c. search (entry-ways, needs))
-    (λ c. search (entry-ways, needs)))
+    (λ c. search (owned-ways, needs))
+    (λ c. search (owned-ways, needs)))

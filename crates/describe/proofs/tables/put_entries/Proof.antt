@@ -5,10 +5,10 @@ use Rattle.describe.proofs.tables.put_entries.Statement.{statement}
 use Rattle.describe.proofs.tables.put_entries.Tie as tie
 
 abbrev Inv-loop : tie.InvT-loop
-Inv-loop s n at₀ i₀ at i = (i ≤ n) × (n < 65536)
+Inv-loop s version n at₀ i₀ at i = (i ≤ n) × (n < 65536)
 
 abbrev μ-loop : tie.MeasureT-loop
-μ-loop s n at₀ i₀ at i = n - i
+μ-loop s version n at₀ i₀ at i = n - i
 
 pub put-entries-spec : {M : Type 1} → statement M
 put-entries-spec =
@@ -21,6 +21,7 @@ put-entries-spec =
     (λ c. search needs)
     (λ c. search needs)
     (λ c. search needs)
+    (λ c κs. search needs)
     (λ c κs. search needs)
     (λ c. search needs)
     (λ c. search needs)

@@ -1,19 +1,19 @@
--- `defaults::read::repeats` meets its contract: the loop keeps `Scanning`. Assumes nothing.
+-- `defaults::read::find_entry` meets its contract: the loop keeps `Scanning`. Assumes nothing.
 use borrow.Author.Needs.{needs}
 use native.Mathlib.Omega.{arith}
 use Prim.Native.Nat.{_-_}
 use Rattle.defaults.proofs.Reading.{Scanning, scanning-none, scanning-all, scanning-broken, scanning-found, scanning-more}
-use Rattle.defaults.proofs.read.repeats.Statement.{statement}
-use Rattle.defaults.proofs.read.repeats.Tie as tie
+use Rattle.defaults.proofs.read.find_entry.Statement.{statement}
+use Rattle.defaults.proofs.read.find_entry.Tie as tie
 
 abbrev Inv-loop : tie.InvT-loop
-Inv-loop s n id kind at₀ i₀ at i = Scanning id kind s n at₀ i at
+Inv-loop s version n owner id kind at₀ i₀ at i = Scanning version owner id kind s n at₀ i at
 
 abbrev μ-loop : tie.MeasureT-loop
-μ-loop s n id kind at₀ i₀ at i = n - i
+μ-loop s version n owner id kind at₀ i₀ at i = n - i
 
-pub repeats-spec : {M : Type 1} → statement M
-repeats-spec =
+pub find-entry-spec : {M : Type 1} → statement M
+find-entry-spec =
     tie.close
     (tie.spec
     Inv-loop

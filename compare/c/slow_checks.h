@@ -1,0 +1,75 @@
+/* Part of bounded.c: plans within the limits whose check once took seconds, since a type was measured or a selector passed over again and again. One is refused with 33, in the
+ * other the selector of a list mapping has a transform over a transform, so that the general way decides. */
+
+enum { RENAMES = 60, RENAMED = 3900, CONSTANT = 40000, TAKEN = 7500 };
+
+static void position(text *t, int k) {
+    put(t, 0, 1);
+    put(t, (uint64_t)k, 2);
+}
+
+static void expect_check(const char *name, uint32_t number) {
+    struct timespec from;
+    clock_gettime(CLOCK_MONOTONIC, &from);
+    uint64_t answer = selector_check_plan(incoming.bytes, incoming.length, target.bytes, target.length, plan.bytes, plan.length);
+    double taken = since(&from);
+    printf("%s, a plan of %zu bytes: check %u after %.2f ms\n", name, plan.length, SELECTOR_NUMBER(answer), taken);
+    if (SELECTOR_NUMBER(answer) != number || taken > 1000)
+        failed = 1;
+}
+
+/* Renames of a mapping that turns the fields round. */
+static void renamed_of(text *t, int renames, int fields) {
+    mark(t, "PLN", 1);
+    put(t, 5, 1);
+    position(t, 0);
+    for (int i = 0; i < renames; i++)
+        put(t, 3, 1);
+    put(t, 4, 1);
+    position(t, 0);
+    put(t, (uint64_t)fields, 2);
+    for (int k = 0; k < fields; k++)
+        position(t, fields - 1 - k);
+    for (int i = 0; i < renames; i++)
+        put(t, 0, 1); /* no name */
+}
+
+/* A mapping over a mapping; its first selector is a constant list, the others take the one field. */
+static void constant_first(text *t, int elements, int positions) {
+    mark(t, "PLN", 1);
+    put(t, 5, 1);
+    position(t, 0);
+    put(t, 4, 1);
+    put(t, 4, 1);
+    position(t, 0);
+    put(t, 1, 2);
+    position(t, 0);
+    put(t, (uint64_t)positions + 1, 2);
+    constant_list(t, elements);
+    for (int k = 0; k < positions; k++)
+        position(t, 0);
+}
+
+/* A list of structs of a list and so many int8 fields, all without names; or of one int8 field. */
+static void taken_of(text *t, int fields, int listed) {
+    mark(t, "LAY", 1);
+    put(t, 0, 1);
+    put(t, 0x1213, 2);
+    put(t, (uint64_t)(fields + listed), 2);
+    if (listed)
+        put(t, 0x021300, 3);
+    for (int k = 0; k < fields; k++)
+        put(t, 0x0200, 2);
+}
+
+static void slow_checks(void) {
+    struct_of(&incoming, 1, RENAMED, 0);
+    struct_of(&target, 1, RENAMED, 1);
+    target.bytes[target.length - 1] = 3; /* the last field is an int16 */
+    renamed_of(&plan, RENAMES, RENAMED);
+    expect_check("renames of a mapping in an element", 33);
+    taken_of(&incoming, 1, 0);
+    taken_of(&target, TAKEN, 1);
+    constant_first(&plan, CONSTANT, TAKEN);
+    expect_check("a constant before positions in an element", 0);
+}
