@@ -145,7 +145,9 @@ impl Args {
             };
             return Err(usage(command, &format!("{what} arguments")));
         }
-        if self.operands.iter().filter(|word| *word == "-").count() > 1 {
+        let chosen = self.chosen.iter().filter(|(name, _)| *name != OUTPUT.name);
+        let files = self.operands.iter().chain(chosen.map(|(_, value)| value));
+        if files.filter(|word| *word == "-").count() > 1 {
             return Err(usage(command, "standard input, `-`, can be read once only"));
         }
         Ok(())

@@ -201,6 +201,14 @@ fn change_of(selector: &Selector, renamed: bool) -> Change {
 }
 
 impl Row {
+    /// Of a struct whose fields have rows of their own, no more than that it is one.
+    fn type_text(&self) -> String {
+        match (&self.change, &self.to) {
+            (Change::Mapped, Type::Struct(_)) => "struct".to_string(),
+            (_, to) => brief_type(to),
+        }
+    }
+
     fn how(&self) -> String {
         let from = |text: &str| match (&self.from, self.renamed) {
             (Some((path, _)), true) => format!("{text}, renamed from {path}"),
@@ -261,7 +269,7 @@ impl Diff {
         let types = self
             .rows
             .iter()
-            .map(|row| of(&brief_type(&row.to)))
+            .map(|row| of(&row.type_text()))
             .filter(|width| *width <= 40)
             .max()
             .unwrap_or(0);
@@ -271,7 +279,7 @@ impl Diff {
             let line = format!(
                 "{mark} {:width$}  {:types$}  {}",
                 row.target,
-                brief_type(&row.to),
+                row.type_text(),
                 row.how()
             );
             text.push_str(&paint.put(style, &line));

@@ -127,6 +127,15 @@ fn fields_by_name() {
 }
 
 #[test]
+fn an_extra_column() {
+    let (two, one) = ("a: int8, b: struct { c: int8 }", "a: int8");
+    assert_eq!(by_name("-extra_columns", two, one), due(53, "", "b"));
+    let (two, one) = ("a @1: int8, b @2: int8", "b @2: int8");
+    let refused = refused(2, "-extra_columns", two, one, "");
+    assert_eq!(refused, due(53, "", "a"));
+}
+
+#[test]
 fn fields_by_number() {
     let none = "a @9: int8";
     assert_eq!(
