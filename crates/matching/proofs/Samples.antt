@@ -311,16 +311,16 @@ unfolding built
 extra-and-mismatch = refl
 
 -- by number an extra column has an id that the target lacks, whatever its name
-extra-by-number : buildByNumber noExtraColumns 0 (laid 2 2 (numbered 0x73 1 (3 ∷ numbered 0x74 2 (3 ∷ [])))) (laid 2 1 (numbered 0x74 1 (3 ∷ []))) none 1000 ≡ refusedAt 53 1
+extra-by-number : buildByNumber noExtraColumns 0 0 (laid 2 2 (numbered 0x73 1 (3 ∷ numbered 0x74 2 (3 ∷ [])))) (laid 2 1 (numbered 0x74 1 (3 ∷ []))) none 1000 ≡ refusedAt 53 1
 unfolding built
 extra-by-number = refl
 
 -- after 10, and after the table's faults
-extra-after-version : buildByNumber noExtraColumns 0 (laid 2 1 (numbered 0x74 1 (3 ∷ []))) (laid 1 0 []) none 1000 ≡ refusedAt 10 0
+extra-after-version : buildByNumber noExtraColumns 0 0 (laid 2 1 (numbered 0x74 1 (3 ∷ []))) (laid 1 0 []) none 1000 ≡ refusedAt 10 0
 unfolding built
 extra-after-version = refl
 
-extra-after-table : buildByNumber noExtraColumns 0 (laid 2 1 (numbered 0x74 1 (3 ∷ []))) (laid 2 0 []) (defaults 2 (initialSeven ++ initialSeven)) 1000 ≡ refusedAt 5 3
+extra-after-table : buildByNumber noExtraColumns 0 0 (laid 2 1 (numbered 0x74 1 (3 ∷ []))) (laid 2 0 []) (defaults 2 (initialSeven ++ initialSeven)) 1000 ≡ refusedAt 5 3
 unfolding built
 extra-after-table = refl
 
