@@ -130,7 +130,8 @@ module _ {incoming plan : Bytes} {t : DataType} {h : TypeHead} (H : TypeHeadIs i
 
     module _ {m : Version} {n : ℕ} {q : Resolved} (R : ResolvedAt incoming m n plan q t) {r : Ends} where
       pub structs-same : {k : ℕ} → q .source ≡ Source.Mapped → (i : h ≡ TypeHead.Struct k)
-          → ((fs : Fields) (C : ColumnsAt v (d - 1) s k (g .at)) → MappedAt incoming m n plan (q .walk) (struct fs) → countFields fs ≡ k → r ≡ endsOf (sameFields fs (fieldsOf (C .columns))) (C .end))
+          → ((fs : Fields) (C : ColumnsAt v (d - 1) s k (g .at)) → MappedAt incoming m n plan (q .walk) (struct fs) → countFields fs ≡ k
+              → r ≡ endsOf (sameFields fs (fieldsOf (C .columns))) (C .end))
           → r ≡ endsOf (sameDtype t (dtypeOf (Q .tree))) (Q .end)
       unfolding sameDtype dtypeOf
       structs-same y i o =
@@ -190,7 +191,8 @@ abbrev pub columns-as : {v : Version} {d : ℕ} {s : Bytes} {n m at to : ℕ} �
 columns-as {v} {d} {s} {n} {m} {at} {to} e g P =
     record { columns = P .columns; end = P .end; reads = sym (ap (λ (k : ℕ). columnsOf v Free (type v Free d) k [] s at) e ∙ ap (λ (o : ℕ). columnsOf v Free (type v Free d) m [] s o) g) ∙ P .reads }
 
-pub record Matching (incoming : Bytes) (v : Version) (n : ℕ) (plan : Bytes) (w : Walk) (count : ℕ) (target : Bytes) (vt : Version) (depth base from at k : ℕ) : Type 0 where
+pub record Matching (incoming : Bytes) (v : Version) (n : ℕ) (plan : Bytes) (w : Walk) (count : ℕ) (target : Bytes) (vt : Version)
+    (depth base from at k : ℕ) : Type 0 where
   pub some : Fields
   pub start : MappedAt incoming v n plan w (struct some)
   pub counted : countFields some ≡ count
@@ -201,7 +203,8 @@ pub record Matching (incoming : Bytes) (v : Version) (n : ℕ) (plan : Bytes) (w
       → endsOf (sameFields fs (fieldsOf (Q .columns))) (Q .end) ≡ endsOf (sameFields (dropFields k fs) (fieldsOf (rest .columns))) (rest .end)
 
 module _ {incoming : Bytes} {v : Version} {n : ℕ} {plan : Bytes} {w : Walk} {count : ℕ} {target : Bytes} {vt : Version} {depth base : ℕ} where
-  pub matching-start : {fs : Fields} → MappedAt incoming v n plan w (struct fs) → countFields fs ≡ count → ColumnsAt vt depth target count base → {from : ℕ} → PassedTo plan (w .at) 0 from
+  pub matching-start : {fs : Fields} → MappedAt incoming v n plan w (struct fs) → countFields fs ≡ count → ColumnsAt vt depth target count base → {from : ℕ}
+      → PassedTo plan (w .at) 0 from
       → Matching incoming v n plan w count target vt depth base from base 0
   unfolding dropFields
   matching-start {fs} R c C B = record {
@@ -257,15 +260,19 @@ module _ {incoming : Bytes} {v : Version} {n : ℕ} {plan : Bytes} {w : Walk} {c
                 answers = F a (S .first) (made-named (O .start) (O .passed) below g R e);
                 is = O .keeps fs Q R c ∙ ap (λ (gs : Fields). endsOf (sameFields gs (fieldsOf (O .rest .columns))) (O .rest .end)) (drop-next fs k e)
                     ∙ ap (λ (cs : Columns). endsOf (sameFields (fcons (a .name) (a .type) (dropFields (suc k) fs)) (fieldsOf cs)) (O .rest .end)) (S .is)
-                    ∙ ap (λ (j : ℕ). endsOf (sameBytes (a .name) (S .first .label .name) && (sameDtype (a .type) (dtypeOf (S .first .inner .tree)) && sameFields (dropFields (suc k) fs) (fieldsOf (S .tail .columns)))) j) (sym (S .ends));
+                    ∙ ap (λ (j : ℕ). endsOf (sameBytes (a .name) (S .first .label .name) &&
+                        (sameDtype (a .type) (dtypeOf (S .first .inner .tree)) && sameFields (dropFields (suc k) fs) (fieldsOf (S .tail .columns)))) j)
+                        (sym (S .ends));
               }
 
-          pub matching-no : f ≡ Ends.Differ → (fs : Fields) (Q : ColumnsAt vt depth target count base) → MappedAt incoming v n plan w (struct fs) → countFields fs ≡ count
+          pub matching-no : f ≡ Ends.Differ → (fs : Fields) (Q : ColumnsAt vt depth target count base) → MappedAt incoming v n plan w (struct fs)
+              → countFields fs ≡ count
               → Ends.Differ ≡ endsOf (sameFields fs (fieldsOf (Q .columns))) (Q .end)
           unfolding endsOf
           matching-no e fs Q R c =
               let H = here fs Q R c in
-              sym (H .is ∙ none (H .names) (H .types) (sameFields (dropFields (suc k) fs) (fieldsOf (matching-first .tail .columns))) (ends-differ (H .names && H .types) (matching-first .first .inner .end) (sym (H .answers) ∙ e)) (matching-first .tail .end))
+              sym (H .is ∙ none (H .names) (H .types) (sameFields (dropFields (suc k) fs) (fieldsOf (matching-first .tail .columns)))
+                  (ends-differ (H .names && H .types) (matching-first .first .inner .end) (sym (H .answers) ∙ e)) (matching-first .tail .end))
             where
               none : (x y z : Bool) → (x && y) ≡ false → (j : ℕ) → endsOf (x && (y && z)) j ≡ Ends.Differ
               none true true z p j = true≠false refl p
@@ -276,9 +283,11 @@ module _ {incoming : Bytes} {v : Version} {n : ℕ} {plan : Bytes} {w : Walk} {c
           at-end : {y : Cursor} → f ≡ Ends.At y → matching-first .first .inner .end ≡ y .at
           at-end e =
               let (a, N) = matching-asks in
-              sym (ends-at (sameBytes (a .name) (matching-first .first .label .name) && sameDtype (a .type) (dtypeOf (matching-first .first .inner .tree))) (matching-first .first .inner .end) (sym (F a (matching-first .first) N) ∙ e) .1)
+              sym (ends-at (sameBytes (a .name) (matching-first .first .label .name) && sameDtype (a .type) (dtypeOf (matching-first .first .inner .tree)))
+                  (matching-first .first .inner .end) (sym (F a (matching-first .first) N) ∙ e) .1)
 
-          pub matching-more : {y : Cursor} → f ≡ Ends.At y → {d : ℕ} → ((P : SelectorAt plan from) → d ≡ P .end) → Matching incoming v n plan w count target vt depth base d (y .at) (k + 1)
+          pub matching-more : {y : Cursor} → f ≡ Ends.At y → {d : ℕ} → ((P : SelectorAt plan from) → d ≡ P .end)
+              → Matching incoming v n plan w count target vt depth base d (y .at) (k + 1)
           matching-more {y} e s = record {
             some = O .some;
             start = O .start;
@@ -289,7 +298,8 @@ module _ {incoming : Bytes} {v : Version} {n : ℕ} {plan : Bytes} {w : Walk} {c
             keeps = λ fs Q R c.
                 let H = here fs Q R c in
                 let z : suc k ≡ k + 1 = omega arith in
-                H .is ∙ all (H .names) (H .types) (sameFields (dropFields (suc k) fs) (fieldsOf (matching-first .tail .columns))) (ends-at (H .names && H .types) (matching-first .first .inner .end) (sym (H .answers) ∙ e) .0) (matching-first .tail .end)
+                H .is ∙ all (H .names) (H .types) (sameFields (dropFields (suc k) fs) (fieldsOf (matching-first .tail .columns)))
+                    (ends-at (H .names && H .types) (matching-first .first .inner .end) (sym (H .answers) ∙ e) .0) (matching-first .tail .end)
                 ∙ ap (λ (j : ℕ). endsOf (sameFields (dropFields j fs) (fieldsOf (matching-first .tail .columns))) (matching-first .tail .end)) z;
           }
             where

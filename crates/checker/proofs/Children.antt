@@ -31,7 +31,8 @@ use Rattle.checker.proofs.Parting.{made-deep, child-named}
 -- ---- selectors that were passed
 
 -- one more
-one-more : {s : Bytes} (k : ℕ) {at : ℕ} (R : SelectorsAt s k at) (N : SelectorAt s (R .end)) → (ys : Selectors) × (selectorsOf (selector deepestSelector) (suc k) s at ≡ ok ys (N .end))
+one-more : {s : Bytes} (k : ℕ) {at : ℕ} (R : SelectorsAt s k at) (N : SelectorAt s (R .end))
+    → (ys : Selectors) × (selectorsOf (selector deepestSelector) (suc k) s at ≡ ok ys (N .end))
 unfolding selectorsOf next
 one-more {s} zero R N = (scons (N .tree) snil, rw (ap (λ (o : ℕ). selector deepestSelector s o) (sym (no-selector R refl .1)) ∙ N .reads))
 one-more (suc k) R N =
@@ -48,7 +49,8 @@ nth-behind {s} {k} {first} R e n Q l =
     subst (λ (o : ℕ). NthIs s n first Q k o) (y ∙ e) (N .nth)
 
 -- none yet
-pub passed-none : {plan : Bytes} {at : ℕ} {f : StructFields} → ((P : SelectorAt plan (at + 1)) (Q : CountedAt plan (P .end)) → CountedIs plan (P .end) Q f) → PassedTo plan at 0 (f .first .at)
+pub passed-none : {plan : Bytes} {at : ℕ} {f : StructFields} → ((P : SelectorAt plan (at + 1)) (Q : CountedAt plan (P .end)) → CountedIs plan (P .end) Q f)
+    → PassedTo plan at 0 (f .first .at)
 unfolding selectorsOf
 passed-none g = record {
   passed = λ P i S.
@@ -80,7 +82,8 @@ module _ {plan : Bytes} {at : ℕ} (H : SelectorAt plan at) {i : Selector} {ss :
         go P (v-struct S) =
             let (R, e) = B .passed P _ S in
             let c = count-is P S in
-            field-found k S {r = record { count = S .fields .count; first = record { at = S .fields .first } }} (record { count = refl; first = refl }) (omega arith) {c = record { at = m }}
+            field-found k S {r = record { count = S .fields .count; first = record { at = S .fields .first } }} (record { count = refl; first = refl })
+                (omega arith) {c = record { at = m }}
             (λ n Q j. nth-behind R e n Q j) .answer
         go P (v-list C) = let q = sym (C .is) ∙ tree-is P in clash (cc)
         go P (v-array C) = let q = sym (C .is) ∙ tree-is P in clash (cc)
@@ -93,24 +96,29 @@ module _ {plan : Bytes} {at : ℕ} (H : SelectorAt plan at) {i : Selector} {ss :
           let N = nth-behind R e (S .fields .count) (S .fields .selectors) (omega arith) in
           let (ys, r) = one-more k R (selector-moved (sym e) (N .here)) in
           let z : k + 1 ≡ suc k = omega arith in
-          (record { trees = ys; end = N .here .end; reads = ap (λ (n : ℕ). selectorsOf (selector deepestSelector) n plan (S .fields .first)) z ∙ r }, sym (f (N .here)));
+          (record { trees = ys; end = N .here .end; reads = ap (λ (n : ℕ). selectorsOf (selector deepestSelector) n plan (S .fields .first)) z ∙ r }, sym
+              (f (N .here)));
     }
 
 -- the walk x stands at the part k, which stands at m
 abbrev pub ChildAt : Walk → ℕ → ℕ → Walk → Type 0
-ChildAt w k m x = (p : Bytes) → PartStands p (w .at) k m → (z : State) (f : Frame) (s : Selector) → WalkAt p w z → z .path ≡ [] → Part (z .selector) k f s → StepsTo p (state s (f ∷ z .frames) []) w x
+ChildAt w k m x = (p : Bytes) → PartStands p (w .at) k m → (z : State) (f : Frame) (s : Selector) → WalkAt p w z → z .path ≡ [] → Part (z .selector) k f s
+    → StepsTo p (state s (f ∷ z .frames) []) w x
 
 -- of what makes a struct
-module _ {incoming : Bytes} {v : Version} {n : ℕ} {plan : Bytes} {w : Walk} {gs : Fields} (M : MappedAt incoming v n plan w (struct gs)) {k m : ℕ} (B : PassedTo plan (w .at) k m) (l : k < countFields gs) where
+module _ {incoming : Bytes} {v : Version} {n : ℕ} {plan : Bytes} {w : Walk} {gs : Fields} (M : MappedAt incoming v n plan w (struct gs)) {k m : ℕ}
+    (B : PassedTo plan (w .at) k m) (l : k < countFields gs) where
   pub made-stands : PartStands plan (w .at) k m
   made-stands = let D = made-parts (M .made) in let c = D .count in part-stands (M .standing .here) (M .standing .selector ∙ D .is) B (omega arith)
 
   pub made-more : {e : ℕ} → ((P : SelectorAt plan m) → e ≡ P .end) → PassedTo plan (w .at) (k + 1) e
   made-more = let D = made-parts (M .made) in let c = D .count in passed-more (M .standing .here) (M .standing .selector ∙ D .is) B (omega arith)
 
-  pub made-named : {x : Walk} → ChildAt w k m x → {fs : Fields} {a : Column} → MappedAt incoming v n plan w (struct fs) → columnAt fs k ≡ gives a → NamedAt incoming v n plan x a
+  pub made-named : {x : Walk} → ChildAt w k m x → {fs : Fields} {a : Column} → MappedAt incoming v n plan w (struct fs) → columnAt fs k ≡ gives a
+      → NamedAt incoming v n plan x a
   made-named g N e = child-named (g plan made-stands) N e
 
 -- what `first_child` and `child_at` ask
-pub made-asks : {incoming : Bytes} {v : Version} {n : ℕ} {plan : Bytes} {w : Walk} {gs : Fields} → MappedAt incoming v n plan w (struct gs) → (w .at < 65536) × (w .deep < 64)
+pub made-asks : {incoming : Bytes} {v : Version} {n : ℕ} {plan : Bytes} {w : Walk} {gs : Fields} → MappedAt incoming v n plan w (struct gs)
+    → (w .at < 65536) × (w .deep < 64)
 made-asks M = (walk-small (M .standing), made-deep M)

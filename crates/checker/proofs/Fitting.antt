@@ -267,13 +267,16 @@ module _ {incoming plan : Bytes} {t : DataType} {h : TypeHead} (H : TypeHeadIs i
   -- a mapping makes it
   pub struct-asks : {v : Version} {m : ℕ} {q : Resolved} {n : ℕ} → ResolvedAt incoming v m plan q t → q .source ≡ Source.Mapped → h ≡ TypeHead.Struct n
       → (fs : Fields) × MappedAt incoming v m plan (q .walk) (struct fs) × (countFields fs ≡ n)
-  struct-asks {v} {m} {q} R z e = let (fs, (p, c)) = is-struct e in (fs, subst (λ (u : DataType). MappedAt incoming v m plan (q .walk) u) p (from-mapping R z), c)
+  struct-asks {v} {m} {q} R z e = let (fs, (p, c)) = is-struct e in (fs, subst (λ (u : DataType). MappedAt incoming v m plan (q .walk) u) p
+      (from-mapping R z), c)
 
-  pub struct-fits : {v : Version} {m : ℕ} {q : Resolved} {n : ℕ} {f : Fit} (l r : ℕ) → ResolvedAt incoming v m plan q t → q .source ≡ Source.Mapped → h ≡ TypeHead.Struct n → (l ≡ 0 → ⊥) → 3 ≤ r
+  pub struct-fits : {v : Version} {m : ℕ} {q : Resolved} {n : ℕ} {f : Fit} (l r : ℕ) → ResolvedAt incoming v m plan q t → q .source ≡ Source.Mapped
+      → h ≡ TypeHead.Struct n → (l ≡ 0 → ⊥) → 3 ≤ r
       → ((fs : Fields) → MappedAt incoming v m plan (q .walk) (struct fs) → countFields fs ≡ n → f ≡ fieldsFit fs (l - 1) (r - 3)) → f ≡ typeFit t l r
   struct-fits {v} {m} {q} l r R y e z k g =
       let (fs, (p, c)) = is-struct e in
-      g fs (subst (λ (u : DataType). MappedAt incoming v m plan (q .walk) u) p (from-mapping R y)) c ∙ fit-struct fs l r z k ∙ ap (λ (u : DataType). typeFit u l r) (sym p)
+      g fs (subst (λ (u : DataType). MappedAt incoming v m plan (q .walk) u) p (from-mapping R y)) c ∙ fit-struct fs l r z k
+          ∙ ap (λ (u : DataType). typeFit u l r) (sym p)
 
   module _ {v : Version} {m : ℕ} {q : Resolved} (R : ResolvedAt incoming v m plan q t) where
     pub list-asks : h ≡ TypeHead.List → (u : DataType) × (a : Column) × ResolvedAt incoming v m plan q u × PartOf u 0 a
@@ -326,10 +329,12 @@ pub record Fitting (incoming : Bytes) (v : Version) (n : ℕ) (plan : Bytes) (w 
   pub counted : countFields some ≡ count
   pub within : k ≤ count
   pub passed : PassedTo plan (w .at) k at
-  pub keeps : (fs : Fields) → MappedAt incoming v n plan w (struct fs) → countFields fs ≡ count → fieldsFit fs levels room ≡ fieldsFit (dropFields k fs) levels left
+  pub keeps : (fs : Fields) → MappedAt incoming v n plan w (struct fs) → countFields fs ≡ count
+      → fieldsFit fs levels room ≡ fieldsFit (dropFields k fs) levels left
 
 module _ {incoming : Bytes} {v : Version} {n : ℕ} {plan : Bytes} {w : Walk} {count levels room : ℕ} where
-  pub fitting-start : {fs : Fields} {at : ℕ} → MappedAt incoming v n plan w (struct fs) → countFields fs ≡ count → PassedTo plan (w .at) 0 at → Fitting incoming v n plan w count levels room at room 0
+  pub fitting-start : {fs : Fields} {at : ℕ} → MappedAt incoming v n plan w (struct fs) → countFields fs ≡ count → PassedTo plan (w .at) 0 at
+      → Fitting incoming v n plan w count levels room at room 0
   unfolding dropFields
   fitting-start {fs} M e B = record { some = fs; start = M; counted = e; within = omega arith; passed = B; keeps = λ gs S c. refl }
 
@@ -367,8 +372,10 @@ module _ {incoming : Bytes} {v : Version} {n : ℕ} {plan : Bytes} {w : Walk} {c
               is = O .keeps fs M c ∙ ap (λ (gs : Fields). fieldsFit gs levels left) (drop-next fs k e);
             }
 
-        pub fitting-named : left ≤ m .span .len → (fs : Fields) → MappedAt incoming v n plan w (struct fs) → countFields fs ≡ count → Fit.Over ≡ fieldsFit fs levels room
-        fitting-named q fs M c = let H = here fs M c in let e = H .long in fit-name (H .field .name) (H .field .type) (dropFields (suc k) fs) levels left (omega arith) ∙ sym (H .is)
+        pub fitting-named : left ≤ m .span .len → (fs : Fields) → MappedAt incoming v n plan w (struct fs) → countFields fs ≡ count
+            → Fit.Over ≡ fieldsFit fs levels room
+        fitting-named q fs M c = let H = here fs M c in let e = H .long in fit-name (H .field .name) (H .field .type) (dropFields (suc k) fs) levels left
+            (omega arith) ∙ sym (H .is)
 
         module _ (q : m .span .len < left) {p : Resolved} (T : (t : DataType) → TypedAt incoming v n plan x t → Resolves incoming v n plan x t p) where
           part-resolved : {fs : Fields} (H : Here fs) → ResolvedAt incoming v n plan p (H .field .type)
@@ -381,13 +388,15 @@ module _ {incoming : Bytes} {v : Version} {n : ℕ} {plan : Bytes} {w : Walk} {c
             fit-here : {fs : Fields} (H : Here fs) → f ≡ typeFit (H .field .type) levels (left - length (H .field .name) - 1)
             fit-here H = F (H .field .type) (part-resolved H) ∙ ap (λ (i : ℕ). typeFit (H .field .type) levels (left - i - 1)) (H .long)
 
-            pub fitting-over : f ≡ Fit.Over → (fs : Fields) → MappedAt incoming v n plan w (struct fs) → countFields fs ≡ count → Fit.Over ≡ fieldsFit fs levels room
+            pub fitting-over : f ≡ Fit.Over → (fs : Fields) → MappedAt incoming v n plan w (struct fs) → countFields fs ≡ count
+                → Fit.Over ≡ fieldsFit fs levels room
             fitting-over e fs M c =
                 let H = here fs M c in
                 let z = H .long in
                 fit-field-over (H .field .name) (H .field .type) (dropFields (suc k) fs) levels left (omega arith) (sym (fit-here H) ∙ e) ∙ sym (H .is)
 
-            pub fitting-more : {y : ℕ} → f ≡ Fit.Left y → {d : ℕ} → ((P : SelectorAt plan at) → d ≡ P .end) → Fitting incoming v n plan w count levels room d y (k + 1)
+            pub fitting-more : {y : ℕ} → f ≡ Fit.Left y → {d : ℕ} → ((P : SelectorAt plan at) → d ≡ P .end)
+                → Fitting incoming v n plan w count levels room d y (k + 1)
             fitting-more {y} e s = record {
               some = O .some;
               start = O .start;
@@ -398,5 +407,6 @@ module _ {incoming : Bytes} {v : Version} {n : ℕ} {plan : Bytes} {w : Walk} {c
                   let H = here fs M c in
                   let z = H .long in
                   let i : suc k ≡ k + 1 = omega arith in
-                  H .is ∙ fit-field (H .field .name) (H .field .type) (dropFields (suc k) fs) levels left (omega arith) (sym (fit-here H) ∙ e) ∙ ap (λ (j : ℕ). fieldsFit (dropFields j fs) levels y) i;
+                  H .is ∙ fit-field (H .field .name) (H .field .type) (dropFields (suc k) fs) levels left (omega arith) (sym (fit-here H) ∙ e)
+                      ∙ ap (λ (j : ℕ). fieldsFit (dropFields j fs) levels y) i;
             }

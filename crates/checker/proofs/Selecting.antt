@@ -425,7 +425,8 @@ module _ {incoming : Bytes} {v : Version} {n : ℕ} {plan : Bytes} {w : Walk} wh
   element-made (of-list M) h = record { columns = M .columns; place = _; standing = M .standing; shallow = M .shallow; made = made-list (M .scoped) (M .passes) (M .kind) h }
   element-made (of-array M) h = record { columns = M .columns; place = _; standing = M .standing; shallow = M .shallow; made = made-array (M .scoped) (M .passes) (M .kind) h }
 
-  module _ {t : DataType} {e : Selector} {f : DataType → DataType} (E : Elements incoming v n plan w t e f) {x : Walk} (g : ToChild plan w 0 x) {r : Checked} (h : Answers incoming v n plan x 1 r) where
+  module _ {t : DataType} {e : Selector} {f : DataType → DataType} (E : Elements incoming v n plan w t e f) {x : Walk} (g : ToChild plan w 0 x) {r : Checked}
+      (h : Answers incoming v n plan x 1 r) where
     element-answer : r ≡ checkedOf (typeOf (elementOf t) e)
     element-answer = h e (elementOf t) (element-step E g .checking) (one-element t)
 
@@ -442,8 +443,10 @@ module _ {incoming : Bytes} {v : Version} {n : ℕ} {plan : Bytes} {w : Walk} wh
 -- ---- struct mappings
 
 -- what `first_child` and `child_at` ask
-pub mapping-asks : {incoming : Bytes} {v : Version} {n : ℕ} {plan : Bytes} {w : Walk} {i : Selector} {ss : Selectors} {u : DataType} → MappingAt incoming v n plan w (structMapping i ss) i u → (w .at < 65536) × (w .deep < 64)
-mapping-asks {i = i} {ss = ss} M = (walk-small (M .standing), let a = entries-count (M .standing .entries) in let b = nests-struct i ss in omega (arith, M .shallow .here))
+pub mapping-asks : {incoming : Bytes} {v : Version} {n : ℕ} {plan : Bytes} {w : Walk} {i : Selector} {ss : Selectors} {u : DataType}
+    → MappingAt incoming v n plan w (structMapping i ss) i u → (w .at < 65536) × (w .deep < 64)
+mapping-asks {i = i} {ss = ss} M = (walk-small (M .standing), let a = entries-count (M .standing .entries) in
+    let b = nests-struct i ss in omega (arith, M .shallow .here))
 
 unfoldable pub dropSelectors : ℕ → Selectors → Selectors
 dropSelectors zero ss = ss
@@ -484,14 +487,26 @@ pub record Passing (incoming : Bytes) (v : Version) (n : ℕ) (plan : Bytes) (w 
   pub columns : countFields scope ≡ m
   pub within : k ≤ count
   pub passed : PassedTo plan (w .at) k at
-  pub keeps : (i : Selector) (ss : Selectors) (fs : Fields) → MappingAt incoming v n plan w (structMapping i ss) i (struct fs) → countSelectors ss ≡ count → countFields fs ≡ m
+  pub keeps : (i : Selector) (ss : Selectors) (fs : Fields) → MappingAt incoming v n plan w (structMapping i ss) i (struct fs) → countSelectors ss ≡ count
+      → countFields fs ≡ m
       → checkedOf (typesOf fs ss) ≡ checkedOf (typesOf fs (dropSelectors k ss))
 
 module _ {incoming : Bytes} {v : Version} {n : ℕ} {plan : Bytes} {w : Walk} {count m : ℕ} where
-  pub passing-start : {i : Selector} {ss : Selectors} {fs : Fields} → MappingAt incoming v n plan w (structMapping i ss) i (struct fs) → countSelectors ss ≡ count → countFields fs ≡ m
+  pub passing-start : {i : Selector} {ss : Selectors} {fs : Fields} → MappingAt incoming v n plan w (structMapping i ss) i (struct fs)
+      → countSelectors ss ≡ count → countFields fs ≡ m
       → {at : ℕ} → PassedTo plan (w .at) 0 at → Passing incoming v n plan w count m at 0
   unfolding dropSelectors
-  passing-start {i} {ss} {fs} M c f B = record { input = i; parts = ss; scope = fs; start = M; counted = c; columns = f; within = omega arith; passed = B; keeps = λ j rs gs N d e. refl }
+  passing-start {i} {ss} {fs} M c f B = record {
+    input = i;
+    parts = ss;
+    scope = fs;
+    start = M;
+    counted = c;
+    columns = f;
+    within = omega arith;
+    passed = B;
+    keeps = λ j rs gs N d e. refl;
+  }
 
   module _ {at k : ℕ} (O : Passing incoming v n plan w count m at k) where
     module _ (h : k < count) {x : Walk} (j : ChildAt w k at x) where
@@ -525,15 +540,18 @@ module _ {incoming : Bytes} {v : Version} {n : ℕ} {plan : Bytes} {w : Walk} {c
       passing-falls = child (O .start) (O .counted) .falls
 
       module _ {r : Checked} (f : Answers incoming v n plan x m r) where
-        rest-is : {i : Selector} {ss : Selectors} {fs : Fields} (M : MappingAt incoming v n plan w (structMapping i ss) i (struct fs)) (c : countSelectors ss ≡ count) → countFields fs ≡ m
+        rest-is : {i : Selector} {ss : Selectors} {fs : Fields} (M : MappingAt incoming v n plan w (structMapping i ss) i (struct fs))
+            (c : countSelectors ss ≡ count) → countFields fs ≡ m
             → checkedOf (typesOf fs ss) ≡ checkedOf (typesOf fs (scons (child M c .part) (dropSelectors (suc k) ss)))
         rest-is {i} {ss} {fs} M c d = O .keeps i ss fs M c d ∙ ap (λ (rs : Selectors). checkedOf (typesOf fs rs)) (drop-nth (child M c .nth))
 
-        pub passing-refused : {q : ℕ} → r ≡ Checked.Refused q → (i : Selector) (ss : Selectors) (fs : Fields) (name : Bytes) → MappingAt incoming v n plan w (structMapping i ss) i (struct fs) → countSelectors ss ≡ count → countFields fs ≡ m
+        pub passing-refused : {q : ℕ} → r ≡ Checked.Refused q → (i : Selector) (ss : Selectors) (fs : Fields) (name : Bytes)
+            → MappingAt incoming v n plan w (structMapping i ss) i (struct fs) → countSelectors ss ≡ count → countFields fs ≡ m
             → Checked.Refused q ≡ checkedOf (fieldsResult fs ss name)
         passing-refused e i ss fs name M c d =
             let N = child M c in
-            bind-refused (typesOf fs ss) (λ gs. resulting name (struct gs)) (rest-is M c d ∙ types-refused fs (N .part) (dropSelectors (suc k) ss) (sym (f (N .part) fs (N .checking) d) ∙ e))
+            bind-refused (typesOf fs ss) (λ gs. resulting name (struct gs))
+                (rest-is M c d ∙ types-refused fs (N .part) (dropSelectors (suc k) ss) (sym (f (N .part) fs (N .checking) d) ∙ e))
 
         pub passing-more : r ≡ Checked.Passed → {y : ℕ} → ((P : SelectorAt plan at) → y ≡ P .end) → Passing incoming v n plan w count m y (k + 1)
         passing-more e s = record {
@@ -548,11 +566,13 @@ module _ {incoming : Bytes} {v : Version} {n : ℕ} {plan : Bytes} {w : Walk} {c
           keeps = λ i ss fs M c d.
               let N = child M c in
               let z : suc k ≡ k + 1 = omega arith in
-              rest-is M c d ∙ types-passed fs (N .part) (dropSelectors (suc k) ss) (sym (f (N .part) fs (N .checking) d) ∙ e) ∙ ap (λ (j : ℕ). checkedOf (typesOf fs (dropSelectors j ss))) z;
+              rest-is M c d ∙ types-passed fs (N .part) (dropSelectors (suc k) ss) (sym (f (N .part) fs (N .checking) d) ∙ e)
+                  ∙ ap (λ (j : ℕ). checkedOf (typesOf fs (dropSelectors j ss))) z;
         }
 
     module _ (h : count ≤ k) where
-      all-passed : {i : Selector} {ss : Selectors} {fs : Fields} → MappingAt incoming v n plan w (structMapping i ss) i (struct fs) → countSelectors ss ≡ count → countFields fs ≡ m → (gs : Fields) × (typesOf fs ss ≡ gives gs)
+      all-passed : {i : Selector} {ss : Selectors} {fs : Fields} → MappingAt incoming v n plan w (structMapping i ss) i (struct fs)
+          → countSelectors ss ≡ count → countFields fs ≡ m → (gs : Fields) × (typesOf fs ss ≡ gives gs)
       unfolding typesOf
       all-passed {i} {ss} {fs} M c d =
           passed-gives (typesOf fs ss) (O .keeps i ss fs M c d ∙ ap (λ (rs : Selectors). checkedOf (typesOf fs rs)) (drop-none ss k (omega arith)))
@@ -565,7 +585,8 @@ module _ {incoming : Bytes} {v : Version} {n : ℕ} {plan : Bytes} {w : Walk} {c
         passing-limits = let (gs, p) = all-passed (O .start) (O .counted) (O .columns) in (struct gs, mapped-as e (struct-made (O .start) p))
 
         pub passing-end : {r : Checked} {b : Bool} → r ≡ fittingOf b → ((t : DataType) → ResolvedAt incoming v n plan q t → b ≡ withinLimits t)
-            → (i : Selector) (ss : Selectors) (fs : Fields) (name : Bytes) → MappingAt incoming v n plan w (structMapping i ss) i (struct fs) → countSelectors ss ≡ count → countFields fs ≡ m → r ≡ checkedOf (fieldsResult fs ss name)
+            → (i : Selector) (ss : Selectors) (fs : Fields) (name : Bytes) → MappingAt incoming v n plan w (structMapping i ss) i (struct fs)
+                → countSelectors ss ≡ count → countFields fs ≡ m → r ≡ checkedOf (fieldsResult fs ss name)
         passing-end f l i ss fs name M d y =
             let (gs, p) = all-passed M d y in
             bind-gives (typesOf fs ss) (λ gs. resulting name (struct gs)) p (f ∙ ap fittingOf (l (struct gs) (mapped-as e (struct-made M p))) ∙ result-is name (struct gs))

@@ -108,191 +108,29 @@ abbrev same-mapped-below : ℕ → In 3 same-mapped-kinds.ps
 same-mapped-below t =
     and 3 same-mapped-kinds.ps (falls 3 same-mapped-kinds.ps _<_ μ-same-mapped t) same-mapped.Pre
 
-same-as-enum-told : (t : ℕ) → same-as-lts.Need-enum-told (same-type-reads.Asked, same-type-reads.Learnt, target-end-reads.Asked, target-end-reads.Learnt, same-mapped-below t, same-mapped.Post) (same-as-at t) same-as.Post
-same-as-enum-told t c = search needs
+abbrev same-as-claims : ℕ → same-as-lts.Claims
+same-as-claims t = (same-type-reads.Asked, same-type-reads.Learnt, target-end-reads.Asked, target-end-reads.Learnt, same-mapped-below t, same-mapped.Post)
 
-same-as-same-type-requires : (t : ℕ) → same-as-lts.Need-same-type-requires (same-type-reads.Asked, same-type-reads.Learnt, target-end-reads.Asked, target-end-reads.Learnt, same-mapped-below t, same-mapped.Post) (same-as-at t) same-as.Post
-same-as-same-type-requires t c κs = let (u, R) = c .before .before .before .before .before .before .pre .1 .0 in (from-incoming R (c .enum-told .given .1) .type, c .before .before .before .before .before .before .pre .1 .1)
+abbrev same-column-claims : ℕ → same-column-lts.Claims
+same-column-claims t = (label-reads.Asked, label-reads.Learnt, name-at-reads.Asked, name-at-reads.Learnt, same-name-reads.Asked, same-name-reads.Learnt,
+    resolve-reads.Asked, resolve-reads.Learnt, same-as-below t, same-as.Post)
 
-same-as-target-end-requires : (t : ℕ) → same-as-lts.Need-target-end-requires (same-type-reads.Asked, same-type-reads.Learnt, target-end-reads.Asked, target-end-reads.Learnt, same-mapped-below t, same-mapped.Post) (same-as-at t) same-as.Post
-same-as-target-end-requires t c κs = search needs
+abbrev same-element-claims : ℕ → same-element-lts.Claims
+same-element-claims t = (element-label-reads.Asked, element-label-reads.Learnt, part-reads.Asked, part-reads.Learnt, same-as-below t, same-as.Post)
 
-same-as-enum-told-2 : (t : ℕ) → same-as-lts.Need-enum-told-2 (same-type-reads.Asked, same-type-reads.Learnt, target-end-reads.Asked, target-end-reads.Learnt, same-mapped-below t, same-mapped.Post) (same-as-at t) same-as.Post
-same-as-enum-told-2 t c = search needs
+abbrev same-fields-claims : ℕ → same-fields-lts.Claims
+same-fields-claims t = (first-child-reads.Asked, first-child-reads.Learnt, child-at-reads.Asked, child-at-reads.Learnt, same-column-below t, same-column.Post,
+    skip-selector-reads.Asked, skip-selector-reads.Learnt)
 
-same-as-same-type-requires-2 : (t : ℕ) → same-as-lts.Need-same-type-requires-2 (same-type-reads.Asked, same-type-reads.Learnt, target-end-reads.Asked, target-end-reads.Learnt, same-mapped-below t, same-mapped.Post) (same-as-at t) same-as.Post
-same-as-same-type-requires-2 t c κs = let (u, R) = c .before .before .before .before .before .before .pre .1 .0 in (from-plan R (c .enum-told2 .given .1) .type, c .before .before .before .before .before .before .pre .1 .1)
-
-same-as-target-end-requires-2 : (t : ℕ) → same-as-lts.Need-target-end-requires-2 (same-type-reads.Asked, same-type-reads.Learnt, target-end-reads.Asked, target-end-reads.Learnt, same-mapped-below t, same-mapped.Post) (same-as-at t) same-as.Post
-same-as-target-end-requires-2 t c κs = search needs
-
-same-as-enum-told-3 : (t : ℕ) → same-as-lts.Need-enum-told-3 (same-type-reads.Asked, same-type-reads.Learnt, target-end-reads.Asked, target-end-reads.Learnt, same-mapped-below t, same-mapped.Post) (same-as-at t) same-as.Post
-same-as-enum-told-3 t c = search needs
-
-same-as-same-mapped-requires : (t : ℕ) → same-as-lts.Need-same-mapped-requires (same-type-reads.Asked, same-type-reads.Learnt, target-end-reads.Asked, target-end-reads.Learnt, same-mapped-below t, same-mapped.Post) (same-as-at t) same-as.Post
-same-as-same-mapped-requires t c κs = (omega (arith, c .before .before .before .before .before .before .pre .0), (c .before .before .before .before .before .before .pre .1 .0, (c .enum-told3 .given .1, c .before .before .before .before .before .before .pre .1 .1)))
-
-same-as-returns : (t : ℕ) → same-as-lts.Need-returns (same-type-reads.Asked, same-type-reads.Learnt, target-end-reads.Asked, target-end-reads.Learnt, same-mapped-below t, same-mapped.Post) (same-as-at t) same-as.Post
-same-as-returns t c = λ u Q R. let T = from-incoming R (c .before .before .enum-told .given .1) in raw-ends T Q (c .before .same-type .ensures (T .type) Q) (c .target-end .ensures)
-
-same-as-returns-2 : (t : ℕ) → same-as-lts.Need-returns-2 (same-type-reads.Asked, same-type-reads.Learnt, target-end-reads.Asked, target-end-reads.Learnt, same-mapped-below t, same-mapped.Post) (same-as-at t) same-as.Post
-same-as-returns-2 t c = λ u Q R. let T = from-plan R (c .before .before .enum-told2 .given .1) in raw-ends T Q (c .before .same-type2 .ensures (T .type) Q) (c .target-end2 .ensures)
-
-same-as-returns-3 : (t : ℕ) → same-as-lts.Need-returns-3 (same-type-reads.Asked, same-type-reads.Learnt, target-end-reads.Asked, target-end-reads.Learnt, same-mapped-below t, same-mapped.Post) (same-as-at t) same-as.Post
-same-as-returns-3 t c = λ u Q R. c .same-mapped .ensures u Q R
-
-same-column-label-requires : (t : ℕ) → same-column-lts.Need-label-requires (label-reads.Asked, label-reads.Learnt, name-at-reads.Asked, name-at-reads.Learnt, same-name-reads.Asked, same-name-reads.Learnt, resolve-reads.Asked, resolve-reads.Learnt, same-as-below t, same-as.Post) (same-column-at t) same-column.Post
-same-column-label-requires t c κs = search needs
-
-same-column-enum-known-l : (t : ℕ) → same-column-lts.Need-enum-known-l (label-reads.Asked, label-reads.Learnt, name-at-reads.Asked, name-at-reads.Learnt, same-name-reads.Asked, same-name-reads.Learnt, resolve-reads.Asked, resolve-reads.Learnt, same-as-below t, same-as.Post) (same-column-at t) same-column.Post
-same-column-enum-known-l t c = search needs
-
-same-column-name-at-requires : (t : ℕ) → same-column-lts.Need-name-at-requires (label-reads.Asked, label-reads.Learnt, name-at-reads.Asked, name-at-reads.Learnt, same-name-reads.Asked, same-name-reads.Learnt, resolve-reads.Asked, resolve-reads.Learnt, same-as-below t, same-as.Post) (same-column-at t) same-column.Post
-same-column-name-at-requires t c κs = c .before .before .before .before .before .before .before .pre .1 .0
-
-same-column-same-name-requires : (t : ℕ) → same-column-lts.Need-same-name-requires (label-reads.Asked, label-reads.Learnt, name-at-reads.Asked, name-at-reads.Learnt, same-name-reads.Asked, same-name-reads.Learnt, resolve-reads.Asked, resolve-reads.Learnt, same-as-below t, same-as.Post) (same-column-at t) same-column.Post
-same-column-same-name-requires t c κs = let (a, N) = c .before .before .before .before .before .before .before .before .before .pre .1 .0 in ((_, c .before .name-at .ensures a N), label-in _ (c .before .before .before .before .before .label .ensures .1) (c .before .before .before .l .given .1))
-
-same-column-returns : (t : ℕ) → same-column-lts.Need-returns (label-reads.Asked, label-reads.Learnt, name-at-reads.Asked, name-at-reads.Learnt, same-name-reads.Asked, same-name-reads.Learnt, resolve-reads.Asked, resolve-reads.Learnt, same-as-below t, same-as.Post) (same-column-at t) same-column.Post
-same-column-returns t c = λ a E N. field-differs E (c .before .before .before .before .before .before .before .label .ensures .0) (c .before .before .before .before .before .l .given .1) a (c .before .same-name .ensures (a .name) (c .before .before .before .name-at .ensures a N)) (not-true _ (c .if1 .taken))
-
-same-column-resolve-requires : (t : ℕ) → same-column-lts.Need-resolve-requires (label-reads.Asked, label-reads.Learnt, name-at-reads.Asked, name-at-reads.Learnt, same-name-reads.Asked, same-name-reads.Learnt, resolve-reads.Asked, resolve-reads.Learnt, same-as-below t, same-as.Post) (same-column-at t) same-column.Post
-same-column-resolve-requires t c κs = let (a, N) = c .before .before .before .before .before .before .before .before .before .before .before .pre .1 .0 in (_, named-typed N)
-
-same-column-same-as-requires : (t : ℕ) → same-column-lts.Need-same-as-requires (label-reads.Asked, label-reads.Learnt, name-at-reads.Asked, name-at-reads.Learnt, same-name-reads.Asked, same-name-reads.Learnt, resolve-reads.Asked, resolve-reads.Learnt, same-as-below t, same-as.Post) (same-column-at t) same-column.Post
-same-column-same-as-requires t c κs = let (a, N) = c .before .before .before .before .before .before .before .before .before .before .before .before .pre .1 .0 in (omega (arith, c .before .before .before .before .before .before .before .before .before .before .before .before .pre .0), ((_, c .resolve .ensures _ (named-typed N) .resolved), behind-label (c .before .before .before .before .before .before .before .before .before .before .before .before .pre .1 .1) (label-got _ (c .before .before .before .before .before .before .before .before .label .ensures .0) (c .before .before .before .before .before .before .l .given .1))))
-
-same-column-enum-told : (t : ℕ) → same-column-lts.Need-enum-told (label-reads.Asked, label-reads.Learnt, name-at-reads.Asked, name-at-reads.Learnt, same-name-reads.Asked, same-name-reads.Learnt, resolve-reads.Asked, resolve-reads.Learnt, same-as-below t, same-as.Post) (same-column-at t) same-column.Post
-same-column-enum-told t c = search needs
-
-same-column-returns-2 : (t : ℕ) → same-column-lts.Need-returns-2 (label-reads.Asked, label-reads.Learnt, name-at-reads.Asked, name-at-reads.Learnt, same-name-reads.Asked, same-name-reads.Learnt, resolve-reads.Asked, resolve-reads.Learnt, same-as-below t, same-as.Post) (same-column-at t) same-column.Post
-same-column-returns-2 t c = λ a E N. field-goes E (c .before .before .before .before .before .before .before .before .before .label .ensures .0) (c .before .before .before .before .before .before .before .l .given .1) a (c .before .before .before .same-name .ensures (a .name) (c .before .before .before .before .before .name-at .ensures a N)) (not-false _ (c .before .before .if1 .left)) (c .same-as .ensures (a .type) (behind-label E (label-got _ (c .before .before .before .before .before .before .before .before .before .label .ensures .0) (c .before .before .before .before .before .before .before .l .given .1))) (c .before .resolve .ensures (a .type) (named-typed N) .resolved))
-
-same-column-returns-3 : (t : ℕ) → same-column-lts.Need-returns-3 (label-reads.Asked, label-reads.Learnt, name-at-reads.Asked, name-at-reads.Learnt, same-name-reads.Asked, same-name-reads.Learnt, resolve-reads.Asked, resolve-reads.Learnt, same-as-below t, same-as.Post) (same-column-at t) same-column.Post
-same-column-returns-3 t c = λ a E N. never-unlabelled E (c .before .before .label .ensures .0) (c .enum-told .given .1)
-
-same-element-element-label-requires : (t : ℕ) → same-element-lts.Need-element-label-requires (element-label-reads.Asked, element-label-reads.Learnt, part-reads.Asked, part-reads.Learnt, same-as-below t, same-as.Post) (same-element-at t) same-element.Post
-same-element-element-label-requires t c κs = search needs
-
-same-element-enum-known-d : (t : ℕ) → same-element-lts.Need-enum-known-d (element-label-reads.Asked, element-label-reads.Learnt, part-reads.Asked, part-reads.Learnt, same-as-below t, same-as.Post) (same-element-at t) same-element.Post
-same-element-enum-known-d t c = search needs
-
-same-element-part-requires : (t : ℕ) → same-element-lts.Need-part-requires (element-label-reads.Asked, element-label-reads.Learnt, part-reads.Asked, part-reads.Learnt, same-as-below t, same-as.Post) (same-element-at t) same-element.Post
-same-element-part-requires t c κs = c .before .before .before .before .before .before .before .pre .1 .0
-
-same-element-same-as-requires : (t : ℕ) → same-element-lts.Need-same-as-requires (element-label-reads.Asked, element-label-reads.Learnt, part-reads.Asked, part-reads.Learnt, same-as-below t, same-as.Post) (same-element-at t) same-element.Post
-same-element-same-as-requires t c κs = let (u, a, R, P) = c .before .before .before .before .before .before .before .before .pre .1 .0 in (omega (arith, c .before .before .before .before .before .before .before .before .pre .0), ((_, c .part .ensures u a R P), behind-label (c .before .before .before .before .before .before .before .before .pre .1 .1) (label-got _ (c .before .before .before .before .element-label .ensures .0) (c .before .before .d .given .1))))
-
-same-element-enum-told : (t : ℕ) → same-element-lts.Need-enum-told (element-label-reads.Asked, element-label-reads.Learnt, part-reads.Asked, part-reads.Learnt, same-as-below t, same-as.Post) (same-element-at t) same-element.Post
-same-element-enum-told t c = search needs
-
-same-element-returns : (t : ℕ) → same-element-lts.Need-returns (element-label-reads.Asked, element-label-reads.Learnt, part-reads.Asked, part-reads.Learnt, same-as-below t, same-as.Post) (same-element-at t) same-element.Post
-same-element-returns t c = λ u a E R P. c .same-as .ensures (a .type) (behind-label E (label-got _ (c .before .before .before .before .before .element-label .ensures .0) (c .before .before .before .d .given .1))) (c .before .part .ensures u a R P)
-
-same-element-returns-2 : (t : ℕ) → same-element-lts.Need-returns-2 (element-label-reads.Asked, element-label-reads.Learnt, part-reads.Asked, part-reads.Learnt, same-as-below t, same-as.Post) (same-element-at t) same-element.Post
-same-element-returns-2 t c = λ u a E R P. never-unlabelled E (c .before .before .element-label .ensures .0) (c .enum-told .given .1)
+abbrev same-mapped-claims : ℕ → same-mapped-lts.Claims
+same-mapped-claims t = (type-head-reads.Asked, type-head-reads.Learnt, code-reads.Asked, code-reads.Learnt, target-code-reads.Asked, target-code-reads.Learnt,
+    head-end-reads.Asked, head-end-reads.Learnt, same-fields-below t, same-fields.Post, same-element-below t, same-element.Post)
 
 abbrev same-fields-Inv-loop : same-fields-lts.InvT-loop
 same-fields-Inv-loop incoming v n plan w count target vt depth from₀ at₀ k₀ from at k = Matching incoming v n plan w count target vt depth at₀ from at k
 
 abbrev same-fields-μ-loop : same-fields-lts.MeasureT-loop
 same-fields-μ-loop incoming v n plan w count target vt depth from₀ at₀ k₀ from at k = count - k
-
-same-fields-first-child-requires : (t : ℕ) → same-fields-lts.Need-first-child-requires (first-child-reads.Asked, first-child-reads.Learnt, child-at-reads.Asked, child-at-reads.Learnt, same-column-below t, same-column.Post, skip-selector-reads.Asked, skip-selector-reads.Learnt) (same-fields-at t) same-fields.Post same-fields-Inv-loop same-fields-μ-loop
-same-fields-first-child-requires t c κs = let (fs, M, e) = c .before .before .before .pre .1 .0 in made-asks M .0
-
-same-fields-loop-holds : (t : ℕ) → same-fields-lts.Need-loop-holds (first-child-reads.Asked, first-child-reads.Learnt, child-at-reads.Asked, child-at-reads.Learnt, same-column-below t, same-column.Post, skip-selector-reads.Asked, skip-selector-reads.Learnt) (same-fields-at t) same-fields.Post same-fields-Inv-loop same-fields-μ-loop
-same-fields-loop-holds t c = let (fs, M, e) = c .before .before .before .before .pre .1 .0 in matching-start M e (c .before .before .before .before .pre .1 .1) (c .first-child .ensures)
-
-same-fields-child-at-requires : (t : ℕ) → same-fields-lts.Need-child-at-requires (first-child-reads.Asked, first-child-reads.Learnt, child-at-reads.Asked, child-at-reads.Learnt, same-column-below t, same-column.Post, skip-selector-reads.Asked, skip-selector-reads.Learnt) (same-fields-at t) same-fields.Post same-fields-Inv-loop same-fields-μ-loop
-same-fields-child-at-requires t c κs = made-asks (c .before .loop .inv .start)
-
-same-fields-same-column-requires : (t : ℕ) → same-fields-lts.Need-same-column-requires (first-child-reads.Asked, first-child-reads.Learnt, child-at-reads.Asked, child-at-reads.Learnt, same-column-below t, same-column.Post, skip-selector-reads.Asked, skip-selector-reads.Learnt) (same-fields-at t) same-fields.Post same-fields-Inv-loop same-fields-μ-loop
-same-fields-same-column-requires t c κs = (omega (arith, c .before .before .before .before .before .before .before .pre .0), (matching-asks (c .before .before .loop .inv) (c .before .loop-test .taken) (c .child-at .ensures), matching-first (c .before .before .loop .inv) (c .before .loop-test .taken) .first))
-
-same-fields-enum-known-e : (t : ℕ) → same-fields-lts.Need-enum-known-e (first-child-reads.Asked, first-child-reads.Learnt, child-at-reads.Asked, child-at-reads.Learnt, same-column-below t, same-column.Post, skip-selector-reads.Asked, skip-selector-reads.Learnt) (same-fields-at t) same-fields.Post same-fields-Inv-loop same-fields-μ-loop
-same-fields-enum-known-e t c = search needs
-
-same-fields-enum-told : (t : ℕ) → same-fields-lts.Need-enum-told (first-child-reads.Asked, first-child-reads.Learnt, child-at-reads.Asked, child-at-reads.Learnt, same-column-below t, same-column.Post, skip-selector-reads.Asked, skip-selector-reads.Learnt) (same-fields-at t) same-fields.Post same-fields-Inv-loop same-fields-μ-loop
-same-fields-enum-told t c = search needs
-
-same-fields-returns : (t : ℕ) → same-fields-lts.Need-returns (first-child-reads.Asked, first-child-reads.Learnt, child-at-reads.Asked, child-at-reads.Learnt, same-column-below t, same-column.Post, skip-selector-reads.Asked, skip-selector-reads.Learnt) (same-fields-at t) same-fields.Post same-fields-Inv-loop same-fields-μ-loop
-same-fields-returns t c = matching-no (c .before .before .before .before .before .loop .inv) (c .before .before .before .before .loop-test .taken) (c .before .before .before .child-at .ensures) (c .before .before .same-column .ensures) (c .enum-told .given .1)
-
-same-fields-skip-selector-requires : (t : ℕ) → same-fields-lts.Need-skip-selector-requires (first-child-reads.Asked, first-child-reads.Learnt, child-at-reads.Asked, child-at-reads.Learnt, same-column-below t, same-column.Post, skip-selector-reads.Asked, skip-selector-reads.Learnt) (same-fields-at t) same-fields.Post same-fields-Inv-loop same-fields-μ-loop
-same-fields-skip-selector-requires t c κs = search needs
-
-same-fields-add-k : (t : ℕ) → same-fields-lts.Need-add-k (first-child-reads.Asked, first-child-reads.Learnt, child-at-reads.Asked, child-at-reads.Learnt, same-column-below t, same-column.Post, skip-selector-reads.Asked, skip-selector-reads.Learnt) (same-fields-at t) same-fields.Post same-fields-Inv-loop same-fields-μ-loop
-same-fields-add-k t c = omega (arith, c .before .before .before .before .before .before .before .before .before .before .before .before .fits .count, c .before .before .before .before .before .before .loop-test .taken)
-
-same-fields-loop-less : (t : ℕ) → same-fields-lts.Need-loop-less (first-child-reads.Asked, first-child-reads.Learnt, child-at-reads.Asked, child-at-reads.Learnt, same-column-below t, same-column.Post, skip-selector-reads.Asked, skip-selector-reads.Learnt) (same-fields-at t) same-fields.Post same-fields-Inv-loop same-fields-μ-loop
-same-fields-loop-less t c = omega (arith, c .before .before .before .before .before .before .loop-test .taken)
-
-same-fields-loop-again : (t : ℕ) → same-fields-lts.Need-loop-again (first-child-reads.Asked, first-child-reads.Learnt, child-at-reads.Asked, child-at-reads.Learnt, same-column-below t, same-column.Post, skip-selector-reads.Asked, skip-selector-reads.Learnt) (same-fields-at t) same-fields.Post same-fields-Inv-loop same-fields-μ-loop
-same-fields-loop-again t c = matching-more (c .before .before .before .before .before .before .before .loop .inv) (c .before .before .before .before .before .before .loop-test .taken) (c .before .before .before .before .before .child-at .ensures) (c .before .before .before .before .same-column .ensures) (c .before .before .e .given .1) (c .skip-selector .ensures)
-
-same-fields-returns-2 : (t : ℕ) → same-fields-lts.Need-returns-2 (first-child-reads.Asked, first-child-reads.Learnt, child-at-reads.Asked, child-at-reads.Learnt, same-column-below t, same-column.Post, skip-selector-reads.Asked, skip-selector-reads.Learnt) (same-fields-at t) same-fields.Post same-fields-Inv-loop same-fields-μ-loop
-same-fields-returns-2 t c = matching-end (c .before .loop .inv) (c .loop-test .left)
-
-same-mapped-type-head-requires : (t : ℕ) → same-mapped-lts.Need-type-head-requires (type-head-reads.Asked, type-head-reads.Learnt, code-reads.Asked, code-reads.Learnt, target-code-reads.Asked, target-code-reads.Learnt, head-end-reads.Asked, head-end-reads.Learnt, same-fields-below t, same-fields.Post, same-element-below t, same-element.Post) (same-mapped-at t) same-mapped.Post
-same-mapped-type-head-requires t c κs = c .before .before .before .pre .1 .0
-
-same-mapped-code-requires : (t : ℕ) → same-mapped-lts.Need-code-requires (type-head-reads.Asked, type-head-reads.Learnt, code-reads.Asked, code-reads.Learnt, target-code-reads.Asked, target-code-reads.Learnt, head-end-reads.Asked, head-end-reads.Learnt, same-fields-below t, same-fields.Post, same-element-below t, same-element.Post) (same-mapped-at t) same-mapped.Post
-same-mapped-code-requires t c κs = search needs
-
-same-mapped-target-code-requires : (t : ℕ) → same-mapped-lts.Need-target-code-requires (type-head-reads.Asked, type-head-reads.Learnt, code-reads.Asked, code-reads.Learnt, target-code-reads.Asked, target-code-reads.Learnt, head-end-reads.Asked, head-end-reads.Learnt, same-fields-below t, same-fields.Post, same-element-below t, same-element.Post) (same-mapped-at t) same-mapped.Post
-same-mapped-target-code-requires t c κs = search needs
-
-same-mapped-returns : (t : ℕ) → same-mapped-lts.Need-returns (type-head-reads.Asked, type-head-reads.Learnt, code-reads.Asked, code-reads.Learnt, target-code-reads.Asked, target-code-reads.Learnt, head-end-reads.Asked, head-end-reads.Learnt, same-fields-below t, same-fields.Post, same-element-below t, same-element.Post) (same-mapped-at t) same-mapped.Post
-same-mapped-returns t c = λ u Q R. codes-differ (c .before .before .before .before .before .type-head .ensures u R) (c .before .before .before .before .code .ensures) Q (c .before .before .before .target-code .ensures) (c .if1 .taken)
-
-same-mapped-returns-2 : (t : ℕ) → same-mapped-lts.Need-returns-2 (type-head-reads.Asked, type-head-reads.Learnt, code-reads.Asked, code-reads.Learnt, target-code-reads.Asked, target-code-reads.Learnt, head-end-reads.Asked, head-end-reads.Learnt, same-fields-below t, same-fields.Post, same-element-below t, same-element.Post) (same-mapped-at t) same-mapped.Post
-same-mapped-returns-2 t c = λ u Q R. numbers-differ (c .before .before .before .before .before .before .before .before .type-head .ensures u R) (c .before .before .before .before .before .before .before .code .ensures) Q (c .before .before .before .before .before .before .target-code .ensures) (c .if2 .taken)
-
-same-mapped-head-end-requires : (t : ℕ) → same-mapped-lts.Need-head-end-requires (type-head-reads.Asked, type-head-reads.Learnt, code-reads.Asked, code-reads.Learnt, target-code-reads.Asked, target-code-reads.Learnt, head-end-reads.Asked, head-end-reads.Learnt, same-fields-below t, same-fields.Post, same-element-below t, same-element.Post) (same-mapped-at t) same-mapped.Post
-same-mapped-head-end-requires t c κs = search needs
-
-same-mapped-enum-told : (t : ℕ) → same-mapped-lts.Need-enum-told (type-head-reads.Asked, type-head-reads.Learnt, code-reads.Asked, code-reads.Learnt, target-code-reads.Asked, target-code-reads.Learnt, head-end-reads.Asked, head-end-reads.Learnt, same-fields-below t, same-fields.Post, same-element-below t, same-element.Post) (same-mapped-at t) same-mapped.Post
-same-mapped-enum-told t c = search needs
-
-same-mapped-enum-known-h : (t : ℕ) → same-mapped-lts.Need-enum-known-h (type-head-reads.Asked, type-head-reads.Learnt, code-reads.Asked, code-reads.Learnt, target-code-reads.Asked, target-code-reads.Learnt, head-end-reads.Asked, head-end-reads.Learnt, same-fields-below t, same-fields.Post, same-element-below t, same-element.Post) (same-mapped-at t) same-mapped.Post
-same-mapped-enum-known-h t c = search needs
-
-same-mapped-sub-same-fields : (t : ℕ) → same-mapped-lts.Need-sub-same-fields (type-head-reads.Asked, type-head-reads.Learnt, code-reads.Asked, code-reads.Learnt, target-code-reads.Asked, target-code-reads.Learnt, head-end-reads.Asked, head-end-reads.Learnt, same-fields-below t, same-fields.Post, same-element-below t, same-element.Post) (same-mapped-at t) same-mapped.Post
-same-mapped-sub-same-fields t c = let z = deep (c .before .before .before .before .before .before .before .before .before .before .before .before .before .before .before .before .before .pre .1 .1 .1) in omega arith
-
-same-mapped-same-fields-requires : (t : ℕ) → same-mapped-lts.Need-same-fields-requires (type-head-reads.Asked, type-head-reads.Learnt, code-reads.Asked, code-reads.Learnt, target-code-reads.Asked, target-code-reads.Learnt, head-end-reads.Asked, head-end-reads.Learnt, same-fields-below t, same-fields.Post, same-element-below t, same-element.Post) (same-mapped-at t) same-mapped.Post
-same-mapped-same-fields-requires t c κs = let (u, R) = c .before .before .before .before .before .before .before .before .before .before .before .before .before .before .before .before .before .pre .1 .0 in let Q = c .before .before .before .before .before .before .before .before .before .before .before .before .before .before .before .before .before .pre .1 .1 .1 in let z = deep Q in let H = c .before .before .before .before .before .before .before .before .before .before .before .before .before .type-head .ensures u R in (omega (arith, c .before .before .before .before .before .before .before .before .before .before .before .before .before .before .before .before .before .pre .0), (struct-asks H R (c .before .before .before .before .before .before .before .before .before .before .before .before .before .before .before .before .before .pre .1 .1 .0) (c .before .before .h .given .1), struct-there H (c .before .before .before .before .before .before .before .before .before .before .before .before .code .ensures) Q (c .before .before .before .before .before .before .before .before .before .before .before .target-code .ensures) (c .before .before .before .before .before .before .before .before .if1 .left) (c .before .before .before .before .before .if2 .left) refl (c .before .before .before .before .head-end .ensures) (c .before .before .h .given .1) .inner))
-
-same-mapped-enum-told-2 : (t : ℕ) → same-mapped-lts.Need-enum-told-2 (type-head-reads.Asked, type-head-reads.Learnt, code-reads.Asked, code-reads.Learnt, target-code-reads.Asked, target-code-reads.Learnt, head-end-reads.Asked, head-end-reads.Learnt, same-fields-below t, same-fields.Post, same-element-below t, same-element.Post) (same-mapped-at t) same-mapped.Post
-same-mapped-enum-told-2 t c = search needs
-
-same-mapped-sub-same-element : (t : ℕ) → same-mapped-lts.Need-sub-same-element (type-head-reads.Asked, type-head-reads.Learnt, code-reads.Asked, code-reads.Learnt, target-code-reads.Asked, target-code-reads.Learnt, head-end-reads.Asked, head-end-reads.Learnt, same-fields-below t, same-fields.Post, same-element-below t, same-element.Post) (same-mapped-at t) same-mapped.Post
-same-mapped-sub-same-element t c = let z = deep (c .before .before .before .before .before .before .before .before .before .before .before .before .before .before .before .pre .1 .1 .1) in omega arith
-
-same-mapped-same-element-requires : (t : ℕ) → same-mapped-lts.Need-same-element-requires (type-head-reads.Asked, type-head-reads.Learnt, code-reads.Asked, code-reads.Learnt, target-code-reads.Asked, target-code-reads.Learnt, head-end-reads.Asked, head-end-reads.Learnt, same-fields-below t, same-fields.Post, same-element-below t, same-element.Post) (same-mapped-at t) same-mapped.Post
-same-mapped-same-element-requires t c κs = let (u, R) = c .before .before .before .before .before .before .before .before .before .before .before .before .before .before .before .pre .1 .0 in let Q = c .before .before .before .before .before .before .before .before .before .before .before .before .before .before .before .pre .1 .1 .1 in let z = deep Q in let H = c .before .before .before .before .before .before .before .before .before .before .before .type-head .ensures u R in (omega (arith, c .before .before .before .before .before .before .before .before .before .before .before .before .before .before .before .pre .0), (list-asks H R (c .enum-told2 .given .1), list-there H (c .before .before .before .before .before .before .before .before .before .before .code .ensures) Q (c .before .before .before .before .before .before .before .before .before .target-code .ensures) (c .before .before .before .before .before .before .if1 .left) (c .before .before .before .if2 .left) refl (c .before .before .head-end .ensures) (c .enum-told2 .given .1) .element))
-
-same-mapped-enum-told-3 : (t : ℕ) → same-mapped-lts.Need-enum-told-3 (type-head-reads.Asked, type-head-reads.Learnt, code-reads.Asked, code-reads.Learnt, target-code-reads.Asked, target-code-reads.Learnt, head-end-reads.Asked, head-end-reads.Learnt, same-fields-below t, same-fields.Post, same-element-below t, same-element.Post) (same-mapped-at t) same-mapped.Post
-same-mapped-enum-told-3 t c = search needs
-
-same-mapped-sub-same-element-2 : (t : ℕ) → same-mapped-lts.Need-sub-same-element-2 (type-head-reads.Asked, type-head-reads.Learnt, code-reads.Asked, code-reads.Learnt, target-code-reads.Asked, target-code-reads.Learnt, head-end-reads.Asked, head-end-reads.Learnt, same-fields-below t, same-fields.Post, same-element-below t, same-element.Post) (same-mapped-at t) same-mapped.Post
-same-mapped-sub-same-element-2 t c = let z = deep (c .before .before .before .before .before .before .before .before .before .before .before .before .before .before .before .pre .1 .1 .1) in omega arith
-
-same-mapped-same-element-requires-2 : (t : ℕ) → same-mapped-lts.Need-same-element-requires-2 (type-head-reads.Asked, type-head-reads.Learnt, code-reads.Asked, code-reads.Learnt, target-code-reads.Asked, target-code-reads.Learnt, head-end-reads.Asked, head-end-reads.Learnt, same-fields-below t, same-fields.Post, same-element-below t, same-element.Post) (same-mapped-at t) same-mapped.Post
-same-mapped-same-element-requires-2 t c κs = let (u, R) = c .before .before .before .before .before .before .before .before .before .before .before .before .before .before .before .pre .1 .0 in let Q = c .before .before .before .before .before .before .before .before .before .before .before .before .before .before .before .pre .1 .1 .1 in let z = deep Q in let H = c .before .before .before .before .before .before .before .before .before .before .before .type-head .ensures u R in (omega (arith, c .before .before .before .before .before .before .before .before .before .before .before .before .before .before .before .pre .0), (array-asks H R (c .enum-told3 .given .1), array-there H (c .before .before .before .before .before .before .before .before .before .before .code .ensures) Q (c .before .before .before .before .before .before .before .before .before .target-code .ensures) (c .before .before .before .before .before .before .if1 .left) (c .before .before .before .if2 .left) refl (c .before .before .head-end .ensures) (c .enum-told3 .given .1) .element))
-
-same-mapped-returns-3 : (t : ℕ) → same-mapped-lts.Need-returns-3 (type-head-reads.Asked, type-head-reads.Learnt, code-reads.Asked, code-reads.Learnt, target-code-reads.Asked, target-code-reads.Learnt, head-end-reads.Asked, head-end-reads.Learnt, same-fields-below t, same-fields.Post, same-element-below t, same-element.Post) (same-mapped-at t) same-mapped.Post
-same-mapped-returns-3 t c = λ u Q R. made-no-leaf R (c .before .before .before .before .before .before .before .before .before .before .before .before .before .before .before .pre .1 .1 .0) (c .before .before .before .before .before .before .before .before .before .before .before .type-head .ensures u R) (c .enum-told .given .1)
-
-same-mapped-returns-4 : (t : ℕ) → same-mapped-lts.Need-returns-4 (type-head-reads.Asked, type-head-reads.Learnt, code-reads.Asked, code-reads.Learnt, target-code-reads.Asked, target-code-reads.Learnt, head-end-reads.Asked, head-end-reads.Learnt, same-fields-below t, same-fields.Post, same-element-below t, same-element.Post) (same-mapped-at t) same-mapped.Post
-same-mapped-returns-4 t c = λ u Q R. structs-same (c .before .before .before .before .before .before .before .before .before .before .before .before .before .before .type-head .ensures u R) (c .before .before .before .before .before .before .before .before .before .before .before .before .before .code .ensures) Q (c .before .before .before .before .before .before .before .before .before .before .before .before .target-code .ensures) (c .before .before .before .before .before .before .before .before .before .if1 .left) (c .before .before .before .before .before .before .if2 .left) refl (c .before .before .before .before .before .head-end .ensures) R (c .before .before .before .before .before .before .before .before .before .before .before .before .before .before .before .before .before .before .pre .1 .1 .0) (c .before .before .before .h .given .1) (c .same-fields .ensures)
-
-same-mapped-returns-5 : (t : ℕ) → same-mapped-lts.Need-returns-5 (type-head-reads.Asked, type-head-reads.Learnt, code-reads.Asked, code-reads.Learnt, target-code-reads.Asked, target-code-reads.Learnt, head-end-reads.Asked, head-end-reads.Learnt, same-fields-below t, same-fields.Post, same-element-below t, same-element.Post) (same-mapped-at t) same-mapped.Post
-same-mapped-returns-5 t c = λ u Q R. lists-same (c .before .before .before .before .before .before .before .before .before .before .before .before .type-head .ensures u R) (c .before .before .before .before .before .before .before .before .before .before .before .code .ensures) Q (c .before .before .before .before .before .before .before .before .before .before .target-code .ensures) (c .before .before .before .before .before .before .before .if1 .left) (c .before .before .before .before .if2 .left) refl (c .before .before .before .head-end .ensures) R (c .before .enum-told2 .given .1) (c .same-element .ensures)
-
-same-mapped-returns-6 : (t : ℕ) → same-mapped-lts.Need-returns-6 (type-head-reads.Asked, type-head-reads.Learnt, code-reads.Asked, code-reads.Learnt, target-code-reads.Asked, target-code-reads.Learnt, head-end-reads.Asked, head-end-reads.Learnt, same-fields-below t, same-fields.Post, same-element-below t, same-element.Post) (same-mapped-at t) same-mapped.Post
-same-mapped-returns-6 t c = λ u Q R. arrays-same (c .before .before .before .before .before .before .before .before .before .before .before .before .type-head .ensures u R) (c .before .before .before .before .before .before .before .before .before .before .before .code .ensures) Q (c .before .before .before .before .before .before .before .before .before .before .target-code .ensures) (c .before .before .before .before .before .before .before .if1 .left) (c .before .before .before .before .if2 .left) refl (c .before .before .before .head-end .ensures) R (c .before .enum-told3 .given .1) (c .same-element2 .ensures)
 
 pub +same-as+same-column+same-element+same-fields+same-mapped-spec : {M : Type 1} → statement M
 +same-as+same-column+same-element+same-fields+same-mapped-spec =
@@ -302,127 +140,163 @@ pub +same-as+same-column+same-element+same-fields+same-mapped-spec : {M : Type 1
     μ-same-element
     μ-same-fields
     μ-same-mapped
-    (λ t. same-as-lts.spec (
-      same-type-reads.Asked,
-      same-type-reads.Learnt,
-      target-end-reads.Asked,
-      target-end-reads.Learnt,
-      same-mapped-below t,
-      same-mapped.Post,
-    )
+    (λ t. same-as-lts.spec (same-as-claims t)
     (same-as-at t)
     same-as.Post
-    (same-as-enum-told t)
-    (same-as-same-type-requires t)
-    (same-as-target-end-requires t)
-    (same-as-enum-told-2 t)
-    (same-as-same-type-requires-2 t)
-    (same-as-target-end-requires-2 t)
-    (same-as-enum-told-3 t)
-    (same-as-same-mapped-requires t)
-    (same-as-returns t)
-    (same-as-returns-2 t)
-    (same-as-returns-3 t))
-    (λ t. same-column-lts.spec (
-      label-reads.Asked,
-      label-reads.Learnt,
-      name-at-reads.Asked,
-      name-at-reads.Learnt,
-      same-name-reads.Asked,
-      same-name-reads.Learnt,
-      resolve-reads.Asked,
-      resolve-reads.Learnt,
-      same-as-below t,
-      same-as.Post,
-    )
+    (λ c. search needs)
+    (λ c κs. let (u, R) = c .before .before .before .before .before .before .pre .1 .0 in
+    (from-incoming R (c .enum-told .given .1) .type, c .before .before .before .before .before .before .pre .1 .1))
+    (λ c κs. search needs)
+    (λ c. search needs)
+    (λ c κs. let (u, R) = c .before .before .before .before .before .before .pre .1 .0 in
+    (from-plan R (c .enum-told2 .given .1) .type, c .before .before .before .before .before .before .pre .1 .1))
+    (λ c κs. search needs)
+    (λ c. search needs)
+    (λ c κs. (omega (arith, c .before .before .before .before .before .before .pre .0),
+    (c .before .before .before .before .before .before .pre .1 .0, (c .enum-told3 .given .1, c .before .before .before .before .before .before .pre .1 .1))))
+    (λ c. λ u Q R. let T = from-incoming R (c .before .before .enum-told .given .1) in raw-ends T Q (c .before .same-type .ensures (T .type) Q)
+    (c .target-end .ensures))
+    (λ c. λ u Q R. let T = from-plan R (c .before .before .enum-told2 .given .1) in raw-ends T Q (c .before .same-type2 .ensures (T .type) Q)
+    (c .target-end2 .ensures))
+    (λ c. λ u Q R. c .same-mapped .ensures u Q R))
+    (λ t. same-column-lts.spec (same-column-claims t)
     (same-column-at t)
     same-column.Post
-    (same-column-label-requires t)
-    (same-column-enum-known-l t)
-    (same-column-name-at-requires t)
-    (same-column-same-name-requires t)
-    (same-column-returns t)
-    (same-column-resolve-requires t)
-    (same-column-same-as-requires t)
-    (same-column-enum-told t)
-    (same-column-returns-2 t)
-    (same-column-returns-3 t))
-    (λ t. same-element-lts.spec (
-      element-label-reads.Asked,
-      element-label-reads.Learnt,
-      part-reads.Asked,
-      part-reads.Learnt,
-      same-as-below t,
-      same-as.Post,
-    )
+    (λ c κs. search needs)
+    (λ c. search needs)
+    (λ c κs. c .before .before .before .before .before .before .before .pre .1 .0)
+    (λ c κs. let (a, N) = c .before .before .before .before .before .before .before .before .before .pre .1 .0 in
+    ((_, c .before .name-at .ensures a N), label-in _ (c .before .before .before .before .before .label .ensures .1) (c .before .before .before .l .given .1)))
+    (λ c. λ a E N. field-differs E (c .before .before .before .before .before .before .before .label .ensures .0)
+    (c .before .before .before .before .before .l .given .1) a (c .before .same-name .ensures (a .name) (c .before .before .before .name-at .ensures a N))
+    (not-true _ (c .if1 .taken)))
+    (λ c κs. let (a, N) = c .before .before .before .before .before .before .before .before .before .before .before .pre .1 .0 in (_, named-typed N))
+    (λ c κs. let (a, N) = c .before .before .before .before .before .before .before .before .before .before .before .before .pre .1 .0 in
+    (omega (arith, c .before .before .before .before .before .before .before .before .before .before .before .before .pre .0),
+    ((_, c .resolve .ensures _ (named-typed N) .resolved), behind-label
+    (c .before .before .before .before .before .before .before .before .before .before .before .before .pre .1 .1)
+    (label-got _ (c .before .before .before .before .before .before .before .before .label .ensures .0)
+    (c .before .before .before .before .before .before .l .given .1)))))
+    (λ c. search needs)
+    (λ c. λ a E N. field-goes E (c .before .before .before .before .before .before .before .before .before .label .ensures .0)
+    (c .before .before .before .before .before .before .before .l .given .1) a
+    (c .before .before .before .same-name .ensures (a .name) (c .before .before .before .before .before .name-at .ensures a N))
+    (not-false _ (c .before .before .if1 .left))
+    (c .same-as .ensures (a .type)
+    (behind-label E (label-got _ (c .before .before .before .before .before .before .before .before .before .label .ensures .0)
+    (c .before .before .before .before .before .before .before .l .given .1))) (c .before .resolve .ensures (a .type) (named-typed N) .resolved)))
+    (λ c. λ a E N. never-unlabelled E (c .before .before .label .ensures .0) (c .enum-told .given .1)))
+    (λ t. same-element-lts.spec (same-element-claims t)
     (same-element-at t)
     same-element.Post
-    (same-element-element-label-requires t)
-    (same-element-enum-known-d t)
-    (same-element-part-requires t)
-    (same-element-same-as-requires t)
-    (same-element-enum-told t)
-    (same-element-returns t)
-    (same-element-returns-2 t))
-    (λ t. same-fields-lts.spec (
-      first-child-reads.Asked,
-      first-child-reads.Learnt,
-      child-at-reads.Asked,
-      child-at-reads.Learnt,
-      same-column-below t,
-      same-column.Post,
-      skip-selector-reads.Asked,
-      skip-selector-reads.Learnt,
-    )
+    (λ c κs. search needs)
+    (λ c. search needs)
+    (λ c κs. c .before .before .before .before .before .before .before .pre .1 .0)
+    (λ c κs. let (u, a, R, P) = c .before .before .before .before .before .before .before .before .pre .1 .0 in
+    (omega (arith, c .before .before .before .before .before .before .before .before .pre .0),
+    ((_, c .part .ensures u a R P), behind-label (c .before .before .before .before .before .before .before .before .pre .1 .1)
+    (label-got _ (c .before .before .before .before .element-label .ensures .0) (c .before .before .d .given .1)))))
+    (λ c. search needs)
+    (λ c. λ u a E R P. c .same-as .ensures (a .type)
+    (behind-label E (label-got _ (c .before .before .before .before .before .element-label .ensures .0) (c .before .before .before .d .given .1)))
+    (c .before .part .ensures u a R P))
+    (λ c. λ u a E R P. never-unlabelled E (c .before .before .element-label .ensures .0) (c .enum-told .given .1)))
+    (λ t. same-fields-lts.spec (same-fields-claims t)
     (same-fields-at t)
     same-fields.Post
     same-fields-Inv-loop
     same-fields-μ-loop
-    (same-fields-first-child-requires t)
-    (same-fields-loop-holds t)
-    (same-fields-child-at-requires t)
-    (same-fields-same-column-requires t)
-    (same-fields-enum-known-e t)
-    (same-fields-enum-told t)
-    (same-fields-returns t)
-    (same-fields-skip-selector-requires t)
-    (same-fields-add-k t)
-    (same-fields-loop-less t)
-    (same-fields-loop-again t)
-    (same-fields-returns-2 t))
-    λ t. same-mapped-lts.spec (
-      type-head-reads.Asked,
-      type-head-reads.Learnt,
-      code-reads.Asked,
-      code-reads.Learnt,
-      target-code-reads.Asked,
-      target-code-reads.Learnt,
-      head-end-reads.Asked,
-      head-end-reads.Learnt,
-      same-fields-below t,
-      same-fields.Post,
-      same-element-below t,
-      same-element.Post,
-    )
+    (λ c κs. let (fs, M, e) = c .before .before .before .pre .1 .0 in made-asks M .0)
+    (λ c. let (fs, M, e) = c .before .before .before .before .pre .1 .0 in matching-start M e (c .before .before .before .before .pre .1 .1)
+    (c .first-child .ensures))
+    (λ c κs. made-asks (c .before .loop .inv .start))
+    (λ c κs. (omega (arith, c .before .before .before .before .before .before .before .pre .0),
+    (matching-asks (c .before .before .loop .inv) (c .before .loop-test .taken) (c .child-at .ensures), matching-first (c .before .before .loop .inv)
+    (c .before .loop-test .taken) .first)))
+    (λ c. search needs)
+    (λ c. search needs)
+    (λ c. matching-no (c .before .before .before .before .before .loop .inv) (c .before .before .before .before .loop-test .taken)
+    (c .before .before .before .child-at .ensures) (c .before .before .same-column .ensures) (c .enum-told .given .1))
+    (λ c κs. search needs)
+    (λ c. omega (arith, c .before .before .before .before .before .before .before .before .before .before .before .before .fits .count,
+    c .before .before .before .before .before .before .loop-test .taken))
+    (λ c. omega (arith, c .before .before .before .before .before .before .loop-test .taken))
+    (λ c. matching-more (c .before .before .before .before .before .before .before .loop .inv)
+    (c .before .before .before .before .before .before .loop-test .taken) (c .before .before .before .before .before .child-at .ensures)
+    (c .before .before .before .before .same-column .ensures) (c .before .before .e .given .1) (c .skip-selector .ensures))
+    (λ c. matching-end (c .before .loop .inv) (c .loop-test .left)))
+    λ t. same-mapped-lts.spec (same-mapped-claims t)
     (same-mapped-at t)
     same-mapped.Post
-    (same-mapped-type-head-requires t)
-    (same-mapped-code-requires t)
-    (same-mapped-target-code-requires t)
-    (same-mapped-returns t)
-    (same-mapped-returns-2 t)
-    (same-mapped-head-end-requires t)
-    (same-mapped-enum-told t)
-    (same-mapped-enum-known-h t)
-    (same-mapped-sub-same-fields t)
-    (same-mapped-same-fields-requires t)
-    (same-mapped-enum-told-2 t)
-    (same-mapped-sub-same-element t)
-    (same-mapped-same-element-requires t)
-    (same-mapped-enum-told-3 t)
-    (same-mapped-sub-same-element-2 t)
-    (same-mapped-same-element-requires-2 t)
-    (same-mapped-returns-3 t)
-    (same-mapped-returns-4 t)
-    (same-mapped-returns-5 t)
-    (same-mapped-returns-6 t)
+    (λ c κs. c .before .before .before .pre .1 .0)
+    (λ c κs. search needs)
+    (λ c κs. search needs)
+    (λ c. λ u Q R. codes-differ (c .before .before .before .before .before .type-head .ensures u R) (c .before .before .before .before .code .ensures) Q
+    (c .before .before .before .target-code .ensures) (c .if1 .taken))
+    (λ c. λ u Q R. numbers-differ (c .before .before .before .before .before .before .before .before .type-head .ensures u R)
+    (c .before .before .before .before .before .before .before .code .ensures) Q (c .before .before .before .before .before .before .target-code .ensures)
+    (c .if2 .taken))
+    (λ c κs. search needs)
+    (λ c. search needs)
+    (λ c. search needs)
+    (λ c. let z = deep (c .before .before .before .before .before .before .before .before .before .before .before .before .before .before .before .before .before .pre .1 .1 .1) in
+    omega arith)
+    (λ c κs. let (u, R) =
+    c .before .before .before .before .before .before .before .before .before .before .before .before .before .before .before .before .before .pre .1 .0 in
+    let Q = c .before .before .before .before .before .before .before .before .before .before .before .before .before .before .before .before .before .pre .1 .1 .1 in
+    let z = deep Q in let H =
+    c .before .before .before .before .before .before .before .before .before .before .before .before .before .type-head .ensures u R in
+    (omega (arith, c .before .before .before .before .before .before .before .before .before .before .before .before .before .before .before .before .before .pre .0),
+    (struct-asks H R (c .before .before .before .before .before .before .before .before .before .before .before .before .before .before .before .before .before .pre .1 .1 .0)
+    (c .before .before .h .given .1), struct-there H
+    (c .before .before .before .before .before .before .before .before .before .before .before .before .code .ensures) Q
+    (c .before .before .before .before .before .before .before .before .before .before .before .target-code .ensures)
+    (c .before .before .before .before .before .before .before .before .if1 .left) (c .before .before .before .before .before .if2 .left) refl
+    (c .before .before .before .before .head-end .ensures) (c .before .before .h .given .1) .inner)))
+    (λ c. search needs)
+    (λ c. let z = deep (c .before .before .before .before .before .before .before .before .before .before .before .before .before .before .before .pre .1 .1 .1) in
+    omega arith)
+    (λ c κs. let (u, R) =
+    c .before .before .before .before .before .before .before .before .before .before .before .before .before .before .before .pre .1 .0 in
+    let Q = c .before .before .before .before .before .before .before .before .before .before .before .before .before .before .before .pre .1 .1 .1 in
+    let z = deep Q in let H = c .before .before .before .before .before .before .before .before .before .before .before .type-head .ensures u R in
+    (omega (arith, c .before .before .before .before .before .before .before .before .before .before .before .before .before .before .before .pre .0),
+    (list-asks H R (c .enum-told2 .given .1), list-there H
+    (c .before .before .before .before .before .before .before .before .before .before .code .ensures) Q
+    (c .before .before .before .before .before .before .before .before .before .target-code .ensures)
+    (c .before .before .before .before .before .before .if1 .left) (c .before .before .before .if2 .left) refl (c .before .before .head-end .ensures)
+    (c .enum-told2 .given .1) .element)))
+    (λ c. search needs)
+    (λ c. let z = deep (c .before .before .before .before .before .before .before .before .before .before .before .before .before .before .before .pre .1 .1 .1) in
+    omega arith)
+    (λ c κs. let (u, R) =
+    c .before .before .before .before .before .before .before .before .before .before .before .before .before .before .before .pre .1 .0 in
+    let Q = c .before .before .before .before .before .before .before .before .before .before .before .before .before .before .before .pre .1 .1 .1 in
+    let z = deep Q in let H = c .before .before .before .before .before .before .before .before .before .before .before .type-head .ensures u R in
+    (omega (arith, c .before .before .before .before .before .before .before .before .before .before .before .before .before .before .before .pre .0),
+    (array-asks H R (c .enum-told3 .given .1), array-there H
+    (c .before .before .before .before .before .before .before .before .before .before .code .ensures) Q
+    (c .before .before .before .before .before .before .before .before .before .target-code .ensures)
+    (c .before .before .before .before .before .before .if1 .left) (c .before .before .before .if2 .left) refl (c .before .before .head-end .ensures)
+    (c .enum-told3 .given .1) .element)))
+    (λ c. λ u Q R. made-no-leaf R
+    (c .before .before .before .before .before .before .before .before .before .before .before .before .before .before .before .pre .1 .1 .0)
+    (c .before .before .before .before .before .before .before .before .before .before .before .type-head .ensures u R) (c .enum-told .given .1))
+    (λ c. λ u Q R. structs-same
+    (c .before .before .before .before .before .before .before .before .before .before .before .before .before .before .type-head .ensures u R)
+    (c .before .before .before .before .before .before .before .before .before .before .before .before .before .code .ensures) Q
+    (c .before .before .before .before .before .before .before .before .before .before .before .before .target-code .ensures)
+    (c .before .before .before .before .before .before .before .before .before .if1 .left) (c .before .before .before .before .before .before .if2 .left) refl
+    (c .before .before .before .before .before .head-end .ensures) R
+    (c .before .before .before .before .before .before .before .before .before .before .before .before .before .before .before .before .before .before .pre .1 .1 .0)
+    (c .before .before .before .h .given .1) (c .same-fields .ensures))
+    (λ c. λ u Q R. lists-same (c .before .before .before .before .before .before .before .before .before .before .before .before .type-head .ensures u R)
+    (c .before .before .before .before .before .before .before .before .before .before .before .code .ensures) Q
+    (c .before .before .before .before .before .before .before .before .before .before .target-code .ensures)
+    (c .before .before .before .before .before .before .before .if1 .left) (c .before .before .before .before .if2 .left) refl
+    (c .before .before .before .head-end .ensures) R (c .before .enum-told2 .given .1) (c .same-element .ensures))
+    (λ c. λ u Q R. arrays-same (c .before .before .before .before .before .before .before .before .before .before .before .before .type-head .ensures u R)
+    (c .before .before .before .before .before .before .before .before .before .before .before .code .ensures) Q
+    (c .before .before .before .before .before .before .before .before .before .before .target-code .ensures)
+    (c .before .before .before .before .before .before .before .if1 .left) (c .before .before .before .before .if2 .left) refl
+    (c .before .before .before .head-end .ensures) R (c .before .enum-told3 .given .1) (c .same-element2 .ensures))

@@ -102,32 +102,58 @@ check-transform-below t =
     (falls 2 check-transform-kinds.ps _<_ μ-check-transform t)
     check-transform.Pre
 
-check-element-child-requires : (t : ℕ) → check-element-lts.Need-child-requires (child-reads.Asked, child-reads.Learnt, check-scoped-below t, check-scoped.Post, found-in-reads.Asked, found-in-reads.Learnt, within-limits-reads.Asked, within-limits-reads.Learnt, fitting-reads.Asked, fitting-reads.Learnt) (check-element-at t) check-element.Post
+abbrev check-element-claims : ℕ → check-element-lts.Claims
+check-element-claims t = (child-reads.Asked, child-reads.Learnt, check-scoped-below t, check-scoped.Post, found-in-reads.Asked, found-in-reads.Learnt,
+    within-limits-reads.Asked, within-limits-reads.Learnt, fitting-reads.Asked, fitting-reads.Learnt)
+
+abbrev check-fields-claims : ℕ → check-fields-lts.Claims
+check-fields-claims t = (first-child-reads.Asked, first-child-reads.Learnt, child-at-reads.Asked, child-at-reads.Learnt, check-scoped-below t,
+    check-scoped.Post, skip-selector-reads.Asked, skip-selector-reads.Learnt, found-in-reads.Asked, found-in-reads.Learnt, within-limits-reads.Asked,
+    within-limits-reads.Learnt, fitting-reads.Asked, fitting-reads.Learnt)
+
+abbrev check-scoped-claims : ℕ → check-scoped-lts.Claims
+check-scoped-claims t = (is-transform-reads.Asked, is-transform-reads.Learnt, check-transform-below t, check-transform.Post, check-source-reads.Asked,
+    check-source-reads.Learnt)
+
+abbrev check-transform-claims : ℕ → check-transform-lts.Claims
+check-transform-claims t = (to-input-reads.Asked, to-input-reads.Learnt, check-scoped-below t, check-scoped.Post, check-input-reads.Asked,
+    check-input-reads.Learnt, check-fields-below t, check-fields.Post, check-element-below t, check-element.Post)
+
+check-element-child-requires : (t : ℕ) → check-element-lts.Need-child-requires (check-element-claims t) (check-element-at t) check-element.Post
 check-element-child-requires t c κs = let (u, e, f, E) = c .before .before .pre .1 in element-child-asks E
 
-check-element-check-scoped-requires : (t : ℕ) → check-element-lts.Need-check-scoped-requires (child-reads.Asked, child-reads.Learnt, check-scoped-below t, check-scoped.Post, found-in-reads.Asked, found-in-reads.Learnt, within-limits-reads.Asked, within-limits-reads.Learnt, fitting-reads.Asked, fitting-reads.Learnt) (check-element-at t) check-element.Post
-check-element-check-scoped-requires t c κs = let (u, e, f, E) = c .before .before .before .pre .1 in let S = element-step E (c .child .ensures) in (omega (arith, c .before .before .before .pre .0, S .falls), (e, _, S .checking, one-element u))
+check-element-check-scoped-requires : (t : ℕ) → check-element-lts.Need-check-scoped-requires (check-element-claims t) (check-element-at t) check-element.Post
+check-element-check-scoped-requires t c κs = let (u, e, f, E) = c .before .before .before .pre .1 in
+    let S = element-step E (c .child .ensures) in (omega (arith, c .before .before .before .pre .0, S .falls), (e, _, S .checking, one-element u))
 
-check-element-enum-told : (t : ℕ) → check-element-lts.Need-enum-told (child-reads.Asked, child-reads.Learnt, check-scoped-below t, check-scoped.Post, found-in-reads.Asked, found-in-reads.Learnt, within-limits-reads.Asked, within-limits-reads.Learnt, fitting-reads.Asked, fitting-reads.Learnt) (check-element-at t) check-element.Post
+check-element-enum-told : (t : ℕ) → check-element-lts.Need-enum-told (check-element-claims t) (check-element-at t) check-element.Post
 check-element-enum-told t c = search needs
 
-check-element-found-in-requires : (t : ℕ) → check-element-lts.Need-found-in-requires (child-reads.Asked, child-reads.Learnt, check-scoped-below t, check-scoped.Post, found-in-reads.Asked, found-in-reads.Learnt, within-limits-reads.Asked, within-limits-reads.Learnt, fitting-reads.Asked, fitting-reads.Learnt) (check-element-at t) check-element.Post
+check-element-found-in-requires : (t : ℕ) → check-element-lts.Need-found-in-requires (check-element-claims t) (check-element-at t) check-element.Post
 check-element-found-in-requires t c κs = search needs
 
-check-element-within-limits-requires : (t : ℕ) → check-element-lts.Need-within-limits-requires (child-reads.Asked, child-reads.Learnt, check-scoped-below t, check-scoped.Post, found-in-reads.Asked, found-in-reads.Learnt, within-limits-reads.Asked, within-limits-reads.Learnt, fitting-reads.Asked, fitting-reads.Learnt) (check-element-at t) check-element.Post
-check-element-within-limits-requires t c κs = let (u, e, f, E) = c .before .before .before .before .before .before .before .pre .1 in (_, mapped-as (c .found-in .ensures) (element-made E (element-passed E (c .before .before .before .before .child .ensures) (c .before .before .before .check-scoped .ensures) (c .before .enum-told .given .1) .1)))
+check-element-within-limits-requires : (t : ℕ) → check-element-lts.Need-within-limits-requires (check-element-claims t) (check-element-at t) check-element.Post
+check-element-within-limits-requires t c κs = let (u, e, f, E) = c .before .before .before .before .before .before .before .pre .1 in
+    (_, mapped-as (c .found-in .ensures)
+    (element-made E (element-passed E (c .before .before .before .before .child .ensures) (c .before .before .before .check-scoped .ensures)
+    (c .before .enum-told .given .1) .1)))
 
-check-element-fitting-requires : (t : ℕ) → check-element-lts.Need-fitting-requires (child-reads.Asked, child-reads.Learnt, check-scoped-below t, check-scoped.Post, found-in-reads.Asked, found-in-reads.Learnt, within-limits-reads.Asked, within-limits-reads.Learnt, fitting-reads.Asked, fitting-reads.Learnt) (check-element-at t) check-element.Post
+check-element-fitting-requires : (t : ℕ) → check-element-lts.Need-fitting-requires (check-element-claims t) (check-element-at t) check-element.Post
 check-element-fitting-requires t c κs = search needs
 
-check-element-enum-known-k : (t : ℕ) → check-element-lts.Need-enum-known-k (child-reads.Asked, child-reads.Learnt, check-scoped-below t, check-scoped.Post, found-in-reads.Asked, found-in-reads.Learnt, within-limits-reads.Asked, within-limits-reads.Learnt, fitting-reads.Asked, fitting-reads.Learnt) (check-element-at t) check-element.Post
+check-element-enum-known-k : (t : ℕ) → check-element-lts.Need-enum-known-k (check-element-claims t) (check-element-at t) check-element.Post
 check-element-enum-known-k t c = search needs
 
-check-element-returns : (t : ℕ) → check-element-lts.Need-returns (child-reads.Asked, child-reads.Learnt, check-scoped-below t, check-scoped.Post, found-in-reads.Asked, found-in-reads.Learnt, within-limits-reads.Asked, within-limits-reads.Learnt, fitting-reads.Asked, fitting-reads.Learnt) (check-element-at t) check-element.Post
-check-element-returns t c = λ u e f name E. let g = c .before .before .before .before .before .before .child .ensures in let h = c .before .before .before .before .before .check-scoped .ensures in let p = c .before .before .before .enum-told .given .1 in element-given E g h p name (c .fitting .ensures ∙ ap fittingOf (c .before .within-limits .ensures _ (mapped-as (c .before .before .found-in .ensures) (element-made E (element-passed E g h p .1)))))
+check-element-returns : (t : ℕ) → check-element-lts.Need-returns (check-element-claims t) (check-element-at t) check-element.Post
+check-element-returns t c = λ u e f name E. let g = c .before .before .before .before .before .before .child .ensures in
+    let h = c .before .before .before .before .before .check-scoped .ensures in
+    let p = c .before .before .before .enum-told .given .1 in element-given E g h p name
+    (c .fitting .ensures
+    ∙ ap fittingOf (c .before .within-limits .ensures _ (mapped-as (c .before .before .found-in .ensures) (element-made E (element-passed E g h p .1)))))
 
-check-element-returns-2 : (t : ℕ) → check-element-lts.Need-returns-2 (child-reads.Asked, child-reads.Learnt, check-scoped-below t, check-scoped.Post, found-in-reads.Asked, found-in-reads.Learnt, within-limits-reads.Asked, within-limits-reads.Learnt, fitting-reads.Asked, fitting-reads.Learnt) (check-element-at t) check-element.Post
-check-element-returns-2 t c = λ u e f name E. element-refused E (c .before .before .before .before .child .ensures) (c .before .before .before .check-scoped .ensures) name (c .before .k .given .1)
+check-element-returns-2 : (t : ℕ) → check-element-lts.Need-returns-2 (check-element-claims t) (check-element-at t) check-element.Post
+check-element-returns-2 t c = λ u e f name E. element-refused E (c .before .before .before .before .child .ensures)
+    (c .before .before .before .check-scoped .ensures) name (c .before .k .given .1)
 
 abbrev check-fields-Inv-loop : check-fields-lts.InvT-loop
 check-fields-Inv-loop incoming v n plan w count scope at₀ k₀ at k = Passing incoming v n plan w count scope at k
@@ -135,113 +161,177 @@ check-fields-Inv-loop incoming v n plan w count scope at₀ k₀ at k = Passing 
 abbrev check-fields-μ-loop : check-fields-lts.MeasureT-loop
 check-fields-μ-loop incoming v n plan w count scope at₀ k₀ at k = count - k
 
-check-fields-first-child-requires : (t : ℕ) → check-fields-lts.Need-first-child-requires (first-child-reads.Asked, first-child-reads.Learnt, child-at-reads.Asked, child-at-reads.Learnt, check-scoped-below t, check-scoped.Post, skip-selector-reads.Asked, skip-selector-reads.Learnt, found-in-reads.Asked, found-in-reads.Learnt, within-limits-reads.Asked, within-limits-reads.Learnt, fitting-reads.Asked, fitting-reads.Learnt) (check-fields-at t) check-fields.Post check-fields-Inv-loop check-fields-μ-loop
+check-fields-first-child-requires : (t : ℕ)
+    → check-fields-lts.Need-first-child-requires (check-fields-claims t) (check-fields-at t) check-fields.Post check-fields-Inv-loop check-fields-μ-loop
 check-fields-first-child-requires t c κs = let (i, ss, fs, M, e, d) = c .before .before .pre .1 in mapping-asks M .0
 
-check-fields-loop-holds : (t : ℕ) → check-fields-lts.Need-loop-holds (first-child-reads.Asked, first-child-reads.Learnt, child-at-reads.Asked, child-at-reads.Learnt, check-scoped-below t, check-scoped.Post, skip-selector-reads.Asked, skip-selector-reads.Learnt, found-in-reads.Asked, found-in-reads.Learnt, within-limits-reads.Asked, within-limits-reads.Learnt, fitting-reads.Asked, fitting-reads.Learnt) (check-fields-at t) check-fields.Post check-fields-Inv-loop check-fields-μ-loop
+check-fields-loop-holds : (t : ℕ)
+    → check-fields-lts.Need-loop-holds (check-fields-claims t) (check-fields-at t) check-fields.Post check-fields-Inv-loop check-fields-μ-loop
 check-fields-loop-holds t c = let (i, ss, fs, M, e, d) = c .before .before .before .pre .1 in passing-start M e d (c .first-child .ensures)
 
-check-fields-child-at-requires : (t : ℕ) → check-fields-lts.Need-child-at-requires (first-child-reads.Asked, first-child-reads.Learnt, child-at-reads.Asked, child-at-reads.Learnt, check-scoped-below t, check-scoped.Post, skip-selector-reads.Asked, skip-selector-reads.Learnt, found-in-reads.Asked, found-in-reads.Learnt, within-limits-reads.Asked, within-limits-reads.Learnt, fitting-reads.Asked, fitting-reads.Learnt) (check-fields-at t) check-fields.Post check-fields-Inv-loop check-fields-μ-loop
+check-fields-child-at-requires : (t : ℕ)
+    → check-fields-lts.Need-child-at-requires (check-fields-claims t) (check-fields-at t) check-fields.Post check-fields-Inv-loop check-fields-μ-loop
 check-fields-child-at-requires t c κs = mapping-asks (c .before .loop .inv .start)
 
-check-fields-check-scoped-requires : (t : ℕ) → check-fields-lts.Need-check-scoped-requires (first-child-reads.Asked, first-child-reads.Learnt, child-at-reads.Asked, child-at-reads.Learnt, check-scoped-below t, check-scoped.Post, skip-selector-reads.Asked, skip-selector-reads.Learnt, found-in-reads.Asked, found-in-reads.Learnt, within-limits-reads.Asked, within-limits-reads.Learnt, fitting-reads.Asked, fitting-reads.Learnt) (check-fields-at t) check-fields.Post check-fields-Inv-loop check-fields-μ-loop
-check-fields-check-scoped-requires t c κs = (omega (arith, c .before .before .before .before .before .before .pre .0, passing-falls (c .before .before .loop .inv) (c .before .loop-test .taken) (c .child-at .ensures)), passing-asks (c .before .before .loop .inv) (c .before .loop-test .taken) (c .child-at .ensures))
+check-fields-check-scoped-requires : (t : ℕ)
+    → check-fields-lts.Need-check-scoped-requires (check-fields-claims t) (check-fields-at t) check-fields.Post check-fields-Inv-loop check-fields-μ-loop
+check-fields-check-scoped-requires t c κs = (omega
+    (arith, c .before .before .before .before .before .before .pre .0, passing-falls (c .before .before .loop .inv) (c .before .loop-test .taken)
+    (c .child-at .ensures)), passing-asks (c .before .before .loop .inv) (c .before .loop-test .taken) (c .child-at .ensures))
 
-check-fields-enum-told : (t : ℕ) → check-fields-lts.Need-enum-told (first-child-reads.Asked, first-child-reads.Learnt, child-at-reads.Asked, child-at-reads.Learnt, check-scoped-below t, check-scoped.Post, skip-selector-reads.Asked, skip-selector-reads.Learnt, found-in-reads.Asked, found-in-reads.Learnt, within-limits-reads.Asked, within-limits-reads.Learnt, fitting-reads.Asked, fitting-reads.Learnt) (check-fields-at t) check-fields.Post check-fields-Inv-loop check-fields-μ-loop
+check-fields-enum-told : (t : ℕ)
+    → check-fields-lts.Need-enum-told (check-fields-claims t) (check-fields-at t) check-fields.Post check-fields-Inv-loop check-fields-μ-loop
 check-fields-enum-told t c = search needs
 
-check-fields-skip-selector-requires : (t : ℕ) → check-fields-lts.Need-skip-selector-requires (first-child-reads.Asked, first-child-reads.Learnt, child-at-reads.Asked, child-at-reads.Learnt, check-scoped-below t, check-scoped.Post, skip-selector-reads.Asked, skip-selector-reads.Learnt, found-in-reads.Asked, found-in-reads.Learnt, within-limits-reads.Asked, within-limits-reads.Learnt, fitting-reads.Asked, fitting-reads.Learnt) (check-fields-at t) check-fields.Post check-fields-Inv-loop check-fields-μ-loop
+check-fields-skip-selector-requires : (t : ℕ)
+    → check-fields-lts.Need-skip-selector-requires (check-fields-claims t) (check-fields-at t) check-fields.Post check-fields-Inv-loop check-fields-μ-loop
 check-fields-skip-selector-requires t c κs = search needs
 
-check-fields-add-k : (t : ℕ) → check-fields-lts.Need-add-k (first-child-reads.Asked, first-child-reads.Learnt, child-at-reads.Asked, child-at-reads.Learnt, check-scoped-below t, check-scoped.Post, skip-selector-reads.Asked, skip-selector-reads.Learnt, found-in-reads.Asked, found-in-reads.Learnt, within-limits-reads.Asked, within-limits-reads.Learnt, fitting-reads.Asked, fitting-reads.Learnt) (check-fields-at t) check-fields.Post check-fields-Inv-loop check-fields-μ-loop
-check-fields-add-k t c = omega (arith, c .before .before .before .before .before .before .before .before .before .before .fits .count, c .before .before .before .before .before .loop-test .taken)
+check-fields-add-k : (t : ℕ)
+    → check-fields-lts.Need-add-k (check-fields-claims t) (check-fields-at t) check-fields.Post check-fields-Inv-loop check-fields-μ-loop
+check-fields-add-k t c = omega
+    (arith, c .before .before .before .before .before .before .before .before .before .before .fits .count,
+    c .before .before .before .before .before .loop-test .taken)
 
-check-fields-loop-less : (t : ℕ) → check-fields-lts.Need-loop-less (first-child-reads.Asked, first-child-reads.Learnt, child-at-reads.Asked, child-at-reads.Learnt, check-scoped-below t, check-scoped.Post, skip-selector-reads.Asked, skip-selector-reads.Learnt, found-in-reads.Asked, found-in-reads.Learnt, within-limits-reads.Asked, within-limits-reads.Learnt, fitting-reads.Asked, fitting-reads.Learnt) (check-fields-at t) check-fields.Post check-fields-Inv-loop check-fields-μ-loop
+check-fields-loop-less : (t : ℕ)
+    → check-fields-lts.Need-loop-less (check-fields-claims t) (check-fields-at t) check-fields.Post check-fields-Inv-loop check-fields-μ-loop
 check-fields-loop-less t c = omega (arith, c .before .before .before .before .before .loop-test .taken)
 
-check-fields-loop-again : (t : ℕ) → check-fields-lts.Need-loop-again (first-child-reads.Asked, first-child-reads.Learnt, child-at-reads.Asked, child-at-reads.Learnt, check-scoped-below t, check-scoped.Post, skip-selector-reads.Asked, skip-selector-reads.Learnt, found-in-reads.Asked, found-in-reads.Learnt, within-limits-reads.Asked, within-limits-reads.Learnt, fitting-reads.Asked, fitting-reads.Learnt) (check-fields-at t) check-fields.Post check-fields-Inv-loop check-fields-μ-loop
-check-fields-loop-again t c = passing-more (c .before .before .before .before .before .before .loop .inv) (c .before .before .before .before .before .loop-test .taken) (c .before .before .before .before .child-at .ensures) (c .before .before .before .check-scoped .ensures) (c .before .enum-told .given .1) (c .skip-selector .ensures)
+check-fields-loop-again : (t : ℕ)
+    → check-fields-lts.Need-loop-again (check-fields-claims t) (check-fields-at t) check-fields.Post check-fields-Inv-loop check-fields-μ-loop
+check-fields-loop-again t c = passing-more (c .before .before .before .before .before .before .loop .inv)
+    (c .before .before .before .before .before .loop-test .taken) (c .before .before .before .before .child-at .ensures)
+    (c .before .before .before .check-scoped .ensures) (c .before .enum-told .given .1) (c .skip-selector .ensures)
 
-check-fields-enum-known-j : (t : ℕ) → check-fields-lts.Need-enum-known-j (first-child-reads.Asked, first-child-reads.Learnt, child-at-reads.Asked, child-at-reads.Learnt, check-scoped-below t, check-scoped.Post, skip-selector-reads.Asked, skip-selector-reads.Learnt, found-in-reads.Asked, found-in-reads.Learnt, within-limits-reads.Asked, within-limits-reads.Learnt, fitting-reads.Asked, fitting-reads.Learnt) (check-fields-at t) check-fields.Post check-fields-Inv-loop check-fields-μ-loop
+check-fields-enum-known-j : (t : ℕ)
+    → check-fields-lts.Need-enum-known-j (check-fields-claims t) (check-fields-at t) check-fields.Post check-fields-Inv-loop check-fields-μ-loop
 check-fields-enum-known-j t c = search needs
 
-check-fields-returns : (t : ℕ) → check-fields-lts.Need-returns (first-child-reads.Asked, first-child-reads.Learnt, child-at-reads.Asked, child-at-reads.Learnt, check-scoped-below t, check-scoped.Post, skip-selector-reads.Asked, skip-selector-reads.Learnt, found-in-reads.Asked, found-in-reads.Learnt, within-limits-reads.Asked, within-limits-reads.Learnt, fitting-reads.Asked, fitting-reads.Learnt) (check-fields-at t) check-fields.Post check-fields-Inv-loop check-fields-μ-loop
-check-fields-returns t c = passing-refused (c .before .before .before .before .before .before .loop .inv) (c .before .before .before .before .before .loop-test .taken) (c .before .before .before .before .child-at .ensures) (c .before .before .before .check-scoped .ensures) (c .before .j .given .1)
+check-fields-returns : (t : ℕ)
+    → check-fields-lts.Need-returns (check-fields-claims t) (check-fields-at t) check-fields.Post check-fields-Inv-loop check-fields-μ-loop
+check-fields-returns t c = passing-refused (c .before .before .before .before .before .before .loop .inv)
+    (c .before .before .before .before .before .loop-test .taken) (c .before .before .before .before .child-at .ensures)
+    (c .before .before .before .check-scoped .ensures) (c .before .j .given .1)
 
-check-fields-found-in-requires : (t : ℕ) → check-fields-lts.Need-found-in-requires (first-child-reads.Asked, first-child-reads.Learnt, child-at-reads.Asked, child-at-reads.Learnt, check-scoped-below t, check-scoped.Post, skip-selector-reads.Asked, skip-selector-reads.Learnt, found-in-reads.Asked, found-in-reads.Learnt, within-limits-reads.Asked, within-limits-reads.Learnt, fitting-reads.Asked, fitting-reads.Learnt) (check-fields-at t) check-fields.Post check-fields-Inv-loop check-fields-μ-loop
+check-fields-found-in-requires : (t : ℕ)
+    → check-fields-lts.Need-found-in-requires (check-fields-claims t) (check-fields-at t) check-fields.Post check-fields-Inv-loop check-fields-μ-loop
 check-fields-found-in-requires t c κs = search needs
 
-check-fields-within-limits-requires : (t : ℕ) → check-fields-lts.Need-within-limits-requires (first-child-reads.Asked, first-child-reads.Learnt, child-at-reads.Asked, child-at-reads.Learnt, check-scoped-below t, check-scoped.Post, skip-selector-reads.Asked, skip-selector-reads.Learnt, found-in-reads.Asked, found-in-reads.Learnt, within-limits-reads.Asked, within-limits-reads.Learnt, fitting-reads.Asked, fitting-reads.Learnt) (check-fields-at t) check-fields.Post check-fields-Inv-loop check-fields-μ-loop
+check-fields-within-limits-requires : (t : ℕ)
+    → check-fields-lts.Need-within-limits-requires (check-fields-claims t) (check-fields-at t) check-fields.Post check-fields-Inv-loop check-fields-μ-loop
 check-fields-within-limits-requires t c κs = passing-limits (c .before .before .loop .inv) (c .before .loop-test .left) (c .found-in .ensures)
 
-check-fields-fitting-requires : (t : ℕ) → check-fields-lts.Need-fitting-requires (first-child-reads.Asked, first-child-reads.Learnt, child-at-reads.Asked, child-at-reads.Learnt, check-scoped-below t, check-scoped.Post, skip-selector-reads.Asked, skip-selector-reads.Learnt, found-in-reads.Asked, found-in-reads.Learnt, within-limits-reads.Asked, within-limits-reads.Learnt, fitting-reads.Asked, fitting-reads.Learnt) (check-fields-at t) check-fields.Post check-fields-Inv-loop check-fields-μ-loop
+check-fields-fitting-requires : (t : ℕ)
+    → check-fields-lts.Need-fitting-requires (check-fields-claims t) (check-fields-at t) check-fields.Post check-fields-Inv-loop check-fields-μ-loop
 check-fields-fitting-requires t c κs = search needs
 
-check-fields-returns-2 : (t : ℕ) → check-fields-lts.Need-returns-2 (first-child-reads.Asked, first-child-reads.Learnt, child-at-reads.Asked, child-at-reads.Learnt, check-scoped-below t, check-scoped.Post, skip-selector-reads.Asked, skip-selector-reads.Learnt, found-in-reads.Asked, found-in-reads.Learnt, within-limits-reads.Asked, within-limits-reads.Learnt, fitting-reads.Asked, fitting-reads.Learnt) (check-fields-at t) check-fields.Post check-fields-Inv-loop check-fields-μ-loop
-check-fields-returns-2 t c = passing-end (c .before .before .before .before .loop .inv) (c .before .before .before .loop-test .left) (c .before .before .found-in .ensures) (c .fitting .ensures) (c .before .within-limits .ensures)
+check-fields-returns-2 : (t : ℕ)
+    → check-fields-lts.Need-returns-2 (check-fields-claims t) (check-fields-at t) check-fields.Post check-fields-Inv-loop check-fields-μ-loop
+check-fields-returns-2 t c = passing-end (c .before .before .before .before .loop .inv) (c .before .before .before .loop-test .left)
+    (c .before .before .found-in .ensures) (c .fitting .ensures) (c .before .within-limits .ensures)
 
-check-scoped-is-transform-requires : (t : ℕ) → check-scoped-lts.Need-is-transform-requires (is-transform-reads.Asked, is-transform-reads.Learnt, check-transform-below t, check-transform.Post, check-source-reads.Asked, check-source-reads.Learnt) (check-scoped-at t) check-scoped.Post
+check-scoped-is-transform-requires : (t : ℕ) → check-scoped-lts.Need-is-transform-requires (check-scoped-claims t) (check-scoped-at t) check-scoped.Post
 check-scoped-is-transform-requires t c κs = search needs
 
-check-scoped-check-transform-requires : (t : ℕ) → check-scoped-lts.Need-check-transform-requires (is-transform-reads.Asked, is-transform-reads.Learnt, check-transform-below t, check-transform.Post, check-source-reads.Asked, check-source-reads.Learnt) (check-scoped-at t) check-scoped.Post
-check-scoped-check-transform-requires t c κs = let (s, Δ, C, d) = c .before .before .before .before .pre .1 in (omega (arith, c .before .before .before .before .pre .0), (s, Δ, C, d, transform-is C (c .before .is-transform .ensures (C .standing .here)) (c .if1 .taken)))
+check-scoped-check-transform-requires : (t : ℕ) → check-scoped-lts.Need-check-transform-requires (check-scoped-claims t) (check-scoped-at t) check-scoped.Post
+check-scoped-check-transform-requires t c κs = let (s, Δ, C, d) = c .before .before .before .before .pre .1 in
+    (omega (arith, c .before .before .before .before .pre .0),
+    (s, Δ, C, d, transform-is C (c .before .is-transform .ensures (C .standing .here)) (c .if1 .taken)))
 
-check-scoped-returns : (t : ℕ) → check-scoped-lts.Need-returns (is-transform-reads.Asked, is-transform-reads.Learnt, check-transform-below t, check-transform.Post, check-source-reads.Asked, check-source-reads.Learnt) (check-scoped-at t) check-scoped.Post
-check-scoped-returns t c = λ s Δ C d. c .check-transform .ensures s Δ C d (transform-is C (c .before .before .is-transform .ensures (C .standing .here)) (c .before .if1 .taken))
+check-scoped-returns : (t : ℕ) → check-scoped-lts.Need-returns (check-scoped-claims t) (check-scoped-at t) check-scoped.Post
+check-scoped-returns t c = λ s Δ C d. c .check-transform .ensures s Δ C d
+    (transform-is C (c .before .before .is-transform .ensures (C .standing .here)) (c .before .if1 .taken))
 
-check-scoped-check-source-requires : (t : ℕ) → check-scoped-lts.Need-check-source-requires (is-transform-reads.Asked, is-transform-reads.Learnt, check-transform-below t, check-transform.Post, check-source-reads.Asked, check-source-reads.Learnt) (check-scoped-at t) check-scoped.Post
+check-scoped-check-source-requires : (t : ℕ) → check-scoped-lts.Need-check-source-requires (check-scoped-claims t) (check-scoped-at t) check-scoped.Post
 check-scoped-check-source-requires t c κs = search needs
 
-check-scoped-returns-2 : (t : ℕ) → check-scoped-lts.Need-returns-2 (is-transform-reads.Asked, is-transform-reads.Learnt, check-transform-below t, check-transform.Post, check-source-reads.Asked, check-source-reads.Learnt) (check-scoped-at t) check-scoped.Post
-check-scoped-returns-2 t c = λ s Δ C d. c .check-source .ensures _ _ _ s Δ C d (transform-is C (c .before .before .is-transform .ensures (C .standing .here)) (c .before .if1 .left))
+check-scoped-returns-2 : (t : ℕ) → check-scoped-lts.Need-returns-2 (check-scoped-claims t) (check-scoped-at t) check-scoped.Post
+check-scoped-returns-2 t c = λ s Δ C d. c .check-source .ensures _ _ _ s Δ C d
+    (transform-is C (c .before .before .is-transform .ensures (C .standing .here)) (c .before .if1 .left))
 
-check-transform-to-input-requires : (t : ℕ) → check-transform-lts.Need-to-input-requires (to-input-reads.Asked, to-input-reads.Learnt, check-scoped-below t, check-scoped.Post, check-input-reads.Asked, check-input-reads.Learnt, check-fields-below t, check-fields.Post, check-element-below t, check-element.Post) (check-transform-at t) check-transform.Post
+check-transform-to-input-requires : (t : ℕ) → check-transform-lts.Need-to-input-requires (check-transform-claims t) (check-transform-at t) check-transform.Post
 check-transform-to-input-requires t c κs = let (s, Δ, C, d, h) = c .before .before .pre .1 in checking-before C
 
-check-transform-check-scoped-requires : (t : ℕ) → check-transform-lts.Need-check-scoped-requires (to-input-reads.Asked, to-input-reads.Learnt, check-scoped-below t, check-scoped.Post, check-input-reads.Asked, check-input-reads.Learnt, check-fields-below t, check-fields.Post, check-element-below t, check-element.Post) (check-transform-at t) check-transform.Post
-check-transform-check-scoped-requires t c κs = let (s, Δ, C, d, h) = c .before .before .before .pre .1 in let T = a-transform C h .transforms in (omega (arith, c .before .before .before .pre .0, input-falls C T (c .to-input .ensures)), input-asks C T (c .to-input .ensures) d)
+check-transform-check-scoped-requires : (t : ℕ)
+    → check-transform-lts.Need-check-scoped-requires (check-transform-claims t) (check-transform-at t) check-transform.Post
+check-transform-check-scoped-requires t c κs = let (s, Δ, C, d, h) = c .before .before .before .pre .1 in
+    let T = a-transform C h .transforms in
+    (omega (arith, c .before .before .before .pre .0, input-falls C T (c .to-input .ensures)), input-asks C T (c .to-input .ensures) d)
 
-check-transform-enum-told : (t : ℕ) → check-transform-lts.Need-enum-told (to-input-reads.Asked, to-input-reads.Learnt, check-scoped-below t, check-scoped.Post, check-input-reads.Asked, check-input-reads.Learnt, check-fields-below t, check-fields.Post, check-element-below t, check-element.Post) (check-transform-at t) check-transform.Post
+check-transform-enum-told : (t : ℕ) → check-transform-lts.Need-enum-told (check-transform-claims t) (check-transform-at t) check-transform.Post
 check-transform-enum-told t c = search needs
 
-check-transform-check-input-requires : (t : ℕ) → check-transform-lts.Need-check-input-requires (to-input-reads.Asked, to-input-reads.Learnt, check-scoped-below t, check-scoped.Post, check-input-reads.Asked, check-input-reads.Learnt, check-fields-below t, check-fields.Post, check-element-below t, check-element.Post) (check-transform-at t) check-transform.Post
-check-transform-check-input-requires t c κs = let (s, Δ, C, d, h) = c .before .before .before .before .before .before .pre .1 in (s, Δ, (input-passed C (a-transform C h .transforms) (c .before .before .before .to-input .ensures) d (c .before .before .check-scoped .ensures) (c .enum-told .given .1)))
+check-transform-check-input-requires : (t : ℕ)
+    → check-transform-lts.Need-check-input-requires (check-transform-claims t) (check-transform-at t) check-transform.Post
+check-transform-check-input-requires t c κs = let (s, Δ, C, d, h) = c .before .before .before .before .before .before .pre .1 in
+    (s, Δ, (input-passed C (a-transform C h .transforms) (c .before .before .before .to-input .ensures) d (c .before .before .check-scoped .ensures)
+    (c .enum-told .given .1)))
 
-check-transform-enum-told-2 : (t : ℕ) → check-transform-lts.Need-enum-told-2 (to-input-reads.Asked, to-input-reads.Learnt, check-scoped-below t, check-scoped.Post, check-input-reads.Asked, check-input-reads.Learnt, check-fields-below t, check-fields.Post, check-element-below t, check-element.Post) (check-transform-at t) check-transform.Post
+check-transform-enum-told-2 : (t : ℕ) → check-transform-lts.Need-enum-told-2 (check-transform-claims t) (check-transform-at t) check-transform.Post
 check-transform-enum-told-2 t c = search needs
 
-check-transform-enum-known-k : (t : ℕ) → check-transform-lts.Need-enum-known-k (to-input-reads.Asked, to-input-reads.Learnt, check-scoped-below t, check-scoped.Post, check-input-reads.Asked, check-input-reads.Learnt, check-fields-below t, check-fields.Post, check-element-below t, check-element.Post) (check-transform-at t) check-transform.Post
+check-transform-enum-known-k : (t : ℕ) → check-transform-lts.Need-enum-known-k (check-transform-claims t) (check-transform-at t) check-transform.Post
 check-transform-enum-known-k t c = search needs
 
-check-transform-enum-known-count : (t : ℕ) → check-transform-lts.Need-enum-known-count (to-input-reads.Asked, to-input-reads.Learnt, check-scoped-below t, check-scoped.Post, check-input-reads.Asked, check-input-reads.Learnt, check-fields-below t, check-fields.Post, check-element-below t, check-element.Post) (check-transform-at t) check-transform.Post
+check-transform-enum-known-count : (t : ℕ) → check-transform-lts.Need-enum-known-count (check-transform-claims t) (check-transform-at t) check-transform.Post
 check-transform-enum-known-count t c = search needs
 
-check-transform-check-fields-requires : (t : ℕ) → check-transform-lts.Need-check-fields-requires (to-input-reads.Asked, to-input-reads.Learnt, check-scoped-below t, check-scoped.Post, check-input-reads.Asked, check-input-reads.Learnt, check-fields-below t, check-fields.Post, check-element-below t, check-element.Post) (check-transform-at t) check-transform.Post
-check-transform-check-fields-requires t c κs = let (s, Δ, C, d, h) = c .before .before .before .before .before .before .before .before .before .before .pre .1 in let F = rest-of (c .before .before .before .check-input .ensures s Δ (input-passed C (a-transform C h .transforms) (c .before .before .before .before .before .before .before .to-input .ensures) d (c .before .before .before .before .before .before .check-scoped .ensures) (c .before .before .before .before .enum-told .given .1))) (c .before .count .given .1) in (omega (arith, c .before .before .before .before .before .before .before .before .before .before .pre .0), (F .input, F .parts, F .scope, F .mapping, F .counted, F .columns))
+check-transform-check-fields-requires : (t : ℕ)
+    → check-transform-lts.Need-check-fields-requires (check-transform-claims t) (check-transform-at t) check-transform.Post
+check-transform-check-fields-requires t c κs = let
+    (s, Δ, C, d, h) = c .before .before .before .before .before .before .before .before .before .before .pre .1 in
+    let F = rest-of (c .before .before .before .check-input .ensures s Δ
+    (input-passed C (a-transform C h .transforms) (c .before .before .before .before .before .before .before .to-input .ensures) d
+    (c .before .before .before .before .before .before .check-scoped .ensures) (c .before .before .before .before .enum-told .given .1)))
+    (c .before .count .given .1) in
+    (omega (arith, c .before .before .before .before .before .before .before .before .before .before .pre .0),
+    (F .input, F .parts, F .scope, F .mapping, F .counted, F .columns))
 
-check-transform-enum-told-3 : (t : ℕ) → check-transform-lts.Need-enum-told-3 (to-input-reads.Asked, to-input-reads.Learnt, check-scoped-below t, check-scoped.Post, check-input-reads.Asked, check-input-reads.Learnt, check-fields-below t, check-fields.Post, check-element-below t, check-element.Post) (check-transform-at t) check-transform.Post
+check-transform-enum-told-3 : (t : ℕ) → check-transform-lts.Need-enum-told-3 (check-transform-claims t) (check-transform-at t) check-transform.Post
 check-transform-enum-told-3 t c = search needs
 
-check-transform-check-element-requires : (t : ℕ) → check-transform-lts.Need-check-element-requires (to-input-reads.Asked, to-input-reads.Learnt, check-scoped-below t, check-scoped.Post, check-input-reads.Asked, check-input-reads.Learnt, check-fields-below t, check-fields.Post, check-element-below t, check-element.Post) (check-transform-at t) check-transform.Post
-check-transform-check-element-requires t c κs = let (s, Δ, C, d, h) = c .before .before .before .before .before .before .before .before .before .pre .1 in let E = rest-of (c .before .before .check-input .ensures s Δ (input-passed C (a-transform C h .transforms) (c .before .before .before .before .before .before .to-input .ensures) d (c .before .before .before .before .before .check-scoped .ensures) (c .before .before .before .enum-told .given .1))) (c .enum-told3 .given .1) in (omega (arith, c .before .before .before .before .before .before .before .before .before .pre .0), (E .element, E .selector, E .makes, E .elements))
+check-transform-check-element-requires : (t : ℕ)
+    → check-transform-lts.Need-check-element-requires (check-transform-claims t) (check-transform-at t) check-transform.Post
+check-transform-check-element-requires t c κs = let (s, Δ, C, d, h) = c .before .before .before .before .before .before .before .before .before .pre .1 in
+    let E = rest-of (c .before .before .check-input .ensures s Δ
+    (input-passed C (a-transform C h .transforms) (c .before .before .before .before .before .before .to-input .ensures) d
+    (c .before .before .before .before .before .check-scoped .ensures) (c .before .before .before .enum-told .given .1))) (c .enum-told3 .given .1) in
+    (omega (arith, c .before .before .before .before .before .before .before .before .before .pre .0), (E .element, E .selector, E .makes, E .elements))
 
-check-transform-enum-known-k-2 : (t : ℕ) → check-transform-lts.Need-enum-known-k-2 (to-input-reads.Asked, to-input-reads.Learnt, check-scoped-below t, check-scoped.Post, check-input-reads.Asked, check-input-reads.Learnt, check-fields-below t, check-fields.Post, check-element-below t, check-element.Post) (check-transform-at t) check-transform.Post
+check-transform-enum-known-k-2 : (t : ℕ) → check-transform-lts.Need-enum-known-k-2 (check-transform-claims t) (check-transform-at t) check-transform.Post
 check-transform-enum-known-k-2 t c = search needs
 
-check-transform-returns : (t : ℕ) → check-transform-lts.Need-returns (to-input-reads.Asked, to-input-reads.Learnt, check-scoped-below t, check-scoped.Post, check-input-reads.Asked, check-input-reads.Learnt, check-fields-below t, check-fields.Post, check-element-below t, check-element.Post) (check-transform-at t) check-transform.Post
-check-transform-returns t c = λ s Δ C d h. rest-of (c .before .before .check-input .ensures s Δ (input-passed C (a-transform C h .transforms) (c .before .before .before .before .before .before .to-input .ensures) d (c .before .before .before .before .before .check-scoped .ensures) (c .before .before .before .enum-told .given .1))) (c .enum-told2 .given .1)
+check-transform-returns : (t : ℕ) → check-transform-lts.Need-returns (check-transform-claims t) (check-transform-at t) check-transform.Post
+check-transform-returns t c = λ s Δ C d h. rest-of
+    (c .before .before .check-input .ensures s Δ
+    (input-passed C (a-transform C h .transforms) (c .before .before .before .before .before .before .to-input .ensures) d
+    (c .before .before .before .before .before .check-scoped .ensures) (c .before .before .before .enum-told .given .1))) (c .enum-told2 .given .1)
 
-check-transform-returns-2 : (t : ℕ) → check-transform-lts.Need-returns-2 (to-input-reads.Asked, to-input-reads.Learnt, check-scoped-below t, check-scoped.Post, check-input-reads.Asked, check-input-reads.Learnt, check-fields-below t, check-fields.Post, check-element-below t, check-element.Post) (check-transform-at t) check-transform.Post
-check-transform-returns-2 t c = λ s Δ C d h. rest-of (c .before .before .before .check-input .ensures s Δ (input-passed C (a-transform C h .transforms) (c .before .before .before .before .before .before .before .to-input .ensures) d (c .before .before .before .before .before .before .check-scoped .ensures) (c .before .before .before .before .enum-told .given .1))) (c .before .k .given .1)
+check-transform-returns-2 : (t : ℕ) → check-transform-lts.Need-returns-2 (check-transform-claims t) (check-transform-at t) check-transform.Post
+check-transform-returns-2 t c = λ s Δ C d h. rest-of
+    (c .before .before .before .check-input .ensures s Δ
+    (input-passed C (a-transform C h .transforms) (c .before .before .before .before .before .before .before .to-input .ensures) d
+    (c .before .before .before .before .before .before .check-scoped .ensures) (c .before .before .before .before .enum-told .given .1)))
+    (c .before .k .given .1)
 
-check-transform-returns-3 : (t : ℕ) → check-transform-lts.Need-returns-3 (to-input-reads.Asked, to-input-reads.Learnt, check-scoped-below t, check-scoped.Post, check-input-reads.Asked, check-input-reads.Learnt, check-fields-below t, check-fields.Post, check-element-below t, check-element.Post) (check-transform-at t) check-transform.Post
-check-transform-returns-3 t c = λ s Δ C d h. let F = rest-of (c .before .before .before .before .check-input .ensures s Δ (input-passed C (a-transform C h .transforms) (c .before .before .before .before .before .before .before .before .to-input .ensures) d (c .before .before .before .before .before .before .before .check-scoped .ensures) (c .before .before .before .before .before .enum-told .given .1))) (c .before .before .count .given .1) in c .check-fields .ensures (F .input) (F .parts) (F .scope) (F .name) (F .mapping) (F .counted) (F .columns) ∙ sym (F .left)
+check-transform-returns-3 : (t : ℕ) → check-transform-lts.Need-returns-3 (check-transform-claims t) (check-transform-at t) check-transform.Post
+check-transform-returns-3 t c = λ s Δ C d h. let F = rest-of
+    (c .before .before .before .before .check-input .ensures s Δ
+    (input-passed C (a-transform C h .transforms) (c .before .before .before .before .before .before .before .before .to-input .ensures) d
+    (c .before .before .before .before .before .before .before .check-scoped .ensures) (c .before .before .before .before .before .enum-told .given .1)))
+    (c .before .before .count .given .1) in c .check-fields .ensures (F .input) (F .parts) (F .scope) (F .name) (F .mapping) (F .counted) (F .columns)
+    ∙ sym (F .left)
 
-check-transform-returns-4 : (t : ℕ) → check-transform-lts.Need-returns-4 (to-input-reads.Asked, to-input-reads.Learnt, check-scoped-below t, check-scoped.Post, check-input-reads.Asked, check-input-reads.Learnt, check-fields-below t, check-fields.Post, check-element-below t, check-element.Post) (check-transform-at t) check-transform.Post
-check-transform-returns-4 t c = λ s Δ C d h. let E = rest-of (c .before .before .before .check-input .ensures s Δ (input-passed C (a-transform C h .transforms) (c .before .before .before .before .before .before .before .to-input .ensures) d (c .before .before .before .before .before .before .check-scoped .ensures) (c .before .before .before .before .enum-told .given .1))) (c .before .enum-told3 .given .1) in c .check-element .ensures (E .element) (E .selector) (E .makes) (E .name) (E .elements) ∙ sym (E .left)
+check-transform-returns-4 : (t : ℕ) → check-transform-lts.Need-returns-4 (check-transform-claims t) (check-transform-at t) check-transform.Post
+check-transform-returns-4 t c = λ s Δ C d h. let E = rest-of
+    (c .before .before .before .check-input .ensures s Δ
+    (input-passed C (a-transform C h .transforms) (c .before .before .before .before .before .before .before .to-input .ensures) d
+    (c .before .before .before .before .before .before .check-scoped .ensures) (c .before .before .before .before .enum-told .given .1)))
+    (c .before .enum-told3 .given .1) in c .check-element .ensures (E .element) (E .selector) (E .makes) (E .name) (E .elements) ∙ sym (E .left)
 
-check-transform-returns-5 : (t : ℕ) → check-transform-lts.Need-returns-5 (to-input-reads.Asked, to-input-reads.Learnt, check-scoped-below t, check-scoped.Post, check-input-reads.Asked, check-input-reads.Learnt, check-fields-below t, check-fields.Post, check-element-below t, check-element.Post) (check-transform-at t) check-transform.Post
-check-transform-returns-5 t c = λ s Δ C d h. input-refused C (a-transform C h .transforms) (c .before .before .before .before .to-input .ensures) d (c .before .before .before .check-scoped .ensures) (c .before .k2 .given .1)
+check-transform-returns-5 : (t : ℕ) → check-transform-lts.Need-returns-5 (check-transform-claims t) (check-transform-at t) check-transform.Post
+check-transform-returns-5 t c = λ s Δ C d h. input-refused C (a-transform C h .transforms) (c .before .before .before .before .to-input .ensures) d
+    (c .before .before .before .check-scoped .ensures) (c .before .k2 .given .1)
 
 pub +check-element+check-fields+check-scoped+check-transform-spec : {M : Type 1} → statement M
 +check-element+check-fields+check-scoped+check-transform-spec =
@@ -250,18 +340,7 @@ pub +check-element+check-fields+check-scoped+check-transform-spec : {M : Type 1}
     μ-check-fields
     μ-check-scoped
     μ-check-transform
-    (λ t. check-element-lts.spec (
-      child-reads.Asked,
-      child-reads.Learnt,
-      check-scoped-below t,
-      check-scoped.Post,
-      found-in-reads.Asked,
-      found-in-reads.Learnt,
-      within-limits-reads.Asked,
-      within-limits-reads.Learnt,
-      fitting-reads.Asked,
-      fitting-reads.Learnt,
-    )
+    (λ t. check-element-lts.spec (check-element-claims t)
     (check-element-at t)
     check-element.Post
     (check-element-child-requires t)
@@ -273,22 +352,7 @@ pub +check-element+check-fields+check-scoped+check-transform-spec : {M : Type 1}
     (check-element-enum-known-k t)
     (check-element-returns t)
     (check-element-returns-2 t))
-    (λ t. check-fields-lts.spec (
-      first-child-reads.Asked,
-      first-child-reads.Learnt,
-      child-at-reads.Asked,
-      child-at-reads.Learnt,
-      check-scoped-below t,
-      check-scoped.Post,
-      skip-selector-reads.Asked,
-      skip-selector-reads.Learnt,
-      found-in-reads.Asked,
-      found-in-reads.Learnt,
-      within-limits-reads.Asked,
-      within-limits-reads.Learnt,
-      fitting-reads.Asked,
-      fitting-reads.Learnt,
-    )
+    (λ t. check-fields-lts.spec (check-fields-claims t)
     (check-fields-at t)
     check-fields.Post
     check-fields-Inv-loop
@@ -308,14 +372,7 @@ pub +check-element+check-fields+check-scoped+check-transform-spec : {M : Type 1}
     (check-fields-within-limits-requires t)
     (check-fields-fitting-requires t)
     (check-fields-returns-2 t))
-    (λ t. check-scoped-lts.spec (
-      is-transform-reads.Asked,
-      is-transform-reads.Learnt,
-      check-transform-below t,
-      check-transform.Post,
-      check-source-reads.Asked,
-      check-source-reads.Learnt,
-    )
+    (λ t. check-scoped-lts.spec (check-scoped-claims t)
     (check-scoped-at t)
     check-scoped.Post
     (check-scoped-is-transform-requires t)
@@ -323,18 +380,7 @@ pub +check-element+check-fields+check-scoped+check-transform-spec : {M : Type 1}
     (check-scoped-returns t)
     (check-scoped-check-source-requires t)
     (check-scoped-returns-2 t))
-    λ t. check-transform-lts.spec (
-      to-input-reads.Asked,
-      to-input-reads.Learnt,
-      check-scoped-below t,
-      check-scoped.Post,
-      check-input-reads.Asked,
-      check-input-reads.Learnt,
-      check-fields-below t,
-      check-fields.Post,
-      check-element-below t,
-      check-element.Post,
-    )
+    λ t. check-transform-lts.spec (check-transform-claims t)
     (check-transform-at t)
     check-transform.Post
     (check-transform-to-input-requires t)
