@@ -131,7 +131,7 @@ module _ {incoming plan : Bytes} {t : DataType} {h : TypeHead} (H : TypeHeadIs i
     module _ {m : Version} {n : ℕ} {q : Resolved} (R : ResolvedAt incoming m n plan q t) {r : Ends} where
       pub structs-same : {k : ℕ} → q .source ≡ Source.Mapped → (i : h ≡ TypeHead.Struct k)
           → ((fs : Fields) (C : ColumnsAt v (d - 1) s k (g .at)) → MappedAt incoming m n plan (q .walk) (struct fs) → countFields fs ≡ k
-              → r ≡ endsOf (sameFields fs (fieldsOf (C .columns))) (C .end))
+          → r ≡ endsOf (sameFields fs (fieldsOf (C .columns))) (C .end))
           → r ≡ endsOf (sameDtype t (dtypeOf (Q .tree))) (Q .end)
       unfolding sameDtype dtypeOf
       structs-same y i o =
@@ -261,8 +261,8 @@ module _ {incoming : Bytes} {v : Version} {n : ℕ} {plan : Bytes} {w : Walk} {c
                 is = O .keeps fs Q R c ∙ ap (λ (gs : Fields). endsOf (sameFields gs (fieldsOf (O .rest .columns))) (O .rest .end)) (drop-next fs k e)
                     ∙ ap (λ (cs : Columns). endsOf (sameFields (fcons (a .name) (a .type) (dropFields (suc k) fs)) (fieldsOf cs)) (O .rest .end)) (S .is)
                     ∙ ap (λ (j : ℕ). endsOf (sameBytes (a .name) (S .first .label .name) &&
-                        (sameDtype (a .type) (dtypeOf (S .first .inner .tree)) && sameFields (dropFields (suc k) fs) (fieldsOf (S .tail .columns)))) j)
-                        (sym (S .ends));
+                    (sameDtype (a .type) (dtypeOf (S .first .inner .tree)) && sameFields (dropFields (suc k) fs) (fieldsOf (S .tail .columns)))) j)
+                    (sym (S .ends));
               }
 
           pub matching-no : f ≡ Ends.Differ → (fs : Fields) (Q : ColumnsAt vt depth target count base) → MappedAt incoming v n plan w (struct fs)
@@ -272,7 +272,7 @@ module _ {incoming : Bytes} {v : Version} {n : ℕ} {plan : Bytes} {w : Walk} {c
           matching-no e fs Q R c =
               let H = here fs Q R c in
               sym (H .is ∙ none (H .names) (H .types) (sameFields (dropFields (suc k) fs) (fieldsOf (matching-first .tail .columns)))
-                  (ends-differ (H .names && H .types) (matching-first .first .inner .end) (sym (H .answers) ∙ e)) (matching-first .tail .end))
+              (ends-differ (H .names && H .types) (matching-first .first .inner .end) (sym (H .answers) ∙ e)) (matching-first .tail .end))
             where
               none : (x y z : Bool) → (x && y) ≡ false → (j : ℕ) → endsOf (x && (y && z)) j ≡ Ends.Differ
               none true true z p j = true≠false refl p
@@ -284,7 +284,7 @@ module _ {incoming : Bytes} {v : Version} {n : ℕ} {plan : Bytes} {w : Walk} {c
           at-end e =
               let (a, N) = matching-asks in
               sym (ends-at (sameBytes (a .name) (matching-first .first .label .name) && sameDtype (a .type) (dtypeOf (matching-first .first .inner .tree)))
-                  (matching-first .first .inner .end) (sym (F a (matching-first .first) N) ∙ e) .1)
+              (matching-first .first .inner .end) (sym (F a (matching-first .first) N) ∙ e) .1)
 
           pub matching-more : {y : Cursor} → f ≡ Ends.At y → {d : ℕ} → ((P : SelectorAt plan from) → d ≡ P .end)
               → Matching incoming v n plan w count target vt depth base d (y .at) (k + 1)
@@ -299,7 +299,7 @@ module _ {incoming : Bytes} {v : Version} {n : ℕ} {plan : Bytes} {w : Walk} {c
                 let H = here fs Q R c in
                 let z : suc k ≡ k + 1 = omega arith in
                 H .is ∙ all (H .names) (H .types) (sameFields (dropFields (suc k) fs) (fieldsOf (matching-first .tail .columns)))
-                    (ends-at (H .names && H .types) (matching-first .first .inner .end) (sym (H .answers) ∙ e) .0) (matching-first .tail .end)
+                (ends-at (H .names && H .types) (matching-first .first .inner .end) (sym (H .answers) ∙ e) .0) (matching-first .tail .end)
                 ∙ ap (λ (j : ℕ). endsOf (sameFields (dropFields j fs) (fieldsOf (matching-first .tail .columns))) (matching-first .tail .end)) z;
           }
             where

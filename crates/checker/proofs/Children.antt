@@ -83,7 +83,7 @@ module _ {plan : Bytes} {at : ℕ} (H : SelectorAt plan at) {i : Selector} {ss :
             let (R, e) = B .passed P _ S in
             let c = count-is P S in
             field-found k S {r = record { count = S .fields .count; first = record { at = S .fields .first } }} (record { count = refl; first = refl })
-                (omega arith) {c = record { at = m }}
+            (omega arith) {c = record { at = m }}
             (λ n Q j. nth-behind R e n Q j) .answer
         go P (v-list C) = let q = sym (C .is) ∙ tree-is P in clash (cc)
         go P (v-array C) = let q = sym (C .is) ∙ tree-is P in clash (cc)
@@ -96,8 +96,8 @@ module _ {plan : Bytes} {at : ℕ} (H : SelectorAt plan at) {i : Selector} {ss :
           let N = nth-behind R e (S .fields .count) (S .fields .selectors) (omega arith) in
           let (ys, r) = one-more k R (selector-moved (sym e) (N .here)) in
           let z : k + 1 ≡ suc k = omega arith in
-          (record { trees = ys; end = N .here .end; reads = ap (λ (n : ℕ). selectorsOf (selector deepestSelector) n plan (S .fields .first)) z ∙ r }, sym
-              (f (N .here)));
+          let q = ap (λ (n : ℕ). selectorsOf (selector deepestSelector) n plan (S .fields .first)) z ∙ r in
+          (record { trees = ys; end = N .here .end; reads = q }, sym (f (N .here)));
     }
 
 -- the walk x stands at the part k, which stands at m

@@ -267,8 +267,12 @@ module _ {incoming plan : Bytes} {t : DataType} {h : TypeHead} (H : TypeHeadIs i
   -- a mapping makes it
   pub struct-asks : {v : Version} {m : ℕ} {q : Resolved} {n : ℕ} → ResolvedAt incoming v m plan q t → q .source ≡ Source.Mapped → h ≡ TypeHead.Struct n
       → (fs : Fields) × MappedAt incoming v m plan (q .walk) (struct fs) × (countFields fs ≡ n)
-  struct-asks {v} {m} {q} R z e = let (fs, (p, c)) = is-struct e in (fs, subst (λ (u : DataType). MappedAt incoming v m plan (q .walk) u) p
-      (from-mapping R z), c)
+  struct-asks {v} {m} {q} R z e = let (fs, (p, c)) = is-struct e in (
+    fs,
+    subst (λ (u : DataType). MappedAt incoming v m plan (q .walk) u) p
+        (from-mapping R z),
+    c,
+  )
 
   pub struct-fits : {v : Version} {m : ℕ} {q : Resolved} {n : ℕ} {f : Fit} (l r : ℕ) → ResolvedAt incoming v m plan q t → q .source ≡ Source.Mapped
       → h ≡ TypeHead.Struct n → (l ≡ 0 → ⊥) → 3 ≤ r
@@ -276,7 +280,7 @@ module _ {incoming plan : Bytes} {t : DataType} {h : TypeHead} (H : TypeHeadIs i
   struct-fits {v} {m} {q} l r R y e z k g =
       let (fs, (p, c)) = is-struct e in
       g fs (subst (λ (u : DataType). MappedAt incoming v m plan (q .walk) u) p (from-mapping R y)) c ∙ fit-struct fs l r z k
-          ∙ ap (λ (u : DataType). typeFit u l r) (sym p)
+      ∙ ap (λ (u : DataType). typeFit u l r) (sym p)
 
   module _ {v : Version} {m : ℕ} {q : Resolved} (R : ResolvedAt incoming v m plan q t) where
     pub list-asks : h ≡ TypeHead.List → (u : DataType) × (a : Column) × ResolvedAt incoming v m plan q u × PartOf u 0 a
@@ -408,5 +412,5 @@ module _ {incoming : Bytes} {v : Version} {n : ℕ} {plan : Bytes} {w : Walk} {c
                   let z = H .long in
                   let i : suc k ≡ k + 1 = omega arith in
                   H .is ∙ fit-field (H .field .name) (H .field .type) (dropFields (suc k) fs) levels left (omega arith) (sym (fit-here H) ∙ e)
-                      ∙ ap (λ (j : ℕ). fieldsFit (dropFields j fs) levels y) i;
+                  ∙ ap (λ (j : ℕ). fieldsFit (dropFields j fs) levels y) i;
             }

@@ -445,8 +445,11 @@ module _ {incoming : Bytes} {v : Version} {n : ℕ} {plan : Bytes} {w : Walk} wh
 -- what `first_child` and `child_at` ask
 pub mapping-asks : {incoming : Bytes} {v : Version} {n : ℕ} {plan : Bytes} {w : Walk} {i : Selector} {ss : Selectors} {u : DataType}
     → MappingAt incoming v n plan w (structMapping i ss) i u → (w .at < 65536) × (w .deep < 64)
-mapping-asks {i = i} {ss = ss} M = (walk-small (M .standing), let a = entries-count (M .standing .entries) in
-    let b = nests-struct i ss in omega (arith, M .shallow .here))
+mapping-asks {i = i} {ss = ss} M = (
+  walk-small (M .standing),
+  let a = entries-count (M .standing .entries) in
+      let b = nests-struct i ss in omega (arith, M .shallow .here),
+)
 
 unfoldable pub dropSelectors : ℕ → Selectors → Selectors
 dropSelectors zero ss = ss
@@ -551,7 +554,7 @@ module _ {incoming : Bytes} {v : Version} {n : ℕ} {plan : Bytes} {w : Walk} {c
         passing-refused e i ss fs name M c d =
             let N = child M c in
             bind-refused (typesOf fs ss) (λ gs. resulting name (struct gs))
-                (rest-is M c d ∙ types-refused fs (N .part) (dropSelectors (suc k) ss) (sym (f (N .part) fs (N .checking) d) ∙ e))
+            (rest-is M c d ∙ types-refused fs (N .part) (dropSelectors (suc k) ss) (sym (f (N .part) fs (N .checking) d) ∙ e))
 
         pub passing-more : r ≡ Checked.Passed → {y : ℕ} → ((P : SelectorAt plan at) → y ≡ P .end) → Passing incoming v n plan w count m y (k + 1)
         passing-more e s = record {
@@ -567,7 +570,7 @@ module _ {incoming : Bytes} {v : Version} {n : ℕ} {plan : Bytes} {w : Walk} {c
               let N = child M c in
               let z : suc k ≡ k + 1 = omega arith in
               rest-is M c d ∙ types-passed fs (N .part) (dropSelectors (suc k) ss) (sym (f (N .part) fs (N .checking) d) ∙ e)
-                  ∙ ap (λ (j : ℕ). checkedOf (typesOf fs (dropSelectors j ss))) z;
+              ∙ ap (λ (j : ℕ). checkedOf (typesOf fs (dropSelectors j ss))) z;
         }
 
     module _ (h : count ≤ k) where
@@ -586,7 +589,7 @@ module _ {incoming : Bytes} {v : Version} {n : ℕ} {plan : Bytes} {w : Walk} {c
 
         pub passing-end : {r : Checked} {b : Bool} → r ≡ fittingOf b → ((t : DataType) → ResolvedAt incoming v n plan q t → b ≡ withinLimits t)
             → (i : Selector) (ss : Selectors) (fs : Fields) (name : Bytes) → MappingAt incoming v n plan w (structMapping i ss) i (struct fs)
-                → countSelectors ss ≡ count → countFields fs ≡ m → r ≡ checkedOf (fieldsResult fs ss name)
+            → countSelectors ss ≡ count → countFields fs ≡ m → r ≡ checkedOf (fieldsResult fs ss name)
         passing-end f l i ss fs name M d y =
             let (gs, p) = all-passed M d y in
             bind-gives (typesOf fs ss) (λ gs. resulting name (struct gs)) p (f ∙ ap fittingOf (l (struct gs) (mapped-as e (struct-made M p))) ∙ result-is name (struct gs))

@@ -78,8 +78,20 @@ abbrev element-fit-claims : ℕ → element-fit-lts.Claims
 element-fit-claims t = (part-reads.Asked, part-reads.Learnt, type-fit-below t, type-fit.Post)
 
 abbrev fields-fit-claims : ℕ → fields-fit-lts.Claims
-fields-fit-claims t = (first-child-reads.Asked, first-child-reads.Learnt, child-at-reads.Asked, child-at-reads.Learnt, name-at-reads.Asked,
-    name-at-reads.Learnt, resolve-reads.Asked, resolve-reads.Learnt, type-fit-below t, type-fit.Post, skip-selector-reads.Asked, skip-selector-reads.Learnt)
+fields-fit-claims t = (
+  first-child-reads.Asked,
+  first-child-reads.Learnt,
+  child-at-reads.Asked,
+  child-at-reads.Learnt,
+  name-at-reads.Asked,
+  name-at-reads.Learnt,
+  resolve-reads.Asked,
+  resolve-reads.Learnt,
+  type-fit-below t,
+  type-fit.Post,
+  skip-selector-reads.Asked,
+  skip-selector-reads.Learnt,
+)
 
 abbrev mapped-fit-claims : ℕ → mapped-fit-lts.Claims
 mapped-fit-claims t = (type-head-reads.Asked, type-head-reads.Learnt, fields-fit-below t, fields-fit.Post, element-fit-below t, element-fit.Post)
@@ -118,9 +130,12 @@ pub +element-fit+fields-fit+mapped-fit+type-fit-spec : {M : Type 1} → statemen
     (λ c κs. fitting-typed (c .before .before .before .before .loop .inv) (c .before .before .before .loop-test .taken) (c .before .before .child-at .ensures))
     (λ c. omega (arith, c .before .if1 .left))
     (λ c. omega (arith, c .before .if1 .left))
-    (λ c κs. (omega (arith, c .before .before .before .before .before .before .before .before .before .pre .0), fitting-part
-    (c .before .before .before .before .before .loop .inv) (c .before .before .before .before .loop-test .taken)
-    (c .before .before .before .child-at .ensures) (c .before .before .name-at .ensures) (c .before .if1 .left) (c .resolve .ensures)))
+    (λ c κs. (
+      omega (arith, c .before .before .before .before .before .before .before .before .before .pre .0),
+      fitting-part
+          (c .before .before .before .before .before .loop .inv) (c .before .before .before .before .loop-test .taken)
+          (c .before .before .before .child-at .ensures) (c .before .before .name-at .ensures) (c .before .if1 .left) (c .resolve .ensures),
+    ))
     (λ c. search needs)
     (λ c. search needs)
     (λ c. fitting-over (c .before .before .before .before .before .before .before .before .loop .inv)
@@ -128,8 +143,11 @@ pub +element-fit+fields-fit+mapped-fit+type-fit-spec : {M : Type 1} → statemen
     (c .before .before .before .before .before .name-at .ensures) (c .before .before .before .before .if1 .left) (c .before .before .before .resolve .ensures)
     (c .before .before .type-fit .ensures) (c .enum-told .given .1))
     (λ c κs. search needs)
-    (λ c. omega (arith, c .before .before .before .before .before .before .before .before .before .before .before .before .before .before .fits .count,
-    c .before .before .before .before .before .before .before .before .before .loop-test .taken))
+    (λ c. omega (
+      arith,
+      c .before .before .before .before .before .before .before .before .before .before .before .before .before .before .fits .count,
+      c .before .before .before .before .before .before .before .before .before .loop-test .taken,
+    ))
     (λ c. omega (arith, c .before .before .before .before .before .before .before .before .before .loop-test .taken))
     (λ c. fitting-more (c .before .before .before .before .before .before .before .before .before .before .loop .inv)
     (c .before .before .before .before .before .before .before .before .before .loop-test .taken)
@@ -147,20 +165,29 @@ pub +element-fit+fields-fit+mapped-fit+type-fit-spec : {M : Type 1} → statemen
     (λ c. search needs)
     (λ c. λ u R. struct-short (c .before .before .before .before .type-head .ensures u R) _ _ (c .before .before .count .given .1) (c .if2 .taken))
     (λ c. omega (arith, c .before .before .before .before .before .before .if1 .left))
-    (λ c κs. let (u, R) = c .before .before .before .before .before .before .before .before .before .pre .1 .0 in
-    (omega (arith, c .before .before .before .before .before .before .before .before .before .pre .0,
-    c .before .before .before .before .before .before .if1 .left), struct-asks (c .before .before .before .before .before .type-head .ensures u R) R
-    (c .before .before .before .before .before .before .before .before .before .pre .1 .1) (c .before .before .before .count .given .1)))
+    (λ c κs. let (u, R) = c .before .before .before .before .before .before .before .before .before .pre .1 .0 in (
+      omega (
+        arith,
+        c .before .before .before .before .before .before .before .before .before .pre .0,
+        c .before .before .before .before .before .before .if1 .left,
+      ),
+      struct-asks (c .before .before .before .before .before .type-head .ensures u R) R
+          (c .before .before .before .before .before .before .before .before .before .pre .1 .1) (c .before .before .before .count .given .1),
+    ))
     (λ c. search needs)
     (λ c. omega (arith, c .before .before .before .if1 .left))
-    (λ c κs. let (u, R) = c .before .before .before .before .before .before .pre .1 .0 in
-    (omega (arith, c .before .before .before .before .before .before .pre .0, c .before .before .before .if1 .left), list-asks
-    (c .before .before .type-head .ensures u R) R (c .enum-told2 .given .1)))
+    (λ c κs. let (u, R) = c .before .before .before .before .before .before .pre .1 .0 in (
+      omega (arith, c .before .before .before .before .before .before .pre .0, c .before .before .before .if1 .left),
+      list-asks
+          (c .before .before .type-head .ensures u R) R (c .enum-told2 .given .1),
+    ))
     (λ c. search needs)
     (λ c. omega (arith, c .before .before .before .if1 .left))
-    (λ c κs. let (u, R) = c .before .before .before .before .before .before .pre .1 .0 in
-    (omega (arith, c .before .before .before .before .before .before .pre .0, c .before .before .before .if1 .left), array-asks
-    (c .before .before .type-head .ensures u R) R (c .enum-told3 .given .1)))
+    (λ c κs. let (u, R) = c .before .before .before .before .before .before .pre .1 .0 in (
+      omega (arith, c .before .before .before .before .before .before .pre .0, c .before .before .before .if1 .left),
+      array-asks
+          (c .before .before .type-head .ensures u R) R (c .enum-told3 .given .1),
+    ))
     (λ c. λ u R. made-no-leaf R (c .before .before .before .before .before .before .pre .1 .1) (c .before .before .type-head .ensures u R)
     (c .enum-told .given .1))
     (λ c. λ u R. struct-fits (c .before .before .before .before .before .before .type-head .ensures u R) _ _ R

@@ -112,19 +112,49 @@ abbrev same-as-claims : ℕ → same-as-lts.Claims
 same-as-claims t = (same-type-reads.Asked, same-type-reads.Learnt, target-end-reads.Asked, target-end-reads.Learnt, same-mapped-below t, same-mapped.Post)
 
 abbrev same-column-claims : ℕ → same-column-lts.Claims
-same-column-claims t = (label-reads.Asked, label-reads.Learnt, name-at-reads.Asked, name-at-reads.Learnt, same-name-reads.Asked, same-name-reads.Learnt,
-    resolve-reads.Asked, resolve-reads.Learnt, same-as-below t, same-as.Post)
+same-column-claims t = (
+  label-reads.Asked,
+  label-reads.Learnt,
+  name-at-reads.Asked,
+  name-at-reads.Learnt,
+  same-name-reads.Asked,
+  same-name-reads.Learnt,
+  resolve-reads.Asked,
+  resolve-reads.Learnt,
+  same-as-below t,
+  same-as.Post,
+)
 
 abbrev same-element-claims : ℕ → same-element-lts.Claims
 same-element-claims t = (element-label-reads.Asked, element-label-reads.Learnt, part-reads.Asked, part-reads.Learnt, same-as-below t, same-as.Post)
 
 abbrev same-fields-claims : ℕ → same-fields-lts.Claims
-same-fields-claims t = (first-child-reads.Asked, first-child-reads.Learnt, child-at-reads.Asked, child-at-reads.Learnt, same-column-below t, same-column.Post,
-    skip-selector-reads.Asked, skip-selector-reads.Learnt)
+same-fields-claims t = (
+  first-child-reads.Asked,
+  first-child-reads.Learnt,
+  child-at-reads.Asked,
+  child-at-reads.Learnt,
+  same-column-below t,
+  same-column.Post,
+  skip-selector-reads.Asked,
+  skip-selector-reads.Learnt,
+)
 
 abbrev same-mapped-claims : ℕ → same-mapped-lts.Claims
-same-mapped-claims t = (type-head-reads.Asked, type-head-reads.Learnt, code-reads.Asked, code-reads.Learnt, target-code-reads.Asked, target-code-reads.Learnt,
-    head-end-reads.Asked, head-end-reads.Learnt, same-fields-below t, same-fields.Post, same-element-below t, same-element.Post)
+same-mapped-claims t = (
+  type-head-reads.Asked,
+  type-head-reads.Learnt,
+  code-reads.Asked,
+  code-reads.Learnt,
+  target-code-reads.Asked,
+  target-code-reads.Learnt,
+  head-end-reads.Asked,
+  head-end-reads.Learnt,
+  same-fields-below t,
+  same-fields.Post,
+  same-element-below t,
+  same-element.Post,
+)
 
 abbrev same-fields-Inv-loop : same-fields-lts.InvT-loop
 same-fields-Inv-loop incoming v n plan w count target vt depth from₀ at₀ k₀ from at k = Matching incoming v n plan w count target vt depth at₀ from at k
@@ -152,8 +182,10 @@ pub +same-as+same-column+same-element+same-fields+same-mapped-spec : {M : Type 1
     (from-plan R (c .enum-told2 .given .1) .type, c .before .before .before .before .before .before .pre .1 .1))
     (λ c κs. search needs)
     (λ c. search needs)
-    (λ c κs. (omega (arith, c .before .before .before .before .before .before .pre .0),
-    (c .before .before .before .before .before .before .pre .1 .0, (c .enum-told3 .given .1, c .before .before .before .before .before .before .pre .1 .1))))
+    (λ c κs. (
+      omega (arith, c .before .before .before .before .before .before .pre .0),
+      (c .before .before .before .before .before .before .pre .1 .0, (c .enum-told3 .given .1, c .before .before .before .before .before .before .pre .1 .1)),
+    ))
     (λ c. λ u Q R. let T = from-incoming R (c .before .before .enum-told .given .1) in raw-ends T Q (c .before .same-type .ensures (T .type) Q)
     (c .target-end .ensures))
     (λ c. λ u Q R. let T = from-plan R (c .before .before .enum-told2 .given .1) in raw-ends T Q (c .before .same-type2 .ensures (T .type) Q)
@@ -171,12 +203,16 @@ pub +same-as+same-column+same-element+same-fields+same-mapped-spec : {M : Type 1
     (c .before .before .before .before .before .l .given .1) a (c .before .same-name .ensures (a .name) (c .before .before .before .name-at .ensures a N))
     (not-true _ (c .if1 .taken)))
     (λ c κs. let (a, N) = c .before .before .before .before .before .before .before .before .before .before .before .pre .1 .0 in (_, named-typed N))
-    (λ c κs. let (a, N) = c .before .before .before .before .before .before .before .before .before .before .before .before .pre .1 .0 in
-    (omega (arith, c .before .before .before .before .before .before .before .before .before .before .before .before .pre .0),
-    ((_, c .resolve .ensures _ (named-typed N) .resolved), behind-label
-    (c .before .before .before .before .before .before .before .before .before .before .before .before .pre .1 .1)
-    (label-got _ (c .before .before .before .before .before .before .before .before .label .ensures .0)
-    (c .before .before .before .before .before .before .l .given .1)))))
+    (λ c κs. let (a, N) = c .before .before .before .before .before .before .before .before .before .before .before .before .pre .1 .0 in (
+      omega (arith, c .before .before .before .before .before .before .before .before .before .before .before .before .pre .0),
+      (
+        (_, c .resolve .ensures _ (named-typed N) .resolved),
+        behind-label
+            (c .before .before .before .before .before .before .before .before .before .before .before .before .pre .1 .1)
+            (label-got _ (c .before .before .before .before .before .before .before .before .label .ensures .0)
+            (c .before .before .before .before .before .before .l .given .1)),
+      ),
+    ))
     (λ c. search needs)
     (λ c. λ a E N. field-goes E (c .before .before .before .before .before .before .before .before .before .label .ensures .0)
     (c .before .before .before .before .before .before .before .l .given .1) a
@@ -192,10 +228,14 @@ pub +same-as+same-column+same-element+same-fields+same-mapped-spec : {M : Type 1
     (λ c κs. search needs)
     (λ c. search needs)
     (λ c κs. c .before .before .before .before .before .before .before .pre .1 .0)
-    (λ c κs. let (u, a, R, P) = c .before .before .before .before .before .before .before .before .pre .1 .0 in
-    (omega (arith, c .before .before .before .before .before .before .before .before .pre .0),
-    ((_, c .part .ensures u a R P), behind-label (c .before .before .before .before .before .before .before .before .pre .1 .1)
-    (label-got _ (c .before .before .before .before .element-label .ensures .0) (c .before .before .d .given .1)))))
+    (λ c κs. let (u, a, R, P) = c .before .before .before .before .before .before .before .before .pre .1 .0 in (
+      omega (arith, c .before .before .before .before .before .before .before .before .pre .0),
+      (
+        (_, c .part .ensures u a R P),
+        behind-label (c .before .before .before .before .before .before .before .before .pre .1 .1)
+            (label-got _ (c .before .before .before .before .element-label .ensures .0) (c .before .before .d .given .1)),
+      ),
+    ))
     (λ c. search needs)
     (λ c. λ u a E R P. c .same-as .ensures (a .type)
     (behind-label E (label-got _ (c .before .before .before .before .before .element-label .ensures .0) (c .before .before .before .d .given .1)))
@@ -210,16 +250,24 @@ pub +same-as+same-column+same-element+same-fields+same-mapped-spec : {M : Type 1
     (λ c. let (fs, M, e) = c .before .before .before .before .pre .1 .0 in matching-start M e (c .before .before .before .before .pre .1 .1)
     (c .first-child .ensures))
     (λ c κs. made-asks (c .before .loop .inv .start))
-    (λ c κs. (omega (arith, c .before .before .before .before .before .before .before .pre .0),
-    (matching-asks (c .before .before .loop .inv) (c .before .loop-test .taken) (c .child-at .ensures), matching-first (c .before .before .loop .inv)
-    (c .before .loop-test .taken) .first)))
+    (λ c κs. (
+      omega (arith, c .before .before .before .before .before .before .before .pre .0),
+      (
+        matching-asks (c .before .before .loop .inv) (c .before .loop-test .taken) (c .child-at .ensures),
+        matching-first (c .before .before .loop .inv)
+            (c .before .loop-test .taken) .first,
+      ),
+    ))
     (λ c. search needs)
     (λ c. search needs)
     (λ c. matching-no (c .before .before .before .before .before .loop .inv) (c .before .before .before .before .loop-test .taken)
     (c .before .before .before .child-at .ensures) (c .before .before .same-column .ensures) (c .enum-told .given .1))
     (λ c κs. search needs)
-    (λ c. omega (arith, c .before .before .before .before .before .before .before .before .before .before .before .before .fits .count,
-    c .before .before .before .before .before .before .loop-test .taken))
+    (λ c. omega (
+      arith,
+      c .before .before .before .before .before .before .before .before .before .before .before .before .fits .count,
+      c .before .before .before .before .before .before .loop-test .taken,
+    ))
     (λ c. omega (arith, c .before .before .before .before .before .before .loop-test .taken))
     (λ c. matching-more (c .before .before .before .before .before .before .before .loop .inv)
     (c .before .before .before .before .before .before .loop-test .taken) (c .before .before .before .before .before .child-at .ensures)
@@ -245,40 +293,52 @@ pub +same-as+same-column+same-element+same-fields+same-mapped-spec : {M : Type 1
     c .before .before .before .before .before .before .before .before .before .before .before .before .before .before .before .before .before .pre .1 .0 in
     let Q = c .before .before .before .before .before .before .before .before .before .before .before .before .before .before .before .before .before .pre .1 .1 .1 in
     let z = deep Q in let H =
-    c .before .before .before .before .before .before .before .before .before .before .before .before .before .type-head .ensures u R in
-    (omega (arith, c .before .before .before .before .before .before .before .before .before .before .before .before .before .before .before .before .before .pre .0),
-    (struct-asks H R (c .before .before .before .before .before .before .before .before .before .before .before .before .before .before .before .before .before .pre .1 .1 .0)
-    (c .before .before .h .given .1), struct-there H
-    (c .before .before .before .before .before .before .before .before .before .before .before .before .code .ensures) Q
-    (c .before .before .before .before .before .before .before .before .before .before .before .target-code .ensures)
-    (c .before .before .before .before .before .before .before .before .if1 .left) (c .before .before .before .before .before .if2 .left) refl
-    (c .before .before .before .before .head-end .ensures) (c .before .before .h .given .1) .inner)))
+    c .before .before .before .before .before .before .before .before .before .before .before .before .before .type-head .ensures u R in (
+      omega (arith, c .before .before .before .before .before .before .before .before .before .before .before .before .before .before .before .before .before .pre .0),
+      (
+        struct-asks H R (c .before .before .before .before .before .before .before .before .before .before .before .before .before .before .before .before .before .pre .1 .1 .0)
+            (c .before .before .h .given .1),
+        struct-there H
+            (c .before .before .before .before .before .before .before .before .before .before .before .before .code .ensures) Q
+            (c .before .before .before .before .before .before .before .before .before .before .before .target-code .ensures)
+            (c .before .before .before .before .before .before .before .before .if1 .left) (c .before .before .before .before .before .if2 .left) refl
+            (c .before .before .before .before .head-end .ensures) (c .before .before .h .given .1) .inner,
+      ),
+    ))
     (λ c. search needs)
     (λ c. let z = deep (c .before .before .before .before .before .before .before .before .before .before .before .before .before .before .before .pre .1 .1 .1) in
     omega arith)
     (λ c κs. let (u, R) =
     c .before .before .before .before .before .before .before .before .before .before .before .before .before .before .before .pre .1 .0 in
     let Q = c .before .before .before .before .before .before .before .before .before .before .before .before .before .before .before .pre .1 .1 .1 in
-    let z = deep Q in let H = c .before .before .before .before .before .before .before .before .before .before .before .type-head .ensures u R in
-    (omega (arith, c .before .before .before .before .before .before .before .before .before .before .before .before .before .before .before .pre .0),
-    (list-asks H R (c .enum-told2 .given .1), list-there H
-    (c .before .before .before .before .before .before .before .before .before .before .code .ensures) Q
-    (c .before .before .before .before .before .before .before .before .before .target-code .ensures)
-    (c .before .before .before .before .before .before .if1 .left) (c .before .before .before .if2 .left) refl (c .before .before .head-end .ensures)
-    (c .enum-told2 .given .1) .element)))
+    let z = deep Q in let H = c .before .before .before .before .before .before .before .before .before .before .before .type-head .ensures u R in (
+      omega (arith, c .before .before .before .before .before .before .before .before .before .before .before .before .before .before .before .pre .0),
+      (
+        list-asks H R (c .enum-told2 .given .1),
+        list-there H
+            (c .before .before .before .before .before .before .before .before .before .before .code .ensures) Q
+            (c .before .before .before .before .before .before .before .before .before .target-code .ensures)
+            (c .before .before .before .before .before .before .if1 .left) (c .before .before .before .if2 .left) refl (c .before .before .head-end .ensures)
+            (c .enum-told2 .given .1) .element,
+      ),
+    ))
     (λ c. search needs)
     (λ c. let z = deep (c .before .before .before .before .before .before .before .before .before .before .before .before .before .before .before .pre .1 .1 .1) in
     omega arith)
     (λ c κs. let (u, R) =
     c .before .before .before .before .before .before .before .before .before .before .before .before .before .before .before .pre .1 .0 in
     let Q = c .before .before .before .before .before .before .before .before .before .before .before .before .before .before .before .pre .1 .1 .1 in
-    let z = deep Q in let H = c .before .before .before .before .before .before .before .before .before .before .before .type-head .ensures u R in
-    (omega (arith, c .before .before .before .before .before .before .before .before .before .before .before .before .before .before .before .pre .0),
-    (array-asks H R (c .enum-told3 .given .1), array-there H
-    (c .before .before .before .before .before .before .before .before .before .before .code .ensures) Q
-    (c .before .before .before .before .before .before .before .before .before .target-code .ensures)
-    (c .before .before .before .before .before .before .if1 .left) (c .before .before .before .if2 .left) refl (c .before .before .head-end .ensures)
-    (c .enum-told3 .given .1) .element)))
+    let z = deep Q in let H = c .before .before .before .before .before .before .before .before .before .before .before .type-head .ensures u R in (
+      omega (arith, c .before .before .before .before .before .before .before .before .before .before .before .before .before .before .before .pre .0),
+      (
+        array-asks H R (c .enum-told3 .given .1),
+        array-there H
+            (c .before .before .before .before .before .before .before .before .before .before .code .ensures) Q
+            (c .before .before .before .before .before .before .before .before .before .target-code .ensures)
+            (c .before .before .before .before .before .before .if1 .left) (c .before .before .before .if2 .left) refl (c .before .before .head-end .ensures)
+            (c .enum-told3 .given .1) .element,
+      ),
+    ))
     (λ c. λ u Q R. made-no-leaf R
     (c .before .before .before .before .before .before .before .before .before .before .before .before .before .before .before .pre .1 .1 .0)
     (c .before .before .before .before .before .before .before .before .before .before .before .type-head .ensures u R) (c .enum-told .given .1))

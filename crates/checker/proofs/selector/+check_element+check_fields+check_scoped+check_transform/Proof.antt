@@ -103,21 +103,60 @@ check-transform-below t =
     check-transform.Pre
 
 abbrev check-element-claims : ℕ → check-element-lts.Claims
-check-element-claims t = (child-reads.Asked, child-reads.Learnt, check-scoped-below t, check-scoped.Post, found-in-reads.Asked, found-in-reads.Learnt,
-    within-limits-reads.Asked, within-limits-reads.Learnt, fitting-reads.Asked, fitting-reads.Learnt)
+check-element-claims t = (
+  child-reads.Asked,
+  child-reads.Learnt,
+  check-scoped-below t,
+  check-scoped.Post,
+  found-in-reads.Asked,
+  found-in-reads.Learnt,
+  within-limits-reads.Asked,
+  within-limits-reads.Learnt,
+  fitting-reads.Asked,
+  fitting-reads.Learnt,
+)
 
 abbrev check-fields-claims : ℕ → check-fields-lts.Claims
-check-fields-claims t = (first-child-reads.Asked, first-child-reads.Learnt, child-at-reads.Asked, child-at-reads.Learnt, check-scoped-below t,
-    check-scoped.Post, skip-selector-reads.Asked, skip-selector-reads.Learnt, found-in-reads.Asked, found-in-reads.Learnt, within-limits-reads.Asked,
-    within-limits-reads.Learnt, fitting-reads.Asked, fitting-reads.Learnt)
+check-fields-claims t = (
+  first-child-reads.Asked,
+  first-child-reads.Learnt,
+  child-at-reads.Asked,
+  child-at-reads.Learnt,
+  check-scoped-below t,
+  check-scoped.Post,
+  skip-selector-reads.Asked,
+  skip-selector-reads.Learnt,
+  found-in-reads.Asked,
+  found-in-reads.Learnt,
+  within-limits-reads.Asked,
+  within-limits-reads.Learnt,
+  fitting-reads.Asked,
+  fitting-reads.Learnt,
+)
 
 abbrev check-scoped-claims : ℕ → check-scoped-lts.Claims
-check-scoped-claims t = (is-transform-reads.Asked, is-transform-reads.Learnt, check-transform-below t, check-transform.Post, check-source-reads.Asked,
-    check-source-reads.Learnt)
+check-scoped-claims t = (
+  is-transform-reads.Asked,
+  is-transform-reads.Learnt,
+  check-transform-below t,
+  check-transform.Post,
+  check-source-reads.Asked,
+  check-source-reads.Learnt,
+)
 
 abbrev check-transform-claims : ℕ → check-transform-lts.Claims
-check-transform-claims t = (to-input-reads.Asked, to-input-reads.Learnt, check-scoped-below t, check-scoped.Post, check-input-reads.Asked,
-    check-input-reads.Learnt, check-fields-below t, check-fields.Post, check-element-below t, check-element.Post)
+check-transform-claims t = (
+  to-input-reads.Asked,
+  to-input-reads.Learnt,
+  check-scoped-below t,
+  check-scoped.Post,
+  check-input-reads.Asked,
+  check-input-reads.Learnt,
+  check-fields-below t,
+  check-fields.Post,
+  check-element-below t,
+  check-element.Post,
+)
 
 check-element-child-requires : (t : ℕ) → check-element-lts.Need-child-requires (check-element-claims t) (check-element-at t) check-element.Post
 check-element-child-requires t c κs = let (u, e, f, E) = c .before .before .pre .1 in element-child-asks E
@@ -133,10 +172,12 @@ check-element-found-in-requires : (t : ℕ) → check-element-lts.Need-found-in-
 check-element-found-in-requires t c κs = search needs
 
 check-element-within-limits-requires : (t : ℕ) → check-element-lts.Need-within-limits-requires (check-element-claims t) (check-element-at t) check-element.Post
-check-element-within-limits-requires t c κs = let (u, e, f, E) = c .before .before .before .before .before .before .before .pre .1 in
-    (_, mapped-as (c .found-in .ensures)
-    (element-made E (element-passed E (c .before .before .before .before .child .ensures) (c .before .before .before .check-scoped .ensures)
-    (c .before .enum-told .given .1) .1)))
+check-element-within-limits-requires t c κs = let (u, e, f, E) = c .before .before .before .before .before .before .before .pre .1 in (
+  _,
+  mapped-as (c .found-in .ensures)
+      (element-made E (element-passed E (c .before .before .before .before .child .ensures) (c .before .before .before .check-scoped .ensures)
+      (c .before .enum-told .given .1) .1)),
+)
 
 check-element-fitting-requires : (t : ℕ) → check-element-lts.Need-fitting-requires (check-element-claims t) (check-element-at t) check-element.Post
 check-element-fitting-requires t c κs = search needs
@@ -175,9 +216,15 @@ check-fields-child-at-requires t c κs = mapping-asks (c .before .loop .inv .sta
 
 check-fields-check-scoped-requires : (t : ℕ)
     → check-fields-lts.Need-check-scoped-requires (check-fields-claims t) (check-fields-at t) check-fields.Post check-fields-Inv-loop check-fields-μ-loop
-check-fields-check-scoped-requires t c κs = (omega
-    (arith, c .before .before .before .before .before .before .pre .0, passing-falls (c .before .before .loop .inv) (c .before .loop-test .taken)
-    (c .child-at .ensures)), passing-asks (c .before .before .loop .inv) (c .before .loop-test .taken) (c .child-at .ensures))
+check-fields-check-scoped-requires t c κs = (
+  omega (
+    arith,
+    c .before .before .before .before .before .before .pre .0,
+    passing-falls (c .before .before .loop .inv) (c .before .loop-test .taken)
+        (c .child-at .ensures),
+  ),
+  passing-asks (c .before .before .loop .inv) (c .before .loop-test .taken) (c .child-at .ensures),
+)
 
 check-fields-enum-told : (t : ℕ)
     → check-fields-lts.Need-enum-told (check-fields-claims t) (check-fields-at t) check-fields.Post check-fields-Inv-loop check-fields-μ-loop
@@ -189,9 +236,11 @@ check-fields-skip-selector-requires t c κs = search needs
 
 check-fields-add-k : (t : ℕ)
     → check-fields-lts.Need-add-k (check-fields-claims t) (check-fields-at t) check-fields.Post check-fields-Inv-loop check-fields-μ-loop
-check-fields-add-k t c = omega
-    (arith, c .before .before .before .before .before .before .before .before .before .before .fits .count,
-    c .before .before .before .before .before .loop-test .taken)
+check-fields-add-k t c = omega (
+  arith,
+  c .before .before .before .before .before .before .before .before .before .before .fits .count,
+  c .before .before .before .before .before .loop-test .taken,
+)
 
 check-fields-loop-less : (t : ℕ)
     → check-fields-lts.Need-loop-less (check-fields-claims t) (check-fields-at t) check-fields.Post check-fields-Inv-loop check-fields-μ-loop
@@ -234,9 +283,10 @@ check-scoped-is-transform-requires : (t : ℕ) → check-scoped-lts.Need-is-tran
 check-scoped-is-transform-requires t c κs = search needs
 
 check-scoped-check-transform-requires : (t : ℕ) → check-scoped-lts.Need-check-transform-requires (check-scoped-claims t) (check-scoped-at t) check-scoped.Post
-check-scoped-check-transform-requires t c κs = let (s, Δ, C, d) = c .before .before .before .before .pre .1 in
-    (omega (arith, c .before .before .before .before .pre .0),
-    (s, Δ, C, d, transform-is C (c .before .is-transform .ensures (C .standing .here)) (c .if1 .taken)))
+check-scoped-check-transform-requires t c κs = let (s, Δ, C, d) = c .before .before .before .before .pre .1 in (
+  omega (arith, c .before .before .before .before .pre .0),
+  (s, Δ, C, d, transform-is C (c .before .is-transform .ensures (C .standing .here)) (c .if1 .taken)),
+)
 
 check-scoped-returns : (t : ℕ) → check-scoped-lts.Need-returns (check-scoped-claims t) (check-scoped-at t) check-scoped.Post
 check-scoped-returns t c = λ s Δ C d. c .check-transform .ensures s Δ C d
@@ -263,9 +313,12 @@ check-transform-enum-told t c = search needs
 
 check-transform-check-input-requires : (t : ℕ)
     → check-transform-lts.Need-check-input-requires (check-transform-claims t) (check-transform-at t) check-transform.Post
-check-transform-check-input-requires t c κs = let (s, Δ, C, d, h) = c .before .before .before .before .before .before .pre .1 in
-    (s, Δ, (input-passed C (a-transform C h .transforms) (c .before .before .before .to-input .ensures) d (c .before .before .check-scoped .ensures)
-    (c .enum-told .given .1)))
+check-transform-check-input-requires t c κs = let (s, Δ, C, d, h) = c .before .before .before .before .before .before .pre .1 in (
+  s,
+  Δ,
+  (input-passed C (a-transform C h .transforms) (c .before .before .before .to-input .ensures) d (c .before .before .check-scoped .ensures)
+      (c .enum-told .given .1)),
+)
 
 check-transform-enum-told-2 : (t : ℕ) → check-transform-lts.Need-enum-told-2 (check-transform-claims t) (check-transform-at t) check-transform.Post
 check-transform-enum-told-2 t c = search needs
@@ -283,9 +336,10 @@ check-transform-check-fields-requires t c κs = let
     let F = rest-of (c .before .before .before .check-input .ensures s Δ
     (input-passed C (a-transform C h .transforms) (c .before .before .before .before .before .before .before .to-input .ensures) d
     (c .before .before .before .before .before .before .check-scoped .ensures) (c .before .before .before .before .enum-told .given .1)))
-    (c .before .count .given .1) in
-    (omega (arith, c .before .before .before .before .before .before .before .before .before .before .pre .0),
-    (F .input, F .parts, F .scope, F .mapping, F .counted, F .columns))
+    (c .before .count .given .1) in (
+      omega (arith, c .before .before .before .before .before .before .before .before .before .before .pre .0),
+      (F .input, F .parts, F .scope, F .mapping, F .counted, F .columns),
+    )
 
 check-transform-enum-told-3 : (t : ℕ) → check-transform-lts.Need-enum-told-3 (check-transform-claims t) (check-transform-at t) check-transform.Post
 check-transform-enum-told-3 t c = search needs
