@@ -3,7 +3,7 @@
 ghost use mathlib.Core.Path.{_≡_};
 ghost use mathlib.Core.Bool.{true};
 ghost use Prim.Native.Nat.{ℕ, _+_, _-_, _*_, _≤_, _<_};
-ghost use lib.ListN.{length};
+ghost use lib.ListN.{length, take};
 ghost use Rattle.layout.specs.Answers.{labelAt, spanIn};
 ghost use Rattle.layout.specs.Find.{counterpart, Finds};
 ghost use Rattle.layout.specs.Stands.{TypeAt, ColumnsAt};
@@ -42,8 +42,7 @@ use builder::write::put_head;
 use builder::write::put_position;
 use builder::write::put_short;
 use forms::write::write_text;
-use labels::TABLE_SIZE;
-use labels::fill;
+use labels::fill_in;
 use labels::find_in;
 use layout::columns::Label;
 use layout::columns::Labelled;
@@ -70,7 +69,7 @@ pub fn attach_transforms(
     position: Position,
     out: &mut [u8],
     k: usize,
-    tables: u8,
+    arena: &mut [u16],
 ) -> Made
     requires { ⌜ TypeAt v depth (now incoming) (c .at) × TypeAt v depth (now target) (b .at) ⌝ }
     requires { ⌜ TableAt (now table) (defaults .count) (defaults .entries .at) ⌝ }
@@ -104,7 +103,7 @@ pub fn attach_transforms(
             position,
             out,
             k,
-            tables,
+            arena,
         ),
         Head::List(_) => attach_nested(
             policy,
@@ -119,7 +118,7 @@ pub fn attach_transforms(
             position,
             out,
             k,
-            tables,
+            arena,
         ),
         Head::Array(_, _) => attach_nested(
             policy,
@@ -134,7 +133,7 @@ pub fn attach_transforms(
             position,
             out,
             k,
-            tables,
+            arena,
         ),
         Head::Refused(_) => Made::Refused(24),
     }
@@ -154,7 +153,7 @@ fn attach_nested(
     position: Position,
     out: &mut [u8],
     k: usize,
-    tables: u8,
+    arena: &mut [u16],
 ) -> Made
     requires { ⌜ TypeAt v depth (now incoming) (c .at) × TypeAt v depth (now target) (b .at) ⌝ }
     requires { ⌜ TableAt (now table) (defaults .count) (defaults .entries .at) ⌝ }
@@ -179,7 +178,7 @@ fn attach_nested(
             position,
             out,
             k,
-            tables,
+            arena,
         ),
         StructPart::Mismatch => attach_inner(
             policy,
@@ -193,7 +192,7 @@ fn attach_nested(
             position,
             out,
             k,
-            tables,
+            arena,
         ),
     }
 }
@@ -213,7 +212,7 @@ fn attach_struct(
     position: Position,
     out: &mut [u8],
     k: usize,
-    tables: u8,
+    arena: &mut [u16],
 ) -> Made
     requires { ⌜ TypeAt v depth (now incoming) (c .at) × ColumnsAt v (depth - 1) (now target) m (b .at) ⌝ }
     requires { ⌜ TableAt (now table) (defaults .count) (defaults .entries .at) ⌝ }
@@ -223,7 +222,7 @@ fn attach_struct(
     let StructPart::Is(n, d) = struct_part(incoming, c) else {
         return Made::Refused(24);
     };
-    let fault = struct_fault(policy, v, depth - 1, incoming, n, d, target, m, b);
+    let fault = struct_fault(policy, v, depth - 1, incoming, n, d, target, m, b, arena);
     if fault != 0 {
         return Made::Refused(fault);
     }
@@ -243,7 +242,7 @@ fn attach_struct(
         b,
         out,
         k + 6,
-        tables,
+        arena,
     );
     let Row::Done(same, len) = row else {
         return refused_row(row);
@@ -255,9 +254,8 @@ fn attach_struct(
     Made::Built(6 + len)
 }
 
-// The field matcher: `m` target fields from `b` on over `n` incoming fields from `c` on. A table takes 8 KiB of stack, so at most `tables` more stand at once: of
-// the structs of many fields around a leaf the two outermost have one, at whatever depth. That `attach_many` is called twice keeps it
-// a function of its own: called once, it would be compiled into its caller, and a table would stand in the frame of every level.
+// The field matcher: `m` target fields from `b` on over `n` incoming fields from `c` on. A table of the incoming fields stands at the start of the
+// arena, and what is behind it is lent to the types of the fields.
 fn attach_row(
     policy: Policy,
     v: Version,
@@ -272,107 +270,14 @@ fn attach_row(
     b: Cursor,
     out: &mut [u8],
     k: usize,
-    tables: u8,
+    arena: &mut [u16],
 ) -> Row
     requires { ⌜ ColumnsAt v depth (now incoming) n (c .at) × ColumnsAt v depth (now target) m (b .at) ⌝ }
     requires { ⌜ TableAt (now table) (defaults .count) (defaults .entries .at) ⌝ }
     requires { ⌜ (length (now target) ≤ 16384) × (length (now table) ≤ 16384) × (k ≤ 65536 * b .at) ⌝ }
     ensures { λ r. ⌜ AttachedFields policy v depth (now (table .entry)) defaults (now (incoming .entry)) n (c .at) (now (target .entry)) m (b .at) (now (out .entry)) k r (now (out .exit)) ⌝ }
 {
-    if m <= 16 {
-        return attach_few(
-            policy,
-            v,
-            depth,
-            incoming,
-            n,
-            c,
-            table,
-            defaults,
-            target,
-            m,
-            b,
-            out,
-            k,
-            tables,
-        );
-    }
-    match tables {
-        2 => attach_many(
-            policy,
-            v,
-            depth,
-            incoming,
-            n,
-            c,
-            table,
-            defaults,
-            target,
-            m,
-            b,
-            out,
-            k,
-            1,
-        ),
-        1 => attach_many(
-            policy,
-            v,
-            depth,
-            incoming,
-            n,
-            c,
-            table,
-            defaults,
-            target,
-            m,
-            b,
-            out,
-            k,
-            0,
-        ),
-        _ => attach_few(
-            policy,
-            v,
-            depth,
-            incoming,
-            n,
-            c,
-            table,
-            defaults,
-            target,
-            m,
-            b,
-            out,
-            k,
-            tables,
-        ),
-    }
-}
-
-// The same for few fields: counterparts are scanned for.
-fn attach_few(
-    policy: Policy,
-    v: Version,
-    depth: u8,
-    incoming: &[u8],
-    n: u16,
-    c: Cursor,
-    table: &[u8],
-    defaults: DefaultFieldValues,
-    target: &[u8],
-    m: u16,
-    b: Cursor,
-    out: &mut [u8],
-    k: usize,
-    tables: u8,
-) -> Row
-    requires { ⌜ ColumnsAt v depth (now incoming) n (c .at) × ColumnsAt v depth (now target) m (b .at) ⌝ }
-    requires { ⌜ TableAt (now table) (defaults .count) (defaults .entries .at) ⌝ }
-    requires { ⌜ (length (now target) ≤ 16384) × (length (now table) ≤ 16384) × (k ≤ 65536 * b .at) ⌝ }
-    ensures { λ r. ⌜ AttachedFields policy v depth (now (table .entry)) defaults (now (incoming .entry)) n (c .at) (now (target .entry)) m (b .at) (now (out .entry)) k r (now (out .exit)) ⌝ }
-{
-    let array = [0u16; 1];
-    let none = &array[..];
+    let used = fill_in(m, incoming, v, depth, n, c, arena);
     attach_fields(
         policy,
         v,
@@ -380,9 +285,7 @@ fn attach_few(
         incoming,
         n,
         c,
-        false,
-        none,
-        none,
+        used,
         table,
         defaults,
         target,
@@ -390,74 +293,12 @@ fn attach_few(
         b,
         out,
         k,
-        tables,
+        arena,
     )
 }
 
-// The same for many fields: the table of the incoming fields is filled once.
-fn attach_many(
-    policy: Policy,
-    v: Version,
-    depth: u8,
-    incoming: &[u8],
-    n: u16,
-    c: Cursor,
-    table: &[u8],
-    defaults: DefaultFieldValues,
-    target: &[u8],
-    m: u16,
-    b: Cursor,
-    out: &mut [u8],
-    k: usize,
-    tables: u8,
-) -> Row
-    requires { ⌜ ColumnsAt v depth (now incoming) n (c .at) × ColumnsAt v depth (now target) m (b .at) ⌝ }
-    requires { ⌜ TableAt (now table) (defaults .count) (defaults .entries .at) ⌝ }
-    requires { ⌜ (length (now target) ≤ 16384) × (length (now table) ≤ 16384) × (k ≤ 65536 * b .at) ⌝ }
-    ensures { λ r. ⌜ AttachedFields policy v depth (now (table .entry)) defaults (now (incoming .entry)) n (c .at) (now (target .entry)) m (b .at) (now (out .entry)) k r (now (out .exit)) ⌝ }
-{
-    let mut starts = [0u16; TABLE_SIZE];
-    let mut positions = [0u16; TABLE_SIZE];
-    if !fill(incoming, v, depth, n, c, &mut starts, &mut positions) {
-        return attach_few(
-            policy,
-            v,
-            depth,
-            incoming,
-            n,
-            c,
-            table,
-            defaults,
-            target,
-            m,
-            b,
-            out,
-            k,
-            tables,
-        );
-    }
-    attach_fields(
-        policy,
-        v,
-        depth,
-        incoming,
-        n,
-        c,
-        true,
-        &starts,
-        &positions,
-        table,
-        defaults,
-        target,
-        m,
-        b,
-        out,
-        k,
-        tables,
-    )
-}
-
-// The same, counterparts found through the table, where it is whole. A loop, so that 65,535 fields take no stack.
+// The same, counterparts found through the table, the first `used` numbers of the arena, where there is one. A loop, so that 65,535 fields take no
+// stack.
 fn attach_fields(
     policy: Policy,
     v: Version,
@@ -465,9 +306,7 @@ fn attach_fields(
     incoming: &[u8],
     n: u16,
     c: Cursor,
-    whole: bool,
-    starts: &[u16],
-    positions: &[u16],
+    used: usize,
     table: &[u8],
     defaults: DefaultFieldValues,
     target: &[u8],
@@ -475,12 +314,12 @@ fn attach_fields(
     b: Cursor,
     out: &mut [u8],
     k: usize,
-    tables: u8,
+    arena: &mut [u16],
 ) -> Row
     requires { ⌜ ColumnsAt v depth (now incoming) n (c .at) × ColumnsAt v depth (now target) m (b .at) ⌝ }
     requires { ⌜ TableAt (now table) (defaults .count) (defaults .entries .at) ⌝ }
     requires { ⌜ (length (now target) ≤ 16384) × (length (now table) ≤ 16384) × (k ≤ 65536 * b .at) ⌝ }
-    requires { ⌜ (whole ≡ true → Table v depth (now incoming) n (c .at) (now starts) (now positions)) ⌝ }
+    requires { ⌜ (used ≤ length (now arena)) × (0 < used → Table v depth (now incoming) n (c .at) (take used (now arena))) ⌝ }
     ensures { λ r. ⌜ AttachedFields policy v depth (now (table .entry)) defaults (now (incoming .entry)) n (c .at) (now (target .entry)) m (b .at) (now (out .entry)) k r (now (out .exit)) ⌝ }
 {
     let missing = policy.missing_struct_fields;
@@ -493,18 +332,7 @@ fn attach_fields(
         let f = Cursor { at: from };
         match f.label(target, v) {
             Labelled::Is(l, next) => {
-                let found = find_in(
-                    incoming,
-                    v,
-                    depth,
-                    n,
-                    c,
-                    whole,
-                    starts,
-                    positions,
-                    target,
-                    l,
-                );
+                let found = find_in(incoming, v, depth, n, c, &arena[..used], target, l);
                 let first = attach_field(
                     policy,
                     v,
@@ -520,7 +348,7 @@ fn attach_fields(
                     14,
                     out,
                     to,
-                    tables,
+                    &mut arena[used..],
                 );
                 if is_refused(first) {
                     return failed(first);
@@ -554,7 +382,7 @@ pub fn attach_field(
     number: u8,
     out: &mut [u8],
     k: usize,
-    tables: u8,
+    arena: &mut [u16],
 ) -> Made
     requires { ⌜ ((fs : Columns) × Finds v depth (now incoming) (counterpart v (labelAt (now target) l) fs) found) × TypeAt v depth (now target) (b .at) ⌝ }
     requires { ⌜ TableAt (now table) (defaults .count) (defaults .entries .at) ⌝ }
@@ -578,7 +406,7 @@ pub fn attach_field(
             position,
             out,
             k,
-            tables,
+            arena,
         ),
         Found::Absent => put_missing(
             insert,
@@ -612,7 +440,7 @@ fn attach_renamed(
     position: Position,
     out: &mut [u8],
     k: usize,
-    tables: u8,
+    arena: &mut [u16],
 ) -> Made
     requires { ⌜ TypeAt v depth (now incoming) (c .at) × TypeAt v depth (now target) (b .at) ⌝ }
     requires { ⌜ TableAt (now table) (defaults .count) (defaults .entries .at) ⌝ }
@@ -634,7 +462,7 @@ fn attach_renamed(
             position,
             out,
             k,
-            tables,
+            arena,
         );
     }
     put(out, k, 3);
@@ -651,7 +479,7 @@ fn attach_renamed(
         position,
         out,
         k + 1,
-        tables,
+        arena,
     );
     if is_refused(made) {
         return made;
@@ -678,7 +506,7 @@ fn attach_element(
     position: Position,
     out: &mut [u8],
     k: usize,
-    tables: u8,
+    arena: &mut [u16],
 ) -> Made
     requires { ⌜ TypeAt v depth (now incoming) (c .at) × TypeAt v depth (now target) (b .at) ⌝ }
     requires { ⌜ spanIn (now incoming) (m .name) × spanIn (now target) (l .name) × (l .name .len ≤ 63) ⌝ }
@@ -711,7 +539,7 @@ fn attach_element(
         Position(0),
         out,
         k + 4,
-        tables,
+        arena,
     );
     if is_refused(made) {
         return made;
@@ -736,7 +564,7 @@ fn attach_inner(
     position: Position,
     out: &mut [u8],
     k: usize,
-    tables: u8,
+    arena: &mut [u16],
 ) -> Made
     requires { ⌜ TypeAt v depth (now incoming) (c .at) × TypeAt v depth (now target) (b .at) ⌝ }
     requires { ⌜ (length (now target) ≤ 16384) × (length (now table) ≤ 16384) × (k ≤ 65536 * b .at + 1) ⌝ }
@@ -762,7 +590,7 @@ fn attach_inner(
                 position,
                 out,
                 k,
-                tables,
+                arena,
             )
         }
         ElementPart::Array(w, l, e) => {
@@ -784,7 +612,7 @@ fn attach_inner(
                 position,
                 out,
                 k,
-                tables,
+                arena,
             )
         }
         ElementPart::Mismatch => Made::Refused(24),
