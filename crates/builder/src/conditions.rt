@@ -86,7 +86,7 @@ pub fn inserts(p: MissingColumnsPolicy) -> bool
     }
 }
 
-// Tests 12 and 13 of two structs, the target's names first; 0 where both pass.
+// Tests 12 and 13 of two structs, the target's names first; 0 where both pass. The arena is lent for tables.
 pub fn struct_fault(
     policy: Policy,
     v: Version,
@@ -97,6 +97,7 @@ pub fn struct_fault(
     target: &[u8],
     m: u16,
     b: Cursor,
+    arena: &mut [u16],
 ) -> u8
     requires { ⌜ ColumnsAt v depth (now incoming) n (c .at) ⌝ }
     requires { ⌜ ColumnsAt v depth (now target) m (b .at) ⌝ }
@@ -112,7 +113,7 @@ pub fn struct_fault(
     if ignores(extra) {
         return 0;
     }
-    if no_extra(v, depth, incoming, n, c, target, m, b) {
+    if no_extra(v, depth, incoming, n, c, target, m, b, arena) {
         return 0;
     }
     13

@@ -1,14 +1,15 @@
 // Tests of a struct's fields.
 ghost use mathlib.Core.Path.{_≡_};
 ghost use mathlib.Core.Bool.{not};
+ghost use Prim.Native.Nat.{_<_};
+ghost use lib.ListN.{length};
 ghost use Rattle.layout.specs.Answers.{spanAt, spanIn, labelAt};
 ghost use Rattle.layout.specs.Find.{columnNamed, counterpart};
 ghost use Rattle.layout.specs.Stands.{ColumnsAt};
 ghost use Rattle.labels.specs.Table.{Table};
 ghost use Rattle.matching.specs.Build.{isAbsent, distinctNames, distinct as distinctBy, noExtra};
-use labels::TABLE_SIZE;
-use labels::counterpart_in;
-use labels::fill;
+use labels::fill_in;
+use labels::find_in;
 use layout::bytes::Span;
 use layout::columns::Label;
 use layout::columns::Labelled;
@@ -17,7 +18,6 @@ use layout::cursor::Cursor;
 use layout::cursor::Moved;
 use layout::find::Found;
 use layout::find::column_named;
-use layout::find::find_counterpart;
 use layout::read::read_columns;
 use layout::version::Version;
 use layout::walk::skip_type;
@@ -95,77 +95,30 @@ pub fn distinct(s: &[u8], v: Version, depth: u8, n: u16, c: Cursor) -> bool
     }
 }
 
-// Whether the label `l`, which stands in `t`, has a counterpart among `n` columns.
-fn has_counterpart(s: &[u8], v: Version, depth: u8, n: u16, c: Cursor, t: &[u8], l: Label) -> bool
-    requires { ⌜ ColumnsAt v depth (now s) n (c .at) ⌝ }
-    requires { ⌜ spanIn (now t) (l .name) ⌝ }
-    ensures { λ r. ⌜ ((P : ColumnsAt v depth (now (s .entry)) n (c .at)) → r ≡ not (isAbsent (counterpart v (labelAt (now (t .entry)) l) (P .columns)))) ⌝ }
-{
-    match find_counterpart(s, v, depth, n, c, t, l) {
-        Found::At(_, _, _) => true,
-        Found::Absent => false,
-    }
-}
-
-// Each of `n` incoming fields has a counterpart among a few target fields, which are scanned.
-fn no_extra_few(
-    v: Version,
-    depth: u8,
-    incoming: &[u8],
-    n: u16,
-    c: Cursor,
-    target: &[u8],
-    m: u16,
-    b: Cursor,
-) -> bool
-    requires { ⌜ ColumnsAt v depth (now incoming) n (c .at) ⌝ }
-    requires { ⌜ ColumnsAt v depth (now target) m (b .at) ⌝ }
-    ensures { λ r. ⌜ ((P : ColumnsAt v depth (now (incoming .entry)) n (c .at)) (Q : ColumnsAt v depth (now (target .entry)) m (b .at)) → r ≡ noExtra v (P .columns) (Q .columns)) ⌝ }
-{
-    let mut at = c.at;
-    let mut left = n;
-    while 0 < left {
-        let d = Cursor { at };
-        match d.label(incoming, v) {
-            Labelled::Is(l, next) => {
-                if !has_counterpart(target, v, depth, m, b, incoming, l) {
-                    return false;
-                }
-                let e = skip_type(incoming, v, depth, next);
-                at = e.at;
-            }
-            Labelled::Refused(_) => return false,
-        }
-        left -= 1;
-    }
-    true
-}
-
-// Whether the label `l`, which stands in `t`, has a counterpart among `n` columns, of which there is a table.
-fn has_entry(
+// Whether the label `l`, which stands in `t`, has a counterpart among `n` columns. `chains` is their table, or empty.
+fn has_counterpart(
     s: &[u8],
     v: Version,
     depth: u8,
     n: u16,
     c: Cursor,
-    starts: &[u16],
-    positions: &[u16],
+    chains: &[u16],
     t: &[u8],
     l: Label,
 ) -> bool
     requires { ⌜ ColumnsAt v depth (now s) n (c .at) ⌝ }
-    requires { ⌜ Table v depth (now s) n (c .at) (now starts) (now positions) ⌝ }
+    requires { ⌜ (0 < length (now chains) → Table v depth (now s) n (c .at) (now chains)) ⌝ }
     requires { ⌜ spanIn (now t) (l .name) ⌝ }
     ensures { λ r. ⌜ ((P : ColumnsAt v depth (now (s .entry)) n (c .at)) → r ≡ not (isAbsent (counterpart v (labelAt (now (t .entry)) l) (P .columns)))) ⌝ }
 {
-    match counterpart_in(s, v, depth, n, c, starts, positions, t, l) {
+    match find_in(s, v, depth, n, c, chains, t, l) {
         Found::At(_, _, _) => true,
         Found::Absent => false,
     }
 }
 
-// Each of `n` incoming fields has a counterpart among `m` target fields, of which there is a table.
-fn each_entered(
+// Each of `n` incoming fields has a counterpart among `m` target fields. `chains` is a table of these, or empty.
+fn no_extra_in(
     v: Version,
     depth: u8,
     incoming: &[u8],
@@ -174,12 +127,11 @@ fn each_entered(
     target: &[u8],
     m: u16,
     b: Cursor,
-    starts: &[u16],
-    positions: &[u16],
+    chains: &[u16],
 ) -> bool
     requires { ⌜ ColumnsAt v depth (now incoming) n (c .at) ⌝ }
     requires { ⌜ ColumnsAt v depth (now target) m (b .at) ⌝ }
-    requires { ⌜ Table v depth (now target) m (b .at) (now starts) (now positions) ⌝ }
+    requires { ⌜ (0 < length (now chains) → Table v depth (now target) m (b .at) (now chains)) ⌝ }
     ensures { λ r. ⌜ ((P : ColumnsAt v depth (now (incoming .entry)) n (c .at)) (Q : ColumnsAt v depth (now (target .entry)) m (b .at)) → r ≡ noExtra v (P .columns) (Q .columns)) ⌝ }
 {
     let mut at = c.at;
@@ -188,7 +140,7 @@ fn each_entered(
         let d = Cursor { at };
         match d.label(incoming, v) {
             Labelled::Is(l, next) => {
-                if !has_entry(target, v, depth, m, b, starts, positions, incoming, l) {
+                if !has_counterpart(target, v, depth, m, b, chains, incoming, l) {
                     return false;
                 }
                 let e = skip_type(incoming, v, depth, next);
@@ -201,31 +153,7 @@ fn each_entered(
     true
 }
 
-// The same, with a table that is filled here.
-fn no_extra_many(
-    v: Version,
-    depth: u8,
-    incoming: &[u8],
-    n: u16,
-    c: Cursor,
-    target: &[u8],
-    m: u16,
-    b: Cursor,
-) -> bool
-    requires { ⌜ ColumnsAt v depth (now incoming) n (c .at) ⌝ }
-    requires { ⌜ ColumnsAt v depth (now target) m (b .at) ⌝ }
-    ensures { λ r. ⌜ ((P : ColumnsAt v depth (now (incoming .entry)) n (c .at)) (Q : ColumnsAt v depth (now (target .entry)) m (b .at)) → r ≡ noExtra v (P .columns) (Q .columns)) ⌝ }
-{
-    let mut starts = [0u16; TABLE_SIZE];
-    let mut positions = [0u16; TABLE_SIZE];
-    if !fill(target, v, depth, m, b, &mut starts, &mut positions) {
-        return no_extra_few(v, depth, incoming, n, c, target, m, b);
-    }
-    each_entered(v, depth, incoming, n, c, target, m, b, &starts, &positions)
-}
-
-// Test 13: each of `n` incoming fields has a counterpart among `m` target fields. Where these are many, by a table. That
-// `no_extra_many` is called twice keeps it a function of its own: called once, it would be compiled into its caller, and a table would stand in the frame of every level.
+// Test 13: each of `n` incoming fields has a counterpart among `m` target fields. A table of these stands in the arena while it runs.
 pub fn no_extra(
     v: Version,
     depth: u8,
@@ -235,17 +163,12 @@ pub fn no_extra(
     target: &[u8],
     m: u16,
     b: Cursor,
+    arena: &mut [u16],
 ) -> bool
     requires { ⌜ ColumnsAt v depth (now incoming) n (c .at) ⌝ }
     requires { ⌜ ColumnsAt v depth (now target) m (b .at) ⌝ }
     ensures { λ r. ⌜ ((P : ColumnsAt v depth (now (incoming .entry)) n (c .at)) (Q : ColumnsAt v depth (now (target .entry)) m (b .at)) → r ≡ noExtra v (P .columns) (Q .columns)) ⌝ }
 {
-    if m <= 16 {
-        return no_extra_few(v, depth, incoming, n, c, target, m, b);
-    }
-    match depth {
-        15 => no_extra_many(v, depth, incoming, n, c, target, m, b),
-        0 => no_extra_few(v, depth, incoming, n, c, target, m, b),
-        _ => no_extra_many(v, depth, incoming, n, c, target, m, b),
-    }
+    let used = fill_in(n, target, v, depth, m, b, arena);
+    no_extra_in(v, depth, incoming, n, c, target, m, b, &arena[..used])
 }

@@ -1,8 +1,8 @@
-// The selectors of the target columns. Where these are many, their counterparts are found through a table of the incoming columns.
+// The selectors of the target columns. Where these are many, their counterparts are found through a table of the incoming columns, as are those
+// of the fields of structs: the tables of all levels stand in one arena.
 ghost use mathlib.Core.Path.{_≡_};
-ghost use mathlib.Core.Bool.{true};
-ghost use Prim.Native.Nat.{_*_, _≤_};
-ghost use lib.ListN.{length};
+ghost use Prim.Native.Nat.{_*_, _≤_, _<_};
+ghost use lib.ListN.{length, take};
 ghost use Rattle.layout.specs.Layout.{deepest};
 ghost use Rattle.layout.specs.Stands.{ColumnsAt};
 ghost use Rattle.defaults.specs.Stands.{TableAt};
@@ -13,8 +13,7 @@ use builder::answer::is_refused;
 use builder::answer::len_of;
 use builder::conditions::inserts;
 use defaults::lookup::DefaultFieldValues;
-use labels::TABLE_SIZE;
-use labels::fill;
+use labels::fill_in;
 use labels::find_in;
 use layout::columns::Labelled;
 use layout::cursor::Cursor;
@@ -46,9 +45,7 @@ fn build_each(
     incoming: &[u8],
     n: u16,
     c: Cursor,
-    whole: bool,
-    starts: &[u16],
-    positions: &[u16],
+    used: usize,
     table: &[u8],
     defaults: DefaultFieldValues,
     target: &[u8],
@@ -56,11 +53,12 @@ fn build_each(
     b: Cursor,
     out: &mut [u8],
     k: usize,
+    arena: &mut [u16],
 ) -> ColumnsMade
     requires { ⌜ ColumnsAt v deepest (now incoming) n (c .at) × ColumnsAt v deepest (now target) m (b .at) ⌝ }
     requires { ⌜ TableAt (now table) defaults ⌝ }
     requires { ⌜ (length (now target) ≤ 16384) × (length (now table) ≤ 16384) × (k ≤ 65536 * b .at) ⌝ }
-    requires { ⌜ (whole ≡ true → Table v deepest (now incoming) n (c .at) (now starts) (now positions)) ⌝ }
+    requires { ⌜ (used ≤ length (now arena)) × (0 < used → Table v deepest (now incoming) n (c .at) (take used (now arena))) ⌝ }
     ensures { λ r. ⌜ BuiltColumns policy v (now (table .entry)) defaults (now (incoming .entry)) n (c .at) (now (target .entry)) m (b .at) (now (out .entry)) k r (now (out .exit)) ⌝ }
 {
     let missing = policy.missing_columns;
@@ -72,7 +70,7 @@ fn build_each(
         let d = Cursor { at };
         match d.label(target, v) {
             Labelled::Is(l, e) => {
-                let found = find_in(incoming, v, 16, n, c, whole, starts, positions, target, l);
+                let found = find_in(incoming, v, 16, n, c, &arena[..used], target, l);
                 let made = attach_field(
                     policy,
                     v,
@@ -88,7 +86,7 @@ fn build_each(
                     11,
                     out,
                     to,
-                    2,
+                    &mut arena[used..],
                 );
                 if is_refused(made) {
                     return failed_column(made, i);
@@ -104,8 +102,8 @@ fn build_each(
     ColumnsMade::Done(to - k)
 }
 
-// The same for few columns: counterparts are scanned for.
-fn build_few(
+// The same where there are many: a table of the incoming columns stands at the start of the arena, and what is behind it is lent to the columns' types.
+fn build_in_arena(
     policy: Policy,
     v: Version,
     incoming: &[u8],
@@ -118,23 +116,21 @@ fn build_few(
     b: Cursor,
     out: &mut [u8],
     k: usize,
+    arena: &mut [u16],
 ) -> ColumnsMade
     requires { ⌜ ColumnsAt v deepest (now incoming) n (c .at) × ColumnsAt v deepest (now target) m (b .at) ⌝ }
     requires { ⌜ TableAt (now table) defaults ⌝ }
     requires { ⌜ (length (now target) ≤ 16384) × (length (now table) ≤ 16384) × (k ≤ 65536 * b .at) ⌝ }
     ensures { λ r. ⌜ BuiltColumns policy v (now (table .entry)) defaults (now (incoming .entry)) n (c .at) (now (target .entry)) m (b .at) (now (out .entry)) k r (now (out .exit)) ⌝ }
 {
-    let array = [0u16; 1];
-    let none = &array[..];
+    let used = fill_in(m, incoming, v, 16, n, c, arena);
     build_each(
         policy,
         v,
         incoming,
         n,
         c,
-        false,
-        none,
-        none,
+        used,
         table,
         defaults,
         target,
@@ -142,11 +138,12 @@ fn build_few(
         b,
         out,
         k,
+        arena,
     )
 }
 
-// The same for many columns: the table is filled once.
-fn build_many(
+// With an arena that takes less time to clear. Where it is too short for a table, the columns are scanned.
+fn build_in_small(
     policy: Policy,
     v: Version,
     incoming: &[u8],
@@ -165,18 +162,13 @@ fn build_many(
     requires { ⌜ (length (now target) ≤ 16384) × (length (now table) ≤ 16384) × (k ≤ 65536 * b .at) ⌝ }
     ensures { λ r. ⌜ BuiltColumns policy v (now (table .entry)) defaults (now (incoming .entry)) n (c .at) (now (target .entry)) m (b .at) (now (out .entry)) k r (now (out .exit)) ⌝ }
 {
-    let mut starts = [0u16; TABLE_SIZE];
-    let mut positions = [0u16; TABLE_SIZE];
-    let whole = fill(incoming, v, 16, n, c, &mut starts, &mut positions);
-    build_each(
+    let mut arena = [0u16; 1024];
+    build_in_arena(
         policy,
         v,
         incoming,
         n,
         c,
-        whole,
-        &starts,
-        &positions,
         table,
         defaults,
         target,
@@ -184,6 +176,46 @@ fn build_many(
         b,
         out,
         k,
+        &mut arena,
+    )
+}
+
+// With an arena that has room for the tables of the incoming columns at every level: they share a layout's bytes, so that there are at most 5,116 with
+// names of their own.
+fn build_in_large(
+    policy: Policy,
+    v: Version,
+    incoming: &[u8],
+    n: u16,
+    c: Cursor,
+    table: &[u8],
+    defaults: DefaultFieldValues,
+    target: &[u8],
+    m: u16,
+    b: Cursor,
+    out: &mut [u8],
+    k: usize,
+) -> ColumnsMade
+    requires { ⌜ ColumnsAt v deepest (now incoming) n (c .at) × ColumnsAt v deepest (now target) m (b .at) ⌝ }
+    requires { ⌜ TableAt (now table) defaults ⌝ }
+    requires { ⌜ (length (now target) ≤ 16384) × (length (now table) ≤ 16384) × (k ≤ 65536 * b .at) ⌝ }
+    ensures { λ r. ⌜ BuiltColumns policy v (now (table .entry)) defaults (now (incoming .entry)) n (c .at) (now (target .entry)) m (b .at) (now (out .entry)) k r (now (out .exit)) ⌝ }
+{
+    let mut arena = [0u16; 16384];
+    build_in_arena(
+        policy,
+        v,
+        incoming,
+        n,
+        c,
+        table,
+        defaults,
+        target,
+        m,
+        b,
+        out,
+        k,
+        &mut arena,
     )
 }
 
@@ -207,23 +239,25 @@ pub fn build_columns(
     requires { ⌜ (length (now target) ≤ 16384) × (length (now table) ≤ 16384) × (k ≤ 65536 * b .at) ⌝ }
     ensures { λ r. ⌜ BuiltColumns policy v (now (table .entry)) defaults (now (incoming .entry)) n (c .at) (now (target .entry)) m (b .at) (now (out .entry)) k r (now (out .exit)) ⌝ }
 {
-    if m <= 16 {
-        return build_few(
-            policy,
-            v,
-            incoming,
-            n,
-            c,
-            table,
-            defaults,
-            target,
-            m,
-            b,
-            out,
-            k,
-        );
+    if incoming.len() <= 1024 {
+        if target.len() <= 1024 {
+            return build_in_small(
+                policy,
+                v,
+                incoming,
+                n,
+                c,
+                table,
+                defaults,
+                target,
+                m,
+                b,
+                out,
+                k,
+            );
+        }
     }
-    build_many(
+    build_in_large(
         policy,
         v,
         incoming,

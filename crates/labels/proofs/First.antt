@@ -7,14 +7,16 @@ use borrow.Author.Tests.{eq-eqb}
 use Rattle.layout.specs.Parser.{choose}
 use Rattle.layout.specs.Tree.{Label, ColumnType, Columns, cnil, ccons}
 use Rattle.layout.specs.Layout.{repeats, topRule}
+use Rattle.layout.specs.Seen.{labelHash}
+use Rattle.layout.specs.declared.columns.Siblings.{Siblings}
 use Rattle.layout.specs.Find.{Lookup, absent, at, findFrom}
 use Rattle.layout.specs.declared.columns.Position.{Position}
 use Rattle.layout.specs.declared.version.Version.{Version}
 use Rattle.layout.proofs.Ways.{clash, choose-true, choose-false}
 use Rattle.layout.proofs.Marking.{same-hash}
-use Rattle.labels.specs.Table.{tableSize, slotOf}
+use Rattle.labels.specs.Table.{slotOf}
 
-untrue : (b : Bool) → (b ≡ true → false ≡ true) → b ≡ false
+pub untrue : (b : Bool) → (b ≡ true → false ≡ true) → b ≡ false
 untrue true h = sym (h refl)
 untrue false h = refl
 
@@ -51,5 +53,9 @@ module _ (f g : Label → Bool) (h : (l : Label) → f l ≡ true → g l ≡ tr
       first-before f (g m) (record { 0 = i }) m u (findFrom (λ j a. f a) (i + 1) cs) (findFrom (λ j a. g a) (i + 1) cs) (h m) e k (λ q. first-of (i + 1) cs q k)
 
 -- labels that match have the same hash
-pub same-slot : (v : Version) (w l : Label) → repeats (topRule v) l w ≡ true → eqb (slotOf v l) (slotOf v w) ≡ true
-same-slot v w l e = eq-eqb (slotOf v l) (slotOf v w) (ap (λ (h : ℕ). h % tableSize) (same-hash (topRule v) 0 l w e))
+pub same-slot : (v : Version) (q : ℕ) (w l : Label) → repeats (topRule v) l w ≡ true → eqb (slotOf v q l) (slotOf v q w) ≡ true
+same-slot v q w l e = eq-eqb (slotOf v q l) (slotOf v q w) (ap (λ (h : ℕ). h % q) (same-hash (topRule v) 0 l w e))
+
+-- a label's chain, by its hash
+pub slot-is : (v : Version) (q : ℕ) (l : Label) {r : Siblings} {h : ℕ} → r ≡ topRule v → h ≡ labelHash r 0 l → h % q ≡ slotOf v q l
+slot-is v q l e f = ap (λ (h : ℕ). h % q) (f ∙ ap (λ (r : Siblings). labelHash r 0 l) e)

@@ -1,4 +1,5 @@
-pub mod Empty
 pub mod First
-pub mod Entries
+pub mod After
 pub mod Filling
+pub mod Seeking
+pub mod Arena

@@ -1,61 +1,75 @@
--- A table of sibling columns, a layout's or a struct's: for each hash of a label the first column that has it, by where it begins and by its position.
-use Prim.Native.Nat.{ℕ, _%_, _<_}
+-- A table of sibling columns, a layout's or a struct's, in one list: for each column its link and where it begins, then a head for each chain. A label's
+-- chain is by its hash, its head leads to the first column of it, and the link of a column to the next one.
+use Prim.Native.Nat.{ℕ, zero, suc, _+_, _-_, _*_, _%_, _≤_, _<_}
 use mathlib.Core.Path.{_≡_}
 use mathlib.Core.List.{List}
 use lib.ListN.{length, getD}
 use lib.Dec.{eqb}
 use Rattle.layout.specs.Bytes.{Bytes}
-use Rattle.layout.specs.Parser.{ok}
-use Rattle.layout.specs.Tree.{Label, ColumnType, Columns}
-use Rattle.layout.specs.Layout.{label, type, topRule}
+use Rattle.layout.specs.Tree.{Label, ColumnType, Columns, cnil, ccons}
+use Rattle.layout.specs.Layout.{topRule}
 use Rattle.layout.specs.Seen.{labelHash}
 use Rattle.layout.specs.Stands.{ColumnsAt}
 use Rattle.layout.specs.Find.{Lookup, absent, at as found, findFrom}
-use Rattle.layout.specs.declared.columns.Position.{Position}
-use Rattle.layout.specs.declared.columns.Siblings.the-variants.{Free}
 use Rattle.layout.specs.declared.version.Version.{Version}
 
--- how many entries a table has
-abbrev pub tableSize : ℕ
-tableSize = 2048
+-- how many columns a table holds at most
+abbrev pub most : ℕ
+most = 32767
 
--- a label's entry
-abbrev pub slotOf : Version → Label → ℕ
-slotOf v l = labelHash (topRule v) 0 l % tableSize
+-- where a chain ends
+abbrev pub none : ℕ
+none = 65535
 
--- the first column of the entry h, where the first of these columns has the position i
-abbrev pub firstOf : Version → ℕ → ℕ → Columns → Lookup
-firstOf v h = findFrom (λ i l. eqb (slotOf v l) h)
+-- where the link of the column i stands; where it begins stands after it
+abbrev pub node : ℕ → ℕ
+node i = 2 * i
 
--- the column p with the label l and the type t begins at o; its position is k
-pub record EntryAt (v : Version) (d : ℕ) (s : Bytes) (o k : ℕ) (p : Position) (l : Label) (t : ColumnType) : Type 0 where
-  pub begins : o ≡ 0 → ⊥
-  pub position : p ≡ record { 0 = k }
-  pub start : ℕ
-  pub labelled : label v s o ≡ ok l start
-  pub end : ℕ
-  pub reads : type v Free d s start ≡ ok t end
+-- a label's chain, of so many
+abbrev pub slotOf : Version → ℕ → Label → ℕ
+slotOf v heads l = labelHash (topRule v) 0 l % heads
 
--- the numbers of an entry are those of what was looked up; 0 where there is none
-abbrev pub Entry : Version → ℕ → Bytes → ℕ → ℕ → Lookup → Type 0
-Entry v d s o k absent = o ≡ 0
-Entry v d s o k (found p l t) = EntryAt v d s o k p l t
+-- the first column of the chain h, where the first of these columns has the position i
+abbrev pub firstOf : Version → ℕ → ℕ → ℕ → Columns → Lookup
+firstOf v heads h = findFrom (λ i l. eqb (slotOf v heads l) h)
 
--- each entry is that of the first column whose label has its hash
-pub record Table (v : Version) (d : ℕ) (s : Bytes) (n at : ℕ) (starts positions : List ℕ) : Type 0 where
-  pub long : length starts ≡ tableSize
-  pub paired : length positions ≡ tableSize
-  pub entries : (P : ColumnsAt v d s n at) (h : ℕ) → h < tableSize → Entry v d s (getD starts h 0) (getD positions h 0) (firstOf v h 0 (P .columns))
+-- the columns after the first i
+unfoldable pub after : ℕ → Columns → Columns
+after zero cs = cs
+after (suc i) cnil = cnil
+after (suc i) (ccons l t cs) = after i cs
 
--- no entry is set
-pub record Empty (starts : List ℕ) : Type 0 where
-  pub unset : (h : ℕ) → getD starts h 0 ≡ 0
+-- a number that leads to what was looked up
+abbrev pub Leads : ℕ → Lookup → Type 0
+Leads x absent = x ≡ none
+Leads x (found p l t) = x ≡ node (p .0)
 
--- the entry j was set to a column that begins at o and has the position k, unless it was set before
-pub record Entered (starts positions : List ℕ) (j o k : ℕ) (starts′ positions′ : List ℕ) : Type 0 where
-  pub begins : o ≡ 0 → ⊥
-  pub long : length starts′ ≡ length starts
-  pub paired : length positions′ ≡ length positions
-  pub first : getD starts j 0 ≡ 0 → (getD starts′ j 0 ≡ o) × (getD positions′ j 0 ≡ k)
-  pub later : (getD starts j 0 ≡ 0 → ⊥) → (getD starts′ j 0 ≡ getD starts j 0) × (getD positions′ j 0 ≡ getD positions j 0)
-  pub other : (h : ℕ) → (h ≡ j → ⊥) → (getD starts′ h 0 ≡ getD starts h 0) × (getD positions′ h 0 ≡ getD positions h 0)
+-- the columns after the first i of cs begin at o
+pub record Begins (v : Version) (d : ℕ) (s : Bytes) (n : ℕ) (cs : Columns) (i o : ℕ) : Type 0 where
+  pub rest : ColumnsAt v d s (n - i) o
+  pub is : rest .columns ≡ after i cs
+
+-- the numbers between these indexes lead nowhere
+pub record Cleared (from to : ℕ) (table : List ℕ) : Type 0 where
+  pub empty : (k : ℕ) → from ≤ k → k < to → getD table k 0 ≡ none
+
+-- the first i of the columns cs are noted
+pub record Places (v : Version) (d : ℕ) (s : Bytes) (n i : ℕ) (cs : Columns) (table : List ℕ) : Type 0 where
+  pub begins : (j : ℕ) → j < i → Begins v d s n cs j (getD table (node j + 1) 0)
+
+-- all n columns are noted, and no chain leads anywhere
+pub record Noted (v : Version) (d : ℕ) (s : Bytes) (n from : ℕ) (table : List ℕ) : Type 0 where
+  pub cleared : Cleared (node n) (length table) table
+  pub places : (P : ColumnsAt v d s n from) → Places v d s n n (P .columns) table
+
+-- the columns from i on are in their chains
+pub record Chains (v : Version) (heads n i : ℕ) (cs : Columns) (table : List ℕ) : Type 0 where
+  pub first : (h : ℕ) → h < heads → Leads (getD table (node n + h) 0) (firstOf v heads h i (after i cs))
+  pub next : (j : ℕ) → i ≤ j → (l : Label) (t : ColumnType) (r : Columns) → after j cs ≡ ccons l t r → Leads (getD table (node j) 0) (firstOf v heads (slotOf v heads l) (j + 1) r)
+
+-- all that is left of the list behind the columns' numbers are heads
+pub record Table (v : Version) (d : ℕ) (s : Bytes) (n from : ℕ) (table : List ℕ) : Type 0 where
+  pub few : n ≤ most
+  pub long : node n < length table
+  pub places : (P : ColumnsAt v d s n from) → Places v d s n n (P .columns) table
+  pub chains : (P : ColumnsAt v d s n from) (heads : ℕ) → node n + heads ≡ length table → Chains v heads n 0 (P .columns) table

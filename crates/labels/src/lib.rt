@@ -1,13 +1,14 @@
-// The counterpart of a label among sibling columns, a layout's or a struct's, found by the label's hash: a table holds for each hash
-// where the first column that has it begins, and its position.
+// The counterpart of a label among sibling columns, a layout's or a struct's, found by the label's hash. A table is one slice: two numbers
+// for each column, its link (where its chain goes on) and where it begins, and behind them the heads of the chains, as many as there is room
+// for. The chain of a hash leads through the columns that have it, first ones first, and passes over no type.
 ghost use mathlib.Core.Bool.{true};
 ghost use mathlib.Core.Path.{_≡_};
-ghost use Prim.Native.Nat.{_<_};
-ghost use lib.ListN.{length};
+ghost use Prim.Native.Nat.{_+_, _≤_, _<_};
+ghost use lib.ListN.{length, take};
 ghost use Rattle.layout.specs.Answers.{labelAt, spanIn};
 ghost use Rattle.layout.specs.Find.{counterpart, Finds};
 ghost use Rattle.layout.specs.Stands.{ColumnsAt};
-ghost use Rattle.labels.specs.Table.{tableSize, slotOf, Empty, Entered, Table};
+ghost use Rattle.labels.specs.Table.{most, node, slotOf, Cleared, Noted, Table};
 use layout::bytes::wide;
 use layout::columns::Label;
 use layout::columns::Labelled;
@@ -22,76 +23,58 @@ use layout::seen::label_hash;
 use layout::version::Version;
 use layout::version::top_rule;
 
-// How many entries a table has.
-pub const TABLE_SIZE: usize = 2048;
+// How many columns a table holds at most: their indexes are below `NONE`.
+const MOST: u16 = 32767;
 
-// A label's entry.
-fn slot(s: &[u8], v: Version, l: Label) -> usize
+// Where a chain ends.
+const NONE: u16 = 65535;
+
+// A label's chain, of so many.
+fn slot(s: &[u8], v: Version, heads: usize, l: Label) -> usize
     requires { ⌜ spanIn (now s) (l .name) ⌝ }
-    ensures { λ r. ⌜ r ≡ slotOf v (labelAt (now (s .entry)) l) ⌝ }
-    ensures { λ r. ⌜ r < tableSize ⌝ }
+    requires { ⌜ 0 < heads ⌝ }
+    ensures { λ r. ⌜ r ≡ slotOf v heads (labelAt (now (s .entry)) l) ⌝ }
+    ensures { λ r. ⌜ r < heads ⌝ }
 {
     let rule = top_rule(v);
-    (label_hash(s, rule, 0, l) as usize) % TABLE_SIZE
+    (label_hash(s, rule, 0, l) as usize) % heads
 }
 
-// Sets the entry `h` to a column that begins at `at` and has the position `i`, unless an earlier column has the entry. False where an
-// entry can't hold the offset.
-fn enter(starts: &mut [u16], positions: &mut [u16], h: usize, at: usize, i: u16) -> bool
-    requires { ⌜ h < length (now starts) ⌝ }
-    requires { ⌜ h < length (now positions) ⌝ }
-    ensures { λ r. ⌜ (r ≡ true → Entered (now (starts .entry)) (now (positions .entry)) h at i (now (starts .exit)) (now (positions .exit))) ⌝ }
+// Every chain is empty: the numbers from `from` on lead nowhere.
+fn clear(from: usize, table: &mut [u16])
+    ensures { λ _. ⌜ length (now (table .exit)) ≡ length (now (table .entry)) ⌝ }
+    ensures { λ _. ⌜ Cleared from (length (now (table .exit))) (now (table .exit)) ⌝ }
 {
-    if at == 0 {
-        return false;
+    let mut k = from;
+    while k < table.len() {
+        table[k] = NONE;
+        k += 1;
     }
-    if 65535 < at {
-        return false;
-    }
-    if starts[h] != 0 {
-        return true;
-    }
-    starts[h] = at as u16;
-    positions[h] = i;
-    true
 }
 
-// Fills an empty table for `n` columns. False says nothing of what it then holds.
-pub fn fill(
-    s: &[u8],
-    v: Version,
-    depth: u8,
-    n: u16,
-    first: Cursor,
-    starts: &mut [u16],
-    positions: &mut [u16],
-) -> bool
-    requires { ⌜ Empty (now starts) ⌝ }
-    ensures { λ r. ⌜ (r ≡ true → Table v depth (now (s .entry)) n (first .at) (now (starts .exit)) (now (positions .exit))) ⌝ }
+// Notes where each of `n` columns begins. False says nothing of what the table then holds.
+fn note(s: &[u8], v: Version, depth: u8, n: u16, first: Cursor, table: &mut [u16]) -> bool
+    requires { ⌜ node n ≤ length (now table) ⌝ }
+    requires { ⌜ Cleared (node n) (length (now table)) (now table) ⌝ }
+    ensures { λ _. ⌜ length (now (table .exit)) ≡ length (now (table .entry)) ⌝ }
+    ensures { λ r. ⌜ (r ≡ true → Noted v depth (now (s .entry)) n (first .at) (now (table .exit))) ⌝ }
 {
-    if starts.len() != TABLE_SIZE {
-        return false;
-    }
-    if positions.len() != TABLE_SIZE {
-        return false;
-    }
     let mut at = first.at;
     let mut i: u16 = 0;
     while i < n {
+        if 65535 < at {
+            return false;
+        }
+        let k = 2 * wide(i) + 1;
+        table[k] = at as u16;
         let d = Cursor { at };
         match d.label(s, v) {
-            Labelled::Is(l, next) => {
-                let h = slot(s, v, l);
-                if !enter(starts, positions, h, at, i) {
-                    return false;
+            Labelled::Is(_, next) => match pass_type(s, v, depth, next) {
+                Moved::To(e) => {
+                    at = e.at;
                 }
-                match pass_type(s, v, depth, next) {
-                    Moved::To(e) => {
-                        at = e.at;
-                    }
-                    Moved::Refused(_) => return false,
-                }
-            }
+                Moved::Refused(_) => return false,
+            },
             Labelled::Refused(_) => return false,
         }
         i += 1;
@@ -99,62 +82,133 @@ pub fn fill(
     true
 }
 
-// Among `n` columns, the one of the name of the label `l`, which stands in `t`; by number, of its id. Where another label has the hash
-// of `l`, the columns are scanned.
+// Puts the columns into their chains, the last one first, so that each chain begins with its first column.
+fn link(s: &[u8], v: Version, depth: u8, n: u16, first: Cursor, table: &mut [u16]) -> bool
+    requires { ⌜ n ≤ most ⌝ }
+    requires { ⌜ node n < length (now table) ⌝ }
+    requires { ⌜ Noted v depth (now s) n (first .at) (now table) ⌝ }
+    ensures { λ r. ⌜ (r ≡ true → Table v depth (now (s .entry)) n (first .at) (now (table .exit))) ⌝ }
+{
+    let mut i = wide(n);
+    let from = 2 * i;
+    let heads = table.len() - from;
+    while 0 < i {
+        i -= 1;
+        let k = 2 * i;
+        let at = wide(table[k + 1]);
+        let d = Cursor { at };
+        match d.label(s, v) {
+            Labelled::Is(l, _) => {
+                let h = from + slot(s, v, heads, l);
+                table[k] = table[h];
+                table[h] = k as u16;
+            }
+            Labelled::Refused(_) => return false,
+        }
+    }
+    true
+}
+
+// Fills a table for `n` columns, whatever it held. False says nothing of what it then holds.
+fn fill(s: &[u8], v: Version, depth: u8, n: u16, first: Cursor, table: &mut [u16]) -> bool
+    ensures { λ r. ⌜ (r ≡ true → Table v depth (now (s .entry)) n (first .at) (now (table .exit))) ⌝ }
+{
+    if MOST < n {
+        return false;
+    }
+    let from = 2 * wide(n);
+    if table.len() <= from {
+        return false;
+    }
+    clear(from, table);
+    if !note(s, v, depth, n, first, table) {
+        return false;
+    }
+    link(s, v, depth, n, first, table)
+}
+
+// Where many labels will be looked up, fills a table for `n` columns at the start of an arena, and answers its length. 0 where there is none: few
+// labels are found sooner by a scan, or there is no room. Two columns share a head, so that five numbers are enough for two columns.
+pub fn fill_in(
+    wanted: u16,
+    s: &[u8],
+    v: Version,
+    depth: u8,
+    n: u16,
+    first: Cursor,
+    arena: &mut [u16],
+) -> usize
+    ensures { λ r. ⌜ r ≤ length (now (arena .exit)) ⌝ }
+    ensures { λ r. ⌜ (0 < r → Table v depth (now (s .entry)) n (first .at) (take r (now (arena .exit)))) ⌝ }
+{
+    if wanted <= 16 {
+        return 0;
+    }
+    let len = 2 * wide(n) + wide(n / 2) + 1;
+    if arena.len() < len {
+        return 0;
+    }
+    if !fill(s, v, depth, n, first, &mut arena[..len]) {
+        return 0;
+    }
+    len
+}
+
+// Among `n` columns, the one of the name of the label `l`, which stands in `t`; by number, of its id.
 pub fn counterpart_in(
     s: &[u8],
     v: Version,
     depth: u8,
     n: u16,
     c: Cursor,
-    starts: &[u16],
-    positions: &[u16],
+    table: &[u16],
     t: &[u8],
     l: Label,
 ) -> Found
     requires { ⌜ ColumnsAt v depth (now s) n (c .at) ⌝ }
-    requires { ⌜ Table v depth (now s) n (c .at) (now starts) (now positions) ⌝ }
+    requires { ⌜ Table v depth (now s) n (c .at) (now table) ⌝ }
     requires { ⌜ spanIn (now t) (l .name) ⌝ }
     ensures { λ r. ⌜ ((P : ColumnsAt v depth (now (s .entry)) n (c .at)) → Finds v depth (now (s .entry)) (counterpart v (labelAt (now (t .entry)) l) (P .columns)) r) ⌝ }
 {
     let rule = top_rule(v);
-    let h = slot(t, v, l);
-    let at = wide(starts[h]);
-    if at == 0 {
-        return Found::Absent;
-    }
-    let d = Cursor { at };
-    match d.label(s, v) {
-        Labelled::Is(m, next) => {
-            if same_label(rule, s, m, t, l) {
-                return Found::At(Position(positions[h]), m, next);
+    let from = 2 * wide(n);
+    let h = from + slot(t, v, table.len() - from, l);
+    let mut x = table[h];
+    while x < NONE {
+        let k = wide(x);
+        let at = wide(table[k + 1]);
+        let d = Cursor { at };
+        match d.label(s, v) {
+            Labelled::Is(m, next) => {
+                if same_label(rule, s, m, t, l) {
+                    return Found::At(Position(x / 2), m, next);
+                }
             }
-            find_counterpart(s, v, depth, n, c, t, l)
+            Labelled::Refused(_) => return Found::Absent,
         }
-        Labelled::Refused(_) => Found::Absent,
+        x = table[k];
     }
+    Found::Absent
 }
 
-// The same where the table may not be whole: the columns are then scanned.
+// The same where there may be no table: an empty slice, and the columns are scanned.
 pub fn find_in(
     s: &[u8],
     v: Version,
     depth: u8,
     n: u16,
     c: Cursor,
-    whole: bool,
-    starts: &[u16],
-    positions: &[u16],
+    table: &[u16],
     t: &[u8],
     l: Label,
 ) -> Found
     requires { ⌜ ColumnsAt v depth (now s) n (c .at) ⌝ }
-    requires { ⌜ (whole ≡ true → Table v depth (now s) n (c .at) (now starts) (now positions)) ⌝ }
+    requires { ⌜ (0 < length (now table) → Table v depth (now s) n (c .at) (now table)) ⌝ }
     requires { ⌜ spanIn (now t) (l .name) ⌝ }
     ensures { λ r. ⌜ ((P : ColumnsAt v depth (now (s .entry)) n (c .at)) → Finds v depth (now (s .entry)) (counterpart v (labelAt (now (t .entry)) l) (P .columns)) r) ⌝ }
 {
-    if whole {
-        return counterpart_in(s, v, depth, n, c, starts, positions, t, l);
+    if table.len() == 0 {
+        return find_counterpart(s, v, depth, n, c, t, l);
     }
-    find_counterpart(s, v, depth, n, c, t, l)
+    counterpart_in(s, v, depth, n, c, table, t, l)
 }

@@ -3,7 +3,7 @@
 ghost use mathlib.Core.Path.{_≡_};
 ghost use mathlib.Core.Bool.{true};
 ghost use Prim.Native.Nat.{ℕ, _+_, _-_, _*_, _≤_, _<_};
-ghost use lib.ListN.{length};
+ghost use lib.ListN.{length, take};
 ghost use Rattle.layout.specs.Answers.{labelAt, spanIn};
 ghost use Rattle.layout.specs.Find.{counterpart, Finds};
 ghost use Rattle.layout.specs.Stands.{TypeAt, ColumnsAt};
@@ -43,8 +43,7 @@ use builder::write::put_short;
 use defaults::lookup::DefaultFieldValues;
 use defaults::read::TableVersion;
 use forms::write::write_text;
-use labels::TABLE_SIZE;
-use labels::fill;
+use labels::fill_in;
 use labels::find_in;
 use layout::columns::Label;
 use layout::columns::Labelled;
@@ -71,7 +70,7 @@ pub fn attach_transforms(
     position: Position,
     out: &mut [u8],
     k: usize,
-    tables: u8,
+    arena: &mut [u16],
 ) -> Made
     requires { ⌜ TypeAt v depth (now incoming) (c .at) × TypeAt v depth (now target) (b .at) ⌝ }
     requires { ⌜ TableAt (now table) defaults ⌝ }
@@ -105,7 +104,7 @@ pub fn attach_transforms(
             position,
             out,
             k,
-            tables,
+            arena,
         ),
         Head::List(_) => attach_nested(
             policy,
@@ -120,7 +119,7 @@ pub fn attach_transforms(
             position,
             out,
             k,
-            tables,
+            arena,
         ),
         Head::Array(_, _) => attach_nested(
             policy,
@@ -135,7 +134,7 @@ pub fn attach_transforms(
             position,
             out,
             k,
-            tables,
+            arena,
         ),
         Head::Refused(_) => Made::Refused(24),
     }
@@ -155,7 +154,7 @@ fn attach_nested(
     position: Position,
     out: &mut [u8],
     k: usize,
-    tables: u8,
+    arena: &mut [u16],
 ) -> Made
     requires { ⌜ TypeAt v depth (now incoming) (c .at) × TypeAt v depth (now target) (b .at) ⌝ }
     requires { ⌜ TableAt (now table) defaults ⌝ }
@@ -180,7 +179,7 @@ fn attach_nested(
             position,
             out,
             k,
-            tables,
+            arena,
         ),
         StructPart::Mismatch => attach_inner(
             policy,
@@ -194,7 +193,7 @@ fn attach_nested(
             position,
             out,
             k,
-            tables,
+            arena,
         ),
     }
 }
@@ -214,7 +213,7 @@ fn attach_struct(
     position: Position,
     out: &mut [u8],
     k: usize,
-    tables: u8,
+    arena: &mut [u16],
 ) -> Made
     requires { ⌜ TypeAt v depth (now incoming) (c .at) × ColumnsAt v (depth - 1) (now target) m (b .at) ⌝ }
     requires { ⌜ TableAt (now table) defaults ⌝ }
@@ -224,7 +223,7 @@ fn attach_struct(
     let StructPart::Is(n, d) = struct_part(incoming, c) else {
         return Made::Refused(24);
     };
-    let fault = struct_fault(policy, v, depth - 1, incoming, n, d, target, m, b);
+    let fault = struct_fault(policy, v, depth - 1, incoming, n, d, target, m, b, arena);
     if fault != 0 {
         return Made::Refused(fault);
     }
@@ -244,7 +243,7 @@ fn attach_struct(
         b,
         out,
         k + 6,
-        tables,
+        arena,
     );
     let Row::Done(same, len) = row else {
         return refused_row(row);
@@ -256,9 +255,8 @@ fn attach_struct(
     Made::Built(6 + len)
 }
 
-// The field matcher: `m` target fields from `b` on over `n` incoming fields from `c` on. A table takes 8 KiB of stack, so at most `tables` more stand at once: of
-// the structs of many fields around a leaf the two outermost have one, at whatever depth. That `attach_many` is called twice keeps it
-// a function of its own: called once, it would be compiled into its caller, and a table would stand in the frame of every level.
+// The field matcher: `m` target fields from `b` on over `n` incoming fields from `c` on. A table of the incoming fields stands at the start of the
+// arena, and what is behind it is lent to the types of the fields.
 fn attach_row(
     policy: Policy,
     v: Version,
@@ -273,107 +271,14 @@ fn attach_row(
     b: Cursor,
     out: &mut [u8],
     k: usize,
-    tables: u8,
+    arena: &mut [u16],
 ) -> Row
     requires { ⌜ ColumnsAt v depth (now incoming) n (c .at) × ColumnsAt v depth (now target) m (b .at) ⌝ }
     requires { ⌜ TableAt (now table) defaults ⌝ }
     requires { ⌜ (length (now target) ≤ 16384) × (length (now table) ≤ 16384) × (k ≤ 65536 * b .at) ⌝ }
     ensures { λ r. ⌜ AttachedFields policy v depth (now (table .entry)) defaults (now (incoming .entry)) n (c .at) (now (target .entry)) m (b .at) (now (out .entry)) k r (now (out .exit)) ⌝ }
 {
-    if m <= 16 {
-        return attach_few(
-            policy,
-            v,
-            depth,
-            incoming,
-            n,
-            c,
-            table,
-            defaults,
-            target,
-            m,
-            b,
-            out,
-            k,
-            tables,
-        );
-    }
-    match tables {
-        2 => attach_many(
-            policy,
-            v,
-            depth,
-            incoming,
-            n,
-            c,
-            table,
-            defaults,
-            target,
-            m,
-            b,
-            out,
-            k,
-            1,
-        ),
-        1 => attach_many(
-            policy,
-            v,
-            depth,
-            incoming,
-            n,
-            c,
-            table,
-            defaults,
-            target,
-            m,
-            b,
-            out,
-            k,
-            0,
-        ),
-        _ => attach_few(
-            policy,
-            v,
-            depth,
-            incoming,
-            n,
-            c,
-            table,
-            defaults,
-            target,
-            m,
-            b,
-            out,
-            k,
-            tables,
-        ),
-    }
-}
-
-// The same for few fields: counterparts are scanned for.
-fn attach_few(
-    policy: Policy,
-    v: Version,
-    depth: u8,
-    incoming: &[u8],
-    n: u16,
-    c: Cursor,
-    table: &[u8],
-    defaults: DefaultFieldValues,
-    target: &[u8],
-    m: u16,
-    b: Cursor,
-    out: &mut [u8],
-    k: usize,
-    tables: u8,
-) -> Row
-    requires { ⌜ ColumnsAt v depth (now incoming) n (c .at) × ColumnsAt v depth (now target) m (b .at) ⌝ }
-    requires { ⌜ TableAt (now table) defaults ⌝ }
-    requires { ⌜ (length (now target) ≤ 16384) × (length (now table) ≤ 16384) × (k ≤ 65536 * b .at) ⌝ }
-    ensures { λ r. ⌜ AttachedFields policy v depth (now (table .entry)) defaults (now (incoming .entry)) n (c .at) (now (target .entry)) m (b .at) (now (out .entry)) k r (now (out .exit)) ⌝ }
-{
-    let array = [0u16; 1];
-    let none = &array[..];
+    let used = fill_in(m, incoming, v, depth, n, c, arena);
     attach_fields(
         policy,
         v,
@@ -381,9 +286,7 @@ fn attach_few(
         incoming,
         n,
         c,
-        false,
-        none,
-        none,
+        used,
         table,
         defaults,
         target,
@@ -391,74 +294,12 @@ fn attach_few(
         b,
         out,
         k,
-        tables,
+        arena,
     )
 }
 
-// The same for many fields: the table of the incoming fields is filled once.
-fn attach_many(
-    policy: Policy,
-    v: Version,
-    depth: u8,
-    incoming: &[u8],
-    n: u16,
-    c: Cursor,
-    table: &[u8],
-    defaults: DefaultFieldValues,
-    target: &[u8],
-    m: u16,
-    b: Cursor,
-    out: &mut [u8],
-    k: usize,
-    tables: u8,
-) -> Row
-    requires { ⌜ ColumnsAt v depth (now incoming) n (c .at) × ColumnsAt v depth (now target) m (b .at) ⌝ }
-    requires { ⌜ TableAt (now table) defaults ⌝ }
-    requires { ⌜ (length (now target) ≤ 16384) × (length (now table) ≤ 16384) × (k ≤ 65536 * b .at) ⌝ }
-    ensures { λ r. ⌜ AttachedFields policy v depth (now (table .entry)) defaults (now (incoming .entry)) n (c .at) (now (target .entry)) m (b .at) (now (out .entry)) k r (now (out .exit)) ⌝ }
-{
-    let mut starts = [0u16; TABLE_SIZE];
-    let mut positions = [0u16; TABLE_SIZE];
-    if !fill(incoming, v, depth, n, c, &mut starts, &mut positions) {
-        return attach_few(
-            policy,
-            v,
-            depth,
-            incoming,
-            n,
-            c,
-            table,
-            defaults,
-            target,
-            m,
-            b,
-            out,
-            k,
-            tables,
-        );
-    }
-    attach_fields(
-        policy,
-        v,
-        depth,
-        incoming,
-        n,
-        c,
-        true,
-        &starts,
-        &positions,
-        table,
-        defaults,
-        target,
-        m,
-        b,
-        out,
-        k,
-        tables,
-    )
-}
-
-// The same, counterparts found through the table, where it is whole. A loop, so that 65,535 fields take no stack.
+// The same, counterparts found through the table, the first `used` numbers of the arena, where there is one. A loop, so that 65,535 fields take no
+// stack.
 fn attach_fields(
     policy: Policy,
     v: Version,
@@ -466,9 +307,7 @@ fn attach_fields(
     incoming: &[u8],
     n: u16,
     c: Cursor,
-    whole: bool,
-    starts: &[u16],
-    positions: &[u16],
+    used: usize,
     table: &[u8],
     defaults: DefaultFieldValues,
     target: &[u8],
@@ -476,12 +315,12 @@ fn attach_fields(
     b: Cursor,
     out: &mut [u8],
     k: usize,
-    tables: u8,
+    arena: &mut [u16],
 ) -> Row
     requires { ⌜ ColumnsAt v depth (now incoming) n (c .at) × ColumnsAt v depth (now target) m (b .at) ⌝ }
     requires { ⌜ TableAt (now table) defaults ⌝ }
     requires { ⌜ (length (now target) ≤ 16384) × (length (now table) ≤ 16384) × (k ≤ 65536 * b .at) ⌝ }
-    requires { ⌜ (whole ≡ true → Table v depth (now incoming) n (c .at) (now starts) (now positions)) ⌝ }
+    requires { ⌜ (used ≤ length (now arena)) × (0 < used → Table v depth (now incoming) n (c .at) (take used (now arena))) ⌝ }
     ensures { λ r. ⌜ AttachedFields policy v depth (now (table .entry)) defaults (now (incoming .entry)) n (c .at) (now (target .entry)) m (b .at) (now (out .entry)) k r (now (out .exit)) ⌝ }
 {
     let missing = policy.missing_struct_fields;
@@ -494,18 +333,7 @@ fn attach_fields(
         let f = Cursor { at: from };
         match f.label(target, v) {
             Labelled::Is(l, next) => {
-                let found = find_in(
-                    incoming,
-                    v,
-                    depth,
-                    n,
-                    c,
-                    whole,
-                    starts,
-                    positions,
-                    target,
-                    l,
-                );
+                let found = find_in(incoming, v, depth, n, c, &arena[..used], target, l);
                 let first = attach_field(
                     policy,
                     v,
@@ -521,7 +349,7 @@ fn attach_fields(
                     14,
                     out,
                     to,
-                    tables,
+                    &mut arena[used..],
                 );
                 if is_refused(first) {
                     return failed(first);
@@ -555,7 +383,7 @@ pub fn attach_field(
     number: u8,
     out: &mut [u8],
     k: usize,
-    tables: u8,
+    arena: &mut [u16],
 ) -> Made
     requires { ⌜ ((fs : Columns) × Finds v depth (now incoming) (counterpart v (labelAt (now target) l) fs) found) × TypeAt v depth (now target) (b .at) ⌝ }
     requires { ⌜ TableAt (now table) defaults ⌝ }
@@ -579,7 +407,7 @@ pub fn attach_field(
             position,
             out,
             k,
-            tables,
+            arena,
         ),
         Found::Absent => put_missing(
             insert,
@@ -613,7 +441,7 @@ fn attach_renamed(
     position: Position,
     out: &mut [u8],
     k: usize,
-    tables: u8,
+    arena: &mut [u16],
 ) -> Made
     requires { ⌜ TypeAt v depth (now incoming) (c .at) × TypeAt v depth (now target) (b .at) ⌝ }
     requires { ⌜ TableAt (now table) defaults ⌝ }
@@ -635,7 +463,7 @@ fn attach_renamed(
             position,
             out,
             k,
-            tables,
+            arena,
         );
     }
     put(out, k, 3);
@@ -652,7 +480,7 @@ fn attach_renamed(
         position,
         out,
         k + 1,
-        tables,
+        arena,
     );
     if is_refused(made) {
         return made;
@@ -679,7 +507,7 @@ fn attach_element(
     position: Position,
     out: &mut [u8],
     k: usize,
-    tables: u8,
+    arena: &mut [u16],
 ) -> Made
     requires { ⌜ TypeAt v depth (now incoming) (c .at) × TypeAt v depth (now target) (b .at) ⌝ }
     requires { ⌜ spanIn (now incoming) (m .name) × spanIn (now target) (l .name) × (l .name .len ≤ 63) ⌝ }
@@ -714,7 +542,7 @@ fn attach_element(
         Position(0),
         out,
         k + 4,
-        tables,
+        arena,
     );
     if is_refused(made) {
         return made;
@@ -739,7 +567,7 @@ fn attach_inner(
     position: Position,
     out: &mut [u8],
     k: usize,
-    tables: u8,
+    arena: &mut [u16],
 ) -> Made
     requires { ⌜ TypeAt v depth (now incoming) (c .at) × TypeAt v depth (now target) (b .at) ⌝ }
     requires { ⌜ (length (now target) ≤ 16384) × (length (now table) ≤ 16384) × (k ≤ 65536 * b .at + 1) ⌝ }
@@ -765,7 +593,7 @@ fn attach_inner(
                 position,
                 out,
                 k,
-                tables,
+                arena,
             )
         }
         ElementPart::Array(w, l, e) => {
@@ -787,7 +615,7 @@ fn attach_inner(
                 position,
                 out,
                 k,
-                tables,
+                arena,
             )
         }
         ElementPart::Mismatch => Made::Refused(24),

@@ -1,48 +1,73 @@
--- `labels::fill` meets its contract: the loop keeps `Filling`. Assumes nothing.
-use native.Mathlib.Omega.{arith}
+-- `labels::fill` meets its contract. Assumes nothing.
+use Rattle.labels.proofs.Filling.{cleared-from}
+use Rattle.layout.proofs.Ways.{clash}
 use borrow.Author.Tests.{not-false}
-use Rattle.labels.proofs.Filling.{Filling, filling-start, filling-end, filling-more}
-use Rattle.layout.proofs.Ways.{clash, label-in}
-use Prim.Native.Nat.{_-_}
+use mathlib.Core.Path.{_≡_}
+use native.Mathlib.Omega.{arith}
 use borrow.Author.Needs.{needs}
 use Rattle.labels.proofs.fill.Statement.{statement}
 use Rattle.labels.proofs.fill.Tie as tie
+use Rattle.labels.proofs.fill.Reads as reads
+use Rattle.labels.proofs.fill.Lts as lts
+use Rattle.labels.proofs.clear.Reads as clear-reads
+use Rattle.labels.proofs.link.Reads as link-reads
+use Rattle.labels.proofs.note.Reads as note-reads
+use Rattle.layout.proofs.bytes.wide.Reads as wide-reads
 
-abbrev Inv-loop : tie.InvT-loop
-Inv-loop s v depth n starts₀ positions₀ at₀ i₀ starts positions at i = Filling v depth s n at₀ i at starts positions
+returns : tie.Need-returns
+returns c = λ h. clash (cc)
 
-abbrev μ-loop : tie.MeasureT-loop
-μ-loop s v depth n starts₀ positions₀ at₀ i₀ starts positions at i = n - i
+wide-requires : tie.Need-wide-requires
+wide-requires c κs = search needs
+
+mul-from : tie.Need-mul-from
+mul-from c = search needs
+
+returns-2 : tie.Need-returns-2
+returns-2 c = λ h. clash (cc)
+
+clear-requires : tie.Need-clear-requires
+clear-requires c κs = search needs
+
+note-requires : tie.Need-note-requires
+note-requires c κs =
+    let a = c .before .before .before .clear .ensures .0 in
+    let d = c .before .before .before .before .before .if2 .left in
+    let e = c .before .before .before .before .before .before .wide .ensures in
+    (omega arith, cleared-from (omega arith) (c .before .before .before .clear .ensures .1))
+
+same-length : tie.Need-same-length
+same-length c = search needs
+
+returns-3 : tie.Need-returns-3
+returns-3 c = λ h. clash (cc)
+
+link-requires : tie.Need-link-requires
+link-requires c κs =
+    let a = c .before .before .before .before .note .ensures .0 in
+    let b = c .before .before .before .before .before .before .before .before .clear .ensures .0 in
+    let d = c .before .before .before .before .before .before .before .before .before .before .if2 .left in
+    let e = c .before .before .before .before .before .before .before .before .before .before .before .wide .ensures in
+    (c .before .before .before .before .before .before .before .before .before .before .before .before .if1 .left, (omega arith, c .before .before .before .before .note .ensures .1 (not-false _ (c .before .if3 .left))))
+
+same-length-2 : tie.Need-same-length-2
+same-length-2 c = search needs
+
+returns-4 : tie.Need-returns-4
+returns-4 c = search needs
 
 pub fill-spec : {M : Type 1} → statement M
 fill-spec =
     tie.close
     (tie.spec
-    Inv-loop
-    μ-loop
-    (λ c. λ h. clash (cc))
-    (λ c. λ h. clash (cc))
-    (λ c. filling-start (c .before .before .before .before .before .pre) (c .before .if1 .left) (c .if2 .left))
-    (λ c κs. search needs)
-    (λ c. search needs)
-    (λ c κs. label-in _ (c .before .before .before .label .ensures .1) (c .before .l .given .1))
-    (λ c κs. search needs)
-    (λ c. search needs)
-    (λ c. search needs)
-    (λ c. λ h. clash (cc))
-    (λ c κs. search needs)
-    (λ c. search needs)
-    (λ c. search needs)
-    (λ c. search needs)
-    (λ c. search needs)
-    (λ c. λ h. clash (cc))
-    (λ c. search needs)
-    (λ c. search needs)
-    (λ c. search needs)
-    (λ c. λ h. clash (cc))
-    (λ c. let h = c .before .before .before .before .before .before .before .before .before .before .before .before .before .before .before .before .before .loop-test .taken in let k = c .before .before .before .before .before .before .before .before .before .before .before .before .before .before .before .before .before .before .before .before .before .before .before .before .fits in omega arith)
-    (λ c. search needs)
-    (λ c. filling-more (c .before .before .before .before .before .before .before .before .before .before .before .before .before .before .before .before .before .before .loop .inv) (c .before .before .before .before .before .before .before .before .before .before .before .before .before .before .before .before .before .loop-test .taken) (c .before .before .before .before .before .before .before .before .before .before .before .before .before .before .before .before .label .ensures .0) (c .before .before .before .before .before .before .before .before .before .before .before .before .before .before .l .given .1) (c .before .before .before .before .before .before .before .before .before .before .before .before .slot .ensures .0) (c .before .before .before .before .before .before .before .before .before .enter .ensures (not-false _ (c .before .before .before .before .if3 .left))) (c .before .before .before .pass-type .ensures) (c .before .e .given .1))
-    (λ c. search needs)
-    (λ c. search needs)
-    (λ c. λ h. filling-end (c .before .loop .inv) (c .loop-test .left)))
+    returns
+    wide-requires
+    mul-from
+    returns-2
+    clear-requires
+    note-requires
+    same-length
+    returns-3
+    link-requires
+    same-length-2
+    returns-4)

@@ -1,9 +1,29 @@
 -- `labels::slot` meets its contract. Assumes nothing.
-use native.Mathlib.Omega.{arith}
-use Rattle.labels.proofs.Entries.{slot-is}
+use native.Mathlib.Nat.{mod-lt}
+use Rattle.labels.proofs.First.{slot-is}
 use borrow.Author.Needs.{needs}
 use Rattle.labels.proofs.slot.Statement.{statement}
 use Rattle.labels.proofs.slot.Tie as tie
+use Rattle.labels.proofs.slot.Reads as reads
+use Rattle.labels.proofs.slot.Lts as lts
+use Rattle.layout.proofs.seen.label_hash.Reads as label-hash-reads
+use Rattle.layout.proofs.version.top_rule.Reads as top-rule-reads
+
+top-rule-requires : tie.Need-top-rule-requires
+top-rule-requires c κs = search needs
+
+label-hash-requires : tie.Need-label-hash-requires
+label-hash-requires c κs = search needs
+
+cast-result : tie.Need-cast-result
+cast-result c = search needs
+
+rem-result : tie.Need-rem-result
+rem-result c = search needs
+
+returns : tie.Need-returns
+returns c = (slot-is (c .before .before .before .args .v) _ _ (c .before .top-rule .ensures) (c .label-hash .ensures), mod-lt (c .label-hash .result) (c .before .before .before .pre .1))
 
 pub slot-spec : {M : Type 1} → statement M
-slot-spec = tie.close (tie.spec (λ c κs. search needs) (λ c κs. search needs) (λ c. search needs) (λ c. (slot-is (c .before .before .before .args .v) _ (c .before .top-rule .ensures) (c .label-hash .ensures), omega arith)))
+slot-spec =
+    tie.close (tie.spec top-rule-requires label-hash-requires cast-result rem-result returns)

@@ -16,10 +16,10 @@ extra-column-spec =
     (λ c. λ P Q. ignoring (c .before .before .before .before .args .v) (P .columns) (Q .columns) (c .enum-told .given .1))
     (λ c. λ P Q.
     raising (c .before .before .before .before .before .before .args .v) (P .columns) (Q .columns) (c .before .before .enum-told2 .given .1)
-    (c .extra-among-many .result) (c .extra-among-many .ensures P Q))
+    (c .extra-in-large .result) (c .extra-in-large .ensures P Q))
     (λ c. λ P Q.
     raising (c .before .before .before .before .before .before .before .args .v) (P .columns) (Q .columns)
-    (c .before .before .before .enum-told2 .given .1) (c .extra-among-few .result) (c .extra-among-few .ensures P Q))
+    (c .before .before .before .enum-told2 .given .1) (c .extra-in-small .result) (c .extra-in-small .ensures P Q))
     (λ c. λ P Q.
     raising (c .before .before .before .before .before .before .before .args .v) (P .columns) (Q .columns)
-    (c .before .before .before .enum-told2 .given .1) (c .extra-among-many2 .result) (c .extra-among-many2 .ensures P Q)))
+    (c .before .before .before .enum-told2 .given .1) (c .extra-in-large2 .result) (c .extra-in-large2 .ensures P Q)))

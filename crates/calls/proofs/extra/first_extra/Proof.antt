@@ -10,11 +10,11 @@ use Rattle.calls.proofs.extra.first_extra.Statement.{statement}
 use Rattle.calls.proofs.extra.first_extra.Tie as tie
 
 abbrev Inv-loop : tie.InvT-loop
-Inv-loop v incoming n target m b whole starts positions at₀ i₀ at i =
+Inv-loop v incoming n target m b chains at₀ i₀ at i =
     (Q : ColumnsAt v deepest target m (b .at)) → Seeking v (Q .columns) incoming n at₀ at i
 
 abbrev μ-loop : tie.MeasureT-loop
-μ-loop v incoming n target m b whole starts positions at₀ i₀ at i = n - i
+μ-loop v incoming n target m b chains at₀ i₀ at i = n - i
 
 pub first-extra-spec : {M : Type 1} → statement M
 first-extra-spec =
@@ -22,13 +22,13 @@ first-extra-spec =
     (tie.spec
     Inv-loop
     μ-loop
-    (λ c. λ Q. seeking-none (Q .columns) (c .before .before .before .before .pre .0 .0))
+    (λ c. λ Q. seeking-none (Q .columns) (c .before .before .before .pre .0 .0))
     (λ c κs. search needs)
     (λ c. search needs)
     (λ c κs. (
-      c .before .before .before .before .before .before .before .before .before .before .pre .0 .1,
+      c .before .before .before .before .before .before .before .before .before .pre .0 .1,
       (
-        c .before .before .before .before .before .before .before .before .before .before .pre .1,
+        c .before .before .before .before .before .before .before .before .before .pre .1,
         label-in _ (c .before .before .before .label .ensures .1) (c .before .l .given .1),
       ),
     ))
@@ -39,7 +39,7 @@ first-extra-spec =
     (λ c κs.
     column
     (c .before .before .before .before .before .before .before .loop .inv
-    (c .before .before .before .before .before .before .before .before .before .before .before .before .pre .0 .1))
+    (c .before .before .before .before .before .before .before .before .before .before .before .pre .0 .1))
     (c .before .before .before .before .before .before .loop-test .taken) (c .before .before .before .before .before .label .ensures .0)
     (c .before .before .before .l .given .1) .head)
     (λ c. search needs)
@@ -47,7 +47,7 @@ first-extra-spec =
     (c .before .before .label .ensures .0) (c .enum-told .given .1))
     (λ c. omega (
       arith,
-      c .before .before .before .before .before .before .before .before .before .before .before .before .before .fits .n,
+      c .before .before .before .before .before .before .before .before .before .before .before .before .fits .n,
       c .before .before .before .before .before .before .before .loop-test .taken,
     ))
     (λ c. omega arith)

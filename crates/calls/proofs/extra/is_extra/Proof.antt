@@ -15,14 +15,14 @@ is-extra-spec =
     (λ c. search needs)
     (λ c. search needs)
     (λ c. λ P.
-    let v = c .before .before .before .before .before .before .before .args .v in
-    let l = labelAt (now (c .before .before .before .before .before .before .before .args .t))
-    (c .before .before .before .before .before .before .before .args .l) in
-    found-some v (now (c .before .before .before .before .before .before .before .args .s)) (counterpart v l (P .columns))
+    let v = c .before .before .before .before .before .before .args .v in
+    let l = labelAt (now (c .before .before .before .before .before .before .args .t))
+    (c .before .before .before .before .before .before .args .l) in
+    found-some v (now (c .before .before .before .before .before .before .args .s)) (counterpart v l (P .columns))
     (c .before .before .find-in .ensures P) (c .enum-told .given .1))
     (λ c. λ P.
-    let v = c .before .before .before .before .before .before .before .args .v in
-    let l = labelAt (now (c .before .before .before .before .before .before .before .args .t))
-    (c .before .before .before .before .before .before .before .args .l) in
-    found-none v (now (c .before .before .before .before .before .before .before .args .s)) (counterpart v l (P .columns))
+    let v = c .before .before .before .before .before .before .args .v in
+    let l = labelAt (now (c .before .before .before .before .before .before .args .t))
+    (c .before .before .before .before .before .before .args .l) in
+    found-none v (now (c .before .before .before .before .before .before .args .s)) (counterpart v l (P .columns))
     (c .before .before .find-in .ensures P) (c .enum-told2 .given .1)))
