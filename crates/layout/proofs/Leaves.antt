@@ -2,6 +2,10 @@
 -- Assumes nothing.
 use Prim.Native.Nat.{ℕ, _≤_, _<_}
 use mathlib.Core.Path.{_≡_, refl, sym, ap, _∙_}
+use mathlib.Core.Bool.{false}
+use mathlib.Core.List.{[]}
+use lib.Dec.{eqb}
+use borrow.Author.Tests.{ne-eqb}
 use native.Mathlib.Omega.{arith}
 use Rattle.numeric.specs.declared.integers.Integer.{Integer}
 use Rattle.numeric.specs.declared.integers.Integer.the-variants.{Int8, Int16, Int32, Int64, UInt8, UInt16, UInt32, UInt64}
@@ -9,9 +13,12 @@ use Rattle.numeric.specs.declared.floats.Format.{Format}
 use Rattle.numeric.specs.declared.floats.Format.the-variants.{Binary16, Binary32, Binary64}
 use Rattle.layout.specs.Bytes.{Bytes}
 use Rattle.layout.specs.Tree.{LeafType, leafType, leafOf, zoneOf, null, boolean, integer, float, date, datetime, string, binary, categorical, decimal}
-use Rattle.layout.specs.Layout.{plainLeaf, integerCode, floatCode}
+use Rattle.layout.specs.Parser.{ok, choose}
+use Rattle.layout.specs.Layout.{aLeaf, plainLeaf, leafKind, kindOf, integerCode, floatCode}
 use Rattle.layout.specs.declared.leaf.Leaf.{Leaf}
-use Rattle.layout.specs.declared.types.PlainLeaf.the-variants.{Known}
+use Rattle.layout.specs.declared.types.PlainLeaf.{PlainLeaf}
+use Rattle.layout.specs.declared.types.PlainLeaf.the-variants.{Known, Unknown}
+use Rattle.layout.proofs.Ways.{clash}
 
 -- ---- kind and zone
 
@@ -64,3 +71,14 @@ pub float-coded : (f : Format) → Coded 10 13 (floatCode f) (Leaf.Float f)
 float-coded Binary16 = record { from = omega arith; below = omega arith; stands = refl }
 float-coded Binary32 = record { from = omega arith; below = omega arith; stands = refl }
 float-coded Binary64 = record { from = omega arith; below = omega arith; stands = refl }
+
+-- ---- a code that is a whole type
+
+-- it is none of the others
+pub other-code : (code n : ℕ) {k : Leaf} → plainLeaf n ≡ Unknown → plainLeaf code ≡ Known k → eqb code n ≡ false
+other-code code n {k} e f = ne-eqb code n (λ h. let z : Unknown ≡ Known k = sym e ∙ ap plainLeaf (sym h) ∙ f in clash (cc))
+
+pub plain-kind : (code : ℕ) {k : Leaf} (s : Bytes) (at : ℕ) → plainLeaf code ≡ Known k → kindOf code s at ≡ ok (aLeaf (leafType k [])) at
+unfolding kindOf choose leafKind
+plain-kind code s at h =
+    rw (other-code code 14 refl h, other-code code 18 refl h, other-code code 19 refl h, other-code code 20 refl h, other-code code 21 refl h, h)

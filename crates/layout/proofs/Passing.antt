@@ -28,6 +28,7 @@ use Rattle.layout.specs.declared.types.Unit.{Unit as UnitRead}
 use Rattle.layout.specs.declared.types.DecimalRead.{DecimalRead}
 use Rattle.layout.specs.declared.columns.Siblings.{Siblings}
 use Rattle.layout.specs.declared.version.Version.{Version}
+use Rattle.layout.proofs.Leaves.{other-code}
 use Rattle.layout.proofs.Ways.{clash, moved-to, moved-refused, to-pure, choose-true, choose-false, element-none, element-some, type-deep}
 use Rattle.layout.proofs.FreeRule.{repeats-free}
 use Rattle.layout.proofs.Reading.{columns-suc}
@@ -118,10 +119,6 @@ type-unruled v r s at d h e = rw h e
 pub not-plain : (code : ℕ) {q : PlainLeaf} → q ≡ plainLeaf code → q ≡ PlainLeaf.Unknown → plainLeaf code ≡ PlainLeaf.Unknown
 not-plain code e f = sym e ∙ f
 
--- a code that is a whole type is none of the others
-other : (code n : ℕ) {l : Leaf} → plainLeaf n ≡ PlainLeaf.Unknown → plainLeaf code ≡ PlainLeaf.Known l → eqb code n ≡ false
-other code n {l} e f = ne-eqb code n (λ h. let z : PlainLeaf.Unknown ≡ PlainLeaf.Known l = sym e ∙ ap plainLeaf (sym h) ∙ f in clash (cc))
-
 module _ (v : Version) (r : Siblings) (s : Bytes) (at d : ℕ) (z : d ≡ 0 → ⊥) where
   level : movedOf (next (byte s at) (λ code m. typeRest v r (d - 1) code s m)) ≡ movedOf (type v r d s at)
   unfolding type kind typeRest next
@@ -142,7 +139,7 @@ module _ (v : Version) (r : Siblings) (s : Bytes) (at d : ℕ) (z : d ≡ 0 → 
     unfolding next movedOf typeRest kindOf choose leafKind body
     pass-plain h =
         let k = sym g ∙ h in
-        rw (← level v r s at d z, ← e, f) (rw (other code 14 refl k, other code 18 refl k, other code 19 refl k, other code 20 refl k, other code 21 refl k, k))
+        rw (← level v r s at d z, ← e, f) (rw (other-code code 14 refl k, other-code code 18 refl k, other-code code 19 refl k, other-code code 20 refl k, other-code code 21 refl k, k))
 
     pub pass-on : {o : Moved} → o ≡ movedOf (typeRest v r (d - 1) code s (c .at)) → o ≡ movedOf (type v r d s at)
     unfolding next

@@ -5,13 +5,16 @@ use mathlib.Core.List.{List, [], _∷_, _++_}
 use mathlib.Core.Bool.{Bool, true, false, not}
 use native.Mathlib.Omega.{arith}
 use Rattle.layout.specs.Bytes.{Bytes}
-use Rattle.layout.specs.Parser.{Res, refuse, ok, next, choose, Parser, test}
-use Rattle.layout.specs.Tree.{LeafType, Label, ColumnType, cleaf, cstruct, clist, carray, Columns, cnil, ccons}
-use Rattle.layout.specs.Layout.{Kind, kind, body, structType, listType, arrayType, label, label as labelOf, elementLabel, columns, type, repeatsAny}
-use Rattle.layout.specs.Answers.{headRes, leafAt, labelRes, labelAt, movedOf}
+use Rattle.layout.specs.Parser.{Res, refuse, ok, next, choose, Parser, test, byte}
+use Rattle.layout.specs.Tree.{LeafType, leafType, Label, ColumnType, cleaf, cstruct, clist, carray, Columns, cnil, ccons}
+use Rattle.layout.specs.Layout.{Kind, aLeaf, plainLeaf, kind, body, structType, listType, arrayType, label, label as labelOf, elementLabel, columns, type, repeatsAny}
+use Rattle.layout.specs.Answers.{stepRes, headRes, leafAt, labelRes, labelAt, movedOf}
 use Rattle.layout.specs.Stands.{TypeAt, ColumnsAt}
 use Rattle.layout.specs.declared.cursor.Cursor.{Cursor}
 use Rattle.layout.specs.declared.cursor.Moved.{Moved}
+use Rattle.layout.specs.declared.cursor.Step.{Step}
+use Rattle.layout.specs.declared.leaf.Leaf.{Leaf}
+use Rattle.layout.specs.declared.types.PlainLeaf.{PlainLeaf}
 use Rattle.layout.specs.declared.types.Head.{Head}
 use Rattle.layout.specs.declared.types.LeafType.{LeafType as LeafSpan}
 use Rattle.layout.specs.declared.columns.Label.{Label as LabelSpan}
@@ -19,6 +22,7 @@ use Rattle.layout.specs.declared.columns.Labelled.{Labelled}
 use Rattle.layout.specs.declared.columns.Siblings.the-variants.{Free}
 use Rattle.layout.specs.declared.version.Version.{Version}
 use Rattle.layout.proofs.Ways.{clash, moved-to, moved-refused}
+use Rattle.layout.proofs.Leaves.{plain-kind}
 use Rattle.layout.proofs.FreeRule.{repeats-free}
 
 -- what a chain of parsers that reads went through
@@ -79,6 +83,15 @@ module _ {v : Version} {d : ℕ} {s : Bytes} {at : ℕ} (P : TypeAt v d s at) wh
   pub leaf-at : {p : Head} {l : LeafSpan} {c : Cursor} → headRes s p ≡ kind s at → p ≡ Head.Leaf l c → (P .tree ≡ cleaf (leafAt s l)) × (c .at ≡ P .end)
   unfolding body
   leaf-at e f = let h = behind (sym e ∙ ap (headRes s) f) in (cc, cc)
+
+  -- by a code that is a whole type
+  pub plain-at : {p : Step} {code : ℕ} {c : Cursor} {k : Leaf} → stepRes p ≡ byte s at → p ≡ Step.Byte code c → plainLeaf code ≡ PlainLeaf.Known k
+      → (P .tree ≡ cleaf (leafType k [])) × (c .at ≡ P .end)
+  unfolding kind next body
+  plain-at {code = code} {c = c} {k = k} e f g =
+      let q : kind s at ≡ ok (aLeaf (leafType k [])) (c .at) = rw (← e, f) (plain-kind code s (c .at) g) in
+      let h = behind q in
+      (cc, cc)
 
   pub struct-at : {p : Head} {n : ℕ} {c : Cursor} → headRes s p ≡ kind s at → p ≡ Head.Struct n c → StructAt v d s at P n (c .at)
   unfolding body structType

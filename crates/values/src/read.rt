@@ -1,17 +1,22 @@
 // Reading a value by its type, which stands in a layout that was read before.
 ghost use mathlib.Core.Path.{_≡_};
+ghost use Prim.Native.Nat.{ℕ};
 ghost use Rattle.layout.specs.Tree.{dtypeOf, fieldsOf};
 ghost use Rattle.layout.specs.Stands.{TypeAt, ColumnsAt};
 ghost use Rattle.layout.specs.Answers.{movedOf};
+ghost use Rattle.layout.specs.declared.version.Version.{Version as VersionOf};
 ghost use Rattle.values.specs.Reading.{value, values, content, listContent, times};
-ghost use Rattle.values.specs.Answers.{valueMoved};
+ghost use Rattle.values.specs.Answers.{valueMoved, NumberIs};
+use crate::content::number_bytes;
 use crate::leaf::Presence;
+use crate::leaf::pass;
 use crate::leaf::read_leaf;
 use crate::leaf::read_presence;
 use layout::columns::Labelled;
 use layout::cursor::Cursor;
 use layout::cursor::Moved;
 use layout::cursor::Short;
+use layout::cursor::Step;
 use layout::types::Head;
 use layout::version::Version;
 use layout::walk::skip_type;
@@ -28,6 +33,30 @@ fn pass_type(lay: &[u8], v: Version, depth: u8, t: Cursor, c: Cursor) -> ValueRe
     ensures { λ r. ⌜ ((P : TypeAt v depth (now (lay .entry)) (t .at)) → r ≡ ValueRead.To (record { at = P .end }) c) ⌝ }
 {
     ValueRead::To(skip_type(lay, v, depth, t), c)
+}
+
+// What follows the presence byte of a number whose type is a code alone; or the type is another.
+enum NumberRead {
+    Is(ValueRead),
+    Other,
+}
+
+fn read_number(lay: &[u8], t: Cursor, rec: &[u8], c: Cursor) -> NumberRead
+    ensures { λ r. ⌜ ((v : VersionOf) (depth : ℕ) (P : TypeAt v depth (now (lay .entry)) (t .at)) → NumberIs (P .end) (content (dtypeOf (P .tree)) (now (rec .entry)) (c .at)) r) ⌝ }
+{
+    match t.byte(lay) {
+        Step::Byte(code, e) => {
+            let w = number_bytes(code);
+            if w == 0 {
+                return NumberRead::Other;
+            }
+            match pass(rec, c, w as usize) {
+                Moved::To(d) => NumberRead::Is(ValueRead::To(e, d)),
+                Moved::Refused(k) => NumberRead::Is(ValueRead::Refused(k)),
+            }
+        }
+        Step::Refused(_) => NumberRead::Other,
+    }
 }
 
 pub fn read_value(lay: &[u8], v: Version, depth: u8, t: Cursor, rec: &[u8], c: Cursor) -> ValueRead
@@ -53,6 +82,10 @@ pub fn read_content(
     requires { ⌜ TypeAt v depth (now lay) (t .at) ⌝ }
     ensures { λ r. ⌜ ((P : TypeAt v depth (now (lay .entry)) (t .at)) → r ≡ valueMoved (P .end) (content (dtypeOf (P .tree)) (now (rec .entry)) (c .at))) ⌝ }
 {
+    match read_number(lay, t, rec, c) {
+        NumberRead::Is(r) => return r,
+        NumberRead::Other => {}
+    }
     match t.head(lay) {
         Head::Leaf(l, e) => {
             let leaf = l.leaf;

@@ -1,6 +1,7 @@
 -- The proof of the cycle of calls {read_content, read_element, read_elements, read_fields, read_list, read_value}. The measure is 4 for each level
 -- left, and 0, 1, 2, 2, 3 and 1 more. `Fielding` and `Repeating` hold at the heads of the loops; each way has its law in `Walk`. Assumes nothing.
 use Rattle.values.proofs.Walk.{content-leaf, content-no-leaf, content-struct, content-list, content-array, element-null, element-to, element-stopped, element-refused, repeating-none, repeating-stopped, repeating-more, repeating-all, fielding-none, fielding-first, fielding-refused, fielding-labelled, fielding-more, fielding-all, list-counted, list-uncounted, value-null, value-present, value-refused, Fielding, Repeating}
+use Rattle.values.proofs.Numbers.{number-read}
 use Rattle.values.specs.Reading.{value}
 use Rattle.layout.proofs.View.{deep, struct-at, list-at, array-at, list-labelled, array-labelled, never-headless}
 use Rattle.layout.specs.Tree.{dtypeOf}
@@ -34,6 +35,7 @@ use Rattle.layout.proofs.cursor.Cursor.short.Reads as short-reads
 use Rattle.values.proofs.leaf.read_leaf.Reads as read-leaf-reads
 use Rattle.values.proofs.leaf.read_presence.Reads as read-presence-reads
 use Rattle.values.proofs.read.pass_type.Reads as pass-type-reads
+use Rattle.values.proofs.read.read_number.Reads as read-number-reads
 use Rattle.values.proofs.read.+read_content+read_element+read_elements+read_fields+read_list+read_value.{
   statement,
 }
@@ -119,7 +121,7 @@ read-value-below t =
     and 2 read-value-kinds.ps (falls 2 read-value-kinds.ps _<_ μ-read-value t) read-value.Pre
 
 abbrev read-content-claims : ℕ → read-content-lts.Claims
-read-content-claims t = (head-reads.Asked, head-reads.Learnt, read-leaf-reads.Asked, read-leaf-reads.Learnt, read-fields-below t, read-fields.Post, element-label-reads.Asked, element-label-reads.Learnt, read-list-below t, read-list.Post, read-elements-below t, read-elements.Post)
+read-content-claims t = (read-number-reads.Asked, read-number-reads.Learnt, head-reads.Asked, head-reads.Learnt, read-leaf-reads.Asked, read-leaf-reads.Learnt, read-fields-below t, read-fields.Post, element-label-reads.Asked, element-label-reads.Learnt, read-list-below t, read-list.Post, read-elements-below t, read-elements.Post)
 
 abbrev read-element-claims : ℕ → read-element-lts.Claims
 read-element-claims t = (read-presence-reads.Asked, read-presence-reads.Learnt, read-content-below t, read-content.Post)
@@ -162,29 +164,33 @@ pub +read-content+read-element+read-elements+read-fields+read-list+read-value-sp
     read-content.Post
     (λ c κs. search needs)
     (λ c. search needs)
+    (λ c. λ P. number-read _ _ _ (c .before .before .before .read-number .ensures _ _ P) (c .before .r .given .1))
+    (λ c. search needs)
+    (λ c κs. search needs)
+    (λ c. search needs)
     (λ c κs. search needs)
     (λ c. search needs)
     (λ c. search needs)
     (λ c. search needs)
-    (λ c. let z = deep (c .before .before .before .before .before .before .pre .1) in omega arith)
-    (λ c κs. let P = c .before .before .before .before .before .before .pre .1 in
+    (λ c. let z = deep (c .before .before .before .before .before .before .before .before .before .pre .1) in omega arith)
+    (λ c κs. let P = c .before .before .before .before .before .before .before .before .before .pre .1 in
     let z = deep P in
-    (omega (arith, c .before .before .before .before .before .before .pre .0), struct-at P (c .before .before .before .head .ensures .0) (c .before .n .given .1) .inner))
+    (omega (arith, c .before .before .before .before .before .before .before .before .before .pre .0), struct-at P (c .before .before .before .head .ensures .0) (c .before .n .given .1) .inner))
     (λ c. search needs)
     (λ c κs. search needs)
     (λ c. search needs)
-    (λ c. let z = deep (c .before .before .before .before .before .before .before .before .before .before .pre .1) in omega arith)
-    (λ c κs. let P = c .before .before .before .before .before .before .before .before .before .before .pre .1 in
+    (λ c. let z = deep (c .before .before .before .before .before .before .before .before .before .before .before .before .before .pre .1) in omega arith)
+    (λ c κs. let P = c .before .before .before .before .before .before .before .before .before .before .before .before .before .pre .1 in
     let z = deep P in
-    (omega (arith, c .before .before .before .before .before .before .before .before .before .before .pre .0), list-at P (c .before .before .before .before .before .before .before .head .ensures .0) (c .before .before .before .element-label .ensures .0) (c .before .before .before .before .before .e .given .1) (c .before .f .given .1) .inner))
+    (omega (arith, c .before .before .before .before .before .before .before .before .before .before .before .before .before .pre .0), list-at P (c .before .before .before .before .before .before .before .head .ensures .0) (c .before .before .before .element-label .ensures .0) (c .before .before .before .before .before .e .given .1) (c .before .f .given .1) .inner))
     (λ c. search needs)
     (λ c. search needs)
     (λ c κs. search needs)
     (λ c. search needs)
-    (λ c. let z = deep (c .before .before .before .before .before .before .before .before .before .before .pre .1) in omega arith)
-    (λ c κs. let P = c .before .before .before .before .before .before .before .before .before .before .pre .1 in
+    (λ c. let z = deep (c .before .before .before .before .before .before .before .before .before .before .before .before .before .pre .1) in omega arith)
+    (λ c κs. let P = c .before .before .before .before .before .before .before .before .before .before .before .before .before .pre .1 in
     let z = deep P in
-    (omega (arith, c .before .before .before .before .before .before .before .before .before .before .pre .0), array-at P (c .before .before .before .before .before .before .before .head .ensures .0) (c .before .before .before .element-label2 .ensures .0) (c .before .before .before .before .before .w .given .1) (c .before .f2 .given .1) .inner))
+    (omega (arith, c .before .before .before .before .before .before .before .before .before .before .before .before .before .pre .0), array-at P (c .before .before .before .before .before .before .before .head .ensures .0) (c .before .before .before .element-label2 .ensures .0) (c .before .before .before .before .before .w .given .1) (c .before .f2 .given .1) .inner))
     (λ c. search needs)
     (λ c. search needs)
     (λ c. λ P. content-leaf P _ _ (c .before .before .before .before .before .before .before .head .ensures .0) (c .before .before .before .before .before .l .given .1) (c .before .before .before .read-leaf .ensures) (c .before .d .given .1))
