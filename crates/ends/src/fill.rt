@@ -2,6 +2,8 @@
 ghost use mathlib.Core.Path.{_≡_};
 ghost use Rattle.layout.specs.Stands.{TypeAt, ColumnsAt};
 ghost use Rattle.ends.specs.Ends.{Ends};
+use crate::plain::plain_end;
+use crate::table::EndFound;
 use crate::table::keep_end;
 use layout::columns::Labelled;
 use layout::cursor::Cursor;
@@ -15,6 +17,10 @@ fn fill_type(s: &[u8], v: Version, depth: u8, c: Cursor, ends: &mut [u16]) -> Cu
     ensures { λ r. ⌜ ((P : TypeAt v depth (now (s .entry)) (c .at)) → r .at ≡ P .end) ⌝ }
     ensures { λ _. ⌜ Ends v (now (s .entry)) (now (ends .exit)) ⌝ }
 {
+    match plain_end(s, c) {
+        EndFound::At(end) => return Cursor { at: end },
+        EndFound::Unknown => {}
+    }
     match c.head(s) {
         Head::Leaf(_, d) => d,
         Head::Struct(n, d) => {

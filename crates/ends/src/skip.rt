@@ -2,6 +2,7 @@
 ghost use mathlib.Core.Path.{_≡_};
 ghost use Rattle.layout.specs.Stands.{TypeAt, ColumnsAt};
 ghost use Rattle.ends.specs.Ends.{Ends};
+use crate::plain::plain_end;
 use crate::table::EndFound;
 use crate::table::find_end;
 use layout::columns::Labelled;
@@ -28,6 +29,10 @@ pub fn skip_type_by(s: &[u8], v: Version, depth: u8, c: Cursor, ends: &[u16]) ->
     requires { ⌜ Ends v (now s) (now ends) ⌝ }
     ensures { λ r. ⌜ ((P : TypeAt v depth (now (s .entry)) (c .at)) → r .at ≡ P .end) ⌝ }
 {
+    match plain_end(s, c) {
+        EndFound::At(end) => return Cursor { at: end },
+        EndFound::Unknown => {}
+    }
     match c.head(s) {
         Head::Leaf(_, d) => d,
         Head::Struct(_, _) => skip_struct(s, v, depth, c, ends),
