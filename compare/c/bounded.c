@@ -1,7 +1,8 @@
 /* Plans that ask for outputs far past any limit, some 10^33 bytes: nested list mappings over constant lists of hundreds of elements. A run must answer 44 or 45 at once. Tried are plans
  * with and without an overflow inside, with an empty list on the way (so that what is inside is never run), and driven by an incoming list. Then plans that no builder writes and that
  * cost the check the most of those tried: struct mappings one over another, each of which turns the fields of the one before round, at the top, and inside a list mapping's element, where
- * the general way decides. Then builds by number of columns that are all missing, with a table of as many entries as fit, of which none is theirs; last the plans of slow_checks.h.
+ * the general way decides. Then builds by number of columns that are all missing, with a table of as many entries as fit, of which none is theirs; the plans of slow_checks.h; and values
+ * that pass over a long type for each of their bytes: empty arrays of a struct of lists, taken whole, and in front of a column that thousands of selectors take.
  * The exit status is 1 where an answer or an output is not the one due, or where it takes more than a second; more than five for the mappings. */
 #define _DEFAULT_SOURCE
 #include "selector.h"
@@ -11,7 +12,7 @@
 #include <string.h>
 #include <time.h>
 
-enum { LEVELS = 14, ELEMENTS = 300, FIELDS = 300, MISSING = 600 };
+enum { LEVELS = 14, ELEMENTS = 300, FIELDS = 300, MISSING = 600, LISTS = 1160, SELECTORS = 2700 };
 
 typedef struct {
     uint8_t bytes[SELECTOR_PLAN_MAX];
@@ -155,6 +156,59 @@ static void turning_of(text *t, int listed, int mappings, int fields) {
     }
 }
 
+/* A list of arrays of width 0, whose element is a struct of lists in lists. */
+static void empty_arrays(text *t) {
+    put(t, 0x1413, 2);
+    put(t, 0, 4);
+    put(t, 18, 1);
+    put(t, LISTS, 2);
+    for (int i = 0; i < LISTS; i++) {
+        put(t, 0, 1);
+        for (int k = 0; k < 12; k++)
+            put(t, 19, 1);
+        put(t, 2, 1);
+    }
+}
+
+/* One column of them, and behind it an int8 where it is asked for. */
+static void arrays_of(text *t, int columns) {
+    mark(t, "LAY", (uint32_t)columns);
+    put(t, 0x6801, 2);
+    empty_arrays(t);
+    if (columns == 2)
+        put(t, 0x0200, 2);
+}
+
+/* So many arrays, each a byte, and behind them an int8 where it is asked for. */
+static void arrays_record(text *t, int elements, int columns) {
+    t->length = 0;
+    put(t, 1, 1);
+    put(t, (uint64_t)elements, 2);
+    for (int i = 0; i < elements; i++)
+        put(t, 1, 1);
+    if (columns == 2)
+        put(t, 0x0701, 2);
+}
+
+static void positions_of(text *t, int count, int position) {
+    mark(t, "PLN", (uint32_t)count);
+    for (int i = 0; i < count; i++) {
+        put(t, 0, 1);
+        put(t, (uint64_t)position, 2);
+    }
+}
+
+/* Columns of int8 by number, without names. */
+static void numbered_of(text *t, int count) {
+    mark(t, "LAY", (uint32_t)count);
+    t->bytes[3] = 2;
+    for (int i = 0; i < count; i++) {
+        put(t, 0, 1);
+        put(t, (uint64_t)i, 4);
+        put(t, 2, 1);
+    }
+}
+
 static text incoming, target, plan, record, due;
 static uint8_t output[SELECTOR_RECORD_MAX];
 static int failed;
@@ -265,5 +319,17 @@ int main(void) {
     expect_missing(1);
     expect_missing(2);
     slow_checks();
+    arrays_of(&incoming, 1);
+    arrays_of(&target, 1);
+    positions_of(&plan, 1, 0);
+    arrays_record(&record, SELECTOR_RECORD_MAX - 3, 1);
+    expect("a record of empty arrays of a struct of lists", 0);
+    if (memcmp(output, record.bytes, record.length) != 0)
+        failed = 1;
+    arrays_of(&incoming, 2);
+    numbered_of(&target, SELECTORS);
+    positions_of(&plan, SELECTORS, 1);
+    arrays_record(&record, 50, 2);
+    expect("2,700 selectors of the column behind 50 of them", 0);
     return failed;
 }

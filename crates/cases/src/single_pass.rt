@@ -34,14 +34,31 @@ pub fn checks(incoming: &[u8], target: &[u8], plan: &[u8]) -> bool {
 
 // Whether `composed` writes the output of a plan for a record.
 pub fn writes(incoming: &[u8], plan: &[u8], rec: &[u8], output: &mut [u8]) -> bool {
+    let none: [u16; 1] = [0; 1];
     match read_layout(incoming) {
         LayoutRead::Read {
             version: v,
             count: n,
             columns: _,
         } => match read_plan(plan) {
-            PlanRead::Read(count, _) => match read_record(incoming, v, n, Cursor { at: 7 }, rec) {
-                RecordRead::Fits => match write_direct(incoming, v, n, rec, plan, count, output) {
+            PlanRead::Read(count, _) => match read_record(
+                incoming,
+                v,
+                n,
+                Cursor { at: 7 },
+                rec,
+                &none[..0],
+            ) {
+                RecordRead::Fits => match write_direct(
+                    incoming,
+                    v,
+                    n,
+                    rec,
+                    plan,
+                    count,
+                    output,
+                    &none[..0],
+                ) {
                     Direct::Is(_) => true,
                     Direct::Unknown => false,
                 },

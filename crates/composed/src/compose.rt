@@ -3,6 +3,7 @@ ghost use mathlib.Core.Path.{_≡_};
 ghost use mathlib.Core.Bool.{true};
 ghost use Prim.Native.Nat.{ℕ, _≤_, _<_};
 ghost use lib.ListN.{length};
+ghost use Rattle.ends.specs.Ends.{Ends};
 ghost use Rattle.layout.specs.Tree.{Fields, fieldsOf};
 ghost use Rattle.layout.specs.declared.version.Version.{Version as VersionOf};
 ghost use Rattle.values.specs.Value.{Values};
@@ -52,7 +53,9 @@ fn compose_leaf(
     c: Cursor,
     form: &mut [u8],
     value: &mut [u8],
+    ends: &[u16],
 ) -> bool
+    requires { ⌜ Ends v (now lay) (now ends) ⌝ }
     requires { ⌜ RowAt v (now lay) n (t .at) (now rec) (d .at) ⌝ }
     requires { ⌜ IndexedRow v (now lay) n (t .at) (now rec) (d .at) stride (now types) (now values) × (0 < stride) ⌝ }
     requires { ⌜ SelectorAt (now plan) (c .at) ⌝ }
@@ -64,9 +67,9 @@ fn compose_leaf(
     match infer_leaf(lay, v, columns, types, stride, plan, c, 16, form, 0) {
         Inferred::Is(_) => {
             let p = taken_position(plan, c);
-            let node = indexed_value(lay, v, n, t, rec, d, types, values, stride, p);
+            let node = indexed_value(lay, v, n, t, rec, d, types, values, stride, p, ends);
             let len = value.len();
-            stored_within(transfer(lay, v, rec, node, plan, c, 1, value, 0), len)
+            stored_within(transfer(lay, v, rec, node, plan, c, 1, value, 0, ends), len)
         }
         Inferred::Unknown => false,
     }
@@ -87,13 +90,25 @@ fn compose_over(
     requires { ⌜ (length (now form) ≤ 16384) × (length (now value) ≤ 16384) ⌝ }
     ensures { λ r. ⌜ (r ≡ true → (Γ : Fields) (ρ : Values) (P : SelectorAt (now (plan .entry)) (c .at)) → FitsAllOver Γ ρ → Composed Γ ρ (inputOf (P .tree)) (now (lay .entry)) (now (rec .entry)) → Composed Γ ρ (P .tree) (now (form .exit)) (now (value .exit))) ⌝ }
 {
+    let none: [u16; 1] = [0; 1];
     let start = Cursor { at: 0 };
     match infer_over(lay, Version::ByName, start, plan, c, 16, form, 0) {
         Inferred::Is(_) => {
             let node = NodeAt::At(start, start);
             let len = value.len();
             stored_within(
-                transfer_over(lay, Version::ByName, rec, node, plan, c, 64, value, 0),
+                transfer_over(
+                    lay,
+                    Version::ByName,
+                    rec,
+                    node,
+                    plan,
+                    c,
+                    64,
+                    value,
+                    0,
+                    &none[..0],
+                ),
                 len,
             )
         }
@@ -119,7 +134,9 @@ pub fn compose_value(
     value: &mut [u8],
     other_form: &mut [u8],
     other_value: &mut [u8],
+    ends: &[u16],
 ) -> bool
+    requires { ⌜ Ends v (now lay) (now ends) ⌝ }
     requires { ⌜ RowAt v (now lay) n (t .at) (now rec) (d .at) ⌝ }
     requires { ⌜ IndexedRow v (now lay) n (t .at) (now rec) (d .at) stride (now types) (now values) × (0 < stride) ⌝ }
     requires { ⌜ SelectorAt (now plan) (c .at) ⌝ }
@@ -146,6 +163,7 @@ pub fn compose_value(
             c,
             form,
             value,
+            ends,
         ),
         Input::At(input) => {
             if !compose_value(
@@ -165,6 +183,7 @@ pub fn compose_value(
                 other_value,
                 form,
                 value,
+                ends,
             ) {
                 return false;
             }

@@ -1,6 +1,7 @@
 // What top selectors give over a record.
 ghost use Prim.Native.Nat.{_≤_, _<_};
 ghost use lib.ListN.{length};
+ghost use Rattle.ends.specs.Ends.{Ends};
 ghost use Rattle.values.specs.Encode.{encodeValue, encodeValues};
 ghost use Rattle.plan.specs.Run.{eval, evals, clean, cleanAll};
 ghost use Rattle.walk.specs.Stands.{SelectorAt, SelectorsAt};
@@ -41,13 +42,16 @@ fn over_large(
     input: Cursor,
     out: &mut [u8],
     k: usize,
+    ends: &[u16],
 ) -> Reached
+    requires { ⌜ Ends v (now lay) (now ends) ⌝ }
     requires { ⌜ RowAt v (now lay) n (t .at) (now rec) (d .at) ⌝ }
     requires { ⌜ IndexedRow v (now lay) n (t .at) (now rec) (d .at) stride (now types) (now values) × (0 < stride) ⌝ }
     requires { ⌜ ((P : SelectorAt (now plan) (c .at)) × InputAt (now plan) (c .at) P (input .at)) ⌝ }
     requires { ⌜ (length (now lay) ≤ 65536) × (length (now rec) ≤ 65536) × (length (now plan) ≤ 65536) × (k ≤ 16384) ⌝ }
     ensures { λ r. ⌜ ((X : RowAt v (now (lay .entry)) n (t .at) (now (rec .entry)) (d .at)) (P : SelectorAt (now (plan .entry)) (c .at)) → InputAt (now (plan .entry)) (c .at) P (input .at) → ReachedIs (clean (eval (X .values .values) (P .tree))) (encodeValue (eval (X .values .values) (P .tree))) (P .end) (now (out .entry)) k r (now (out .exit))) ⌝ }
 {
+    let none: [u16; 1] = [0; 1];
     let mut form: [u8; 16384] = [0; 16384];
     let mut value: [u8; 16384] = [0; 16384];
     let mut other_form: [u8; 16384] = [0; 16384];
@@ -69,12 +73,24 @@ fn over_large(
         &mut value,
         &mut other_form,
         &mut other_value,
+        ends,
     ) {
         return Reached::Unknown;
     }
     let start = Cursor { at: 0 };
     let node = NodeAt::At(start, start);
-    transfer_over(&form, Version::ByName, &value, node, plan, c, 64, out, k)
+    transfer_over(
+        &form,
+        Version::ByName,
+        &value,
+        node,
+        plan,
+        c,
+        64,
+        out,
+        k,
+        &none[..0],
+    )
 }
 
 // The transform at `c` of the transform at `input`: with buffers that are cleared in no time, where these do.
@@ -93,13 +109,16 @@ fn over_input(
     input: Cursor,
     out: &mut [u8],
     k: usize,
+    ends: &[u16],
 ) -> Reached
+    requires { ⌜ Ends v (now lay) (now ends) ⌝ }
     requires { ⌜ RowAt v (now lay) n (t .at) (now rec) (d .at) ⌝ }
     requires { ⌜ IndexedRow v (now lay) n (t .at) (now rec) (d .at) stride (now types) (now values) × (0 < stride) ⌝ }
     requires { ⌜ ((P : SelectorAt (now plan) (c .at)) × InputAt (now plan) (c .at) P (input .at)) ⌝ }
     requires { ⌜ (length (now lay) ≤ 65536) × (length (now rec) ≤ 65536) × (length (now plan) ≤ 65536) × (k ≤ 16384) ⌝ }
     ensures { λ r. ⌜ ((X : RowAt v (now (lay .entry)) n (t .at) (now (rec .entry)) (d .at)) (P : SelectorAt (now (plan .entry)) (c .at)) → InputAt (now (plan .entry)) (c .at) P (input .at) → ReachedIs (clean (eval (X .values .values) (P .tree))) (encodeValue (eval (X .values .values) (P .tree))) (P .end) (now (out .entry)) k r (now (out .exit))) ⌝ }
 {
+    let none: [u16; 1] = [0; 1];
     let mut form: [u8; 256] = [0; 256];
     let mut value: [u8; 256] = [0; 256];
     let mut other_form: [u8; 256] = [0; 256];
@@ -121,6 +140,7 @@ fn over_input(
         &mut value,
         &mut other_form,
         &mut other_value,
+        ends,
     ) {
         return over_large(
             lay,
@@ -137,11 +157,23 @@ fn over_input(
             input,
             out,
             k,
+            ends,
         );
     }
     let start = Cursor { at: 0 };
     let node = NodeAt::At(start, start);
-    transfer_over(&form, Version::ByName, &value, node, plan, c, 64, out, k)
+    transfer_over(
+        &form,
+        Version::ByName,
+        &value,
+        node,
+        plan,
+        c,
+        64,
+        out,
+        k,
+        &none[..0],
+    )
 }
 
 // Whether the selector at `c` is made of casts and renames of a position.
@@ -195,7 +227,9 @@ fn transfer_top(
     c: Cursor,
     out: &mut [u8],
     k: usize,
+    ends: &[u16],
 ) -> Reached
+    requires { ⌜ Ends v (now lay) (now ends) ⌝ }
     requires { ⌜ RowAt v (now lay) n (t .at) (now rec) (d .at) ⌝ }
     requires { ⌜ IndexedRow v (now lay) n (t .at) (now rec) (d .at) stride (now types) (now values) × (0 < stride) ⌝ }
     requires { ⌜ SelectorAt (now plan) (c .at) ⌝ }
@@ -204,8 +238,8 @@ fn transfer_top(
 {
     if is_direct(plan, c) {
         let p = taken_position(plan, c);
-        let node = indexed_value(lay, v, n, t, rec, d, types, values, stride, p);
-        return transfer(lay, v, rec, node, plan, c, 64, out, k);
+        let node = indexed_value(lay, v, n, t, rec, d, types, values, stride, p, ends);
+        return transfer(lay, v, rec, node, plan, c, 64, out, k, ends);
     }
     if 16384 < k {
         return Reached::Unknown;
@@ -230,6 +264,7 @@ fn transfer_top(
             input,
             out,
             k,
+            ends,
         ),
     }
 }
@@ -250,7 +285,9 @@ pub fn transfer_tops(
     first: Cursor,
     out: &mut [u8],
     k: usize,
+    ends: &[u16],
 ) -> Reached
+    requires { ⌜ Ends v (now lay) (now ends) ⌝ }
     requires { ⌜ RowAt v (now lay) n (t .at) (now rec) (d .at) ⌝ }
     requires { ⌜ IndexedRow v (now lay) n (t .at) (now rec) (d .at) stride (now types) (now values) × (0 < stride) ⌝ }
     requires { ⌜ SelectorsAt (now plan) count (first .at) ⌝ }
@@ -276,6 +313,7 @@ pub fn transfer_tops(
             c,
             out,
             at,
+            ends,
         ) {
             Reached::To(e, r) => {
                 from = e.at;

@@ -2,6 +2,7 @@
 ghost use mathlib.Core.Bool.{Bool};
 ghost use Prim.Native.Nat.{ℕ, _≤_};
 ghost use lib.ListN.{length};
+ghost use Rattle.ends.specs.Ends.{Ends};
 ghost use Rattle.layout.specs.Bytes.{Bytes};
 ghost use Rattle.values.specs.Encode.{encodeValues};
 ghost use Rattle.plan.specs.Run.{evals, cleanAll};
@@ -10,6 +11,7 @@ ghost use Rattle.nodes.specs.Raw.{RowAt};
 ghost use Rattle.transfer.specs.Reaching.{ReachedIs};
 ghost use Rattle.composed.specs.Transferring.{TransferredIs};
 use crate::top::transfer_tops;
+use index::columns::few;
 use index::columns::stride_of;
 use index::row::index_row;
 use layout::cursor::Cursor;
@@ -22,7 +24,7 @@ pub enum Transferred {
     Unknown,
 }
 
-// Over few columns, which are passed over.
+// Few selectors over few columns, which are passed over.
 fn transfer_few(
     lay: &[u8],
     v: Version,
@@ -31,7 +33,9 @@ fn transfer_few(
     plan: &[u8],
     count: u16,
     out: &mut [u8],
+    ends: &[u16],
 ) -> Reached
+    requires { ⌜ Ends v (now lay) (now ends) ⌝ }
     requires { ⌜ RowAt v (now lay) n 7 (now rec) 0 ⌝ }
     requires { ⌜ SelectorsAt (now plan) count 7 ⌝ }
     requires { ⌜ (length (now rec) ≤ 65536) × (length (now plan) ≤ 65536) ⌝ }
@@ -56,10 +60,11 @@ fn transfer_few(
         first,
         out,
         0,
+        ends,
     )
 }
 
-// Over many columns, with tables of where they and their values stand.
+// Many selectors or columns, with tables of where the columns and their values stand.
 fn transfer_many(
     lay: &[u8],
     v: Version,
@@ -68,7 +73,9 @@ fn transfer_many(
     plan: &[u8],
     count: u16,
     out: &mut [u8],
+    ends: &[u16],
 ) -> Reached
+    requires { ⌜ Ends v (now lay) (now ends) ⌝ }
     requires { ⌜ RowAt v (now lay) n 7 (now rec) 0 ⌝ }
     requires { ⌜ SelectorsAt (now plan) count 7 ⌝ }
     requires { ⌜ (length (now rec) ≤ 65536) × (length (now plan) ≤ 65536) ⌝ }
@@ -89,6 +96,7 @@ fn transfer_many(
         stride,
         &mut types,
         &mut values,
+        ends,
     );
     transfer_tops(
         lay,
@@ -105,6 +113,7 @@ fn transfer_many(
         first,
         out,
         0,
+        ends,
     )
 }
 
@@ -127,14 +136,16 @@ pub fn transfer_record(
     plan: &[u8],
     count: u16,
     out: &mut [u8],
+    ends: &[u16],
 ) -> Transferred
+    requires { ⌜ Ends v (now lay) (now ends) ⌝ }
     requires { ⌜ RowAt v (now lay) n 7 (now rec) 0 ⌝ }
     requires { ⌜ SelectorsAt (now plan) count 7 ⌝ }
     requires { ⌜ (length (now rec) ≤ 65536) × (length (now plan) ≤ 65536) ⌝ }
     ensures { λ r. ⌜ ((X : RowAt v (now (lay .entry)) n 7 (now (rec .entry)) 0) (S : SelectorsAt (now (plan .entry)) count 7) → TransferredIs (cleanAll (evals (X .values .values) (S .trees))) (encodeValues (evals (X .values .values) (S .trees))) (now (out .entry)) r (now (out .exit))) ⌝ }
 {
-    if n <= 8 {
-        return output_of(transfer_few(lay, v, n, rec, plan, count, out));
+    if few(n, count) {
+        return output_of(transfer_few(lay, v, n, rec, plan, count, out, ends));
     }
-    output_of(transfer_many(lay, v, n, rec, plan, count, out))
+    output_of(transfer_many(lay, v, n, rec, plan, count, out, ends))
 }

@@ -173,7 +173,8 @@ fn put_fields(
 fn put_read(lay: &[u8], v: Version, n: u16, columns: Cursor, rec: &[u8])
     requires { ⌜ ColumnsAt v 16 (now lay) n (columns .at) ⌝ }
 {
-    match read_record(lay, v, n, columns, rec) {
+    let none: [u16; 1] = [0; 1];
+    match read_record(lay, v, n, columns, rec, &none[..0]) {
         RecordRead::Fits => {
             put(b"record, ");
             put_count(n as u64, b"column");

@@ -29,6 +29,14 @@ pub fn field_stride(n: u16) -> u16
     n / 64 + 1
 }
 
+// Whether no table is worth its time: there are few columns, and few selectors that take them.
+pub fn few(n: u16, count: u16) -> bool {
+    if 8 < n {
+        return false;
+    }
+    count <= 8
+}
+
 // Fills the table and answers how many entries it got. An offset that an entry can't hold ends the table: lookups then pass over the
 // columns themselves.
 pub fn index_columns(

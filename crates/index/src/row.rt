@@ -3,6 +3,7 @@ ghost use mathlib.Core.Bool.{true};
 ghost use mathlib.Core.Path.{_≡_};
 ghost use Prim.Native.Nat.{_≤_, _<_};
 ghost use lib.ListN.{length, take};
+ghost use Rattle.ends.specs.Ends.{Ends};
 ghost use Rattle.plan.specs.Run.{valueAt};
 ghost use Rattle.nodes.specs.Raw.{RowAt, NodeOf};
 ghost use Rattle.index.specs.Indexed.{IndexedRow};
@@ -44,8 +45,10 @@ pub fn index_row(
     stride: u16,
     types: &mut [u16],
     values: &mut [u16],
+    ends: &[u16],
 ) -> usize
     requires { ⌜ RowAt v (now lay) n (columns .at) (now rec) (c .at) ⌝ }
+    requires { ⌜ Ends v (now lay) (now ends) ⌝ }
     ensures { λ r. ⌜ r ≤ length (now (types .exit)) ⌝ }
     ensures { λ r. ⌜ r ≤ length (now (values .exit)) ⌝ }
     ensures { λ r. ⌜ IndexedRow v (now (lay .entry)) n (columns .at) (now (rec .entry)) (c .at) stride (take r (now (types .exit))) (take r (now (values .exit))) ⌝ }
@@ -63,7 +66,7 @@ pub fn index_row(
         }
         let t = Cursor { at };
         let from = Cursor { at: to };
-        match read_fields(lay, v, 16, stride, t, rec, from) {
+        match read_fields(lay, v, 16, stride, t, rec, from, ends) {
             ValueRead::To(d, e) => {
                 at = d.at;
                 to = e.at;
@@ -87,10 +90,12 @@ pub fn indexed_value(
     values: &[u16],
     stride: u16,
     k: u16,
+    ends: &[u16],
 ) -> NodeAt
     requires { ⌜ RowAt v (now lay) n (columns .at) (now rec) (c .at) ⌝ }
     requires { ⌜ IndexedRow v (now lay) n (columns .at) (now rec) (c .at) stride (now types) (now values) ⌝ }
     requires { ⌜ 0 < stride ⌝ }
+    requires { ⌜ Ends v (now lay) (now ends) ⌝ }
     ensures { λ r. ⌜ ((X : RowAt v (now (lay .entry)) n (columns .at) (now (rec .entry)) (c .at)) → NodeOf v (now (lay .entry)) (now (rec .entry)) (valueAt (X .values .values) k) r) ⌝ }
 {
     let q = k / stride;
@@ -100,8 +105,8 @@ pub fn indexed_value(
         let d = Cursor {
             at: wide(values[j]),
         };
-        field_at(lay, v, n - q * stride, t, rec, d, k % stride)
+        field_at(lay, v, n - q * stride, t, rec, d, k % stride, ends)
     } else {
-        field_at(lay, v, n, columns, rec, c, k)
+        field_at(lay, v, n, columns, rec, c, k, ends)
     }
 }

@@ -21,6 +21,7 @@ use direct::place::same_name;
 use direct::scope::Scope;
 use forms::compare::Same;
 use forms::compare::same_type;
+use index::columns::few;
 use index::columns::index_columns;
 use index::columns::stride_of;
 use layout::bytes::Span;
@@ -245,7 +246,7 @@ fn fit_tops(
     Same::To(Cursor { at }, Cursor { at: bt })
 }
 
-// Over few columns, which are passed over.
+// Few selectors over few columns, which are passed over.
 fn fits_few(
     incoming: &[u8],
     v: Version,
@@ -283,7 +284,7 @@ fn fits_few(
     }
 }
 
-// Over many columns, with a table of where they stand.
+// Many selectors or columns, with a table of where the columns stand.
 fn fits_many(
     incoming: &[u8],
     v: Version,
@@ -352,7 +353,7 @@ pub fn fits_target(
     if 65536 < plan.len() {
         return false;
     }
-    if n <= 8 {
+    if few(n, count) {
         return fits_few(incoming, v, n, plan, target, vt, m);
     }
     fits_many(incoming, v, n, plan, target, vt, m)

@@ -3,6 +3,7 @@ ghost use mathlib.Core.Path.{_≡_};
 ghost use Prim.Native.Nat.{_≤_};
 ghost use lib.ListN.{length};
 ghost use lib.Seq.{slice};
+ghost use Rattle.ends.specs.Ends.{Ends};
 ghost use Rattle.plan.specs.Run.{valueAt};
 ghost use Rattle.walk.specs.Values.{valueNode};
 ghost use Rattle.nodes.specs.Raw.{RawAt, RowAt, ElementsAt, ListOf, PresentAt, NodeOf, partAt, partsOf};
@@ -38,14 +39,16 @@ pub fn field_at(
     rec: &[u8],
     c: Cursor,
     k: u16,
+    ends: &[u16],
 ) -> NodeAt
     requires { ⌜ RowAt v (now lay) n (columns .at) (now rec) (c .at) ⌝ }
+    requires { ⌜ Ends v (now lay) (now ends) ⌝ }
     ensures { λ r. ⌜ ((X : RowAt v (now (lay .entry)) n (columns .at) (now (rec .entry)) (c .at)) → NodeOf v (now (lay .entry)) (now (rec .entry)) (valueAt (X .values .values) k) r) ⌝ }
 {
     if n <= k {
         return NodeAt::Null;
     }
-    match read_fields(lay, v, 16, k, columns, rec, c) {
+    match read_fields(lay, v, 16, k, columns, rec, c, ends) {
         ValueRead::To(t, d) => match t.label(lay, v) {
             Labelled::Is(_, e) => NodeAt::At(e, d),
             Labelled::Refused(_) => NodeAt::Null,
@@ -55,45 +58,73 @@ pub fn field_at(
 }
 
 // Element `k` of `n`.
-fn element_at(lay: &[u8], v: Version, n: u32, t: Cursor, rec: &[u8], c: Cursor, k: u16) -> NodeAt
+fn element_at(
+    lay: &[u8],
+    v: Version,
+    n: u32,
+    t: Cursor,
+    rec: &[u8],
+    c: Cursor,
+    k: u16,
+    ends: &[u16],
+) -> NodeAt
     requires { ⌜ ElementsAt v (now lay) n (t .at) (now rec) (c .at) ⌝ }
+    requires { ⌜ Ends v (now lay) (now ends) ⌝ }
     ensures { λ r. ⌜ ((X : ElementsAt v (now (lay .entry)) n (t .at) (now (rec .entry)) (c .at)) → NodeOf v (now (lay .entry)) (now (rec .entry)) (valueAt (X .values .values) k) r) ⌝ }
 {
     let i = k as u32;
     if n <= i {
         return NodeAt::Null;
     }
-    match read_elements(lay, v, 16, i, t, rec, c) {
+    match read_elements(lay, v, 16, i, t, rec, c, ends) {
         ValueRead::To(_, d) => NodeAt::At(t, d),
         ValueRead::Refused(_) => NodeAt::Null,
     }
 }
 
 // Element `k` of a list that is present, from its count on.
-fn list_element(lay: &[u8], v: Version, t: Cursor, rec: &[u8], c: Cursor, k: u16) -> NodeAt
+fn list_element(
+    lay: &[u8],
+    v: Version,
+    t: Cursor,
+    rec: &[u8],
+    c: Cursor,
+    k: u16,
+    ends: &[u16],
+) -> NodeAt
     requires { ⌜ ListOf v (now lay) (t .at) (now rec) (c .at) ⌝ }
+    requires { ⌜ Ends v (now lay) (now ends) ⌝ }
     ensures { λ r. ⌜ ((X : ListOf v (now (lay .entry)) (t .at) (now (rec .entry)) (c .at)) → NodeOf v (now (lay .entry)) (now (rec .entry)) (partAt (X .content .tree) k) r) ⌝ }
 {
     match c.short(rec) {
-        Short::Is(n, d) => element_at(lay, v, n as u32, t, rec, d, k),
+        Short::Is(n, d) => element_at(lay, v, n as u32, t, rec, d, k, ends),
         Short::Refused(_) => NodeAt::Null,
     }
 }
 
 // Field or element `k` of a value that is present.
-fn present_part(lay: &[u8], v: Version, t: Cursor, rec: &[u8], c: Cursor, k: u16) -> NodeAt
+fn present_part(
+    lay: &[u8],
+    v: Version,
+    t: Cursor,
+    rec: &[u8],
+    c: Cursor,
+    k: u16,
+    ends: &[u16],
+) -> NodeAt
     requires { ⌜ PresentAt v (now lay) (t .at) (now rec) (c .at) ⌝ }
+    requires { ⌜ Ends v (now lay) (now ends) ⌝ }
     ensures { λ r. ⌜ ((X : PresentAt v (now (lay .entry)) (t .at) (now (rec .entry)) (c .at)) → NodeOf v (now (lay .entry)) (now (rec .entry)) (partAt (X .content .tree) k) r) ⌝ }
 {
     match t.head(lay) {
         Head::Leaf(_, _) => NodeAt::Null,
-        Head::Struct(n, e) => field_at(lay, v, n, e, rec, c, k),
+        Head::Struct(n, e) => field_at(lay, v, n, e, rec, c, k, ends),
         Head::List(e) => match e.element_label(lay, v) {
-            Labelled::Is(_, f) => list_element(lay, v, f, rec, c, k),
+            Labelled::Is(_, f) => list_element(lay, v, f, rec, c, k, ends),
             Labelled::Refused(_) => NodeAt::Null,
         },
         Head::Array(w, e) => match e.element_label(lay, v) {
-            Labelled::Is(_, f) => element_at(lay, v, w, f, rec, c, k),
+            Labelled::Is(_, f) => element_at(lay, v, w, f, rec, c, k, ends),
             Labelled::Refused(_) => NodeAt::Null,
         },
         Head::Refused(_) => NodeAt::Null,
@@ -101,13 +132,14 @@ fn present_part(lay: &[u8], v: Version, t: Cursor, rec: &[u8], c: Cursor, k: u16
 }
 
 // Field or element `k` of a value; a null and a leaf have none.
-fn part_at(lay: &[u8], v: Version, t: Cursor, rec: &[u8], c: Cursor, k: u16) -> NodeAt
+fn part_at(lay: &[u8], v: Version, t: Cursor, rec: &[u8], c: Cursor, k: u16, ends: &[u16]) -> NodeAt
     requires { ⌜ RawAt v (now lay) (t .at) (now rec) (c .at) ⌝ }
+    requires { ⌜ Ends v (now lay) (now ends) ⌝ }
     ensures { λ r. ⌜ ((X : RawAt v (now (lay .entry)) (t .at) (now (rec .entry)) (c .at)) → NodeOf v (now (lay .entry)) (now (rec .entry)) (partAt (X .value .tree) k) r) ⌝ }
 {
     match read_presence(rec, c) {
         Presence::Null(_) => NodeAt::Null,
-        Presence::Present(d) => present_part(lay, v, t, rec, d, k),
+        Presence::Present(d) => present_part(lay, v, t, rec, d, k, ends),
         Presence::Refused(_) => NodeAt::Null,
     }
 }
@@ -122,9 +154,11 @@ pub fn value_at(
     path: [u16; 64],
     from: usize,
     len: usize,
+    ends: &[u16],
 ) -> NodeAt
     requires { ⌜ RawAt v (now lay) (t .at) (now rec) (c .at) ⌝ }
     requires { ⌜ (from ≤ len) × (len ≤ length path) ⌝ }
+    requires { ⌜ Ends v (now lay) (now ends) ⌝ }
     ensures { λ r. ⌜ ((X : RawAt v (now (lay .entry)) (t .at) (now (rec .entry)) (c .at)) → NodeOf v (now (lay .entry)) (now (rec .entry)) (valueNode (X .value .tree) (slice from len path)) r) ⌝ }
 {
     let mut at = t.at;
@@ -133,7 +167,7 @@ pub fn value_at(
     while i < len {
         let u = Cursor { at };
         let d = Cursor { at: to };
-        match part_at(lay, v, u, rec, d, path[i]) {
+        match part_at(lay, v, u, rec, d, path[i], ends) {
             NodeAt::At(e, f) => {
                 at = e.at;
                 to = f.at;
@@ -174,9 +208,18 @@ pub fn parts_at(lay: &[u8], v: Version, t: Cursor, rec: &[u8], c: Cursor) -> Par
 }
 
 // The value of a record's column `k`, of `n`.
-pub fn column_value(lay: &[u8], v: Version, n: u16, columns: Cursor, rec: &[u8], k: u16) -> NodeAt
+pub fn column_value(
+    lay: &[u8],
+    v: Version,
+    n: u16,
+    columns: Cursor,
+    rec: &[u8],
+    k: u16,
+    ends: &[u16],
+) -> NodeAt
     requires { ⌜ RowAt v (now lay) n (columns .at) (now rec) 0 ⌝ }
+    requires { ⌜ Ends v (now lay) (now ends) ⌝ }
     ensures { λ r. ⌜ ((X : RowAt v (now (lay .entry)) n (columns .at) (now (rec .entry)) 0) → NodeOf v (now (lay .entry)) (now (rec .entry)) (valueAt (X .values .values) k) r) ⌝ }
 {
-    field_at(lay, v, n, columns, rec, Cursor { at: 0 }, k)
+    field_at(lay, v, n, columns, rec, Cursor { at: 0 }, k, ends)
 }

@@ -3,6 +3,7 @@ ghost use mathlib.Core.Path.{_≡_};
 ghost use mathlib.Core.List.{List};
 ghost use Prim.Native.Nat.{_+_, _^_, _≤_, _<_};
 ghost use lib.ListN.{length};
+ghost use Rattle.ends.specs.Ends.{Ends};
 ghost use Rattle.layout.specs.declared.leaf.Leaf.{Leaf as LeafOf};
 ghost use Rattle.values.specs.Value.{countValues};
 ghost use Rattle.values.specs.Encode.{encodeValue, encodeValues};
@@ -44,17 +45,32 @@ fn emit_constant(
     casts: usize,
     out: &mut [u8],
     k: usize,
+    table: &[u16],
 ) -> usize
+    requires { ⌜ Ends v (now lay) (now table) ⌝ }
     requires { ⌜ ((X : RowAt v (now lay) n (columns .at) (now rec) 0) × (z : State) × WalkAt (now plan) at z × ConstantIs (X .values .values) (now plan) z (t .at) (c .at)) ⌝ }
     requires { ⌜ ((x : State) × WalkAt (now plan) w x) ⌝ }
     requires { ⌜ k ≤ 16384 ⌝ }
     ensures { λ r. ⌜ ((X : RowAt v (now (lay .entry)) n (columns .at) (now (rec .entry)) 0) (x z : State) (ks : List LeafOf) → WalkAt (now (plan .entry)) w x → WalkAt (now (plan .entry)) at z → ConstantIs (X .values .values) (now (plan .entry)) z (t .at) (c .at) → Passed x ks z → length ks ≡ casts → Stores (now (out .entry)) k (encodeValue (castAll ks (stateValue (X .values .values) z))) r (now (out .exit))) ⌝ }
 {
+    let none: [u16; 1] = [0; 1];
     if is_null(plan, c) {
         return put_null(out, k);
     }
-    if is_run(lay, v, n, columns, rec, plan, at) {
-        return put_raw(plan, Version::ByName, t, plan, c, plan, w, casts, out, k);
+    if is_run(lay, v, n, columns, rec, plan, at, table) {
+        return put_raw(
+            plan,
+            Version::ByName,
+            t,
+            plan,
+            c,
+            plan,
+            w,
+            casts,
+            out,
+            k,
+            &none[..0],
+        );
     }
     put_null(out, k)
 }
@@ -71,7 +87,9 @@ pub fn emit_parts(
     m: u32,
     out: &mut [u8],
     k: usize,
+    table: &[u16],
 ) -> usize
+    requires { ⌜ Ends v (now lay) (now table) ⌝ }
     requires { ⌜ ((A : EmitAt v (now lay) n (columns .at) (now rec) (now plan) w) × Mapped (A .state) × (m ≡ countValues (parts (stateValue (A .row .values .values) (A .state))))) ⌝ }
     requires { ⌜ k ≤ 16387 ⌝ }
     ensures { λ r. ⌜ ((A : EmitAt v (now (lay .entry)) n (columns .at) (now (rec .entry)) (now (plan .entry)) w) → Mapped (A .state) → m ≡ countValues (parts (stateValue (A .row .values .values) (A .state))) → Emits (now (out .entry)) k (encodeValues (parts (stateValue (A .row .values .values) (A .state)))) r (now (out .exit))) ⌝ }
@@ -83,7 +101,7 @@ pub fn emit_parts(
             return at;
         }
         let part = w.child(plan, i as u16);
-        at = emit(lay, v, n, columns, rec, plan, part, out, at);
+        at = emit(lay, v, n, columns, rec, plan, part, out, at, table);
         i += 1;
     }
     at
@@ -101,16 +119,18 @@ fn emit_mapping(
     counted: bool,
     out: &mut [u8],
     k: usize,
+    table: &[u16],
 ) -> usize
+    requires { ⌜ Ends v (now lay) (now table) ⌝ }
     requires { ⌜ ((A : EmitAt v (now lay) n (columns .at) (now rec) (now plan) w) × Mapped (A .state) × (isList (A .state .selector) ≡ counted)) ⌝ }
     requires { ⌜ k ≤ 16384 ⌝ }
     ensures { λ r. ⌜ ((A : EmitAt v (now (lay .entry)) n (columns .at) (now (rec .entry)) (now (plan .entry)) w) → Mapped (A .state) → isList (A .state .selector) ≡ counted → Emits (now (out .entry)) k (encodeValue (stateValue (A .row .values .values) (A .state))) r (now (out .exit))) ⌝ }
 {
-    match parts_count(lay, v, n, columns, rec, plan, w) {
+    match parts_count(lay, v, n, columns, rec, plan, w, table) {
         Parts::None => put_null(out, k),
         Parts::Some(m) => {
             let e = put_lead(counted, m, out, k);
-            emit_parts(lay, v, n, columns, rec, plan, w, m, out, e)
+            emit_parts(lay, v, n, columns, rec, plan, w, m, out, e, table)
         }
     }
 }
@@ -126,7 +146,9 @@ pub fn emit(
     w: Walk,
     out: &mut [u8],
     k: usize,
+    table: &[u16],
 ) -> usize
+    requires { ⌜ Ends v (now lay) (now table) ⌝ }
     requires { ⌜ EmitAt v (now lay) n (columns .at) (now rec) (now plan) w ⌝ }
     requires { ⌜ k ≤ 16384 ⌝ }
     ensures { λ r. ⌜ ((A : EmitAt v (now (lay .entry)) n (columns .at) (now (rec .entry)) (now (plan .entry)) w) → Emits (now (out .entry)) k (encodeValue (stateValue (A .row .values .values) (A .state))) r (now (out .exit))) ⌝ }
@@ -134,14 +156,29 @@ pub fn emit(
     let o = find_origin(plan, w);
     let at = o.walk;
     let casts = o.casts;
-    match source_at(lay, v, n, columns, rec, plan, at) {
+    match source_at(lay, v, n, columns, rec, plan, at, table) {
         Source::Null => put_null(out, k),
-        Source::Record(t, c) => put_raw(lay, v, t, rec, c, plan, w, casts, out, k),
+        Source::Record(t, c) => put_raw(lay, v, t, rec, c, plan, w, casts, out, k, table),
         Source::Constant(t, c) => {
-            emit_constant(lay, v, n, columns, rec, plan, at, t, c, w, casts, out, k)
+            emit_constant(
+                lay,
+                v,
+                n,
+                columns,
+                rec,
+                plan,
+                at,
+                t,
+                c,
+                w,
+                casts,
+                out,
+                k,
+                table,
+            )
         }
-        Source::Struct(_) => emit_mapping(lay, v, n, columns, rec, plan, at, false, out, k),
-        Source::List => emit_mapping(lay, v, n, columns, rec, plan, at, true, out, k),
-        Source::Array => emit_mapping(lay, v, n, columns, rec, plan, at, false, out, k),
+        Source::Struct(_) => emit_mapping(lay, v, n, columns, rec, plan, at, false, out, k, table),
+        Source::List => emit_mapping(lay, v, n, columns, rec, plan, at, true, out, k, table),
+        Source::Array => emit_mapping(lay, v, n, columns, rec, plan, at, false, out, k, table),
     }
 }

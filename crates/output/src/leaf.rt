@@ -3,6 +3,7 @@ ghost use mathlib.Core.Path.{_≡_};
 ghost use mathlib.Core.List.{List};
 ghost use Prim.Native.Nat.{_+_, _^_, _<_};
 ghost use lib.ListN.{length};
+ghost use Rattle.ends.specs.Ends.{Ends};
 ghost use Rattle.layout.specs.declared.leaf.Leaf.{Leaf as LeafOf};
 ghost use Rattle.values.specs.Value.{vnumber};
 ghost use Rattle.values.specs.Encode.{encodeValue};
@@ -84,17 +85,19 @@ pub fn put_raw(
     casts: usize,
     out: &mut [u8],
     k: usize,
+    table: &[u16],
 ) -> usize
+    requires { ⌜ Ends v (now lay) (now table) ⌝ }
     requires { ⌜ RawAt v (now lay) (t .at) (now rec) (c .at) ⌝ }
     requires { ⌜ ((x : State) × WalkAt (now plan) w x) ⌝ }
     requires { ⌜ k + 9 + length (now rec) < 2 ^ 64 ⌝ }
     ensures { λ r. ⌜ ((X : RawAt v (now (lay .entry)) (t .at) (now (rec .entry)) (c .at)) (x z : State) (ks : List LeafOf) → WalkAt (now (plan .entry)) w x → Passed x ks z → length ks ≡ casts → Stores (now (out .entry)) k (encodeValue (castAll ks (X .value .tree))) r (now (out .exit))) ⌝ }
 {
     if casts == 0 {
-        return copy_raw(lay, v, t, rec, c, out, k);
+        return copy_raw(lay, v, t, rec, c, out, k, table);
     }
     match leaf_at(lay, v, t, rec, c) {
         LeafValue::Number(kind, n) => put_cast(plan, w, casts, kind, n, out, k),
-        LeafValue::Other => copy_raw(lay, v, t, rec, c, out, k),
+        LeafValue::Other => copy_raw(lay, v, t, rec, c, out, k, table),
     }
 }

@@ -3,6 +3,7 @@ ghost use mathlib.Core.Path.{_≡_};
 ghost use mathlib.Core.List.{List, [], _∷_};
 ghost use Prim.Native.Nat.{ℕ, _+_, _-_, _<_, _≤_};
 ghost use lib.ListN.{getD};
+ghost use Rattle.ends.specs.Ends.{Ends};
 ghost use Rattle.layout.specs.Bytes.{Bytes};
 ghost use Rattle.layout.specs.Parser.{choose};
 ghost use Rattle.values.specs.Value.{Value, vnull, Values};
@@ -119,12 +120,14 @@ fn ask_step(
     w: Walk,
     least: u32,
     own: Parts,
+    table: &[u16],
 ) -> Asked
+    requires { ⌜ Ends v (now lay) (now table) ⌝ }
     requires { ⌜ RowAt v (now lay) n (columns .at) (now rec) 0 ⌝ }
     requires { ⌜ ((x : State) × WalkAt (now plan) w x × (next x ≡ ends)) ⌝ }
     ensures { λ r. ⌜ ((X : RowAt v (now (lay .entry)) n (columns .at) (now (rec .entry)) 0) (x : State) → WalkAt (now (plan .entry)) w x → next x ≡ ends → AskedIs (X .values .values) x least own r) ⌝ }
 {
-    match source_at(lay, v, n, columns, rec, plan, w) {
+    match source_at(lay, v, n, columns, rec, plan, w, table) {
         Source::Null => Asked::Answer(Parts::None),
         Source::Record(t, c) => {
             let p = parts_at(lay, v, t, rec, c);
@@ -151,7 +154,9 @@ pub fn ask(
     w: Walk,
     least: u32,
     own: Parts,
+    table: &[u16],
 ) -> Parts
+    requires { ⌜ Ends v (now lay) (now table) ⌝ }
     requires { ⌜ RowAt v (now lay) n (columns .at) (now rec) 0 ⌝ }
     requires { ⌜ ((x : State) × WalkAt (now plan) w x) ⌝ }
     ensures { λ r. ⌜ ((X : RowAt v (now (lay .entry)) n (columns .at) (now (rec .entry)) 0) (x : State) → WalkAt (now (plan .entry)) w x → r ≡ answer least own (partsOf (stateValue (X .values .values) x))) ⌝ }
@@ -162,7 +167,7 @@ pub fn ask(
     loop {
         let o = find_origin(plan, at);
         let z = o.walk;
-        match ask_step(lay, v, n, columns, rec, plan, z, m, known) {
+        match ask_step(lay, v, n, columns, rec, plan, z, m, known, table) {
             Asked::Answer(p) => return p,
             Asked::Input(l, k) => {
                 at = z.to_input();
@@ -187,12 +192,14 @@ pub fn parts_count(
     rec: &[u8],
     plan: &[u8],
     w: Walk,
+    table: &[u16],
 ) -> Parts
+    requires { ⌜ Ends v (now lay) (now table) ⌝ }
     requires { ⌜ RowAt v (now lay) n (columns .at) (now rec) 0 ⌝ }
     requires { ⌜ ((x : State) × WalkAt (now plan) w x) ⌝ }
     ensures { λ r. ⌜ ((X : RowAt v (now (lay .entry)) n (columns .at) (now (rec .entry)) 0) (x : State) → WalkAt (now (plan .entry)) w x → r ≡ partsOf (stateValue (X .values .values) x)) ⌝ }
 {
-    ask(lay, v, n, columns, rec, plan, w, 0, Parts::None)
+    ask(lay, v, n, columns, rec, plan, w, 0, Parts::None, table)
 }
 
 // Whether the selector where the walk stands is run at all: inside entered mappings, whether the innermost one's input has the part.
@@ -204,7 +211,9 @@ pub fn is_run(
     rec: &[u8],
     plan: &[u8],
     w: Walk,
+    table: &[u16],
 ) -> bool
+    requires { ⌜ Ends v (now lay) (now table) ⌝ }
     requires { ⌜ RowAt v (now lay) n (columns .at) (now rec) 0 ⌝ }
     requires { ⌜ ((x : State) × WalkAt (now plan) w x) ⌝ }
     ensures { λ r. ⌜ ((X : RowAt v (now (lay .entry)) n (columns .at) (now (rec .entry)) 0) (x : State) (u : Value) → WalkAt (now (plan .entry)) w x → within (X .values .values) (x .frames) (λ σ. u) ≡ choose r u vnull) ⌝ }
@@ -223,6 +232,7 @@ pub fn is_run(
         outward(w),
         least,
         Parts::Some(0),
+        table,
     ) {
         Parts::None => false,
         Parts::Some(_) => true,

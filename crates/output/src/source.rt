@@ -3,6 +3,7 @@ ghost use mathlib.Core.Path.{_≡_};
 ghost use Prim.Native.Nat.{_≤_};
 ghost use lib.ListN.{length};
 ghost use lib.Seq.{slice};
+ghost use Rattle.ends.specs.Ends.{Ends};
 ghost use Rattle.layout.specs.declared.version.Version.{Version as VersionOf};
 ghost use Rattle.plan.specs.Run.{valueAt};
 ghost use Rattle.walk.specs.State.{State};
@@ -63,15 +64,17 @@ fn column_node(
     rec: &[u8],
     w: Walk,
     k: u16,
+    table: &[u16],
 ) -> NodeAt
+    requires { ⌜ Ends v (now lay) (now table) ⌝ }
     requires { ⌜ RowAt v (now lay) n (columns .at) (now rec) 0 ⌝ }
     requires { ⌜ (w .deep ≤ w .len) × (w .len ≤ length (w .path)) ⌝ }
     ensures { λ r. ⌜ ((X : RowAt v (now (lay .entry)) n (columns .at) (now (rec .entry)) 0) → NodeOf v (now (lay .entry)) (now (rec .entry)) (valueNode (valueAt (X .values .values) k) (slice (w .deep) (w .len) (w .path))) r) ⌝ }
 {
     let path = w.path;
-    match column_value(lay, v, n, columns, rec, k) {
+    match column_value(lay, v, n, columns, rec, k, table) {
         NodeAt::Null => NodeAt::Null,
-        NodeAt::At(t, c) => value_at(lay, v, t, rec, c, path, w.deep, w.len),
+        NodeAt::At(t, c) => value_at(lay, v, t, rec, c, path, w.deep, w.len, table),
     }
 }
 
@@ -81,9 +84,20 @@ fn constant_node(plan: &[u8], w: Walk, t: Cursor) -> NodeAt
     requires { ⌜ (w .deep ≤ w .len) × (w .len ≤ length (w .path)) ⌝ }
     ensures { λ r. ⌜ ((X : ConstantRaw (now (plan .entry)) (t .at)) → NodeOf VersionOf.ByName (now (plan .entry)) (now (plan .entry)) (valueNode (X .value .tree) (slice (w .deep) (w .len) (w .path))) r) ⌝ }
 {
+    let none: [u16; 1] = [0; 1];
     let path = w.path;
     let c = skip_type(plan, Version::ByName, 16, t);
-    value_at(plan, Version::ByName, t, plan, c, path, w.deep, w.len)
+    value_at(
+        plan,
+        Version::ByName,
+        t,
+        plan,
+        c,
+        path,
+        w.deep,
+        w.len,
+        &none[..0],
+    )
 }
 
 fn struct_source(plan: &[u8], w: Walk, input: Cursor) -> Source
@@ -104,7 +118,9 @@ pub fn source_at(
     rec: &[u8],
     plan: &[u8],
     w: Walk,
+    table: &[u16],
 ) -> Source
+    requires { ⌜ Ends v (now lay) (now table) ⌝ }
     requires { ⌜ RowAt v (now lay) n (columns .at) (now rec) 0 ⌝ }
     requires { ⌜ ((x : State) × WalkAt (now plan) w x) ⌝ }
     ensures { λ r. ⌜ ((X : RowAt v (now (lay .entry)) n (columns .at) (now (rec .entry)) 0) (x : State) → WalkAt (now (plan .entry)) w x → next x ≡ ends → SourceIs (X .values .values) v (now (lay .entry)) (now (rec .entry)) (now (plan .entry)) x r) ⌝ }
@@ -113,7 +129,7 @@ pub fn source_at(
     match head(plan, c) {
         SelectorHead::Position(k) => {
             if w.deep == 0 {
-                return record_source(column_node(lay, v, n, columns, rec, w, k.0));
+                return record_source(column_node(lay, v, n, columns, rec, w, k.0, table));
             }
             Source::Null
         }

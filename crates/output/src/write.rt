@@ -2,6 +2,7 @@
 ghost use mathlib.Core.Path.{_≡_};
 ghost use Prim.Native.Nat.{_≤_};
 ghost use lib.ListN.{length};
+ghost use Rattle.ends.specs.Ends.{Ends};
 ghost use Rattle.values.specs.Encode.{encodeValues};
 ghost use Rattle.plan.specs.Run.{run};
 ghost use Rattle.walk.specs.Values.{givens};
@@ -32,7 +33,9 @@ pub fn emit_all(
     first: Cursor,
     out: &mut [u8],
     k: usize,
+    table: &[u16],
 ) -> usize
+    requires { ⌜ Ends v (now lay) (now table) ⌝ }
     requires { ⌜ EmitAllAt v (now lay) n (columns .at) (now rec) (now plan) count (first .at) ⌝ }
     requires { ⌜ k ≤ 16384 ⌝ }
     ensures { λ r. ⌜ ((A : EmitAllAt v (now (lay .entry)) n (columns .at) (now (rec .entry)) (now (plan .entry)) count (first .at)) → Emits (now (out .entry)) k (encodeValues (givens (A .row .values .values) (A .selectors .trees))) r (now (out .exit))) ⌝ }
@@ -47,7 +50,7 @@ pub fn emit_all(
         let c = Cursor { at: from };
         let e = skip_selector(plan, c);
         let w = top(from, e.at);
-        at = emit(lay, v, n, columns, rec, plan, w, out, at);
+        at = emit(lay, v, n, columns, rec, plan, w, out, at, table);
         from = e.at;
         i += 1;
     }
@@ -73,13 +76,27 @@ pub fn write_output(
     count: u16,
     first: Cursor,
     out: &mut [u8],
+    table: &[u16],
 ) -> Written
+    requires { ⌜ Ends v (now lay) (now table) ⌝ }
     requires { ⌜ OutputAt v (now lay) n (columns .at) (now rec) (now plan) count (first .at) ⌝ }
     ensures { λ r. ⌜ ((A : OutputAt v (now (lay .entry)) n (columns .at) (now (rec .entry)) (now (plan .entry)) count (first .at)) → r ≡ writtenOf (run (A .row .values .values) (A .selectors .trees) (length (now (out .entry))))) ⌝ }
     ensures { λ r. ⌜ ((A : OutputAt v (now (lay .entry)) n (columns .at) (now (rec .entry)) (now (plan .entry)) count (first .at)) → now (out .exit) ≡ bufferAfter (run (A .row .values .values) (A .selectors .trees) (length (now (out .entry)))) (now (out .entry))) ⌝ }
 {
     let mut aside = scratch();
-    let len = emit_all(lay, v, n, columns, rec, plan, count, first, &mut aside, 0);
+    let len = emit_all(
+        lay,
+        v,
+        n,
+        columns,
+        rec,
+        plan,
+        count,
+        first,
+        &mut aside,
+        0,
+        table,
+    );
     if 16384 < len {
         return Written::TooLong;
     }

@@ -5,6 +5,7 @@ ghost use mathlib.Core.Bool.{not};
 ghost use mathlib.Core.List.{[], _∷_};
 ghost use Prim.Native.Nat.{_+_, _<_, _≤_};
 ghost use lib.ListN.{length, set};
+ghost use Rattle.ends.specs.Ends.{Ends};
 ghost use Rattle.layout.specs.Tree.{dtypeOf, fieldsOf};
 ghost use Rattle.layout.specs.Stands.{TypeAt, ColumnsAt};
 ghost use Rattle.plan.specs.Run.{cleanAll, evals};
@@ -63,7 +64,9 @@ fn over_leaf(
     u: TimeUnit,
     path: [u16; 64],
     len: usize,
+    table: &[u16],
 ) -> bool
+    requires { ⌜ Ends v (now lay) (now table) ⌝ }
     requires { ⌜ ((X : RowAt v (now lay) n (columns .at) (now rec) 0) × TopAt (now plan) top (fieldsOf (X .columns .columns))) ⌝ }
     requires { ⌜ (len ≤ 64) × (length path ≡ 64) ⌝ }
     ensures { λ r. ⌜ ((X : RowAt v (now (lay .entry)) n (columns .at) (now (rec .entry)) 0) (T : TopAt (now (plan .entry)) top (fieldsOf (X .columns .columns))) → r ≡ overAt (X .values .values) (T .here .tree) path len [] u) ⌝ }
@@ -73,7 +76,17 @@ fn over_leaf(
         above: HALF,
         below: HALF,
     };
-    seek(lay, v, n, columns, rec, plan, w, Want::Beyond(bounds, u))
+    seek(
+        lay,
+        v,
+        n,
+        columns,
+        rec,
+        plan,
+        w,
+        Want::Beyond(bounds, u),
+        table,
+    )
 }
 
 // At the paths that go on to a date-time leaf of the type at `t`.
@@ -91,7 +104,9 @@ fn over_type(
     t: Cursor,
     path: [u16; 64],
     len: usize,
+    table: &[u16],
 ) -> bool
+    requires { ⌜ Ends v (now lay) (now table) ⌝ }
     requires { ⌜ ((X : RowAt v (now lay) n (columns .at) (now rec) 0) × TopAt (now plan) top (fieldsOf (X .columns .columns))) ⌝ }
     requires { ⌜ TypeAt y depth (now tgt) (t .at) × (len + depth ≤ 16) × (length path ≡ 64) ⌝ }
     ensures { λ r. ⌜ ((X : RowAt v (now (lay .entry)) n (columns .at) (now (rec .entry)) 0) (T : TopAt (now (plan .entry)) top (fieldsOf (X .columns .columns))) (Q : TypeAt y depth (now (tgt .entry)) (t .at)) → r ≡ leaves (dtypeOf (Q .tree)) (λ p u. overAt (X .values .values) (T .here .tree) path len p u)) ⌝ }
@@ -100,7 +115,7 @@ fn over_type(
         Head::Leaf(l, _) => {
             let leaf = l.leaf;
             match time_of(leaf) {
-                Timed::In(u) => over_leaf(lay, v, n, columns, rec, plan, top, u, path, len),
+                Timed::In(u) => over_leaf(lay, v, n, columns, rec, plan, top, u, path, len, table),
                 Timed::Never => false,
             }
         }
@@ -119,6 +134,7 @@ fn over_type(
             e,
             path,
             len,
+            table,
         ),
         Head::List(e) => match e.element_label(tgt, y) {
             Labelled::Is(_, f) => over_element(
@@ -135,6 +151,7 @@ fn over_type(
                 f,
                 path,
                 len,
+                table,
             ),
             Labelled::Refused(_) => false,
         },
@@ -153,6 +170,7 @@ fn over_type(
                 f,
                 path,
                 len,
+                table,
             ),
             Labelled::Refused(_) => false,
         },
@@ -175,7 +193,9 @@ fn over_element(
     t: Cursor,
     path: [u16; 64],
     len: usize,
+    table: &[u16],
 ) -> bool
+    requires { ⌜ Ends v (now lay) (now table) ⌝ }
     requires { ⌜ ((X : RowAt v (now lay) n (columns .at) (now rec) 0) × TopAt (now plan) top (fieldsOf (X .columns .columns))) ⌝ }
     requires { ⌜ TypeAt y depth (now tgt) (t .at) × (len + 1 + depth ≤ 16) × (length path ≡ 64) ⌝ }
     ensures { λ r. ⌜ ((X : RowAt v (now (lay .entry)) n (columns .at) (now (rec .entry)) 0) (T : TopAt (now (plan .entry)) top (fieldsOf (X .columns .columns))) (Q : TypeAt y depth (now (tgt .entry)) (t .at)) → r ≡ leaves (dtypeOf (Q .tree)) (λ p u. overAt (X .values .values) (T .here .tree) path len (0 ∷ p) u)) ⌝ }
@@ -195,6 +215,7 @@ fn over_element(
         t,
         below,
         len + 1,
+        table,
     )
 }
 
@@ -214,7 +235,9 @@ fn over_fields(
     c: Cursor,
     path: [u16; 64],
     len: usize,
+    table: &[u16],
 ) -> bool
+    requires { ⌜ Ends v (now lay) (now table) ⌝ }
     requires { ⌜ ((X : RowAt v (now lay) n (columns .at) (now rec) 0) × TopAt (now plan) top (fieldsOf (X .columns .columns))) ⌝ }
     requires { ⌜ ColumnsAt y depth (now tgt) m (c .at) × (len + 1 + depth ≤ 16) × (length path ≡ 64) ⌝ }
     ensures { λ r. ⌜ ((X : RowAt v (now (lay .entry)) n (columns .at) (now (rec .entry)) 0) (T : TopAt (now (plan .entry)) top (fieldsOf (X .columns .columns))) (Q : ColumnsAt y depth (now (tgt .entry)) m (c .at)) → r ≡ leavesFrom (fieldsOf (Q .columns)) 0 (λ p u. overAt (X .values .values) (T .here .tree) path len p u)) ⌝ }
@@ -240,6 +263,7 @@ fn over_fields(
                     e,
                     below,
                     len + 1,
+                    table,
                 );
                 if over {
                     return true;
@@ -267,7 +291,9 @@ pub fn overflows(
     y: Version,
     m: u16,
     target: Cursor,
+    table: &[u16],
 ) -> bool
+    requires { ⌜ Ends v (now lay) (now table) ⌝ }
     requires { ⌜ ((X : RowAt v (now lay) n (columns .at) (now rec) 0) × (D : ColumnsAt y 16 (now tgt) m (target .at)) × PlanAt (now plan) (first .at) (fieldsOf (X .columns .columns)) (fieldsOf (D .columns))) ⌝ }
     ensures { λ r. ⌜ ((X : RowAt v (now (lay .entry)) n (columns .at) (now (rec .entry)) 0) (D : ColumnsAt y 16 (now (tgt .entry)) m (target .at)) (P : PlanAt (now (plan .entry)) (first .at) (fieldsOf (X .columns .columns)) (fieldsOf (D .columns))) → r ≡ not (cleanAll (evals (X .values .values) (P .selectors .trees)))) ⌝ }
 {
@@ -292,6 +318,7 @@ pub fn overflows(
                     e,
                     [0u16; 64],
                     0,
+                    table,
                 ) {
                     return true;
                 }

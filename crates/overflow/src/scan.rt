@@ -3,6 +3,7 @@ ghost use mathlib.Core.Path.{_≡_};
 ghost use Prim.Native.Nat.{_<_, _≤_};
 ghost use lib.ListN.{length};
 ghost use lib.Seq.{slice};
+ghost use Rattle.ends.specs.Ends.{Ends};
 ghost use Rattle.nodes.specs.Raw.{RawAt, ElementsAt, ListOf, PresentAt};
 ghost use Rattle.overflow.specs.Want.{Small, SmallWant, isBeyond, isStruct, isFilled, meets};
 ghost use Rattle.overflow.specs.Some.{anyOf, somePart, some};
@@ -109,7 +110,9 @@ pub fn some_at(
     from: usize,
     len: usize,
     want: Want,
+    table: &[u16],
 ) -> bool
+    requires { ⌜ Ends v (now lay) (now table) ⌝ }
     requires { ⌜ RawAt v (now lay) (t .at) (now rec) (c .at) ⌝ }
     requires { ⌜ (from ≤ len) × (len ≤ length path) × SmallWant want ⌝ }
     ensures { λ r. ⌜ ((X : RawAt v (now (lay .entry)) (t .at) (now (rec .entry)) (c .at)) → r ≡ some want (slice from len path) (X .value .tree)) ⌝ }
@@ -120,7 +123,7 @@ pub fn some_at(
             if from == len {
                 present_meets(lay, v, t, rec, d, want)
             } else {
-                some_part(lay, v, t, rec, d, path, from, len, want)
+                some_part(lay, v, t, rec, d, path, from, len, want, table)
             }
         }
         Presence::Refused(_) => false,
@@ -138,23 +141,37 @@ fn some_part(
     from: usize,
     len: usize,
     want: Want,
+    table: &[u16],
 ) -> bool
+    requires { ⌜ Ends v (now lay) (now table) ⌝ }
     requires { ⌜ PresentAt v (now lay) (t .at) (now rec) (c .at) ⌝ }
     requires { ⌜ (from < len) × (len ≤ length path) × SmallWant want ⌝ }
     ensures { λ r. ⌜ ((X : PresentAt v (now (lay .entry)) (t .at) (now (rec .entry)) (c .at)) → r ≡ some want (slice from len path) (X .content .tree)) ⌝ }
 {
     match t.head(lay) {
         Head::Leaf(_, _) => false,
-        Head::Struct(n, e) => match field_at(lay, v, n, e, rec, c, path[from]) {
-            NodeAt::At(f, d) => some_at(lay, v, f, rec, d, path, from + 1, len, want),
+        Head::Struct(n, e) => match field_at(lay, v, n, e, rec, c, path[from], table) {
+            NodeAt::At(f, d) => some_at(lay, v, f, rec, d, path, from + 1, len, want, table),
             NodeAt::Null => false,
         },
         Head::List(e) => match e.element_label(lay, v) {
-            Labelled::Is(_, f) => some_listed(lay, v, f, rec, c, path, from + 1, len, want),
+            Labelled::Is(_, f) => some_listed(lay, v, f, rec, c, path, from + 1, len, want, table),
             Labelled::Refused(_) => false,
         },
         Head::Array(w, e) => match e.element_label(lay, v) {
-            Labelled::Is(_, f) => some_element(lay, v, w, f, rec, c, path, from + 1, len, want),
+            Labelled::Is(_, f) => some_element(
+                lay,
+                v,
+                w,
+                f,
+                rec,
+                c,
+                path,
+                from + 1,
+                len,
+                want,
+                table,
+            ),
             Labelled::Refused(_) => false,
         },
         Head::Refused(_) => false,
@@ -172,13 +189,15 @@ fn some_listed(
     from: usize,
     len: usize,
     want: Want,
+    table: &[u16],
 ) -> bool
+    requires { ⌜ Ends v (now lay) (now table) ⌝ }
     requires { ⌜ ListOf v (now lay) (t .at) (now rec) (c .at) ⌝ }
     requires { ⌜ (from ≤ len) × (len ≤ length path) × SmallWant want ⌝ }
     ensures { λ r. ⌜ ((X : ListOf v (now (lay .entry)) (t .at) (now (rec .entry)) (c .at)) → r ≡ somePart 0 (λ x. some want (slice from len path) x) (X .content .tree)) ⌝ }
 {
     match c.short(rec) {
-        Short::Is(n, d) => some_element(lay, v, n as u32, t, rec, d, path, from, len, want),
+        Short::Is(n, d) => some_element(lay, v, n as u32, t, rec, d, path, from, len, want, table),
         Short::Refused(_) => false,
     }
 }
@@ -195,7 +214,9 @@ fn some_element(
     from: usize,
     len: usize,
     want: Want,
+    table: &[u16],
 ) -> bool
+    requires { ⌜ Ends v (now lay) (now table) ⌝ }
     requires { ⌜ ElementsAt v (now lay) n (t .at) (now rec) (c .at) ⌝ }
     requires { ⌜ (from ≤ len) × (len ≤ length path) × SmallWant want ⌝ }
     ensures { λ r. ⌜ ((X : ElementsAt v (now (lay .entry)) n (t .at) (now (rec .entry)) (c .at)) → r ≡ anyOf (λ x. some want (slice from len path) x) (X .values .values)) ⌝ }
@@ -204,10 +225,10 @@ fn some_element(
     let mut i: u32 = 0;
     while i < n {
         let d = Cursor { at };
-        if some_at(lay, v, t, rec, d, path, from, len, want) {
+        if some_at(lay, v, t, rec, d, path, from, len, want, table) {
             return true;
         }
-        match read_element(lay, v, 16, t, rec, d) {
+        match read_element(lay, v, 16, t, rec, d, table) {
             Moved::To(e) => {
                 at = e.at;
             }

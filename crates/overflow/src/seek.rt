@@ -6,6 +6,7 @@
 ghost use mathlib.Core.Path.{_≡_};
 ghost use Prim.Native.Nat.{_-_, _<_, _≤_};
 ghost use lib.ListN.{getD};
+ghost use Rattle.ends.specs.Ends.{Ends};
 ghost use Rattle.layout.specs.Tree.{fieldsOf};
 ghost use Rattle.plan.specs.Run.{eval};
 ghost use Rattle.nodes.specs.Raw.{RowAt};
@@ -43,7 +44,9 @@ pub fn seek(
     plan: &[u8],
     w: Walk,
     want: Want,
+    table: &[u16],
 ) -> bool
+    requires { ⌜ Ends v (now lay) (now table) ⌝ }
     requires { ⌜ ((X : RowAt v (now lay) n (columns .at) (now rec) 0) × Seeks (now plan) w (fieldsOf (X .columns .columns))) ⌝ }
     requires { ⌜ SmallWant want ⌝ }
     ensures { λ r. ⌜ ((X : RowAt v (now (lay .entry)) n (columns .at) (now (rec .entry)) 0) (S : Seeks (now (plan .entry)) w (fieldsOf (X .columns .columns))) → r ≡ some want (S .path) (eval (X .values .values) (S .selector))) ⌝ }
@@ -52,7 +55,7 @@ pub fn seek(
     let mut asks = want;
     loop {
         x = x.locate(plan);
-        match at_stop(lay, v, n, columns, rec, plan, x, asks) {
+        match at_stop(lay, v, n, columns, rec, plan, x, asks, table) {
             Stop::No => return false,
             Stop::Yes => return true,
             Stop::Input(next) => {

@@ -4,6 +4,7 @@ ghost use mathlib.Core.List.{[]};
 ghost use Prim.Native.Nat.{_≤_};
 ghost use lib.ListN.{length};
 ghost use lib.Seq.{slice};
+ghost use Rattle.ends.specs.Ends.{Ends};
 ghost use Rattle.layout.specs.Tree.{dtypeOf};
 ghost use Rattle.layout.specs.Stands.{TypeAt};
 ghost use Rattle.layout.specs.declared.version.Version.{Version as VersionOf};
@@ -58,13 +59,15 @@ fn in_column(
     path: [u16; 64],
     len: usize,
     want: Want,
+    table: &[u16],
 ) -> bool
+    requires { ⌜ Ends v (now lay) (now table) ⌝ }
     requires { ⌜ RowAt v (now lay) n (columns .at) (now rec) 0 ⌝ }
     requires { ⌜ (len ≤ length path) × SmallWant want ⌝ }
     ensures { λ r. ⌜ ((X : RowAt v (now (lay .entry)) n (columns .at) (now (rec .entry)) 0) → r ≡ some want (slice 0 len path) (valueAt (X .values .values) k)) ⌝ }
 {
-    match column_value(lay, v, n, columns, rec, k) {
-        NodeAt::At(t, c) => some_at(lay, v, t, rec, c, path, 0, len, want),
+    match column_value(lay, v, n, columns, rec, k, table) {
+        NodeAt::At(t, c) => some_at(lay, v, t, rec, c, path, 0, len, want, table),
         NodeAt::Null => false,
     }
 }
@@ -75,8 +78,20 @@ fn in_constant(plan: &[u8], t: Cursor, path: [u16; 64], from: usize, len: usize,
     requires { ⌜ (from ≤ len) × (len ≤ length path) × SmallWant want ⌝ }
     ensures { λ r. ⌜ ((X : RawIn (now (plan .entry)) (t .at)) → r ≡ some want (slice from len path) (X .value .tree)) ⌝ }
 {
+    let none: [u16; 1] = [0; 1];
     let c = skip_type(plan, Version::ByName, 16, t);
-    some_at(plan, Version::ByName, t, plan, c, path, from, len, want)
+    some_at(
+        plan,
+        Version::ByName,
+        t,
+        plan,
+        c,
+        path,
+        from,
+        len,
+        want,
+        &none[..0],
+    )
 }
 
 // Of what is asked where a constant is found: whether it is run.
@@ -159,7 +174,9 @@ fn at_position(
     k: Position,
     w: Walk,
     want: Want,
+    table: &[u16],
 ) -> Stop
+    requires { ⌜ Ends v (now lay) (now table) ⌝ }
     requires { ⌜ RowAt v (now lay) n (columns .at) (now rec) 0 ⌝ }
     requires { ⌜ (w .len ≤ length (w .path)) × SmallWant want ⌝ }
     ensures { λ r. ⌜ ((X : RowAt v (now (lay .entry)) n (columns .at) (now (rec .entry)) 0) (plan : Bytes) (x : State) → WalkAt plan w x → x .selector ≡ position k → r ≡ stopOf (X .values .values) x want) ⌝ }
@@ -170,7 +187,7 @@ fn at_position(
     let i = k.0;
     let path = w.path;
     let len = w.len;
-    answer(in_column(lay, v, n, columns, rec, i, path, len, want))
+    answer(in_column(lay, v, n, columns, rec, i, path, len, want, table))
 }
 
 // Whose type stands at `t`.
@@ -219,14 +236,16 @@ pub fn at_stop(
     plan: &[u8],
     w: Walk,
     want: Want,
+    table: &[u16],
 ) -> Stop
+    requires { ⌜ Ends v (now lay) (now table) ⌝ }
     requires { ⌜ RowAt v (now lay) n (columns .at) (now rec) 0 × ((x : State) × WalkAt (now plan) w x) ⌝ }
     requires { ⌜ SmallWant want ⌝ }
     ensures { λ r. ⌜ ((X : RowAt v (now (lay .entry)) n (columns .at) (now (rec .entry)) 0) (x : State) → WalkAt (now (plan .entry)) w x → r ≡ stopOf (X .values .values) x want) ⌝ }
 {
     let c = Cursor { at: w.at };
     match head(plan, c) {
-        SelectorHead::Position(k) => at_position(lay, v, n, columns, rec, k, w, want),
+        SelectorHead::Position(k) => at_position(lay, v, n, columns, rec, k, w, want, table),
         SelectorHead::Constant(_, t) => at_constant(plan, t, w, want),
         SelectorHead::Cast(input) => at_cast(plan, skip_selector(plan, input), w, want),
         SelectorHead::Rename(_) => Stop::Input(want),

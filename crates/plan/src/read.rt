@@ -76,9 +76,10 @@ fn value_end(r: ValueRead) -> Moved
 fn read_constant(s: &[u8], c: Cursor) -> Moved
     ensures { λ r. ⌜ r ≡ movedOf (constantRest (now (s .entry)) (c .at)) ⌝ }
 {
+    let none: [u16; 1] = [0; 1];
     match c.text(s) {
         Text::Is(_, d) => match pass_type(s, Version::ByName, 16, d) {
-            Moved::To(e) => value_end(read_value(s, Version::ByName, 16, d, s, e)),
+            Moved::To(e) => value_end(read_value(s, Version::ByName, 16, d, s, e, &none[..0])),
             Moved::Refused(k) => Moved::Refused(k),
         },
         Text::Refused(k) => Moved::Refused(k),

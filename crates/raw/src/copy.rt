@@ -3,6 +3,7 @@ ghost use mathlib.Core.Path.{_≡_};
 ghost use mathlib.Core.Bool.{true};
 ghost use Prim.Native.Nat.{_+_, _^_, _<_};
 ghost use lib.ListN.{length};
+ghost use Rattle.ends.specs.Ends.{Ends};
 ghost use Rattle.layout.specs.Tree.{DataType};
 ghost use Rattle.values.specs.Value.{vnull};
 ghost use Rattle.values.specs.Encode.{encodeValue};
@@ -36,12 +37,14 @@ pub fn copy_raw(
     c: Cursor,
     out: &mut [u8],
     k: usize,
+    ends: &[u16],
 ) -> usize
     requires { ⌜ RawAt v (now lay) (t .at) (now rec) (c .at) ⌝ }
     requires { ⌜ k + length (now rec) < 2 ^ 64 ⌝ }
+    requires { ⌜ Ends v (now lay) (now ends) ⌝ }
     ensures { λ r. ⌜ ((X : RawAt v (now (lay .entry)) (t .at) (now (rec .entry)) (c .at)) → Stores (now (out .entry)) k (encodeValue (X .value .tree)) r (now (out .exit))) ⌝ }
 {
-    match copy_value(lay, v, 16, t, rec, c, out, k) {
+    match copy_value(lay, v, 16, t, rec, c, out, k, ends) {
         ValueRead::To(_, e) => k + (e.at - c.at),
         ValueRead::Refused(_) => k,
     }

@@ -1,6 +1,7 @@
 // The output of a plan that one pass settles.
 ghost use Prim.Native.Nat.{_≤_};
 ghost use lib.ListN.{length};
+ghost use Rattle.ends.specs.Ends.{Ends};
 ghost use Rattle.walk.specs.Stands.{SelectorsAt};
 ghost use Rattle.nodes.specs.Raw.{RowAt};
 ghost use Rattle.run.specs.Answers.{DirectIs};
@@ -24,14 +25,16 @@ pub fn write_direct(
     plan: &[u8],
     count: u16,
     out: &mut [u8],
+    ends: &[u16],
 ) -> Direct
+    requires { ⌜ Ends v (now lay) (now ends) ⌝ }
     requires { ⌜ RowAt v (now lay) n 7 (now rec) 0 ⌝ }
     requires { ⌜ SelectorsAt (now plan) count 7 ⌝ }
     requires { ⌜ (length (now rec) ≤ 65536) × (length (now plan) ≤ 65536) ⌝ }
     ensures { λ r. ⌜ ((X : RowAt v (now (lay .entry)) n 7 (now (rec .entry)) 0) (S : SelectorsAt (now (plan .entry)) count 7) → DirectIs (X .values .values) (S .trees) (now (out .entry)) r (now (out .exit))) ⌝ }
 {
     let mut aside = scratch();
-    match transfer_record(lay, v, n, rec, plan, count, &mut aside) {
+    match transfer_record(lay, v, n, rec, plan, count, &mut aside, ends) {
         Transferred::To(len) => {
             if out.len() < len {
                 return Direct::Is(Written::TooLong);

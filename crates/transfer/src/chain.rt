@@ -1,6 +1,7 @@
 // Casts over casts: a number is converted by each in turn, and any other value stays as it is.
 ghost use Prim.Native.Nat.{_≤_};
 ghost use lib.ListN.{length};
+ghost use Rattle.ends.specs.Ends.{Ends};
 ghost use Rattle.layout.specs.Tree.{dtypeOf};
 ghost use Rattle.layout.specs.Stands.{TypeAt};
 ghost use Rattle.layout.specs.declared.version.Version.{Version as VersionOf};
@@ -126,14 +127,16 @@ fn put_chain(
     end: Cursor,
     out: &mut [u8],
     k: usize,
+    ends: &[u16],
 ) -> Reached
+    requires { ⌜ Ends v (now lay) (now ends) ⌝ }
     requires { ⌜ ((x : Value) × NodeOf v (now lay) (now rec) x node) ⌝ }
     requires { ⌜ (length (now rec) ≤ 65536) × (k ≤ 16384) ⌝ }
     ensures { λ r. ⌜ ((x y : Value) → NodeOf v (now (lay .entry)) (now (rec .entry)) y node → ChainIs x y q → ReachedIs (clean x) (encodeValue x) (end .at) (now (out .entry)) k r (now (out .exit))) ⌝ }
 {
     match q {
         ChainValue::Number(kind, n) => limited(end, k + put_number(kind, n, out, k)),
-        ChainValue::Same => put_node(lay, v, rec, node, end, out, k),
+        ChainValue::Same => put_node(lay, v, rec, node, end, out, k, ends),
         ChainValue::Unknown => Reached::Unknown,
     }
 }
@@ -149,11 +152,13 @@ pub fn transfer_cast(
     levels: u8,
     out: &mut [u8],
     k: usize,
+    ends: &[u16],
 ) -> Reached
+    requires { ⌜ Ends v (now lay) (now ends) ⌝ }
     requires { ⌜ ((x : Value) × NodeOf v (now lay) (now rec) x node) ⌝ }
     requires { ⌜ (length (now rec) ≤ 65536) × (k ≤ 16384) ⌝ }
     ensures { λ r. ⌜ ((ρ : Values) (P : SelectorAt (now (plan .entry)) (c .at)) → NodeOf v (now (lay .entry)) (now (rec .entry)) (valueAt ρ (takes (P .tree))) node → ReachedIs (clean (eval ρ (P .tree))) (encodeValue (eval ρ (P .tree))) (P .end) (now (out .entry)) k r (now (out .exit))) ⌝ }
 {
     let q = chain_value(lay, v, rec, node, plan, c, levels);
-    put_chain(lay, v, rec, node, q, skip_selector(plan, c), out, k)
+    put_chain(lay, v, rec, node, q, skip_selector(plan, c), out, k, ends)
 }

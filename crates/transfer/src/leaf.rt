@@ -3,6 +3,7 @@ ghost use mathlib.Core.Path.{_≡_};
 ghost use mathlib.Core.Bool.{Bool, true};
 ghost use Prim.Native.Nat.{ℕ, _≤_};
 ghost use lib.ListN.{length};
+ghost use Rattle.ends.specs.Ends.{Ends};
 ghost use Rattle.layout.specs.Bytes.{Bytes};
 ghost use Rattle.layout.specs.Tree.{dtypeOf};
 ghost use Rattle.layout.specs.Stands.{TypeAt};
@@ -62,12 +63,14 @@ pub fn put_value(
     end: Cursor,
     out: &mut [u8],
     k: usize,
+    ends: &[u16],
 ) -> Reached
+    requires { ⌜ Ends v (now lay) (now ends) ⌝ }
     requires { ⌜ RawAt v (now lay) (t .at) (now rec) (c .at) ⌝ }
     requires { ⌜ (length (now rec) ≤ 65536) × (k ≤ 16384) ⌝ }
     ensures { λ r. ⌜ ((X : RawAt v (now (lay .entry)) (t .at) (now (rec .entry)) (c .at)) → ReachedIs (clean (X .value .tree)) (encodeValue (X .value .tree)) (end .at) (now (out .entry)) k r (now (out .exit))) ⌝ }
 {
-    limited(end, copy_raw(lay, v, t, rec, c, out, k))
+    limited(end, copy_raw(lay, v, t, rec, c, out, k, ends))
 }
 
 pub fn put_node(
@@ -78,14 +81,16 @@ pub fn put_node(
     end: Cursor,
     out: &mut [u8],
     k: usize,
+    ends: &[u16],
 ) -> Reached
+    requires { ⌜ Ends v (now lay) (now ends) ⌝ }
     requires { ⌜ ((x : Value) × NodeOf v (now lay) (now rec) x node) ⌝ }
     requires { ⌜ (length (now rec) ≤ 65536) × (k ≤ 16384) ⌝ }
     ensures { λ r. ⌜ ((x : Value) → NodeOf v (now (lay .entry)) (now (rec .entry)) x node → ReachedIs (clean x) (encodeValue x) (end .at) (now (out .entry)) k r (now (out .exit))) ⌝ }
 {
     match node {
         NodeAt::Null => put_nothing(end, out, k),
-        NodeAt::At(t, c) => put_value(lay, v, t, rec, c, end, out, k),
+        NodeAt::At(t, c) => put_value(lay, v, t, rec, c, end, out, k, ends),
     }
 }
 
@@ -95,8 +100,9 @@ pub fn put_constant(plan: &[u8], t: Cursor, end: Cursor, out: &mut [u8], k: usiz
     requires { ⌜ (length (now plan) ≤ 65536) × (k ≤ 16384) ⌝ }
     ensures { λ r. ⌜ ((X : ConstantRaw (now (plan .entry)) (t .at)) → ReachedIs (clean (X .value .tree)) (encodeValue (X .value .tree)) (end .at) (now (out .entry)) k r (now (out .exit))) ⌝ }
 {
+    let none: [u16; 1] = [0; 1];
     let c = skip_type(plan, Version::ByName, 16, t);
-    put_value(plan, Version::ByName, t, plan, c, end, out, k)
+    put_value(plan, Version::ByName, t, plan, c, end, out, k, &none[..0])
 }
 
 // The number `n` of the kind `kind`, cast to the kind `to`.
@@ -121,14 +127,16 @@ fn put_leaf(
     end: Cursor,
     out: &mut [u8],
     k: usize,
+    ends: &[u16],
 ) -> Reached
+    requires { ⌜ Ends v (now lay) (now ends) ⌝ }
     requires { ⌜ RawAt v (now lay) (t .at) (now rec) (c .at) ⌝ }
     requires { ⌜ (length (now rec) ≤ 65536) × (k ≤ 16384) ⌝ }
     ensures { λ r. ⌜ ((X : RawAt v (now (lay .entry)) (t .at) (now (rec .entry)) (c .at)) → ReachedIs (clean (castLeaf to (X .value .tree))) (encodeValue (castLeaf to (X .value .tree))) (end .at) (now (out .entry)) k r (now (out .exit))) ⌝ }
 {
     match leaf_at(lay, v, t, rec, c) {
         LeafValue::Number(kind, n) => put_converted(kind, n, to, end, out, k),
-        LeafValue::Other => put_value(lay, v, t, rec, c, end, out, k),
+        LeafValue::Other => put_value(lay, v, t, rec, c, end, out, k, ends),
     }
 }
 
@@ -141,14 +149,16 @@ fn cast_node(
     end: Cursor,
     out: &mut [u8],
     k: usize,
+    ends: &[u16],
 ) -> Reached
+    requires { ⌜ Ends v (now lay) (now ends) ⌝ }
     requires { ⌜ ((x : Value) × NodeOf v (now lay) (now rec) x node) ⌝ }
     requires { ⌜ (length (now rec) ≤ 65536) × (k ≤ 16384) ⌝ }
     ensures { λ r. ⌜ ((x : Value) → NodeOf v (now (lay .entry)) (now (rec .entry)) x node → ReachedIs (clean (castLeaf to x)) (encodeValue (castLeaf to x)) (end .at) (now (out .entry)) k r (now (out .exit))) ⌝ }
 {
     match node {
         NodeAt::Null => put_nothing(end, out, k),
-        NodeAt::At(t, c) => put_leaf(lay, v, t, rec, c, to, end, out, k),
+        NodeAt::At(t, c) => put_leaf(lay, v, t, rec, c, to, end, out, k, ends),
     }
 }
 
@@ -163,7 +173,9 @@ pub fn put_cast(
     end: Cursor,
     out: &mut [u8],
     k: usize,
+    ends: &[u16],
 ) -> Reached
+    requires { ⌜ Ends v (now lay) (now ends) ⌝ }
     requires { ⌜ ((x : Value) × NodeOf v (now lay) (now rec) x node) ⌝ }
     requires { ⌜ (length (now rec) ≤ 65536) × (k ≤ 16384) ⌝ }
     ensures { λ r. ⌜ ((x : Value) (T : TypeAt VersionOf.ByName 16 (now (plan .entry)) (t .at)) → NodeOf v (now (lay .entry)) (now (rec .entry)) x node → ReachedIs (clean (castValue (dtypeOf (T .tree)) x)) (encodeValue (castValue (dtypeOf (T .tree)) x)) (end .at) (now (out .entry)) k r (now (out .exit))) ⌝ }
@@ -171,11 +183,11 @@ pub fn put_cast(
     match t.head(plan) {
         Head::Leaf(l, _) => {
             let leaf = l.leaf;
-            cast_node(lay, v, rec, node, leaf, end, out, k)
+            cast_node(lay, v, rec, node, leaf, end, out, k, ends)
         }
-        Head::Struct(_, _) => put_node(lay, v, rec, node, end, out, k),
-        Head::List(_) => put_node(lay, v, rec, node, end, out, k),
-        Head::Array(_, _) => put_node(lay, v, rec, node, end, out, k),
+        Head::Struct(_, _) => put_node(lay, v, rec, node, end, out, k, ends),
+        Head::List(_) => put_node(lay, v, rec, node, end, out, k, ends),
+        Head::Array(_, _) => put_node(lay, v, rec, node, end, out, k, ends),
         Head::Refused(_) => Reached::Unknown,
     }
 }

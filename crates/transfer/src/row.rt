@@ -3,6 +3,7 @@ ghost use mathlib.Core.Path.{_≡_};
 ghost use mathlib.Core.Bool.{Bool, true};
 ghost use Prim.Native.Nat.{ℕ, _≤_, _<_};
 ghost use lib.ListN.{length, take};
+ghost use Rattle.ends.specs.Ends.{Ends};
 ghost use Rattle.layout.specs.Bytes.{Bytes};
 ghost use Rattle.layout.specs.declared.version.Version.{Version as VersionOf};
 ghost use Rattle.values.specs.Value.{Value, Values, vnil, vcons};
@@ -51,14 +52,16 @@ fn cast_over(
     input: Cursor,
     out: &mut [u8],
     k: usize,
+    ends: &[u16],
 ) -> Reached
+    requires { ⌜ Ends v (now lay) (now ends) ⌝ }
     requires { ⌜ ((x : Value) × NodeOf v (now lay) (now rec) x node) ⌝ }
     requires { ⌜ (length (now rec) ≤ 65536) × (k ≤ 16384) ⌝ }
     ensures { λ r. ⌜ ((ρ : Values) (P : SelectorAt (now (plan .entry)) (c .at)) (C : CastAt (now (plan .entry)) (c .at) P (input .at)) → NodeOf v (now (lay .entry)) (now (rec .entry)) (eval ρ (C .input .tree)) node → ReachedIs (clean (eval ρ (P .tree))) (encodeValue (eval ρ (P .tree))) (P .end) (now (out .entry)) k r (now (out .exit))) ⌝ }
 {
     let t = skip_selector(plan, input);
     let end = skip_selector(plan, c);
-    put_cast(lay, v, rec, node, plan, t, end, out, k)
+    put_cast(lay, v, rec, node, plan, t, end, out, k, ends)
 }
 
 // What a rename's input gave, and past the name.
@@ -84,11 +87,12 @@ fn element_node(p: u16, t: Cursor, c: Cursor) -> NodeAt
     NodeAt::Null
 }
 
-fn skip_value(lay: &[u8], v: Version, t: Cursor, rec: &[u8], c: Cursor) -> Cursor
+fn skip_value(lay: &[u8], v: Version, t: Cursor, rec: &[u8], c: Cursor, ends: &[u16]) -> Cursor
+    requires { ⌜ Ends v (now lay) (now ends) ⌝ }
     requires { ⌜ RawAt v (now lay) (t .at) (now rec) (c .at) ⌝ }
     ensures { λ r. ⌜ ((X : RawAt v (now (lay .entry)) (t .at) (now (rec .entry)) (c .at)) → r .at ≡ X .value .end) ⌝ }
 {
-    match read_element(lay, v, 16, t, rec, c) {
+    match read_element(lay, v, 16, t, rec, c, ends) {
         Moved::To(d) => d,
         Moved::Refused(_) => c,
     }
@@ -111,7 +115,9 @@ pub fn transfer_row(
     levels: u8,
     out: &mut [u8],
     k: usize,
+    ends: &[u16],
 ) -> Reached
+    requires { ⌜ Ends v (now lay) (now ends) ⌝ }
     requires { ⌜ RowAt v (now lay) n (t .at) (now rec) (d .at) ⌝ }
     requires { ⌜ IndexedRow v (now lay) n (t .at) (now rec) (d .at) stride (now types) (now values) × (0 < stride) ⌝ }
     requires { ⌜ SelectorsAt (now plan) count (first .at) ⌝ }
@@ -124,8 +130,8 @@ pub fn transfer_row(
     while i < count {
         let c = Cursor { at: from };
         let p = taken_position(plan, c);
-        let node = indexed_value(lay, v, n, t, rec, d, types, values, stride, p);
-        match transfer(lay, v, rec, node, plan, c, levels, out, at) {
+        let node = indexed_value(lay, v, n, t, rec, d, types, values, stride, p, ends);
+        match transfer(lay, v, rec, node, plan, c, levels, out, at, ends) {
             Reached::To(e, r) => {
                 from = e.at;
                 at = r;
@@ -151,7 +157,9 @@ fn transfer_elements(
     levels: u8,
     out: &mut [u8],
     k: usize,
+    ends: &[u16],
 ) -> Reached
+    requires { ⌜ Ends v (now lay) (now ends) ⌝ }
     requires { ⌜ ElementsAt v (now lay) m (t .at) (now rec) (d .at) ⌝ }
     requires { ⌜ SelectorAt (now plan) (element .at) ⌝ }
     requires { ⌜ (length (now rec) ≤ 65536) × (length (now plan) ≤ 65536) × (k ≤ 16387) ⌝ }
@@ -163,9 +171,9 @@ fn transfer_elements(
     let mut i: u32 = 0;
     while i < m {
         let c = Cursor { at: from };
-        let next = skip_value(lay, v, t, rec, c);
+        let next = skip_value(lay, v, t, rec, c, ends);
         let node = element_node(p, t, c);
-        match transfer(lay, v, rec, node, plan, element, levels, out, at) {
+        match transfer(lay, v, rec, node, plan, element, levels, out, at, ends) {
             Reached::To(_, r) => {
                 from = next.at;
                 at = r;
@@ -189,7 +197,9 @@ fn index_fields(
     stride: u16,
     types: &mut [u16],
     values: &mut [u16],
+    ends: &[u16],
 ) -> usize
+    requires { ⌜ Ends v (now lay) (now ends) ⌝ }
     requires { ⌜ RowAt v (now lay) n (t .at) (now rec) (d .at) ⌝ }
     ensures { λ r. ⌜ r ≤ length (now (types .exit)) ⌝ }
     ensures { λ r. ⌜ r ≤ length (now (values .exit)) ⌝ }
@@ -198,7 +208,7 @@ fn index_fields(
     if count <= 8 {
         return 0;
     }
-    index_row(lay, v, n, t, rec, d, stride, types, values)
+    index_row(lay, v, n, t, rec, d, stride, types, values, ends)
 }
 
 // The selectors of a struct mapping: as `transfer_row`, with tables of the struct's own fields.
@@ -215,7 +225,9 @@ fn transfer_fields(
     levels: u8,
     out: &mut [u8],
     k: usize,
+    ends: &[u16],
 ) -> Reached
+    requires { ⌜ Ends v (now lay) (now ends) ⌝ }
     requires { ⌜ RowAt v (now lay) n (t .at) (now rec) (d .at) ⌝ }
     requires { ⌜ SelectorsAt (now plan) count (first .at) ⌝ }
     requires { ⌜ (length (now rec) ≤ 65536) × (length (now plan) ≤ 65536) × (k ≤ 16387) ⌝ }
@@ -224,7 +236,19 @@ fn transfer_fields(
     let stride = field_stride(n);
     let mut types = [0u16; 64];
     let mut values = [0u16; 64];
-    let m = index_fields(lay, v, n, t, rec, d, count, stride, &mut types, &mut values);
+    let m = index_fields(
+        lay,
+        v,
+        n,
+        t,
+        rec,
+        d,
+        count,
+        stride,
+        &mut types,
+        &mut values,
+        ends,
+    );
     transfer_row(
         lay,
         v,
@@ -241,6 +265,7 @@ fn transfer_fields(
         levels,
         out,
         k,
+        ends,
     )
 }
 
@@ -256,7 +281,9 @@ fn struct_over(
     levels: u8,
     out: &mut [u8],
     k: usize,
+    ends: &[u16],
 ) -> Reached
+    requires { ⌜ Ends v (now lay) (now ends) ⌝ }
     requires { ⌜ ((x : Value) × NodeOf v (now lay) (now rec) x node) ⌝ }
     requires { ⌜ ((P : SelectorAt (now plan) (c .at)) × StructAt (now plan) (c .at) P (input .at)) ⌝ }
     requires { ⌜ (length (now rec) ≤ 65536) × (length (now plan) ≤ 65536) × (k ≤ 16384) ⌝ }
@@ -280,6 +307,7 @@ fn struct_over(
                 levels,
                 out,
                 at,
+                ends,
             )
         }
         Opened::List(_, _, _) => Reached::Unknown,
@@ -300,7 +328,9 @@ fn list_over(
     levels: u8,
     out: &mut [u8],
     k: usize,
+    ends: &[u16],
 ) -> Reached
+    requires { ⌜ Ends v (now lay) (now ends) ⌝ }
     requires { ⌜ ((x : Value) × NodeOf v (now lay) (now rec) x node) ⌝ }
     requires { ⌜ ((P : SelectorAt (now plan) (c .at)) × ListAt (now plan) (c .at) P (input .at)) ⌝ }
     requires { ⌜ (length (now rec) ≤ 65536) × (length (now plan) ≤ 65536) × (k ≤ 16384) ⌝ }
@@ -312,7 +342,21 @@ fn list_over(
         Opened::List(m, t, d) => {
             let at = put_lead(true, m, out, k);
             let element = skip_selector(plan, input);
-            transfer_elements(lay, v, m, t, rec, d, plan, element, end, levels, out, at)
+            transfer_elements(
+                lay,
+                v,
+                m,
+                t,
+                rec,
+                d,
+                plan,
+                element,
+                end,
+                levels,
+                out,
+                at,
+                ends,
+            )
         }
         Opened::Row(_, _, _) => Reached::Unknown,
         Opened::Array(_, _, _) => Reached::Unknown,
@@ -332,7 +376,9 @@ fn array_over(
     levels: u8,
     out: &mut [u8],
     k: usize,
+    ends: &[u16],
 ) -> Reached
+    requires { ⌜ Ends v (now lay) (now ends) ⌝ }
     requires { ⌜ ((x : Value) × NodeOf v (now lay) (now rec) x node) ⌝ }
     requires { ⌜ ((P : SelectorAt (now plan) (c .at)) × ArrayAt (now plan) (c .at) P (input .at)) ⌝ }
     requires { ⌜ (length (now rec) ≤ 65536) × (length (now plan) ≤ 65536) × (k ≤ 16384) ⌝ }
@@ -344,7 +390,21 @@ fn array_over(
         Opened::Array(m, t, d) => {
             let at = put_lead(false, m, out, k);
             let element = skip_selector(plan, input);
-            transfer_elements(lay, v, m, t, rec, d, plan, element, end, levels, out, at)
+            transfer_elements(
+                lay,
+                v,
+                m,
+                t,
+                rec,
+                d,
+                plan,
+                element,
+                end,
+                levels,
+                out,
+                at,
+                ends,
+            )
         }
         Opened::Row(_, _, _) => Reached::Unknown,
         Opened::List(_, _, _) => Reached::Unknown,
@@ -363,7 +423,9 @@ pub fn transfer_over(
     levels: u8,
     out: &mut [u8],
     k: usize,
+    ends: &[u16],
 ) -> Reached
+    requires { ⌜ Ends v (now lay) (now ends) ⌝ }
     requires { ⌜ ((x : Value) × NodeOf v (now lay) (now rec) x node) ⌝ }
     requires { ⌜ SelectorAt (now plan) (c .at) ⌝ }
     requires { ⌜ (length (now rec) ≤ 65536) × (length (now plan) ≤ 65536) × (k ≤ 16384) ⌝ }
@@ -376,11 +438,44 @@ pub fn transfer_over(
     match head(plan, c) {
         SelectorHead::Position(_) => Reached::Unknown,
         SelectorHead::Constant(_, _) => Reached::Unknown,
-        SelectorHead::Cast(input) => cast_over(lay, v, rec, node, plan, c, input, out, k),
-        SelectorHead::Rename(_) => put_node(lay, v, rec, node, skip_selector(plan, c), out, k),
-        SelectorHead::Struct(input) => struct_over(lay, v, rec, node, plan, c, input, l, out, k),
-        SelectorHead::List(input) => list_over(lay, v, rec, node, plan, c, input, l, out, k),
-        SelectorHead::Array(input) => array_over(lay, v, rec, node, plan, c, input, l, out, k),
+        SelectorHead::Cast(input) => cast_over(lay, v, rec, node, plan, c, input, out, k, ends),
+        SelectorHead::Rename(_) => put_node(
+            lay,
+            v,
+            rec,
+            node,
+            skip_selector(plan, c),
+            out,
+            k,
+            ends,
+        ),
+        SelectorHead::Struct(input) => struct_over(
+            lay,
+            v,
+            rec,
+            node,
+            plan,
+            c,
+            input,
+            l,
+            out,
+            k,
+            ends,
+        ),
+        SelectorHead::List(input) => list_over(lay, v, rec, node, plan, c, input, l, out, k, ends),
+        SelectorHead::Array(input) => array_over(
+            lay,
+            v,
+            rec,
+            node,
+            plan,
+            c,
+            input,
+            l,
+            out,
+            k,
+            ends,
+        ),
         SelectorHead::Refused => Reached::Unknown,
     }
 }
@@ -397,14 +492,16 @@ fn transfer_taken(
     levels: u8,
     out: &mut [u8],
     k: usize,
+    ends: &[u16],
 ) -> Reached
+    requires { ⌜ Ends v (now lay) (now ends) ⌝ }
     requires { ⌜ ((x : Value) × NodeOf v (now lay) (now rec) x node) ⌝ }
     requires { ⌜ SelectorAt (now plan) (c .at) ⌝ }
     requires { ⌜ (length (now rec) ≤ 65536) × (length (now plan) ≤ 65536) × (k ≤ 16384) ⌝ }
     ensures { λ r. ⌜ ((ρ : Values) (P : SelectorAt (now (plan .entry)) (c .at)) → InputAt (now (plan .entry)) (c .at) P (input .at) → NodeOf v (now (lay .entry)) (now (rec .entry)) (valueAt ρ (takes (P .tree))) node → ReachedIs (clean (eval ρ (P .tree))) (encodeValue (eval ρ (P .tree))) (P .end) (now (out .entry)) k r (now (out .exit))) ⌝ }
 {
     if is_position(plan, input) {
-        return transfer_over(lay, v, rec, node, plan, c, levels, out, k);
+        return transfer_over(lay, v, rec, node, plan, c, levels, out, k, ends);
     }
     Reached::Unknown
 }
@@ -420,7 +517,9 @@ pub fn transfer(
     levels: u8,
     out: &mut [u8],
     k: usize,
+    ends: &[u16],
 ) -> Reached
+    requires { ⌜ Ends v (now lay) (now ends) ⌝ }
     requires { ⌜ ((x : Value) × NodeOf v (now lay) (now rec) x node) ⌝ }
     requires { ⌜ SelectorAt (now plan) (c .at) ⌝ }
     requires { ⌜ (length (now rec) ≤ 65536) × (length (now plan) ≤ 65536) × (k ≤ 16387) ⌝ }
@@ -433,21 +532,23 @@ pub fn transfer(
         return Reached::Unknown;
     }
     match head(plan, c) {
-        SelectorHead::Position(_) => { put_node(lay, v, rec, node, skip_selector(plan, c), out, k) }
+        SelectorHead::Position(_) => {
+            put_node(lay, v, rec, node, skip_selector(plan, c), out, k, ends)
+        }
         SelectorHead::Constant(_, t) => put_constant(plan, t, skip_selector(plan, c), out, k),
         SelectorHead::Rename(input) => {
-            let r = transfer(lay, v, rec, node, plan, input, levels - 1, out, k);
+            let r = transfer(lay, v, rec, node, plan, input, levels - 1, out, k, ends);
             past_name(plan, r)
         }
-        SelectorHead::Cast(_) => transfer_cast(lay, v, rec, node, plan, c, levels, out, k),
+        SelectorHead::Cast(_) => transfer_cast(lay, v, rec, node, plan, c, levels, out, k, ends),
         SelectorHead::Struct(input) => {
-            transfer_taken(lay, v, rec, node, plan, c, input, levels - 1, out, k)
+            transfer_taken(lay, v, rec, node, plan, c, input, levels - 1, out, k, ends)
         }
         SelectorHead::List(input) => {
-            transfer_taken(lay, v, rec, node, plan, c, input, levels - 1, out, k)
+            transfer_taken(lay, v, rec, node, plan, c, input, levels - 1, out, k, ends)
         }
         SelectorHead::Array(input) => {
-            transfer_taken(lay, v, rec, node, plan, c, input, levels - 1, out, k)
+            transfer_taken(lay, v, rec, node, plan, c, input, levels - 1, out, k, ends)
         }
         SelectorHead::Refused => Reached::Unknown,
     }

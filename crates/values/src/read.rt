@@ -4,6 +4,7 @@ ghost use Prim.Native.Nat.{ℕ};
 ghost use Rattle.layout.specs.Tree.{dtypeOf, fieldsOf};
 ghost use Rattle.layout.specs.Stands.{TypeAt, ColumnsAt};
 ghost use Rattle.layout.specs.Answers.{movedOf};
+ghost use Rattle.ends.specs.Ends.{Ends};
 ghost use Rattle.layout.specs.declared.version.Version.{Version as VersionOf};
 ghost use Rattle.values.specs.Reading.{value, values, content, listContent, times};
 ghost use Rattle.values.specs.Answers.{valueMoved, NumberIs};
@@ -12,6 +13,7 @@ use crate::leaf::Presence;
 use crate::leaf::pass;
 use crate::leaf::read_leaf;
 use crate::leaf::read_presence;
+use ends::skip::skip_type_by;
 use layout::columns::Labelled;
 use layout::cursor::Cursor;
 use layout::cursor::Moved;
@@ -19,7 +21,6 @@ use layout::cursor::Short;
 use layout::cursor::Step;
 use layout::types::Head;
 use layout::version::Version;
-use layout::walk::skip_type;
 
 // Where the type ends and where the value ends.
 pub enum ValueRead {
@@ -28,11 +29,12 @@ pub enum ValueRead {
 }
 
 // A value that ends at `c`, of a type that is not passed yet.
-fn pass_type(lay: &[u8], v: Version, depth: u8, t: Cursor, c: Cursor) -> ValueRead
+fn pass_type(lay: &[u8], v: Version, depth: u8, t: Cursor, c: Cursor, ends: &[u16]) -> ValueRead
     requires { ⌜ TypeAt v depth (now lay) (t .at) ⌝ }
+    requires { ⌜ Ends v (now lay) (now ends) ⌝ }
     ensures { λ r. ⌜ ((P : TypeAt v depth (now (lay .entry)) (t .at)) → r ≡ ValueRead.To (record { at = P .end }) c) ⌝ }
 {
-    ValueRead::To(skip_type(lay, v, depth, t), c)
+    ValueRead::To(skip_type_by(lay, v, depth, t, ends), c)
 }
 
 // What follows the presence byte of a number whose type is a code alone; or the type is another.
@@ -59,13 +61,22 @@ fn read_number(lay: &[u8], t: Cursor, rec: &[u8], c: Cursor) -> NumberRead
     }
 }
 
-pub fn read_value(lay: &[u8], v: Version, depth: u8, t: Cursor, rec: &[u8], c: Cursor) -> ValueRead
+pub fn read_value(
+    lay: &[u8],
+    v: Version,
+    depth: u8,
+    t: Cursor,
+    rec: &[u8],
+    c: Cursor,
+    ends: &[u16],
+) -> ValueRead
     requires { ⌜ TypeAt v depth (now lay) (t .at) ⌝ }
+    requires { ⌜ Ends v (now lay) (now ends) ⌝ }
     ensures { λ r. ⌜ ((P : TypeAt v depth (now (lay .entry)) (t .at)) → r ≡ valueMoved (P .end) (value (dtypeOf (P .tree)) (now (rec .entry)) (c .at))) ⌝ }
 {
     match read_presence(rec, c) {
-        Presence::Null(d) => pass_type(lay, v, depth, t, d),
-        Presence::Present(d) => read_content(lay, v, depth, t, rec, d),
+        Presence::Null(d) => pass_type(lay, v, depth, t, d, ends),
+        Presence::Present(d) => read_content(lay, v, depth, t, rec, d, ends),
         Presence::Refused(k) => ValueRead::Refused(k),
     }
 }
@@ -78,8 +89,10 @@ pub fn read_content(
     t: Cursor,
     rec: &[u8],
     c: Cursor,
+    ends: &[u16],
 ) -> ValueRead
     requires { ⌜ TypeAt v depth (now lay) (t .at) ⌝ }
+    requires { ⌜ Ends v (now lay) (now ends) ⌝ }
     ensures { λ r. ⌜ ((P : TypeAt v depth (now (lay .entry)) (t .at)) → r ≡ valueMoved (P .end) (content (dtypeOf (P .tree)) (now (rec .entry)) (c .at))) ⌝ }
 {
     match read_number(lay, t, rec, c) {
@@ -94,13 +107,13 @@ pub fn read_content(
                 Moved::Refused(k) => ValueRead::Refused(k),
             }
         }
-        Head::Struct(n, e) => read_fields(lay, v, depth - 1, n, e, rec, c),
+        Head::Struct(n, e) => read_fields(lay, v, depth - 1, n, e, rec, c, ends),
         Head::List(e) => match e.element_label(lay, v) {
-            Labelled::Is(_, f) => read_list(lay, v, depth - 1, f, rec, c),
+            Labelled::Is(_, f) => read_list(lay, v, depth - 1, f, rec, c, ends),
             Labelled::Refused(k) => ValueRead::Refused(k),
         },
         Head::Array(w, e) => match e.element_label(lay, v) {
-            Labelled::Is(_, f) => read_elements(lay, v, depth - 1, w, f, rec, c),
+            Labelled::Is(_, f) => read_elements(lay, v, depth - 1, w, f, rec, c, ends),
             Labelled::Refused(k) => ValueRead::Refused(k),
         },
         Head::Refused(k) => ValueRead::Refused(k),
@@ -116,8 +129,10 @@ pub fn read_fields(
     t: Cursor,
     rec: &[u8],
     c: Cursor,
+    ends: &[u16],
 ) -> ValueRead
     requires { ⌜ ColumnsAt v depth (now lay) n (t .at) ⌝ }
+    requires { ⌜ Ends v (now lay) (now ends) ⌝ }
     ensures { λ r. ⌜ ((P : ColumnsAt v depth (now (lay .entry)) n (t .at)) → r ≡ valueMoved (P .end) (values (fieldsOf (P .columns)) (now (rec .entry)) (c .at))) ⌝ }
 {
     let mut at = t.at;
@@ -128,7 +143,7 @@ pub fn read_fields(
         match d.label(lay, v) {
             Labelled::Is(_, e) => {
                 let b = Cursor { at: to };
-                match read_value(lay, v, depth, e, rec, b) {
+                match read_value(lay, v, depth, e, rec, b, ends) {
                     ValueRead::To(f, g) => {
                         at = f.at;
                         to = g.at;
@@ -144,24 +159,42 @@ pub fn read_fields(
 }
 
 // A count and as many values of one type.
-fn read_list(lay: &[u8], v: Version, depth: u8, t: Cursor, rec: &[u8], c: Cursor) -> ValueRead
+fn read_list(
+    lay: &[u8],
+    v: Version,
+    depth: u8,
+    t: Cursor,
+    rec: &[u8],
+    c: Cursor,
+    ends: &[u16],
+) -> ValueRead
     requires { ⌜ TypeAt v depth (now lay) (t .at) ⌝ }
+    requires { ⌜ Ends v (now lay) (now ends) ⌝ }
     ensures { λ r. ⌜ ((P : TypeAt v depth (now (lay .entry)) (t .at)) → r ≡ valueMoved (P .end) (listContent (value (dtypeOf (P .tree))) (now (rec .entry)) (c .at))) ⌝ }
 {
     match c.short(rec) {
-        Short::Is(n, d) => read_elements(lay, v, depth, n as u32, t, rec, d),
+        Short::Is(n, d) => read_elements(lay, v, depth, n as u32, t, rec, d, ends),
         Short::Refused(k) => ValueRead::Refused(k),
     }
 }
 
 // One element, whose type is not passed.
-pub fn read_element(lay: &[u8], v: Version, depth: u8, t: Cursor, rec: &[u8], c: Cursor) -> Moved
+pub fn read_element(
+    lay: &[u8],
+    v: Version,
+    depth: u8,
+    t: Cursor,
+    rec: &[u8],
+    c: Cursor,
+    ends: &[u16],
+) -> Moved
     requires { ⌜ TypeAt v depth (now lay) (t .at) ⌝ }
+    requires { ⌜ Ends v (now lay) (now ends) ⌝ }
     ensures { λ r. ⌜ ((P : TypeAt v depth (now (lay .entry)) (t .at)) → r ≡ movedOf (value (dtypeOf (P .tree)) (now (rec .entry)) (c .at))) ⌝ }
 {
     match read_presence(rec, c) {
         Presence::Null(d) => Moved::To(d),
-        Presence::Present(d) => match read_content(lay, v, depth, t, rec, d) {
+        Presence::Present(d) => match read_content(lay, v, depth, t, rec, d, ends) {
             ValueRead::To(_, e) => Moved::To(e),
             ValueRead::Refused(k) => Moved::Refused(k),
         },
@@ -178,15 +211,17 @@ pub fn read_elements(
     t: Cursor,
     rec: &[u8],
     c: Cursor,
+    ends: &[u16],
 ) -> ValueRead
     requires { ⌜ TypeAt v depth (now lay) (t .at) ⌝ }
+    requires { ⌜ Ends v (now lay) (now ends) ⌝ }
     ensures { λ r. ⌜ ((P : TypeAt v depth (now (lay .entry)) (t .at)) → r ≡ valueMoved (P .end) (times n (value (dtypeOf (P .tree))) (now (rec .entry)) (c .at))) ⌝ }
 {
     let mut at = c.at;
     let mut i: u32 = 0;
     while i < n {
         let d = Cursor { at };
-        match read_element(lay, v, depth, t, rec, d) {
+        match read_element(lay, v, depth, t, rec, d, ends) {
             Moved::To(e) => {
                 at = e.at;
             }
@@ -195,5 +230,5 @@ pub fn read_elements(
         i += 1;
     }
     let end = Cursor { at };
-    pass_type(lay, v, depth, t, end)
+    pass_type(lay, v, depth, t, end, ends)
 }

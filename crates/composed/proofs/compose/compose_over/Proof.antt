@@ -1,4 +1,5 @@
 use Rattle.composed.proofs.Composing.{formed-at, raw-node, composed-node, composed-answer}
+use Rattle.ends.proofs.Entries.{ends-none}
 use native.Mathlib.Omega.{arith}
 use mathlib.Core.Path.{refl}
 use Rattle.layout.proofs.Ways.{clash}
@@ -12,12 +13,14 @@ compose-over-spec =
     (tie.spec
     (λ c κs. (c .before .before .before .before .before .before .pre .0 .type, (c .before .before .before .before .before .before .pre .1 .0, (omega (arith, c .before .before .before .before .before .before .pre .1 .1), omega (arith, c .before .before .before .before .before .before .pre .1 .1), omega (arith, c .before .before .before .before .before .before .pre .1 .1), omega arith, omega arith))))
     (λ c. search needs)
-    (λ c κs. ((_, raw-node refl refl (c .before .before .before .before .before .before .before .before .before .before .before .before .pre .0)), (c .before .before .before .before .before .before .before .before .before .before .before .before .pre .1 .0, (omega (arith, c .before .before .before .before .before .before .before .before .before .before .before .before .pre .1 .1), omega (arith, c .before .before .before .before .before .before .before .before .before .before .before .before .pre .1 .1), omega arith))))
+    (λ c. search needs)
+    (λ c. search needs)
+    (λ c κs. (ends-none refl, ((_, raw-node refl refl (c .before .before .before .before .before .before .before .before .before .before .before .before .before .pre .0)), (c .before .before .before .before .before .before .before .before .before .before .before .before .before .pre .1 .0, (omega (arith, c .before .before .before .before .before .before .before .before .before .before .before .before .before .pre .1 .1), omega (arith, c .before .before .before .before .before .before .before .before .before .before .before .before .before .pre .1 .1), omega arith)))))
     (λ c κs. search needs)
     (λ c. search needs)
     (λ c. search needs)
     (λ c. search needs)
     (λ c. λ e Γ ρ P A C.
-    composed-answer (formed-at (λ i. omega (arith, c .before .before .before .before .before .before .before .before .before .before .before .before .before .shared-slice-known3 .given i)) P) A (c .before .before .before .before .before .before .before .before .before .infer-over .ensures (C .raw .type) P Γ (C .name) (C .typed)) (c .before .before .before .before .before .enum-told .given .1) (c .before .before .before .transfer-over .ensures ρ P (composed-node refl refl C)) (c .stored-within .ensures e))
+    composed-answer (formed-at (λ i. omega (arith, c .before .before .before .before .before .before .before .before .before .before .before .before .before .before .shared-slice-known3 .given i)) P) A (c .before .before .before .before .before .before .before .before .before .before .infer-over .ensures (C .raw .type) P Γ (C .name) (C .typed)) (c .before .before .before .before .before .before .enum-told .given .1) (c .before .before .before .transfer-over .ensures ρ P (composed-node refl refl C)) (c .stored-within .ensures e))
     (λ c. search needs)
     (λ c. λ e. clash (cc)))

@@ -8,6 +8,7 @@ transfer-record-spec =
     (tie.spec
     (λ c κs. search needs)
     (λ c κs. search needs)
+    (λ c κs. search needs)
     (λ c. search needs)
     (λ c. λ X S. c .output-of .ensures _ _ _ _ _ (c .before .before .before .transfer-few .ensures X S))
     (λ c κs. search needs)

@@ -9,10 +9,10 @@ use Rattle.index.proofs.row.index_row.Statement.{statement}
 use Rattle.index.proofs.row.index_row.Tie as tie
 
 abbrev Inv-loop : tie.InvT-loop
-Inv-loop lay v n rec stride types₀ values₀ at₀ to₀ i₀ j₀ types values at to i j = Filling v lay n at₀ rec to₀ stride at to i j types values × (length types ≡ length types₀) × (length values ≡ length values₀)
+Inv-loop lay v n rec stride types₀ values₀ ends at₀ to₀ i₀ j₀ types values at to i j = Filling v lay n at₀ rec to₀ stride at to i j types values × (length types ≡ length types₀) × (length values ≡ length values₀)
 
 abbrev μ-loop : tie.MeasureT-loop
-μ-loop lay v n rec stride types₀ values₀ at₀ to₀ i₀ j₀ types values at to i j = length types₀ - j
+μ-loop lay v n rec stride types₀ values₀ ends at₀ to₀ i₀ j₀ types values at to i j = length types₀ - j
 
 pub index-row-spec : {M : Type 1} → statement M
 index-row-spec =
@@ -33,7 +33,7 @@ index-row-spec =
     (λ c. length-set (c .before .before .before .loop .types) (c .before .before .before .loop .j) (c .before .before .before .loop .at) ∙ c .before .before .before .loop .inv .1)
     (λ c. length-set (c .before .before .before .loop .values) (c .before .before .before .loop .j) (c .before .before .before .loop .to) ∙ c .before .before .before .loop .inv .2)
     (λ c. let h = c .before .before .storable .ensures (c .before .if1 .taken) in let a = c .before .before .before .loop .inv .0 in (filling-room a (h .0) (h .1), (filling-same a (h .0) (h .1), filling-last a (h .0) (h .1))))
-    (λ c κs. let h = c .before .before .storable .ensures (c .before .if1 .taken) in filling-front (c .before .before .before .loop .inv .0) (h .0) (h .1) (c .if2 .left) (c .before .before .before .before .before .before .before .before .pre))
+    (λ c κs. (let h = c .before .before .storable .ensures (c .before .if1 .taken) in filling-front (c .before .before .before .loop .inv .0) (h .0) (h .1) (c .if2 .left) (c .before .before .before .before .before .before .before .before .before .pre .0), c .before .before .before .before .before .before .before .before .before .pre .1))
     (λ c. search needs)
     (λ c. search needs)
     (λ c. length-set (c .before .before .before .before .before .before .loop .types) (c .before .before .before .before .before .before .loop .j) (c .before .before .before .before .before .before .loop .at) ∙ c .before .before .before .before .before .before .loop .inv .1)

@@ -9,7 +9,7 @@ field-at-spec =
     tie.close
     (tie.spec
     (λ c. λ X. field-past X (c .if1 .taken))
-    (λ c κs. field-front (c .before .before .before .pre) (c .if1 .left))
+    (λ c κs. (field-front (c .before .before .before .before .pre .0) (c .if1 .left), c .before .before .before .before .pre .1))
     (λ c. search needs)
     (λ c κs. search needs)
     (λ c. search needs)

@@ -12,7 +12,7 @@ list-element-spec =
     (λ c κs. search needs)
     (λ c. search needs)
     (λ c. search needs)
-    (λ c κs. list-counted (c .before .before .before .before .before .before .pre) (c .before .before .before .short .ensures) (c .before .n .given .1) .elements)
+    (λ c κs. (list-counted (c .before .before .before .before .before .before .before .pre .0) (c .before .before .before .short .ensures) (c .before .n .given .1) .elements, c .before .before .before .before .before .before .before .pre .1))
     (λ c. search needs)
     (λ c. λ X. let L = list-counted X (c .before .before .before .before .short .ensures) (c .before .before .n .given .1) in node-as (sym (L .part _)) (c .element-at .ensures (L .elements)))
     (λ c. λ X. list-uncounted X (c .before .before .short .ensures) (c .enum-told .given .1)))

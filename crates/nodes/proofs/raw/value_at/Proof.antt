@@ -6,10 +6,10 @@ use Rattle.nodes.proofs.raw.value_at.Statement.{statement}
 use Rattle.nodes.proofs.raw.value_at.Tie as tie
 
 abbrev Inv-loop : tie.InvT-loop
-Inv-loop lay v rec from len path at₀ to₀ i₀ at to i = Going v lay at₀ rec to₀ path from len at to i
+Inv-loop lay v rec from len ends path at₀ to₀ i₀ at to i = Going v lay at₀ rec to₀ path from len at to i
 
 abbrev μ-loop : tie.MeasureT-loop
-μ-loop lay v rec from len path at₀ to₀ i₀ at to i = len - i
+μ-loop lay v rec from len ends path at₀ to₀ i₀ at to i = len - i
 
 pub value-at-spec : {M : Type 1} → statement M
 value-at-spec =
@@ -17,14 +17,14 @@ value-at-spec =
     (tie.spec
     Inv-loop
     μ-loop
-    (λ c. going-start (c .before .before .pre .1 .0))
+    (λ c. going-start (c .before .before .before .pre .1 .0 .0))
     (λ c. search needs)
     (λ c. search needs)
-    (λ c κs. c .before .loop .inv .goes (c .before .before .before .before .pre .0) .raw)
+    (λ c κs. (c .before .loop .inv .goes (c .before .before .before .before .before .pre .0) .raw, c .before .before .before .before .before .pre .1 .1))
     (λ c. search needs)
     (λ c. search needs)
-    (λ c. going-nowhere (c .before .before .before .before .loop .inv) (c .before .before .before .loop-test .taken) (c .before .before .before .before .before .before .before .pre .1 .1) (c .before .before .part-at .ensures) (c .enum-told .given .1))
+    (λ c. going-nowhere (c .before .before .before .before .loop .inv) (c .before .before .before .loop-test .taken) (c .before .before .before .before .before .before .before .before .pre .1 .0 .1) (c .before .before .part-at .ensures) (c .enum-told .given .1))
     (λ c. search needs)
     (λ c. search needs)
-    (λ c. going-more (c .before .before .before .before .before .loop .inv) (c .before .before .before .before .loop-test .taken) (c .before .before .before .before .before .before .before .before .pre .1 .1) (c .before .before .before .part-at .ensures) (c .before .e .given .1))
+    (λ c. going-more (c .before .before .before .before .before .loop .inv) (c .before .before .before .before .loop-test .taken) (c .before .before .before .before .before .before .before .before .before .pre .1 .0 .1) (c .before .before .before .part-at .ensures) (c .before .e .given .1))
     (λ c. going-end (c .before .loop .inv) (c .loop-test .left)))

@@ -33,40 +33,40 @@ use Rattle.walk.proofs.walk.Walk.child.Reads as child-reads
 use Rattle.output.proofs.emit.+emit+emit_mapping+emit_parts.{statement}
 use Rattle.output.proofs.emit.+emit+emit_mapping+emit_parts.Tie.{close}
 
-abbrev μ-emit : Measures 4 emit-kinds.ps ℕ
+abbrev μ-emit : Measures 5 emit-kinds.ps ℕ
 μ-emit κs a = 3 * rank (a .1 .1 .1 .1 .1 .1 .0) + 2
 
-abbrev μ-emit-mapping : Measures 4 emit-mapping-kinds.ps ℕ
+abbrev μ-emit-mapping : Measures 5 emit-mapping-kinds.ps ℕ
 μ-emit-mapping κs a = 3 * rank (a .1 .1 .1 .1 .1 .1 .0) + 1
 
-abbrev μ-emit-parts : Measures 4 emit-parts-kinds.ps ℕ
+abbrev μ-emit-parts : Measures 5 emit-parts-kinds.ps ℕ
 μ-emit-parts κs a = 3 * rank (a .1 .1 .1 .1 .1 .1 .0)
 
-abbrev emit-at : ℕ → In 4 emit-kinds.ps
-emit-at t = and 4 emit-kinds.ps (is 4 emit-kinds.ps μ-emit t) emit.Pre
+abbrev emit-at : ℕ → In 5 emit-kinds.ps
+emit-at t = and 5 emit-kinds.ps (is 5 emit-kinds.ps μ-emit t) emit.Pre
 
-abbrev emit-below : ℕ → In 4 emit-kinds.ps
-emit-below t = and 4 emit-kinds.ps (falls 4 emit-kinds.ps _<_ μ-emit t) emit.Pre
+abbrev emit-below : ℕ → In 5 emit-kinds.ps
+emit-below t = and 5 emit-kinds.ps (falls 5 emit-kinds.ps _<_ μ-emit t) emit.Pre
 
-abbrev emit-mapping-at : ℕ → In 4 emit-mapping-kinds.ps
+abbrev emit-mapping-at : ℕ → In 5 emit-mapping-kinds.ps
 emit-mapping-at t =
-    and 4 emit-mapping-kinds.ps (is 4 emit-mapping-kinds.ps μ-emit-mapping t) emit-mapping.Pre
+    and 5 emit-mapping-kinds.ps (is 5 emit-mapping-kinds.ps μ-emit-mapping t) emit-mapping.Pre
 
-abbrev emit-mapping-below : ℕ → In 4 emit-mapping-kinds.ps
+abbrev emit-mapping-below : ℕ → In 5 emit-mapping-kinds.ps
 emit-mapping-below t =
     and
-    4
+    5
     emit-mapping-kinds.ps
-    (falls 4 emit-mapping-kinds.ps _<_ μ-emit-mapping t)
+    (falls 5 emit-mapping-kinds.ps _<_ μ-emit-mapping t)
     emit-mapping.Pre
 
-abbrev emit-parts-at : ℕ → In 4 emit-parts-kinds.ps
+abbrev emit-parts-at : ℕ → In 5 emit-parts-kinds.ps
 emit-parts-at t =
-    and 4 emit-parts-kinds.ps (is 4 emit-parts-kinds.ps μ-emit-parts t) emit-parts.Pre
+    and 5 emit-parts-kinds.ps (is 5 emit-parts-kinds.ps μ-emit-parts t) emit-parts.Pre
 
-abbrev emit-parts-below : ℕ → In 4 emit-parts-kinds.ps
+abbrev emit-parts-below : ℕ → In 5 emit-parts-kinds.ps
 emit-parts-below t =
-    and 4 emit-parts-kinds.ps (falls 4 emit-parts-kinds.ps _<_ μ-emit-parts t) emit-parts.Pre
+    and 5 emit-parts-kinds.ps (falls 5 emit-parts-kinds.ps _<_ μ-emit-parts t) emit-parts.Pre
 
 abbrev emit-claims : ℕ → emit-lts.Claims
 emit-claims t = (find-origin-reads.Asked, find-origin-reads.Learnt, source-at-reads.Asked, source-at-reads.Learnt, put-null-reads.Asked, put-null-reads.Learnt, put-raw-reads.Asked, put-raw-reads.Learnt, emit-constant-reads.Asked, emit-constant-reads.Learnt, emit-mapping-below t, emit-mapping.Post)
@@ -78,46 +78,46 @@ abbrev emit-parts-claims : ℕ → emit-parts-lts.Claims
 emit-parts-claims t = (child-reads.Asked, child-reads.Learnt, emit-below t, emit.Post)
 
 abbrev emit-parts-Inv-loop : emit-parts-lts.InvT-loop
-emit-parts-Inv-loop lay v n columns rec plan w m out₀ k at₀ i₀ out at i = ((A : EmitAt v lay n (columns .at) rec plan w) × Mapped (A .state) × (m ≡ countValues (parts (stateValue (A .row .values .values) (A .state))))) × (length out ≡ length out₀) × ((A : EmitAt v lay n (columns .at) rec plan w) → Mapped (A .state) → m ≡ countValues (parts (stateValue (A .row .values .values) (A .state))) → Rowing (parts (stateValue (A .row .values .values) (A .state))) out₀ k i at out)
+emit-parts-Inv-loop lay v n columns rec plan w m out₀ k table at₀ i₀ out at i = ((A : EmitAt v lay n (columns .at) rec plan w) × Mapped (A .state) × (m ≡ countValues (parts (stateValue (A .row .values .values) (A .state))))) × (length out ≡ length out₀) × ((A : EmitAt v lay n (columns .at) rec plan w) → Mapped (A .state) → m ≡ countValues (parts (stateValue (A .row .values .values) (A .state))) → Rowing (parts (stateValue (A .row .values .values) (A .state))) out₀ k i at out)
 
 abbrev emit-parts-μ-loop : emit-parts-lts.MeasureT-loop
-emit-parts-μ-loop lay v n columns rec plan w m out₀ k at₀ i₀ out at i = m - i
+emit-parts-μ-loop lay v n columns rec plan w m out₀ k table at₀ i₀ out at i = m - i
 
 pub +emit+emit-mapping+emit-parts-spec : {M : Type 1} → statement M
 +emit+emit-mapping+emit-parts-spec = close μ-emit μ-emit-mapping μ-emit-parts (λ t. emit-lts.spec (emit-claims t)
     (emit-at t)
     emit.Post
-    (λ c κs. let A = c .before .before .before .before .pre .1 .0 in (A .state, A .standing))
-    (λ c κs. let A = c .before .before .before .before .before .before .pre .1 .0 in
+    (λ c κs. let A = c .before .before .before .before .before .pre .1 .1 .0 in (A .state, A .standing))
+    (λ c κs. let A = c .before .before .before .before .before .before .before .pre .1 .1 .0 in
     let O = c .before .find-origin .ensures _ (A .standing) in
-    (A .row, (O .state, O .standing)))
+    (c .before .before .before .before .before .before .before .pre .1 .0, (A .row, (O .state, O .standing))))
     (λ c. search needs)
     (λ c κs. search needs)
     (λ c. search needs)
-    (λ c κs. let A = c .before .before .before .before .before .before .before .before .before .before .before .pre .1 .0 in
+    (λ c κs. let A = c .before .before .before .before .before .before .before .before .before .before .before .before .pre .1 .1 .0 in
     let O = c .before .before .before .before .before .before .find-origin .ensures _ (A .standing) in
     let N = from-record (c .before .before .before .before .source-at .ensures (A .row) _ (O .standing) (O .ended)) (c .before .before .t .given .1) in
-    (N .raw, ((A .state, A .standing), omega (arith, c .before .before .before .before .before .before .before .before .before .before .before .pre .1 .1, A .short))))
+    (c .before .before .before .before .before .before .before .before .before .before .before .before .pre .1 .0, (N .raw, ((A .state, A .standing), omega (arith, c .before .before .before .before .before .before .before .before .before .before .before .before .pre .1 .1 .1, A .short)))))
     (λ c. search needs)
-    (λ c κs. let A = c .before .before .before .before .before .before .before .before .before .before .before .pre .1 .0 in
+    (λ c κs. let A = c .before .before .before .before .before .before .before .before .before .before .before .before .pre .1 .1 .0 in
     let O = c .before .before .before .before .before .before .find-origin .ensures _ (A .standing) in
     let C = from-constant (c .before .before .before .before .source-at .ensures (A .row) _ (O .standing) (O .ended)) (c .before .before .t2 .given .1) in
-    ((A .row, O .state, O .standing, C), ((A .state, A .standing), c .before .before .before .before .before .before .before .before .before .before .before .pre .1 .1)))
+    (c .before .before .before .before .before .before .before .before .before .before .before .before .pre .1 .0, ((A .row, O .state, O .standing, C), ((A .state, A .standing), c .before .before .before .before .before .before .before .before .before .before .before .before .pre .1 .1 .1))))
     (λ c. search needs)
-    (λ c κs. let A = c .before .before .before .before .before .before .before .before .before .before .pre .1 .0 in
+    (λ c κs. let A = c .before .before .before .before .before .before .before .before .before .before .before .pre .1 .1 .0 in
     let O = c .before .before .before .before .before .find-origin .ensures _ (A .standing) in
     let (M, e) = struct-mapped (from-struct (c .before .before .before .source-at .ensures (A .row) _ (O .standing) (O .ended)) (c .before .enum-told2 .given .1)) in
-    (omega (arith, O .falls, c .before .before .before .before .before .before .before .before .before .before .pre .0), (mapped-asks A O M e, c .before .before .before .before .before .before .before .before .before .before .pre .1 .1)))
+    (omega (arith, O .falls, c .before .before .before .before .before .before .before .before .before .before .before .pre .0), (c .before .before .before .before .before .before .before .before .before .before .before .pre .1 .0, (mapped-asks A O M e, c .before .before .before .before .before .before .before .before .before .before .before .pre .1 .1 .1))))
     (λ c. search needs)
-    (λ c κs. let A = c .before .before .before .before .before .before .before .before .before .before .pre .1 .0 in
+    (λ c κs. let A = c .before .before .before .before .before .before .before .before .before .before .before .pre .1 .1 .0 in
     let O = c .before .before .before .before .before .find-origin .ensures _ (A .standing) in
     let (M, e) = list-mapped (from-list (c .before .before .before .source-at .ensures (A .row) _ (O .standing) (O .ended)) (c .before .enum-told3 .given .1)) in
-    (omega (arith, O .falls, c .before .before .before .before .before .before .before .before .before .before .pre .0), (mapped-asks A O M e, c .before .before .before .before .before .before .before .before .before .before .pre .1 .1)))
+    (omega (arith, O .falls, c .before .before .before .before .before .before .before .before .before .before .before .pre .0), (c .before .before .before .before .before .before .before .before .before .before .before .pre .1 .0, (mapped-asks A O M e, c .before .before .before .before .before .before .before .before .before .before .before .pre .1 .1 .1))))
     (λ c. search needs)
-    (λ c κs. let A = c .before .before .before .before .before .before .before .before .before .before .pre .1 .0 in
+    (λ c κs. let A = c .before .before .before .before .before .before .before .before .before .before .before .pre .1 .1 .0 in
     let O = c .before .before .before .before .before .find-origin .ensures _ (A .standing) in
     let (M, e) = array-mapped (from-array (c .before .before .before .source-at .ensures (A .row) _ (O .standing) (O .ended)) (c .before .enum-told4 .given .1)) in
-    (omega (arith, O .falls, c .before .before .before .before .before .before .before .before .before .before .pre .0), (mapped-asks A O M e, c .before .before .before .before .before .before .before .before .before .before .pre .1 .1)))
+    (omega (arith, O .falls, c .before .before .before .before .before .before .before .before .before .before .before .pre .0), (c .before .before .before .before .before .before .before .before .before .before .before .pre .1 .0, (mapped-asks A O M e, c .before .before .before .before .before .before .before .before .before .before .before .pre .1 .1 .1))))
     (λ c. search needs)
     (λ c. λ A.
     let O = c .before .before .before .before .before .before .before .before .find-origin .ensures _ (A .standing) in
@@ -150,14 +150,14 @@ pub +emit+emit-mapping+emit-parts-spec : {M : Type 1} → statement M
     (λ t. emit-mapping-lts.spec (emit-mapping-claims t)
     (emit-mapping-at t)
     emit-mapping.Post
-    (λ c κs. let A = c .before .before .before .before .pre .1 .0 .0 in (A .row, (A .state, A .standing)))
+    (λ c κs. let A = c .before .before .before .before .before .pre .1 .1 .0 .0 in (c .before .before .before .before .before .pre .1 .0, (A .row, (A .state, A .standing))))
     (λ c. search needs)
     (λ c κs. search needs)
     (λ c. search needs)
     (λ c κs. search needs)
-    (λ c κs. let (A, M, e) = c .before .before .before .before .before .before .before .before .before .before .before .before .before .pre .1 .0 in
+    (λ c κs. let (A, M, e) = c .before .before .before .before .before .before .before .before .before .before .before .before .before .before .pre .1 .1 .0 in
     let h = c .before .before .before .before .before .before .before .before .parts-count .ensures (A .row) _ (A .standing) in
-    (omega (arith, c .before .before .before .before .before .before .before .before .before .before .before .before .before .pre .0), ((A, M, mapping-counted _ M e h (c .before .before .before .before .before .before .m .given .1)), omega (arith, c .before .before .before .put-lead .ensures .ends, lead-short (c .before .before .before .before .before .before .before .before .before .before .before .before .before .args .counted) (c .before .before .before .before .before .before .m .given .0 .0), c .before .before .before .before .before .before .before .before .before .before .before .before .before .pre .1 .1))))
+    (omega (arith, c .before .before .before .before .before .before .before .before .before .before .before .before .before .before .pre .0), (c .before .before .before .before .before .before .before .before .before .before .before .before .before .before .pre .1 .0, ((A, M, mapping-counted _ M e h (c .before .before .before .before .before .before .m .given .1)), omega (arith, c .before .before .before .put-lead .ensures .ends, lead-short (c .before .before .before .before .before .before .before .before .before .before .before .before .before .before .args .counted) (c .before .before .before .before .before .before .m .given .0 .0), c .before .before .before .before .before .before .before .before .before .before .before .before .before .before .pre .1 .1 .1)))))
     (λ c. search needs)
     (λ c. λ A M e. mapping-null _ M e (c .before .before .before .before .before .before .parts-count .ensures (A .row) _ (A .standing)) (c .before .before .before .before .enum-told .given .1) (c .before .before .put-null .ensures))
     (λ c. search needs)
@@ -169,7 +169,7 @@ pub +emit+emit-mapping+emit-parts-spec : {M : Type 1} → statement M
     emit-parts.Post
     emit-parts-Inv-loop
     emit-parts-μ-loop
-    (λ c. (c .before .before .before .before .pre .1 .0, refl, λ A M h. rowing-none _ _ _))
+    (λ c. (c .before .before .before .before .before .pre .1 .1 .0, refl, λ A M h. rowing-none _ _ _))
     (λ c. c .before .before .loop .inv .1)
     (λ c. λ A M h. rowing-past (c .before .before .loop .inv .2 A M h) (c .if1 .taken))
     (λ c. let ((A, M, h), l, f) = c .before .before .loop .inv in
@@ -179,7 +179,7 @@ pub +emit+emit-mapping+emit-parts-spec : {M : Type 1} → statement M
     ((A .state, A .standing), part-room A M i))
     (λ c κs. let ((A, M, h), l, f) = c .before .before .before .before .loop .inv in
     let i : c .before .before .before .before .loop .i < countValues (parts (stateValue (A .row .values .values) (A .state))) = omega (arith, h, c .before .before .before .loop-test .taken) in
-    (omega (arith, part-falls A M i (c .before .child .ensures), c .before .before .before .before .before .before .before .before .before .pre .0), (part-emit A M i (c .before .child .ensures), c .before .before .if1 .left)))
+    (omega (arith, part-falls A M i (c .before .child .ensures), c .before .before .before .before .before .before .before .before .before .before .pre .0), (c .before .before .before .before .before .before .before .before .before .before .pre .1 .0, (part-emit A M i (c .before .child .ensures), c .before .before .if1 .left))))
     (λ c. omega (arith, c .before .before .before .before .before .before .loop-test .taken))
     (λ c. omega (arith, c .before .before .before .before .before .before .loop-test .taken))
     (λ c. let (R, l, f) = c .before .before .before .before .before .before .before .loop .inv in

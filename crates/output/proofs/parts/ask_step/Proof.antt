@@ -9,15 +9,15 @@ pub ask-step-spec : {M : Type 1} → statement M
 ask-step-spec =
     tie.close
     (tie.spec
-    (λ c κs. let (x, W, h) = c .before .before .before .pre .1 in (c .before .before .before .pre .0, (x, W)))
+    (λ c κs. let (x, W, h) = c .before .before .before .before .pre .1 .1 in (c .before .before .before .before .pre .0, (c .before .before .before .before .pre .1 .0, (x, W))))
     (λ c. search needs)
     (λ c. search needs)
-    (λ c κs. let (x, W, h) = c .before .before .before .before .before .before .before .pre .1 in from-record (c .before .before .before .source-at .ensures (c .before .before .before .before .before .before .before .pre .0) x W h) (c .before .t .given .1) .raw)
+    (λ c κs. let (x, W, h) = c .before .before .before .before .before .before .before .before .pre .1 .1 in from-record (c .before .before .before .source-at .ensures (c .before .before .before .before .before .before .before .before .pre .1 .0) x W h) (c .before .t .given .1) .raw)
     (λ c κs. search needs)
     (λ c. search needs)
-    (λ c κs. let (x, W, h) = c .before .before .before .before .before .before .before .pre .1 in from-constant (c .before .before .before .source-at .ensures (c .before .before .before .before .before .before .before .pre .0) x W h) (c .before .t2 .given .1) .node .raw)
+    (λ c κs. let (x, W, h) = c .before .before .before .before .before .before .before .before .pre .1 .1 in from-constant (c .before .before .before .source-at .ensures (c .before .before .before .before .before .before .before .before .pre .1 .0) x W h) (c .before .t2 .given .1) .node .raw)
     (λ c κs. search needs)
-    (λ c κs. let (x, W, h) = c .before .before .before .before .before .before .before .before .before .pre .1 in (x, W))
+    (λ c κs. let (x, W, h) = c .before .before .before .before .before .before .before .before .before .before .pre .1 .1 in (x, W))
     (λ c. search needs)
     (λ c. search needs)
     (λ c κs. search needs)

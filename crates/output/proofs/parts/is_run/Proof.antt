@@ -11,11 +11,11 @@ is-run-spec =
     tie.close
     (tie.spec
     (λ c. λ X x u W. run-top _ x u (top-frames W (c .if1 .taken)))
-    (λ c κs. (c .before .before .before .before .before .pre .1, omega (arith, c .if1 .left)))
-    (λ c κs. outward-inside (c .before .before .before .before .before .before .pre .1 .1) (c .before .if1 .left))
-    (λ c κs. let (x, W) = c .before .before .before .before .before .before .before .pre .1 in
+    (λ c κs. (c .before .before .before .before .before .before .pre .1 .1, omega (arith, c .if1 .left)))
+    (λ c κs. outward-inside (c .before .before .before .before .before .before .before .pre .1 .1 .1) (c .before .if1 .left))
+    (λ c κs. let (x, W) = c .before .before .before .before .before .before .before .before .pre .1 .1 in
     let (f, F, e) = some-inner (c .before .before .if1 .left) (W .entries) in
-    (c .before .before .before .before .before .before .before .pre .0, (_, c .outward .ensures _ x f F W e .standing)))
+    (c .before .before .before .before .before .before .before .before .pre .0, (c .before .before .before .before .before .before .before .before .pre .1 .0, (_, c .outward .ensures _ x f F W e .standing))))
     (λ c. search needs)
     (λ c. search needs)
     (λ c. λ X x u W.

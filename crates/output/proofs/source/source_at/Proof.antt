@@ -12,11 +12,11 @@ source-at-spec =
     (tie.spec
     (λ c κs. search needs)
     (λ c. search needs)
-    (λ c κs. let W = c .before .before .before .before .before .before .before .before .before .pre .1 .1 in (c .before .before .before .before .before .before .before .before .before .pre .0, (W .deep, omega (arith, W .short, W .room .1))))
+    (λ c κs. let W = c .before .before .before .before .before .before .before .before .before .before .pre .1 .1 .1 in (c .before .before .before .before .before .before .before .before .before .before .pre .0, (c .before .before .before .before .before .before .before .before .before .before .pre .1 .0, (W .deep, omega (arith, W .short, W .room .1)))))
     (λ c κs. search needs)
     (λ c. λ X x W h. source-column W _ (is-position (c .before .before .before .before .before .before .before .head .ensures (W .here)) (c .before .before .before .before .before .k .given .1) .1) (c .before .before .if1 .taken) (c .before .column-node .ensures X) (c .record-source .ensures))
     (λ c. search needs)
-    (λ c κs. let W = c .before .before .before .before .before .before .before .pre .1 .1 in (constant-part (is-constant (c .before .before .before .head .ensures (W .here)) (c .before .t .given .1)), (W .deep, omega (arith, W .short, W .room .1))))
+    (λ c κs. let W = c .before .before .before .before .before .before .before .before .pre .1 .1 .1 in (constant-part (is-constant (c .before .before .before .head .ensures (W .here)) (c .before .t .given .1)), (W .deep, omega (arith, W .short, W .room .1))))
     (λ c κs. search needs)
     (λ c. search needs)
     (λ c. search needs)

@@ -33,50 +33,50 @@ use Rattle.values.proofs.read.read_element.Reads as read-element-reads
 use Rattle.overflow.proofs.scan.+some_at+some_element+some_listed+some_part.{statement}
 use Rattle.overflow.proofs.scan.+some_at+some_element+some_listed+some_part.Tie.{close}
 
-abbrev μ-some-at : Measures 2 some-at-kinds.ps ℕ
+abbrev μ-some-at : Measures 3 some-at-kinds.ps ℕ
 μ-some-at κs a = ((a .1 .1 .1 .1 .1 .1 .1 .0) - (a .1 .1 .1 .1 .1 .1 .0)) * 4 + 1
 
-abbrev μ-some-element : Measures 2 some-element-kinds.ps ℕ
+abbrev μ-some-element : Measures 3 some-element-kinds.ps ℕ
 μ-some-element κs a = ((a .1 .1 .1 .1 .1 .1 .1 .1 .0) - (a .1 .1 .1 .1 .1 .1 .1 .0)) * 4 + 2
 
-abbrev μ-some-listed : Measures 2 some-listed-kinds.ps ℕ
+abbrev μ-some-listed : Measures 3 some-listed-kinds.ps ℕ
 μ-some-listed κs a = ((a .1 .1 .1 .1 .1 .1 .1 .0) - (a .1 .1 .1 .1 .1 .1 .0)) * 4 + 3
 
-abbrev μ-some-part : Measures 2 some-part-kinds.ps ℕ
+abbrev μ-some-part : Measures 3 some-part-kinds.ps ℕ
 μ-some-part κs a = ((a .1 .1 .1 .1 .1 .1 .1 .0) - (a .1 .1 .1 .1 .1 .1 .0)) * 4 + 0
 
-abbrev some-at-at : ℕ → In 2 some-at-kinds.ps
-some-at-at t = and 2 some-at-kinds.ps (is 2 some-at-kinds.ps μ-some-at t) some-at.Pre
+abbrev some-at-at : ℕ → In 3 some-at-kinds.ps
+some-at-at t = and 3 some-at-kinds.ps (is 3 some-at-kinds.ps μ-some-at t) some-at.Pre
 
-abbrev some-at-below : ℕ → In 2 some-at-kinds.ps
-some-at-below t = and 2 some-at-kinds.ps (falls 2 some-at-kinds.ps _<_ μ-some-at t) some-at.Pre
+abbrev some-at-below : ℕ → In 3 some-at-kinds.ps
+some-at-below t = and 3 some-at-kinds.ps (falls 3 some-at-kinds.ps _<_ μ-some-at t) some-at.Pre
 
-abbrev some-element-at : ℕ → In 2 some-element-kinds.ps
+abbrev some-element-at : ℕ → In 3 some-element-kinds.ps
 some-element-at t =
-    and 2 some-element-kinds.ps (is 2 some-element-kinds.ps μ-some-element t) some-element.Pre
+    and 3 some-element-kinds.ps (is 3 some-element-kinds.ps μ-some-element t) some-element.Pre
 
-abbrev some-element-below : ℕ → In 2 some-element-kinds.ps
+abbrev some-element-below : ℕ → In 3 some-element-kinds.ps
 some-element-below t =
     and
-    2
+    3
     some-element-kinds.ps
-    (falls 2 some-element-kinds.ps _<_ μ-some-element t)
+    (falls 3 some-element-kinds.ps _<_ μ-some-element t)
     some-element.Pre
 
-abbrev some-listed-at : ℕ → In 2 some-listed-kinds.ps
+abbrev some-listed-at : ℕ → In 3 some-listed-kinds.ps
 some-listed-at t =
-    and 2 some-listed-kinds.ps (is 2 some-listed-kinds.ps μ-some-listed t) some-listed.Pre
+    and 3 some-listed-kinds.ps (is 3 some-listed-kinds.ps μ-some-listed t) some-listed.Pre
 
-abbrev some-listed-below : ℕ → In 2 some-listed-kinds.ps
+abbrev some-listed-below : ℕ → In 3 some-listed-kinds.ps
 some-listed-below t =
-    and 2 some-listed-kinds.ps (falls 2 some-listed-kinds.ps _<_ μ-some-listed t) some-listed.Pre
+    and 3 some-listed-kinds.ps (falls 3 some-listed-kinds.ps _<_ μ-some-listed t) some-listed.Pre
 
-abbrev some-part-at : ℕ → In 2 some-part-kinds.ps
-some-part-at t = and 2 some-part-kinds.ps (is 2 some-part-kinds.ps μ-some-part t) some-part.Pre
+abbrev some-part-at : ℕ → In 3 some-part-kinds.ps
+some-part-at t = and 3 some-part-kinds.ps (is 3 some-part-kinds.ps μ-some-part t) some-part.Pre
 
-abbrev some-part-below : ℕ → In 2 some-part-kinds.ps
+abbrev some-part-below : ℕ → In 3 some-part-kinds.ps
 some-part-below t =
-    and 2 some-part-kinds.ps (falls 2 some-part-kinds.ps _<_ μ-some-part t) some-part.Pre
+    and 3 some-part-kinds.ps (falls 3 some-part-kinds.ps _<_ μ-some-part t) some-part.Pre
 
 abbrev some-at-claims : ℕ → some-at-lts.Claims
 some-at-claims t = (read-presence-reads.Asked, read-presence-reads.Learnt, present-meets-reads.Asked, present-meets-reads.Learnt, some-part-below t, some-part.Post)
@@ -91,10 +91,10 @@ abbrev some-part-claims : ℕ → some-part-lts.Claims
 some-part-claims t = (head-reads.Asked, head-reads.Learnt, field-at-reads.Asked, field-at-reads.Learnt, some-at-below t, some-at.Post, element-label-reads.Asked, element-label-reads.Learnt, some-listed-below t, some-listed.Post, some-element-below t, some-element.Post)
 
 abbrev some-element-Inv-loop : some-element-lts.InvT-loop
-some-element-Inv-loop lay v n t rec path from len want at₀ i₀ at i = Scanning v lay n (t .at) rec at₀ (λ x. some want (slice from len path) x) i at
+some-element-Inv-loop lay v n t rec path from len want table at₀ i₀ at i = Scanning v lay n (t .at) rec at₀ (λ x. some want (slice from len path) x) i at
 
 abbrev some-element-μ-loop : some-element-lts.MeasureT-loop
-some-element-μ-loop lay v n t rec path from len want at₀ i₀ at i = n - i
+some-element-μ-loop lay v n t rec path from len want table at₀ i₀ at i = n - i
 
 pub +some-at+some-element+some-listed+some-part-spec : {M : Type 1} → statement M
 +some-at+some-element+some-listed+some-part-spec =
@@ -104,8 +104,8 @@ pub +some-at+some-element+some-listed+some-part-spec : {M : Type 1} → statemen
     (λ c κs. search needs)
     (λ c. search needs)
     (λ c. search needs)
-    (λ c κs. (raw-present (c .before .before .before .before .before .before .before .pre .1 .0) (c .before .before .before .before .read-presence .ensures) (c .before .before .d .given .1) .inner, c .before .before .before .before .before .before .before .pre .1 .1 .2))
-    (λ c κs. (omega (arith, c .before .before .before .before .before .before .before .pre .0), (raw-present (c .before .before .before .before .before .before .before .pre .1 .0) (c .before .before .before .before .read-presence .ensures) (c .before .before .d .given .1) .inner, (omega (arith, c .before .before .before .before .before .before .before .pre .1 .1 .0, c .if1 .left), c .before .before .before .before .before .before .before .pre .1 .1 .1, c .before .before .before .before .before .before .before .pre .1 .1 .2))))
+    (λ c κs. (raw-present (c .before .before .before .before .before .before .before .before .pre .1 .1 .0) (c .before .before .before .before .read-presence .ensures) (c .before .before .d .given .1) .inner, c .before .before .before .before .before .before .before .before .pre .1 .1 .1 .2))
+    (λ c κs. (omega (arith, c .before .before .before .before .before .before .before .before .pre .0), (c .before .before .before .before .before .before .before .before .pre .1 .0, (raw-present (c .before .before .before .before .before .before .before .before .pre .1 .1 .0) (c .before .before .before .before .read-presence .ensures) (c .before .before .d .given .1) .inner, (omega (arith, c .before .before .before .before .before .before .before .before .pre .1 .1 .1 .0, c .if1 .left), c .before .before .before .before .before .before .before .before .pre .1 .1 .1 .1, c .before .before .before .before .before .before .before .before .pre .1 .1 .1 .2)))))
     (λ c. search needs)
     (λ c. λ X. null-none _ _ (null-at (X .value) (c .before .before .read-presence .ensures) (c .enum-told .given .1) .0))
     (λ c. λ X. let I = raw-present X (c .before .before .before .before .before .read-presence .ensures) (c .before .before .before .d .given .1) in at-end _ (path-end _ _ _ (c .before .if1 .taken)) (I .is) (c .present-meets .ensures (I .inner)))
@@ -116,8 +116,8 @@ pub +some-at+some-element+some-listed+some-part-spec : {M : Type 1} → statemen
     some-element.Post
     some-element-Inv-loop
     some-element-μ-loop
-    (λ c. scanning-none _ (c .before .before .pre .1 .0))
-    (λ c κs. (omega (arith, c .before .before .before .before .pre .0), (scanning-raw (c .before .loop .inv) (c .loop-test .taken), c .before .before .before .before .pre .1 .1)))
+    (λ c. scanning-none _ (c .before .before .before .pre .1 .1 .0))
+    (λ c κs. (omega (arith, c .before .before .before .before .before .pre .0), (c .before .before .before .before .before .pre .1 .0, (scanning-raw (c .before .loop .inv) (c .loop-test .taken), c .before .before .before .before .before .pre .1 .1 .1))))
     (λ c. scanning-found (c .before .before .before .loop .inv) (c .before .before .loop-test .taken) (c .before .some-at .ensures) (c .if1 .taken))
     (λ c κs. search needs)
     (λ c. search needs)
@@ -133,7 +133,7 @@ pub +some-at+some-element+some-listed+some-part-spec : {M : Type 1} → statemen
     (λ c κs. search needs)
     (λ c. search needs)
     (λ c. search needs)
-    (λ c κs. (omega (arith, c .before .before .before .before .before .before .pre .0), (list-elements (c .before .before .before .before .before .before .pre .1 .0) (c .before .before .before .short .ensures) (c .before .n .given .1) .elements, c .before .before .before .before .before .before .pre .1 .1)))
+    (λ c κs. (omega (arith, c .before .before .before .before .before .before .before .pre .0), (c .before .before .before .before .before .before .before .pre .1 .0, (list-elements (c .before .before .before .before .before .before .before .pre .1 .1 .0) (c .before .before .before .short .ensures) (c .before .n .given .1) .elements, c .before .before .before .before .before .before .before .pre .1 .1 .1))))
     (λ c. search needs)
     (λ c. λ X. let L = list-elements X (c .before .before .before .before .short .ensures) (c .before .before .n .given .1) in list-any _ (L .is) (c .some-element .ensures (L .elements)))
     (λ c. λ X. never-uncounted (X .content) (c .before .before .short .ensures) (c .enum-told .given .1)))
@@ -145,29 +145,29 @@ pub +some-at+some-element+some-listed+some-part-spec : {M : Type 1} → statemen
     (λ c. search needs)
     (λ c. search needs)
     (λ c. search needs)
-    (λ c κs. struct-value (c .before .before .before .before .before .before .pre .1 .0) (c .before .before .before .head .ensures .0) (c .before .n .given .1) .row)
+    (λ c κs. (struct-value (c .before .before .before .before .before .before .before .pre .1 .1 .0) (c .before .before .before .head .ensures .0) (c .before .n .given .1) .row, c .before .before .before .before .before .before .before .pre .1 .0))
     (λ c. search needs)
     (λ c. search needs)
-    (λ c κs. let S = struct-value (c .before .before .before .before .before .before .before .before .before .before .pre .1 .0) (c .before .before .before .before .before .before .before .head .ensures .0) (c .before .before .before .before .before .n .given .1) in (omega (arith, c .before .before .before .before .before .before .before .before .before .before .pre .0, c .before .before .before .before .before .before .before .before .before .before .pre .1 .1 .0), (c .before .before .before .field-at .ensures (S .row) .here _ _ (c .before .f .given .1) .raw, (omega (arith, c .before .before .before .before .before .before .before .before .before .before .pre .1 .1 .0), c .before .before .before .before .before .before .before .before .before .before .pre .1 .1 .1, c .before .before .before .before .before .before .before .before .before .before .pre .1 .1 .2))))
-    (λ c. search needs)
-    (λ c. search needs)
-    (λ c κs. search needs)
-    (λ c. search needs)
-    (λ c. search needs)
-    (λ c κs. (omega (arith, c .before .before .before .before .before .before .before .before .before .before .pre .0, c .before .before .before .before .before .before .before .before .before .before .pre .1 .1 .0), (list-is (c .before .before .before .before .before .before .before .before .before .before .pre .1 .0) (c .before .before .before .before .before .before .before .head .ensures .0) (c .before .before .before .element-label .ensures .0) (c .before .f2 .given .1) (c .before .before .before .before .before .e .given .1) .inner, (omega (arith, c .before .before .before .before .before .before .before .before .before .before .pre .1 .1 .0), c .before .before .before .before .before .before .before .before .before .before .pre .1 .1 .1, c .before .before .before .before .before .before .before .before .before .before .pre .1 .1 .2))))
+    (λ c κs. let S = struct-value (c .before .before .before .before .before .before .before .before .before .before .before .pre .1 .1 .0) (c .before .before .before .before .before .before .before .head .ensures .0) (c .before .before .before .before .before .n .given .1) in (omega (arith, c .before .before .before .before .before .before .before .before .before .before .before .pre .0, c .before .before .before .before .before .before .before .before .before .before .before .pre .1 .1 .1 .0), (c .before .before .before .before .before .before .before .before .before .before .before .pre .1 .0, (c .before .before .before .field-at .ensures (S .row) .here _ _ (c .before .f .given .1) .raw, (omega (arith, c .before .before .before .before .before .before .before .before .before .before .before .pre .1 .1 .1 .0), c .before .before .before .before .before .before .before .before .before .before .before .pre .1 .1 .1 .1, c .before .before .before .before .before .before .before .before .before .before .before .pre .1 .1 .1 .2)))))
     (λ c. search needs)
     (λ c. search needs)
     (λ c κs. search needs)
     (λ c. search needs)
     (λ c. search needs)
-    (λ c κs. (omega (arith, c .before .before .before .before .before .before .before .before .before .before .pre .0, c .before .before .before .before .before .before .before .before .before .before .pre .1 .1 .0), (array-value (c .before .before .before .before .before .before .before .before .before .before .pre .1 .0) (c .before .before .before .before .before .before .before .head .ensures .0) (c .before .before .before .element-label2 .ensures .0) (c .before .f3 .given .1) (c .before .before .before .before .before .w .given .1) .elements, (omega (arith, c .before .before .before .before .before .before .before .before .before .before .pre .1 .1 .0), c .before .before .before .before .before .before .before .before .before .before .pre .1 .1 .1, c .before .before .before .before .before .before .before .before .before .before .pre .1 .1 .2))))
+    (λ c κs. (omega (arith, c .before .before .before .before .before .before .before .before .before .before .before .pre .0, c .before .before .before .before .before .before .before .before .before .before .before .pre .1 .1 .1 .0), (c .before .before .before .before .before .before .before .before .before .before .before .pre .1 .0, (list-is (c .before .before .before .before .before .before .before .before .before .before .before .pre .1 .1 .0) (c .before .before .before .before .before .before .before .head .ensures .0) (c .before .before .before .element-label .ensures .0) (c .before .f2 .given .1) (c .before .before .before .before .before .e .given .1) .inner, (omega (arith, c .before .before .before .before .before .before .before .before .before .before .before .pre .1 .1 .1 .0), c .before .before .before .before .before .before .before .before .before .before .before .pre .1 .1 .1 .1, c .before .before .before .before .before .before .before .before .before .before .before .pre .1 .1 .1 .2)))))
     (λ c. search needs)
     (λ c. search needs)
-    (λ c. λ X. leaf-step _ (path-cons _ _ _ (c .before .before .before .before .before .pre .1 .1 .0) (c .before .before .before .before .before .pre .1 .1 .1)) (leaf-value X (c .before .before .head .ensures .0) (c .enum-told .given .1)))
-    (λ c. λ X. let S = struct-value X (c .before .before .before .before .before .before .before .before .head .ensures .0) (c .before .before .before .before .before .before .n .given .1) in let N = c .before .before .before .before .field-at .ensures (S .row) .here _ _ (c .before .before .f .given .1) in struct-step _ (path-cons _ _ _ (c .before .before .before .before .before .before .before .before .before .before .before .pre .1 .1 .0) (c .before .before .before .before .before .before .before .before .before .before .before .pre .1 .1 .1)) (S .is) (same-node _ _ (N .is) (c .some-at .ensures (N .raw))))
-    (λ c. λ X. let S = struct-value X (c .before .before .before .before .before .before .head .ensures .0) (c .before .before .before .before .n .given .1) in struct-step _ (path-cons _ _ _ (c .before .before .before .before .before .before .before .before .before .pre .1 .1 .0) (c .before .before .before .before .before .before .before .before .before .pre .1 .1 .1)) (S .is) (null-none _ _ (c .before .before .field-at .ensures (S .row) .none (c .enum-told2 .given .1))))
-    (λ c. λ X. let L = list-is X (c .before .before .before .before .before .before .before .before .head .ensures .0) (c .before .before .before .before .element-label .ensures .0) (c .before .before .f2 .given .1) (c .before .before .before .before .before .before .e .given .1) in list-step _ (path-cons _ _ _ (c .before .before .before .before .before .before .before .before .before .before .before .pre .1 .1 .0) (c .before .before .before .before .before .before .before .before .before .before .before .pre .1 .1 .1)) (a-list X (c .before .before .before .before .before .before .before .before .head .ensures .0) (c .before .before .before .before .before .before .e .given .1) .is) (L .is) (c .some-listed .ensures (L .inner)))
+    (λ c κs. search needs)
+    (λ c. search needs)
+    (λ c. search needs)
+    (λ c κs. (omega (arith, c .before .before .before .before .before .before .before .before .before .before .before .pre .0, c .before .before .before .before .before .before .before .before .before .before .before .pre .1 .1 .1 .0), (c .before .before .before .before .before .before .before .before .before .before .before .pre .1 .0, (array-value (c .before .before .before .before .before .before .before .before .before .before .before .pre .1 .1 .0) (c .before .before .before .before .before .before .before .head .ensures .0) (c .before .before .before .element-label2 .ensures .0) (c .before .f3 .given .1) (c .before .before .before .before .before .w .given .1) .elements, (omega (arith, c .before .before .before .before .before .before .before .before .before .before .before .pre .1 .1 .1 .0), c .before .before .before .before .before .before .before .before .before .before .before .pre .1 .1 .1 .1, c .before .before .before .before .before .before .before .before .before .before .before .pre .1 .1 .1 .2)))))
+    (λ c. search needs)
+    (λ c. search needs)
+    (λ c. λ X. leaf-step _ (path-cons _ _ _ (c .before .before .before .before .before .before .pre .1 .1 .1 .0) (c .before .before .before .before .before .before .pre .1 .1 .1 .1)) (leaf-value X (c .before .before .head .ensures .0) (c .enum-told .given .1)))
+    (λ c. λ X. let S = struct-value X (c .before .before .before .before .before .before .before .before .head .ensures .0) (c .before .before .before .before .before .before .n .given .1) in let N = c .before .before .before .before .field-at .ensures (S .row) .here _ _ (c .before .before .f .given .1) in struct-step _ (path-cons _ _ _ (c .before .before .before .before .before .before .before .before .before .before .before .before .pre .1 .1 .1 .0) (c .before .before .before .before .before .before .before .before .before .before .before .before .pre .1 .1 .1 .1)) (S .is) (same-node _ _ (N .is) (c .some-at .ensures (N .raw))))
+    (λ c. λ X. let S = struct-value X (c .before .before .before .before .before .before .head .ensures .0) (c .before .before .before .before .n .given .1) in struct-step _ (path-cons _ _ _ (c .before .before .before .before .before .before .before .before .before .before .pre .1 .1 .1 .0) (c .before .before .before .before .before .before .before .before .before .before .pre .1 .1 .1 .1)) (S .is) (null-none _ _ (c .before .before .field-at .ensures (S .row) .none (c .enum-told2 .given .1))))
+    (λ c. λ X. let L = list-is X (c .before .before .before .before .before .before .before .before .head .ensures .0) (c .before .before .before .before .element-label .ensures .0) (c .before .before .f2 .given .1) (c .before .before .before .before .before .before .e .given .1) in list-step _ (path-cons _ _ _ (c .before .before .before .before .before .before .before .before .before .before .before .before .pre .1 .1 .1 .0) (c .before .before .before .before .before .before .before .before .before .before .before .before .pre .1 .1 .1 .1)) (a-list X (c .before .before .before .before .before .before .before .before .head .ensures .0) (c .before .before .before .before .before .before .e .given .1) .is) (L .is) (c .some-listed .ensures (L .inner)))
     (λ c. λ X. list-labelled (X .type) (c .before .before .before .before .before .before .head .ensures .0) (c .before .before .element-label .ensures .0) (c .before .before .before .before .e .given .1) (c .enum-told3 .given .1))
-    (λ c. λ X. let A = array-value X (c .before .before .before .before .before .before .before .before .head .ensures .0) (c .before .before .before .before .element-label2 .ensures .0) (c .before .before .f3 .given .1) (c .before .before .before .before .before .before .w .given .1) in array-step _ (path-cons _ _ _ (c .before .before .before .before .before .before .before .before .before .before .before .pre .1 .1 .0) (c .before .before .before .before .before .before .before .before .before .before .before .pre .1 .1 .1)) (A .is) (c .some-element .ensures (A .elements)))
+    (λ c. λ X. let A = array-value X (c .before .before .before .before .before .before .before .before .head .ensures .0) (c .before .before .before .before .element-label2 .ensures .0) (c .before .before .f3 .given .1) (c .before .before .before .before .before .before .w .given .1) in array-step _ (path-cons _ _ _ (c .before .before .before .before .before .before .before .before .before .before .before .before .pre .1 .1 .1 .0) (c .before .before .before .before .before .before .before .before .before .before .before .before .pre .1 .1 .1 .1)) (A .is) (c .some-element .ensures (A .elements)))
     (λ c. λ X. array-labelled (X .type) (c .before .before .before .before .before .before .head .ensures .0) (c .before .before .element-label2 .ensures .0) (c .before .before .before .before .w .given .1) (c .enum-told4 .given .1))
     (λ c. λ X. never-headless (X .type) (c .before .before .head .ensures .0) (c .enum-told5 .given .1))

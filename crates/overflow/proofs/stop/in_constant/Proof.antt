@@ -1,4 +1,6 @@
 -- `overflow::stop::in_constant` meets its contract: the value stands behind its type. Assumes nothing.
+use Rattle.ends.proofs.Entries.{ends-none}
+use mathlib.Core.Path.{refl}
 use Rattle.overflow.proofs.Asking.{raw-of}
 use Rattle.overflow.proofs.Scanning.{same-node}
 use borrow.Author.Needs.{needs}
@@ -6,4 +8,4 @@ use Rattle.overflow.proofs.stop.in_constant.Statement.{statement}
 use Rattle.overflow.proofs.stop.in_constant.Tie as tie
 
 pub in-constant-spec : {M : Type 1} → statement M
-in-constant-spec = tie.close (tie.spec (λ c κs. search needs) (λ c κs. (raw-of (c .before .before .pre .0) (c .skip-type .ensures (c .before .before .pre .0 .type)) .raw, c .before .before .pre .1)) (λ c. λ X. let R = raw-of X (c .before .skip-type .ensures (X .type)) in same-node _ _ (R .is) (c .some-at .ensures (R .raw))))
+in-constant-spec = tie.close (tie.spec (λ c κs. search needs) (λ c. search needs) (λ c. search needs) (λ c κs. (ends-none refl, (raw-of (c .before .before .before .pre .0) (c .before .skip-type .ensures (c .before .before .before .pre .0 .type)) .raw, c .before .before .before .pre .1))) (λ c. λ X. let R = raw-of X (c .before .before .skip-type .ensures (X .type)) in same-node _ _ (R .is) (c .some-at .ensures (R .raw))))

@@ -14,5 +14,5 @@ run-read-spec =
     (λ c κs. let (Γ, ss, T) = c .before .before .before .before .before .before .before .before .before .pre .0 in let Q = c .before .before .before .before .before .before .before .before .before .pre .1 .0 in passed-at T Q (c .before .before .before .before .before .before .before .before .before .pre .1 .1) (c .before .before .before .check-read .ensures Γ ss Q T) (c .before .enum-told .given .1))
     (λ c. search needs)
     (λ c. search needs)
-    (λ c. λ Γ ss Q T. let P = passed-at T Q (c .before .before .before .before .before .before .before .before .before .before .before .before .pre .1 .1) (c .before .before .before .before .before .before .check-read .ensures Γ ss Q T) (c .before .before .before .before .enum-told .given .1) in let R = run-passed T Q (c .before .before .before .before .before .before .before .before .before .before .before .before .pre .1 .1) (now (c .before .before .before .before .before .before .before .before .before .before .before .before .args .rec)) (length (now (c .before .before .before .before .before .before .before .before .before .before .before .before .args .output))) (c .before .before .before .before .before .before .check-read .ensures Γ ss Q T) (c .before .before .before .before .enum-told .given .1) (c .before .before .run-record .ensures P) in (R .answer, R .buffer))
+    (λ c. λ Γ ss Q T. let P = passed-at T Q (c .before .before .before .before .before .before .before .before .before .before .before .before .pre .1 .1) (c .before .before .before .before .before .before .check-read .ensures Γ ss Q T) (c .before .before .before .before .enum-told .given .1) in let R = run-passed T Q (c .before .before .before .before .before .before .before .before .before .before .before .before .pre .1 .1) (now (c .before .before .before .before .before .before .before .before .before .before .before .before .args .rec)) (length (now (c .before .before .before .before .before .before .before .before .before .before .before .before .args .output))) (c .before .before .before .before .before .before .check-read .ensures Γ ss Q T) (c .before .before .before .before .enum-told .given .1) (c .before .before .run-passed .ensures P) in (R .answer, R .buffer))
     (λ c. λ Γ ss Q T. let R = ran-refused (check-refused T Q (now (c .before .before .before .before .before .before .before .before .before .args .rec)) (length (now (c .before .before .before .before .before .before .before .before .before .args .output))) (c .before .before .before .check-read .ensures Γ ss Q T) (c .before .j .given .1)) in (R .answer, R .buffer)))

@@ -12,13 +12,13 @@ write-direct-spec =
     (λ c. search needs)
     (λ c κs. search needs)
     (λ c. search needs)
-    (λ c. λ X S. direct-tight (X .values .values) (S .trees) (c .before .before .before .before .before .before .before .scratch .ensures) (c .before .before .before .before .before .transfer-record .ensures X S) (c .before .before .len .given .1) (c .before .before .before .before .before .before .before .before .before .before .before .before .args .out .now) (c .if1 .taken))
+    (λ c. λ X S. direct-tight (X .values .values) (S .trees) (c .before .before .before .before .before .before .before .scratch .ensures) (c .before .before .before .before .before .transfer-record .ensures X S) (c .before .before .len .given .1) (c .before .before .before .before .before .before .before .before .before .before .before .before .before .args .out .now) (c .if1 .taken))
     (λ c. search needs)
-    (λ c κs. let X = c .before .before .before .before .before .before .before .before .before .before .before .before .before .before .pre .0 in
-    let S = c .before .before .before .before .before .before .before .before .before .before .before .before .before .before .pre .1 .0 in
+    (λ c κs. let X = c .before .before .before .before .before .before .before .before .before .before .before .before .before .before .before .pre .1 .0 in
+    let S = c .before .before .before .before .before .before .before .before .before .before .before .before .before .before .before .pre .1 .1 .0 in
     let (a, b) = direct-inside (X .values .values) (S .trees) (c .before .before .before .before .before .before .before .before .before .scratch .ensures) (c .before .before .before .before .before .before .before .transfer-record .ensures X S) (c .before .before .before .before .len .given .1) in
     (omega arith, b, omega (arith, a)))
     (λ c. search needs)
     (λ c. search needs)
-    (λ c. λ X S. direct-fits (X .values .values) (S .trees) (c .before .before .before .before .before .before .before .before .before .before .before .before .scratch .ensures) (c .before .before .before .before .before .before .before .before .before .before .transfer-record .ensures X S) (c .before .before .before .before .before .before .before .len .given .1) (c .before .before .before .before .before .before .before .before .before .before .before .before .before .before .before .before .before .args .out .now) (c .before .before .before .before .before .if1 .left) (c .before .before .copy .ensures))
+    (λ c. λ X S. direct-fits (X .values .values) (S .trees) (c .before .before .before .before .before .before .before .before .before .before .before .before .scratch .ensures) (c .before .before .before .before .before .before .before .before .before .before .transfer-record .ensures X S) (c .before .before .before .before .before .before .before .len .given .1) (c .before .before .before .before .before .before .before .before .before .before .before .before .before .before .before .before .before .before .args .out .now) (c .before .before .before .before .before .if1 .left) (c .before .before .copy .ensures))
     (λ c. search needs))

@@ -10,7 +10,7 @@ put-node-spec =
     (λ c. search needs)
     (λ c κs. search needs)
     (λ c. search needs)
-    (λ c κs. let (x, N) = c .before .before .before .before .before .before .before .pre .0 in (N .here _ _ (c .before .before .node .given .1) .raw, c .before .before .before .before .before .before .before .pre .1))
+    (λ c κs. let (x, N) = c .before .before .before .before .before .before .before .before .pre .1 .0 in (c .before .before .before .before .before .before .before .before .pre .0, (N .here _ _ (c .before .before .node .given .1) .raw, c .before .before .before .before .before .before .before .before .pre .1 .1)))
     (λ c. search needs)
     (λ c. λ x N. reached-null (N .none (c .before .before .before .before .enum-told .given .1)) (c .before .before .put-nothing .ensures))
     (λ c. search needs)

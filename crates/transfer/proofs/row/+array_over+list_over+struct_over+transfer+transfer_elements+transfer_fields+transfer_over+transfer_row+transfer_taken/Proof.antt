@@ -71,133 +71,133 @@ use Rattle.transfer.proofs.row.+array_over+list_over+struct_over+transf
   close,
 }
 
-abbrev μ-array-over : Measures 4 array-over-kinds.ps ℕ
+abbrev μ-array-over : Measures 5 array-over-kinds.ps ℕ
 μ-array-over κs a = 6 * (a .1 .1 .1 .1 .1 .1 .1 .0) + 3
 
-abbrev μ-list-over : Measures 4 list-over-kinds.ps ℕ
+abbrev μ-list-over : Measures 5 list-over-kinds.ps ℕ
 μ-list-over κs a = 6 * (a .1 .1 .1 .1 .1 .1 .1 .0) + 3
 
-abbrev μ-struct-over : Measures 4 struct-over-kinds.ps ℕ
+abbrev μ-struct-over : Measures 5 struct-over-kinds.ps ℕ
 μ-struct-over κs a = 6 * (a .1 .1 .1 .1 .1 .1 .1 .0) + 3
 
-abbrev μ-transfer : Measures 4 transfer-kinds.ps ℕ
+abbrev μ-transfer : Measures 5 transfer-kinds.ps ℕ
 μ-transfer κs a = 6 * (a .1 .1 .1 .1 .1 .1 .0)
 
-abbrev μ-transfer-elements : Measures 4 transfer-elements-kinds.ps ℕ
+abbrev μ-transfer-elements : Measures 5 transfer-elements-kinds.ps ℕ
 μ-transfer-elements κs a = 6 * (a .1 .1 .1 .1 .1 .1 .1 .1 .1 .0) + 1
 
-abbrev μ-transfer-fields : Measures 4 transfer-fields-kinds.ps ℕ
+abbrev μ-transfer-fields : Measures 5 transfer-fields-kinds.ps ℕ
 μ-transfer-fields κs a = 6 * (a .1 .1 .1 .1 .1 .1 .1 .1 .1 .0) + 2
 
-abbrev μ-transfer-over : Measures 4 transfer-over-kinds.ps ℕ
+abbrev μ-transfer-over : Measures 5 transfer-over-kinds.ps ℕ
 μ-transfer-over κs a = 6 * (a .1 .1 .1 .1 .1 .1 .0) + 4
 
-abbrev μ-transfer-row : Measures 6 transfer-row-kinds.ps ℕ
+abbrev μ-transfer-row : Measures 7 transfer-row-kinds.ps ℕ
 μ-transfer-row κs a = 6 * (a .1 .1 .1 .1 .1 .1 .1 .1 .1 .1 .1 .1 .0) + 1
 
-abbrev μ-transfer-taken : Measures 4 transfer-taken-kinds.ps ℕ
+abbrev μ-transfer-taken : Measures 5 transfer-taken-kinds.ps ℕ
 μ-transfer-taken κs a = 6 * (a .1 .1 .1 .1 .1 .1 .1 .0) + 5
 
-abbrev array-over-at : ℕ → In 4 array-over-kinds.ps
+abbrev array-over-at : ℕ → In 5 array-over-kinds.ps
 array-over-at t =
-    and 4 array-over-kinds.ps (is 4 array-over-kinds.ps μ-array-over t) array-over.Pre
+    and 5 array-over-kinds.ps (is 5 array-over-kinds.ps μ-array-over t) array-over.Pre
 
-abbrev array-over-below : ℕ → In 4 array-over-kinds.ps
+abbrev array-over-below : ℕ → In 5 array-over-kinds.ps
 array-over-below t =
-    and 4 array-over-kinds.ps (falls 4 array-over-kinds.ps _<_ μ-array-over t) array-over.Pre
+    and 5 array-over-kinds.ps (falls 5 array-over-kinds.ps _<_ μ-array-over t) array-over.Pre
 
-abbrev list-over-at : ℕ → In 4 list-over-kinds.ps
-list-over-at t = and 4 list-over-kinds.ps (is 4 list-over-kinds.ps μ-list-over t) list-over.Pre
+abbrev list-over-at : ℕ → In 5 list-over-kinds.ps
+list-over-at t = and 5 list-over-kinds.ps (is 5 list-over-kinds.ps μ-list-over t) list-over.Pre
 
-abbrev list-over-below : ℕ → In 4 list-over-kinds.ps
+abbrev list-over-below : ℕ → In 5 list-over-kinds.ps
 list-over-below t =
-    and 4 list-over-kinds.ps (falls 4 list-over-kinds.ps _<_ μ-list-over t) list-over.Pre
+    and 5 list-over-kinds.ps (falls 5 list-over-kinds.ps _<_ μ-list-over t) list-over.Pre
 
-abbrev struct-over-at : ℕ → In 4 struct-over-kinds.ps
+abbrev struct-over-at : ℕ → In 5 struct-over-kinds.ps
 struct-over-at t =
-    and 4 struct-over-kinds.ps (is 4 struct-over-kinds.ps μ-struct-over t) struct-over.Pre
+    and 5 struct-over-kinds.ps (is 5 struct-over-kinds.ps μ-struct-over t) struct-over.Pre
 
-abbrev struct-over-below : ℕ → In 4 struct-over-kinds.ps
+abbrev struct-over-below : ℕ → In 5 struct-over-kinds.ps
 struct-over-below t =
-    and 4 struct-over-kinds.ps (falls 4 struct-over-kinds.ps _<_ μ-struct-over t) struct-over.Pre
+    and 5 struct-over-kinds.ps (falls 5 struct-over-kinds.ps _<_ μ-struct-over t) struct-over.Pre
 
-abbrev transfer-at : ℕ → In 4 transfer-kinds.ps
-transfer-at t = and 4 transfer-kinds.ps (is 4 transfer-kinds.ps μ-transfer t) transfer.Pre
+abbrev transfer-at : ℕ → In 5 transfer-kinds.ps
+transfer-at t = and 5 transfer-kinds.ps (is 5 transfer-kinds.ps μ-transfer t) transfer.Pre
 
-abbrev transfer-below : ℕ → In 4 transfer-kinds.ps
+abbrev transfer-below : ℕ → In 5 transfer-kinds.ps
 transfer-below t =
-    and 4 transfer-kinds.ps (falls 4 transfer-kinds.ps _<_ μ-transfer t) transfer.Pre
+    and 5 transfer-kinds.ps (falls 5 transfer-kinds.ps _<_ μ-transfer t) transfer.Pre
 
-abbrev transfer-elements-at : ℕ → In 4 transfer-elements-kinds.ps
+abbrev transfer-elements-at : ℕ → In 5 transfer-elements-kinds.ps
 transfer-elements-at t =
     and
-    4
+    5
     transfer-elements-kinds.ps
-    (is 4 transfer-elements-kinds.ps μ-transfer-elements t)
+    (is 5 transfer-elements-kinds.ps μ-transfer-elements t)
     transfer-elements.Pre
 
-abbrev transfer-elements-below : ℕ → In 4 transfer-elements-kinds.ps
+abbrev transfer-elements-below : ℕ → In 5 transfer-elements-kinds.ps
 transfer-elements-below t =
     and
-    4
+    5
     transfer-elements-kinds.ps
-    (falls 4 transfer-elements-kinds.ps _<_ μ-transfer-elements t)
+    (falls 5 transfer-elements-kinds.ps _<_ μ-transfer-elements t)
     transfer-elements.Pre
 
-abbrev transfer-fields-at : ℕ → In 4 transfer-fields-kinds.ps
+abbrev transfer-fields-at : ℕ → In 5 transfer-fields-kinds.ps
 transfer-fields-at t =
     and
-    4
+    5
     transfer-fields-kinds.ps
-    (is 4 transfer-fields-kinds.ps μ-transfer-fields t)
+    (is 5 transfer-fields-kinds.ps μ-transfer-fields t)
     transfer-fields.Pre
 
-abbrev transfer-fields-below : ℕ → In 4 transfer-fields-kinds.ps
+abbrev transfer-fields-below : ℕ → In 5 transfer-fields-kinds.ps
 transfer-fields-below t =
     and
-    4
+    5
     transfer-fields-kinds.ps
-    (falls 4 transfer-fields-kinds.ps _<_ μ-transfer-fields t)
+    (falls 5 transfer-fields-kinds.ps _<_ μ-transfer-fields t)
     transfer-fields.Pre
 
-abbrev transfer-over-at : ℕ → In 4 transfer-over-kinds.ps
+abbrev transfer-over-at : ℕ → In 5 transfer-over-kinds.ps
 transfer-over-at t =
-    and 4 transfer-over-kinds.ps (is 4 transfer-over-kinds.ps μ-transfer-over t) transfer-over.Pre
+    and 5 transfer-over-kinds.ps (is 5 transfer-over-kinds.ps μ-transfer-over t) transfer-over.Pre
 
-abbrev transfer-over-below : ℕ → In 4 transfer-over-kinds.ps
+abbrev transfer-over-below : ℕ → In 5 transfer-over-kinds.ps
 transfer-over-below t =
     and
-    4
+    5
     transfer-over-kinds.ps
-    (falls 4 transfer-over-kinds.ps _<_ μ-transfer-over t)
+    (falls 5 transfer-over-kinds.ps _<_ μ-transfer-over t)
     transfer-over.Pre
 
-abbrev transfer-row-at : ℕ → In 6 transfer-row-kinds.ps
+abbrev transfer-row-at : ℕ → In 7 transfer-row-kinds.ps
 transfer-row-at t =
-    and 6 transfer-row-kinds.ps (is 6 transfer-row-kinds.ps μ-transfer-row t) transfer-row.Pre
+    and 7 transfer-row-kinds.ps (is 7 transfer-row-kinds.ps μ-transfer-row t) transfer-row.Pre
 
-abbrev transfer-row-below : ℕ → In 6 transfer-row-kinds.ps
+abbrev transfer-row-below : ℕ → In 7 transfer-row-kinds.ps
 transfer-row-below t =
     and
-    6
+    7
     transfer-row-kinds.ps
-    (falls 6 transfer-row-kinds.ps _<_ μ-transfer-row t)
+    (falls 7 transfer-row-kinds.ps _<_ μ-transfer-row t)
     transfer-row.Pre
 
-abbrev transfer-taken-at : ℕ → In 4 transfer-taken-kinds.ps
+abbrev transfer-taken-at : ℕ → In 5 transfer-taken-kinds.ps
 transfer-taken-at t =
     and
-    4
+    5
     transfer-taken-kinds.ps
-    (is 4 transfer-taken-kinds.ps μ-transfer-taken t)
+    (is 5 transfer-taken-kinds.ps μ-transfer-taken t)
     transfer-taken.Pre
 
-abbrev transfer-taken-below : ℕ → In 4 transfer-taken-kinds.ps
+abbrev transfer-taken-below : ℕ → In 5 transfer-taken-kinds.ps
 transfer-taken-below t =
     and
-    4
+    5
     transfer-taken-kinds.ps
-    (falls 4 transfer-taken-kinds.ps _<_ μ-transfer-taken t)
+    (falls 5 transfer-taken-kinds.ps _<_ μ-transfer-taken t)
     transfer-taken.Pre
 
 abbrev array-over-claims : ℕ → array-over-lts.Claims
@@ -237,24 +237,24 @@ array-over-enum-told : (t : ℕ) → array-over-lts.Need-enum-told (array-over-c
 array-over-enum-told t c = search needs
 
 array-over-put-nothing-requires : (t : ℕ) → array-over-lts.Need-put-nothing-requires (array-over-claims t) (array-over-at t) array-over.Post
-array-over-put-nothing-requires t c κs = c .before .before .before .before .before .before .before .before .before .pre .1 .1 .1 .2
+array-over-put-nothing-requires t c κs = c .before .before .before .before .before .before .before .before .before .before .pre .1 .1 .1 .1 .2
 
 array-over-enum-known-m : (t : ℕ) → array-over-lts.Need-enum-known-m (array-over-claims t) (array-over-at t) array-over.Post
 array-over-enum-known-m t c = search needs
 
 array-over-put-lead-requires : (t : ℕ) → array-over-lts.Need-put-lead-requires (array-over-claims t) (array-over-at t) array-over.Post
-array-over-put-lead-requires t c κs = omega (arith, c .before .before .before .before .before .before .before .before .before .before .pre .1 .1 .1 .2)
+array-over-put-lead-requires t c κs = omega (arith, c .before .before .before .before .before .before .before .before .before .before .before .pre .1 .1 .1 .1 .2)
 
 array-over-skip-selector-requires-2 : (t : ℕ) → array-over-lts.Need-skip-selector-requires-2 (array-over-claims t) (array-over-at t) array-over.Post
 array-over-skip-selector-requires-2 t c κs = search needs
 
 array-over-transfer-elements-requires : (t : ℕ) → array-over-lts.Need-transfer-elements-requires (array-over-claims t) (array-over-at t) array-over.Post
 array-over-transfer-elements-requires t c κs =
-    let (x, N) = c .before .before .before .before .before .before .before .before .before .before .before .before .before .before .before .pre .1 .0 in
-    let (P, K) = c .before .before .before .before .before .before .before .before .before .before .before .before .before .before .before .pre .1 .1 .0 in
-    let B = c .before .before .before .before .before .before .before .before .before .before .before .before .before .before .before .pre .1 .1 .1 in
+    let (x, N) = c .before .before .before .before .before .before .before .before .before .before .before .before .before .before .before .before .pre .1 .1 .0 in
+    let (P, K) = c .before .before .before .before .before .before .before .before .before .before .before .before .before .before .before .before .pre .1 .1 .1 .0 in
+    let B = c .before .before .before .before .before .before .before .before .before .before .before .before .before .before .before .before .pre .1 .1 .1 .1 in
     let D = opened-by (c .before .before .before .before .before .before .before .before .before .open-node .ensures x N) (c .before .before .before .before .before .before .before .m .given .1) in
-    (omega (arith, c .before .before .before .before .before .before .before .before .before .before .before .before .before .before .before .pre .0), (D .elements, (selector-moved (K .element) (c .before .skip-selector2 .ensures (K .input)), (B .0, B .1, omega (arith, c .before .before .before .before .put-lead .ensures .ends, lead-short false (c .before .before .before .before .before .before .before .m .given .0 .0), B .2)))))
+    (omega (arith, c .before .before .before .before .before .before .before .before .before .before .before .before .before .before .before .before .pre .0), (c .before .before .before .before .before .before .before .before .before .before .before .before .before .before .before .before .pre .1 .0, (D .elements, (selector-moved (K .element) (c .before .skip-selector2 .ensures (K .input)), (B .0, B .1, omega (arith, c .before .before .before .before .put-lead .ensures .ends, lead-short false (c .before .before .before .before .before .before .before .m .given .0 .0), B .2))))))
 
 array-over-enum-told-2 : (t : ℕ) → array-over-lts.Need-enum-told-2 (array-over-claims t) (array-over-at t) array-over.Post
 array-over-enum-told-2 t c = search needs
@@ -300,24 +300,24 @@ list-over-enum-told : (t : ℕ) → list-over-lts.Need-enum-told (list-over-clai
 list-over-enum-told t c = search needs
 
 list-over-put-nothing-requires : (t : ℕ) → list-over-lts.Need-put-nothing-requires (list-over-claims t) (list-over-at t) list-over.Post
-list-over-put-nothing-requires t c κs = c .before .before .before .before .before .before .before .before .before .pre .1 .1 .1 .2
+list-over-put-nothing-requires t c κs = c .before .before .before .before .before .before .before .before .before .before .pre .1 .1 .1 .1 .2
 
 list-over-enum-known-m : (t : ℕ) → list-over-lts.Need-enum-known-m (list-over-claims t) (list-over-at t) list-over.Post
 list-over-enum-known-m t c = search needs
 
 list-over-put-lead-requires : (t : ℕ) → list-over-lts.Need-put-lead-requires (list-over-claims t) (list-over-at t) list-over.Post
-list-over-put-lead-requires t c κs = omega (arith, c .before .before .before .before .before .before .before .before .before .before .pre .1 .1 .1 .2)
+list-over-put-lead-requires t c κs = omega (arith, c .before .before .before .before .before .before .before .before .before .before .before .pre .1 .1 .1 .1 .2)
 
 list-over-skip-selector-requires-2 : (t : ℕ) → list-over-lts.Need-skip-selector-requires-2 (list-over-claims t) (list-over-at t) list-over.Post
 list-over-skip-selector-requires-2 t c κs = search needs
 
 list-over-transfer-elements-requires : (t : ℕ) → list-over-lts.Need-transfer-elements-requires (list-over-claims t) (list-over-at t) list-over.Post
 list-over-transfer-elements-requires t c κs =
-    let (x, N) = c .before .before .before .before .before .before .before .before .before .before .before .before .before .before .before .pre .1 .0 in
-    let (P, K) = c .before .before .before .before .before .before .before .before .before .before .before .before .before .before .before .pre .1 .1 .0 in
-    let B = c .before .before .before .before .before .before .before .before .before .before .before .before .before .before .before .pre .1 .1 .1 in
+    let (x, N) = c .before .before .before .before .before .before .before .before .before .before .before .before .before .before .before .before .pre .1 .1 .0 in
+    let (P, K) = c .before .before .before .before .before .before .before .before .before .before .before .before .before .before .before .before .pre .1 .1 .1 .0 in
+    let B = c .before .before .before .before .before .before .before .before .before .before .before .before .before .before .before .before .pre .1 .1 .1 .1 in
     let D = opened-by (c .before .before .before .before .before .before .before .before .before .open-node .ensures x N) (c .before .before .before .before .before .before .before .m .given .1) in
-    (omega (arith, c .before .before .before .before .before .before .before .before .before .before .before .before .before .before .before .pre .0), (D .elements, (selector-moved (K .element) (c .before .skip-selector2 .ensures (K .input)), (B .0, B .1, omega (arith, c .before .before .before .before .put-lead .ensures .ends, lead-short true (c .before .before .before .before .before .before .before .m .given .0 .0), B .2)))))
+    (omega (arith, c .before .before .before .before .before .before .before .before .before .before .before .before .before .before .before .before .pre .0), (c .before .before .before .before .before .before .before .before .before .before .before .before .before .before .before .before .pre .1 .0, (D .elements, (selector-moved (K .element) (c .before .skip-selector2 .ensures (K .input)), (B .0, B .1, omega (arith, c .before .before .before .before .put-lead .ensures .ends, lead-short true (c .before .before .before .before .before .before .before .m .given .0 .0), B .2))))))
 
 list-over-enum-told-2 : (t : ℕ) → list-over-lts.Need-enum-told-2 (list-over-claims t) (list-over-at t) list-over.Post
 list-over-enum-told-2 t c = search needs
@@ -363,24 +363,24 @@ struct-over-skip-selector-requires : (t : ℕ) → struct-over-lts.Need-skip-sel
 struct-over-skip-selector-requires t c κs = search needs
 
 struct-over-put-nothing-requires : (t : ℕ) → struct-over-lts.Need-put-nothing-requires (struct-over-claims t) (struct-over-at t) struct-over.Post
-struct-over-put-nothing-requires t c κs = c .before .before .before .before .before .before .before .before .before .pre .1 .1 .1 .2
+struct-over-put-nothing-requires t c κs = c .before .before .before .before .before .before .before .before .before .before .pre .1 .1 .1 .1 .2
 
 struct-over-enum-known-n : (t : ℕ) → struct-over-lts.Need-enum-known-n (struct-over-claims t) (struct-over-at t) struct-over.Post
 struct-over-enum-known-n t c = search needs
 
 struct-over-put-lead-requires : (t : ℕ) → struct-over-lts.Need-put-lead-requires (struct-over-claims t) (struct-over-at t) struct-over.Post
-struct-over-put-lead-requires t c κs = omega (arith, c .before .before .before .before .before .before .before .before .before .pre .1 .1 .1 .2)
+struct-over-put-lead-requires t c κs = omega (arith, c .before .before .before .before .before .before .before .before .before .before .pre .1 .1 .1 .1 .2)
 
 struct-over-struct-fields-requires : (t : ℕ) → struct-over-lts.Need-struct-fields-requires (struct-over-claims t) (struct-over-at t) struct-over.Post
 struct-over-struct-fields-requires t c κs = search needs
 
 struct-over-transfer-fields-requires : (t : ℕ) → struct-over-lts.Need-transfer-fields-requires (struct-over-claims t) (struct-over-at t) struct-over.Post
 struct-over-transfer-fields-requires t c κs =
-    let (x, N) = c .before .before .before .before .before .before .before .before .before .before .before .before .before .before .pre .1 .0 in
-    let (P, K) = c .before .before .before .before .before .before .before .before .before .before .before .before .before .before .pre .1 .1 .0 in
-    let B = c .before .before .before .before .before .before .before .before .before .before .before .before .before .before .pre .1 .1 .1 in
+    let (x, N) = c .before .before .before .before .before .before .before .before .before .before .before .before .before .before .before .pre .1 .1 .0 in
+    let (P, K) = c .before .before .before .before .before .before .before .before .before .before .before .before .before .before .before .pre .1 .1 .1 .0 in
+    let B = c .before .before .before .before .before .before .before .before .before .before .before .before .before .before .before .pre .1 .1 .1 .1 in
     let D = opened-by (c .before .before .before .before .before .before .before .before .before .open-node .ensures x N) (c .before .before .before .before .before .before .before .n .given .1) in
-    (omega (arith, c .before .before .before .before .before .before .before .before .before .before .before .before .before .before .pre .0), (D .row, (fields-at K (c .before .struct-fields .ensures (K .input) (K .fields)), (B .0, B .1, omega (arith, c .before .before .before .before .put-lead .ensures .ends, B .2)))))
+    (omega (arith, c .before .before .before .before .before .before .before .before .before .before .before .before .before .before .before .pre .0), (c .before .before .before .before .before .before .before .before .before .before .before .before .before .before .before .pre .1 .0, (D .row, (fields-at K (c .before .struct-fields .ensures (K .input) (K .fields)), (B .0, B .1, omega (arith, c .before .before .before .before .put-lead .ensures .ends, B .2))))))
 
 struct-over-enum-told-2 : (t : ℕ) → struct-over-lts.Need-enum-told-2 (struct-over-claims t) (struct-over-at t) struct-over.Post
 struct-over-enum-told-2 t c = search needs
@@ -432,7 +432,7 @@ transfer-skip-selector-requires : (t : ℕ) → transfer-lts.Need-skip-selector-
 transfer-skip-selector-requires t c κs = search needs
 
 transfer-put-node-requires : (t : ℕ) → transfer-lts.Need-put-node-requires (transfer-claims t) (transfer-at t) transfer.Post
-transfer-put-node-requires t c κs = (c .before .before .before .before .before .before .before .before .before .before .before .pre .1 .0, (c .before .before .before .before .before .before .before .before .before .before .before .pre .1 .1 .1 .0, c .before .before .before .before .before .if2 .left))
+transfer-put-node-requires t c κs = (c .before .before .before .before .before .before .before .before .before .before .before .before .pre .1 .0, (c .before .before .before .before .before .before .before .before .before .before .before .before .pre .1 .1 .0, (c .before .before .before .before .before .before .before .before .before .before .before .before .pre .1 .1 .1 .1 .0, c .before .before .before .before .before .if2 .left)))
 
 transfer-enum-known-t : (t : ℕ) → transfer-lts.Need-enum-known-t (transfer-claims t) (transfer-at t) transfer.Post
 transfer-enum-known-t t c = search needs
@@ -442,8 +442,8 @@ transfer-skip-selector-requires-2 t c κs = search needs
 
 transfer-put-constant-requires : (t : ℕ) → transfer-lts.Need-put-constant-requires (transfer-claims t) (transfer-at t) transfer.Post
 transfer-put-constant-requires t c κs =
-    let K = is-constant (c .before .before .before .before .before .head .ensures (c .before .before .before .before .before .before .before .before .before .before .before .before .pre .1 .1 .0)) (c .before .before .before .t .given .1) in
-    (record { type = K .type; value = K .value }, (c .before .before .before .before .before .before .before .before .before .before .before .before .pre .1 .1 .1 .1, c .before .before .before .before .before .before .if2 .left))
+    let K = is-constant (c .before .before .before .before .before .head .ensures (c .before .before .before .before .before .before .before .before .before .before .before .before .before .pre .1 .1 .1 .0)) (c .before .before .before .t .given .1) in
+    (record { type = K .type; value = K .value }, (c .before .before .before .before .before .before .before .before .before .before .before .before .before .pre .1 .1 .1 .1 .1, c .before .before .before .before .before .before .if2 .left))
 
 transfer-enum-known-input : (t : ℕ) → transfer-lts.Need-enum-known-input (transfer-claims t) (transfer-at t) transfer.Post
 transfer-enum-known-input t c = search needs
@@ -453,9 +453,9 @@ transfer-sub-transfer t c = search needs
 
 transfer-transfer-requires : (t : ℕ) → transfer-lts.Need-transfer-requires (transfer-claims t) (transfer-at t) transfer.Post
 transfer-transfer-requires t c κs =
-    let B = c .before .before .before .before .before .before .before .before .before .before .before .pre .1 .1 .1 in
-    let K = is-rename (c .before .before .before .before .head .ensures (c .before .before .before .before .before .before .before .before .before .before .before .pre .1 .1 .0)) (c .before .before .input .given .1) in
-    (omega (arith, c .before .before .before .before .before .before .before .before .before .before .before .pre .0, c .before .before .before .before .before .before .if1 .left), (c .before .before .before .before .before .before .before .before .before .before .before .pre .1 .0, (K .input, (B .0, B .1, omega (arith, c .before .before .before .before .before .if2 .left)))))
+    let B = c .before .before .before .before .before .before .before .before .before .before .before .before .pre .1 .1 .1 .1 in
+    let K = is-rename (c .before .before .before .before .head .ensures (c .before .before .before .before .before .before .before .before .before .before .before .before .pre .1 .1 .1 .0)) (c .before .before .input .given .1) in
+    (omega (arith, c .before .before .before .before .before .before .before .before .before .before .before .before .pre .0, c .before .before .before .before .before .before .if1 .left), (c .before .before .before .before .before .before .before .before .before .before .before .before .pre .1 .0, (c .before .before .before .before .before .before .before .before .before .before .before .before .pre .1 .1 .0, (K .input, (B .0, B .1, omega (arith, c .before .before .before .before .before .if2 .left))))))
 
 transfer-past-name-requires : (t : ℕ) → transfer-lts.Need-past-name-requires (transfer-claims t) (transfer-at t) transfer.Post
 transfer-past-name-requires t c κs = search needs
@@ -464,7 +464,7 @@ transfer-enum-told-2 : (t : ℕ) → transfer-lts.Need-enum-told-2 (transfer-cla
 transfer-enum-told-2 t c = search needs
 
 transfer-transfer-cast-requires : (t : ℕ) → transfer-lts.Need-transfer-cast-requires (transfer-claims t) (transfer-at t) transfer.Post
-transfer-transfer-cast-requires t c κs = (c .before .before .before .before .before .before .before .before .before .before .pre .1 .0, (c .before .before .before .before .before .before .before .before .before .before .pre .1 .1 .1 .0, c .before .before .before .before .if2 .left))
+transfer-transfer-cast-requires t c κs = (c .before .before .before .before .before .before .before .before .before .before .before .pre .1 .0, (c .before .before .before .before .before .before .before .before .before .before .before .pre .1 .1 .0, (c .before .before .before .before .before .before .before .before .before .before .before .pre .1 .1 .1 .1 .0, c .before .before .before .before .if2 .left)))
 
 transfer-enum-known-input-2 : (t : ℕ) → transfer-lts.Need-enum-known-input-2 (transfer-claims t) (transfer-at t) transfer.Post
 transfer-enum-known-input-2 t c = search needs
@@ -474,8 +474,8 @@ transfer-sub-transfer-taken t c = search needs
 
 transfer-transfer-taken-requires : (t : ℕ) → transfer-lts.Need-transfer-taken-requires (transfer-claims t) (transfer-at t) transfer.Post
 transfer-transfer-taken-requires t c κs =
-    let B = c .before .before .before .before .before .before .before .before .before .before .before .pre .1 .1 .1 in
-    (omega (arith, c .before .before .before .before .before .before .before .before .before .before .before .pre .0, c .before .before .before .before .before .before .if1 .left), (c .before .before .before .before .before .before .before .before .before .before .before .pre .1 .0, (c .before .before .before .before .before .before .before .before .before .before .before .pre .1 .1 .0, (B .0, B .1, c .before .before .before .before .before .if2 .left))))
+    let B = c .before .before .before .before .before .before .before .before .before .before .before .before .pre .1 .1 .1 .1 in
+    (omega (arith, c .before .before .before .before .before .before .before .before .before .before .before .before .pre .0, c .before .before .before .before .before .before .if1 .left), (c .before .before .before .before .before .before .before .before .before .before .before .before .pre .1 .0, (c .before .before .before .before .before .before .before .before .before .before .before .before .pre .1 .1 .0, (c .before .before .before .before .before .before .before .before .before .before .before .before .pre .1 .1 .1 .0, (B .0, B .1, c .before .before .before .before .before .if2 .left)))))
 
 transfer-enum-known-input-3 : (t : ℕ) → transfer-lts.Need-enum-known-input-3 (transfer-claims t) (transfer-at t) transfer.Post
 transfer-enum-known-input-3 t c = search needs
@@ -485,8 +485,8 @@ transfer-sub-transfer-taken-2 t c = search needs
 
 transfer-transfer-taken-requires-2 : (t : ℕ) → transfer-lts.Need-transfer-taken-requires-2 (transfer-claims t) (transfer-at t) transfer.Post
 transfer-transfer-taken-requires-2 t c κs =
-    let B = c .before .before .before .before .before .before .before .before .before .before .before .pre .1 .1 .1 in
-    (omega (arith, c .before .before .before .before .before .before .before .before .before .before .before .pre .0, c .before .before .before .before .before .before .if1 .left), (c .before .before .before .before .before .before .before .before .before .before .before .pre .1 .0, (c .before .before .before .before .before .before .before .before .before .before .before .pre .1 .1 .0, (B .0, B .1, c .before .before .before .before .before .if2 .left))))
+    let B = c .before .before .before .before .before .before .before .before .before .before .before .before .pre .1 .1 .1 .1 in
+    (omega (arith, c .before .before .before .before .before .before .before .before .before .before .before .before .pre .0, c .before .before .before .before .before .before .if1 .left), (c .before .before .before .before .before .before .before .before .before .before .before .before .pre .1 .0, (c .before .before .before .before .before .before .before .before .before .before .before .before .pre .1 .1 .0, (c .before .before .before .before .before .before .before .before .before .before .before .before .pre .1 .1 .1 .0, (B .0, B .1, c .before .before .before .before .before .if2 .left)))))
 
 transfer-enum-known-input-4 : (t : ℕ) → transfer-lts.Need-enum-known-input-4 (transfer-claims t) (transfer-at t) transfer.Post
 transfer-enum-known-input-4 t c = search needs
@@ -496,8 +496,8 @@ transfer-sub-transfer-taken-3 t c = search needs
 
 transfer-transfer-taken-requires-3 : (t : ℕ) → transfer-lts.Need-transfer-taken-requires-3 (transfer-claims t) (transfer-at t) transfer.Post
 transfer-transfer-taken-requires-3 t c κs =
-    let B = c .before .before .before .before .before .before .before .before .before .before .before .pre .1 .1 .1 in
-    (omega (arith, c .before .before .before .before .before .before .before .before .before .before .before .pre .0, c .before .before .before .before .before .before .if1 .left), (c .before .before .before .before .before .before .before .before .before .before .before .pre .1 .0, (c .before .before .before .before .before .before .before .before .before .before .before .pre .1 .1 .0, (B .0, B .1, c .before .before .before .before .before .if2 .left))))
+    let B = c .before .before .before .before .before .before .before .before .before .before .before .before .pre .1 .1 .1 .1 in
+    (omega (arith, c .before .before .before .before .before .before .before .before .before .before .before .before .pre .0, c .before .before .before .before .before .before .if1 .left), (c .before .before .before .before .before .before .before .before .before .before .before .before .pre .1 .0, (c .before .before .before .before .before .before .before .before .before .before .before .before .pre .1 .1 .0, (c .before .before .before .before .before .before .before .before .before .before .before .before .pre .1 .1 .1 .0, (B .0, B .1, c .before .before .before .before .before .if2 .left)))))
 
 transfer-enum-told-3 : (t : ℕ) → transfer-lts.Need-enum-told-3 (transfer-claims t) (transfer-at t) transfer.Post
 transfer-enum-told-3 t c = search needs
@@ -554,29 +554,29 @@ transfer-returns-10 : (t : ℕ) → transfer-lts.Need-returns-10 (transfer-claim
 transfer-returns-10 t c = λ ρ P N. unknown
 
 abbrev transfer-elements-Inv-loop : transfer-elements-lts.InvT-loop
-transfer-elements-Inv-loop lay v m t rec plan element end levels out₀ k p at₀ from₀ i₀ out at from i = (length out ≡ length out₀) × (at ≤ 16387) × ((X : ElementsAt v lay m (t .at) rec from₀) (P : SelectorAt plan (element .at)) → Going (λ x. eval (vcons x vnil) (P .tree)) X out₀ k i from at out)
+transfer-elements-Inv-loop lay v m t rec plan element end levels out₀ k ends p at₀ from₀ i₀ out at from i = (length out ≡ length out₀) × (at ≤ 16387) × ((X : ElementsAt v lay m (t .at) rec from₀) (P : SelectorAt plan (element .at)) → Going (λ x. eval (vcons x vnil) (P .tree)) X out₀ k i from at out)
 
 abbrev transfer-elements-μ-loop : transfer-elements-lts.MeasureT-loop
-transfer-elements-μ-loop lay v m t rec plan element end levels out₀ k p at₀ from₀ i₀ out at from i = m - i
+transfer-elements-μ-loop lay v m t rec plan element end levels out₀ k ends p at₀ from₀ i₀ out at from i = m - i
 
 transfer-elements-taken-position-requires :
     (t : ℕ) → transfer-elements-lts.Need-taken-position-requires (transfer-elements-claims t) (transfer-elements-at t) transfer-elements.Post
     transfer-elements-Inv-loop
     transfer-elements-μ-loop
-transfer-elements-taken-position-requires t c κs = c .before .before .before .before .pre .1 .1 .0
+transfer-elements-taken-position-requires t c κs = c .before .before .before .before .before .pre .1 .1 .1 .0
 
 transfer-elements-loop-holds : (t : ℕ) → transfer-elements-lts.Need-loop-holds (transfer-elements-claims t) (transfer-elements-at t) transfer-elements.Post
     transfer-elements-Inv-loop
     transfer-elements-μ-loop
-transfer-elements-loop-holds t c = (refl, c .before .before .before .before .before .pre .1 .1 .1 .2, λ X P. going-none (λ x. eval (vcons x vnil) (P .tree)) X _ _)
+transfer-elements-loop-holds t c = (refl, c .before .before .before .before .before .before .pre .1 .1 .1 .1 .2, λ X P. going-none (λ x. eval (vcons x vnil) (P .tree)) X _ _)
 
 transfer-elements-skip-value-requires : (t : ℕ) → transfer-elements-lts.Need-skip-value-requires (transfer-elements-claims t) (transfer-elements-at t) transfer-elements.Post
     transfer-elements-Inv-loop
     transfer-elements-μ-loop
 transfer-elements-skip-value-requires t c κs =
-    let X = c .before .before .before .before .before .before .before .pre .1 .0 in
-    let P = c .before .before .before .before .before .before .before .pre .1 .1 .0 in
-    going-value (λ x. eval (vcons x vnil) (P .tree)) X (c .before .loop .inv .2 X P) (c .loop-test .taken)
+    let X = c .before .before .before .before .before .before .before .before .pre .1 .1 .0 in
+    let P = c .before .before .before .before .before .before .before .before .pre .1 .1 .1 .0 in
+    (c .before .before .before .before .before .before .before .before .pre .1 .0, going-value (λ x. eval (vcons x vnil) (P .tree)) X (c .before .loop .inv .2 X P) (c .loop-test .taken))
 
 transfer-elements-element-node-requires :
     (t : ℕ) → transfer-elements-lts.Need-element-node-requires (transfer-elements-claims t) (transfer-elements-at t) transfer-elements.Post
@@ -588,11 +588,11 @@ transfer-elements-transfer-requires : (t : ℕ) → transfer-elements-lts.Need-t
     transfer-elements-Inv-loop
     transfer-elements-μ-loop
 transfer-elements-transfer-requires t c κs =
-    let X = c .before .before .before .before .before .before .before .before .before .before .pre .1 .0 in
-    let P = c .before .before .before .before .before .before .before .before .before .before .pre .1 .1 .0 in
-    let B = c .before .before .before .before .before .before .before .before .before .before .pre .1 .1 .1 in
+    let X = c .before .before .before .before .before .before .before .before .before .before .before .pre .1 .1 .0 in
+    let P = c .before .before .before .before .before .before .before .before .before .before .before .pre .1 .1 .1 .0 in
+    let B = c .before .before .before .before .before .before .before .before .before .before .before .pre .1 .1 .1 .1 in
     let (l, b, f) = c .before .before .before .before .loop .inv in
-    (omega (arith, c .before .before .before .before .before .before .before .before .before .before .pre .0), ((_, c .before .element-node .ensures _ _ _ (going-value (λ x. eval (vcons x vnil) (P .tree)) X (f X P) (c .before .before .before .loop-test .taken))), (P, (B .0, B .1, b))))
+    (omega (arith, c .before .before .before .before .before .before .before .before .before .before .before .pre .0), (c .before .before .before .before .before .before .before .before .before .before .before .pre .1 .0, ((_, c .before .element-node .ensures _ _ _ (going-value (λ x. eval (vcons x vnil) (P .tree)) X (f X P) (c .before .before .before .loop-test .taken))), (P, (B .0, B .1, b)))))
 
 transfer-elements-enum-known-r : (t : ℕ) → transfer-elements-lts.Need-enum-known-r (transfer-elements-claims t) (transfer-elements-at t) transfer-elements.Post
     transfer-elements-Inv-loop
@@ -630,8 +630,8 @@ transfer-elements-loop-again : (t : ℕ) → transfer-elements-lts.Need-loop-aga
 transfer-elements-loop-again t c =
     let (l, b, f) = c .before .before .before .before .before .before .before .before .before .before .loop .inv in
     let h = c .before .before .before .before .before .before .before .before .before .loop-test .taken in
-    let X = c .before .before .before .before .before .before .before .before .before .before .before .before .before .before .before .before .pre .1 .0 in
-    let P = c .before .before .before .before .before .before .before .before .before .before .before .before .before .before .before .before .pre .1 .1 .0 in
+    let X = c .before .before .before .before .before .before .before .before .before .before .before .before .before .before .before .before .before .pre .1 .1 .0 in
+    let P = c .before .before .before .before .before .before .before .before .before .before .before .before .before .before .before .before .before .pre .1 .1 .1 .0 in
     let W = going-value (λ x. eval (vcons x vnil) (P .tree)) X (f X P) h in
     let K = reached-to (c .before .before .before .before .before .transfer .ensures (vcons (W .value .tree) vnil) P (taken-node (vcons (W .value .tree) vnil) (c .before .before .before .before .before .before .before .before .before .before .before .taken-position .ensures P) (c .before .before .before .before .before .before .before .element-node .ensures _ _ _ W))) (c .before .r .given .1) in (
       c .before .before .before .before .before .transfer .kept .1 .1 .1 .1 .1 .1 .1 .0 ∙ l,
@@ -671,7 +671,7 @@ transfer-fields-slice-aggregate-index-fields-2 :
 transfer-fields-slice-aggregate-index-fields-2 t c = search needs
 
 transfer-fields-index-fields-requires : (t : ℕ) → transfer-fields-lts.Need-index-fields-requires (transfer-fields-claims t) (transfer-fields-at t) transfer-fields.Post
-transfer-fields-index-fields-requires t c κs = c .before .before .before .before .before .before .before .pre .1 .0
+transfer-fields-index-fields-requires t c κs = (c .before .before .before .before .before .before .before .before .pre .1 .0, c .before .before .before .before .before .before .before .before .pre .1 .1 .0)
 
 transfer-fields-array-share-prefix-types :
     (t : ℕ) → transfer-fields-lts.Need-array-share-prefix-types (transfer-fields-claims t) (transfer-fields-at t) transfer-fields.Post
@@ -690,7 +690,7 @@ transfer-fields-slice-aggregate-transfer-row-2 :
 transfer-fields-slice-aggregate-transfer-row-2 t c = sym (length-take-le _ _ (c .before .before .before .before .index-fields .ensures .1 .0))
 
 transfer-fields-transfer-row-requires : (t : ℕ) → transfer-fields-lts.Need-transfer-row-requires (transfer-fields-claims t) (transfer-fields-at t) transfer-fields.Post
-transfer-fields-transfer-row-requires t c κs = (omega (arith, c .before .before .before .before .before .before .before .before .before .before .before .before .before .pre .0), (c .before .before .before .before .before .before .before .before .before .before .before .before .before .pre .1 .0, ((c .before .before .before .before .before .index-fields .ensures .1 .1, c .before .before .before .before .before .before .before .before .field-stride .ensures), (c .before .before .before .before .before .before .before .before .before .before .before .before .before .pre .1 .1 .0, c .before .before .before .before .before .before .before .before .before .before .before .before .before .pre .1 .1 .1))))
+transfer-fields-transfer-row-requires t c κs = (omega (arith, c .before .before .before .before .before .before .before .before .before .before .before .before .before .before .pre .0), (c .before .before .before .before .before .before .before .before .before .before .before .before .before .before .pre .1 .0, (c .before .before .before .before .before .before .before .before .before .before .before .before .before .before .pre .1 .1 .0, ((c .before .before .before .before .before .index-fields .ensures .1 .1, c .before .before .before .before .before .before .before .before .field-stride .ensures), (c .before .before .before .before .before .before .before .before .before .before .before .before .before .before .pre .1 .1 .1 .0, c .before .before .before .before .before .before .before .before .before .before .before .before .before .before .pre .1 .1 .1 .1)))))
 
 transfer-fields-same-length : (t : ℕ) → transfer-fields-lts.Need-same-length (transfer-fields-claims t) (transfer-fields-at t) transfer-fields.Post
 transfer-fields-same-length t c = search needs
@@ -717,7 +717,7 @@ transfer-over-enum-known-input : (t : ℕ) → transfer-over-lts.Need-enum-known
 transfer-over-enum-known-input t c = search needs
 
 transfer-over-cast-over-requires : (t : ℕ) → transfer-over-lts.Need-cast-over-requires (transfer-over-claims t) (transfer-over-at t) transfer-over.Post
-transfer-over-cast-over-requires t c κs = (c .before .before .before .before .before .before .before .before .before .before .pre .1 .0, (c .before .before .before .before .before .before .before .before .before .before .pre .1 .1 .1 .0, c .before .before .before .before .before .before .before .before .before .before .pre .1 .1 .1 .2))
+transfer-over-cast-over-requires t c κs = (c .before .before .before .before .before .before .before .before .before .before .before .pre .1 .0, (c .before .before .before .before .before .before .before .before .before .before .before .pre .1 .1 .0, (c .before .before .before .before .before .before .before .before .before .before .before .pre .1 .1 .1 .1 .0, c .before .before .before .before .before .before .before .before .before .before .before .pre .1 .1 .1 .1 .2)))
 
 transfer-over-enum-told-3 : (t : ℕ) → transfer-over-lts.Need-enum-told-3 (transfer-over-claims t) (transfer-over-at t) transfer-over.Post
 transfer-over-enum-told-3 t c = search needs
@@ -726,31 +726,31 @@ transfer-over-skip-selector-requires : (t : ℕ) → transfer-over-lts.Need-skip
 transfer-over-skip-selector-requires t c κs = search needs
 
 transfer-over-put-node-requires : (t : ℕ) → transfer-over-lts.Need-put-node-requires (transfer-over-claims t) (transfer-over-at t) transfer-over.Post
-transfer-over-put-node-requires t c κs = (c .before .before .before .before .before .before .before .before .before .before .pre .1 .0, (c .before .before .before .before .before .before .before .before .before .before .pre .1 .1 .1 .0, c .before .before .before .before .before .before .before .before .before .before .pre .1 .1 .1 .2))
+transfer-over-put-node-requires t c κs = (c .before .before .before .before .before .before .before .before .before .before .before .pre .1 .0, (c .before .before .before .before .before .before .before .before .before .before .before .pre .1 .1 .0, (c .before .before .before .before .before .before .before .before .before .before .before .pre .1 .1 .1 .1 .0, c .before .before .before .before .before .before .before .before .before .before .before .pre .1 .1 .1 .1 .2)))
 
 transfer-over-enum-known-input-2 : (t : ℕ) → transfer-over-lts.Need-enum-known-input-2 (transfer-over-claims t) (transfer-over-at t) transfer-over.Post
 transfer-over-enum-known-input-2 t c = search needs
 
 transfer-over-struct-over-requires : (t : ℕ) → transfer-over-lts.Need-struct-over-requires (transfer-over-claims t) (transfer-over-at t) transfer-over.Post
 transfer-over-struct-over-requires t c κs =
-    let P = c .before .before .before .before .before .before .before .before .before .before .pre .1 .1 .0 in
-    (omega (arith, c .before .before .before .before .before .before .before .before .before .before .pre .0, c .before .before .before .before .before .if1 .left), (c .before .before .before .before .before .before .before .before .before .before .pre .1 .0, ((P, is-struct (c .before .before .before .before .head .ensures P) (c .before .before .input2 .given .1)), c .before .before .before .before .before .before .before .before .before .before .pre .1 .1 .1)))
+    let P = c .before .before .before .before .before .before .before .before .before .before .before .pre .1 .1 .1 .0 in
+    (omega (arith, c .before .before .before .before .before .before .before .before .before .before .before .pre .0, c .before .before .before .before .before .if1 .left), (c .before .before .before .before .before .before .before .before .before .before .before .pre .1 .0, (c .before .before .before .before .before .before .before .before .before .before .before .pre .1 .1 .0, ((P, is-struct (c .before .before .before .before .head .ensures P) (c .before .before .input2 .given .1)), c .before .before .before .before .before .before .before .before .before .before .before .pre .1 .1 .1 .1))))
 
 transfer-over-enum-known-input-3 : (t : ℕ) → transfer-over-lts.Need-enum-known-input-3 (transfer-over-claims t) (transfer-over-at t) transfer-over.Post
 transfer-over-enum-known-input-3 t c = search needs
 
 transfer-over-list-over-requires : (t : ℕ) → transfer-over-lts.Need-list-over-requires (transfer-over-claims t) (transfer-over-at t) transfer-over.Post
 transfer-over-list-over-requires t c κs =
-    let P = c .before .before .before .before .before .before .before .before .before .before .pre .1 .1 .0 in
-    (omega (arith, c .before .before .before .before .before .before .before .before .before .before .pre .0, c .before .before .before .before .before .if1 .left), (c .before .before .before .before .before .before .before .before .before .before .pre .1 .0, ((P, is-list (c .before .before .before .before .head .ensures P) (c .before .before .input3 .given .1)), c .before .before .before .before .before .before .before .before .before .before .pre .1 .1 .1)))
+    let P = c .before .before .before .before .before .before .before .before .before .before .before .pre .1 .1 .1 .0 in
+    (omega (arith, c .before .before .before .before .before .before .before .before .before .before .before .pre .0, c .before .before .before .before .before .if1 .left), (c .before .before .before .before .before .before .before .before .before .before .before .pre .1 .0, (c .before .before .before .before .before .before .before .before .before .before .before .pre .1 .1 .0, ((P, is-list (c .before .before .before .before .head .ensures P) (c .before .before .input3 .given .1)), c .before .before .before .before .before .before .before .before .before .before .before .pre .1 .1 .1 .1))))
 
 transfer-over-enum-known-input-4 : (t : ℕ) → transfer-over-lts.Need-enum-known-input-4 (transfer-over-claims t) (transfer-over-at t) transfer-over.Post
 transfer-over-enum-known-input-4 t c = search needs
 
 transfer-over-array-over-requires : (t : ℕ) → transfer-over-lts.Need-array-over-requires (transfer-over-claims t) (transfer-over-at t) transfer-over.Post
 transfer-over-array-over-requires t c κs =
-    let P = c .before .before .before .before .before .before .before .before .before .before .pre .1 .1 .0 in
-    (omega (arith, c .before .before .before .before .before .before .before .before .before .before .pre .0, c .before .before .before .before .before .if1 .left), (c .before .before .before .before .before .before .before .before .before .before .pre .1 .0, ((P, is-array (c .before .before .before .before .head .ensures P) (c .before .before .input4 .given .1)), c .before .before .before .before .before .before .before .before .before .before .pre .1 .1 .1)))
+    let P = c .before .before .before .before .before .before .before .before .before .before .before .pre .1 .1 .1 .0 in
+    (omega (arith, c .before .before .before .before .before .before .before .before .before .before .before .pre .0, c .before .before .before .before .before .if1 .left), (c .before .before .before .before .before .before .before .before .before .before .before .pre .1 .0, (c .before .before .before .before .before .before .before .before .before .before .before .pre .1 .1 .0, ((P, is-array (c .before .before .before .before .head .ensures P) (c .before .before .input4 .given .1)), c .before .before .before .before .before .before .before .before .before .before .before .pre .1 .1 .1 .1))))
 
 transfer-over-enum-told-4 : (t : ℕ) → transfer-over-lts.Need-enum-told-4 (transfer-over-claims t) (transfer-over-at t) transfer-over.Post
 transfer-over-enum-told-4 t c = search needs
@@ -798,30 +798,30 @@ transfer-over-returns-9 : (t : ℕ) → transfer-over-lts.Need-returns-9 (transf
 transfer-over-returns-9 t c = λ ρ P N. unknown
 
 abbrev transfer-row-Inv-loop : transfer-row-lts.InvT-loop
-transfer-row-Inv-loop lay v n t rec d types values stride plan count levels out₀ k at₀ from₀ i₀ out at from i = (length out ≡ length out₀) × (at ≤ 16387) × ((X : RowAt v lay n (t .at) rec (d .at)) (S : SelectorsAt plan count from₀) → Running (X .values .values) S out₀ k i from at out)
+transfer-row-Inv-loop lay v n t rec d types values stride plan count levels out₀ k ends at₀ from₀ i₀ out at from i = (length out ≡ length out₀) × (at ≤ 16387) × ((X : RowAt v lay n (t .at) rec (d .at)) (S : SelectorsAt plan count from₀) → Running (X .values .values) S out₀ k i from at out)
 
 abbrev transfer-row-μ-loop : transfer-row-lts.MeasureT-loop
-transfer-row-μ-loop lay v n t rec d types values stride plan count levels out₀ k at₀ from₀ i₀ out at from i = count - i
+transfer-row-μ-loop lay v n t rec d types values stride plan count levels out₀ k ends at₀ from₀ i₀ out at from i = count - i
 
 transfer-row-loop-holds : (t : ℕ) → transfer-row-lts.Need-loop-holds (transfer-row-claims t) (transfer-row-at t) transfer-row.Post transfer-row-Inv-loop transfer-row-μ-loop
-transfer-row-loop-holds t c = (refl, c .before .before .before .before .before .before .pre .1 .1 .1 .1 .2, λ X S. running-none (X .values .values) S _ _)
+transfer-row-loop-holds t c = (refl, c .before .before .before .before .before .before .before .pre .1 .1 .1 .1 .1 .2, λ X S. running-none (X .values .values) S _ _)
 
 transfer-row-taken-position-requires : (t : ℕ) → transfer-row-lts.Need-taken-position-requires (transfer-row-claims t) (transfer-row-at t) transfer-row.Post transfer-row-Inv-loop transfer-row-μ-loop
 transfer-row-taken-position-requires t c κs =
-    let X = c .before .before .before .before .before .before .before .before .pre .1 .0 in
-    let S = c .before .before .before .before .before .before .before .before .pre .1 .1 .1 .0 in
+    let X = c .before .before .before .before .before .before .before .before .before .pre .1 .1 .0 in
+    let S = c .before .before .before .before .before .before .before .before .before .pre .1 .1 .1 .1 .0 in
     running-head (X .values .values) S (c .before .loop .inv .2 X S) (c .loop-test .taken)
 
 transfer-row-indexed-value-requires : (t : ℕ) → transfer-row-lts.Need-indexed-value-requires (transfer-row-claims t) (transfer-row-at t) transfer-row.Post transfer-row-Inv-loop transfer-row-μ-loop
-transfer-row-indexed-value-requires t c κs = (c .before .before .before .before .before .before .before .before .before .pre .1 .0, (c .before .before .before .before .before .before .before .before .before .pre .1 .1 .0 .0, c .before .before .before .before .before .before .before .before .before .pre .1 .1 .0 .1))
+transfer-row-indexed-value-requires t c κs = (c .before .before .before .before .before .before .before .before .before .before .pre .1 .1 .0, (c .before .before .before .before .before .before .before .before .before .before .pre .1 .1 .1 .0 .0, (c .before .before .before .before .before .before .before .before .before .before .pre .1 .1 .1 .0 .1, c .before .before .before .before .before .before .before .before .before .before .pre .1 .0)))
 
 transfer-row-transfer-requires : (t : ℕ) → transfer-row-lts.Need-transfer-requires (transfer-row-claims t) (transfer-row-at t) transfer-row.Post transfer-row-Inv-loop transfer-row-μ-loop
 transfer-row-transfer-requires t c κs =
-    let X = c .before .before .before .before .before .before .before .before .before .before .before .pre .1 .0 in
-    let S = c .before .before .before .before .before .before .before .before .before .before .before .pre .1 .1 .1 .0 in
-    let B = c .before .before .before .before .before .before .before .before .before .before .before .pre .1 .1 .1 .1 in
+    let X = c .before .before .before .before .before .before .before .before .before .before .before .before .pre .1 .1 .0 in
+    let S = c .before .before .before .before .before .before .before .before .before .before .before .before .pre .1 .1 .1 .1 .0 in
+    let B = c .before .before .before .before .before .before .before .before .before .before .before .before .pre .1 .1 .1 .1 .1 in
     let (l, b, f) = c .before .before .before .before .loop .inv in
-    (omega (arith, c .before .before .before .before .before .before .before .before .before .before .before .pre .0), ((_, c .before .indexed-value .ensures X), (running-head (X .values .values) S (f X S) (c .before .before .before .loop-test .taken), (B .0, B .1, b))))
+    (omega (arith, c .before .before .before .before .before .before .before .before .before .before .before .before .pre .0), (c .before .before .before .before .before .before .before .before .before .before .before .before .pre .1 .0, ((_, c .before .indexed-value .ensures X), (running-head (X .values .values) S (f X S) (c .before .before .before .loop-test .taken), (B .0, B .1, b)))))
 
 transfer-row-enum-known-e : (t : ℕ) → transfer-row-lts.Need-enum-known-e (transfer-row-claims t) (transfer-row-at t) transfer-row.Post transfer-row-Inv-loop transfer-row-μ-loop
 transfer-row-enum-known-e t c = search needs
@@ -836,7 +836,7 @@ transfer-row-returns : (t : ℕ) → transfer-row-lts.Need-returns (transfer-row
 transfer-row-returns t c = λ X S. unknown
 
 transfer-row-add-i : (t : ℕ) → transfer-row-lts.Need-add-i (transfer-row-claims t) (transfer-row-at t) transfer-row.Post transfer-row-Inv-loop transfer-row-μ-loop
-transfer-row-add-i t c = omega (arith, c .before .before .before .before .before .before .before .before .before .loop-test .taken)
+transfer-row-add-i t c = let k = c .before .before .before .before .before .before .before .before .before .before .before .before .before .before .before .before .before .before .fits in omega (arith, c .before .before .before .before .before .before .before .before .before .loop-test .taken)
 
 transfer-row-loop-less : (t : ℕ) → transfer-row-lts.Need-loop-less (transfer-row-claims t) (transfer-row-at t) transfer-row.Post transfer-row-Inv-loop transfer-row-μ-loop
 transfer-row-loop-less t c = omega (arith, c .before .before .before .before .before .before .before .before .before .loop-test .taken)
@@ -845,8 +845,8 @@ transfer-row-loop-again : (t : ℕ) → transfer-row-lts.Need-loop-again (transf
 transfer-row-loop-again t c =
     let (l, b, f) = c .before .before .before .before .before .before .before .before .before .before .loop .inv in
     let h = c .before .before .before .before .before .before .before .before .before .loop-test .taken in
-    let X = c .before .before .before .before .before .before .before .before .before .before .before .before .before .before .before .before .before .pre .1 .0 in
-    let S = c .before .before .before .before .before .before .before .before .before .before .before .before .before .before .before .before .before .pre .1 .1 .1 .0 in
+    let X = c .before .before .before .before .before .before .before .before .before .before .before .before .before .before .before .before .before .before .pre .1 .1 .0 in
+    let S = c .before .before .before .before .before .before .before .before .before .before .before .before .before .before .before .before .before .before .pre .1 .1 .1 .1 .0 in
     let P = running-head (X .values .values) S (f X S) h in
     let K = reached-to (c .before .before .before .before .before .transfer .ensures (X .values .values) P (taken-node (X .values .values) (c .before .before .before .before .before .before .before .before .taken-position .ensures P) (c .before .before .before .before .before .before .before .indexed-value .ensures X))) (c .before .e .given .1) in (
       c .before .before .before .before .before .transfer .kept .1 .1 .1 .1 .1 .1 .1 .0 ∙ l,
@@ -873,7 +873,7 @@ transfer-taken-is-position-requires : (t : ℕ) → transfer-taken-lts.Need-is-p
 transfer-taken-is-position-requires t c κs = search needs
 
 transfer-taken-transfer-over-requires : (t : ℕ) → transfer-taken-lts.Need-transfer-over-requires (transfer-taken-claims t) (transfer-taken-at t) transfer-taken.Post
-transfer-taken-transfer-over-requires t c κs = (omega (arith, c .before .before .before .before .before .before .before .pre .0), c .before .before .before .before .before .before .before .pre .1)
+transfer-taken-transfer-over-requires t c κs = (omega (arith, c .before .before .before .before .before .before .before .before .pre .0), (c .before .before .before .before .before .before .before .before .pre .1 .0, c .before .before .before .before .before .before .before .before .pre .1 .1))
 
 transfer-taken-same-length : (t : ℕ) → transfer-taken-lts.Need-same-length (transfer-taken-claims t) (transfer-taken-at t) transfer-taken.Post
 transfer-taken-same-length t c = search needs

@@ -43,82 +43,82 @@ use Rattle.values.proofs.read.+read_content+read_element+read_elements+
   close,
 }
 
-abbrev μ-read-content : Measures 2 read-content-kinds.ps ℕ
+abbrev μ-read-content : Measures 3 read-content-kinds.ps ℕ
 μ-read-content κs a = 4 * (a .1 .1 .0)
 
-abbrev μ-read-element : Measures 2 read-element-kinds.ps ℕ
+abbrev μ-read-element : Measures 3 read-element-kinds.ps ℕ
 μ-read-element κs a = 4 * (a .1 .1 .0) + 1
 
-abbrev μ-read-elements : Measures 2 read-elements-kinds.ps ℕ
+abbrev μ-read-elements : Measures 3 read-elements-kinds.ps ℕ
 μ-read-elements κs a = 4 * (a .1 .1 .0) + 2
 
-abbrev μ-read-fields : Measures 2 read-fields-kinds.ps ℕ
+abbrev μ-read-fields : Measures 3 read-fields-kinds.ps ℕ
 μ-read-fields κs a = 4 * (a .1 .1 .0) + 2
 
-abbrev μ-read-list : Measures 2 read-list-kinds.ps ℕ
+abbrev μ-read-list : Measures 3 read-list-kinds.ps ℕ
 μ-read-list κs a = 4 * (a .1 .1 .0) + 3
 
-abbrev μ-read-value : Measures 2 read-value-kinds.ps ℕ
+abbrev μ-read-value : Measures 3 read-value-kinds.ps ℕ
 μ-read-value κs a = 4 * (a .1 .1 .0) + 1
 
-abbrev read-content-at : ℕ → In 2 read-content-kinds.ps
+abbrev read-content-at : ℕ → In 3 read-content-kinds.ps
 read-content-at t =
-    and 2 read-content-kinds.ps (is 2 read-content-kinds.ps μ-read-content t) read-content.Pre
+    and 3 read-content-kinds.ps (is 3 read-content-kinds.ps μ-read-content t) read-content.Pre
 
-abbrev read-content-below : ℕ → In 2 read-content-kinds.ps
+abbrev read-content-below : ℕ → In 3 read-content-kinds.ps
 read-content-below t =
     and
-    2
+    3
     read-content-kinds.ps
-    (falls 2 read-content-kinds.ps _<_ μ-read-content t)
+    (falls 3 read-content-kinds.ps _<_ μ-read-content t)
     read-content.Pre
 
-abbrev read-element-at : ℕ → In 2 read-element-kinds.ps
+abbrev read-element-at : ℕ → In 3 read-element-kinds.ps
 read-element-at t =
-    and 2 read-element-kinds.ps (is 2 read-element-kinds.ps μ-read-element t) read-element.Pre
+    and 3 read-element-kinds.ps (is 3 read-element-kinds.ps μ-read-element t) read-element.Pre
 
-abbrev read-element-below : ℕ → In 2 read-element-kinds.ps
+abbrev read-element-below : ℕ → In 3 read-element-kinds.ps
 read-element-below t =
     and
-    2
+    3
     read-element-kinds.ps
-    (falls 2 read-element-kinds.ps _<_ μ-read-element t)
+    (falls 3 read-element-kinds.ps _<_ μ-read-element t)
     read-element.Pre
 
-abbrev read-elements-at : ℕ → In 2 read-elements-kinds.ps
+abbrev read-elements-at : ℕ → In 3 read-elements-kinds.ps
 read-elements-at t =
-    and 2 read-elements-kinds.ps (is 2 read-elements-kinds.ps μ-read-elements t) read-elements.Pre
+    and 3 read-elements-kinds.ps (is 3 read-elements-kinds.ps μ-read-elements t) read-elements.Pre
 
-abbrev read-elements-below : ℕ → In 2 read-elements-kinds.ps
+abbrev read-elements-below : ℕ → In 3 read-elements-kinds.ps
 read-elements-below t =
     and
-    2
+    3
     read-elements-kinds.ps
-    (falls 2 read-elements-kinds.ps _<_ μ-read-elements t)
+    (falls 3 read-elements-kinds.ps _<_ μ-read-elements t)
     read-elements.Pre
 
-abbrev read-fields-at : ℕ → In 2 read-fields-kinds.ps
+abbrev read-fields-at : ℕ → In 3 read-fields-kinds.ps
 read-fields-at t =
-    and 2 read-fields-kinds.ps (is 2 read-fields-kinds.ps μ-read-fields t) read-fields.Pre
+    and 3 read-fields-kinds.ps (is 3 read-fields-kinds.ps μ-read-fields t) read-fields.Pre
 
-abbrev read-fields-below : ℕ → In 2 read-fields-kinds.ps
+abbrev read-fields-below : ℕ → In 3 read-fields-kinds.ps
 read-fields-below t =
-    and 2 read-fields-kinds.ps (falls 2 read-fields-kinds.ps _<_ μ-read-fields t) read-fields.Pre
+    and 3 read-fields-kinds.ps (falls 3 read-fields-kinds.ps _<_ μ-read-fields t) read-fields.Pre
 
-abbrev read-list-at : ℕ → In 2 read-list-kinds.ps
-read-list-at t = and 2 read-list-kinds.ps (is 2 read-list-kinds.ps μ-read-list t) read-list.Pre
+abbrev read-list-at : ℕ → In 3 read-list-kinds.ps
+read-list-at t = and 3 read-list-kinds.ps (is 3 read-list-kinds.ps μ-read-list t) read-list.Pre
 
-abbrev read-list-below : ℕ → In 2 read-list-kinds.ps
+abbrev read-list-below : ℕ → In 3 read-list-kinds.ps
 read-list-below t =
-    and 2 read-list-kinds.ps (falls 2 read-list-kinds.ps _<_ μ-read-list t) read-list.Pre
+    and 3 read-list-kinds.ps (falls 3 read-list-kinds.ps _<_ μ-read-list t) read-list.Pre
 
-abbrev read-value-at : ℕ → In 2 read-value-kinds.ps
+abbrev read-value-at : ℕ → In 3 read-value-kinds.ps
 read-value-at t =
-    and 2 read-value-kinds.ps (is 2 read-value-kinds.ps μ-read-value t) read-value.Pre
+    and 3 read-value-kinds.ps (is 3 read-value-kinds.ps μ-read-value t) read-value.Pre
 
-abbrev read-value-below : ℕ → In 2 read-value-kinds.ps
+abbrev read-value-below : ℕ → In 3 read-value-kinds.ps
 read-value-below t =
-    and 2 read-value-kinds.ps (falls 2 read-value-kinds.ps _<_ μ-read-value t) read-value.Pre
+    and 3 read-value-kinds.ps (falls 3 read-value-kinds.ps _<_ μ-read-value t) read-value.Pre
 
 abbrev read-content-claims : ℕ → read-content-lts.Claims
 read-content-claims t = (read-number-reads.Asked, read-number-reads.Learnt, head-reads.Asked, head-reads.Learnt, read-leaf-reads.Asked, read-leaf-reads.Learnt, read-fields-below t, read-fields.Post, element-label-reads.Asked, element-label-reads.Learnt, read-list-below t, read-list.Post, read-elements-below t, read-elements.Post)
@@ -139,16 +139,16 @@ abbrev read-value-claims : ℕ → read-value-lts.Claims
 read-value-claims t = (read-presence-reads.Asked, read-presence-reads.Learnt, pass-type-reads.Asked, pass-type-reads.Learnt, read-content-below t, read-content.Post)
 
 abbrev read-elements-Inv-loop : read-elements-lts.InvT-loop
-read-elements-Inv-loop lay v depth n t rec at₀ i₀ at i = Repeating v depth lay (t .at) rec n at₀ i at
+read-elements-Inv-loop lay v depth n t rec ends at₀ i₀ at i = Repeating v depth lay (t .at) rec n at₀ i at
 
 abbrev read-elements-μ-loop : read-elements-lts.MeasureT-loop
-read-elements-μ-loop lay v depth n t rec at₀ i₀ at i = n - i
+read-elements-μ-loop lay v depth n t rec ends at₀ i₀ at i = n - i
 
 abbrev read-fields-Inv-loop : read-fields-lts.InvT-loop
-read-fields-Inv-loop lay v depth n rec at₀ to₀ i₀ at to i = Fielding v depth lay n at₀ rec to₀ i at to
+read-fields-Inv-loop lay v depth n rec ends at₀ to₀ i₀ at to i = Fielding v depth lay n at₀ rec to₀ i at to
 
 abbrev read-fields-μ-loop : read-fields-lts.MeasureT-loop
-read-fields-μ-loop lay v depth n rec at₀ to₀ i₀ at to i = n - i
+read-fields-μ-loop lay v depth n rec ends at₀ to₀ i₀ at to i = n - i
 
 pub +read-content+read-element+read-elements+read-fields+read-list+read-value-spec : {M : Type 1} → statement M
 +read-content+read-element+read-elements+read-fields+read-list+read-value-spec =
@@ -172,25 +172,25 @@ pub +read-content+read-element+read-elements+read-fields+read-list+read-value-sp
     (λ c. search needs)
     (λ c. search needs)
     (λ c. search needs)
-    (λ c. let z = deep (c .before .before .before .before .before .before .before .before .before .pre .1) in omega arith)
-    (λ c κs. let P = c .before .before .before .before .before .before .before .before .before .pre .1 in
+    (λ c. let z = deep (c .before .before .before .before .before .before .before .before .before .before .pre .1 .0) in omega arith)
+    (λ c κs. let P = c .before .before .before .before .before .before .before .before .before .before .pre .1 .0 in
     let z = deep P in
-    (omega (arith, c .before .before .before .before .before .before .before .before .before .pre .0), struct-at P (c .before .before .before .head .ensures .0) (c .before .n .given .1) .inner))
+    (omega (arith, c .before .before .before .before .before .before .before .before .before .before .pre .0), (struct-at P (c .before .before .before .head .ensures .0) (c .before .n .given .1) .inner, c .before .before .before .before .before .before .before .before .before .before .pre .1 .1)))
     (λ c. search needs)
     (λ c κs. search needs)
     (λ c. search needs)
-    (λ c. let z = deep (c .before .before .before .before .before .before .before .before .before .before .before .before .before .pre .1) in omega arith)
-    (λ c κs. let P = c .before .before .before .before .before .before .before .before .before .before .before .before .before .pre .1 in
+    (λ c. let z = deep (c .before .before .before .before .before .before .before .before .before .before .before .before .before .before .pre .1 .0) in omega arith)
+    (λ c κs. let P = c .before .before .before .before .before .before .before .before .before .before .before .before .before .before .pre .1 .0 in
     let z = deep P in
-    (omega (arith, c .before .before .before .before .before .before .before .before .before .before .before .before .before .pre .0), list-at P (c .before .before .before .before .before .before .before .head .ensures .0) (c .before .before .before .element-label .ensures .0) (c .before .before .before .before .before .e .given .1) (c .before .f .given .1) .inner))
+    (omega (arith, c .before .before .before .before .before .before .before .before .before .before .before .before .before .before .pre .0), (list-at P (c .before .before .before .before .before .before .before .head .ensures .0) (c .before .before .before .element-label .ensures .0) (c .before .before .before .before .before .e .given .1) (c .before .f .given .1) .inner, c .before .before .before .before .before .before .before .before .before .before .before .before .before .before .pre .1 .1)))
     (λ c. search needs)
     (λ c. search needs)
     (λ c κs. search needs)
     (λ c. search needs)
-    (λ c. let z = deep (c .before .before .before .before .before .before .before .before .before .before .before .before .before .pre .1) in omega arith)
-    (λ c κs. let P = c .before .before .before .before .before .before .before .before .before .before .before .before .before .pre .1 in
+    (λ c. let z = deep (c .before .before .before .before .before .before .before .before .before .before .before .before .before .before .pre .1 .0) in omega arith)
+    (λ c κs. let P = c .before .before .before .before .before .before .before .before .before .before .before .before .before .before .pre .1 .0 in
     let z = deep P in
-    (omega (arith, c .before .before .before .before .before .before .before .before .before .before .before .before .before .pre .0), array-at P (c .before .before .before .before .before .before .before .head .ensures .0) (c .before .before .before .element-label2 .ensures .0) (c .before .before .before .before .before .w .given .1) (c .before .f2 .given .1) .inner))
+    (omega (arith, c .before .before .before .before .before .before .before .before .before .before .before .before .before .before .pre .0), (array-at P (c .before .before .before .before .before .before .before .head .ensures .0) (c .before .before .before .element-label2 .ensures .0) (c .before .before .before .before .before .w .given .1) (c .before .f2 .given .1) .inner, c .before .before .before .before .before .before .before .before .before .before .before .before .before .before .pre .1 .1)))
     (λ c. search needs)
     (λ c. search needs)
     (λ c. λ P. content-leaf P _ _ (c .before .before .before .before .before .before .before .head .ensures .0) (c .before .before .before .before .before .l .given .1) (c .before .before .before .read-leaf .ensures) (c .before .d .given .1))
@@ -207,7 +207,7 @@ pub +read-content+read-element+read-elements+read-fields+read-list+read-value-sp
     (λ c κs. search needs)
     (λ c. search needs)
     (λ c. search needs)
-    (λ c κs. (omega (arith, c .before .before .before .before .before .before .pre .0), c .before .before .before .before .before .before .pre .1))
+    (λ c κs. (omega (arith, c .before .before .before .before .before .before .before .pre .0), c .before .before .before .before .before .before .before .pre .1))
     (λ c. search needs)
     (λ c. search needs)
     (λ c. search needs)
@@ -220,25 +220,25 @@ pub +read-content+read-element+read-elements+read-fields+read-list+read-value-sp
     read-elements.Post
     read-elements-Inv-loop
     read-elements-μ-loop
-    (λ c. repeating-none _ _ _ (c .before .before .pre .1))
-    (λ c κs. (omega (arith, c .before .before .before .before .pre .0), c .before .before .before .before .pre .1))
+    (λ c. repeating-none _ _ _ (c .before .before .before .pre .1 .0))
+    (λ c κs. (omega (arith, c .before .before .before .before .before .pre .0), c .before .before .before .before .before .pre .1))
     (λ c. search needs)
     (λ c. search needs)
     (λ c. repeating-stopped (c .before .before .before .before .before .loop .inv) (c .before .before .before .before .loop-test .taken) (c .before .before .before .read-element .ensures) (c .before .k .given .1))
     (λ c. omega arith)
     (λ c. omega arith)
     (λ c. repeating-more (c .before .before .before .before .before .loop .inv) (c .before .before .before .before .loop-test .taken) (c .before .before .before .read-element .ensures) (c .before .e .given .1))
-    (λ c κs. c .before .before .before .before .pre .1)
+    (λ c κs. c .before .before .before .before .before .pre .1)
     (λ c. repeating-all (c .before .before .loop .inv) (c .before .loop-test .left) (c .pass-type .ensures)))
     (λ t. read-fields-lts.spec (read-fields-claims t)
     (read-fields-at t)
     read-fields.Post
     read-fields-Inv-loop
     read-fields-μ-loop
-    (λ c. fielding-none _ _ (c .before .before .pre .1))
+    (λ c. fielding-none _ _ (c .before .before .before .pre .1 .0))
     (λ c κs. search needs)
     (λ c. search needs)
-    (λ c κs. (omega (arith, c .before .before .before .before .before .before .before .before .pre .0), fielding-first (c .before .before .before .before .before .loop .inv) (c .before .before .before .before .loop-test .taken) (c .before .before .before .label .ensures .0) (c .before .e .given .1) .head))
+    (λ c κs. (omega (arith, c .before .before .before .before .before .before .before .before .before .pre .0), (fielding-first (c .before .before .before .before .before .loop .inv) (c .before .before .before .before .loop-test .taken) (c .before .before .before .label .ensures .0) (c .before .e .given .1) .head, c .before .before .before .before .before .before .before .before .before .pre .1 .1)))
     (λ c. search needs)
     (λ c. search needs)
     (λ c. fielding-refused (c .before .before .before .before .before .before .before .before .before .loop .inv) (c .before .before .before .before .before .before .before .before .loop-test .taken) (c .before .before .before .before .before .before .before .label .ensures .0) (c .before .before .before .before .before .e .given .1) (c .before .before .before .read-value .ensures) (c .before .k .given .1))
@@ -254,7 +254,7 @@ pub +read-content+read-element+read-elements+read-fields+read-list+read-value-sp
     (λ c κs. search needs)
     (λ c. search needs)
     (λ c. search needs)
-    (λ c κs. (omega (arith, c .before .before .before .before .before .before .pre .0), c .before .before .before .before .before .before .pre .1))
+    (λ c κs. (omega (arith, c .before .before .before .before .before .before .before .pre .0), c .before .before .before .before .before .before .before .pre .1))
     (λ c. search needs)
     (λ c. λ P. list-counted (P .end) (value (dtypeOf (P .tree))) _ _ (c .before .before .before .before .short .ensures) (c .before .before .n .given .1) (c .read-elements .ensures P))
     (λ c. λ P. list-uncounted (P .end) (value (dtypeOf (P .tree))) _ _ (c .before .before .before .short .ensures) (c .before .k .given .1)))
@@ -263,9 +263,9 @@ pub +read-content+read-element+read-elements+read-fields+read-list+read-value-sp
     read-value.Post
     (λ c κs. search needs)
     (λ c. search needs)
-    (λ c κs. c .before .before .before .before .before .before .pre .1)
+    (λ c κs. c .before .before .before .before .before .before .before .pre .1)
     (λ c. search needs)
-    (λ c κs. (omega (arith, c .before .before .before .before .before .before .pre .0), c .before .before .before .before .before .before .pre .1))
+    (λ c κs. (omega (arith, c .before .before .before .before .before .before .before .pre .0), c .before .before .before .before .before .before .before .pre .1))
     (λ c. search needs)
     (λ c. λ P. value-null (P .end) (dtypeOf (P .tree)) _ _ (c .before .before .before .before .read-presence .ensures) (c .before .before .d .given .1) (c .pass-type .ensures P))
     (λ c. λ P. value-present (P .end) (dtypeOf (P .tree)) _ _ (c .before .before .before .before .read-presence .ensures) (c .before .before .d2 .given .1) (c .read-content .ensures P))

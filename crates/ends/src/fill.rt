@@ -1,0 +1,64 @@
+// Filling the table, in one pass over columns that were read before.
+ghost use mathlib.Core.Path.{_≡_};
+ghost use Rattle.layout.specs.Stands.{TypeAt, ColumnsAt};
+ghost use Rattle.ends.specs.Ends.{Ends};
+use crate::plain::plain_end;
+use crate::table::EndFound;
+use crate::table::keep_end;
+use layout::columns::Labelled;
+use layout::cursor::Cursor;
+use layout::types::Head;
+use layout::version::Version;
+
+// The end of a type; the ends of the structs in it are kept.
+fn fill_type(s: &[u8], v: Version, depth: u8, c: Cursor, ends: &mut [u16]) -> Cursor
+    requires { ⌜ TypeAt v depth (now s) (c .at) ⌝ }
+    requires { ⌜ Ends v (now s) (now ends) ⌝ }
+    ensures { λ r. ⌜ ((P : TypeAt v depth (now (s .entry)) (c .at)) → r .at ≡ P .end) ⌝ }
+    ensures { λ _. ⌜ Ends v (now (s .entry)) (now (ends .exit)) ⌝ }
+{
+    match plain_end(s, c) {
+        EndFound::At(end) => return Cursor { at: end },
+        EndFound::Unknown => {}
+    }
+    match c.head(s) {
+        Head::Leaf(_, d) => d,
+        Head::Struct(n, d) => {
+            let e = fill_columns(s, v, depth - 1, n, d, ends);
+            keep_end(ends, c.at, e.at);
+            e
+        }
+        Head::List(d) => match d.element_label(s, v) {
+            Labelled::Is(_, e) => fill_type(s, v, depth - 1, e, ends),
+            Labelled::Refused(_) => c,
+        },
+        Head::Array(_, d) => match d.element_label(s, v) {
+            Labelled::Is(_, e) => fill_type(s, v, depth - 1, e, ends),
+            Labelled::Refused(_) => c,
+        },
+        Head::Refused(_) => c,
+    }
+}
+
+// The end of `n` columns; the ends of the structs in them are kept.
+pub fn fill_columns(s: &[u8], v: Version, depth: u8, n: u16, c: Cursor, ends: &mut [u16]) -> Cursor
+    requires { ⌜ ColumnsAt v depth (now s) n (c .at) ⌝ }
+    requires { ⌜ Ends v (now s) (now ends) ⌝ }
+    ensures { λ r. ⌜ ((P : ColumnsAt v depth (now (s .entry)) n (c .at)) → r .at ≡ P .end) ⌝ }
+    ensures { λ _. ⌜ Ends v (now (s .entry)) (now (ends .exit)) ⌝ }
+{
+    let mut at = c.at;
+    let mut i: u16 = 0;
+    while i < n {
+        let d = Cursor { at };
+        match d.label(s, v) {
+            Labelled::Is(_, e) => {
+                let f = fill_type(s, v, depth, e, ends);
+                at = f.at;
+            }
+            Labelled::Refused(_) => return c,
+        }
+        i += 1;
+    }
+    Cursor { at }
+}
