@@ -732,8 +732,8 @@ attach-renamed-add-t31 : (t : ℕ) → attach-renamed-lts.Need-add-t31 (needs-re
 attach-renamed-add-t31 t c = let w = c .before .before .before .before .before .before .before .before .before .before .before .before .before .before .before .before .before .before .before .before .before .before .before .before .before .before .pre .1 in
     omega (arith, makes-room _ (c .before .before .before .before .before .before .before .before .before .before .before .before .attach-transforms2 .ensures (w .1 .0) (w .0 .0) (w .0 .1)) (sym (c .before .before .before .before .before .before .before .is-refused .ensures) ∙ c .before .before .before .before .before .before .if2 .left), c .before .before .before .before .before .len-of .ensures, extent (w .0 .1), w .1 .1 .1)
 
-attach-renamed-add-t38 : (t : ℕ) → attach-renamed-lts.Need-add-t38 (needs-rename-reads.Asked, needs-rename-reads.Learnt, attach-transforms-below t, attach-transforms.Post, put-reads.Asked, put-reads.Learnt, is-refused-reads.Asked, is-refused-reads.Learnt, len-of-reads.Asked, len-of-reads.Learnt, write-text-reads.Asked, write-text-reads.Learnt) (attach-renamed-at t) attach-renamed.Post
-attach-renamed-add-t38 t c = let w = c .before .before .before .before .before .before .before .before .before .before .before .before .before .before .before .before .before .before .before .before .before .before .before .before .before .before .pre .1 in
+attach-renamed-add-t37 : (t : ℕ) → attach-renamed-lts.Need-add-t37 (needs-rename-reads.Asked, needs-rename-reads.Learnt, attach-transforms-below t, attach-transforms.Post, put-reads.Asked, put-reads.Learnt, is-refused-reads.Asked, is-refused-reads.Learnt, len-of-reads.Asked, len-of-reads.Learnt, write-text-reads.Asked, write-text-reads.Learnt) (attach-renamed-at t) attach-renamed.Post
+attach-renamed-add-t37 t c = let w = c .before .before .before .before .before .before .before .before .before .before .before .before .before .before .before .before .before .before .before .before .before .before .before .before .before .before .pre .1 in
     omega (arith, makes-room _ (c .before .before .before .before .before .before .before .before .before .before .before .before .attach-transforms2 .ensures (w .1 .0) (w .0 .0) (w .0 .1)) (sym (c .before .before .before .before .before .before .before .is-refused .ensures) ∙ c .before .before .before .before .before .before .if2 .left), c .before .before .before .before .before .len-of .ensures, extent (w .0 .1), w .1 .1 .1, c .before .before .write-text .ensures .0, text-long (now (c .before .before .before .before .before .before .before .before .before .before .before .before .before .before .before .before .before .before .before .before .before .before .before .before .before .before .args .target)) (c .before .before .before .before .before .before .before .before .before .before .before .before .before .before .before .before .before .before .before .before .before .before .before .before .before .before .args .l .name) (w .1 .1 .0 .1), w .1 .1 .0 .2)
 
 attach-renamed-same-length-5 : (t : ℕ) → attach-renamed-lts.Need-same-length-5 (needs-rename-reads.Asked, needs-rename-reads.Learnt, attach-transforms-below t, attach-transforms.Post, put-reads.Asked, put-reads.Learnt, is-refused-reads.Asked, is-refused-reads.Learnt, len-of-reads.Asked, len-of-reads.Learnt, write-text-reads.Asked, write-text-reads.Learnt) (attach-renamed-at t) attach-renamed.Post
@@ -1202,7 +1202,7 @@ pub +attach-element+attach-field+attach-fields+attach-inner+attach-nested+attach
     (attach-renamed-add-write-text-2 t)
     (attach-renamed-write-text-requires t)
     (attach-renamed-add-t31 t)
-    (attach-renamed-add-t38 t)
+    (attach-renamed-add-t37 t)
     (attach-renamed-same-length-5 t)
     (attach-renamed-same-length-6 t)
     (attach-renamed-returns-3 t))
