@@ -92,7 +92,7 @@ static void expect(const char *name) {
     struct timespec from, to;
     clock_gettime(CLOCK_PROCESS_CPUTIME_ID, &from);
     uint64_t answer = incoming.bytes[3] == 1 ? selector_build_by_name(SELECTOR_ALLOW_ALL, incoming.bytes, incoming.length, target.bytes, target.length, plan, sizeof plan)
-                                             : selector_build_by_number(SELECTOR_ALLOW_ALL, 0, incoming.bytes, incoming.length, target.bytes, target.length, (const uint8_t *)"DEF\1\0\0\0", 7, plan, sizeof plan);
+                                             : selector_build_by_number(SELECTOR_ALLOW_ALL, 0, 0, incoming.bytes, incoming.length, target.bytes, target.length, (const uint8_t *)"DEF\1\0\0\0", 7, plan, sizeof plan);
     clock_gettime(CLOCK_PROCESS_CPUTIME_ID, &to);
     double taken = (double)(to.tv_sec - from.tv_sec) * 1e3 + (double)(to.tv_nsec - from.tv_nsec) / 1e6;
     printf("%s: %u after %.2f ms\n", name, SELECTOR_NUMBER(answer), taken);
