@@ -215,30 +215,40 @@ static void nested_plan(uint32_t code, int levels) {
         put(2, 0, 1);
 }
 
+/* Measures the check and the run of what was put together. */
+static void check_and_run(void) {
+    kind = CHECK;
+    measure();
+    kind = RUN;
+    measure();
+}
+
+/* Two layouts of nested structs of so many fields, and the head of a plan of so many selectors between them. */
+static void between_nested(uint32_t fields, uint32_t selectors) {
+    nested(0, 1, 18, 15, fields, 3);
+    nested(1, 1, 18, 15, fields, 3);
+    length[2] = 0;
+    put(2, 'P' | 'L' << 8 | 'N' << 16, 3);
+    put(2, 1, 2);
+    put(2, selectors, 2);
+}
+
 static void deepest_plans(void) {
     for (uint32_t code = 3; code <= 6; code++)
         for (int levels = 12; levels <= 64; levels += 26) {
             nested(0, 1, 18, 15, 1, 3);
             nested(1, 1, 18, 15, 1, 3);
             nested_plan(code, levels);
-            kind = CHECK;
-            measure();
-            kind = RUN;
             length[3] = 1;
             bytes[3][0] = 0;
-            measure();
+            check_and_run();
         }
 }
 
 /* 63 struct mappings nested as fields, each over a constant struct of one field, which the innermost takes: the check
  * refuses them, but only once it has been there. */
 static void fields_over_constants(void) {
-    nested(0, 1, 18, 15, 1, 3);
-    nested(1, 1, 18, 15, 1, 3);
-    length[2] = 0;
-    put(2, 'P' | 'L' << 8 | 'N' << 16, 3);
-    put(2, 1, 2);
-    put(2, 1, 2);
+    between_nested(1, 1);
     for (int k = 1; k <= 63; k++) {
         put(2, 4, 1);
         put(2, 1, 2); /* a constant without a name: */
@@ -251,10 +261,7 @@ static void fields_over_constants(void) {
     put(2, 0, 3); /* which is position 0 */
     length[3] = 1;
     bytes[3][0] = 0;
-    kind = CHECK;
-    measure();
-    kind = RUN;
-    measure();
+    check_and_run();
     uint64_t answer = selector_check_plan(bytes[0], length[0], bytes[1], length[1], bytes[2], length[2]);
     if (answer != (uint64_t)SELECTOR_UNFIT_TRANSFORM << 32)
         exit(2);
@@ -276,12 +283,7 @@ static void fields_by(uint32_t levels) {
 /* Struct mappings one over another, the outermost over all levels of its struct: what one pass writes out, in its longer buffers. */
 static void composed_plans(void) {
     for (uint32_t levels = 0; levels <= 14; levels += 7) {
-        nested(0, 1, 18, 15, 32, 3);
-        nested(1, 1, 18, 15, 32, 3);
-        length[2] = 0;
-        put(2, 'P' | 'L' << 8 | 'N' << 16, 3);
-        put(2, 1, 2);
-        put(2, 32, 2);
+        between_nested(32, 32);
         for (uint32_t k = 0; k < 31; k++)
             put(2, k << 8, 3);
         uint32_t mappings = 63 - levels;
@@ -297,10 +299,7 @@ static void composed_plans(void) {
                 put(3, 0, 1); /* a null */
             put(3, k < 15, 1);
         }
-        kind = CHECK;
-        measure();
-        kind = RUN;
-        measure();
+        check_and_run();
         if (selector_run(bytes[0], length[0], bytes[1], length[1], bytes[2], length[2], bytes[3], length[3], buffer, space) != length[3])
             exit(2);
     }
