@@ -59,7 +59,3 @@ same-slot how q w l e = eq-eqb (slotOf how q l) (slotOf how q w) (ap (λ (h : �
 -- a label's chain, by its hash
 pub slot-is : (how : Matching) (q : ℕ) (l : Label) {r : Siblings} {h : ℕ} → r ≡ matchRule how → h ≡ labelHash r 0 l → h % q ≡ slotOf how q l
 slot-is how q l e f = ap (λ (h : ℕ). h % q) (f ∙ ap (λ (r : Siblings). labelHash r 0 l) e)
-
--- by what is compared
-pub slot-by : (how also : Matching) (q : ℕ) (l : Label) → matchRule how ≡ matchRule also → slotOf how q l ≡ slotOf also q l
-slot-by how also q l e = ap (λ (r : Siblings). labelHash r 0 l % q) e

@@ -1,5 +1,4 @@
 -- `labels::counterpart_in` meets its contract. Assumes nothing.
-use Rattle.labels.proofs.First.{slot-by}
 use Rattle.labels.proofs.Seeking.{behind}
 use Prim.Native.Nat.{ℕ, _+_, _-_}
 use mathlib.Core.Path.{_≡_, refl, sym, _∙_}
@@ -57,7 +56,7 @@ shared-slice-read-x c = search needs
 loop-holds : tie.Need-loop-holds Inv-loop μ-loop
 loop-holds c =
     λ at how g T heads e P.
-    seeking-start (T .chains P heads e) (labelAt (now (c .before .before .before .before .before .before .before .args .t)) (c .before .before .before .before .before .before .before .args .l)) (c .before .slot .ensures .0 ∙ slot-by _ _ _ _ (sym (c .before .before .before .match-rule .ensures) ∙ g)) (c .before .slot .ensures .1) (let a = c .before .before .wide .ensures in omega arith) refl (let a = c .before .before .wide .ensures in omega arith)
+    seeking-start (T .chains P heads e) (labelAt (now (c .before .before .before .before .before .before .before .args .t)) (c .before .before .before .before .before .before .before .args .l)) (c .before .before .before .before .before .before .before .args .how) (c .before .slot .ensures .0) (sym (c .before .before .before .match-rule .ensures) ∙ g) (c .before .slot .ensures .1) (let a = c .before .before .wide .ensures in omega arith) refl (let a = c .before .before .wide .ensures in omega arith)
 
 wide-requires-2 : tie.Need-wide-requires-2 Inv-loop μ-loop
 wide-requires-2 c κs = search needs
