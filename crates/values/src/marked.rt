@@ -6,7 +6,7 @@ ghost use Rattle.layout.specs.Bytes.{Bytes};
 ghost use Rattle.layout.specs.Tree.{Label as LabelOf};
 ghost use Rattle.layout.specs.Stands.{TypeAt, ColumnsAt};
 ghost use Rattle.layout.specs.Answers.{movedOf, labelAt};
-ghost use Rattle.layout.specs.declared.version.Version.{Version as VersionOf};
+ghost use Rattle.layout.specs.declared.edition.Edition.{Edition as EditionOf};
 ghost use mathlib.Core.Bool.{Bool};
 ghost use Rattle.ends.specs.Ends.{Ends};
 ghost use Rattle.values.specs.Reading.{listContent, times};
@@ -25,12 +25,12 @@ use layout::cursor::Cursor;
 use layout::cursor::Moved;
 use layout::cursor::Short;
 use layout::cursor::Step;
+use layout::edition::Edition;
 use layout::types::Head;
-use layout::version::Version;
 
 // The edition of the layout in which a type stands, how many levels the type may have, and whether marks count.
 pub struct Context {
-    pub edition: Version,
+    pub edition: Edition,
     pub depth: u8,
     pub marks: bool,
 }
@@ -76,7 +76,7 @@ enum NumberRead {
 }
 
 fn read_number(lay: &[u8], t: Cursor, rec: &[u8], c: Cursor) -> NumberRead
-    ensures { λ r. ⌜ ((mark : LabelOf → Bool) (v : VersionOf) (depth : ℕ) (P : TypeAt v depth (now (lay .entry)) (t .at)) → NumberIs (P .end) (contentMarked mark (P .tree) (now (rec .entry)) (c .at)) r) ⌝ }
+    ensures { λ r. ⌜ ((mark : LabelOf → Bool) (v : EditionOf) (depth : ℕ) (P : TypeAt v depth (now (lay .entry)) (t .at)) → NumberIs (P .end) (contentMarked mark (P .tree) (now (rec .entry)) (c .at)) r) ⌝ }
 {
     match t.byte(lay) {
         Step::Byte(code, e) => {

@@ -13,7 +13,7 @@ use crate::marked::marked_fields;
 use crate::marked::marked_value;
 use layout::cursor::Cursor;
 use layout::cursor::Moved;
-use layout::version::Version;
+use layout::edition::Edition;
 
 // Where the type ends and where the value ends.
 pub enum ValueRead {
@@ -23,7 +23,7 @@ pub enum ValueRead {
 
 pub fn read_value(
     lay: &[u8],
-    v: Version,
+    v: Edition,
     depth: u8,
     t: Cursor,
     rec: &[u8],
@@ -41,7 +41,7 @@ pub fn read_value(
 // A value for each of `n` columns.
 pub fn read_fields(
     lay: &[u8],
-    v: Version,
+    v: Edition,
     depth: u8,
     n: u16,
     t: Cursor,
@@ -60,7 +60,7 @@ pub fn read_fields(
 // One element, whose type is not passed.
 pub fn read_element(
     lay: &[u8],
-    v: Version,
+    v: Edition,
     depth: u8,
     t: Cursor,
     rec: &[u8],
@@ -78,7 +78,7 @@ pub fn read_element(
 // `n` values of one type.
 pub fn read_elements(
     lay: &[u8],
-    v: Version,
+    v: Edition,
     depth: u8,
     n: u32,
     t: Cursor,
