@@ -1,7 +1,7 @@
 -- A record is read with marks just where it is read without them, to the same values, and has no null in a required column; where no column is
 -- required, reading with marks is reading without. Assumes nothing.
 use Prim.Native.Nat.{ℕ, zero, suc}
-use mathlib.Core.Path.{_≡_, refl, ap, _∙_}
+use mathlib.Core.Path.{_≡_, refl, sym, ap, _∙_}
 use mathlib.Core.Bool.{Bool, true, false}
 use Rattle.layout.specs.Bytes.{Bytes}
 use Rattle.layout.specs.Parser.{Res, refuse, ok, Parser, next, choose}
@@ -18,10 +18,11 @@ use Rattle.values.specs.Record.{recordNumber, renumber, recordFrom, reco
 use Rattle.values.specs.declared.content.Content.{Content}
 use Rattle.values.specs.declared.content.Content.the-variants.{Nothing, Flag, Number, Decimal, Text}
 
--- x is y but for what is not P, which it refuses
+-- x is y but for what is not P, which it refuses with 56
 pub record Kept {A : Type 0} (P : A → Type 0) (x y : Res A) : Type 0 where
   pub forth : (a : A) (m : ℕ) → x ≡ ok a m → (y ≡ ok a m) × P a
   pub back : (a : A) (m : ℕ) → y ≡ ok a m → P a → x ≡ ok a m
+  pub only : (n : ℕ) (a : A) (m : ℕ) → x ≡ refuse n → y ≡ ok a m → n ≡ 56
 
 ok-same : {A : Type 0} (P : A → Type 0) {a b : A} {m n : ℕ} → ok a m ≡ ok b n → P a → P b
 ok-same P {a} {b} e p = let q : a ≡ b = cc in rw (← q) p
@@ -30,16 +31,28 @@ ok-back : {A : Type 0} (P : A → Type 0) {a b : A} {m n : ℕ} → ok a m ≡ o
 ok-back P {a} {b} e p = let q : a ≡ b = cc in rw q p
 
 pure-kept : {A : Type 0} (P : A → Type 0) (a : A) (m : ℕ) → P a → Kept P (ok a m) (ok a m)
-pure-kept P a m p = record { forth = λ b e h. (h, ok-same P h p); back = λ b e h q. h }
+pure-kept P a m p = record { forth = λ b e h. (h, ok-same P h p); back = λ b e h q. h; only = λ n b e h z. clash (cc) }
 
 none-kept : {A : Type 0} (P : A → Type 0) (n : ℕ) → Kept P (refuse n) (refuse n)
-none-kept P n = record { forth = λ b e h. clash (cc); back = λ b e h q. h }
+none-kept P n = record { forth = λ b e h. clash (cc); back = λ b e h q. h; only = λ k b e h z. clash (cc) }
 
 -- the same reader before what is kept
 same-kept : {A B : Type 0} (Q : B → Type 0) (x : Res A) (j k : A → ℕ → Res B) → ((a : A) (m : ℕ) → Kept Q (j a m) (k a m)) → Kept Q (next x j) (next x k)
 unfolding next
 same-kept Q (refuse n) j k f = none-kept Q n
 same-kept Q (ok a m) j k f = f a m
+
+-- what is refused there and follows what was read
+next-only : {A B : Type 0} (P : A → Type 0) (Q : B → Type 0) (x y : Res A) (j k : A → ℕ → Res B) → Kept P x y → ((a : A) (m : ℕ) → P a → Kept Q (j a m) (k a m))
+    → {n : ℕ} {a : A} {m : ℕ} {b : B} {e : ℕ} → next x j ≡ refuse n → y ≡ ok a m → k a m ≡ ok b e → n ≡ 56
+unfolding next
+next-only P Q (refuse i) y j k K f {n} {a} {m} h p q = let z : i ≡ 56 = K .only i a m refl p in let w : i ≡ n = cc in sym w ∙ z
+next-only P Q (ok c i) y j k K f {n} {a} {m} {b} {e} h p q =
+    let (u, w) = K .forth c i refl in
+    let z : ok c i ≡ ok a m = sym u ∙ p in
+    let v : c ≡ a = cc in
+    let o : i ≡ m = cc in
+    f c i w .only n b e h (rw (v, o) q)
 
 -- what is kept, and what follows it
 next-kept : {A B : Type 0} (P : A → Type 0) (Q : B → Type 0) (x y : Res A) (j k : A → ℕ → Res B) → Kept P x y
@@ -55,6 +68,9 @@ next-kept P Q x y j k K f i = record {
       let (a, m, p, q) = next-ok y k h in
       let w = i a m b e q z in
       rw (K .back a m p w) (f a m w .back b e q z);
+  only = λ n b e h z.
+      let (a, m, p, q) = next-ok y k z in
+      next-only P Q x y j k K f h p q;
 }
 
 module _ (mark : Label → Bool) (s : Bytes) where
@@ -76,7 +92,8 @@ module _ (mark : Label → Bool) (s : Bytes) where
   null-kept : (r : Bool) (t : ColumnType) (p : Parser Value) (m : ℕ)
       → Kept (Filled mark r t) (next (choose r (refuse 56) (ok false m)) (λ here i. choose here (p s i) (ok vnull i))) (ok vnull m)
   unfolding next choose
-  null-kept true t p m = record { forth = λ b e h. clash (cc); back = λ b e h q. never-null (ok-back (Filled mark true t) h q) }
+  null-kept true t p m =
+      record { forth = λ b e h. clash (cc); back = λ b e h q. never-null (ok-back (Filled mark true t) h q); only = λ n b e h z. let y : 56 ≡ n = cc in sym y }
   null-kept false t p m = pure-kept (Filled mark false t) vnull m full-null
 
   nullable-kept : (r : Bool) (t : ColumnType) (p q : Parser Value) → ((at : ℕ) → Kept (Filled mark r t) (p s at) (q s at))
@@ -107,8 +124,8 @@ module _ (mark : Label → Bool) (s : Bytes) where
   times-kept r t p q h (suc n) at =
       next-kept (Filled mark r t) (FilledEach mark r t) _ _ _ _ (h at)
       (λ v m f. next-kept (FilledEach mark r t) (FilledEach mark r t) _ _ _ _ (times-kept r t p q h n m)
-          (λ vs m g. pure-kept (FilledEach mark r t) (vcons v vs) m (full-more f g))
-          (λ vs m ws e z k. first-full (ok-back (FilledEach mark r t) z k) .1))
+      (λ vs m g. pure-kept (FilledEach mark r t) (vcons v vs) m (full-more f g))
+      (λ vs m ws e z k. first-full (ok-back (FilledEach mark r t) z k) .1))
       (λ v m ws e z k. let (vs, i, y, w) = next-ok _ _ z in first-full (ok-back (FilledEach mark r t) w k) .0)
 
   -- ---- each type
@@ -130,17 +147,17 @@ module _ (mark : Label → Bool) (s : Bytes) where
     unfolding contentMarked valuesMarked content values leafContent structContent listContent arrayContent dtypeOf fieldsOf
 
     pub content-kept : (t : ColumnType) (r : Bool) (at : ℕ) → Kept (Filled mark r t) (contentMarked mark t s at) (content (dtypeOf t) s at)
-    content-kept (cleaf l) r at = record { forth = λ v m e. (e, by-filled r l (contentOf (leafOf l)) (leafOf l) at v m e); back = λ v m e f. e }
+    content-kept (cleaf l) r at = record { forth = λ v m e. (e, by-filled r l (contentOf (leafOf l)) (leafOf l) at v m e); back = λ v m e f. e; only = λ n v m e f. let z : refuse n ≡ ok v m = sym e ∙ f in clash (cc) }
     content-kept (cstruct cs) r at =
         next-kept (FilledAll mark cs) (Filled mark r (cstruct cs)) _ _ _ _ (values-kept cs at)
         (λ vs m f. pure-kept (Filled mark r (cstruct cs)) (vstruct vs) m (full-struct f))
         (λ vs m v e z k. struct-full (ok-back (Filled mark r (cstruct cs)) z k))
     content-kept (clist l t) r at =
         same-kept (Filled mark r (clist l t)) _ _ _ (λ n i.
-            next-kept (FilledEach mark (mark l) t) (Filled mark r (clist l t)) _ _ _ _
-            (times-kept (mark l) t _ _ (λ at. nullable-kept (mark l) t _ _ (λ at. content-kept t (mark l) at) at) n i)
-            (λ vs m f. pure-kept (Filled mark r (clist l t)) (vlist vs) m (full-list f))
-            (λ vs m v e z k. list-full (ok-back (Filled mark r (clist l t)) z k)))
+        next-kept (FilledEach mark (mark l) t) (Filled mark r (clist l t)) _ _ _ _
+        (times-kept (mark l) t _ _ (λ at. nullable-kept (mark l) t _ _ (λ at. content-kept t (mark l) at) at) n i)
+        (λ vs m f. pure-kept (Filled mark r (clist l t)) (vlist vs) m (full-list f))
+        (λ vs m v e z k. list-full (ok-back (Filled mark r (clist l t)) z k)))
     content-kept (carray w l t) r at =
         next-kept (FilledEach mark (mark l) t) (Filled mark r (carray w l t)) _ _ _ _
         (times-kept (mark l) t _ _ (λ at. nullable-kept (mark l) t _ _ (λ at. content-kept t (mark l) at) at) w at)
@@ -152,8 +169,8 @@ module _ (mark : Label → Bool) (s : Bytes) where
     values-kept (ccons l t cs) at =
         next-kept (Filled mark (mark l) t) (FilledAll mark (ccons l t cs)) _ _ _ _ (nullable-kept (mark l) t _ _ (λ at. content-kept t (mark l) at) at)
         (λ v m f. next-kept (FilledAll mark cs) (FilledAll mark (ccons l t cs)) _ _ _ _ (values-kept cs m)
-            (λ vs m g. pure-kept (FilledAll mark (ccons l t cs)) (vcons v vs) m (full-cons f g))
-            (λ vs m ws e z k. all-full (ok-back (FilledAll mark (ccons l t cs)) z k) .1))
+        (λ vs m g. pure-kept (FilledAll mark (ccons l t cs)) (vcons v vs) m (full-cons f g))
+        (λ vs m ws e z k. all-full (ok-back (FilledAll mark (ccons l t cs)) z k) .1))
         (λ v m ws e z k. let (vs, i, y, w) = next-ok _ _ z in all-full (ok-back (FilledAll mark (ccons l t cs)) w k) .0)
 
   -- a value of a column of the mark r
@@ -163,18 +180,26 @@ module _ (mark : Label → Bool) (s : Bytes) where
 
   -- ---- a record
 
-  renumber-kept : {A : Type 0} (P : A → Type 0) (f : ℕ → ℕ) (x y : Res A) → Kept P x y → Kept P (renumber f x) (renumber f y)
-  unfolding renumber
-  renumber-kept P f (refuse n) (refuse k) K = record { forth = λ a m h. clash (cc); back = λ a m h p. clash (cc) }
-  renumber-kept P f (refuse n) (ok b i) K = record { forth = λ a m h. clash (cc); back = λ a m h p. let z = K .back a m h p in clash (cc) }
-  renumber-kept P f (ok a i) (refuse k) K = record { forth = λ a m h. let z = K .forth a m h .0 in clash (cc); back = λ a m h p. clash (cc) }
-  renumber-kept P f (ok a i) (ok b k) K = K
+  renumber-kept : {A : Type 0} (P : A → Type 0) (x y : Res A) → Kept P x y → Kept P (renumber recordNumber x) (renumber recordNumber y)
+  unfolding renumber recordNumber choose
+  renumber-kept P (refuse n) (refuse k) K = record { forth = λ a m h. clash (cc); back = λ a m h p. clash (cc); only = λ i a m h z. clash (cc) }
+  renumber-kept P (refuse n) (ok b i) K = record {
+    forth = λ a m h. clash (cc);
+    back = λ a m h p. let z = K .back a m h p in clash (cc);
+    only = λ k a m h z.
+        let e : n ≡ 56 = K .only n b i refl refl in
+        let g : recordNumber n ≡ k = cc in
+        sym g ∙ ap recordNumber e;
+  }
+  renumber-kept P (ok a i) (refuse k) K =
+      record { forth = λ a m h. let z = K .forth a m h .0 in clash (cc); back = λ a m h p. clash (cc); only = λ n a m h z. clash (cc) }
+  renumber-kept P (ok a i) (ok b k) K = K
 
   -- "To fit, a record must now also meet no 56"
   pub record-kept : (cs : Columns) → Kept (FilledAll mark cs) (recordMarked mark cs s) (recordOf (fieldsOf cs) s)
   unfolding recordMarked recordMarkedFrom recordOf recordFrom
   record-kept cs =
       same-kept (FilledAll mark cs) _ _ _ (λ u i.
-          next-kept (FilledAll mark cs) (FilledAll mark cs) _ _ _ _ (renumber-kept (FilledAll mark cs) recordNumber _ _ (values-kept cs i))
-          (λ vs m f. same-kept (FilledAll mark cs) _ _ _ (λ u m. pure-kept (FilledAll mark cs) vs m f))
-          (λ vs m ws e z k. let (u, i, y, w) = next-ok _ _ z in ok-back (FilledAll mark cs) w k))
+      next-kept (FilledAll mark cs) (FilledAll mark cs) _ _ _ _ (renumber-kept (FilledAll mark cs) _ _ (values-kept cs i))
+      (λ vs m f. same-kept (FilledAll mark cs) _ _ _ (λ u m. pure-kept (FilledAll mark cs) vs m f))
+      (λ vs m ws e z k. let (u, i, y, w) = next-ok _ _ z in ok-back (FilledAll mark cs) w k))

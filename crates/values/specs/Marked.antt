@@ -7,9 +7,9 @@ use Rattle.layout.specs.Tree.{leafOf, Label, ColumnType, cleaf, cstruct, clist,
 use Rattle.values.specs.Value.{Value, vnull, Values, vnil, vcons}
 use Rattle.values.specs.Reading.{presence, leafContent, structContent, listContent, arrayContent}
 
--- the marks of a layout where they count, else none
+-- a layout's own marks where they count, else none
 abbrev pub marksOf : Bool → Label → Bool
-marksOf count l = count && false
+marksOf count l = count && l .required
 
 -- the presence byte of a column that is required or not
 unfoldable pub presenceMarked : Bool → Parser Bool

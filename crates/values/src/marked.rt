@@ -1,13 +1,12 @@
 // Reading a value by its type, which stands in a layout that was read before; a null in a required column is 56 where
 // the layout's marks count.
+ghost use mathlib.Core.Bool.{Bool, _&&_};
 ghost use mathlib.Core.Path.{_≡_};
 ghost use Prim.Native.Nat.{ℕ};
-ghost use Rattle.layout.specs.Bytes.{Bytes};
 ghost use Rattle.layout.specs.Tree.{Label as LabelOf};
 ghost use Rattle.layout.specs.Stands.{TypeAt, ColumnsAt};
-ghost use Rattle.layout.specs.Answers.{movedOf, labelAt};
+ghost use Rattle.layout.specs.Answers.{movedOf};
 ghost use Rattle.layout.specs.declared.edition.Edition.{Edition as EditionOf};
-ghost use mathlib.Core.Bool.{Bool};
 ghost use Rattle.ends.specs.Ends.{Ends};
 ghost use Rattle.values.specs.Reading.{listContent, times};
 ghost use Rattle.values.specs.Marked.{marksOf, presenceMarked, valueMarked, valuesMarked, contentMarked};
@@ -37,9 +36,9 @@ pub struct Context {
 
 // Whether the column of this label is required, where marks count.
 fn is_required(marks: bool, label: Label) -> bool
-    ensures { λ r. ⌜ ((s : Bytes) → r ≡ marksOf marks (labelAt s label)) ⌝ }
+    ensures { λ r. ⌜ r ≡ marks && label .required ⌝ }
 {
-    if marks { false } else { false }
+    if marks { label.required } else { false }
 }
 
 // A presence byte, 0 being 56 in a required column.
@@ -132,7 +131,11 @@ fn marked_content(
         NumberRead::Other => {}
     }
     let v = cx.edition;
-    let inner = Context { edition: v, depth: cx.depth - 1, marks: cx.marks };
+    let inner = Context {
+        edition: v,
+        depth: cx.depth - 1,
+        marks: cx.marks,
+    };
     match t.head(lay) {
         Head::Leaf(l, e) => {
             let leaf = l.leaf;
@@ -143,7 +146,15 @@ fn marked_content(
         }
         Head::Struct(n, e) => marked_fields(lay, inner, n, e, rec, c, ends),
         Head::List(e) => match e.element_label(lay, v) {
-            Labelled::Is(l, f) => marked_list(lay, inner, is_required(cx.marks, l), f, rec, c, ends),
+            Labelled::Is(l, f) => marked_list(
+                lay,
+                inner,
+                is_required(cx.marks, l),
+                f,
+                rec,
+                c,
+                ends,
+            ),
             Labelled::Refused(k) => ValueRead::Refused(k),
         },
         Head::Array(w, e) => match e.element_label(lay, v) {

@@ -34,7 +34,11 @@ pub fn read_value(
     requires { ⌜ Ends v (now lay) (now ends) ⌝ }
     ensures { λ r. ⌜ ((P : TypeAt v depth (now (lay .entry)) (t .at)) → r ≡ valueMoved (P .end) (value (dtypeOf (P .tree)) (now (rec .entry)) (c .at))) ⌝ }
 {
-    let cx = Context { edition: v, depth, marks: false };
+    let cx = Context {
+        edition: v,
+        depth,
+        marks: false,
+    };
     marked_value(lay, cx, false, t, rec, c, ends)
 }
 
@@ -53,7 +57,11 @@ pub fn read_fields(
     requires { ⌜ Ends v (now lay) (now ends) ⌝ }
     ensures { λ r. ⌜ ((P : ColumnsAt v depth (now (lay .entry)) n (t .at)) → r ≡ valueMoved (P .end) (values (fieldsOf (P .columns)) (now (rec .entry)) (c .at))) ⌝ }
 {
-    let cx = Context { edition: v, depth, marks: false };
+    let cx = Context {
+        edition: v,
+        depth,
+        marks: false,
+    };
     marked_fields(lay, cx, n, t, rec, c, ends)
 }
 
@@ -71,7 +79,11 @@ pub fn read_element(
     requires { ⌜ Ends v (now lay) (now ends) ⌝ }
     ensures { λ r. ⌜ ((P : TypeAt v depth (now (lay .entry)) (t .at)) → r ≡ movedOf (value (dtypeOf (P .tree)) (now (rec .entry)) (c .at))) ⌝ }
 {
-    let cx = Context { edition: v, depth, marks: false };
+    let cx = Context {
+        edition: v,
+        depth,
+        marks: false,
+    };
     marked_element(lay, cx, false, t, rec, c, ends)
 }
 
@@ -90,6 +102,10 @@ pub fn read_elements(
     requires { ⌜ Ends v (now lay) (now ends) ⌝ }
     ensures { λ r. ⌜ ((P : TypeAt v depth (now (lay .entry)) (t .at)) → r ≡ valueMoved (P .end) (times n (value (dtypeOf (P .tree))) (now (rec .entry)) (c .at))) ⌝ }
 {
-    let cx = Context { edition: v, depth, marks: false };
+    let cx = Context {
+        edition: v,
+        depth,
+        marks: false,
+    };
     marked_elements(lay, cx, false, n, t, rec, c, ends)
 }

@@ -174,36 +174,36 @@ pub +marked-content+marked-element+marked-elements+marked-fields+marked-list+mar
     (λ c. search needs)
     (λ c. search needs)
     (λ c κs.
-        let P = c .before .before .before .before .before .before .before .before .before .before .before .pre .1 .0 in
-        let z = deep P in
-        (omega (arith, c .before .before .before .before .before .before .before .before .before .before .before .pre .0), (struct-at P (c .before .before .before .head .ensures .0) (c .before .n .given .1) .inner, c .before .before .before .before .before .before .before .before .before .before .before .pre .1 .1)))
+    let P = c .before .before .before .before .before .before .before .before .before .before .before .pre .1 .0 in
+    let z = deep P in
+    (omega (arith, c .before .before .before .before .before .before .before .before .before .before .before .pre .0), (struct-at P (c .before .before .before .head .ensures .0) (c .before .n .given .1) .inner, c .before .before .before .before .before .before .before .before .before .before .before .pre .1 .1)))
     (λ c. search needs)
     (λ c κs. search needs)
     (λ c. search needs)
     (λ c κs. search needs)
     (λ c κs.
-        let P = c .before .before .before .before .before .before .before .before .before .before .before .before .before .before .before .before .pre .1 .0 in
-        let z = deep P in
-        let L = list-at P (c .before .before .before .before .before .before .before .before .head .ensures .0) (c .before .before .before .before .element-label .ensures .0) (c .before .before .before .before .before .before .e .given .1) (c .before .before .l2 .given .1) in
-        (omega (arith, c .before .before .before .before .before .before .before .before .before .before .before .before .before .before .before .before .pre .0), (L .inner, c .before .before .before .before .before .before .before .before .before .before .before .before .before .before .before .before .pre .1 .1)))
+    let P = c .before .before .before .before .before .before .before .before .before .before .before .before .before .before .before .before .pre .1 .0 in
+    let z = deep P in
+    let L = list-at P (c .before .before .before .before .before .before .before .before .head .ensures .0) (c .before .before .before .before .element-label .ensures .0) (c .before .before .before .before .before .before .e .given .1) (c .before .before .l2 .given .1) in
+    (omega (arith, c .before .before .before .before .before .before .before .before .before .before .before .before .before .before .before .before .pre .0), (L .inner, c .before .before .before .before .before .before .before .before .before .before .before .before .before .before .before .before .pre .1 .1)))
     (λ c. search needs)
     (λ c. search needs)
     (λ c κs. search needs)
     (λ c. search needs)
     (λ c κs. search needs)
     (λ c κs.
-        let P = c .before .before .before .before .before .before .before .before .before .before .before .before .before .before .before .before .pre .1 .0 in
-        let z = deep P in
-        let L = array-at P (c .before .before .before .before .before .before .before .before .head .ensures .0) (c .before .before .before .before .element-label2 .ensures .0) (c .before .before .before .before .before .before .w .given .1) (c .before .before .l3 .given .1) in
-        (omega (arith, c .before .before .before .before .before .before .before .before .before .before .before .before .before .before .before .before .pre .0), (L .inner, c .before .before .before .before .before .before .before .before .before .before .before .before .before .before .before .before .pre .1 .1)))
+    let P = c .before .before .before .before .before .before .before .before .before .before .before .before .before .before .before .before .pre .1 .0 in
+    let z = deep P in
+    let L = array-at P (c .before .before .before .before .before .before .before .before .head .ensures .0) (c .before .before .before .before .element-label2 .ensures .0) (c .before .before .before .before .before .before .w .given .1) (c .before .before .l3 .given .1) in
+    (omega (arith, c .before .before .before .before .before .before .before .before .before .before .before .before .before .before .before .before .pre .0), (L .inner, c .before .before .before .before .before .before .before .before .before .before .before .before .before .before .before .before .pre .1 .1)))
     (λ c. search needs)
     (λ c. search needs)
     (λ c. λ P. content-leaf _ P _ _ (c .before .before .before .before .before .before .before .head .ensures .0) (c .before .before .before .before .before .l .given .1) (c .before .before .before .read-leaf .ensures) (c .before .d .given .1))
     (λ c. λ P. content-no-leaf _ P _ _ (c .before .before .before .before .before .before .before .head .ensures .0) (c .before .before .before .before .before .l .given .1) (c .before .before .before .read-leaf .ensures) (c .before .k .given .1))
     (λ c. λ P. content-struct _ P _ _ (c .before .before .before .before .head .ensures .0) (c .before .before .n .given .1) (c .marked-fields .ensures))
-    (λ c. λ P. content-list _ P _ _ (c .before .before .before .before .before .before .before .before .before .head .ensures .0) (c .before .before .before .before .before .element-label .ensures .0) (c .before .before .before .l2 .given .1) (c .before .is-required .ensures _) (c .before .before .before .before .before .before .before .e .given .1) (c .marked-list .ensures))
+    (λ c. λ P. content-list _ P _ _ (c .before .before .before .before .before .before .before .before .before .head .ensures .0) (c .before .before .before .before .before .element-label .ensures .0) (c .before .before .before .l2 .given .1) (c .before .is-required .ensures) (c .before .before .before .before .before .before .before .e .given .1) (c .marked-list .ensures))
     (λ c. λ P. list-labelled P (c .before .before .before .before .before .before .before .head .ensures .0) (c .before .before .before .element-label .ensures .0) (c .before .before .before .before .before .e .given .1) (c .before .k2 .given .1))
-    (λ c. λ P. content-array _ P _ _ (c .before .before .before .before .before .before .before .before .before .head .ensures .0) (c .before .before .before .before .before .element-label2 .ensures .0) (c .before .before .before .l3 .given .1) (c .before .is-required2 .ensures _) (c .before .before .before .before .before .before .before .w .given .1) (c .marked-elements .ensures))
+    (λ c. λ P. content-array _ P _ _ (c .before .before .before .before .before .before .before .before .before .head .ensures .0) (c .before .before .before .before .before .element-label2 .ensures .0) (c .before .before .before .l3 .given .1) (c .before .is-required2 .ensures) (c .before .before .before .before .before .before .before .w .given .1) (c .marked-elements .ensures))
     (λ c. λ P. array-labelled P (c .before .before .before .before .before .before .before .head .ensures .0) (c .before .before .before .element-label2 .ensures .0) (c .before .before .before .before .before .w .given .1) (c .before .k3 .given .1))
     (λ c. λ P. never-headless P (c .before .before .before .head .ensures .0) (c .before .k4 .given .1)))
     (λ t. marked-element-lts.spec (marked-element-claims t)
@@ -245,16 +245,16 @@ pub +marked-content+marked-element+marked-elements+marked-fields+marked-list+mar
     (λ c. search needs)
     (λ c κs. search needs)
     (λ c κs.
-        let F = fielding-first (c .before .before .before .before .before .before .loop .inv) (c .before .before .before .before .before .loop-test .taken) (c .before .before .before .before .label .ensures .0) (c .before .before .l .given .1) in
-        (omega (arith, c .before .before .before .before .before .before .before .before .before .before .pre .0), (F .head, c .before .before .before .before .before .before .before .before .before .before .pre .1 .1)))
+    let F = fielding-first (c .before .before .before .before .before .before .loop .inv) (c .before .before .before .before .before .loop-test .taken) (c .before .before .before .before .label .ensures .0) (c .before .before .l .given .1) in
+    (omega (arith, c .before .before .before .before .before .before .before .before .before .before .pre .0), (F .head, c .before .before .before .before .before .before .before .before .before .before .pre .1 .1)))
     (λ c. search needs)
     (λ c. search needs)
-    (λ c. fielding-refused (c .before .before .before .before .before .before .before .before .before .before .loop .inv) (c .before .before .before .before .before .before .before .before .before .loop-test .taken) (c .before .before .before .before .before .before .before .before .label .ensures .0) (c .before .before .before .before .before .before .l .given .1) (c .before .before .before .before .is-required .ensures _) (c .before .before .before .marked-value .ensures) (c .before .k .given .1))
+    (λ c. fielding-refused (c .before .before .before .before .before .before .before .before .before .before .loop .inv) (c .before .before .before .before .before .before .before .before .before .loop-test .taken) (c .before .before .before .before .before .before .before .before .label .ensures .0) (c .before .before .before .before .before .before .l .given .1) (c .before .before .before .before .is-required .ensures) (c .before .before .before .marked-value .ensures) (c .before .k .given .1))
     (λ c. search needs)
     (λ c. λ P. fielding-labelled (c .before .before .before .before .before .loop .inv) (c .before .before .before .before .loop-test .taken) (c .before .before .before .label .ensures .0) (c .before .k2 .given .1))
+    (λ c. omega (arith, c .before .before .before .before .before .before .before .before .before .before .before .before .before .before .fits .n, c .before .before .before .before .before .before .before .before .before .loop-test .taken))
     (λ c. omega arith)
-    (λ c. omega arith)
-    (λ c. fielding-more (c .before .before .before .before .before .before .before .before .before .before .loop .inv) (c .before .before .before .before .before .before .before .before .before .loop-test .taken) (c .before .before .before .before .before .before .before .before .label .ensures .0) (c .before .before .before .before .before .before .l .given .1) (c .before .before .before .before .is-required .ensures _) (c .before .before .before .marked-value .ensures) (c .before .f .given .1))
+    (λ c. fielding-more (c .before .before .before .before .before .before .before .before .before .before .loop .inv) (c .before .before .before .before .before .before .before .before .before .loop-test .taken) (c .before .before .before .before .before .before .before .before .label .ensures .0) (c .before .before .before .before .before .before .l .given .1) (c .before .before .before .before .is-required .ensures) (c .before .before .before .marked-value .ensures) (c .before .f .given .1))
     (λ c. fielding-all (c .before .loop .inv) (c .loop-test .left)))
     (λ t. marked-list-lts.spec (marked-list-claims t)
     (marked-list-at t)

@@ -3,4 +3,4 @@ use Rattle.values.proofs.marked.is_required.Statement.{statement}
 use Rattle.values.proofs.marked.is_required.Tie as tie
 
 pub is-required-spec : {M : Type 1} → statement M
-is-required-spec = tie.close (tie.spec (λ c. λ s. rw (c .if1 .taken)) (λ c. λ s. rw (c .if1 .left)))
+is-required-spec = tie.close (tie.spec (λ c. rw (c .if1 .taken)) (λ c. rw (c .if1 .left)))
