@@ -45,7 +45,7 @@ module _ (v : Edition) (older : v ≡ Three → ⊥) (s : Bytes) where
     where
       go : (w : Edition) → v ≡ w → elementLabel w s at ≡ ok l m → l .required ≡ false
       go One f e = as-read (λ (l : Label). l .required ≡ false) e refl
-      go Two f e = label-bare at (rw f e)
+      go Two f e = label-bare at {l = l} {m = m} (rw f e)
       go Three f e = absurd (older f)
 
   module _ (r : Siblings) where
@@ -58,7 +58,7 @@ module _ (v : Edition) (older : v ≡ Three → ⊥) (s : Bytes) where
         let (t, j, b, e) = next-ok _ _ e in
         let (u, k, c, e) = next-ok _ _ e in
         let (cs, o, d, e) = next-ok _ _ e in
-        as-read (UnmarkedAll requiredOf) e (bare-cons (label-bare at a) (f i t j b) (columns-bare p f n (earlier ++ (l ∷ [])) k d))
+        as-read (UnmarkedAll requiredOf) e (bare-cons {cs = cs} (label-bare at a) (f i t j b) (columns-bare p f n (earlier ++ (l ∷ [])) k d))
 
     body-bare : (p : Parser ColumnType) → ((at : ℕ) (t : ColumnType) (m : ℕ) → p s at ≡ ok t m → Unmarked requiredOf t)
         → (k : Kind) (at : ℕ) {t : ColumnType} {m : ℕ} → body v r p k s at ≡ ok t m → Unmarked requiredOf t
