@@ -7,7 +7,7 @@ ghost use lib.Seq.{slice};
 ghost use Rattle.ends.specs.Ends.{Ends};
 ghost use Rattle.layout.specs.Tree.{dtypeOf};
 ghost use Rattle.layout.specs.Stands.{TypeAt};
-ghost use Rattle.layout.specs.declared.version.Version.{Version as VersionOf};
+ghost use Rattle.layout.specs.declared.edition.Edition.{Edition as EditionOf};
 ghost use Rattle.layout.specs.Bytes.{Bytes};
 ghost use Rattle.plan.specs.Run.{valueAt};
 ghost use Rattle.plan.specs.Selector.{position};
@@ -25,8 +25,8 @@ use crate::want::bounds_before;
 use crate::want::time_of;
 use layout::columns::Position;
 use layout::cursor::Cursor;
+use layout::edition::Edition;
 use layout::types::Head;
-use layout::version::Version;
 use layout::walk::skip_type;
 use nodes::raw::NodeAt;
 use nodes::raw::column_value;
@@ -52,7 +52,7 @@ fn answer(found: bool) -> Stop
 // In the record's column `k`, at a path.
 fn in_column(
     lay: &[u8],
-    v: Version,
+    v: Edition,
     n: u16,
     columns: Cursor,
     rec: &[u8],
@@ -98,10 +98,10 @@ pub fn in_constant(
     ensures { λ r. ⌜ ((X : RawIn (now (plan .entry)) (t .at)) → r ≡ someSought sought (slice from len path) (X .value .tree)) ⌝ }
 {
     let none: [u16; 1] = [0; 1];
-    let c = skip_type(plan, Version::ByName, 16, t);
+    let c = skip_type(plan, Edition::One, 16, t);
     some_at(
         plan,
-        Version::ByName,
+        Edition::One,
         t,
         plan,
         c,
@@ -146,9 +146,9 @@ fn before_time(t: Timed, want: Want) -> Stop
 
 // Before a cast to the type that stands at `t`.
 fn before_cast(plan: &[u8], t: Cursor, want: Want) -> Stop
-    requires { ⌜ TypeAt VersionOf.ByName 16 (now plan) (t .at) ⌝ }
+    requires { ⌜ TypeAt EditionOf.One 16 (now plan) (t .at) ⌝ }
     requires { ⌜ SmallWant want ⌝ }
-    ensures { λ r. ⌜ ((T : TypeAt VersionOf.ByName 16 (now (plan .entry)) (t .at)) → r ≡ castStop [] (dtypeOf (T .tree)) want) ⌝ }
+    ensures { λ r. ⌜ ((T : TypeAt EditionOf.One 16 (now (plan .entry)) (t .at)) → r ≡ castStop [] (dtypeOf (T .tree)) want) ⌝ }
 {
     match t.head(plan) {
         Head::Leaf(l, _) => {
@@ -186,7 +186,7 @@ fn before_list(want: Want) -> Stop
 
 fn at_position(
     lay: &[u8],
-    v: Version,
+    v: Edition,
     n: u16,
     columns: Cursor,
     rec: &[u8],
@@ -227,9 +227,9 @@ fn at_constant(plan: &[u8], t: Cursor, w: Walk, want: Want) -> Stop
 
 // Whose type stands at `t`.
 fn at_cast(plan: &[u8], t: Cursor, w: Walk, want: Want) -> Stop
-    requires { ⌜ TypeAt VersionOf.ByName 16 (now plan) (t .at) ⌝ }
+    requires { ⌜ TypeAt EditionOf.One 16 (now plan) (t .at) ⌝ }
     requires { ⌜ SmallWant want ⌝ }
-    ensures { λ r. ⌜ ((T : TypeAt VersionOf.ByName 16 (now (plan .entry)) (t .at)) (x : State) → WalkAt (now (plan .entry)) w x → r ≡ castStop (x .path) (dtypeOf (T .tree)) want) ⌝ }
+    ensures { λ r. ⌜ ((T : TypeAt EditionOf.One 16 (now (plan .entry)) (t .at)) (x : State) → WalkAt (now (plan .entry)) w x → r ≡ castStop (x .path) (dtypeOf (T .tree)) want) ⌝ }
 {
     if w.deep < w.len {
         return Stop::No;
@@ -248,7 +248,7 @@ fn at_struct(w: Walk, want: Want) -> Stop
 
 pub fn at_stop(
     lay: &[u8],
-    v: Version,
+    v: Edition,
     n: u16,
     columns: Cursor,
     rec: &[u8],
