@@ -107,7 +107,7 @@ fn present_meets(lay: &[u8], v: Edition, t: Cursor, rec: &[u8], c: Cursor, want:
     }
 }
 
-fn present_sought(lay: &[u8], v: Version, t: Cursor, rec: &[u8], c: Cursor, sought: Sought) -> bool
+fn present_sought(lay: &[u8], v: Edition, t: Cursor, rec: &[u8], c: Cursor, sought: Sought) -> bool
     requires { ⌜ PresentAt v (now lay) (t .at) (now rec) (c .at) ⌝ }
     requires { ⌜ SmallSought sought ⌝ }
     ensures { λ r. ⌜ ((X : PresentAt v (now (lay .entry)) (t .at) (now (rec .entry)) (c .at)) → r ≡ isSought sought (X .content .tree)) ⌝ }
