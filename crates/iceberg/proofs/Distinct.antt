@@ -12,8 +12,8 @@ use Rattle.layout.specs.Layout.{Kind, aLeaf, aStruct, aList, anArray, repeatsAn
 use Rattle.layout.specs.Layout.{layoutFrom, layout}
 use Rattle.layout.specs.declared.columns.FieldId.{FieldId}
 use Rattle.layout.specs.declared.columns.Siblings.the-variants.{Ids}
-use Rattle.layout.specs.declared.version.Version.{Version}
-use Rattle.layout.specs.declared.version.Version.the-variants.{ByName, ByNumber}
+use Rattle.layout.specs.declared.matching.Matching.{Matching}
+use Rattle.layout.specs.declared.matching.Matching.the-variants.{ByName, ByNumber}
 use Rattle.layout.proofs.Ways.{clash}
 use Rattle.layout.proofs.View.{next-ok}
 use Rattle.plan.proofs.Results.{true≠false}
@@ -100,7 +100,7 @@ module _ (s : Bytes) where
       let (k, i, a, e) = next-ok _ _ e in
       body-distinct (type ByNumber Ids d) (λ at t m e. type-distinct d at e) k i e
 
-  counted-distinct : (v : Version) (at : ℕ) {l : Layout} {m : ℕ} → v ≡ ByNumber → counted v s at ≡ ok l m → DistinctIdsAll (l .columns)
+  counted-distinct : (v : Matching) (at : ℕ) {l : Layout} {m : ℕ} → v ≡ ByNumber → counted v s at ≡ ok l m → DistinctIdsAll (l .columns)
   unfolding counted
   counted-distinct ByName at q e = clash (cc)
   counted-distinct ByNumber at q e =
@@ -110,7 +110,7 @@ module _ (s : Bytes) where
       ok-same (λ (l : Layout). DistinctIdsAll (l .columns)) e
       (columns-distinct (type ByNumber Ids deepest) (λ at t m e. type-distinct deepest at e) n [] i b .1)
 
-  counted-version : (v : Version) (at : ℕ) {l : Layout} {m : ℕ} → counted v s at ≡ ok l m → l .version ≡ v
+  counted-version : (v : Matching) (at : ℕ) {l : Layout} {m : ℕ} → counted v s at ≡ ok l m → l .version ≡ v
   unfolding counted
   counted-version v at e =
       let (n, i, a, e) = next-ok _ _ e in

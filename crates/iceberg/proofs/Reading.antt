@@ -8,7 +8,7 @@ use borrow.Author.Tests.{eqb-true, eqb-false}
 use Rattle.layout.specs.Tree.{LeafType, Label, ColumnType, cleaf, cstruct, clist, carray, Columns, DataType, struct, list, array, Fields, dtypeOf, fieldsOf}
 use Rattle.layout.specs.declared.columns.FieldId.{FieldId}
 use Rattle.layout.specs.declared.columns.Position.{Position}
-use Rattle.layout.specs.declared.version.Version.the-variants.{ByNumber}
+use Rattle.layout.specs.declared.matching.Matching.the-variants.{ByNumber}
 use Rattle.layout.proofs.Ways.{clash}
 use Rattle.rules.specs.declared.policy.Policy.{Policy}
 use Rattle.rules.specs.declared.outcome.CastOption.{CastOption}

@@ -10,7 +10,7 @@ use Rattle.layout.specs.Tree.{LeafType, Label, ColumnType, cleaf, cstruct, clis
 use Rattle.layout.specs.Find.{Lookup, absent, at, counterpart}
 use Rattle.layout.specs.declared.columns.FieldId.{FieldId}
 use Rattle.layout.specs.declared.columns.Position.{Position}
-use Rattle.layout.specs.declared.version.Version.the-variants.{ByNumber}
+use Rattle.layout.specs.declared.matching.Matching.the-variants.{ByNumber}
 use Rattle.layout.proofs.Ways.{clash}
 use Rattle.forms.specs.Same.{sameDtype}
 use Rattle.rules.specs.declared.policy.Policy.{Policy}

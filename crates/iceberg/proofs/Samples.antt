@@ -17,7 +17,7 @@ use Rattle.layout.specs.declared.leaf.Decimal.{Decimal}
 use Rattle.layout.specs.declared.leaf.Leaf.{Leaf}
 use Rattle.layout.specs.declared.leaf.Leaf.the-variants.{Date}
 use Rattle.layout.specs.declared.leaf.TimeUnit.the-variants.{Microseconds}
-use Rattle.layout.specs.declared.version.Version.the-variants.{ByNumber}
+use Rattle.layout.specs.declared.matching.Matching.the-variants.{ByNumber}
 use Rattle.layout.proofs.Ways.{clash}
 use Rattle.forms.specs.Form.{leafForm, carried, textBytes}
 use Rattle.forms.specs.Same.{sameLeaf, sameDtype}

@@ -10,7 +10,7 @@ use Rattle.layout.specs.Tree.{LeafType, Label, ColumnType, Columns, cnil, ccons
 use Rattle.layout.specs.Find.{absent, at, findFrom, counterpart}
 use Rattle.layout.specs.declared.columns.FieldId.{FieldId}
 use Rattle.layout.specs.declared.columns.Position.{Position}
-use Rattle.layout.specs.declared.version.Version.the-variants.{ByNumber}
+use Rattle.layout.specs.declared.matching.Matching.the-variants.{ByNumber}
 use Rattle.layout.proofs.Ways.{clash}
 use Rattle.forms.specs.Same.{sameDtype}
 use Rattle.values.specs.Value.{vnull}

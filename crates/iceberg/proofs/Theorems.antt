@@ -6,7 +6,7 @@ use mathlib.Core.Bool.{Bool}
 use mathlib.Core.List.{List, []}
 use Rattle.layout.specs.Tree.{Columns, fieldsOf}
 use Rattle.layout.specs.declared.columns.FieldId.{FieldId}
-use Rattle.layout.specs.declared.version.Version.the-variants.{ByNumber}
+use Rattle.layout.specs.declared.matching.Matching.the-variants.{ByNumber}
 use Rattle.rules.specs.declared.policy.Policy.{Policy}
 use Rattle.values.specs.Value.{Values}
 use Rattle.values.specs.Fits.{FitsAll}

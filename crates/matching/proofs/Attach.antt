@@ -7,7 +7,7 @@ use Rattle.layout.specs.Parser.{choose}
 use Rattle.layout.specs.Tree.{LeafType, leafOf, Label, ColumnType, cleaf, cstruct, clist, carray, Columns, cnil, ccons, DataType, leaf, dtypeOf}
 use Rattle.layout.specs.Find.{Lookup, absent, at, counterpart}
 use Rattle.layout.specs.declared.columns.Position.{Position}
-use Rattle.layout.specs.declared.version.Version.{Version}
+use Rattle.layout.specs.declared.matching.Matching.{Matching}
 use Rattle.layout.proofs.Ways.{clash}
 use Rattle.rules.specs.declared.policy.Policy.{Policy}
 use Rattle.rules.specs.declared.outcome.CastOption.{CastOption}
@@ -25,7 +25,7 @@ use Rattle.plan.proofs.Results.{never-refused, gives-eq, accepted-eq, both, bin
 use Rattle.matching.specs.Default.{Defaults, noDefaults, missingValue}
 use Rattle.matching.specs.Build.{leafPart, structPart, Element, listPart, arrayPart, isNullType, isByName, unlessNullType, renamed, sameElement, distinct, extraColumns, inserts, missing, ruled, structSelector, listSelector, arraySelector, first, sought, attachTransforms, attachFields, buildColumnSelector, buildFrom, build}
 
-module _ (v : Version) where
+module _ (v : Matching) where
   mutual
     -- `Attach d u k t s`: s takes position k, of type t, to type u
     pub data Attach : Defaults → ColumnType → Position → ColumnType → Selector → Type 0 where
@@ -105,7 +105,7 @@ null-cast u (carray w l t) c q = clash (cc)
 
 -- ---- the builders keep to the relation
 
-module _ (v : Version) (p : Policy) where
+module _ (v : Matching) (p : Policy) where
   leaf-attached : (d : Defaults) (k : Position) (b a : LeafType) {s : Selector} → ruled (pairRule p a b) k b ≡ gives s → Attach v d (cleaf b) k (cleaf a) s
   unfolding ruled castFits dtypeOf
   leaf-attached d k b a {s} e = go (pairRule p a b) refl e

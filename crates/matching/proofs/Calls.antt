@@ -9,8 +9,8 @@ use Rattle.layout.specs.Bytes.{Bytes, AllBytes}
 use Rattle.layout.specs.Parser.{Res, refuse, ok}
 use Rattle.layout.specs.Tree.{Columns, Layout, fieldsOf}
 use Rattle.layout.specs.Layout.{layout}
-use Rattle.layout.specs.declared.version.Version.{Version}
-use Rattle.layout.specs.declared.version.Version.the-variants.{ByName, ByNumber}
+use Rattle.layout.specs.declared.matching.Matching.{Matching}
+use Rattle.layout.specs.declared.matching.Matching.the-variants.{ByName, ByNumber}
 use Rattle.layout.proofs.Ways.{clash}
 use Rattle.rules.specs.declared.policy.Policy.{Policy}
 use Rattle.values.specs.Value.{Values}
@@ -39,7 +39,7 @@ use Rattle.matching.proofs.Fitting.{Good, good-none, table-good}
 use Rattle.matching.proofs.Theorems.{build-passes, build-due, build-formed, build-reads}
 
 -- what a build that was accepted wrote
-pub record Built (v : Version) (p : Policy) (d : Defaults) (incoming target bytes : Bytes) : Type 0 where
+pub record Built (v : Matching) (p : Policy) (d : Defaults) (incoming target bytes : Bytes) : Type 0 where
   pub from : Columns
   pub to : Columns
   pub fromEnd : ℕ
@@ -59,17 +59,17 @@ unfolding readAt
 read-at k (refuse n) f e = clash (cc)
 read-at k (ok a m) f e = (a, m, refl, e)
 
-version-eq : (v w : Version) → sameVersion v w ≡ true → w ≡ v
+version-eq : (v w : Matching) → sameVersion v w ≡ true → w ≡ v
 version-eq ByName ByName e = refl
 version-eq ByName ByNumber e = clash (cc)
 version-eq ByNumber ByName e = clash (cc)
 version-eq ByNumber ByNumber e = refl
 
-pub of-version : (v : Version) (s : Bytes) (l : Layout) {m : ℕ} → layout s ≡ ok l m → sameVersion v (l .version) ≡ true → layout s ≡ ok (record { version = v; columns = l .columns }) m
-of-version v s l {m} e q = e ∙ ap (λ (w : Version). ok (record { version = w; columns = l .columns }) m) (version-eq v (l .version) q)
+pub of-version : (v : Matching) (s : Bytes) (l : Layout) {m : ℕ} → layout s ≡ ok l m → sameVersion v (l .version) ≡ true → layout s ≡ ok (record { version = v; columns = l .columns }) m
+of-version v s l {m} e q = e ∙ ap (λ (w : Matching). ok (record { version = w; columns = l .columns }) m) (version-eq v (l .version) q)
 
 -- the two layouts that were read
-record Both {A : Type 0} (v : Version) (incoming target : Bytes) (f : Columns → Columns → Answer A) (a : A) : Type 0 where
+record Both {A : Type 0} (v : Matching) (incoming target : Bytes) (f : Columns → Columns → Answer A) (a : A) : Type 0 where
   from : Columns
   to : Columns
   fromEnd : ℕ
@@ -78,7 +78,7 @@ record Both {A : Type 0} (v : Version) (incoming target : Bytes) (f : Columns �
   targetRead : layout target ≡ ok (record { version = v; columns = to }) toEnd
   next : f from to ≡ accepted a
 
-both-read : {A : Type 0} (v : Version) (incoming target : Bytes) (f : Columns → Columns → Answer A) {a : A} → bothLayouts v incoming target f ≡ accepted a → Both v incoming target f a
+both-read : {A : Type 0} (v : Matching) (incoming target : Bytes) (f : Columns → Columns → Answer A) {a : A} → bothLayouts v incoming target f ≡ accepted a → Both v incoming target f a
 unfolding bothLayouts ofVersion
 both-read v incoming target f e =
     let (x, m, p, e) = read-at 1 (layout incoming) _ e in
@@ -95,7 +95,7 @@ written-plan room ss e =
     let (c, g) = demand-gives _ _ _ c in
     (sym (accepted-eq e) ∙ sym (gives-eq g), leb-true _ _ (both (leb (length (encodePlan ss)) room) c .1))
 
-built-of : (v : Version) (p : Policy) (d : Defaults) (incoming target : Bytes) (room : ℕ) {b : Bytes} {from to : Columns} {m n : ℕ} → AllBytes incoming → AllBytes target → Good d
+built-of : (v : Matching) (p : Policy) (d : Defaults) (incoming target : Bytes) (room : ℕ) {b : Bytes} {from to : Columns} {m n : ℕ} → AllBytes incoming → AllBytes target → Good d
     → layout incoming ≡ ok (record { version = v; columns = from }) m → layout target ≡ ok (record { version = v; columns = to }) n
     → answered (build v p d from to) (λ ss. writtenPlan room ss) ≡ accepted b → Built v p d incoming target b
 built-of v p d incoming target room {from = from} {to = to} {m} {n} oi ot g i t e =
@@ -148,7 +148,7 @@ by-number-built p index owner incoming target defaults room oi ot od e =
 
 -- ---- the run of a plan that was built, between its own two layouts
 
-module _ {v : Version} {p : Policy} {d : Defaults} {incoming target bytes : Bytes} (B : Built v p d incoming target bytes) {ρ : Values} (h : FitsAll (fieldsOf (B .from)) ρ) (room : ℕ) where
+module _ {v : Matching} {p : Policy} {d : Defaults} {incoming target bytes : Bytes} (B : Built v p d incoming target bytes) {ρ : Values} (h : FitsAll (fieldsOf (B .from)) ρ) (room : ℕ) where
   -- it is the run of a plan that passes the check: what is left is 44, 45 or a record that fits the target
   pub built-runs : Runs (fieldsOf (B .to)) ρ (B .selectors) room
   built-runs = plan-runs (fieldsOf (B .from)) (fieldsOf (B .to)) (B .formed) (B .passes) h room

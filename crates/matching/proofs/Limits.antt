@@ -13,8 +13,8 @@ use Rattle.layout.specs.Tree.{Label, ColumnType, cleaf, cstruct, clist, carray,
 use Rattle.layout.specs.Layout.{elementLabel, mark, version, counted, layoutFrom, layout, deepest, aStruct, aList, anArray}
 use Rattle.layout.specs.Answers.{layoutOf}
 use Rattle.layout.specs.declared.read.LayoutRead.{LayoutRead}
-use Rattle.layout.specs.declared.version.Version.{Version}
-use Rattle.layout.specs.declared.version.Version.the-variants.{ByName, ByNumber}
+use Rattle.layout.specs.declared.matching.Matching.{Matching}
+use Rattle.layout.specs.declared.matching.Matching.the-variants.{ByName, ByNumber}
 use Rattle.layout.specs.declared.columns.Siblings.the-variants.{Free}
 use Rattle.layout.proofs.Ways.{clash}
 use Rattle.layout.proofs.View.{next-ok}
@@ -99,12 +99,12 @@ abbrev labelIn : Label → Res Label → Label
 labelIn d (refuse n) = d
 labelIn d (ok l m) = l
 
-element-short : (s : Bytes) (v : Version) (at : ℕ) {l : Label} {i : ℕ} → AllBytes s → elementLabel v s at ≡ ok l i → ShortText (l .name)
+element-short : (s : Bytes) (v : Matching) (at : ℕ) {l : Label} {i : ℕ} → AllBytes s → elementLabel v s at ≡ ok l i → ShortText (l .name)
 unfolding elementLabel
 element-short s ByName at {l} o e = let p : record { name = []; id = record { 0 = 0 } } ≡ l = ap (labelIn l) e in rw (← p) (omega arith, λ i. omega arith)
 element-short s ByNumber at o e = let (a, (b, (c, d))) = label-ends s ByNumber at e in (c, d o)
 
-module _ {v : Version} {s : Bytes} (o : AllBytes s) where
+module _ {v : Matching} {s : Bytes} (o : AllBytes s) where
   mutual
     type-short : {d at e : ℕ} {c : ColumnType} → TypeRead v s d at c e → ShortNames c
     type-short (tr-leaf h) = tt
@@ -129,7 +129,7 @@ layout-read r e = rw e
 columns-eq : {a b : Layout} {m n : ℕ} → ok a m ≡ ok b n → a .columns ≡ b .columns
 columns-eq {a} {b} e = let p : a ≡ b = cc in ap (λ (l : Layout). l .columns) p
 
-version-ends : (s : Bytes) (i : ℕ) {v : Version} {j : ℕ} → version s i ≡ ok v j → j ≡ 5
+version-ends : (s : Bytes) (i : ℕ) {v : Matching} {j : ℕ} → version s i ≡ ok v j → j ≡ 5
 unfolding version choose
 version-ends s i {v} {j} e = go (sameBytes (take 5 s) (mark 1)) (sameBytes (take 5 s) (mark 2)) e
   where
@@ -159,7 +159,7 @@ count-below (fcons n t fs) =
     let b = length-append (form t) (formFields fs) in
     omega arith
 
-limits-of : {v : Version} {n e : ℕ} {cs : Columns} (s : Bytes) → AllBytes s → 7 ≤ length s → length s ≤ 16384 → ColumnsRead v s deepest n 7 cs e → LayoutLimits cs
+limits-of : {v : Matching} {n e : ℕ} {cs : Columns} (s : Bytes) → AllBytes s → 7 ≤ length s → length s ≤ 16384 → ColumnsRead v s deepest n 7 cs e → LayoutLimits cs
 limits-of {cs = cs} s o h k R =
     let (E, c) = columns-extent R h in
     let p = E .long in

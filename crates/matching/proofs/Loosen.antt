@@ -5,7 +5,7 @@ use mathlib.Core.Bool.{Bool, _&&_}
 use Rattle.layout.specs.Tree.{LeafType, Label, ColumnType, cleaf, cstruct, clist, carray, Columns, cnil, ccons}
 use Rattle.layout.specs.Find.{Lookup, absent, at, counterpart}
 use Rattle.layout.specs.declared.columns.Position.{Position}
-use Rattle.layout.specs.declared.version.Version.{Version}
+use Rattle.layout.specs.declared.matching.Matching.{Matching}
 use Rattle.layout.proofs.Ways.{clash}
 use Rattle.rules.specs.declared.policy.Policy.{Policy}
 use Rattle.rules.specs.declared.policy.MissingColumnsPolicy.{MissingColumnsPolicy}
@@ -47,7 +47,7 @@ still-ignores ExtraColumnsPolicy.Ignore b h e = rw (h refl)
 still-ignores ExtraColumnsPolicy.Raise b h e = clash (cc)
 
 -- 53
-extra-kept : (a b : ExtraColumnsPolicy) (v : Version) (fs gs : Columns) → (a ≡ Ignore → b ≡ Ignore) → KeptAnswer (extraColumns a v fs gs) (extraColumns b v fs gs)
+extra-kept : (a b : ExtraColumnsPolicy) (v : Matching) (fs gs : Columns) → (a ≡ Ignore → b ≡ Ignore) → KeptAnswer (extraColumns a v fs gs) (extraColumns b v fs gs)
 unfolding extraColumns
 extra-kept ExtraColumnsPolicy.Ignore b v fs gs h = rw (h refl) (same-answer _)
 extra-kept ExtraColumnsPolicy.Raise ExtraColumnsPolicy.Ignore v fs gs h = passing (extraColumnErr v fs gs 0)
@@ -55,7 +55,7 @@ extra-kept ExtraColumnsPolicy.Raise ExtraColumnsPolicy.Raise v fs gs h = same-an
 
 -- ---- the builders
 
-module _ (v : Version) {p q : Policy} (A : Allows p q) where
+module _ (v : Matching) {p q : Policy} (A : Allows p q) where
   unless-null : (k : Position) (u t : ColumnType) {x y : Result Selector} → Kept x y
       → Kept (unlessNullType v p k u t x) (unlessNullType v q k u t y)
   unfolding unlessNullType

@@ -8,8 +8,8 @@ use Rattle.layout.specs.Parser.{choose}
 use Rattle.layout.specs.Tree.{Label, ColumnType, Columns, DataType, leaf, struct, list, array, Fields, countFields, dtypeOf, fieldsOf}
 use Rattle.layout.specs.Layout.{deepest}
 use Rattle.layout.specs.declared.columns.Position.{Position}
-use Rattle.layout.specs.declared.version.Version.{Version}
-use Rattle.layout.specs.declared.version.Version.the-variants.{ByName, ByNumber}
+use Rattle.layout.specs.declared.matching.Matching.{Matching}
+use Rattle.layout.specs.declared.matching.Matching.the-variants.{ByName, ByNumber}
 use Rattle.forms.specs.Readable.{ShortText, Readable, ReadableFields, depthOf, depthOfFields}
 use Rattle.plan.specs.Selector.{Selector, position, rename, structMapping, listMapping, arrayMapping, Selectors, countSelectors, nesting, nestingAll}
 use Rattle.plan.specs.Formed.{FormedType, Formed, f-position, f-constant, f-cast, f-rename, f-struct, f-list, f-array, FormedAll, f-nil, f-cons}
@@ -31,7 +31,7 @@ depth-least (struct fs) = omega arith
 depth-least (list t) = omega arith
 depth-least (array w t) = omega arith
 
-renamed-nests : (v : Version) (b a : Label) (s : Selector) → nesting (renamed v b a s) ≤ suc (nesting s)
+renamed-nests : (v : Matching) (b a : Label) (s : Selector) → nesting (renamed v b a s) ≤ suc (nesting s)
 unfolding renamed choose nesting
 renamed-nests ByName b a s = omega arith
 renamed-nests ByNumber b a s = go (sameBytes (a .name) (b .name))
@@ -45,7 +45,7 @@ unfolding choose nesting
 choose-nests true k n s p q = q
 choose-nests false k n s p q = p
 
-module _ (v : Version) where
+module _ (v : Matching) where
   mutual
     unfolding listSelector arraySelector nesting nestingAll depthOf depthOfFields dtypeOf fieldsOf
 
@@ -66,7 +66,7 @@ module _ (v : Version) where
 
 -- ---- formed
 
-pub attached-count : (v : Version) {d : Defaults} {gs fs : Columns} {ss : Selectors} → AttachAll v d gs fs ss → countSelectors ss ≡ countFields (fieldsOf gs)
+pub attached-count : (v : Matching) {d : Defaults} {gs fs : Columns} {ss : Selectors} → AttachAll v d gs fs ss → countSelectors ss ≡ countFields (fieldsOf gs)
 unfolding countSelectors countFields fieldsOf
 attached-count v a-nil = refl
 attached-count v (a-found q h r hs) = ap suc (attached-count v hs)
@@ -87,7 +87,7 @@ unfolding choose
 choose-formed true h f = f-position h
 choose-formed false h f = f
 
-renamed-formed : (v : Version) (b a : Label) {s : Selector} → ShortText (b .name) → Formed s → Formed (renamed v b a s)
+renamed-formed : (v : Matching) (b a : Label) {s : Selector} → ShortText (b .name) → Formed s → Formed (renamed v b a s)
 unfolding renamed choose
 renamed-formed ByName b a h f = f
 renamed-formed ByNumber b a {s} h f = go (sameBytes (a .name) (b .name))
@@ -100,7 +100,7 @@ renamed-formed ByNumber b a {s} h f = go (sameBytes (a .name) (b .name))
 formed-type : (t : DataType) → Readable t → depthOf t ≤ deepest → FormedType t
 formed-type t r d = record { readable = r; deep = d }
 
-module _ (v : Version) where
+module _ (v : Matching) where
   mutual
     unfolding listSelector arraySelector dtypeOf fieldsOf depthOf depthOfFields
 

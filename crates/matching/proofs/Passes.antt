@@ -7,8 +7,8 @@ use Rattle.layout.specs.Bytes.{Bytes, sameBytes}
 use Rattle.layout.specs.Parser.{choose}
 use Rattle.layout.specs.Tree.{Label, ColumnType, Columns, DataType, struct, list, array, Fields, dtypeOf, fieldsOf}
 use Rattle.layout.specs.declared.columns.Position.{Position}
-use Rattle.layout.specs.declared.version.Version.{Version}
-use Rattle.layout.specs.declared.version.Version.the-variants.{ByName, ByNumber}
+use Rattle.layout.specs.declared.matching.Matching.{Matching}
+use Rattle.layout.specs.declared.matching.Matching.the-variants.{ByName, ByNumber}
 use Rattle.layout.proofs.OfBytes.{same-bytes-eq}
 use Rattle.plan.specs.Selector.{Selector, position, rename, structMapping, listMapping, arrayMapping, Selectors}
 use Rattle.plan.specs.Check.{elementOf, withinLimits}
@@ -47,7 +47,7 @@ at-element = here
 
 -- ---- renames
 
-renamed-typed : {Γ : Fields} (v : Version) (b a : Label) {s : Selector} {t : DataType} → matches v b a ≡ true → Typed Γ s (a .name) t → withinLimits t ≡ true → Typed Γ (renamed v b a s) (b .name) t
+renamed-typed : {Γ : Fields} (v : Matching) (b a : Label) {s : Selector} {t : DataType} → matches v b a ≡ true → Typed Γ s (a .name) t → withinLimits t ≡ true → Typed Γ (renamed v b a s) (b .name) t
 unfolding renamed choose
 renamed-typed ByName b a h d z = rw (← same-bytes-eq (a .name) (b .name) h) d
 renamed-typed {Γ} ByNumber b a {s} {t} h d z = go (sameBytes (a .name) (b .name)) refl
@@ -57,7 +57,7 @@ renamed-typed {Γ} ByNumber b a {s} {t} h d z = go (sameBytes (a .name) (b .name
     go false q = t-rename d z
 
 -- in an element, where names have no effect
-renamed-element : {Γ : Fields} (v : Version) (b a : Label) {s : Selector} {n : Bytes} {t : DataType} → Typed Γ s n t → withinLimits t ≡ true → (m : Bytes) × Typed Γ (renamed v b a s) m t
+renamed-element : {Γ : Fields} (v : Matching) (b a : Label) {s : Selector} {n : Bytes} {t : DataType} → Typed Γ s n t → withinLimits t ≡ true → (m : Bytes) × Typed Γ (renamed v b a s) m t
 unfolding renamed choose
 renamed-element ByName b a {n = n} d z = (n, d)
 renamed-element {Γ} ByNumber b a {s} {n} {t} d z = go (sameBytes (a .name) (b .name))
@@ -66,7 +66,7 @@ renamed-element {Γ} ByNumber b a {s} {n} {t} d z = go (sameBytes (a .name) (b .
     go true = (n, d)
     go false = (b .name, t-rename d z)
 
-module _ (v : Version) where
+module _ (v : Matching) where
   mutual
     unfolding listSelector arraySelector dtypeOf fieldsOf
 

@@ -7,8 +7,8 @@ use Rattle.layout.specs.Bytes.{Bytes, sameBytes}
 use Rattle.layout.specs.Parser.{choose}
 use Rattle.layout.specs.Tree.{LeafType, null, Label, ColumnType, cleaf, cstruct, clist, carray, Columns, DataType, leaf, struct, list, array, Fields, dtypeOf, fieldsOf}
 use Rattle.layout.specs.declared.columns.Position.{Position}
-use Rattle.layout.specs.declared.version.Version.{Version}
-use Rattle.layout.specs.declared.version.Version.the-variants.{ByName, ByNumber}
+use Rattle.layout.specs.declared.matching.Matching.{Matching}
+use Rattle.layout.specs.declared.matching.Matching.the-variants.{ByName, ByNumber}
 use Rattle.layout.proofs.Ways.{clash}
 use Rattle.forms.specs.Same.{sameDtype}
 use Rattle.forms.proofs.Equal.{same-dtype-refl, same-dtype-eq}
@@ -122,7 +122,7 @@ cast-differs a b o e = go (sameDtype (leaf a) (leaf b)) refl
     go true q = absurd (cast-unequal _ a b o (casts-allowed a b o (passes-casts a b o e)) (leaf-eq (same-dtype-eq (leaf a) (leaf b) q)))
     go false q = refl
 
-cast-due : (v : Version) (d : Defaults) (t u : ColumnType) {x : Value} (o : CastOption) → castFits (dtypeOf t) (dtypeOf u) o ≡ true → Fits (dtypeOf t) x → castValue (dtypeOf u) x ≡ due v d u t x
+cast-due : (v : Matching) (d : Defaults) (t u : ColumnType) {x : Value} (o : CastOption) → castFits (dtypeOf t) (dtypeOf u) o ≡ true → Fits (dtypeOf t) x → castValue (dtypeOf u) x ≡ due v d u t x
 unfolding castFits dtypeOf due dueLeaf castValue onStruct onList onArray choose
 cast-due v d (cleaf a) (cleaf b) o r h = rw (cast-differs a b o r)
 cast-due v d (cleaf a) (cstruct gs) o r h = rw (from-null-value a o r h)
@@ -186,7 +186,7 @@ module _ {Γ : Fields} {ρ : Values} {n : Bytes} (h : FitsAll Γ ρ) (k : Positi
   array-due g x false e a ih = array-agree _ _ ih (at-fits a h)
 
 -- a rename has no effect on values
-renamed-eval : (ρ : Values) (v : Version) (b a : Label) (s : Selector) → eval ρ (renamed v b a s) ≡ eval ρ s
+renamed-eval : (ρ : Values) (v : Matching) (b a : Label) (s : Selector) → eval ρ (renamed v b a s) ≡ eval ρ s
 unfolding renamed choose eval
 renamed-eval ρ ByName b a s = refl
 renamed-eval ρ ByNumber b a s = go (sameBytes (a .name) (b .name))
@@ -195,7 +195,7 @@ renamed-eval ρ ByNumber b a s = go (sameBytes (a .name) (b .name))
     go true = refl
     go false = refl
 
-module _ (v : Version) where
+module _ (v : Matching) where
   mutual
     unfolding listSelector arraySelector due dues dueLeaf choose eval evals dtypeOf fieldsOf fromCounterpart orElseNull valueAt
 

@@ -8,8 +8,8 @@ use Rattle.layout.specs.Parser.{ok}
 use Rattle.layout.specs.Tree.{Label, ColumnType, Columns, fieldsOf}
 use Rattle.layout.specs.Find.{at, columnAt}
 use Rattle.layout.specs.declared.columns.Position.{Position}
-use Rattle.layout.specs.declared.version.Version.{Version}
-use Rattle.layout.specs.declared.version.Version.the-variants.{ByName}
+use Rattle.layout.specs.declared.matching.Matching.{Matching}
+use Rattle.layout.specs.declared.matching.Matching.the-variants.{ByName}
 use Rattle.rules.specs.declared.policy.Policy.{Policy}
 use Rattle.values.specs.Value.{Values}
 use Rattle.values.specs.Fits.{FitsAll}
@@ -37,7 +37,7 @@ use Rattle.matching.proofs.Nesting.{attachAll-nests, attached-count, at
 
 -- `LayoutLimits` holds of the columns of every layout that was read (`layout-limits`); `Good` of every table that was read (`table-good`) and of none
 -- (`good-none`). Calls.antt has the same for the calls over bytes, where neither is left.
-module _ (v : Version) (p : Policy) (d : Defaults) (Γ Δ : Columns) {ss : Selectors} (built : build v p d Γ Δ ≡ accepted ss) where
+module _ (v : Matching) (p : Policy) (d : Defaults) (Γ Δ : Columns) {ss : Selectors} (built : build v p d Γ Δ ≡ accepted ss) where
   -- "Every plan that either builder writes passes this check between its own two layouts."
   pub build-passes : Good d → LayoutLimits Δ → check (fieldsOf Γ) (fieldsOf Δ) ss ≡ accepted tt
   build-passes g z = typed→passed (attachAll-typed v (build→ v p d Γ Δ built) g (z .within))

@@ -11,8 +11,8 @@ use Rattle.layout.specs.Parser.{choose}
 use Rattle.layout.specs.Tree.{Label, ColumnType, Columns, ccons, DataType, leaf, struct, list, array, Fields, fnil, fcons, dtypeOf, fieldsOf}
 use Rattle.layout.specs.Find.{absent, at, findFrom, columnNamed}
 use Rattle.layout.specs.declared.columns.Position.{Position}
-use Rattle.layout.specs.declared.version.Version.{Version}
-use Rattle.layout.specs.declared.version.Version.the-variants.{ByName}
+use Rattle.layout.specs.declared.matching.Matching.{Matching}
+use Rattle.layout.specs.declared.matching.Matching.the-variants.{ByName}
 use Rattle.layout.proofs.Ways.{clash}
 use Rattle.forms.specs.Form.{form}
 use Rattle.forms.proofs.Theorems.{forms-equal}
@@ -36,7 +36,7 @@ fcons-eq p q r = cc
 next-suffix : {i : ℕ} {n : Bytes} {t : DataType} {fs gs : Fields} → Suffix i fs (fcons n t gs) → Suffix (i + 1) fs gs
 next-suffix {i} {fs = fs} {gs = gs} s = let e : suc i ≡ i + 1 = omega arith in rw e at (suffix-next s)
 
-module _ (v : Version) where
+module _ (v : Matching) where
   mutual
     unfolding listSelector arraySelector straight isPosition dtypeOf fieldsOf
 
