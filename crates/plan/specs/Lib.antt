@@ -3,6 +3,8 @@ pub mod Selector
 pub mod Encode
 pub mod Read
 pub mod Check
+pub mod Nullness
+pub mod Marks
 pub mod Convert
 pub mod Run
 pub mod Reach
