@@ -77,22 +77,22 @@ module _ (v : Matching) where
     attach-typed (a-struct {k = k} {fs} {gs} {ss} c h r) g a z =
         rw (← r, struct-selector k fs ss)
         (struct-typed ss (straight 0 (fieldsOf fs) ss) (straight→equal v h (fieldsOf fs) all) a (attachAll-typed h g (struct-within (fieldsOf gs) z)) z)
-    attach-typed (a-list {a = x} {b} {u = u} {e = e} y h r) g a z =
+    attach-typed (a-list {a = x} {b} {u = u} {e = e} y m h r) g a z =
         let y = list-within (dtypeOf u) z in
         let (m, d) = renamed-element v b x (attach-typed h good-none at-element y) y in
         rw (← r) (list-typed (renamed v b x e) (isPosition 0 (renamed v b x e)) (λ c. bare→equal v h (renamed-bare v b x e (is-bare 0 _ c)) .1) a d z)
-    attach-typed (a-array {w = w} {a = x} {b} {u = u} {e = e} y h r) g a z =
+    attach-typed (a-array {w = w} {a = x} {b} {u = u} {e = e} y m h r) g a z =
         let y = array-within w (dtypeOf u) z in
         let (m, d) = renamed-element v b x (attach-typed h good-none at-element y) y in
         rw (← r) (array-typed (renamed v b x e) (isPosition 0 (renamed v b x e)) (λ c. bare→equal v h (renamed-bare v b x e (is-bare 0 _ c)) .1) a d z)
 
     pub attachAll-typed : {d : Defaults} {gs fs : Columns} {ss : Selectors} → AttachAll v d gs fs ss → Good d → WithinLimits (fieldsOf gs) → TypedAll (fieldsOf fs) ss (fieldsOf gs)
     attachAll-typed a-nil g z = t-nil
-    attachAll-typed (a-found {a = a} {b} {u = u} {fs = fs} {x = x} q h r hs) g z =
+    attachAll-typed (a-found {a = a} {b} {u = u} {fs = fs} {x = x} q m h r hs) g z =
         let f = counterpart-at v b fs q in
         let y = first-within z in
         let e : Typed (fieldsOf fs) x (b .name) (dtypeOf u) = rw (← r) (renamed-typed v b a (f .match) (attach-typed h g (f .place) y) y) in
         t-cons e (attachAll-typed hs g (rest-within z))
-    attachAll-typed (a-missing {d} {b} {u} {fs = fs} {x = x} q y r hs) g z =
+    attachAll-typed (a-missing {d} {b} {u} {fs = fs} {x = x} q y m r hs) g z =
         let e : Typed (fieldsOf fs) x (b .name) (dtypeOf u) = rw (← r) (t-constant (missing-fits d g b u y)) in
         t-cons e (attachAll-typed hs g (rest-within z))

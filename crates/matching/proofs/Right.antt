@@ -204,10 +204,10 @@ module _ (v : Matching) where
     attach-due (a-same {l = l}) a h = rw (same-dtype-refl (leaf l))
     attach-due (a-cast {d} {k} {t} {u} {o = o} r p) a h = rw (← p) (cast-due v d t u o (rw (← p) at r) (at-fits a h))
     attach-due (a-struct {k = k} {fs} {ss = ss} c g r) a h = rw (← r, struct-selector k fs ss) (struct-due h k _ ss _ refl a (λ xs f. attachAll-due g f))
-    attach-due (a-list {k = k} {a = x} {b} {e = e} y g r) a h = rw (← r) (list-due h k _ (renamed v b x e) _ refl a (λ y f. renamed-eval _ v b x e ∙ attach-due g at-element (only f)))
-    attach-due (a-array {k = k} {a = x} {b} {e = e} y g r) a h = rw (← r) (array-due h k _ (renamed v b x e) _ refl a (λ y f. renamed-eval _ v b x e ∙ attach-due g at-element (only f)))
+    attach-due (a-list {k = k} {a = x} {b} {e = e} y m g r) a h = rw (← r) (list-due h k _ (renamed v b x e) _ refl a (λ y f. renamed-eval _ v b x e ∙ attach-due g at-element (only f)))
+    attach-due (a-array {k = k} {a = x} {b} {e = e} y m g r) a h = rw (← r) (array-due h k _ (renamed v b x e) _ refl a (λ y f. renamed-eval _ v b x e ∙ attach-due g at-element (only f)))
 
     pub attachAll-due : {d : Defaults} {gs fs : Columns} {ss : Selectors} {ρ : Values} → AttachAll v d gs fs ss → FitsAll (fieldsOf fs) ρ → evals ρ ss ≡ dues v d gs fs ρ
     attachAll-due a-nil h = refl
-    attachAll-due (a-found {a = a} {b} {fs = fs} {s = s} q g r gs) h = ap₂ vcons (rw (← r, q) (renamed-eval _ v b a s ∙ attach-due g (counterpart-at v b fs q .place) h)) (attachAll-due gs h)
-    attachAll-due (a-missing q y r gs) h = ap₂ vcons (rw (← r, q, y)) (attachAll-due gs h)
+    attachAll-due (a-found {a = a} {b} {fs = fs} {s = s} q m g r gs) h = ap₂ vcons (rw (← r, q) (renamed-eval _ v b a s ∙ attach-due g (counterpart-at v b fs q .place) h)) (attachAll-due gs h)
+    attachAll-due (a-missing q y m r gs) h = ap₂ vcons (rw (← r, q, y)) (attachAll-due gs h)
