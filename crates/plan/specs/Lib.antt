@@ -5,6 +5,7 @@ pub mod Read
 pub mod Check
 pub mod Nullness
 pub mod Marks
+pub mod Paths
 pub mod Convert
 pub mod Run
 pub mod Reach
