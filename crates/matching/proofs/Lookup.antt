@@ -6,8 +6,8 @@ use native.Mathlib.Omega.{arith}
 use Rattle.layout.specs.Bytes.{Bytes, sameBytes}
 use Rattle.layout.specs.Parser.{choose}
 use Rattle.layout.specs.Tree.{Label, ColumnType, Columns, cnil, ccons, DataType, Fields, fnil, fcons, dtypeOf, fieldsOf}
-use Rattle.layout.specs.Layout.{repeats, topRule}
-use Rattle.layout.specs.Find.{Lookup, absent, at, findFrom, columnNamed, counterpart}
+use Rattle.layout.specs.Layout.{repeats}
+use Rattle.layout.specs.Find.{Lookup, absent, at, findFrom, columnNamed, counterpart, matchRule}
 use Rattle.layout.specs.declared.columns.Position.{Position}
 use Rattle.layout.specs.declared.matching.Matching.{Matching}
 use Rattle.layout.proofs.OfBytes.{same-bytes-refl, same-bytes-eq}
@@ -51,7 +51,7 @@ found-stands f i (ccons a u cs) {k} {l} {t} e = go (f i a) refl e (λ h. found-s
 
 -- an incoming label a is of the same field as the target's b
 abbrev pub matches : Matching → Label → Label → Bool
-matches v b a = repeats (topRule v) a b
+matches v b a = repeats (matchRule v) a b
 
 -- the counterpart of the label b has the position k, the label a and the type t
 pub record Counterpart (v : Matching) (b : Label) (cs : Columns) (k : Position) (a : Label) (t : ColumnType) : Type 0 where
