@@ -139,7 +139,7 @@ module _ (v : Matching) where
         let one = ncons (given (a .required) t) nnil in
         let w = attach-meets h one (a .required) (b .required) (record { is = refl; may = rw (← keeps-allowed a t b) m }) in
         rw (← z) (list-meets ns k q r a b t u (renamed v b a x) _ refl T (rw (renamed-nullness one v b a x) w))
-    attach-meets (a-array {k = k} {n} {a} {b} {t} {u} {e = x} y m h z) ns q r T =
+    attach-meets (a-array {k = k} {w = n} {a} {b} {t} {u} {e = x} y m h z) ns q r T =
         let one = ncons (given (a .required) t) nnil in
         let w = attach-meets h one (a .required) (b .required) (record { is = refl; may = rw (← keeps-allowed a t b) m }) in
         rw (← z) (array-meets ns k q r n a b t u (renamed v b a x) _ refl T (rw (renamed-nullness one v b a x) w))

@@ -7,10 +7,10 @@ use Rattle.rules.specs.Classes.{isNull}
 use Rattle.values.specs.Value.{Value, vnull, vnumber, vtext, voverflow, vstruct, vlist, varray, Values, vcons, isNullValue}
 use Rattle.values.specs.Fits.{Fits}
 use Rattle.values.specs.Filled.{Filled}
-use Rattle.plan.specs.Nullness.{topOf, nullnessAt, ofValue, ofFields}
+use Rattle.plan.specs.Nullness.{nnil, topOf, nullnessAt, ofValue, ofFields}
 use Rattle.plan.specs.Marks.{placeOf, allowed, given, meets, meetsAll}
 use Rattle.plan.proofs.Results.{true≠false}
-use Rattle.plan.proofs.Exact.{none-meet, nowhere-meets, constant-exact}
+use Rattle.plan.proofs.Exact.{nowhere-meets, constant-exact}
 use Rattle.matching.specs.Build.{isNullType, keepsRequired, fillsRequired}
 
 -- ---- 55
@@ -47,6 +47,10 @@ keeps-optional a t b e = rw e
 and-right : (a : Bool) → (a && true) ≡ a
 and-right true = refl
 and-right false = refl
+
+none-meet : (cs : Columns) → meetsAll nnil cs ≡ true
+unfolding meets allowed
+none-meet cs = nowhere-meets (cstruct cs) false
 
 -- null, of any type: "below a null there is no value"
 pub fills-null : (l : Label) (u : ColumnType) → fillsRequired l u vnull ≡ not (l .required)

@@ -68,7 +68,10 @@ module _ (v : Matching) (p : Policy) where
       (attachTransforms v p noDefaults u first (x .type) >>= λ s. gives (listSelector k (renamed v b (x .label) s))))
   unfolding attachTransforms
   list-unmarked d b u k t e =
-      λ i. unlessNullType v p k (clist b u) t (listPart t >>= λ x. demand (sameElement v (x .label) b) 25 (passed 55 _ (keeps-optional (x .label) (x .type) b e) i))
+      λ i. unlessNullType v p k (clist b u) t (listPart t >>= λ x.
+      demand (sameElement v (x .label) b) 25
+      (passed 55 (attachTransforms v p noDefaults u first (x .type) >>= λ s. gives (listSelector k (renamed v b (x .label) s)))
+          (keeps-optional (x .label) (x .type) b e) i))
 
   pub array-unmarked : (d : Defaults) (w : ℕ) (b : Label) (u : ColumnType) (k : Position) (t : ColumnType) → b .required ≡ false
       → attachTransforms v p d (carray w b u) k t ≡ unlessNullType v p k (carray w b u) t
@@ -77,7 +80,15 @@ module _ (v : Matching) (p : Policy) where
       (attachTransforms v p noDefaults u first (x .type) >>= λ s. gives (arraySelector k (renamed v b (x .label) s))))
   unfolding attachTransforms
   array-unmarked d w b u k t e =
-      λ i. unlessNullType v p k (carray w b u) t (arrayPart w t >>= λ x. demand (sameElement v (x .label) b) 25 (passed 55 _ (keeps-optional (x .label) (x .type) b e) i))
+      λ i. unlessNullType v p k (carray w b u) t (arrayPart w t >>= λ x.
+      demand (sameElement v (x .label) b) 25
+      (passed 55 (attachTransforms v p noDefaults u first (x .type) >>= λ s. gives (arraySelector k (renamed v b (x .label) s)))
+          (keeps-optional (x .label) (x .type) b e) i))
+
+  -- a column that was found
+  found : (d : Defaults) (b : Label) (u : ColumnType) (m : Label) → b .required ≡ false → (k : Position) (t : ColumnType)
+      → demand (keepsRequired m t b) 55 (attachTransforms v p d u k t >>= λ s. gives (renamed v b m s)) ≡ (attachTransforms v p d u k t >>= λ s. gives (renamed v b m s))
+  found d b u m e k t = passed 55 (attachTransforms v p d u k t >>= λ s. gives (renamed v b m s)) (keeps-optional m t b e)
 
   -- the missing column's clause is `missing-unmarked`
   pub fields-unmarked : (d : Defaults) (b : Label) (u : ColumnType) (gs fs : Columns) → b .required ≡ false
@@ -87,7 +98,7 @@ module _ (v : Matching) (p : Policy) where
       gives (scons s ss))
   unfolding attachFields
   fields-unmarked d b u gs fs e =
-      λ i. sought (counterpart v b fs) (missing d (inserts (p .«missing_struct_fields»)) 14 b u) (λ k m t. passed 55 _ (keeps-optional m t b e) i) >>= λ s.
+      λ i. sought (counterpart v b fs) (missing d (inserts (p .«missing_struct_fields»)) 14 b u) (λ k m t. found d b u m e k t i) >>= λ s.
       attachFields v p d gs fs >>= λ ss.
       gives (scons s ss)
 
@@ -96,4 +107,5 @@ module _ (v : Matching) (p : Policy) where
       ≡ sought (counterpart v b fs) (missing d (inserts (p .«missing_columns»)) 11 b u) (λ k m t. attachTransforms v p d u k t >>= λ s. gives (renamed v b m s))
   unfolding buildColumnSelector
   column-unmarked d b u fs e =
-      λ i. sought (counterpart v b fs) (missing d (inserts (p .«missing_columns»)) 11 b u) (λ k m t. passed 55 _ (keeps-optional m t b e) i)
+      λ i. sought (counterpart v b fs) (missing d (inserts (p .«missing_columns»)) 11 b u) (λ k m t. found d b u m e k t i)
+

@@ -1,9 +1,11 @@
 -- Document 01, "Building by name" and "Building by number": a build over any bytes, with its refusals in their order.
 use Prim.Native.Nat.{ℕ}
+use mathlib.Core.Path.{_≡_}
 use mathlib.Core.Bool.{Bool, true, false, _&&_}
 use lib.Dec.{leb}
 use lib.ListN.{length}
 use Rattle.layout.specs.Bytes.{Bytes}
+use Rattle.layout.specs.Parser.{ok}
 use Rattle.layout.specs.Tree.{Layout, Columns}
 use Rattle.layout.specs.Layout.{layout}
 use Rattle.layout.specs.declared.edition.Edition.{Edition}
@@ -33,6 +35,13 @@ takes ByNumber Three = true
 -- 10: either layout is of an edition that is not taken
 unfoldable pub ofEdition : Matching → Layout → Layout → Result (Unit {0})
 ofEdition v incoming target = demand (takes v (incoming .edition) && takes v (target .edition)) 10 (gives tt)
+
+-- the bytes are a layout of these columns, of an edition that is taken
+pub record ReadFor (v : Matching) (s : Bytes) (cs : Columns) : Type 0 where
+  pub edition : Edition
+  pub end : ℕ
+  pub reads : layout s ≡ ok (record { edition = edition; columns = cs }) end
+  pub taken : takes v edition ≡ true
 
 -- the incoming layout, the target layout, 10
 unfoldable pub bothLayouts : {A : Type 0} → Matching → Bytes → Bytes → (Columns → Columns → Answer A) → Answer A
