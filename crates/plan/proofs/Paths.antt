@@ -136,43 +136,42 @@ allowed-optional required = refl
 allowed-optional optional = refl
 allowed-optional novalue = refl
 
-module _ (mark : Label → Bool) where
-  meets-at : {cs : Columns} {k : ℕ} {l : Label} {t : ColumnType} (ns : Nullnesses) → ColumnAt cs k l t → meetsAll mark ns cs ≡ true → meets mark (nullnessAt ns k) (mark l) t ≡ true
-  unfolding meetsAll nullnessAt
-  meets-at {l = l} {t} nnil a e = nowhere-meets mark t (mark l)
-  meets-at {l = l} {t} (ncons n ns) c-here e = both (meets mark n (mark l) t) e .0
-  meets-at (ncons n ns) (c-there {m = m} {u = u} a) e = meets-at ns a (both (meets mark n (mark m) u) e .1)
+meets-at : {cs : Columns} {k : ℕ} {l : Label} {t : ColumnType} (ns : Nullnesses) → ColumnAt cs k l t → meetsAll ns cs ≡ true → meets (nullnessAt ns k) (l .required) t ≡ true
+unfolding meetsAll nullnessAt
+meets-at {l = l} {t} nnil a e = nowhere-meets t (l .required)
+meets-at {l = l} {t} (ncons n ns) c-here e = both (meets n (l .required) t) e .0
+meets-at (ncons n ns) (c-there {m = m} {u = u} a) e = meets-at ns a (both (meets n (m .required) u) e .1)
 
-  demanded : {r : Bool} {t : ColumnType} {p : List ℕ} (n : Nullness) → Demanded mark r t p → meets mark n r t ≡ true → allowed (placeIn n p) true ≡ true
-  unfolding meets placeIn
-  demanded n (q-here {t}) e = top-allowed mark n true t e
-  demanded n (q-field {r} {cs} {k} a d) e = demanded (nullnessAt (insideOf n) k) d (meets-at (insideOf n) a (both (allowed (topOf n) r) e .1))
-  demanded n (q-list {r} d) e = demanded (nullnessAt (insideOf n) 0) d (both (allowed (topOf n) r) e .1)
-  demanded n (q-array {r} d) e = demanded (nullnessAt (insideOf n) 0) d (both (allowed (topOf n) r) e .1)
+demanded : {r : Bool} {t : ColumnType} {p : List ℕ} (n : Nullness) → Demanded r t p → meets n r t ≡ true → allowed (placeIn n p) true ≡ true
+unfolding meets placeIn
+demanded n (q-here {t}) e = top-allowed n true t e
+demanded n (q-field {r} {cs} {k} a d) e = demanded (nullnessAt (insideOf n) k) d (meets-at (insideOf n) a (both (allowed (topOf n) r) e .1))
+demanded n (q-list {r} d) e = demanded (nullnessAt (insideOf n) 0) d (both (allowed (topOf n) r) e .1)
+demanded n (q-array {r} d) e = demanded (nullnessAt (insideOf n) 0) d (both (allowed (topOf n) r) e .1)
 
-  top-demanded : (n : Nullness) (r : Bool) (t : ColumnType) → ((p : List ℕ) → Demanded mark r t p → allowed (placeIn n p) true ≡ true) → allowed (topOf n) r ≡ true
-  unfolding placeIn
-  top-demanded n true t h = h [] q-here
-  top-demanded n false t h = allowed-optional (topOf n)
+top-demanded : (n : Nullness) (r : Bool) (t : ColumnType) → ((p : List ℕ) → Demanded r t p → allowed (placeIn n p) true ≡ true) → allowed (topOf n) r ≡ true
+unfolding placeIn
+top-demanded n true t h = h [] q-here
+top-demanded n false t h = allowed-optional (topOf n)
 
-  mutual
-    unfolding meets meetsAll placeIn nullnessAt
+mutual
+  unfolding meets meetsAll placeIn nullnessAt
 
-    demanding : (t : ColumnType) (n : Nullness) (r : Bool) → ((p : List ℕ) → Demanded mark r t p → allowed (placeIn n p) true ≡ true) → meets mark n r t ≡ true
-    demanding (cleaf l) n r h = top-demanded n r (cleaf l) h
-    demanding (cstruct cs) n r h = and-true (top-demanded n r (cstruct cs) h) (demanding-all cs (insideOf n) (λ k l t p a d. h (k ∷ p) (q-field a d)))
-    demanding (clist l t) n r h = and-true (top-demanded n r (clist l t) h) (demanding t (nullnessAt (insideOf n) 0) (mark l) (λ p d. h (0 ∷ p) (q-list d)))
-    demanding (carray w l t) n r h = and-true (top-demanded n r (carray w l t) h) (demanding t (nullnessAt (insideOf n) 0) (mark l) (λ p d. h (0 ∷ p) (q-array d)))
+  demanding : (t : ColumnType) (n : Nullness) (r : Bool) → ((p : List ℕ) → Demanded r t p → allowed (placeIn n p) true ≡ true) → meets n r t ≡ true
+  demanding (cleaf l) n r h = top-demanded n r (cleaf l) h
+  demanding (cstruct cs) n r h = and-true (top-demanded n r (cstruct cs) h) (demanding-all cs (insideOf n) (λ k l t p a d. h (k ∷ p) (q-field a d)))
+  demanding (clist l t) n r h = and-true (top-demanded n r (clist l t) h) (demanding t (nullnessAt (insideOf n) 0) (l .required) (λ p d. h (0 ∷ p) (q-list d)))
+  demanding (carray w l t) n r h = and-true (top-demanded n r (carray w l t) h) (demanding t (nullnessAt (insideOf n) 0) (l .required) (λ p d. h (0 ∷ p) (q-array d)))
 
-    demanding-all : (cs : Columns) (ns : Nullnesses) → ((k : ℕ) (l : Label) (t : ColumnType) (p : List ℕ) → ColumnAt cs k l t → Demanded mark (mark l) t p → allowed (placeIn (nullnessAt ns k) p) true ≡ true)
-        → meetsAll mark ns cs ≡ true
-    demanding-all cnil ns h = refl
-    demanding-all (ccons l t cs) nnil h = refl
-    demanding-all (ccons l t cs) (ncons n ns) h = and-true (demanding t n (mark l) (λ p d. h 0 l t p c-here d)) (demanding-all cs ns (λ k m u p a d. h (suc k) m u p (c-there a) d))
+  demanding-all : (cs : Columns) (ns : Nullnesses) → ((k : ℕ) (l : Label) (t : ColumnType) (p : List ℕ) → ColumnAt cs k l t → Demanded (l .required) t p → allowed (placeIn (nullnessAt ns k) p) true ≡ true)
+      → meetsAll ns cs ≡ true
+  demanding-all cnil ns h = refl
+  demanding-all (ccons l t cs) nnil h = refl
+  demanding-all (ccons l t cs) (ncons n ns) h = and-true (demanding t n (l .required) (λ p d. h 0 l t p c-here d)) (demanding-all cs ns (λ k m u p a d. h (suc k) m u p (c-there a) d))
 
-  -- 55 is that at some required place of the target what is given is optional
-  pub meets-places : (n : Nullness) (r : Bool) (t : ColumnType) → (meets mark n r t ≡ true) ↔ ((p : List ℕ) → Demanded mark r t p → allowed (placeIn n p) true ≡ true)
-  meets-places n r t = (λ e p d. demanded n d e, λ h. demanding t n r h)
+-- 55 is that at some required place of the target what is given is optional
+pub meets-places : (n : Nullness) (r : Bool) (t : ColumnType) → (meets n r t ≡ true) ↔ ((p : List ℕ) → Demanded r t p → allowed (placeIn n p) true ≡ true)
+meets-places n r t = (λ e p d. demanded n d e, λ h. demanding t n r h)
 
 -- ---- the moves of a walk (crate walk, specs/Moves.antt), with Γ what is known of the columns where the selector stands
 

@@ -8,6 +8,10 @@ use Rattle.plan.specs.Selector.{Selectors}
 use Rattle.plan.specs.Check.{check}
 use Rattle.plan.specs.Nullness.{Place, required, optional, novalue, Nullness, node, Nullnesses, nnil, ncons, topOf, insideOf, nullnessAt, nullnessesOf}
 
+-- a layout's own marks
+abbrev pub requiredOf : Label → Bool
+requiredOf l = l .required
+
 abbrev pub placeOf : Bool → Place
 placeOf true = required
 placeOf false = optional
@@ -18,34 +22,33 @@ allowed required r = true
 allowed optional r = not r
 allowed novalue r = true
 
-module _ (mark : Label → Bool) where
-  -- a column's nullness: "a null-type input is optional with nothing inside it", even where it is marked
-  unfoldable mutual
-    pub given : Bool → ColumnType → Nullness
-    given r (cleaf l) = node (placeOf (r && not (isNull (leafOf l)))) nnil
-    given r (cstruct cs) = node (placeOf r) (givens cs)
-    given r (clist l t) = node (placeOf r) (ncons (given (mark l) t) nnil)
-    given r (carray w l t) = node (placeOf r) (ncons (given (mark l) t) nnil)
+-- a column's nullness: "a null-type input is optional with nothing inside it", even where it is marked
+unfoldable mutual
+  pub given : Bool → ColumnType → Nullness
+  given r (cleaf l) = node (placeOf (r && not (isNull (leafOf l)))) nnil
+  given r (cstruct cs) = node (placeOf r) (givens cs)
+  given r (clist l t) = node (placeOf r) (ncons (given (l .required) t) nnil)
+  given r (carray w l t) = node (placeOf r) (ncons (given (l .required) t) nnil)
 
-    pub givens : Columns → Nullnesses
-    givens cnil = nnil
-    givens (ccons l t cs) = ncons (given (mark l) t) (givens cs)
+  pub givens : Columns → Nullnesses
+  givens cnil = nnil
+  givens (ccons l t cs) = ncons (given (l .required) t) (givens cs)
 
-  -- `meets n r t`: what has the nullness n may stand in a column of the mark r and the type t. "A place, of any type, where
-  -- a constant or a cast of null has no value never counts".
-  unfoldable mutual
-    pub meets : Nullness → Bool → ColumnType → Bool
-    meets n r (cleaf l) = allowed (topOf n) r
-    meets n r (cstruct cs) = allowed (topOf n) r && meetsAll (insideOf n) cs
-    meets n r (clist l t) = allowed (topOf n) r && meets (nullnessAt (insideOf n) 0) (mark l) t
-    meets n r (carray w l t) = allowed (topOf n) r && meets (nullnessAt (insideOf n) 0) (mark l) t
+-- `meets n r t`: what has the nullness n may stand in a column of the mark r and the type t. "A place, of any type, where
+-- a constant or a cast of null has no value never counts".
+unfoldable mutual
+  pub meets : Nullness → Bool → ColumnType → Bool
+  meets n r (cleaf l) = allowed (topOf n) r
+  meets n r (cstruct cs) = allowed (topOf n) r && meetsAll (insideOf n) cs
+  meets n r (clist l t) = allowed (topOf n) r && meets (nullnessAt (insideOf n) 0) (l .required) t
+  meets n r (carray w l t) = allowed (topOf n) r && meets (nullnessAt (insideOf n) 0) (l .required) t
 
-    pub meetsAll : Nullnesses → Columns → Bool
-    meetsAll ns cnil = true
-    meetsAll nnil (ccons l t cs) = true
-    meetsAll (ncons n ns) (ccons l t cs) = meets n (mark l) t && meetsAll ns cs
+  pub meetsAll : Nullnesses → Columns → Bool
+  meetsAll ns cnil = true
+  meetsAll nnil (ccons l t cs) = true
+  meetsAll (ncons n ns) (ccons l t cs) = meets n (l .required) t && meetsAll ns cs
 
-  -- the check of a plan, 55 "as the last test, after 33"
-  unfoldable pub checkMarked : Columns → Columns → Selectors → Answer (Unit {0})
-  checkMarked Γ Δ ss =
-      answered (check (fieldsOf Γ) (fieldsOf Δ) ss) (λ u. placed 0 (demand (meetsAll (nullnessesOf (givens Γ) ss) Δ) 55 (gives u)) accepted)
+-- the check of a plan, 55 "as the last test, after 33"
+unfoldable pub checkMarked : Columns → Columns → Selectors → Answer (Unit {0})
+checkMarked Γ Δ ss =
+    answered (check (fieldsOf Γ) (fieldsOf Δ) ss) (λ u. placed 0 (demand (meetsAll (nullnessesOf (givens Γ) ss) Δ) 55 (gives u)) accepted)

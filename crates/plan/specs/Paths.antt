@@ -58,10 +58,9 @@ pub data ColumnAt : Columns → ℕ → Label → ColumnType → Type 0 where
   c-here : {l : Label} {t : ColumnType} {cs : Columns} → ColumnAt (ccons l t cs) 0 l t
   c-there : {l m : Label} {t u : ColumnType} {cs : Columns} {k : ℕ} → ColumnAt cs k l t → ColumnAt (ccons m u cs) (suc k) l t
 
-module _ (mark : Label → Bool) where
-  -- `Demanded r t p`: in a column of the mark r and the type t, the place p is required
-  pub data Demanded : Bool → ColumnType → List ℕ → Type 0 where
-    q-here : {t : ColumnType} → Demanded true t []
-    q-field : {r : Bool} {cs : Columns} {k : ℕ} {l : Label} {t : ColumnType} {p : List ℕ} → ColumnAt cs k l t → Demanded (mark l) t p → Demanded r (cstruct cs) (k ∷ p)
-    q-list : {r : Bool} {l : Label} {t : ColumnType} {p : List ℕ} → Demanded (mark l) t p → Demanded r (clist l t) (0 ∷ p)
-    q-array : {r : Bool} {w : ℕ} {l : Label} {t : ColumnType} {p : List ℕ} → Demanded (mark l) t p → Demanded r (carray w l t) (0 ∷ p)
+-- `Demanded r t p`: in a column of the mark r and the type t, the place p is required
+pub data Demanded : Bool → ColumnType → List ℕ → Type 0 where
+  q-here : {t : ColumnType} → Demanded true t []
+  q-field : {r : Bool} {cs : Columns} {k : ℕ} {l : Label} {t : ColumnType} {p : List ℕ} → ColumnAt cs k l t → Demanded (l .required) t p → Demanded r (cstruct cs) (k ∷ p)
+  q-list : {r : Bool} {l : Label} {t : ColumnType} {p : List ℕ} → Demanded (l .required) t p → Demanded r (clist l t) (0 ∷ p)
+  q-array : {r : Bool} {w : ℕ} {l : Label} {t : ColumnType} {p : List ℕ} → Demanded (l .required) t p → Demanded r (carray w l t) (0 ∷ p)
