@@ -4,14 +4,14 @@ use mathlib.Core.List.{_++_}
 use lib.ListN.{length, drop}
 use Rattle.layout.specs.Bytes.{Bytes}
 use Rattle.layout.specs.Parser.{Res, refuse, ok}
-use Rattle.layout.specs.Tree.{Columns, fieldsOf}
+use Rattle.layout.specs.Tree.{Columns}
 use Rattle.layout.specs.Layout.{layout}
 use Rattle.values.specs.Filled.{requiredOf}
 use Rattle.values.specs.Record.{recordMarked}
 use Rattle.plan.specs.Result.{Answer, accepted, refusedAt, answered}
 use Rattle.plan.specs.Selector.{Selectors}
 use Rattle.plan.specs.Read.{plan}
-use Rattle.plan.specs.Check.{check}
+use Rattle.plan.specs.Marks.{checkMarked}
 use Rattle.plan.specs.Run.{run}
 use Rattle.plan.specs.declared.answer.WriteResult.{WriteResult}
 
@@ -25,12 +25,12 @@ unfoldable pub readPlan : {A : Type 0} → Bytes → Bytes → Bytes → (Column
 readPlan incoming target bytes g = readAt 1 (layout incoming) (λ a. readAt 2 (layout target) (λ b. readAt 0 (plan bytes) (λ ss. g (a .columns) (b .columns) ss)))
 
 unfoldable pub checkPlan : Bytes → Bytes → Bytes → Answer (Unit {0})
-checkPlan incoming target bytes = readPlan incoming target bytes (λ Γ Δ ss. check (fieldsOf Γ) (fieldsOf Δ) ss)
+checkPlan incoming target bytes = readPlan incoming target bytes (λ Γ Δ ss. checkMarked Γ Δ ss)
 
 -- "All of the check", then the record (43, 40, 41, 52, 56, 42), then 44 and 45; the buffer has that many bytes
 unfoldable pub runPlan : Bytes → Bytes → Bytes → Bytes → ℕ → Answer Bytes
 runPlan incoming target bytes rec room =
-    readPlan incoming target bytes (λ Γ Δ ss. answered (check (fieldsOf Γ) (fieldsOf Δ) ss) (λ x. readAt 0 (recordMarked requiredOf Γ rec) (λ ρ. run ρ ss room)))
+    readPlan incoming target bytes (λ Γ Δ ss. answered (checkMarked Γ Δ ss) (λ x. readAt 0 (recordMarked requiredOf Γ rec) (λ ρ. run ρ ss room)))
 
 -- what a call answers that writes: the result's length; or, since "a refusal is a number and a place", these two
 abbrev pub writeResult : Answer Bytes → WriteResult
