@@ -17,3 +17,4 @@ pub mod Holds
 pub mod Sound
 pub mod Exact
 pub mod Paths
+pub mod Unmarked

@@ -6,7 +6,7 @@ use Rattle.layout.specs.Tree.{leafOf, Label, ColumnType, cleaf, cstruct, clist,
 use Rattle.rules.specs.Classes.{isNull}
 use Rattle.values.specs.Value.{Value, vnull, Values, vcons}
 use Rattle.values.specs.Fits.{FitsAll}
-use Rattle.values.specs.Filled.{Filled, full-null, full-number, full-text, full-over, full-struct, full-list, full-array, FilledAll, full-nil, full-cons, FilledEach, full-none, full-more}
+use Rattle.values.specs.Filled.{requiredOf, Filled, full-null, full-number, full-text, full-over, full-struct, full-list, full-array, FilledAll, full-nil, full-cons, FilledEach, full-none, full-more}
 use Rattle.plan.specs.Result.{accepted}
 use Rattle.plan.specs.Selector.{Selector, Selectors}
 use Rattle.plan.specs.Run.{eval, evals}
@@ -17,7 +17,7 @@ use Rattle.plan.proofs.Typed.{Typed, TypedAll, passed→typed}
 use Rattle.plan.proofs.Over.{all-over}
 use Rattle.plan.proofs.Preserve.{eval-over, evals-over}
 use Rattle.plan.specs.Nullness.{optional, Nullness, node, Nullnesses, nnil, ncons, topOf, nullnessAt, nullnessOf, nullnessesOf}
-use Rattle.plan.specs.Marks.{requiredOf, placeOf, allowed, given, givens, meets, meetsAll, checkMarked}
+use Rattle.plan.specs.Marks.{placeOf, allowed, given, givens, meets, meetsAll, checkMarked}
 use Rattle.plan.proofs.Holds.{Present, is-required, is-optional, Holds, h-null, h-number, h-text, h-over, h-struct, h-list, h-array, HoldsAll, h-nil, h-cons, HoldsEach, h-none, h-more, eval-holds, evals-hold}
 
 marked : (r : Bool) → Present (placeOf r)

@@ -1,16 +1,12 @@
 -- Document 02, L5: required marks in the check, and its last test (55).
 use Prim.Native.Nat.{ℕ}
 use mathlib.Core.Bool.{Bool, true, false, _&&_, not}
-use Rattle.layout.specs.Tree.{leafOf, Label, ColumnType, cleaf, cstruct, clist, carray, Columns, cnil, ccons, fieldsOf}
+use Rattle.layout.specs.Tree.{leafOf, ColumnType, cleaf, cstruct, clist, carray, Columns, cnil, ccons, fieldsOf}
 use Rattle.rules.specs.Classes.{isNull}
 use Rattle.plan.specs.Result.{gives, demand, Answer, accepted, placed, answered}
 use Rattle.plan.specs.Selector.{Selectors}
 use Rattle.plan.specs.Check.{check}
 use Rattle.plan.specs.Nullness.{Place, required, optional, novalue, Nullness, node, Nullnesses, nnil, ncons, topOf, insideOf, nullnessAt, nullnessesOf}
-
--- a layout's own marks
-abbrev pub requiredOf : Label → Bool
-requiredOf l = l .required
 
 abbrev pub placeOf : Bool → Place
 placeOf true = required

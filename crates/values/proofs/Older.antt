@@ -8,7 +8,9 @@ use Rattle.layout.specs.Bytes.{Bytes}
 use Rattle.layout.specs.Parser.{Res, ok, Parser}
 use Rattle.layout.specs.Tree.{Label, ColumnType, cleaf, cstruct, clist, carray, Columns, cnil, ccons, fieldsOf, Layout}
 use Rattle.layout.specs.Layout.{Kind, aLeaf, aStruct, aList, anArray, fieldMark, labelRest, label, elementLabel, columns, structType, listType, arrayType, body, type, topRule, innerRule, deepest, counted, layoutFrom, layout}
+use Rattle.layout.specs.Stands.{ColumnsAt}
 use Rattle.layout.specs.declared.columns.Siblings.{Siblings}
+use Rattle.layout.specs.declared.columns.Siblings.the-variants.{Free}
 use Rattle.layout.specs.declared.edition.Edition.{Edition}
 use Rattle.layout.specs.declared.edition.Edition.the-variants.{One, Two, Three}
 use Rattle.layout.proofs.Ways.{clash}
@@ -94,3 +96,8 @@ layout-older s l m e older =
 pub record-older : (lay : Bytes) (l : Layout) (m : ℕ) → layout lay ≡ ok l m → (l .edition ≡ Three → ⊥) → (rec : Bytes)
     → recordMarked requiredOf (l .columns) rec ≡ recordOf (fieldsOf (l .columns)) rec
 record-older lay l m e older rec = record-unmarked requiredOf rec (layout-older lay l m e older)
+
+-- the columns that stand in one
+pub columns-older : {v : Edition} {d : ℕ} {s : Bytes} {n at : ℕ} → (v ≡ Three → ⊥) → (P : ColumnsAt v d s n at) → UnmarkedAll requiredOf (P .columns)
+columns-older {v} {d} {s} {n} {at} older P =
+    columns-bare v older s Free (type v Free d) (λ at t m h. type-bare v older s Free d at t m h) n [] at (P .reads)
