@@ -16,3 +16,4 @@ pub mod Casting
 pub mod Checks
 pub mod Selecting
 pub mod Topping
+pub mod Required

@@ -34,6 +34,7 @@ use Rattle.plan.specs.declared.read.PlanRead.{PlanRead}
 use Rattle.plan.proofs.Results.{bind-gives as bind-given, gives-eq, accepted-eq, placed-accepted, answered-accepted, true≠false}
 use Rattle.plan.proofs.ReadBack.{plan-back}
 use Rattle.plan.specs.Calls.{readAt}
+use Rattle.plan.specs.Marks.{checkMarked}
 use Rattle.walk.specs.State.{state}
 use Rattle.walk.specs.Stands.{SelectorAt, SelectorsAt}
 use Rattle.walk.specs.Types.{ScopeOf, c-top}
@@ -460,6 +461,6 @@ module _ (incoming target plan : Bytes) where
       unfolding checkPlan layoutsRead readAt
       refused-third e = rw (L .reads, M .reads, e)
 
-      pub all-read : {c : ℕ} (P : PlanAt plan c) {r : PlanChecked} → r ≡ planChecked (check (fieldsOf (L .columns .columns)) (fieldsOf (M .columns .columns)) (P .parts)) → r ≡ planChecked (checkPlan incoming target plan)
+      pub all-read : {c : ℕ} (P : PlanAt plan c) {r : PlanChecked} → r ≡ planChecked (checkMarked (L .columns .columns) (M .columns .columns) (P .parts)) → r ≡ planChecked (checkPlan incoming target plan)
       unfolding checkPlan layoutsRead readAt
       all-read P f = rw (L .reads, M .reads, P .reads) f

@@ -1,10 +1,13 @@
-// The check of a plan: the layouts, 30, each selector (31, 32), and 33 last.
+// The check of a plan: the layouts, 30, each selector (31, 32), 33, and 55 last.
 ghost use mathlib.Core.Path.{_≡_};
 ghost use Rattle.layout.specs.Tree.{Fields, fieldsOf};
 ghost use Rattle.layout.specs.Stands.{ColumnsAt};
 ghost use Rattle.forms.specs.Same.{sameFields};
 ghost use Rattle.plan.specs.Selector.{Selectors};
 ghost use Rattle.plan.specs.Check.{topTypes, check};
+ghost use Rattle.plan.specs.Nullness.{nullnessesOf};
+ghost use Rattle.plan.specs.Marks.{givens, meetsAll, checkMarked};
+ghost use Rattle.overflow.specs.Overflows.{PlanAt};
 ghost use Rattle.checker.specs.Tops.{planChecked, TopsAt, TypedTops};
 ghost use Rattle.plan.specs.Calls.{checkPlan};
 use crate::same::Ends;
@@ -16,6 +19,7 @@ use layout::cursor::Cursor;
 use layout::edition::Edition;
 use layout::read::LayoutRead;
 use layout::read::read_layout;
+use nullness::marks::meets_marks;
 use plan::read::PlanRead;
 use plan::read::read_plan;
 use walk::head::skip_selector;
@@ -114,8 +118,8 @@ fn same_plan(
     same_tops(incoming, v, n, plan, count, c, target, vt, c)
 }
 
-// A plan that was read, over two layouts that were read.
-pub fn check_read(
+// The types of a plan that was read, over two layouts that were read.
+fn check_types(
     incoming: &[u8],
     v: Edition,
     n: u16,
@@ -138,6 +142,53 @@ pub fn check_read(
                 PlanChecked::Passed
             } else {
                 PlanChecked::Refused(33, 0)
+            }
+        }
+        PlanChecked::Refused(j, k) => PlanChecked::Refused(j, k),
+    }
+}
+
+// Whether no required place of the target meets one that can be null. Editions 1 and 2 have no required places.
+fn meets_target(
+    incoming: &[u8],
+    v: Edition,
+    n: u16,
+    plan: &[u8],
+    target: &[u8],
+    vt: Edition,
+    m: u16,
+) -> bool
+    requires { ⌜ ((P : ColumnsAt v 16 (now incoming) n 7) × (D : ColumnsAt vt 16 (now target) m 7) × PlanAt (now plan) 7 (fieldsOf (P .columns)) (fieldsOf (D .columns))) ⌝ }
+    ensures { λ r. ⌜ ((P : ColumnsAt v 16 (now (incoming .entry)) n 7) (D : ColumnsAt vt 16 (now (target .entry)) m 7) (S : PlanAt (now (plan .entry)) 7 (fieldsOf (P .columns)) (fieldsOf (D .columns))) → r ≡ meetsAll (nullnessesOf (givens (P .columns)) (S .selectors .trees)) (D .columns)) ⌝ }
+{
+    match vt {
+        Edition::One => true,
+        Edition::Two => true,
+        Edition::Three => meets_marks(incoming, v, n, plan, target, vt, m),
+    }
+}
+
+// A plan that was read, over two layouts that were read.
+pub fn check_read(
+    incoming: &[u8],
+    v: Edition,
+    n: u16,
+    plan: &[u8],
+    count: u16,
+    target: &[u8],
+    vt: Edition,
+    m: u16,
+) -> PlanChecked
+    requires { ⌜ ((Γ : Fields) × (ss : Selectors) × TopsAt (now incoming) v n (now plan) count 7 Γ ss) ⌝ }
+    requires { ⌜ ColumnsAt vt 16 (now target) m 7 ⌝ }
+    ensures { λ r. ⌜ ((Γ : Fields) (ss : Selectors) (Q : ColumnsAt vt 16 (now (target .entry)) m 7) (T : TopsAt (now (incoming .entry)) v n (now (plan .entry)) count 7 Γ ss) → r ≡ planChecked (checkMarked (T .columns .columns) (Q .columns) ss)) ⌝ }
+{
+    match check_types(incoming, v, n, plan, count, target, vt, m) {
+        PlanChecked::Passed => {
+            if meets_target(incoming, v, n, plan, target, vt, m) {
+                PlanChecked::Passed
+            } else {
+                PlanChecked::Refused(55, 0)
             }
         }
         PlanChecked::Refused(j, k) => PlanChecked::Refused(j, k),

@@ -1,12 +1,12 @@
--- `checker::tops::check_read` meets its contract. Assumes nothing.
+-- `checker::tops::check_types` meets its contract. Assumes nothing.
 use Rattle.checker.proofs.Topping.{read-direct, all-typed, read-passed, read-differs, read-refused}
 use Rattle.layout.specs.Tree.{fieldsOf}
 use borrow.Author.Needs.{needs}
-use Rattle.checker.proofs.tops.check_read.Statement.{statement}
-use Rattle.checker.proofs.tops.check_read.Tie as tie
+use Rattle.checker.proofs.tops.check_types.Statement.{statement}
+use Rattle.checker.proofs.tops.check_types.Tie as tie
 
-pub check-read-spec : {M : Type 1} → statement M
-check-read-spec =
+pub check-types-spec : {M : Type 1} → statement M
+check-types-spec =
     tie.close
     (tie.spec
     (λ c κs. let (Γ, ss, T) = c .before .before .before .pre .0 in (T .columns, (T .selectors, c .before .before .before .pre .1)))
