@@ -26,5 +26,5 @@ mutual
 
   pub meet-unmarked : {cs : Columns} → UnmarkedAll requiredOf cs → (ns : Nullnesses) → meetsAll ns cs ≡ true
   meet-unmarked bare-nil ns = refl
-  meet-unmarked (bare-cons f U V) nnil = refl
-  meet-unmarked (bare-cons f U V) (ncons n ns) = and-true (meets-unmarked U n _ f) (meet-unmarked V ns)
+  meet-unmarked (bare-cons f U W) nnil = refl
+  meet-unmarked (bare-cons f U W) (ncons n ns) = and-true (meets-unmarked U n _ f) (meet-unmarked W ns)
