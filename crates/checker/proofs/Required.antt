@@ -5,7 +5,7 @@ use mathlib.Core.Bool.{Bool, true, false}
 use native.Mathlib.Omega.{arith}
 use lib.ListN.{length}
 use Rattle.layout.specs.Bytes.{Bytes}
-use Rattle.layout.specs.Tree.{Columns, Fields, fieldsOf}
+use Rattle.layout.specs.Tree.{fieldsOf}
 use Rattle.layout.specs.Stands.{ColumnsAt}
 use Rattle.layout.specs.declared.edition.Edition.{Edition}
 use Rattle.layout.specs.declared.edition.Edition.the-variants.{One, Two, Three}
@@ -36,41 +36,39 @@ pub two-older : {vt : Edition} → vt ≡ Two → vt ≡ Three → ⊥
 two-older e f = clash (cc)
 
 -- `check_types` answered r
-module _ {incoming : Bytes} {v : Edition} {n : ℕ} {plan : Bytes} {count : ℕ} {Γ : Fields} {ss : Selectors} (T : TopsAt incoming v n plan count 7 Γ ss)
-    {target : Bytes} {vt : Edition} {m : ℕ} (Q : ColumnsAt vt 16 target m 7) {r : PlanChecked} (e : r ≡ planChecked (check Γ (fieldsOf (Q .columns)) ss)) where
-  scoped : check (fieldsOf (T .columns .columns)) (fieldsOf (Q .columns)) ss ≡ check Γ (fieldsOf (Q .columns)) ss
-  scoped = ap (λ (x : Fields). check x (fieldsOf (Q .columns)) ss) (T .are)
-
-  pub types-refused : {j k : ℕ} → r ≡ PlanChecked.Refused j k → PlanChecked.Refused j k ≡ planChecked (checkMarked (T .columns .columns) (Q .columns) ss)
+module _ {incoming : Bytes} {v : Edition} {n : ℕ} {plan : Bytes} {count : ℕ} {ss : Selectors} (L : ColumnsAt v 16 incoming n 7)
+    (T : TopsAt incoming v n plan count 7 (fieldsOf (L .columns)) ss) {target : Bytes} {vt : Edition} {m : ℕ} (Q : ColumnsAt vt 16 target m 7)
+    {r : PlanChecked} (e : r ≡ planChecked (check (fieldsOf (L .columns)) (fieldsOf (Q .columns)) ss)) where
+  pub types-refused : {j k : ℕ} → r ≡ PlanChecked.Refused j k → PlanChecked.Refused j k ≡ planChecked (checkMarked (L .columns) (Q .columns) ss)
   unfolding checkMarked answered
-  types-refused {j} {k} q = go (check (fieldsOf (T .columns .columns)) (fieldsOf (Q .columns)) ss) (ap planChecked scoped ∙ sym e ∙ q)
+  types-refused {j} {k} q = go (check (fieldsOf (L .columns)) (fieldsOf (Q .columns)) ss) (sym e ∙ q)
     where
       go : (x : Answer (Unit {0})) → planChecked x ≡ PlanChecked.Refused j k
-          → PlanChecked.Refused j k ≡ planChecked (answered x (λ u. placed 0 (demand (meetsAll (nullnessesOf (givens (T .columns .columns)) ss) (Q .columns)) 55 (gives u)) accepted))
+          → PlanChecked.Refused j k ≡ planChecked (answered x (λ u. placed 0 (demand (meetsAll (nullnessesOf (givens (L .columns)) ss) (Q .columns)) 55 (gives u)) accepted))
       go (accepted u) f = clash (cc)
       go (refusedAt a b) f = sym f
 
   module _ (p : r ≡ PlanChecked.Passed) where
-    passes : check (fieldsOf (T .columns .columns)) (fieldsOf (Q .columns)) ss ≡ accepted tt
-    passes = scoped ∙ passed-accepted (check Γ (fieldsOf (Q .columns)) ss) (sym e ∙ p) .1
+    passes : check (fieldsOf (L .columns)) (fieldsOf (Q .columns)) ss ≡ accepted tt
+    passes = passed-accepted (check (fieldsOf (L .columns)) (fieldsOf (Q .columns)) ss) (sym e ∙ p) .1
 
-    pub plan-passed : PlanAt plan 7 (fieldsOf (T .columns .columns)) (fieldsOf (Q .columns))
+    pub plan-passed : PlanAt plan 7 (fieldsOf (L .columns)) (fieldsOf (Q .columns))
     plan-passed = record {
       count = count;
       selectors = T .selectors;
       starts = omega (arith, T .ends, selectors-longer (T .selectors));
       small = T .small;
-      passes = ap (check (fieldsOf (T .columns .columns)) (fieldsOf (Q .columns))) (T .is) ∙ passes;
+      passes = ap (check (fieldsOf (L .columns)) (fieldsOf (Q .columns))) (T .is) ∙ passes;
     }
 
-    module _ {b : Bool} (f : b ≡ meetsAll (nullnessesOf (givens (T .columns .columns)) (T .selectors .trees)) (Q .columns)) where
-      met : b ≡ meetsAll (nullnessesOf (givens (T .columns .columns)) ss) (Q .columns)
-      met = f ∙ ap (λ (x : Selectors). meetsAll (nullnessesOf (givens (T .columns .columns)) x) (Q .columns)) (T .is)
+    module _ {b : Bool} (f : b ≡ meetsAll (nullnessesOf (givens (L .columns)) (T .selectors .trees)) (Q .columns)) where
+      met : b ≡ meetsAll (nullnessesOf (givens (L .columns)) ss) (Q .columns)
+      met = f ∙ ap (λ (x : Selectors). meetsAll (nullnessesOf (givens (L .columns)) x) (Q .columns)) (T .is)
 
-      pub marks-met : b ≡ true → PlanChecked.Passed ≡ planChecked (checkMarked (T .columns .columns) (Q .columns) ss)
+      pub marks-met : b ≡ true → PlanChecked.Passed ≡ planChecked (checkMarked (L .columns) (Q .columns) ss)
       unfolding checkMarked answered placed demand
       marks-met q = rw (passes, ← met, q)
 
-      pub marks-missed : b ≡ false → PlanChecked.Refused 55 0 ≡ planChecked (checkMarked (T .columns .columns) (Q .columns) ss)
+      pub marks-missed : b ≡ false → PlanChecked.Refused 55 0 ≡ planChecked (checkMarked (L .columns) (Q .columns) ss)
       unfolding checkMarked answered placed demand
       marks-missed q = rw (passes, ← met, q)

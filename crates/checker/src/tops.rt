@@ -179,9 +179,9 @@ pub fn check_read(
     vt: Edition,
     m: u16,
 ) -> PlanChecked
-    requires { ⌜ ((Γ : Fields) × (ss : Selectors) × TopsAt (now incoming) v n (now plan) count 7 Γ ss) ⌝ }
+    requires { ⌜ ((L : ColumnsAt v 16 (now incoming) n 7) × (ss : Selectors) × TopsAt (now incoming) v n (now plan) count 7 (fieldsOf (L .columns)) ss) ⌝ }
     requires { ⌜ ColumnsAt vt 16 (now target) m 7 ⌝ }
-    ensures { λ r. ⌜ ((Γ : Fields) (ss : Selectors) (Q : ColumnsAt vt 16 (now (target .entry)) m 7) (T : TopsAt (now (incoming .entry)) v n (now (plan .entry)) count 7 Γ ss) → r ≡ planChecked (checkMarked (T .columns .columns) (Q .columns) ss)) ⌝ }
+    ensures { λ r. ⌜ ((L : ColumnsAt v 16 (now (incoming .entry)) n 7) (ss : Selectors) (Q : ColumnsAt vt 16 (now (target .entry)) m 7) → TopsAt (now (incoming .entry)) v n (now (plan .entry)) count 7 (fieldsOf (L .columns)) ss → r ≡ planChecked (checkMarked (L .columns) (Q .columns) ss)) ⌝ }
 {
     match check_types(incoming, v, n, plan, count, target, vt, m) {
         PlanChecked::Passed => {

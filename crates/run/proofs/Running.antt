@@ -29,10 +29,12 @@ use Rattle.values.proofs.Inside.{record-at, record-unfilled}
 use Rattle.plan.specs.Result.{Answer, accepted, refusedAt, answered}
 use Rattle.plan.specs.Selector.{Selectors}
 use Rattle.plan.specs.Check.{check}
+use Rattle.plan.specs.Marks.{checkMarked}
 use Rattle.plan.specs.Run.{evals, cleanAll, spacious, run}
 use Rattle.plan.specs.Read.{plan}
 use Rattle.plan.specs.Calls.{readAt, readPlan, runPlan, writeResult, bufferAfter}
 use Rattle.plan.specs.declared.answer.WriteResult.{WriteResult}
+use Rattle.plan.proofs.Results.{answered-accepted}
 use Rattle.plan.proofs.Theorems.{run-overflows, run-writes, run-exceeds}
 use Rattle.walk.proofs.View.{selectors-longer}
 use Rattle.nodes.specs.Raw.{RowAt}
@@ -165,31 +167,36 @@ plan-of {count = count} P = record { count = count; selectors = P .selectors; st
 
 -- ---- the check
 
+-- what passes the check with 55 passes the check of types
+marked-checked : (Γ Δ : Columns) (ss : Selectors) → checkMarked Γ Δ ss ≡ accepted tt → check (fieldsOf Γ) (fieldsOf Δ) ss ≡ accepted tt
+unfolding checkMarked
+marked-checked Γ Δ ss e = let (u, p, q) = answered-accepted _ _ e in p
+
 module _ {incoming : Bytes} {v : Edition} {n : ℕ} {plan : Bytes} {count : ℕ} {target : Bytes} {vt : Edition} {m : ℕ} {ss : Selectors}
     (L : ColumnsAt v deepest incoming n 7) (T : TopsAt incoming v n plan count 7 (fieldsOf (L .columns)) ss) (Q : ColumnsAt vt deepest target m 7) where
   pub check-passed : (x : Answer (Unit {0})) → planChecked x ≡ PlanChecked.Passed → x ≡ accepted tt
   check-passed (accepted u) e = refl
   check-passed (refusedAt a b) e = clash (cc)
 
-  over-record : (rec : Bytes) (room : ℕ) → planChecked (check (fieldsOf (L .columns)) (fieldsOf (Q .columns)) ss) ≡ PlanChecked.Passed
+  over-record : (rec : Bytes) (room : ℕ) → planChecked (checkMarked (L .columns) (Q .columns) ss) ≡ PlanChecked.Passed
       → checkedRun (L .columns) (Q .columns) ss rec room ≡ recordRun (T .columns .columns) (T .selectors .trees) rec room
   unfolding answered
-  over-record rec room e = rw (check-passed (check (fieldsOf (L .columns)) (fieldsOf (Q .columns)) ss) e)
+  over-record rec room e = rw (check-passed (checkMarked (L .columns) (Q .columns) ss) e)
       (sym (ap (λ (x : Columns). recordRun x (T .selectors .trees) rec room) (same-columns (T .columns) L .0) ∙ ap (λ (x : Selectors). recordRun (L .columns) x rec room) (T .is)))
 
-  unfoldable pub passed-at : {r : PlanChecked} → 7 ≤ length target → r ≡ planChecked (check (fieldsOf (L .columns)) (fieldsOf (Q .columns)) ss) → r ≡ PlanChecked.Passed → PassedAt incoming v n plan count target vt m
+  unfoldable pub passed-at : {r : PlanChecked} → 7 ≤ length target → r ≡ planChecked (checkMarked (L .columns) (Q .columns) ss) → r ≡ PlanChecked.Passed → PassedAt incoming v n plan count target vt m
   passed-at w h f = record {
     columns = T .columns;
     targets = Q;
     selectors = T .selectors;
-    passes = ap (λ (x : Fields). check x (fieldsOf (Q .columns)) (T .selectors .trees)) (T .are) ∙ ap (check (fieldsOf (L .columns)) (fieldsOf (Q .columns))) (T .is) ∙ check-passed (check (fieldsOf (L .columns)) (fieldsOf (Q .columns)) ss) (sym h ∙ f);
+    passes = ap (λ (x : Fields). check x (fieldsOf (Q .columns)) (T .selectors .trees)) (T .are) ∙ ap (check (fieldsOf (L .columns)) (fieldsOf (Q .columns))) (T .is) ∙ marked-checked (L .columns) (Q .columns) ss (check-passed (checkMarked (L .columns) (Q .columns) ss) (sym h ∙ f));
     starts = omega (arith, T .ends, selectors-longer (T .selectors));
     small = T .small;
     wide = w;
   }
 
   -- the run of what passed
-  pub run-passed : {r : PlanChecked} (w : 7 ≤ length target) (rec : Bytes) (room : ℕ) {entry : Bytes} {o : WriteResult} {exit : Bytes} (h : r ≡ planChecked (check (fieldsOf (L .columns)) (fieldsOf (Q .columns)) ss)) (f : r ≡ PlanChecked.Passed)
+  pub run-passed : {r : PlanChecked} (w : 7 ≤ length target) (rec : Bytes) (room : ℕ) {entry : Bytes} {o : WriteResult} {exit : Bytes} (h : r ≡ planChecked (checkMarked (L .columns) (Q .columns) ss)) (f : r ≡ PlanChecked.Passed)
       → (o ≡ writeResult (recordRun (passed-at w h f .columns .columns) (passed-at w h f .selectors .trees) rec room))
       × (exit ≡ bufferAfter (recordRun (passed-at w h f .columns .columns) (passed-at w h f .selectors .trees) rec room) entry)
       → Ran (checkedRun (L .columns) (Q .columns) ss rec room) entry o exit
@@ -198,10 +205,10 @@ module _ {incoming : Bytes} {v : Edition} {n : ℕ} {plan : Bytes} {count : ℕ}
       let y : checkedRun (L .columns) (Q .columns) ss rec room ≡ recordRun (T .columns .columns) (T .selectors .trees) rec room = over-record rec room (sym h ∙ f) in
       record { answer = a ∙ sym (ap writeResult y); buffer = b ∙ sym (ap (λ (x : Answer Bytes). bufferAfter x entry) y) }
 
-  pub check-refused : {r : PlanChecked} {j k : ℕ} (rec : Bytes) (room : ℕ) → r ≡ planChecked (check (fieldsOf (L .columns)) (fieldsOf (Q .columns)) ss) → r ≡ PlanChecked.Refused j k
+  pub check-refused : {r : PlanChecked} {j k : ℕ} (rec : Bytes) (room : ℕ) → r ≡ planChecked (checkMarked (L .columns) (Q .columns) ss) → r ≡ PlanChecked.Refused j k
       → checkedRun (L .columns) (Q .columns) ss rec room ≡ refusedAt j k
   unfolding answered
-  check-refused {j = j} {k} rec room h f = go (check (fieldsOf (L .columns)) (fieldsOf (Q .columns)) ss) (sym h ∙ f)
+  check-refused {j = j} {k} rec room h f = go (checkMarked (L .columns) (Q .columns) ss) (sym h ∙ f)
     where
       refused-eq : {a b : ℕ} → PlanChecked.Refused a b ≡ PlanChecked.Refused j k → _≡_ {A = Answer Bytes} (refusedAt a b) (refusedAt j k)
       refused-eq e = cc

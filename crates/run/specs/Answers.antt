@@ -15,6 +15,7 @@ use Rattle.plan.specs.Result.{Answer, accepted, refusedAt, answered}
 use Rattle.plan.specs.Selector.{Selectors}
 use Rattle.plan.specs.Read.{longestPlan}
 use Rattle.plan.specs.Check.{check}
+use Rattle.plan.specs.Marks.{checkMarked}
 use Rattle.plan.specs.Run.{evals, cleanAll, run}
 use Rattle.plan.specs.Calls.{readAt, bufferAfter}
 use Rattle.plan.specs.declared.answer.WriteResult.{WriteResult}
@@ -34,7 +35,7 @@ recordRun Γ ss rec room = readAt 0 (recordMarked requiredOf Γ rec) (λ ρ. run
 
 -- the check before them
 abbrev pub checkedRun : Columns → Columns → Selectors → Bytes → ℕ → Answer Bytes
-checkedRun Γ Δ ss rec room = answered (check (fieldsOf Γ) (fieldsOf Δ) ss) (λ x. recordRun Γ ss rec room)
+checkedRun Γ Δ ss rec room = answered (checkMarked Γ Δ ss) (λ x. recordRun Γ ss rec room)
 
 -- a plan that passed the check between two layouts, where all three stand
 pub record PassedAt (incoming : Bytes) (v : Edition) (n : ℕ) (plan : Bytes) (count : ℕ) (target : Bytes) (vt : Edition) (m : ℕ) : Type 0 where

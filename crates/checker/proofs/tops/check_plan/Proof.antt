@@ -16,11 +16,35 @@ check-plan-spec =
     (λ c. search needs)
     (λ c κs. search needs)
     (λ c. search needs)
-    (λ c κs. let L = layout-at (now (c .before .before .before .before .before .before .before .before .before .before .before .before .before .before .before .args .incoming)) (c .before .before .before .before .before .before .before .before .before .before .before .read-layout .ensures) (c .before .before .before .before .before .before .before .before .before .v .given .1) .0 in let M = layout-at (now (c .before .before .before .before .before .before .before .before .before .before .before .before .before .before .before .args .target)) (c .before .before .before .before .before .before .before .read-layout2 .ensures) (c .before .before .before .before .before .vt .given .1) .0 in let P = plan-at (now (c .before .before .before .before .before .before .before .before .before .before .before .before .before .before .before .args .plan)) (λ i. c .before .before .before .before .before .before .before .before .before .before .before .before .shared-slice-known3 .given i .fits) (c .before .before .before .read-plan .ensures) (c .before .count .given .1) in ((_, _, plan-tops L P), M .columns))
+    (λ c κs.
+    let b = c .before .before .before .before .before .before .before .before .before in
+    let a = b .before .before .before .before .before .before .args in
+    let L = layout-at (now (a .incoming)) (b .before .before .read-layout .ensures) (b .v .given .1) .0 in
+    let M = layout-at (now (a .target)) (c .before .before .before .before .before .before .before .read-layout2 .ensures) (c .before .before .before .before .before .vt .given .1) .0 in
+    let P = plan-at (now (a .plan)) (λ i. b .before .before .before .shared-slice-known3 .given i .fits) (c .before .before .before .read-plan .ensures) (c .before .count .given .1) in
+    ((L .columns, _, plan-tops L P), M .columns))
     (λ c. search needs)
     (λ c. search needs)
     (λ c. search needs)
-    (λ c. let L = layout-at (now (c .before .before .before .before .before .before .before .before .before .before .before .before .before .before .before .before .args .incoming)) (c .before .before .before .before .before .before .before .before .before .before .before .before .read-layout .ensures) (c .before .before .before .before .before .before .before .before .before .before .v .given .1) .0 in let M = layout-at (now (c .before .before .before .before .before .before .before .before .before .before .before .before .before .before .before .before .args .target)) (c .before .before .before .before .before .before .before .before .read-layout2 .ensures) (c .before .before .before .before .before .before .vt .given .1) .0 in let P = plan-at (now (c .before .before .before .before .before .before .before .before .before .before .before .before .before .before .before .before .args .plan)) (λ i. c .before .before .before .before .before .before .before .before .before .before .before .before .before .shared-slice-known3 .given i .fits) (c .before .before .before .before .read-plan .ensures) (c .before .before .count .given .1) in all-read _ _ _ L M P (c .check-read .ensures _ _ (M .columns) (plan-tops L P)))
-    (λ c. let L = layout-at (now (c .before .before .before .before .before .before .before .before .before .before .before .before .before .before .before .args .incoming)) (c .before .before .before .before .before .before .before .before .before .before .before .read-layout .ensures) (c .before .before .before .before .before .before .before .before .before .v .given .1) .0 in let M = layout-at (now (c .before .before .before .before .before .before .before .before .before .before .before .before .before .before .before .args .target)) (c .before .before .before .before .before .before .before .read-layout2 .ensures) (c .before .before .before .before .before .vt .given .1) .0 in refused-third _ _ _ L M (plan-refused (now (c .before .before .before .before .before .before .before .before .before .before .before .before .before .before .before .args .plan)) (c .before .before .before .read-plan .ensures) (c .before .k .given .1)))
-    (λ c. let L = layout-at (now (c .before .before .before .before .before .before .before .before .before .before .before .args .incoming)) (c .before .before .before .before .before .before .before .read-layout .ensures) (c .before .before .before .before .before .v .given .1) .0 in refused-second _ _ _ L (layout-refused (now (c .before .before .before .before .before .before .before .before .before .before .before .args .target)) (c .before .before .before .read-layout2 .ensures) (c .before .k2 .given .1)))
-    (λ c. refused-first _ _ _ (layout-refused (now (c .before .before .before .before .before .before .before .args .incoming)) (c .before .before .before .read-layout .ensures) (c .before .k3 .given .1))))
+    (λ c.
+    let d = c .before in
+    let b = d .before .before .before .before .before .before .before .before .before in
+    let a = b .before .before .before .before .before .before .args in
+    let L = layout-at (now (a .incoming)) (b .before .before .read-layout .ensures) (b .v .given .1) .0 in
+    let M = layout-at (now (a .target)) (d .before .before .before .before .before .before .before .read-layout2 .ensures) (d .before .before .before .before .before .vt .given .1) .0 in
+    let P = plan-at (now (a .plan)) (λ i. b .before .before .before .shared-slice-known3 .given i .fits) (d .before .before .before .read-plan .ensures) (d .before .count .given .1) in
+    all-read _ _ _ L M P (c .check-read .ensures (L .columns) _ (M .columns) (plan-tops L P)))
+    (λ c.
+    let b = c .before .before .before .before .before .before .before .before .before in
+    let a = b .before .before .before .before .before .before .args in
+    let L = layout-at (now (a .incoming)) (b .before .before .read-layout .ensures) (b .v .given .1) .0 in
+    let M = layout-at (now (a .target)) (c .before .before .before .before .before .before .before .read-layout2 .ensures) (c .before .before .before .before .before .vt .given .1) .0 in
+    refused-third _ _ _ L M (plan-refused (now (a .plan)) (c .before .before .before .read-plan .ensures) (c .before .k .given .1)))
+    (λ c.
+    let b = c .before .before .before .before .before in
+    let a = b .before .before .before .before .before .before .args in
+    let L = layout-at (now (a .incoming)) (b .before .before .read-layout .ensures) (b .v .given .1) .0 in
+    refused-second _ _ _ L (layout-refused (now (a .target)) (c .before .before .before .read-layout2 .ensures) (c .before .k2 .given .1)))
+    (λ c.
+    let a = c .before .before .before .before .before .before .before .args in
+    refused-first _ _ _ (layout-refused (now (a .incoming)) (c .before .before .before .read-layout .ensures) (c .before .k3 .given .1))))
