@@ -78,7 +78,8 @@ module _ (p : Policy) (incoming target : Bytes) (space : ℕ) where
   pub by-name-raises : {k : ℕ} → ExtraColumn ByName p incoming target k → buildByName p incoming target space ≡ refusedAt 53 k
   unfolding buildByName bothLayouts ofEdition readAt placed demand answered
   by-name-raises E =
-      let (I, T) = (E .incomingRead, E .targetRead) in
+      let I = E .incomingRead in
+      let T = E .targetRead in
       rw (I .reads, T .reads, I .taken, T .taken, build-raised ByName p noDefaults (E .from) (E .to) (E .raises) (E .first))
 
   pub name-ignoring : p .«extra_columns» ≡ Ignore
@@ -109,7 +110,8 @@ module _ (p : Policy) (index owner : ℕ) (incoming target defaults : Bytes) (sp
   unfolding buildByNumber bothLayouts ofEdition readAt placed demand answered
   by-number-raises N =
       let E = N .column in
-      let (I, T) = (E .incomingRead, E .targetRead) in
+      let I = E .incomingRead in
+      let T = E .targetRead in
       rw (I .reads, T .reads, I .taken, T .taken, N .reads, build-raised ByNumber p (getDefaultValue (entriesOf owner (N .tree .entries)) index) (E .from) (E .to) (E .raises) (E .first))
 
   pub number-ignoring : p .«extra_columns» ≡ Ignore
