@@ -151,7 +151,8 @@ by-name-past p incoming target space e =
 pub by-name-back : (p : Policy) (incoming target : Bytes) (space : ℕ) → PlanTooLong ByName p noDefaults incoming target space → buildByName p incoming target space ≡ refusedAt 27 0
 unfolding buildByName bothLayouts ofEdition readAt placed demand answered
 by-name-back p incoming target space L =
-    let (I, T) = (L .defined .incomingRead, L .defined .targetRead) in
+    let I = L .defined .incomingRead in
+    let T = L .defined .targetRead in
     rw (I .reads, T .reads, I .taken, T .taken, L .defined .built, written-exceeds space (L .defined .selectors) (L .long))
 
 pub by-number-past : (p : Policy) (index owner : ℕ) (incoming target defaults : Bytes) (space : ℕ)
@@ -168,5 +169,6 @@ pub by-number-back : (p : Policy) (index owner : ℕ) (incoming target defaults 
 unfolding buildByNumber bothLayouts ofEdition readAt placed demand answered
 by-number-back p index owner incoming target defaults space N =
     let L = N .plan in
-    let (I, T) = (L .defined .incomingRead, L .defined .targetRead) in
+    let I = L .defined .incomingRead in
+    let T = L .defined .targetRead in
     rw (I .reads, T .reads, I .taken, T .taken, N .reads, L .defined .built, written-exceeds space (L .defined .selectors) (L .long))

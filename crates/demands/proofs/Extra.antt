@@ -78,7 +78,8 @@ module _ (p : Policy) (incoming target : Bytes) (space : ℕ) where
   pub by-name-raises : {k : ℕ} → ExtraColumn ByName p incoming target k → buildByName p incoming target space ≡ refusedAt 53 k
   unfolding buildByName bothLayouts ofEdition readAt placed demand answered
   by-name-raises E =
-      let (I, T) = (E .incomingRead, E .targetRead) in
+      let I = E .incomingRead in
+      let T = E .targetRead in
       rw (I .reads, T .reads, I .taken, T .taken, build-raised ByName p noDefaults (E .from) (E .to) (E .raises) (E .first))
 
   pub name-ignoring : p .«extra_columns» ≡ Ignore
@@ -97,7 +98,7 @@ module _ (p : Policy) (index owner : ℕ) (incoming target defaults : Bytes) (sp
       let (a, b, q, r, e) = layouts-past ByNumber incoming target _ refl (λ h. omega (arith, h)) e in
       let (x, j, t, e) = table-past defaults _ refl e in
       let es = entriesOf owner (x .entries) in
-      let (s, f) = raised ByNumber p space (getDefaultValue es index) (lookup-in es index) a b e in
+      let (s, f) = raised ByNumber p space (getDefaultValue es index) (lookup-in es index) a b (named-unmarked ByNumber r) e in
       record {
         tree = x;
         end = j;
@@ -109,7 +110,9 @@ module _ (p : Policy) (index owner : ℕ) (incoming target defaults : Bytes) (sp
   unfolding buildByNumber bothLayouts ofEdition readAt placed demand answered
   by-number-raises N =
       let E = N .column in
-      rw (E .incomingRead, E .targetRead, N .reads, build-raised ByNumber p (getDefaultValue (entriesOf owner (N .tree .entries)) index) (E .from) (E .to) (E .raises) (E .first))
+      let I = E .incomingRead in
+      let T = E .targetRead in
+      rw (I .reads, T .reads, I .taken, T .taken, N .reads, build-raised ByNumber p (getDefaultValue (entriesOf owner (N .tree .entries)) index) (E .from) (E .to) (E .raises) (E .first))
 
   pub number-ignoring : p .«extra_columns» ≡ Ignore
       → buildByNumber p index owner incoming target defaults space
