@@ -8,8 +8,8 @@
 # The cases of base.jsonl are taken over, of L01.jsonl those that only decimals can ask, of L02.jsonl those whose answers the spellings
 # of UTC changed and of L03.jsonl those of extra top columns, which stand first there. In base.jsonl no decimal stands; in its policy
 # words bit 14, which is theirs now, is on or off, and changes no answer. In the files before L03.jsonl bit 15, which refuses extra top
-# columns now where it is off, had no meaning: it is turned on.
-# Of L07.jsonl those are taken whose layouts are of version 2, for the others ask what the library does not know yet.
+# columns now where it is off, had no meaning: it is turned on. In the files before L05.jsonl a layout of version 3 was none (1), and
+# in those before L07.jsonl a table of version 2: such cases are left out.
 # Layouts at the edges of the rules of documents 01 and 02 are added, whose answers come from the reader below, and builds of
 # the original source (compare/rust/sample.txt). The reader is written from these documents and shares nothing with the library; where it
 # disagrees with an answer of VECTORS, nothing is written and the exit status is 1. Which plans one pass is to settle (docs/ARCHITECTURE.md)
@@ -28,6 +28,7 @@ TAKEN = [
     ("L01.jsonl", 251, "its answers where decimals stand"),
     ("L02.jsonl", 23, "its answers where zones count as UTC"),
     ("L03.jsonl", 56, "its answers where columns are extra"),
+    ("L05.jsonl", None, "its answers where fields are required"),
     ("L07.jsonl", None, "its answers where tables have owners"),
 ]
 # The lines of these files whose answers a later request changed: L2 the one, a build from the zone Etc/UTC to Z that was 21.
@@ -35,6 +36,9 @@ CHANGED = {("base.jsonl", 140)}
 # The files whose policy words have no bit for extra top columns.
 BEFORE_EXTRA_COLUMNS = ("base.jsonl", "L01.jsonl", "L02.jsonl")
 EXTRA_COLUMNS = 1 << 15
+# The files that were made before a layout could be of version 3, and before a table could be of version 2.
+BEFORE_MARKS = ("base.jsonl", "L01.jsonl", "L02.jsonl", "L03.jsonl")
+BEFORE_OWNERS = BEFORE_MARKS + ("L05.jsonl",)
 SAMPLE = os.path.join(ROOT, "compare", "rust", "sample.txt")
 
 HEAD = """\
@@ -84,9 +88,9 @@ class Reader:
         names, ids = set(), set()
         for _ in range(count):
             name = self.text()
-            ident = self.number(4) if self.version == 2 else None
+            ident = self.ident()
             self.type(depth)
-            if self.version == 2:
+            if self.version >= 2:
                 if ident in ids:
                     raise Refused(5)
                 ids.add(ident)
@@ -94,6 +98,13 @@ class Reader:
                 if name in names:
                     raise Refused(5)
                 names.add(name)
+
+    # An id, in version 3 with the mark after it.
+    def ident(self):
+        ident = self.number(4) if self.version >= 2 else None
+        if self.version >= 3 and self.number(1) > 1:
+            raise Refused(3)
+        return ident
 
     def type(self, depth):
         if depth > 16:
@@ -114,9 +125,9 @@ class Reader:
         elif code in (19, 20):
             if code == 20:
                 self.number(4)
-            if self.version == 2:
+            if self.version >= 2:
                 self.text()
-                self.number(4)
+                self.ident()
             self.type(depth + 1)
 
 
@@ -124,7 +135,7 @@ class Reader:
 def read(data):
     if len(data) > 16384:
         return 4
-    if data[:5] not in (b"LAY\x01\x00", b"LAY\x02\x00"):
+    if data[:5] not in (b"LAY\x01\x00", b"LAY\x02\x00", b"LAY\x03\x00"):
         return 1
     reader = Reader(data, data[3])
     try:
@@ -531,19 +542,22 @@ def other(case, on):
     return " ".join(words)
 
 
-# Whether a case with an owner asks what the library knows: layouts of version 2 alone.
-def known(given):
-    layouts = [given.get(name, "")[6:10] for name in ("incoming", "target")]
-    return "owner" not in given or layouts == ["0200", "0200"]
+# Whether a case's answer changed when layouts of version 3 or tables of version 2 became known.
+def outdated(file, given):
+    layouts = [given.get(name, "") for name in ("layout", "incoming", "target")]
+    marks = any(layout.startswith("4c41590300") for layout in layouts)
+    owners = given.get("defaults", "").startswith("4445460200")
+    return file in BEFORE_MARKS and marks or file in BEFORE_OWNERS and owners
 
 
 # The cases of a file as lines, of the first so many alone where a number is given.
 def taken(path, most=None):
     lines = []
-    on = EXTRA_COLUMNS if os.path.basename(path) in BEFORE_EXTRA_COLUMNS else 0
+    file = os.path.basename(path)
+    on = EXTRA_COLUMNS if file in BEFORE_EXTRA_COLUMNS else 0
     for number, text in enumerate(itertools.islice(open(path), most), 1):
         case = json.loads(text)
-        if case["op"] not in CALLS or not known(case["in"]) or (os.path.basename(path), number) in CHANGED:
+        if case["op"] not in CALLS or outdated(file, case["in"]) or (file, number) in CHANGED:
             continue
         if case["op"] != "layout":
             lines.append(other(case, on))
