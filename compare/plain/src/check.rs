@@ -215,17 +215,17 @@ fn mapped<'a>(inner: &DataType<'a>, element: &'a Selector<'a>) -> Result<DataTyp
 
 /// What the top selectors give: 31 or 32 with the selector's number.
 fn fields<'a>(
-    incoming: &'a Layout,
+    incoming: &'a [Column],
     plan: &'a [Selector<'a>],
 ) -> Result<Vec<Field<'a>>, (Fault, usize)> {
-    let scope: Vec<Field> = incoming.columns.iter().map(Field::of).collect();
+    let scope: Vec<Field> = incoming.iter().map(Field::of).collect();
     let one = |(place, selector)| field(&scope, selector).map_err(|number| (number, place));
     plan.iter().enumerate().map(one).collect()
 }
 
 /// 31 and 32, then 33, then 55.
 pub fn check(incoming: &Layout, target: &Layout, plan: &[Selector]) -> Result<(), (Fault, usize)> {
-    if !are(&fields(incoming, plan)?, &target.columns) {
+    if !are(&fields(&incoming.columns, plan)?, &target.columns) {
         return Err((33, 0));
     }
     match nullness::meets(&incoming.columns, &target.columns, plan) {
@@ -235,6 +235,6 @@ pub fn check(incoming: &Layout, target: &Layout, plan: &[Selector]) -> Result<()
 }
 
 /// The columns that a plan leads to, without ids and marks.
-pub fn columns(incoming: &Layout, plan: &[Selector]) -> Result<Vec<Column>, (Fault, usize)> {
+pub fn columns(incoming: &[Column], plan: &[Selector]) -> Result<Vec<Column>, (Fault, usize)> {
     Ok(fields(incoming, plan)?.iter().map(Field::column).collect())
 }

@@ -11,7 +11,7 @@ pub mod due;
 pub mod form;
 pub mod generate;
 pub mod hex;
-mod nullness;
+pub mod nullness;
 pub mod number;
 pub mod policy;
 pub mod random;

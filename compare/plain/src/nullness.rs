@@ -145,6 +145,29 @@ fn has_required(columns: &[Column]) -> bool {
     })
 }
 
+/// Marks each place of the columns that a plan gives where it may be required; the others become optional.
+pub fn mark(incoming: &[Column], plan: &[Selector], target: &mut [Column]) {
+    let scope = Some(incoming.iter().map(Nullness::of).collect());
+    for (selector, column) in plan.iter().zip(target) {
+        mark_column(Some(&nullness(&scope, selector)), column);
+    }
+}
+
+fn mark_column(given: Option<&Nullness>, column: &mut Column) {
+    column.required = given.is_none_or(|given| given.mark != Mark::Optional);
+    let inside = given.and_then(|given| given.inside.as_ref());
+    let part = |at: usize| inside.map(|inside| &inside[at]);
+    match &mut column.type_ {
+        Type::Leaf(_) => (),
+        Type::Struct(columns) => {
+            for (at, column) in columns.iter_mut().enumerate() {
+                mark_column(part(at), column);
+            }
+        }
+        Type::List(element) | Type::Array(_, element) => mark_column(part(0), element),
+    }
+}
+
 /// Whether no optional field meets a required one.
 pub fn meets(incoming: &[Column], target: &[Column], plan: &[Selector]) -> bool {
     if !has_required(target) {
