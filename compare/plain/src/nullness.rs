@@ -132,7 +132,8 @@ fn nullness(scope: &Inside, selector: &Selector) -> Nullness {
     }
 }
 
-fn has_required(columns: &[Column]) -> bool {
+/// Whether a mark stands anywhere in the columns.
+pub fn has_required(columns: &[Column]) -> bool {
     columns.iter().any(|column| {
         column.required
             || match &column.type_ {
@@ -145,7 +146,7 @@ fn has_required(columns: &[Column]) -> bool {
     })
 }
 
-/// Marks each place of the columns that a plan gives where it may be required; the others become optional.
+/// Marks each place of the columns that a plan gives where it may be required, and so each that it does not give; the others become optional.
 pub fn mark(incoming: &[Column], plan: &[Selector], target: &mut [Column]) {
     let scope = Some(incoming.iter().map(Nullness::of).collect());
     for (selector, column) in plan.iter().zip(target) {
@@ -156,7 +157,7 @@ pub fn mark(incoming: &[Column], plan: &[Selector], target: &mut [Column]) {
 fn mark_column(given: Option<&Nullness>, column: &mut Column) {
     column.required = given.is_none_or(|given| given.mark != Mark::Optional);
     let inside = given.and_then(|given| given.inside.as_ref());
-    let part = |at: usize| inside.map(|inside| &inside[at]);
+    let part = |at: usize| inside.and_then(|inside| inside.get(at));
     match &mut column.type_ {
         Type::Leaf(_) => (),
         Type::Struct(columns) => {
