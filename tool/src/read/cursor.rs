@@ -46,6 +46,7 @@ pub enum Cause {
     DecimalLimits,
     ValueByte,
     DecimalTooLarge,
+    Null,
 }
 
 impl Cause {
@@ -57,6 +58,7 @@ impl Cause {
             (File::Record, Cause::End) => 40,
             (File::Record, Cause::Left) => 42,
             (File::Record, Cause::DecimalTooLarge) => 52,
+            (File::Record, Cause::Null) => 56,
             (File::Record, _) => 41,
             (_, Cause::Mark) => 1,
             (_, Cause::End) => 2,
@@ -64,9 +66,7 @@ impl Cause {
             (_, Cause::Repeated) => 5,
             (_, Cause::Left) => 6,
             (File::Layout, Cause::DecimalLimits) => 50,
-            (_, Cause::Code | Cause::DecimalLimits | Cause::ValueByte | Cause::DecimalTooLarge) => {
-                3
-            }
+            _ => 3,
         }
     }
 }
