@@ -120,8 +120,7 @@ extern "C" {
 #define SELECTOR_EXTRA_COLUMN 53 /* an incoming column has no counterpart, and extra columns are not ignored */
 
 /* Refusals of required fields: 54 of a build, 55 of a build and a check, 56 of a run's record. */
-#define SELECTOR_MISSING_REQUIRED 54     /* a required field that is missing, or that stands in the default put in for
-                                            a missing one, would be null */
+#define SELECTOR_MISSING_REQUIRED 54     /* a required field would be filled with null */
 #define SELECTOR_OPTIONAL_TO_REQUIRED 55 /* an optional field meets a required one */
 #define SELECTOR_RECORD_NULL 56          /* null in a required field of the record */
 

@@ -117,8 +117,7 @@ reasons! {
     28 DefaultType Column "the default taken has a type unlike the field's";
     51 DecimalWidening None "a cast to a decimal of larger precision is not allowed";
     53 ExtraColumn Incoming "an incoming column has no counterpart, and extra columns are not ignored";
-    54 MissingRequired None "a required field that is missing, or that stands in the default put in for a missing one, \
-        would be null";
+    54 MissingRequired None "a required field would be filled with null";
     55 OptionalToRequired None "an optional field meets a required one";
     30 MalformedPlan None "malformed plan";
     31 NoSuchPosition Selector "a selector takes a position that is not there";

@@ -105,9 +105,7 @@ fn put_requested(number: u8) {
         51 => put(b"a cast to a decimal of larger precision is not allowed"),
         52 => put(b"a decimal of the record has more digits than its precision"),
         53 => put(b"an incoming column has no counterpart, and extra columns are not ignored"),
-        54 => put(
-            b"a required field that is missing, or that stands in the default put in for a missing one, would be null",
-        ),
+        54 => put(b"a required field would be filled with null"),
         55 => put(b"an optional field meets a required one"),
         56 => put(b"null in a required field of the record"),
         _ => put_unknown(),
