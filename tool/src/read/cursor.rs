@@ -1,6 +1,7 @@
 //! A place in bytes, and the path to what is read there.
 
 use crate::text::name_text;
+use crate::wrap::listed;
 use std::fmt::Write;
 
 /// What is read; the same fault has another number in each.
@@ -173,11 +174,10 @@ impl<'a> Cursor<'a> {
         };
         if !versions.contains(&version) {
             let to = self.bytes.len().min(5);
-            let known: Vec<String> = versions.iter().map(u16::to_string).collect();
             let expected = format!(
                 "the mark {} and version {}",
                 String::from_utf8_lossy(mark),
-                known.join(" or ")
+                listed(versions, "or")
             );
             return Err(self.fault_at(Cause::Mark, 0, to, expected));
         }
