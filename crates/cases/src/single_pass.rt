@@ -14,12 +14,12 @@ use values::record::read_record;
 pub fn checks(incoming: &[u8], target: &[u8], plan: &[u8]) -> bool {
     match read_layout(incoming) {
         LayoutRead::Read {
-            version: v,
+            edition: v,
             count: n,
             columns: _,
         } => match read_layout(target) {
             LayoutRead::Read {
-                version: vt,
+                edition: vt,
                 count: m,
                 columns: _,
             } => match read_plan(plan) {
@@ -37,7 +37,7 @@ pub fn writes(incoming: &[u8], plan: &[u8], rec: &[u8], output: &mut [u8]) -> bo
     let none: [u16; 1] = [0; 1];
     match read_layout(incoming) {
         LayoutRead::Read {
-            version: v,
+            edition: v,
             count: n,
             columns: _,
         } => match read_plan(plan) {

@@ -14,7 +14,7 @@ use Rattle.layout.specs.declared.columns.Label.{Label as LabelSpan}
 use Rattle.layout.specs.declared.columns.Labelled.{Labelled}
 use Rattle.layout.specs.declared.columns.Siblings.the-variants.{Free}
 use Rattle.layout.specs.declared.cursor.Cursor.{Cursor}
-use Rattle.layout.specs.declared.version.Version.{Version}
+use Rattle.layout.specs.declared.edition.Edition.{Edition}
 use borrow.Author.Tests.{eq-eqb}
 use Rattle.layout.proofs.Ways.{clash}
 use Rattle.layout.proofs.View.{same-columns, label-got, no-column}
@@ -72,7 +72,7 @@ differ t u e f = go (sameDtype t u) refl
     go false p = refl
 
 -- a type in bytes
-pub raw-ends : {v : Version} {s : Bytes} {at : ℕ} {t : DataType} (T : TypeIs v s at t) {w : Version} {d : ℕ} {b : Bytes} {bt : ℕ} (Q : TypeAt w d b bt) {x : Same} {r : Ends}
+pub raw-ends : {v : Edition} {s : Bytes} {at : ℕ} {t : DataType} (T : TypeIs v s at t) {w : Edition} {d : ℕ} {b : Bytes} {bt : ℕ} (Q : TypeAt w d b bt) {x : Same} {r : Ends}
     → x ≡ sameOf (sameDtype (dtypeOf (T .type .tree)) (dtypeOf (Q .tree))) (T .type .end) (Q .end) → r ≡ endsFrom x → r ≡ endsOf (sameDtype t (dtypeOf (Q .tree))) (Q .end)
 raw-ends T Q e f = f ∙ ap endsFrom e ∙ ends-from _ _ _ ∙ ap (λ (u : DataType). endsOf (sameDtype u (dtypeOf (Q .tree))) (Q .end)) (T .is)
 
@@ -94,7 +94,7 @@ code-same (anArray x) aList a b f = absurd (omega arith)
 code-same (anArray x) (anArray w) a b f = ap anArray b
 
 module _ {incoming plan : Bytes} {t : DataType} {h : TypeHead} (H : TypeHeadIs incoming plan t h) {a b : HeadCode} (x : (i p : Bytes) → a ≡ codeOf (headKind i p h))
-    {v : Version} {d : ℕ} {s : Bytes} {at : ℕ} (Q : TypeAt v d s at) (y : (w : Version) (e : ℕ) (R : TypeAt w e s at) → b ≡ codeOf (headOf (dtypeOf (R .tree)))) where
+    {v : Edition} {d : ℕ} {s : Bytes} {at : ℕ} (Q : TypeAt v d s at) (y : (w : Edition) (e : ℕ) (R : TypeAt w e s at) → b ≡ codeOf (headOf (dtypeOf (R .tree)))) where
   left-code : a ≡ codeOf (headOf t)
   left-code = x incoming plan ∙ ap codeOf (H .kind)
 
@@ -128,7 +128,7 @@ module _ {incoming plan : Bytes} {t : DataType} {h : TypeHead} (H : TypeHeadIs i
     pub array-there : {w : ℕ} → h ≡ TypeHead.Array w → ArrayIs v d s at Q w (g .at)
     array-there i = array-known Q (head-there (sym (H .kind) ∙ ap (headKind incoming plan) i) (omega arith))
 
-    module _ {m : Version} {n : ℕ} {q : Resolved} (R : ResolvedAt incoming m n plan q t) {r : Ends} where
+    module _ {m : Edition} {n : ℕ} {q : Resolved} (R : ResolvedAt incoming m n plan q t) {r : Ends} where
       pub structs-same : {k : ℕ} → q .source ≡ Source.Mapped → (i : h ≡ TypeHead.Struct k)
           → ((fs : Fields) (C : ColumnsAt v (d - 1) s k (g .at)) → MappedAt incoming m n plan (q .walk) (struct fs) → countFields fs ≡ k
           → r ≡ endsOf (sameFields fs (fieldsOf (C .columns))) (C .end))
@@ -169,10 +169,10 @@ module _ {incoming plan : Bytes} {t : DataType} {h : TypeHead} (H : TypeHeadIs i
 
 -- ---- same_field
 
-name-of : {v : Version} {d : ℕ} {s : Bytes} {at : ℕ} (E : ColumnAt v d s at) {q : Labelled} {l : LabelSpan} {c : Cursor} → labelRes s q ≡ label v s at → q ≡ Labelled.Is l c → E .label .name ≡ spanAt s (l .name)
+name-of : {v : Edition} {d : ℕ} {s : Bytes} {at : ℕ} (E : ColumnAt v d s at) {q : Labelled} {l : LabelSpan} {c : Cursor} → labelRes s q ≡ label v s at → q ≡ Labelled.Is l c → E .label .name ≡ spanAt s (l .name)
 name-of {s = s} E e f = ap (λ (x : Label). x .name) (ok-eq (sym (E .labelled) ∙ label-got s e f) .0)
 
-module _ {v : Version} {d : ℕ} {s : Bytes} {at : ℕ} (E : ColumnAt v d s at) {q : Labelled} {l : LabelSpan} {c : Cursor} (e : labelRes s q ≡ label v s at) (f : q ≡ Labelled.Is l c) (a : Column)
+module _ {v : Edition} {d : ℕ} {s : Bytes} {at : ℕ} (E : ColumnAt v d s at) {q : Labelled} {l : LabelSpan} {c : Cursor} (e : labelRes s q ≡ label v s at) (f : q ≡ Labelled.Is l c) (a : Column)
     {b : Bool} (g : b ≡ sameBytes (a .name) (spanAt s (l .name))) where
   so : sameBytes (a .name) (E .label .name) ≡ b
   so = ap (λ (n : Bytes). sameBytes (a .name) n) (name-of E e f) ∙ sym g
@@ -187,11 +187,11 @@ module _ {v : Version} {d : ℕ} {s : Bytes} {at : ℕ} (E : ColumnAt v d s at) 
 
 -- ---- same_fields
 
-abbrev pub columns-as : {v : Version} {d : ℕ} {s : Bytes} {n m at to : ℕ} → n ≡ m → at ≡ to → ColumnsAt v d s n at → ColumnsAt v d s m to
+abbrev pub columns-as : {v : Edition} {d : ℕ} {s : Bytes} {n m at to : ℕ} → n ≡ m → at ≡ to → ColumnsAt v d s n at → ColumnsAt v d s m to
 columns-as {v} {d} {s} {n} {m} {at} {to} e g P =
     record { columns = P .columns; end = P .end; reads = sym (ap (λ (k : ℕ). columnsOf v Free (type v Free d) k [] s at) e ∙ ap (λ (o : ℕ). columnsOf v Free (type v Free d) m [] s o) g) ∙ P .reads }
 
-pub record Matching (incoming : Bytes) (v : Version) (n : ℕ) (plan : Bytes) (w : Walk) (count : ℕ) (target : Bytes) (vt : Version)
+pub record Matching (incoming : Bytes) (v : Edition) (n : ℕ) (plan : Bytes) (w : Walk) (count : ℕ) (target : Bytes) (vt : Edition)
     (depth base from at k : ℕ) : Type 0 where
   pub some : Fields
   pub start : MappedAt incoming v n plan w (struct some)
@@ -202,7 +202,7 @@ pub record Matching (incoming : Bytes) (v : Version) (n : ℕ) (plan : Bytes) (w
   pub keeps : (fs : Fields) (Q : ColumnsAt vt depth target count base) → MappedAt incoming v n plan w (struct fs) → countFields fs ≡ count
       → endsOf (sameFields fs (fieldsOf (Q .columns))) (Q .end) ≡ endsOf (sameFields (dropFields k fs) (fieldsOf (rest .columns))) (rest .end)
 
-module _ {incoming : Bytes} {v : Version} {n : ℕ} {plan : Bytes} {w : Walk} {count : ℕ} {target : Bytes} {vt : Version} {depth base : ℕ} where
+module _ {incoming : Bytes} {v : Edition} {n : ℕ} {plan : Bytes} {w : Walk} {count : ℕ} {target : Bytes} {vt : Edition} {depth base : ℕ} where
   pub matching-start : {fs : Fields} → MappedAt incoming v n plan w (struct fs) → countFields fs ≡ count → ColumnsAt vt depth target count base → {from : ℕ}
       → PassedTo plan (w .at) 0 from
       → Matching incoming v n plan w count target vt depth base from base 0

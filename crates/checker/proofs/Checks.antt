@@ -11,8 +11,8 @@ use Rattle.layout.specs.Layout.{Kind, aLeaf, aStruct, aList, anArray, type}
 use Rattle.layout.specs.Stands.{TypeAt, ColumnsAt}
 use Rattle.layout.specs.declared.columns.Siblings.the-variants.{Free}
 use Rattle.layout.specs.declared.cursor.Cursor.{Cursor}
-use Rattle.layout.specs.declared.version.Version.{Version}
-use Rattle.layout.specs.declared.version.Version.the-variants.{ByName}
+use Rattle.layout.specs.declared.edition.Edition.{Edition}
+use Rattle.layout.specs.declared.edition.Edition.the-variants.{One}
 use Rattle.layout.proofs.Ways.{clash}
 use Rattle.layout.proofs.Top.{columns-count}
 use Rattle.forms.specs.Form.{headOf}
@@ -72,7 +72,7 @@ passed-gives (refuses n) e = clash (cc)
 
 -- ---- a rename of what a transform gives
 
-pub renamed-transform : {incoming : Bytes} {v : Version} {n : ℕ} {plan : Bytes} {x : Walk} {a : Column} {b : Bool} → NamedAt incoming v n plan x a
+pub renamed-transform : {incoming : Bytes} {v : Edition} {n : ℕ} {plan : Bytes} {x : Walk} {a : Column} {b : Bool} → NamedAt incoming v n plan x a
     → ((P : SelectorAt plan (x .at)) → b ≡ isTransform (P .tree)) → b ≡ true → (name : Bytes) → Checked.Passed ≡ checkedOf (resulting name (a .type))
 renamed-transform {a = a} N f e name =
     let h = ap isTransform (sym (N .standing .selector)) ∙ sym (f (N .standing .here)) ∙ e in
@@ -80,7 +80,7 @@ renamed-transform {a = a} N f e name =
 
 -- ---- positions
 
-module _ {incoming : Bytes} {v : Version} {n : ℕ} {plan : Bytes} {w : Walk} {Δ : Fields} (S : ScopedAt incoming v n plan w Δ) where
+module _ {incoming : Bytes} {v : Edition} {n : ℕ} {plan : Bytes} {w : Walk} {Δ : Fields} (S : ScopedAt incoming v n plan w Δ) where
   pub scope-top : w .deep ≡ 0 → n ≡ countFields Δ
   scope-top z =
       let l = entries-count (S .standing .entries) in
@@ -106,7 +106,7 @@ parts-count (struct fs) e = sym e
 parts-count (list t) e = sym e
 parts-count (array w t) e = sym e
 
-module _ {incoming : Bytes} {v : Version} {n : ℕ} {plan : Bytes} {w : Walk} {Δ : Fields} {r : Resolved} (E : EnclosingIs incoming v n plan w Δ r) {h : TypeHead}
+module _ {incoming : Bytes} {v : Edition} {n : ℕ} {plan : Bytes} {w : Walk} {Δ : Fields} {r : Resolved} (E : EnclosingIs incoming v n plan w Δ r) {h : TypeHead}
     (H : (t : DataType) → ResolvedAt incoming v n plan r t → TypeHeadIs incoming plan t h) where
   pub scope-parts : {k : TypeHead} → h ≡ k → countOf (headKind incoming plan k) ≡ countFields Δ
   scope-parts {k} e = parts-count (E .type) (ap countOf (sym (H (E .type) (E .resolved) .kind)) ∙ ap (λ (x : TypeHead). countOf (headKind incoming plan x)) e) ∙ ap countFields (E .parts)
@@ -120,12 +120,12 @@ position-past Δ k e h = ap checkedOf (sym (column-past Δ k (omega arith)))
 -- ---- a cast's type and option, where the code finds them
 
 pub record CastType (plan : Bytes) (m : ℕ) (t : DataType) (o : CastOption) : Type 0 where
-  pub type : TypeAt ByName 16 plan m
+  pub type : TypeAt One 16 plan m
   pub option : OptionAt plan (type .end)
   pub tree : dtypeOf (type .tree) ≡ t
   pub chosen : option .option ≡ o
 
-pub cast-type : {plan : Bytes} {m at : ℕ} (T : TypeAt ByName 16 plan m) (O : OptionAt plan (T .end)) → at ≡ m → CastType plan at (dtypeOf (T .tree)) (O .option)
+pub cast-type : {plan : Bytes} {m at : ℕ} (T : TypeAt One 16 plan m) (O : OptionAt plan (T .end)) → at ≡ m → CastType plan at (dtypeOf (T .tree)) (O .option)
 cast-type {plan} T O e = subst (λ (i : ℕ). CastType plan i (dtypeOf (T .tree)) (O .option)) (sym e) (record { type = T; option = O; tree = refl; chosen = refl })
 
 module _ {plan : Bytes} {m : ℕ} {t : DataType} {o : CastOption} (K : CastType plan m t o) (a : Column) where
@@ -139,6 +139,6 @@ module _ {plan : Bytes} {m : ℕ} {t : DataType} {o : CastOption} (K : CastType 
     pub cast-passed : b ≡ true → {r : Checked} → r ≡ fittingOf (withinLimits t) → r ≡ checkedOf (checkCast t o a)
     cast-passed e h = cast-yes t o a (cast-so ∙ e) h
 
-pub plan-type : {incoming : Bytes} {v : Version} {n : ℕ} {plan : Bytes} {w : Walk} {c : Cursor} {q : Resolved} {t : DataType} {o : CastOption} → q ≡ record { source = Source.Plan; at = c; walk = w }
+pub plan-type : {incoming : Bytes} {v : Edition} {n : ℕ} {plan : Bytes} {w : Walk} {c : Cursor} {q : Resolved} {t : DataType} {o : CastOption} → q ≡ record { source = Source.Plan; at = c; walk = w }
     → CastType plan (c .at) t o → ResolvedAt incoming v n plan q t
 plan-type {incoming} {v} {n} {plan} {t = t} e K = subst (λ (r : Resolved). ResolvedAt incoming v n plan r t) (sym e) (record { stands = record { type = K .type; is = K .tree } })

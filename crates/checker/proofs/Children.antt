@@ -7,7 +7,7 @@ use Rattle.layout.specs.Bytes.{Bytes}
 use Rattle.layout.specs.Parser.{ok, next}
 use Rattle.layout.specs.Tree.{struct, Fields, countFields}
 use Rattle.layout.specs.declared.cursor.Cursor.{Cursor}
-use Rattle.layout.specs.declared.version.Version.{Version}
+use Rattle.layout.specs.declared.edition.Edition.{Edition}
 use Rattle.layout.proofs.Ways.{clash}
 use Rattle.plan.specs.Selector.{Selector, position, constant, cast, rename, structMapping, listMapping, arrayMapping, Selectors, snil, scons, countSelectors}
 use Rattle.plan.specs.Result.{gives}
@@ -106,7 +106,7 @@ ChildAt w k m x = (p : Bytes) → PartStands p (w .at) k m → (z : State) (f : 
     → StepsTo p (state s (f ∷ z .frames) []) w x
 
 -- of what makes a struct
-module _ {incoming : Bytes} {v : Version} {n : ℕ} {plan : Bytes} {w : Walk} {gs : Fields} (M : MappedAt incoming v n plan w (struct gs)) {k m : ℕ}
+module _ {incoming : Bytes} {v : Edition} {n : ℕ} {plan : Bytes} {w : Walk} {gs : Fields} (M : MappedAt incoming v n plan w (struct gs)) {k m : ℕ}
     (B : PassedTo plan (w .at) k m) (l : k < countFields gs) where
   pub made-stands : PartStands plan (w .at) k m
   made-stands = let D = made-parts (M .made) in let c = D .count in part-stands (M .standing .here) (M .standing .selector ∙ D .is) B (omega arith)
@@ -119,6 +119,6 @@ module _ {incoming : Bytes} {v : Version} {n : ℕ} {plan : Bytes} {w : Walk} {g
   made-named g N e = child-named (g plan made-stands) N e
 
 -- what `first_child` and `child_at` ask
-pub made-asks : {incoming : Bytes} {v : Version} {n : ℕ} {plan : Bytes} {w : Walk} {gs : Fields} → MappedAt incoming v n plan w (struct gs)
+pub made-asks : {incoming : Bytes} {v : Edition} {n : ℕ} {plan : Bytes} {w : Walk} {gs : Fields} → MappedAt incoming v n plan w (struct gs)
     → (w .at < 65536) × (w .deep < 64)
 made-asks M = (walk-small (M .standing), made-deep M)

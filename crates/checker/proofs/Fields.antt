@@ -15,7 +15,7 @@ use Rattle.layout.specs.declared.columns.Position.{Position}
 use Rattle.layout.specs.declared.columns.Label.{Label as LabelSpan}
 use Rattle.layout.specs.declared.cursor.Cursor.{Cursor}
 use Rattle.layout.specs.declared.find.Found.{Found}
-use Rattle.layout.specs.declared.version.Version.{Version}
+use Rattle.layout.specs.declared.edition.Edition.{Edition}
 use Rattle.layout.proofs.Ways.{clash}
 use Rattle.plan.specs.Result.{gives, refuses}
 use Rattle.plan.specs.Check.{Column, columnAt}
@@ -61,7 +61,7 @@ looked-up k (ccons l t cs) i (suc j) {c} e h =
     let R = looked-up k cs (i + 1) j (omega arith) h in
     record { label = R .label; type = R .type; is = rw (ne-eqb i (k .0) (λ q. omega arith)) (R .is); name = R .name; typed = R .typed }
 
-pub record FieldFound (v : Version) (d : ℕ) (s : Bytes) (c : Column) (r : Found) : Type 0 where
+pub record FieldFound (v : Edition) (d : ℕ) (s : Bytes) (c : Column) (r : Found) : Type 0 where
   pub position : Position
   pub label : LabelSpan
   pub start : Cursor
@@ -71,7 +71,7 @@ pub record FieldFound (v : Version) (d : ℕ) (s : Bytes) (c : Column) (r : Foun
   pub inside : spanIn s (label .name)
   pub name : spanAt s (label .name) ≡ c .name
 
-pub field-found : {v : Version} {d : ℕ} {s : Bytes} {n from : ℕ} (C : ColumnsAt v d s n from) (k : Position) {c : Column} {r : Found} → columnAt (fieldsOf (C .columns)) (k .0) ≡ gives c
+pub field-found : {v : Edition} {d : ℕ} {s : Bytes} {n from : ℕ} (C : ColumnsAt v d s n from) (k : Position) {c : Column} {r : Found} → columnAt (fieldsOf (C .columns)) (k .0) ≡ gives c
     → Finds v d s (lookupAt k (C .columns)) r → FieldFound v d s c r
 field-found {v} {d} {s} C k {c} {r} h F =
     let L = looked-up k (C .columns) 0 (k .0) (omega arith) h in
@@ -90,13 +90,13 @@ field-found {v} {d} {s} C k {c} {r} h F =
     }
 
 -- where the answer says
-pub record FieldHere (v : Version) (d : ℕ) (s : Bytes) (c : Column) (l : LabelSpan) (e : ℕ) : Type 0 where
+pub record FieldHere (v : Edition) (d : ℕ) (s : Bytes) (c : Column) (l : LabelSpan) (e : ℕ) : Type 0 where
   pub type : TypeAt v d s e
   pub typed : dtypeOf (type .tree) ≡ c .type
   pub inside : spanIn s (l .name)
   pub name : spanAt s (l .name) ≡ c .name
 
-module _ {v : Version} {d : ℕ} {s : Bytes} {c : Column} {r : Found} (F : FieldFound v d s c r) where
+module _ {v : Edition} {d : ℕ} {s : Bytes} {c : Column} {r : Found} (F : FieldFound v d s c r) where
   pub field-here : {p : Position} {l : LabelSpan} {e : Cursor} → r ≡ Found.At p l e → FieldHere v d s c l (e .at)
   field-here {p} {l} {e} q =
       let z : Found.At (F .position) (F .label) (F .start) ≡ Found.At p l e = sym (F .is) ∙ q in

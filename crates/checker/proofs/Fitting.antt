@@ -12,7 +12,7 @@ use Rattle.layout.specs.Bytes.{Bytes}
 use Rattle.layout.specs.Parser.{choose}
 use Rattle.layout.specs.Tree.{DataType, leaf, struct, list, array, Fields, fnil, fcons, countFields, dtypeOf}
 use Rattle.layout.specs.Layout.{aLeaf, aStruct, aList, anArray}
-use Rattle.layout.specs.declared.version.Version.{Version}
+use Rattle.layout.specs.declared.edition.Edition.{Edition}
 use Rattle.layout.proofs.Ways.{clash}
 use Rattle.forms.specs.Form.{u16Bytes, u32Bytes, textBytes, kindForm, form, formFields, headOf}
 use Rattle.forms.specs.Readable.{depthOf, depthOfFields}
@@ -192,7 +192,7 @@ module _ {t : DataType} {end : ℕ} {z : FormSize} (Z : SizeOf t end z) (l r : �
   raw-left h k = ap (λ (i : ℕ). Fit.Left (r - i)) (Z .size) ∙ fit-left (depthOf t) (length (form t)) l r (let e = Z .deep in omega arith) (let e = Z .size in omega arith)
 
 -- by the type's other name
-pub sized-as : {v : Version} {s : Bytes} {at : ℕ} {t : DataType} (T : TypeIs v s at t) {z : FormSize} → SizeOf (dtypeOf (T .type .tree)) (T .type .end) z → SizeOf t (T .type .end) z
+pub sized-as : {v : Edition} {s : Bytes} {at : ℕ} {t : DataType} (T : TypeIs v s at t) {z : FormSize} → SizeOf (dtypeOf (T .type .tree)) (T .type .end) z → SizeOf t (T .type .end) z
 sized-as T {z} Z = subst (λ (u : DataType). SizeOf u (T .type .end) z) (T .is) Z
 
 -- ---- within_limits
@@ -207,7 +207,7 @@ limits-are t {f} e = ap isWithin e ∙ go (leb (depthOf t) 16 && leb (length (fo
 
 -- ---- mapped_fit
 
-pub made-no-leaf : {X : Type 0} {incoming : Bytes} {v : Version} {n : ℕ} {plan : Bytes} {r : Resolved} {t : DataType} → ResolvedAt incoming v n plan r t → r .source ≡ Source.Mapped
+pub made-no-leaf : {X : Type 0} {incoming : Bytes} {v : Edition} {n : ℕ} {plan : Bytes} {r : Resolved} {t : DataType} → ResolvedAt incoming v n plan r t → r .source ≡ Source.Mapped
     → {h : TypeHead} {p : Place} {l : _} → TypeHeadIs incoming plan t h → h ≡ TypeHead.Leaf p l → X
 unfolding headOf
 made-no-leaf {incoming = incoming} {plan = plan} R e H f = go (from-mapping R e .made) (sym (H .kind) ∙ ap (headKind incoming plan) f)
@@ -265,7 +265,7 @@ module _ {incoming plan : Bytes} {t : DataType} {h : TypeHead} (H : TypeHeadIs i
   struct-short l r e k = let (fs, (q, c)) = is-struct e in fit-struct-short fs l r k ∙ ap (λ (u : DataType). typeFit u l r) (sym q)
 
   -- a mapping makes it
-  pub struct-asks : {v : Version} {m : ℕ} {q : Resolved} {n : ℕ} → ResolvedAt incoming v m plan q t → q .source ≡ Source.Mapped → h ≡ TypeHead.Struct n
+  pub struct-asks : {v : Edition} {m : ℕ} {q : Resolved} {n : ℕ} → ResolvedAt incoming v m plan q t → q .source ≡ Source.Mapped → h ≡ TypeHead.Struct n
       → (fs : Fields) × MappedAt incoming v m plan (q .walk) (struct fs) × (countFields fs ≡ n)
   struct-asks {v} {m} {q} R z e = let (fs, (p, c)) = is-struct e in (
     fs,
@@ -274,7 +274,7 @@ module _ {incoming plan : Bytes} {t : DataType} {h : TypeHead} (H : TypeHeadIs i
     c,
   )
 
-  pub struct-fits : {v : Version} {m : ℕ} {q : Resolved} {n : ℕ} {f : Fit} (l r : ℕ) → ResolvedAt incoming v m plan q t → q .source ≡ Source.Mapped
+  pub struct-fits : {v : Edition} {m : ℕ} {q : Resolved} {n : ℕ} {f : Fit} (l r : ℕ) → ResolvedAt incoming v m plan q t → q .source ≡ Source.Mapped
       → h ≡ TypeHead.Struct n → (l ≡ 0 → ⊥) → 3 ≤ r
       → ((fs : Fields) → MappedAt incoming v m plan (q .walk) (struct fs) → countFields fs ≡ n → f ≡ fieldsFit fs (l - 1) (r - 3)) → f ≡ typeFit t l r
   struct-fits {v} {m} {q} l r R y e z k g =
@@ -282,7 +282,7 @@ module _ {incoming plan : Bytes} {t : DataType} {h : TypeHead} (H : TypeHeadIs i
       g fs (subst (λ (u : DataType). MappedAt incoming v m plan (q .walk) u) p (from-mapping R y)) c ∙ fit-struct fs l r z k
       ∙ ap (λ (u : DataType). typeFit u l r) (sym p)
 
-  module _ {v : Version} {m : ℕ} {q : Resolved} (R : ResolvedAt incoming v m plan q t) where
+  module _ {v : Edition} {m : ℕ} {q : Resolved} (R : ResolvedAt incoming v m plan q t) where
     pub list-asks : h ≡ TypeHead.List → (u : DataType) × (a : Column) × ResolvedAt incoming v m plan q u × PartOf u 0 a
     list-asks e = let (u, p) = is-list e in (t, column [] u, R, subst (λ (y : DataType). PartOf y 0 (column [] u)) (sym p) (element-part u))
 
@@ -327,7 +327,7 @@ name-long {incoming} {plan} {m} {b} N =
     let i = N .inside in
     sym (length-take-le (m .span .len) (drop (m .span .start) (bytesOf incoming plan (m .place))) (let e = length-drop (m .span .start) (bytesOf incoming plan (m .place)) in omega arith)) ∙ ap length (N .is)
 
-pub record Fitting (incoming : Bytes) (v : Version) (n : ℕ) (plan : Bytes) (w : Walk) (count levels room at left k : ℕ) : Type 0 where
+pub record Fitting (incoming : Bytes) (v : Edition) (n : ℕ) (plan : Bytes) (w : Walk) (count levels room at left k : ℕ) : Type 0 where
   pub some : Fields
   pub start : MappedAt incoming v n plan w (struct some)
   pub counted : countFields some ≡ count
@@ -336,7 +336,7 @@ pub record Fitting (incoming : Bytes) (v : Version) (n : ℕ) (plan : Bytes) (w 
   pub keeps : (fs : Fields) → MappedAt incoming v n plan w (struct fs) → countFields fs ≡ count
       → fieldsFit fs levels room ≡ fieldsFit (dropFields k fs) levels left
 
-module _ {incoming : Bytes} {v : Version} {n : ℕ} {plan : Bytes} {w : Walk} {count levels room : ℕ} where
+module _ {incoming : Bytes} {v : Edition} {n : ℕ} {plan : Bytes} {w : Walk} {count levels room : ℕ} where
   pub fitting-start : {fs : Fields} {at : ℕ} → MappedAt incoming v n plan w (struct fs) → countFields fs ≡ count → PassedTo plan (w .at) 0 at
       → Fitting incoming v n plan w count levels room at room 0
   unfolding dropFields

@@ -13,7 +13,7 @@ use Rattle.layout.specs.declared.columns.Position.{Position}
 use Rattle.layout.specs.declared.cursor.Cursor.{Cursor}
 use Rattle.layout.specs.declared.types.Head.{Head}
 use Rattle.layout.specs.declared.types.LeafType.{LeafType as LeafSpan}
-use Rattle.layout.specs.declared.version.Version.{Version}
+use Rattle.layout.specs.declared.edition.Edition.{Edition}
 use Rattle.layout.proofs.Ways.{clash}
 use Rattle.layout.proofs.View.{never-headless}
 use Rattle.forms.specs.Form.{headOf}
@@ -42,7 +42,7 @@ use Rattle.checker.proofs.Outer.{behind}
 
 -- ---- a type that stands in bytes
 
-module _ {s : Bytes} {v : Version} {at : ℕ} {t : DataType} (R : TypeIs v s at t) {p : Head} (e : headRes s p ≡ kind s at) where
+module _ {s : Bytes} {v : Edition} {at : ℕ} {t : DataType} (R : TypeIs v s at t) {p : Head} (e : headRes s p ≡ kind s at) where
   -- by what the head was
   pub raw-kind : {q : Head} → p ≡ q → {k : Kind} {m : ℕ} → headRes s q ≡ ok k m → k ≡ headOf t
   raw-kind {q} i {k} {m} g =
@@ -73,7 +73,7 @@ module _ {s : Bytes} {v : Version} {at : ℕ} {t : DataType} (R : TypeIs v s at 
   pub raw-never : {X : Type 0} {n : ℕ} → p ≡ Head.Refused n → X
   raw-never f = never-headless (R .type) e f
 
-module _ {s : Bytes} {v : Version} {at w : ℕ} {t : DataType} (R : TypeIs v s at (array w t)) {p : Head} (e : headRes s p ≡ kind s at) where
+module _ {s : Bytes} {v : Edition} {at w : ℕ} {t : DataType} (R : TypeIs v s at (array w t)) {p : Head} (e : headRes s p ≡ kind s at) where
   pub width-is : {x : ℕ} {c : Cursor} → p ≡ Head.Array x c → x ≡ w
   unfolding headOf
   width-is {x} f = let z : anArray x ≡ anArray w = raw-kind R e f refl in cc
@@ -94,14 +94,14 @@ module _ {s : Bytes} {v : Version} {at w : ℕ} {t : DataType} (R : TypeIs v s a
 
 -- ---- by the source
 
-module _ {incoming : Bytes} {v : Version} {n : ℕ} {plan : Bytes} {r : Resolved} {t : DataType} (R : ResolvedAt incoming v n plan r t) where
+module _ {incoming : Bytes} {v : Edition} {n : ℕ} {plan : Bytes} {r : Resolved} {t : DataType} (R : ResolvedAt incoming v n plan r t) where
   sourced : {s : Source} → r .source ≡ s → SourceAt incoming v n plan s (r .at .at) (r .walk) t
   sourced {s} e = subst (λ (x : Source). SourceAt incoming v n plan x (r .at .at) (r .walk) t) e (R .stands)
 
   pub from-incoming : r .source ≡ Source.Incoming → TypeIs v incoming (r .at .at) t
   from-incoming e = sourced e
 
-  pub from-plan : r .source ≡ Source.Plan → TypeIs Version.ByName plan (r .at .at) t
+  pub from-plan : r .source ≡ Source.Plan → TypeIs Edition.One plan (r .at .at) t
   from-plan e = sourced e
 
   pub from-mapping : r .source ≡ Source.Mapped → MappedAt incoming v n plan (r .walk) t
@@ -109,13 +109,13 @@ module _ {incoming : Bytes} {v : Version} {n : ℕ} {plan : Bytes} {r : Resolved
 
 -- ---- the width of an array that a mapping makes
 
-pub record Widening (incoming : Bytes) (v : Version) (n : ℕ) (plan : Bytes) (w x : Walk) : Type 0 where
+pub record Widening (incoming : Bytes) (v : Edition) (n : ℕ) (plan : Bytes) (w x : Walk) : Type 0 where
   pub width : ℕ
   pub element : DataType
   pub start : MappedAt incoming v n plan x (array width element)
   pub keeps : (y : ℕ) (t : DataType) → MappedAt incoming v n plan w (array y t) → (u : DataType) × MappedAt incoming v n plan x (array y u)
 
-module _ {incoming : Bytes} {v : Version} {n : ℕ} {plan : Bytes} where
+module _ {incoming : Bytes} {v : Edition} {n : ℕ} {plan : Bytes} where
   pub mapped-before : {w : Walk} {t : DataType} → MappedAt incoming v n plan w t → w .at < w .lim
   mapped-before M = let b = behind (M .standing .here) in omega (arith, M .standing .ends)
 
@@ -153,13 +153,13 @@ module _ {incoming : Bytes} {v : Version} {n : ℕ} {plan : Bytes} where
             let (z, T) = input-array N in
             (z, h (array k z) T .resolved)
 
-        pub widening-incoming : r .source ≡ Source.Incoming → {a : ℕ} → ((v : Version) (w : ℕ) (t : DataType) → TypeIs v incoming (r .at .at) (array w t) → a ≡ w)
+        pub widening-incoming : r .source ≡ Source.Incoming → {a : ℕ} → ((v : Edition) (w : ℕ) (t : DataType) → TypeIs v incoming (r .at .at) (array w t) → a ≡ w)
             → (k : ℕ) (t : DataType) → MappedAt incoming v n plan w (array k t) → a ≡ k
         widening-incoming e f k t M = let (z, R) = at-input M in f v k z (from-incoming R e)
 
-        pub widening-plan : r .source ≡ Source.Plan → {a : ℕ} → ((v : Version) (w : ℕ) (t : DataType) → TypeIs v plan (r .at .at) (array w t) → a ≡ w)
+        pub widening-plan : r .source ≡ Source.Plan → {a : ℕ} → ((v : Edition) (w : ℕ) (t : DataType) → TypeIs v plan (r .at .at) (array w t) → a ≡ w)
             → (k : ℕ) (t : DataType) → MappedAt incoming v n plan w (array k t) → a ≡ k
-        widening-plan e f k t M = let (z, R) = at-input M in f Version.ByName k z (from-plan R e)
+        widening-plan e f k t M = let (z, R) = at-input M in f Edition.One k z (from-plan R e)
 
         pub widening-less : rank (r .walk) < rank x
         widening-less =
@@ -180,7 +180,7 @@ module _ {incoming : Bytes} {v : Version} {n : ℕ} {plan : Bytes} where
 
 -- ---- the head of what a mapping makes
 
-module _ {incoming : Bytes} {v : Version} {n : ℕ} {plan : Bytes} {w : Walk} {t : DataType} (M : MappedAt incoming v n plan w t)
+module _ {incoming : Bytes} {v : Edition} {n : ℕ} {plan : Bytes} {w : Walk} {t : DataType} (M : MappedAt incoming v n plan w t)
     {r : SelectorHead} (h : HeadIs plan (w .at) (M .standing .here) r) where
   place-is : {s : Selector} → M .standing .here .tree ≡ s → M .place .selector ≡ s
   place-is e = sym (M .standing .selector) ∙ e

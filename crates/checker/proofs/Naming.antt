@@ -17,7 +17,7 @@ use Rattle.layout.specs.declared.cursor.Cursor.{Cursor}
 use Rattle.layout.specs.declared.find.Found.{Found}
 use Rattle.layout.specs.declared.types.Head.{Head}
 use Rattle.layout.specs.declared.types.LeafType.{LeafType as LeafSpan}
-use Rattle.layout.specs.declared.version.Version.{Version}
+use Rattle.layout.specs.declared.edition.Edition.{Edition}
 use Rattle.layout.proofs.Ways.{clash}
 use Rattle.layout.proofs.View.{struct-at}
 use Rattle.forms.specs.Form.{headOf}
@@ -83,11 +83,11 @@ unnamed {incoming} {plan} {r} e f = subst (λ (b : Bytes). NameAt incoming plan 
 
 -- ---- raw_name
 
-pub record RawFields (v : Version) (s : Bytes) (t : DataType) (n m : ℕ) : Type 0 where
+pub record RawFields (v : Edition) (s : Bytes) (t : DataType) (n m : ℕ) : Type 0 where
   pub columns : ColumnsAt v 15 s n m
   pub is : t ≡ struct (fieldsOf (columns .columns))
 
-module _ {s : Bytes} {v : Version} {at : ℕ} {t : DataType} (T : TypeIs v s at t) {p : Head} (e : headRes s p ≡ kind s at) where
+module _ {s : Bytes} {v : Edition} {at : ℕ} {t : DataType} (T : TypeIs v s at t) {p : Head} (e : headRes s p ≡ kind s at) where
   pub raw-fields : {n : ℕ} {d : Cursor} → p ≡ Head.Struct n d → RawFields v s t n (d .at)
   unfolding dtypeOf
   raw-fields f = let S = struct-at (T .type) e f in record { columns = S .inner; is = sym (T .is) ∙ ap dtypeOf (S .is) }
@@ -120,7 +120,7 @@ module _ {s : Bytes} {v : Version} {at : ℕ} {t : DataType} (T : TypeIs v s at 
 
 -- ---- column_name
 
-module _ {incoming : Bytes} {v : Version} {n : ℕ} {k : Position} {a : Column} (C : ColumnOf incoming v n k a) {o : Found}
+module _ {incoming : Bytes} {v : Edition} {n : ℕ} {k : Position} {a : Column} (C : ColumnOf incoming v n k a) {o : Found}
     (g : (D : ColumnsAt v 16 incoming n 7) → Finds v 16 incoming (lookupAt k (D .columns)) o) where
   pub column-name-is : {plan : Bytes} {i : Position} {l : LabelSpan} {c : Cursor} {r : Name} → o ≡ Found.At i l c → r ≡ record { place = Place.Incoming; span = l .name } → NameAt incoming plan r (a .name)
   column-name-is {plan} {l = l} h m =
@@ -132,7 +132,7 @@ module _ {incoming : Bytes} {v : Version} {n : ℕ} {k : Position} {a : Column} 
 
 -- ---- own_name
 
-module _ {incoming : Bytes} {v : Version} {n : ℕ} {plan : Bytes} {w : Walk} {a : Column} (N : NamedAt incoming v n plan w a) {r : SelectorHead} (h : HeadIs plan (w .at) (N .standing .here) r) where
+module _ {incoming : Bytes} {v : Edition} {n : ℕ} {plan : Bytes} {w : Walk} {a : Column} (N : NamedAt incoming v n plan w a) {r : SelectorHead} (h : HeadIs plan (w .at) (N .standing .here) r) where
   chosen : {s : Selector} → N .standing .here .tree ≡ s → N .selector ≡ s
   chosen e = sym (N .standing .selector) ∙ e
 
@@ -201,7 +201,7 @@ made-fields (made-struct {gs = gs} a b c d) e = (gs, refl)
 made-fields (made-list a b c d) e = clash (cc)
 made-fields (made-array a b c d) e = clash (cc)
 
-module _ {incoming : Bytes} {v : Version} {n : ℕ} {plan : Bytes} {w : Walk} {t : DataType} {k : ℕ} {a : Column} (M : MappedAt incoming v n plan w t) (P : PartOf t k a)
+module _ {incoming : Bytes} {v : Edition} {n : ℕ} {plan : Bytes} {w : Walk} {t : DataType} {k : ℕ} {a : Column} (M : MappedAt incoming v n plan w t) (P : PartOf t k a)
     {r : SelectorHead} (h : HeadIs plan (w .at) (M .standing .here) r) where
   place-is : {s : Selector} → M .standing .here .tree ≡ s → M .place .selector ≡ s
   place-is e = sym (M .standing .selector) ∙ e
@@ -223,12 +223,12 @@ module _ {incoming : Bytes} {v : Version} {n : ℕ} {plan : Bytes} {w : Walk} {t
 
 -- ---- name_at
 
-pub record Naming (incoming : Bytes) (v : Version) (n : ℕ) (plan : Bytes) (w x : Walk) : Type 0 where
+pub record Naming (incoming : Bytes) (v : Edition) (n : ℕ) (plan : Bytes) (w x : Walk) : Type 0 where
   pub some : Column
   pub start : NamedAt incoming v n plan x some
   pub keeps : (a : Column) → NamedAt incoming v n plan w a → (b : Column) × (NamedAt incoming v n plan x b × (b .name ≡ a .name))
 
-module _ {incoming : Bytes} {v : Version} {n : ℕ} {plan : Bytes} where
+module _ {incoming : Bytes} {v : Edition} {n : ℕ} {plan : Bytes} where
   pub naming-start : {w : Walk} {a : Column} → NamedAt incoming v n plan w a → Naming incoming v n plan w w
   naming-start {a = a} N = record { some = a; start = N; keeps = λ b B. (b, (B, refl)) }
 
@@ -236,7 +236,7 @@ module _ {incoming : Bytes} {v : Version} {n : ℕ} {plan : Bytes} where
   named-before N = let b = behind (N .standing .here) in omega (arith, N .standing .ends)
 
   module _ {w x : Walk} (O : Naming incoming v n plan w x) {r : OwnName}
-      (h : (i : Bytes) (u : Version) (m : ℕ) (a : Column) → NamedAt i u m plan x a → OwnNameIs i u m plan x a r) where
+      (h : (i : Bytes) (u : Edition) (m : ℕ) (a : Column) → NamedAt i u m plan x a → OwnNameIs i u m plan x a r) where
     own : {a : Column} {q : OwnName} → r ≡ q → NamedAt incoming v n plan x a → ownNameAnswer incoming v n plan x a q
     own {a} e N = subst (λ (q : OwnName). ownNameAnswer incoming v n plan x a q) e (h incoming v n a N .answer)
 

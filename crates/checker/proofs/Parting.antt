@@ -7,7 +7,7 @@ use lib.ListN.{length}
 use Rattle.layout.specs.Bytes.{Bytes}
 use Rattle.layout.specs.Tree.{DataType, leaf, struct, list, array, Fields, fieldsOf, dtypeOf}
 use Rattle.layout.specs.declared.cursor.Cursor.{Cursor}
-use Rattle.layout.specs.declared.version.Version.{Version}
+use Rattle.layout.specs.declared.edition.Edition.{Edition}
 use Rattle.plan.specs.Result.{gives}
 use Rattle.plan.specs.Selector.{Selector, nesting}
 use Rattle.plan.specs.Check.{Column, columnAt}
@@ -35,7 +35,7 @@ part-along (struct fs) P = a-field (P .found) a-here
 part-along (list t) {k} P = let e = ap (λ (c : Column). c .type) (element-is {k = k} (P .found) .1) in a-list (subst (λ (u : DataType). Along t [] u) (sym e) a-here)
 part-along (array w t) {k} P = let e = ap (λ (c : Column). c .type) (element-is {k = k} (P .found) .1) in a-array (subst (λ (u : DataType). Along t [] u) (sym e) a-here)
 
-pub part-leads : {v : Version} {s : Bytes} {at : ℕ} {t : DataType} {k : ℕ} {a : Column} {p : List ℕ} → TypeIs v s at t → PartOf t k a → p ≡ k ∷ [] → LeadsAt v s at p (a .type)
+pub part-leads : {v : Edition} {s : Bytes} {at : ℕ} {t : DataType} {k : ℕ} {a : Column} {p : List ℕ} → TypeIs v s at t → PartOf t k a → p ≡ k ∷ [] → LeadsAt v s at p (a .type)
 part-leads {t = t} {k = k} {a = a} {p = p} T P e =
     record {
       type = T .type;
@@ -44,7 +44,7 @@ part-leads {t = t} {k = k} {a = a} {p = p} T P e =
 
 -- ---- a mapping's part
 
-module _ {incoming : Bytes} {v : Version} {n : ℕ} {plan : Bytes} {w : Walk} where
+module _ {incoming : Bytes} {v : Edition} {n : ℕ} {plan : Bytes} {w : Walk} where
   pub made-deep : {t : DataType} → MappedAt incoming v n plan w t → w .deep < 64
   unfolding nesting
   made-deep M = let e = entries-count (M .standing .entries) in go (M .made) (M .shallow) e
@@ -87,11 +87,11 @@ module _ {incoming : Bytes} {v : Version} {n : ℕ} {plan : Bytes} {w : Walk} wh
     child-less M e = let Q = field-made k (M .made) e in g (M .place) (Q .frame) (Q .part) (M .standing) (made-ends (M .made)) (Q .takes) .falls
 
 -- what `part` answers of a type in bytes
-module _ {incoming : Bytes} {v : Version} {n : ℕ} {plan : Bytes} {w : Walk} {c : Cursor} {q : Resolved} {t : DataType} where
+module _ {incoming : Bytes} {v : Edition} {n : ℕ} {plan : Bytes} {w : Walk} {c : Cursor} {q : Resolved} {t : DataType} where
   pub part-incoming : q ≡ record { source = Source.Incoming; at = c; walk = w } → TypeIs v incoming (c .at) t → ResolvedAt incoming v n plan q t
   part-incoming e T = subst (λ (r : Resolved). ResolvedAt incoming v n plan r t) (sym e) (record { stands = T })
 
-  pub part-plan : q ≡ record { source = Source.Plan; at = c; walk = w } → TypeIs Version.ByName plan (c .at) t → ResolvedAt incoming v n plan q t
+  pub part-plan : q ≡ record { source = Source.Plan; at = c; walk = w } → TypeIs Edition.One plan (c .at) t → ResolvedAt incoming v n plan q t
   part-plan e T = subst (λ (r : Resolved). ResolvedAt incoming v n plan r t) (sym e) (record { stands = T })
 
 -- ---- the type whose parts positions take
@@ -142,7 +142,7 @@ input-shallow (element s i) {x} e H = outer-element-shallow (framed e H)
     framed : {F : List Frame} → x .frames ≡ F → Shallow x → Shallow (state (x .selector) F [])
     framed {F} e H = subst (λ (G : List Frame). Shallow (state (x .selector) G [])) e (record { here = H .here; frames = H .frames })
 
-module _ {incoming : Bytes} {v : Version} {n : ℕ} {plan : Bytes} {w : Walk} {Δ : Fields} (S : ScopedAt incoming v n plan w Δ) (h : 0 < w .deep) where
+module _ {incoming : Bytes} {v : Edition} {n : ℕ} {plan : Bytes} {w : Walk} {Δ : Fields} (S : ScopedAt incoming v n plan w Δ) (h : 0 < w .deep) where
   made : OuterMade (fieldsOf (S .columns .columns)) (S .place .frames) Δ
   made = outer-made (let e = entries-count (S .standing .entries) in omega arith) (S .scoped)
 

@@ -11,8 +11,8 @@ use Rattle.layout.specs.declared.bytes.Span.{Span}
 use Rattle.layout.specs.declared.columns.Position.{Position}
 use Rattle.layout.specs.declared.columns.Label.{Label as LabelSpan}
 use Rattle.layout.specs.declared.cursor.Cursor.{Cursor}
-use Rattle.layout.specs.declared.version.Version.{Version}
-use Rattle.layout.specs.declared.version.Version.the-variants.{ByName}
+use Rattle.layout.specs.declared.edition.Edition.{Edition}
+use Rattle.layout.specs.declared.edition.Edition.the-variants.{One}
 use Rattle.plan.specs.Selector.{Selector, nesting}
 use Rattle.plan.specs.Check.{Column}
 use Rattle.nodes.specs.Typed.{LeadsAt}
@@ -40,7 +40,7 @@ pub selected : {x : State} {s : Selector} → x .selector ≡ s → Shallow x �
 selected {x} e H = record { here = subst (λ (y : Selector). nesting y + length (x .frames) ≤ 64) e (H .here); frames = H .frames }
 
 -- at a selector, with no path left
-pub named-typed : {incoming : Bytes} {v : Version} {n : ℕ} {plan : Bytes} {w : Walk} {a : Column} → NamedAt incoming v n plan w a → TypedAt incoming v n plan w (a .type)
+pub named-typed : {incoming : Bytes} {v : Edition} {n : ℕ} {plan : Bytes} {w : Walk} {a : Column} → NamedAt incoming v n plan w a → TypedAt incoming v n plan w (a .type)
 named-typed {a = a} N = record {
   columns = N .columns;
   place = state (N .selector) (N .frames) [];
@@ -50,13 +50,13 @@ named-typed {a = a} N = record {
 }
 
 -- the walk x goes on for w
-pub record Onward (incoming : Bytes) (v : Version) (n : ℕ) (plan : Bytes) (w x : Walk) : Type 0 where
+pub record Onward (incoming : Bytes) (v : Edition) (n : ℕ) (plan : Bytes) (w x : Walk) : Type 0 where
   pub some : DataType
   pub start : TypedAt incoming v n plan x some
   pub keeps : (t : DataType) → TypedAt incoming v n plan w t → TypedAt incoming v n plan x t
   pub falls : rank x ≤ rank w
 
-module _ {incoming : Bytes} {v : Version} {n : ℕ} {plan : Bytes} where
+module _ {incoming : Bytes} {v : Edition} {n : ℕ} {plan : Bytes} where
   -- ---- stop
 
   module _ {w : Walk} {t : DataType} (S : StoppedAt incoming v n plan w t) {r : SelectorHead} (h : HeadIs plan (w .at) (S .typed .standing .here) r) where
@@ -74,15 +74,15 @@ module _ {incoming : Bytes} {v : Version} {n : ℕ} {plan : Bytes} where
         let C = column-stop (S .stopped) (place-is (is-position h e .1)) (S .typed .typed) in
         record { columns = S .typed .columns; column = C .column; found = C .found; along = along-path (C .along) }
 
-    pub stop-constant : {b : Span} {c : Cursor} → r ≡ SelectorHead.Constant b c → LeadsAt ByName plan (c .at) (slice (w .deep) (w .len) (w .path)) t
+    pub stop-constant : {b : Span} {c : Cursor} → r ≡ SelectorHead.Constant b c → LeadsAt One plan (c .at) (slice (w .deep) (w .len) (w .path)) t
     stop-constant e =
         let C = is-constant h e in
         record { type = C .type; along = along-path (constant-stop (place-is (C .is)) (S .typed .typed)) }
 
-    pub stop-cast : {c d : Cursor} (e : r ≡ SelectorHead.Cast c) → d .at ≡ is-cast h e .input .end → LeadsAt ByName plan (d .at) (slice (w .deep) (w .len) (w .path)) t
+    pub stop-cast : {c d : Cursor} (e : r ≡ SelectorHead.Cast c) → d .at ≡ is-cast h e .input .end → LeadsAt One plan (d .at) (slice (w .deep) (w .len) (w .path)) t
     stop-cast e f =
         let C = is-cast h e in
-        subst (λ (i : ℕ). LeadsAt ByName plan i (slice (w .deep) (w .len) (w .path)) t) (sym f)
+        subst (λ (i : ℕ). LeadsAt One plan i (slice (w .deep) (w .len) (w .path)) t) (sym f)
         (record { type = C .type; along = along-path (cast-stop (place-is (C .is)) (S .typed .typed)) })
 
     pub stop-rename : {c : Cursor} → r ≡ SelectorHead.Rename c → StopIs incoming v n plan w t Stop.Rename
@@ -176,8 +176,8 @@ module _ {incoming : Bytes} {v : Version} {n : ℕ} {plan : Bytes} where
               let a = onward-less in
               record { some = O .some; start = goes (opened e onward-stops); keeps = λ t T. goes (opened e (stops T)); falls = omega (arith, O .falls) }
 
-pub column-type : {s : Bytes} {v : Version} {n : ℕ} {k : Position} {p : List ℕ} {t : DataType} (A : ColumnAlong s v n k p t) {l : LabelSpan} {e : ℕ} → FieldHere v 16 s (A .column) l e → LeadsAt v s e p t
+pub column-type : {s : Bytes} {v : Edition} {n : ℕ} {k : Position} {p : List ℕ} {t : DataType} (A : ColumnAlong s v n k p t) {l : LabelSpan} {e : ℕ} → FieldHere v 16 s (A .column) l e → LeadsAt v s e p t
 column-type {p = p} {t = t} A F = record { type = F .type; along = subst (λ (u : DataType). Along u p t) (sym (F .typed)) (A .along) }
 
-pub stop-bounds : {incoming : Bytes} {v : Version} {n : ℕ} {plan : Bytes} {w : Walk} {t : DataType} → StoppedAt incoming v n plan w t → (w .deep ≤ w .len) × (w .len ≤ length (w .path))
+pub stop-bounds : {incoming : Bytes} {v : Edition} {n : ℕ} {plan : Bytes} {w : Walk} {t : DataType} → StoppedAt incoming v n plan w t → (w .deep ≤ w .len) × (w .len ≤ length (w .path))
 stop-bounds S = let W = S .typed .standing in (W .deep, let r = W .room .1 in omega (arith, W .short))

@@ -10,7 +10,7 @@ use Rattle.layout.specs.Layout.{Kind}
 use Rattle.layout.specs.declared.bytes.Span.{Span}
 use Rattle.layout.specs.declared.columns.Position.{Position}
 use Rattle.layout.specs.declared.cursor.Cursor.{Cursor}
-use Rattle.layout.specs.declared.version.Version.{Version}
+use Rattle.layout.specs.declared.edition.Edition.{Edition}
 use Rattle.forms.specs.Form.{headOf}
 use Rattle.plan.specs.Result.{Result, gives, refuses, _>>=_}
 use Rattle.rules.specs.declared.outcome.CastOption.{CastOption}
@@ -51,12 +51,12 @@ ToInput w x = (p : Bytes) (z : State) (s : Selector) → WalkAt p w z → Input 
 abbrev ToChild : Bytes → Walk → ℕ → Walk → Type 0
 ToChild plan w k x = (z : State) (f : Frame) (s : Selector) → WalkAt plan w z → z .path ≡ [] → Part (z .selector) k f s → StepsTo plan (state s (f ∷ z .frames) []) w x
 
-abbrev Answers : Bytes → Version → ℕ → Bytes → Walk → ℕ → Checked → Type 0
+abbrev Answers : Bytes → Edition → ℕ → Bytes → Walk → ℕ → Checked → Type 0
 Answers incoming v n plan x m r = (s : Selector) (Δ : Fields) → CheckingAt incoming v n plan x s Δ → countFields Δ ≡ m → r ≡ checkedOf (typeOf Δ s)
 
 -- ---- the selector where the walk stands
 
-module _ {incoming : Bytes} {v : Version} {n : ℕ} {plan : Bytes} {w : Walk} {s : Selector} {Δ : Fields} (C : CheckingAt incoming v n plan w s Δ) where
+module _ {incoming : Bytes} {v : Edition} {n : ℕ} {plan : Bytes} {w : Walk} {s : Selector} {Δ : Fields} (C : CheckingAt incoming v n plan w s Δ) where
   pub checking-before : w .at < w .lim
   checking-before = let b = behind (C .standing .here) in omega (arith, C .standing .ends)
 
@@ -201,7 +201,7 @@ takes-input i-struct = refl
 takes-input i-list = refl
 takes-input i-array = refl
 
-module _ {incoming : Bytes} {v : Version} {n : ℕ} {plan : Bytes} {w x : Walk} {s : Selector} {Δ : Fields} (R : PassedInput incoming v n plan w x s Δ) where
+module _ {incoming : Bytes} {v : Edition} {n : ℕ} {plan : Bytes} {w x : Walk} {s : Selector} {Δ : Fields} (R : PassedInput incoming v n plan w x s Δ) where
   abbrev C : CheckingAt incoming v n plan w s Δ
   C = R .checking
 
@@ -285,7 +285,7 @@ module _ {incoming plan : Bytes} (a : Column) {h k : TypeHead} (H : TypeHeadIs i
 
 -- ---- what is left once the input has passed
 
-module _ {incoming : Bytes} {v : Version} {n : ℕ} {plan : Bytes} {w : Walk} {s : Selector} {Δ : Fields} where
+module _ {incoming : Bytes} {v : Edition} {n : ℕ} {plan : Bytes} {w : Walk} {s : Selector} {Δ : Fields} where
   rest-as : {r q : Rest} → r ≡ q → restAnswer incoming v n plan w s Δ q → RestIs incoming v n plan w s Δ r
   rest-as e a = subst (λ (x : Rest). RestIs incoming v n plan w s Δ x) (sym e) (record { answer = a })
 
@@ -299,7 +299,7 @@ module _ {incoming : Bytes} {v : Version} {n : ℕ} {plan : Bytes} {w : Walk} {s
       go Checked.Passed e f = rest-as e f
       go (Checked.Refused k) e f = rest-as e f
 
-module _ {incoming : Bytes} {v : Version} {n : ℕ} {plan : Bytes} {w x : Walk} {s : Selector} {Δ : Fields} (R : PassedInput incoming v n plan w x s Δ) where
+module _ {incoming : Bytes} {v : Edition} {n : ℕ} {plan : Bytes} {w x : Walk} {s : Selector} {Δ : Fields} (R : PassedInput incoming v n plan w x s Δ) where
   abbrev D : CheckingAt incoming v n plan w s Δ
   D = R .checking
 
@@ -393,7 +393,7 @@ unfolding nesting
 nests-array i e = omega arith
 
 -- the result of a mapping
-pub mapped-as : {incoming : Bytes} {v : Version} {n : ℕ} {plan : Bytes} {w : Walk} {c : Cursor} {q : Resolved} {t : DataType} → q ≡ record { source = Source.Mapped; at = c; walk = w } → MappedAt incoming v n plan w t → ResolvedAt incoming v n plan q t
+pub mapped-as : {incoming : Bytes} {v : Edition} {n : ℕ} {plan : Bytes} {w : Walk} {c : Cursor} {q : Resolved} {t : DataType} → q ≡ record { source = Source.Mapped; at = c; walk = w } → MappedAt incoming v n plan w t → ResolvedAt incoming v n plan q t
 mapped-as {incoming} {v} {n} {plan} {t = t} e M = subst (λ (r : Resolved). ResolvedAt incoming v n plan r t) (sym e) (record { stands = M })
 
 -- ---- list and array mappings
@@ -402,11 +402,11 @@ pub one-element : (t : DataType) → countFields (elementOf t) ≡ 1
 unfolding countFields
 one-element t = refl
 
-pub record ElementStep (incoming : Bytes) (v : Version) (n : ℕ) (plan : Bytes) (w : Walk) (t : DataType) (e : Selector) (x : Walk) : Type 0 where
+pub record ElementStep (incoming : Bytes) (v : Edition) (n : ℕ) (plan : Bytes) (w : Walk) (t : DataType) (e : Selector) (x : Walk) : Type 0 where
   pub checking : CheckingAt incoming v n plan x e (elementOf t)
   pub falls : rank x < rank w
 
-module _ {incoming : Bytes} {v : Version} {n : ℕ} {plan : Bytes} {w : Walk} where
+module _ {incoming : Bytes} {v : Edition} {n : ℕ} {plan : Bytes} {w : Walk} where
   pub element-child-asks : {t : DataType} {e : Selector} {f : DataType → DataType} → Elements incoming v n plan w t e f → ((x : State) × WalkAt plan w x) × (w .deep < 64)
   element-child-asks (of-list {i = i} {e = e} M) =
       ((state (listMapping i e) (M .frames) [], M .standing), let a = entries-count (M .standing .entries) in let b = nests-list i e in omega (arith, M .shallow .here))
@@ -443,7 +443,7 @@ module _ {incoming : Bytes} {v : Version} {n : ℕ} {plan : Bytes} {w : Walk} wh
 -- ---- struct mappings
 
 -- what `first_child` and `child_at` ask
-pub mapping-asks : {incoming : Bytes} {v : Version} {n : ℕ} {plan : Bytes} {w : Walk} {i : Selector} {ss : Selectors} {u : DataType}
+pub mapping-asks : {incoming : Bytes} {v : Edition} {n : ℕ} {plan : Bytes} {w : Walk} {i : Selector} {ss : Selectors} {u : DataType}
     → MappingAt incoming v n plan w (structMapping i ss) i u → (w .at < 65536) × (w .deep < 64)
 mapping-asks {i = i} {ss = ss} M = (
   walk-small (M .standing),
@@ -481,7 +481,7 @@ types-passed fs s ss e = let (a, q) = passed-gives (typeOf fs s) e in rw q (go a
     go c (gives a) = refl
     go c (refuses n) = refl
 
-pub record Passing (incoming : Bytes) (v : Version) (n : ℕ) (plan : Bytes) (w : Walk) (count m at k : ℕ) : Type 0 where
+pub record Passing (incoming : Bytes) (v : Edition) (n : ℕ) (plan : Bytes) (w : Walk) (count m at k : ℕ) : Type 0 where
   pub input : Selector
   pub parts : Selectors
   pub scope : Fields
@@ -494,7 +494,7 @@ pub record Passing (incoming : Bytes) (v : Version) (n : ℕ) (plan : Bytes) (w 
       → countFields fs ≡ m
       → checkedOf (typesOf fs ss) ≡ checkedOf (typesOf fs (dropSelectors k ss))
 
-module _ {incoming : Bytes} {v : Version} {n : ℕ} {plan : Bytes} {w : Walk} {count m : ℕ} where
+module _ {incoming : Bytes} {v : Edition} {n : ℕ} {plan : Bytes} {w : Walk} {count m : ℕ} where
   pub passing-start : {i : Selector} {ss : Selectors} {fs : Fields} → MappingAt incoming v n plan w (structMapping i ss) i (struct fs)
       → countSelectors ss ≡ count → countFields fs ≡ m
       → {at : ℕ} → PassedTo plan (w .at) 0 at → Passing incoming v n plan w count m at 0

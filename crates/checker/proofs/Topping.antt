@@ -12,7 +12,7 @@ use Rattle.layout.specs.Layout.{layout, type, ended}
 use Rattle.layout.specs.Stands.{ColumnsAt, LayoutAt}
 use Rattle.layout.specs.declared.columns.Siblings.the-variants.{Free}
 use Rattle.layout.specs.declared.cursor.Cursor.{Cursor}
-use Rattle.layout.specs.declared.version.Version.{Version}
+use Rattle.layout.specs.declared.edition.Edition.{Edition}
 use Rattle.layout.proofs.Ways.{clash}
 use Rattle.layout.proofs.Top.{columns-count}
 use Rattle.layout.proofs.View.{next-ok, same-columns, no-column}
@@ -87,7 +87,7 @@ passed-accepted (refusedAt n k) e = clash (cc)
 
 -- ---- the first selector
 
-pub record FirstTop (incoming : Bytes) (v : Version) (n : ℕ) (plan : Bytes) (count at : ℕ) (Γ : Fields) (ss : Selectors) : Type 0 where
+pub record FirstTop (incoming : Bytes) (v : Edition) (n : ℕ) (plan : Bytes) (count at : ℕ) (Γ : Fields) (ss : Selectors) : Type 0 where
   pub head : SelectorAt plan at
   pub parts : Selectors
   pub is : ss ≡ scons (head .tree) parts
@@ -95,7 +95,7 @@ pub record FirstTop (incoming : Bytes) (v : Version) (n : ℕ) (plan : Bytes) (c
   pub nests : nesting (head .tree) ≤ 64
   pub tail : TopsAt incoming v n plan (count - 1) (head .end) Γ parts
 
-pub first-top : {incoming : Bytes} {v : Version} {n : ℕ} {plan : Bytes} {count at : ℕ} {Γ : Fields} {ss : Selectors} → TopsAt incoming v n plan count at Γ ss → 0 < count → FirstTop incoming v n plan count at Γ ss
+pub first-top : {incoming : Bytes} {v : Edition} {n : ℕ} {plan : Bytes} {count at : ℕ} {Γ : Fields} {ss : Selectors} → TopsAt incoming v n plan count at Γ ss → 0 < count → FirstTop incoming v n plan count at Γ ss
 unfolding nestingAll
 first-top {plan = plan} {ss = ss} T h =
     let F = first-at (T .selectors) h in
@@ -112,7 +112,7 @@ first-top {plan = plan} {ss = ss} T h =
       tail = record { columns = T .columns; are = T .are; selectors = F .tail; is = refl; ends = omega (arith, T .ends); small = T .small; nests = omega arith };
     }
 
-module _ {incoming : Bytes} {v : Version} {n : ℕ} {plan : Bytes} {count at : ℕ} {Γ : Fields} {ss : Selectors} (T : TopsAt incoming v n plan count at Γ ss) (h : 0 < count) where
+module _ {incoming : Bytes} {v : Edition} {n : ℕ} {plan : Bytes} {count at : ℕ} {Γ : Fields} {ss : Selectors} (T : TopsAt incoming v n plan count at Γ ss) (h : 0 < count) where
   abbrev first : FirstTop incoming v n plan count at Γ ss
   first = first-top T h
 
@@ -137,7 +137,7 @@ module _ {incoming : Bytes} {v : Version} {n : ℕ} {plan : Bytes} {count at : �
       pub top-named : {a : Column} → typeOf Γ (first .head .tree) ≡ gives a → NamedAt incoming v n plan w a
       top-named q = record { columns = T .columns; selector = first .head .tree; frames = []; standing = standing; shallow = top-shallow; scope = Γ; scoped = top-scope; passes = q }
 
-tops-as : {incoming : Bytes} {v : Version} {n : ℕ} {plan : Bytes} {m count at : ℕ} {Γ : Fields} {ss : Selectors} → m ≡ count → TopsAt incoming v n plan m at Γ ss → TopsAt incoming v n plan count at Γ ss
+tops-as : {incoming : Bytes} {v : Edition} {n : ℕ} {plan : Bytes} {m count at : ℕ} {Γ : Fields} {ss : Selectors} → m ≡ count → TopsAt incoming v n plan m at Γ ss → TopsAt incoming v n plan count at Γ ss
 tops-as {incoming} {v} {n} {plan} {at = at} {Γ = Γ} {ss = ss} e T = subst (λ (k : ℕ). TopsAt incoming v n plan k at Γ ss) e T
 
 -- ---- check_tops
@@ -148,7 +148,7 @@ Skips plan at e = (P : SelectorAt plan at) → e .at ≡ P .end
 abbrev Tops : ℕ → Cursor → Walk → Type 0
 Tops at e w = (p : Bytes) (P : SelectorAt p at) → P .end ≤ e .at → e .at ≤ length p → length p ≤ 65536 → WalkAt p w (state (P .tree) [] [])
 
-pub record Topping (incoming : Bytes) (v : Version) (n : ℕ) (plan : Bytes) (count from at k : ℕ) : Type 0 where
+pub record Topping (incoming : Bytes) (v : Edition) (n : ℕ) (plan : Bytes) (count from at k : ℕ) : Type 0 where
   pub within : k ≤ count
   pub scope : Fields
   pub parts : Selectors
@@ -156,7 +156,7 @@ pub record Topping (incoming : Bytes) (v : Version) (n : ℕ) (plan : Bytes) (co
   pub keeps : (Γ : Fields) (ss : Selectors) → TopsAt incoming v n plan count from Γ ss
       → (rs : Selectors) × (TopsAt incoming v n plan (count - k) at Γ rs × (planChecked (topTypes Γ ss 0) ≡ planChecked (topTypes Γ rs k)))
 
-module _ {incoming : Bytes} {v : Version} {n : ℕ} {plan : Bytes} {count from : ℕ} where
+module _ {incoming : Bytes} {v : Edition} {n : ℕ} {plan : Bytes} {count from : ℕ} where
   pub topping-start : {Γ : Fields} {ss : Selectors} → TopsAt incoming v n plan count from Γ ss → Topping incoming v n plan count from from 0
   topping-start {Γ} {ss} T =
       let z : count ≡ count - 0 = omega arith in
@@ -200,14 +200,14 @@ module _ {incoming : Bytes} {v : Version} {n : ℕ} {plan : Bytes} {count from :
 
 -- ---- same_tops
 
-record FirstTyped (incoming : Bytes) (v : Version) (n : ℕ) (plan : Bytes) (count at : ℕ) (fs : Fields) (w : Walk) (e : Cursor) : Type 0 where
+record FirstTyped (incoming : Bytes) (v : Edition) (n : ℕ) (plan : Bytes) (count at : ℕ) (fs : Fields) (w : Walk) (e : Cursor) : Type 0 where
   column : Column
   rest : Fields
   is : fs ≡ fcons (column .name) (column .type) rest
   named : NamedAt incoming v n plan w column
   tail : TypedTops incoming v n plan (count - 1) (e .at) rest
 
-first-typed : {incoming : Bytes} {v : Version} {n : ℕ} {plan : Bytes} {count at : ℕ} {fs : Fields} (T : TypedTops incoming v n plan count at fs) → 0 < count → {e : Cursor} → Skips plan at e → {w : Walk} → Tops at e w
+first-typed : {incoming : Bytes} {v : Edition} {n : ℕ} {plan : Bytes} {count at : ℕ} {fs : Fields} (T : TypedTops incoming v n plan count at fs) → 0 < count → {e : Cursor} → Skips plan at e → {w : Walk} → Tops at e w
     → FirstTyped incoming v n plan count at fs w e
 unfolding typesOf
 first-typed T h {e} s {w} g =
@@ -223,10 +223,10 @@ first-typed T h {e} s {w} g =
       tail = record { scope = T .scope; parts = F .parts; tops = next-tops (T .tops) h s; typed = p₁ };
     }
 
-typed-as : {incoming : Bytes} {v : Version} {n : ℕ} {plan : Bytes} {m count at : ℕ} {fs : Fields} → m ≡ count → TypedTops incoming v n plan m at fs → TypedTops incoming v n plan count at fs
+typed-as : {incoming : Bytes} {v : Edition} {n : ℕ} {plan : Bytes} {m count at : ℕ} {fs : Fields} → m ≡ count → TypedTops incoming v n plan m at fs → TypedTops incoming v n plan count at fs
 typed-as {incoming} {v} {n} {plan} {at = at} {fs = fs} e T = subst (λ (k : ℕ). TypedTops incoming v n plan k at fs) e T
 
-pub record Alongside (incoming : Bytes) (v : Version) (n : ℕ) (plan : Bytes) (count from : ℕ) (target : Bytes) (vt : Version) (base at bt k : ℕ) : Type 0 where
+pub record Alongside (incoming : Bytes) (v : Edition) (n : ℕ) (plan : Bytes) (count from : ℕ) (target : Bytes) (vt : Edition) (base at bt k : ℕ) : Type 0 where
   pub within : k ≤ count
   pub some : Fields
   pub start : TypedTops incoming v n plan (count - k) at some
@@ -234,7 +234,7 @@ pub record Alongside (incoming : Bytes) (v : Version) (n : ℕ) (plan : Bytes) (
   pub keeps : (fs : Fields) (Q : ColumnsAt vt 16 target count base) → TypedTops incoming v n plan count from fs
       → (gs : Fields) × (TypedTops incoming v n plan (count - k) at gs × (sameFields fs (fieldsOf (Q .columns)) ≡ sameFields gs (fieldsOf (columns .columns))))
 
-module _ {incoming : Bytes} {v : Version} {n : ℕ} {plan : Bytes} {count from : ℕ} {target : Bytes} {vt : Version} {base : ℕ} where
+module _ {incoming : Bytes} {v : Edition} {n : ℕ} {plan : Bytes} {count from : ℕ} {target : Bytes} {vt : Edition} {base : ℕ} where
   pub alongside-start : {fs : Fields} → TypedTops incoming v n plan count from fs → ColumnsAt vt 16 target count base → Alongside incoming v n plan count from target vt base from base 0
   alongside-start {fs} T C =
       let z : count ≡ count - 0 = omega arith in
@@ -328,7 +328,7 @@ module _ {incoming : Bytes} {v : Version} {n : ℕ} {plan : Bytes} {count from :
 
 -- ---- same_plan
 
-pub counts-apart : {incoming : Bytes} {v : Version} {n : ℕ} {plan : Bytes} {count at : ℕ} {fs : Fields} {vt : Version} {target : Bytes} {m bt : ℕ} → (count ≡ m → ⊥) → (Q : ColumnsAt vt 16 target m bt)
+pub counts-apart : {incoming : Bytes} {v : Edition} {n : ℕ} {plan : Bytes} {count at : ℕ} {fs : Fields} {vt : Edition} {target : Bytes} {m bt : ℕ} → (count ≡ m → ⊥) → (Q : ColumnsAt vt 16 target m bt)
     → TypedTops incoming v n plan count at fs → false ≡ sameFields fs (fieldsOf (Q .columns))
 counts-apart {count = count} {fs = fs} {vt = vt} {target = target} {m = m} {bt = bt} h Q T = go (sameFields fs (fieldsOf (Q .columns))) refl
   where
@@ -344,11 +344,11 @@ counts-apart {count = count} {fs = fs} {vt = vt} {target = target} {m = m} {bt =
 
 -- ---- check_read
 
-pub read-direct : {incoming : Bytes} {v : Version} {n : ℕ} {plan : Bytes} {count at : ℕ} {Γ : Fields} {ss : Selectors} (T : TopsAt incoming v n plan count at Γ ss) (Δ : Fields)
+pub read-direct : {incoming : Bytes} {v : Edition} {n : ℕ} {plan : Bytes} {count at : ℕ} {Γ : Fields} {ss : Selectors} (T : TopsAt incoming v n plan count at Γ ss) (Δ : Fields)
     → check (fieldsOf (T .columns .columns)) Δ (T .selectors .trees) ≡ accepted tt → PlanChecked.Passed ≡ planChecked (check Γ Δ ss)
 read-direct T Δ e = ap planChecked (sym ((λ i. check (sym (T .are) i) Δ (sym (T .is) i)) ∙ e))
 
-module _ {incoming : Bytes} {v : Version} {n : ℕ} {plan : Bytes} {count at : ℕ} {Γ : Fields} {ss : Selectors} (T : TopsAt incoming v n plan count at Γ ss) {r : PlanChecked} (e : r ≡ planChecked (topTypes Γ ss 0)) where
+module _ {incoming : Bytes} {v : Edition} {n : ℕ} {plan : Bytes} {count at : ℕ} {Γ : Fields} {ss : Selectors} (T : TopsAt incoming v n plan count at Γ ss) {r : PlanChecked} (e : r ≡ planChecked (topTypes Γ ss 0)) where
   module _ (p : r ≡ PlanChecked.Passed) where
     pub given : (fs : Fields) × (topTypes Γ ss 0 ≡ accepted fs)
     given = passed-accepted (topTypes Γ ss 0) (sym e ∙ p)
@@ -440,7 +440,7 @@ plan-refused s {r} {k} e f = go (readPlan s) e
     go (refuse n) e = cc
     go (ok ss m) e = clash (cc)
 
-pub plan-tops : {incoming : Bytes} {v : Version} {n : ℕ} {plan : Bytes} {m : ℕ} (L : LayoutAt incoming v n) (P : PlanAt plan m) → TopsAt incoming v n plan m 7 (fieldsOf (L .columns .columns)) (P .parts)
+pub plan-tops : {incoming : Bytes} {v : Edition} {n : ℕ} {plan : Bytes} {m : ℕ} (L : LayoutAt incoming v n) (P : PlanAt plan m) → TopsAt incoming v n plan m 7 (fieldsOf (L .columns .columns)) (P .parts)
 plan-tops L P = record { columns = L .columns; are = refl; selectors = P .selectors; is = P .is; ends = P .ends; small = P .small; nests = P .nests }
 
 -- ---- check_plan
@@ -450,12 +450,12 @@ module _ (incoming target plan : Bytes) where
   unfolding checkPlan layoutsRead readAt
   refused-first e = rw e
 
-  module _ {v : Version} {n : ℕ} (L : LayoutAt incoming v n) where
+  module _ {v : Edition} {n : ℕ} (L : LayoutAt incoming v n) where
     pub refused-second : {k : ℕ} → layout target ≡ refuse k → PlanChecked.Refused k 2 ≡ planChecked (checkPlan incoming target plan)
     unfolding checkPlan layoutsRead readAt
     refused-second e = rw (L .reads, e)
 
-    module _ {w : Version} {m : ℕ} (M : LayoutAt target w m) where
+    module _ {w : Edition} {m : ℕ} (M : LayoutAt target w m) where
       pub refused-third : {k : ℕ} → readPlan plan ≡ refuse k → PlanChecked.Refused k 0 ≡ planChecked (checkPlan incoming target plan)
       unfolding checkPlan layoutsRead readAt
       refused-third e = rw (L .reads, M .reads, e)

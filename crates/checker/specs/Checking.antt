@@ -7,7 +7,7 @@ use Rattle.layout.specs.Bytes.{Bytes}
 use Rattle.layout.specs.Tree.{DataType, struct, list, array, Fields, fieldsOf, countFields}
 use Rattle.layout.specs.Layout.{deepest}
 use Rattle.layout.specs.Stands.{ColumnsAt}
-use Rattle.layout.specs.declared.version.Version.{Version}
+use Rattle.layout.specs.declared.edition.Edition.{Edition}
 use Rattle.plan.specs.Result.{Result, gives, refuses, _>>=_}
 use Rattle.plan.specs.Selector.{Selector, position, constant, cast, rename, structMapping, listMapping, arrayMapping, Selectors, countSelectors}
 use Rattle.plan.specs.Check.{Column, elementOf, typeOf, typesOf, resulting}
@@ -33,7 +33,7 @@ fittingOf true = Checked.Passed
 fittingOf false = Checked.Refused 32
 
 -- the walk w stands at the selector s, with no path left, where positions take from the columns Δ
-pub record CheckingAt (incoming : Bytes) (v : Version) (n : ℕ) (plan : Bytes) (w : Walk) (s : Selector) (Δ : Fields) : Type 0 where
+pub record CheckingAt (incoming : Bytes) (v : Edition) (n : ℕ) (plan : Bytes) (w : Walk) (s : Selector) (Δ : Fields) : Type 0 where
   pub columns : ColumnsAt v deepest incoming n 7
   pub frames : List Frame
   pub standing : WalkAt plan w (state s frames [])
@@ -51,7 +51,7 @@ isTransform (listMapping i e) = true
 isTransform (arrayMapping i e) = true
 
 -- at the transform s, whose input, at which x stands, has passed and gives a column
-pub record PassedInput (incoming : Bytes) (v : Version) (n : ℕ) (plan : Bytes) (w x : Walk) (s : Selector) (Δ : Fields) : Type 0 where
+pub record PassedInput (incoming : Bytes) (v : Edition) (n : ℕ) (plan : Bytes) (w x : Walk) (s : Selector) (Δ : Fields) : Type 0 where
   pub checking : CheckingAt incoming v n plan w s Δ
   pub input : Selector
   pub takes : Input s input
@@ -60,7 +60,7 @@ pub record PassedInput (incoming : Bytes) (v : Version) (n : ℕ) (plan : Bytes)
   pub named : NamedAt incoming v n plan x column
 
 -- at the mapping s, whose input i has passed and gives the type t
-pub record MappingAt (incoming : Bytes) (v : Version) (n : ℕ) (plan : Bytes) (w : Walk) (s i : Selector) (t : DataType) : Type 0 where
+pub record MappingAt (incoming : Bytes) (v : Edition) (n : ℕ) (plan : Bytes) (w : Walk) (s i : Selector) (t : DataType) : Type 0 where
   pub columns : ColumnsAt v deepest incoming n 7
   pub frames : List Frame
   pub standing : WalkAt plan w (state s frames [])
@@ -72,7 +72,7 @@ pub record MappingAt (incoming : Bytes) (v : Version) (n : ℕ) (plan : Bytes) (
   pub kind : column .type ≡ t
 
 -- a mapping of a list or an array of elements t by the selector e, which makes f of what e gives
-pub data Elements (incoming : Bytes) (v : Version) (n : ℕ) (plan : Bytes) (w : Walk) : DataType → Selector → (DataType → DataType) → Type 0 where
+pub data Elements (incoming : Bytes) (v : Edition) (n : ℕ) (plan : Bytes) (w : Walk) : DataType → Selector → (DataType → DataType) → Type 0 where
   of-list : {i e : Selector} {t : DataType} → MappingAt incoming v n plan w (listMapping i e) i (list t) → Elements incoming v n plan w t e (λ u. list u)
   of-array : {i e : Selector} {x : ℕ} {t : DataType} → MappingAt incoming v n plan w (arrayMapping i e) i (array x t) → Elements incoming v n plan w t e (λ u. array x u)
 
@@ -108,7 +108,7 @@ arrayedLeft TypeHead.List = Rest.Refused 32
 arrayedLeft (TypeHead.Array w) = Rest.Element
 
 -- the check of s is that of a struct mapping's count selectors, over m columns, and then of its result
-pub record FieldsLeft (incoming : Bytes) (v : Version) (n : ℕ) (plan : Bytes) (w : Walk) (s : Selector) (Δ : Fields) (count m : ℕ) : Type 0 where
+pub record FieldsLeft (incoming : Bytes) (v : Edition) (n : ℕ) (plan : Bytes) (w : Walk) (s : Selector) (Δ : Fields) (count m : ℕ) : Type 0 where
   pub input : Selector
   pub parts : Selectors
   pub scope : Fields
@@ -119,7 +119,7 @@ pub record FieldsLeft (incoming : Bytes) (v : Version) (n : ℕ) (plan : Bytes) 
   pub left : checkedOf (typeOf Δ s) ≡ checkedOf (fieldsResult scope parts name)
 
 -- of the selector of a list or array mapping
-pub record ElementLeft (incoming : Bytes) (v : Version) (n : ℕ) (plan : Bytes) (w : Walk) (s : Selector) (Δ : Fields) : Type 0 where
+pub record ElementLeft (incoming : Bytes) (v : Edition) (n : ℕ) (plan : Bytes) (w : Walk) (s : Selector) (Δ : Fields) : Type 0 where
   pub element : DataType
   pub selector : Selector
   pub makes : DataType → DataType
@@ -127,11 +127,11 @@ pub record ElementLeft (incoming : Bytes) (v : Version) (n : ℕ) (plan : Bytes)
   pub elements : Elements incoming v n plan w element selector makes
   pub left : checkedOf (typeOf Δ s) ≡ checkedOf (elementResult element selector makes name)
 
-abbrev pub restAnswer : Bytes → Version → ℕ → Bytes → Walk → Selector → Fields → Rest → Type 0
+abbrev pub restAnswer : Bytes → Edition → ℕ → Bytes → Walk → Selector → Fields → Rest → Type 0
 restAnswer incoming v n plan w s Δ Rest.Passed = Checked.Passed ≡ checkedOf (typeOf Δ s)
 restAnswer incoming v n plan w s Δ (Rest.Refused k) = Checked.Refused k ≡ checkedOf (typeOf Δ s)
 restAnswer incoming v n plan w s Δ (Rest.Fields count m) = FieldsLeft incoming v n plan w s Δ count m
 restAnswer incoming v n plan w s Δ Rest.Element = ElementLeft incoming v n plan w s Δ
 
-pub record RestIs (incoming : Bytes) (v : Version) (n : ℕ) (plan : Bytes) (w : Walk) (s : Selector) (Δ : Fields) (r : Rest) : Type 0 where
+pub record RestIs (incoming : Bytes) (v : Edition) (n : ℕ) (plan : Bytes) (w : Walk) (s : Selector) (Δ : Fields) (r : Rest) : Type 0 where
   pub answer : restAnswer incoming v n plan w s Δ r

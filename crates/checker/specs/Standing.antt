@@ -8,8 +8,8 @@ use Rattle.layout.specs.Layout.{deepest, Kind, aLeaf, aStruct, aList, anArray}
 use Rattle.layout.specs.Stands.{ColumnsAt}
 use Rattle.layout.specs.Answers.{spanAt, spanIn, leafAt}
 use Rattle.layout.specs.declared.columns.Position.{Position}
-use Rattle.layout.specs.declared.version.Version.{Version}
-use Rattle.layout.specs.declared.version.Version.the-variants.{ByName}
+use Rattle.layout.specs.declared.edition.Edition.{Edition}
+use Rattle.layout.specs.declared.edition.Edition.the-variants.{One}
 use Rattle.forms.specs.Form.{headOf}
 use Rattle.plan.specs.Result.{gives}
 use Rattle.plan.specs.Selector.{Selector, structMapping, listMapping, arrayMapping, Selectors}
@@ -63,19 +63,19 @@ pub record PartOf (t : DataType) (k : ℕ) (a : Column) : Type 0 where
   pub found : columnAt (partsOf t) k ≡ gives a
 
 -- column k of n is a
-pub record ColumnOf (incoming : Bytes) (v : Version) (n : ℕ) (k : Position) (a : Column) : Type 0 where
+pub record ColumnOf (incoming : Bytes) (v : Edition) (n : ℕ) (k : Position) (a : Column) : Type 0 where
   pub columns : ColumnsAt v deepest incoming n 7
   pub found : columnAt (fieldsOf (columns .columns)) (k .0) ≡ gives a
 
 -- from the type of the column k of n the path p leads to the type t
-pub record ColumnAlong (incoming : Bytes) (v : Version) (n : ℕ) (k : Position) (p : List ℕ) (t : DataType) : Type 0 where
+pub record ColumnAlong (incoming : Bytes) (v : Edition) (n : ℕ) (k : Position) (p : List ℕ) (t : DataType) : Type 0 where
   pub columns : ColumnsAt v deepest incoming n 7
   pub column : Column
   pub found : columnAt (fieldsOf (columns .columns)) (k .0) ≡ gives column
   pub along : Along (column .type) p t
 
 -- over the n columns of an incoming layout, the walk w stands at the type t
-pub record TypedAt (incoming : Bytes) (v : Version) (n : ℕ) (plan : Bytes) (w : Walk) (t : DataType) : Type 0 where
+pub record TypedAt (incoming : Bytes) (v : Edition) (n : ℕ) (plan : Bytes) (w : Walk) (t : DataType) : Type 0 where
   pub columns : ColumnsAt v deepest incoming n 7
   pub place : State
   pub standing : WalkAt plan w place
@@ -83,7 +83,7 @@ pub record TypedAt (incoming : Bytes) (v : Version) (n : ℕ) (plan : Bytes) (w 
   pub typed : Gives (fieldsOf (columns .columns)) place t
 
 -- at the end of its path, at a selector that gives the column c
-pub record NamedAt (incoming : Bytes) (v : Version) (n : ℕ) (plan : Bytes) (w : Walk) (c : Column) : Type 0 where
+pub record NamedAt (incoming : Bytes) (v : Edition) (n : ℕ) (plan : Bytes) (w : Walk) (c : Column) : Type 0 where
   pub columns : ColumnsAt v deepest incoming n 7
   pub selector : Selector
   pub frames : List Frame
@@ -102,7 +102,7 @@ pub data Made (Γ : Fields) : State → DataType → Type 0 where
   made-array : {E : List Frame} {Δ : Fields} {s e : Selector} {a d : Column} {w : ℕ} {t : DataType} → ScopeOf Γ E Δ → typeOf Δ s ≡ gives a → a .type ≡ array w t
       → typeOf (elementOf t) e ≡ gives d → Made Γ (state (arrayMapping s e) E []) (array w (d .type))
 
-pub record MappedAt (incoming : Bytes) (v : Version) (n : ℕ) (plan : Bytes) (w : Walk) (t : DataType) : Type 0 where
+pub record MappedAt (incoming : Bytes) (v : Edition) (n : ℕ) (plan : Bytes) (w : Walk) (t : DataType) : Type 0 where
   pub columns : ColumnsAt v deepest incoming n 7
   pub place : State
   pub standing : WalkAt plan w place
@@ -110,26 +110,26 @@ pub record MappedAt (incoming : Bytes) (v : Version) (n : ℕ) (plan : Bytes) (w
   pub made : Made (fieldsOf (columns .columns)) place t
 
 -- the type t stands where r says
-abbrev pub SourceAt : Bytes → Version → ℕ → Bytes → Source → ℕ → Walk → DataType → Type 0
+abbrev pub SourceAt : Bytes → Edition → ℕ → Bytes → Source → ℕ → Walk → DataType → Type 0
 SourceAt incoming v n plan Source.Incoming at w t = TypeIs v incoming at t
-SourceAt incoming v n plan Source.Plan at w t = TypeIs ByName plan at t
+SourceAt incoming v n plan Source.Plan at w t = TypeIs One plan at t
 SourceAt incoming v n plan Source.Mapped at w t = MappedAt incoming v n plan w t
 
-pub record ResolvedAt (incoming : Bytes) (v : Version) (n : ℕ) (plan : Bytes) (r : Resolved) (t : DataType) : Type 0 where
+pub record ResolvedAt (incoming : Bytes) (v : Edition) (n : ℕ) (plan : Bytes) (r : Resolved) (t : DataType) : Type 0 where
   pub stands : SourceAt incoming v n plan (r .source) (r .at .at) (r .walk) t
 
-pub record Resolves (incoming : Bytes) (v : Version) (n : ℕ) (plan : Bytes) (w : Walk) (t : DataType) (r : Resolved) : Type 0 where
+pub record Resolves (incoming : Bytes) (v : Edition) (n : ℕ) (plan : Bytes) (w : Walk) (t : DataType) (r : Resolved) : Type 0 where
   pub resolved : ResolvedAt incoming v n plan r t
   pub falls : rank (r .walk) ≤ rank w
 
 -- ---- where a walk stops
 
-pub record StoppedAt (incoming : Bytes) (v : Version) (n : ℕ) (plan : Bytes) (w : Walk) (t : DataType) : Type 0 where
+pub record StoppedAt (incoming : Bytes) (v : Edition) (n : ℕ) (plan : Bytes) (w : Walk) (t : DataType) : Type 0 where
   pub typed : TypedAt incoming v n plan w t
   pub stopped : Stopped (typed .place)
 
 -- at the input of the rename where w stands is the type t
-pub record RenameStop (incoming : Bytes) (v : Version) (n : ℕ) (plan : Bytes) (w : Walk) (t : DataType) : Type 0 where
+pub record RenameStop (incoming : Bytes) (v : Edition) (n : ℕ) (plan : Bytes) (w : Walk) (t : DataType) : Type 0 where
   pub columns : ColumnsAt v deepest incoming n 7
   pub place : State
   pub standing : WalkAt plan w place
@@ -138,19 +138,19 @@ pub record RenameStop (incoming : Bytes) (v : Version) (n : ℕ) (plan : Bytes) 
   pub shallow : Shallow (state input (place .frames) (place .path))
   pub typed : Gives (fieldsOf (columns .columns)) (state input (place .frames) (place .path)) t
 
-abbrev pub stopAnswer : Bytes → Version → ℕ → Bytes → Walk → DataType → Stop → Type 0
+abbrev pub stopAnswer : Bytes → Edition → ℕ → Bytes → Walk → DataType → Stop → Type 0
 stopAnswer incoming v n plan w t (Stop.Incoming c) = TypeIs v incoming (c .at) t
-stopAnswer incoming v n plan w t (Stop.Plan c) = TypeIs ByName plan (c .at) t
+stopAnswer incoming v n plan w t (Stop.Plan c) = TypeIs One plan (c .at) t
 stopAnswer incoming v n plan w t Stop.Rename = RenameStop incoming v n plan w t
 stopAnswer incoming v n plan w t Stop.Mapping = MappedAt incoming v n plan w t
 
-pub record StopIs (incoming : Bytes) (v : Version) (n : ℕ) (plan : Bytes) (w : Walk) (t : DataType) (r : Stop) : Type 0 where
+pub record StopIs (incoming : Bytes) (v : Edition) (n : ℕ) (plan : Bytes) (w : Walk) (t : DataType) (r : Stop) : Type 0 where
   pub answer : stopAnswer incoming v n plan w t r
 
 -- ---- inside a mapping
 
 -- over the n columns of an incoming layout, positions where w stands take from the columns Δ
-pub record ScopedAt (incoming : Bytes) (v : Version) (n : ℕ) (plan : Bytes) (w : Walk) (Δ : Fields) : Type 0 where
+pub record ScopedAt (incoming : Bytes) (v : Edition) (n : ℕ) (plan : Bytes) (w : Walk) (Δ : Fields) : Type 0 where
   pub columns : ColumnsAt v deepest incoming n 7
   pub place : State
   pub standing : WalkAt plan w place
@@ -158,7 +158,7 @@ pub record ScopedAt (incoming : Bytes) (v : Version) (n : ℕ) (plan : Bytes) (w
   pub scoped : ScopeOf (fieldsOf (columns .columns)) (place .frames) Δ
 
 -- they are the parts of the type where r says
-pub record EnclosingIs (incoming : Bytes) (v : Version) (n : ℕ) (plan : Bytes) (w : Walk) (Δ : Fields) (r : Resolved) : Type 0 where
+pub record EnclosingIs (incoming : Bytes) (v : Edition) (n : ℕ) (plan : Bytes) (w : Walk) (Δ : Fields) (r : Resolved) : Type 0 where
   pub type : DataType
   pub parts : partsOf type ≡ Δ
   pub resolved : ResolvedAt incoming v n plan r type
@@ -167,7 +167,7 @@ pub record EnclosingIs (incoming : Bytes) (v : Version) (n : ℕ) (plan : Bytes)
 -- ---- names
 
 -- the input of the transform where w stands gives a column of the same name as a
-pub record InputNamed (incoming : Bytes) (v : Version) (n : ℕ) (plan : Bytes) (w : Walk) (a : Column) : Type 0 where
+pub record InputNamed (incoming : Bytes) (v : Edition) (n : ℕ) (plan : Bytes) (w : Walk) (a : Column) : Type 0 where
   pub named : NamedAt incoming v n plan w a
   pub input : Selector
   pub takes : Input (named .selector) input
@@ -176,28 +176,28 @@ pub record InputNamed (incoming : Bytes) (v : Version) (n : ℕ) (plan : Bytes) 
   pub passes : typeOf (named .scope) input ≡ gives column
   pub same : column .name ≡ a .name
 
-pub record PositionNamed (incoming : Bytes) (v : Version) (n : ℕ) (plan : Bytes) (w : Walk) (k : Position) (a : Column) : Type 0 where
+pub record PositionNamed (incoming : Bytes) (v : Edition) (n : ℕ) (plan : Bytes) (w : Walk) (k : Position) (a : Column) : Type 0 where
   pub scope : Fields
   pub scoped : ScopedAt incoming v n plan w scope
   pub found : columnAt scope (k .0) ≡ gives a
 
-abbrev pub ownNameAnswer : Bytes → Version → ℕ → Bytes → Walk → Column → OwnName → Type 0
+abbrev pub ownNameAnswer : Bytes → Edition → ℕ → Bytes → Walk → Column → OwnName → Type 0
 ownNameAnswer incoming v n plan w a (OwnName.Is m) = NameAt incoming plan m (a .name)
 ownNameAnswer incoming v n plan w a OwnName.Input = InputNamed incoming v n plan w a
 ownNameAnswer incoming v n plan w a (OwnName.Position k) = PositionNamed incoming v n plan w k a
 
-pub record OwnNameIs (incoming : Bytes) (v : Version) (n : ℕ) (plan : Bytes) (w : Walk) (a : Column) (r : OwnName) : Type 0 where
+pub record OwnNameIs (incoming : Bytes) (v : Edition) (n : ℕ) (plan : Bytes) (w : Walk) (a : Column) (r : OwnName) : Type 0 where
   pub answer : ownNameAnswer incoming v n plan w a r
 
 -- the mapping where w stands makes a struct whose field k is a
-pub record FieldOf (incoming : Bytes) (v : Version) (n : ℕ) (plan : Bytes) (w : Walk) (k : ℕ) (a : Column) : Type 0 where
+pub record FieldOf (incoming : Bytes) (v : Edition) (n : ℕ) (plan : Bytes) (w : Walk) (k : ℕ) (a : Column) : Type 0 where
   pub fields : Fields
   pub mapped : MappedAt incoming v n plan w (struct fields)
   pub found : columnAt fields k ≡ gives a
 
-abbrev pub mappedNameAnswer : Bytes → Version → ℕ → Bytes → Walk → ℕ → Column → PartName → Type 0
+abbrev pub mappedNameAnswer : Bytes → Edition → ℕ → Bytes → Walk → ℕ → Column → PartName → Type 0
 mappedNameAnswer incoming v n plan w k a (PartName.Is m) = NameAt incoming plan m (a .name)
 mappedNameAnswer incoming v n plan w k a PartName.Child = FieldOf incoming v n plan w k a
 
-pub record MappedNameIs (incoming : Bytes) (v : Version) (n : ℕ) (plan : Bytes) (w : Walk) (k : ℕ) (a : Column) (r : PartName) : Type 0 where
+pub record MappedNameIs (incoming : Bytes) (v : Edition) (n : ℕ) (plan : Bytes) (w : Walk) (k : ℕ) (a : Column) (r : PartName) : Type 0 where
   pub answer : mappedNameAnswer incoming v n plan w k a r

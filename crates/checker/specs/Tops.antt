@@ -6,7 +6,7 @@ use Rattle.layout.specs.Bytes.{Bytes}
 use Rattle.layout.specs.Tree.{Fields, fieldsOf}
 use Rattle.layout.specs.Layout.{deepest}
 use Rattle.layout.specs.Stands.{ColumnsAt}
-use Rattle.layout.specs.declared.version.Version.{Version}
+use Rattle.layout.specs.declared.edition.Edition.{Edition}
 use Rattle.plan.specs.Result.{gives, Answer, accepted, refusedAt}
 use Rattle.plan.specs.Selector.{Selectors, nestingAll}
 use Rattle.plan.specs.Read.{longestPlan, deepestSelector}
@@ -20,7 +20,7 @@ planChecked (accepted a) = PlanChecked.Passed
 planChecked (refusedAt n k) = PlanChecked.Refused n k
 
 -- over the n columns Γ of an incoming layout, the count selectors ss
-pub record TopsAt (incoming : Bytes) (v : Version) (n : ℕ) (plan : Bytes) (count at : ℕ) (Γ : Fields) (ss : Selectors) : Type 0 where
+pub record TopsAt (incoming : Bytes) (v : Edition) (n : ℕ) (plan : Bytes) (count at : ℕ) (Γ : Fields) (ss : Selectors) : Type 0 where
   pub columns : ColumnsAt v deepest incoming n 7
   pub are : fieldsOf (columns .columns) ≡ Γ
   pub selectors : SelectorsAt plan count at
@@ -30,7 +30,7 @@ pub record TopsAt (incoming : Bytes) (v : Version) (n : ℕ) (plan : Bytes) (cou
   pub nests : nestingAll ss ≤ deepestSelector
 
 -- which give the columns fs
-pub record TypedTops (incoming : Bytes) (v : Version) (n : ℕ) (plan : Bytes) (count at : ℕ) (fs : Fields) : Type 0 where
+pub record TypedTops (incoming : Bytes) (v : Edition) (n : ℕ) (plan : Bytes) (count at : ℕ) (fs : Fields) : Type 0 where
   pub scope : Fields
   pub parts : Selectors
   pub tops : TopsAt incoming v n plan count at scope parts

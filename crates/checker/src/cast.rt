@@ -2,7 +2,7 @@
 ghost use mathlib.Core.Path.{_≡_};
 ghost use Rattle.layout.specs.Tree.{DataType, dtypeOf};
 ghost use Rattle.layout.specs.Stands.{TypeAt};
-ghost use Rattle.layout.specs.declared.version.Version.{Version as VersionOf};
+ghost use Rattle.layout.specs.declared.edition.Edition.{Edition as EditionOf};
 ghost use Rattle.plan.specs.Check.{castFits};
 ghost use Rattle.checker.specs.Standing.{TypeHeadIs};
 use crate::place::TypeHead;
@@ -14,7 +14,7 @@ use rules::outcome::CastOption;
 // A type that begins with `h` to the type at `c` in the plan.
 pub fn cast_fits(incoming: &[u8], plan: &[u8], h: TypeHead, c: Cursor, o: CastOption) -> bool
     requires { ⌜ ((t : DataType) × TypeHeadIs (now incoming) (now plan) t h) ⌝ }
-    ensures { λ r. ⌜ ((t : DataType) (Q : TypeAt VersionOf.ByName 16 (now (plan .entry)) (c .at)) → TypeHeadIs (now (incoming .entry)) (now (plan .entry)) t h → r ≡ castFits t (dtypeOf (Q .tree)) o) ⌝ }
+    ensures { λ r. ⌜ ((t : DataType) (Q : TypeAt EditionOf.One 16 (now (plan .entry)) (c .at)) → TypeHeadIs (now (incoming .entry)) (now (plan .entry)) t h → r ≡ castFits t (dtypeOf (Q .tree)) o) ⌝ }
 {
     match h {
         TypeHead::Leaf(place, l) => match place {

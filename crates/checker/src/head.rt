@@ -3,7 +3,7 @@ ghost use mathlib.Core.Path.{_≡_};
 ghost use Prim.Native.Nat.{ℕ};
 ghost use Rattle.layout.specs.Bytes.{Bytes};
 ghost use Rattle.layout.specs.Tree.{DataType, array};
-ghost use Rattle.layout.specs.declared.version.Version.{Version as VersionOf};
+ghost use Rattle.layout.specs.declared.edition.Edition.{Edition as EditionOf};
 ghost use Rattle.nodes.specs.Typed.{TypeIs};
 ghost use Rattle.direct.specs.Places.{bytesOf};
 ghost use Rattle.checker.specs.Standing.{MappedAt, ResolvedAt, TypeHeadIs};
@@ -13,8 +13,8 @@ use crate::resolve::Source;
 use crate::resolve::resolve;
 use direct::place::Place;
 use layout::cursor::Cursor;
+use layout::edition::Edition;
 use layout::types::Head;
-use layout::version::Version;
 use walk::head::SelectorHead;
 use walk::head::head;
 use walk::head::struct_fields;
@@ -22,7 +22,7 @@ use walk::walk::Walk;
 
 // Of a type that stands in the bytes of a place.
 fn raw_head(s: &[u8], place: Place, c: Cursor) -> TypeHead
-    ensures { λ r. ⌜ ((incoming plan : Bytes) (v : VersionOf) (t : DataType) → bytesOf incoming plan place ≡ now (s .entry) → TypeIs v (now (s .entry)) (c .at) t → TypeHeadIs incoming plan t r) ⌝ }
+    ensures { λ r. ⌜ ((incoming plan : Bytes) (v : EditionOf) (t : DataType) → bytesOf incoming plan place ≡ now (s .entry) → TypeIs v (now (s .entry)) (c .at) t → TypeHeadIs incoming plan t r) ⌝ }
 {
     match c.head(s) {
         Head::Leaf(l, _) => TypeHead::Leaf(place, l),
@@ -34,7 +34,7 @@ fn raw_head(s: &[u8], place: Place, c: Cursor) -> TypeHead
 }
 
 fn raw_width(s: &[u8], c: Cursor) -> u32
-    ensures { λ r. ⌜ ((v : VersionOf) (w : ℕ) (t : DataType) → TypeIs v (now (s .entry)) (c .at) (array w t) → r ≡ w) ⌝ }
+    ensures { λ r. ⌜ ((v : EditionOf) (w : ℕ) (t : DataType) → TypeIs v (now (s .entry)) (c .at) (array w t) → r ≡ w) ⌝ }
 {
     match c.head(s) {
         Head::Leaf(_, _) => 0,
@@ -46,7 +46,7 @@ fn raw_width(s: &[u8], c: Cursor) -> u32
 }
 
 // The width of the array that an array mapping makes is that of its input.
-fn width(incoming: &[u8], v: Version, n: u16, plan: &[u8], w: Walk) -> u32
+fn width(incoming: &[u8], v: Edition, n: u16, plan: &[u8], w: Walk) -> u32
     requires { ⌜ ((x : ℕ) × (t : DataType) × MappedAt (now incoming) v n (now plan) w (array x t)) ⌝ }
     ensures { λ r. ⌜ ((x : ℕ) (t : DataType) → MappedAt (now (incoming .entry)) v n (now (plan .entry)) w (array x t) → r ≡ x) ⌝ }
 {
@@ -68,7 +68,7 @@ fn width(incoming: &[u8], v: Version, n: u16, plan: &[u8], w: Walk) -> u32
 }
 
 // Of the type that a mapping makes.
-fn mapped_head(incoming: &[u8], v: Version, n: u16, plan: &[u8], w: Walk) -> TypeHead
+fn mapped_head(incoming: &[u8], v: Edition, n: u16, plan: &[u8], w: Walk) -> TypeHead
     requires { ⌜ ((t : DataType) × MappedAt (now incoming) v n (now plan) w t) ⌝ }
     ensures { λ r. ⌜ ((t : DataType) → MappedAt (now (incoming .entry)) v n (now (plan .entry)) w t → TypeHeadIs (now (incoming .entry)) (now (plan .entry)) t r) ⌝ }
 {
@@ -88,7 +88,7 @@ fn mapped_head(incoming: &[u8], v: Version, n: u16, plan: &[u8], w: Walk) -> Typ
     }
 }
 
-pub fn type_head(incoming: &[u8], v: Version, n: u16, plan: &[u8], r: Resolved) -> TypeHead
+pub fn type_head(incoming: &[u8], v: Edition, n: u16, plan: &[u8], r: Resolved) -> TypeHead
     requires { ⌜ ((t : DataType) × ResolvedAt (now incoming) v n (now plan) r t) ⌝ }
     ensures { λ h. ⌜ ((t : DataType) → ResolvedAt (now (incoming .entry)) v n (now (plan .entry)) r t → TypeHeadIs (now (incoming .entry)) (now (plan .entry)) t h) ⌝ }
 {

@@ -20,7 +20,7 @@ use crate::resolve::Resolved;
 use crate::resolve::Source;
 use crate::resolve::resolve;
 use layout::cursor::Cursor;
-use layout::version::Version;
+use layout::edition::Edition;
 use nodes::types::form_size;
 use walk::head::skip_selector;
 use walk::walk::Walk;
@@ -32,7 +32,7 @@ pub enum Fit {
 }
 
 // Of a type that stands in bytes.
-fn raw_fit(s: &[u8], v: Version, c: Cursor, levels: u8, room: usize) -> Fit
+fn raw_fit(s: &[u8], v: Edition, c: Cursor, levels: u8, room: usize) -> Fit
     requires { ⌜ ((t : DataType) × TypeIs v (now s) (c .at) t) ⌝ }
     ensures { λ r. ⌜ ((t : DataType) → TypeIs v (now (s .entry)) (c .at) t → r ≡ typeFit t levels room) ⌝ }
 {
@@ -48,7 +48,7 @@ fn raw_fit(s: &[u8], v: Version, c: Cursor, levels: u8, room: usize) -> Fit
 
 pub fn type_fit(
     incoming: &[u8],
-    v: Version,
+    v: Edition,
     n: u16,
     plan: &[u8],
     r: Resolved,
@@ -62,7 +62,7 @@ pub fn type_fit(
     let at = r.at;
     match source {
         Source::Incoming => raw_fit(incoming, v, at, levels, room),
-        Source::Plan => raw_fit(plan, Version::ByName, at, levels, room),
+        Source::Plan => raw_fit(plan, Edition::One, at, levels, room),
         Source::Mapped => mapped_fit(incoming, v, n, plan, r, levels, room),
     }
 }
@@ -70,7 +70,7 @@ pub fn type_fit(
 // Of a type that a mapping makes.
 fn mapped_fit(
     incoming: &[u8],
-    v: Version,
+    v: Edition,
     n: u16,
     plan: &[u8],
     r: Resolved,
@@ -101,7 +101,7 @@ fn mapped_fit(
 // Of the element of a list or an array, whose head has so many bytes.
 fn element_fit(
     incoming: &[u8],
-    v: Version,
+    v: Edition,
     n: u16,
     plan: &[u8],
     r: Resolved,
@@ -122,7 +122,7 @@ fn element_fit(
 // Of the names and types of the fields that the struct mapping where the walk stands makes.
 fn fields_fit(
     incoming: &[u8],
-    v: Version,
+    v: Edition,
     n: u16,
     plan: &[u8],
     w: Walk,
@@ -160,7 +160,7 @@ fn fields_fit(
 }
 
 // Whether a type is within the limits.
-pub fn within_limits(incoming: &[u8], v: Version, n: u16, plan: &[u8], r: Resolved) -> bool
+pub fn within_limits(incoming: &[u8], v: Edition, n: u16, plan: &[u8], r: Resolved) -> bool
     requires { ⌜ ((t : DataType) × ResolvedAt (now incoming) v n (now plan) r t) ⌝ }
     ensures { λ b. ⌜ ((t : DataType) → ResolvedAt (now (incoming .entry)) v n (now (plan .entry)) r t → b ≡ withinLimits t) ⌝ }
 {

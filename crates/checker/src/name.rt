@@ -4,7 +4,7 @@ ghost use mathlib.Core.List.{[]};
 ghost use Prim.Native.Nat.{ℕ};
 ghost use Rattle.layout.specs.Bytes.{Bytes};
 ghost use Rattle.layout.specs.Tree.{DataType};
-ghost use Rattle.layout.specs.declared.version.Version.{Version as VersionOf};
+ghost use Rattle.layout.specs.declared.edition.Edition.{Edition as EditionOf};
 ghost use Rattle.plan.specs.Check.{Column};
 ghost use Rattle.nodes.specs.Typed.{TypeIs};
 ghost use Rattle.direct.specs.Places.{bytesOf, NameAt};
@@ -18,10 +18,10 @@ use direct::place::named;
 use layout::bytes::Span;
 use layout::columns::Position;
 use layout::cursor::Cursor;
+use layout::edition::Edition;
 use layout::find::Found;
 use layout::find::column_at;
 use layout::types::Head;
-use layout::version::Version;
 use walk::head::SelectorHead;
 use walk::head::head;
 use walk::head::rename_name;
@@ -52,7 +52,7 @@ fn no_name(place: Place) -> Name
 }
 
 // Of part `k` of a type that stands in the bytes of a place.
-fn raw_name(s: &[u8], v: Version, place: Place, c: Cursor, k: u16) -> Name
+fn raw_name(s: &[u8], v: Edition, place: Place, c: Cursor, k: u16) -> Name
     requires { ⌜ ((t : DataType) × TypeIs v (now s) (c .at) t) ⌝ }
     ensures { λ r. ⌜ ((incoming plan : Bytes) (t : DataType) (a : Column) → bytesOf incoming plan place ≡ now (s .entry) → TypeIs v (now (s .entry)) (c .at) t → PartOf t k a → NameAt incoming plan r (a .name)) ⌝ }
 {
@@ -69,7 +69,7 @@ fn raw_name(s: &[u8], v: Version, place: Place, c: Cursor, k: u16) -> Name
 }
 
 // Of the column `k` of the incoming layout.
-fn column_name(incoming: &[u8], v: Version, n: u16, k: Position) -> Name
+fn column_name(incoming: &[u8], v: Edition, n: u16, k: Position) -> Name
     requires { ⌜ ((a : Column) × ColumnOf (now incoming) v n k a) ⌝ }
     ensures { λ r. ⌜ ((plan : Bytes) (a : Column) → ColumnOf (now (incoming .entry)) v n k a → NameAt (now (incoming .entry)) plan r (a .name)) ⌝ }
 {
@@ -81,7 +81,7 @@ fn column_name(incoming: &[u8], v: Version, n: u16, k: Position) -> Name
 
 // Of the selector where the walk stands.
 fn own_name(plan: &[u8], w: Walk) -> OwnName
-    ensures { λ r. ⌜ ((incoming : Bytes) (v : VersionOf) (n : ℕ) (a : Column) → NamedAt incoming v n (now (plan .entry)) w a → OwnNameIs incoming v n (now (plan .entry)) w a r) ⌝ }
+    ensures { λ r. ⌜ ((incoming : Bytes) (v : EditionOf) (n : ℕ) (a : Column) → NamedAt incoming v n (now (plan .entry)) w a → OwnNameIs incoming v n (now (plan .entry)) w a r) ⌝ }
 {
     let c = Cursor { at: w.at };
     match head(plan, c) {
@@ -101,7 +101,7 @@ fn own_name(plan: &[u8], w: Walk) -> OwnName
 
 // Of the part `k` of what a mapping makes.
 fn mapped_name(plan: &[u8], w: Walk) -> PartName
-    ensures { λ r. ⌜ ((incoming : Bytes) (v : VersionOf) (n : ℕ) (t : DataType) (k : ℕ) (a : Column) → MappedAt incoming v n (now (plan .entry)) w t → PartOf t k a → MappedNameIs incoming v n (now (plan .entry)) w k a r) ⌝ }
+    ensures { λ r. ⌜ ((incoming : Bytes) (v : EditionOf) (n : ℕ) (t : DataType) (k : ℕ) (a : Column) → MappedAt incoming v n (now (plan .entry)) w t → PartOf t k a → MappedNameIs incoming v n (now (plan .entry)) w k a r) ⌝ }
 {
     let c = Cursor { at: w.at };
     match head(plan, c) {
@@ -117,7 +117,7 @@ fn mapped_name(plan: &[u8], w: Walk) -> PartName
 }
 
 // Of the part `k` of a type, where it stands there.
-fn direct_name(incoming: &[u8], v: Version, plan: &[u8], r: Resolved, k: u16) -> PartName
+fn direct_name(incoming: &[u8], v: Edition, plan: &[u8], r: Resolved, k: u16) -> PartName
     requires { ⌜ ((n : ℕ) × (t : DataType) × ResolvedAt (now incoming) v n (now plan) r t) ⌝ }
     ensures { λ p. ⌜ ((n : ℕ) (t : DataType) (a : Column) → ResolvedAt (now (incoming .entry)) v n (now (plan .entry)) r t → PartOf t k a → MappedNameIs (now (incoming .entry)) v n (now (plan .entry)) (r .walk) k a p) ⌝ }
 {
@@ -126,12 +126,12 @@ fn direct_name(incoming: &[u8], v: Version, plan: &[u8], r: Resolved, k: u16) ->
     let w = r.walk;
     match source {
         Source::Incoming => PartName::Is(raw_name(incoming, v, Place::Incoming, at, k)),
-        Source::Plan => PartName::Is(raw_name(plan, Version::ByName, Place::Plan, at, k)),
+        Source::Plan => PartName::Is(raw_name(plan, Edition::One, Place::Plan, at, k)),
         Source::Mapped => mapped_name(plan, w),
     }
 }
 
-pub fn name_at(incoming: &[u8], v: Version, n: u16, plan: &[u8], w: Walk) -> Name
+pub fn name_at(incoming: &[u8], v: Edition, n: u16, plan: &[u8], w: Walk) -> Name
     requires { ⌜ ((a : Column) × NamedAt (now incoming) v n (now plan) w a) ⌝ }
     ensures { λ r. ⌜ ((a : Column) → NamedAt (now (incoming .entry)) v n (now (plan .entry)) w a → NameAt (now (incoming .entry)) (now (plan .entry)) r (a .name)) ⌝ }
 {

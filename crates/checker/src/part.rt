@@ -14,7 +14,7 @@ use crate::resolve::found_in;
 use crate::resolve::outer;
 use crate::resolve::resolve;
 use layout::cursor::Cursor;
-use layout::version::Version;
+use layout::edition::Edition;
 use nodes::types::type_at;
 use walk::walk::Walk;
 
@@ -28,7 +28,7 @@ fn one(k: u16) -> [u16; 64]
 }
 
 // Of a type that stands in bytes.
-fn raw_part(s: &[u8], v: Version, c: Cursor, k: u16) -> Cursor
+fn raw_part(s: &[u8], v: Edition, c: Cursor, k: u16) -> Cursor
     requires { ⌜ ((t : DataType) × (a : Column) × TypeIs v (now s) (c .at) t × PartOf t k a) ⌝ }
     ensures { λ r. ⌜ ((t : DataType) (a : Column) → TypeIs v (now (s .entry)) (c .at) t → PartOf t k a → TypeIs v (now (s .entry)) (r .at) (a .type)) ⌝ }
 {
@@ -36,7 +36,7 @@ fn raw_part(s: &[u8], v: Version, c: Cursor, k: u16) -> Cursor
     type_at(s, v, c, path, 0, 1)
 }
 
-pub fn part(incoming: &[u8], v: Version, n: u16, plan: &[u8], r: Resolved, k: u16) -> Resolved
+pub fn part(incoming: &[u8], v: Edition, n: u16, plan: &[u8], r: Resolved, k: u16) -> Resolved
     requires { ⌜ ((t : DataType) × (a : Column) × ResolvedAt (now incoming) v n (now plan) r t × PartOf t k a) ⌝ }
     ensures { λ p. ⌜ ((t : DataType) (a : Column) → ResolvedAt (now (incoming .entry)) v n (now (plan .entry)) r t → PartOf t k a → ResolvedAt (now (incoming .entry)) v n (now (plan .entry)) p (a .type)) ⌝ }
 {
@@ -49,7 +49,7 @@ pub fn part(incoming: &[u8], v: Version, n: u16, plan: &[u8], r: Resolved, k: u1
             found_in(Source::Incoming, c, w)
         }
         Source::Plan => {
-            let c = raw_part(plan, Version::ByName, at, k);
+            let c = raw_part(plan, Edition::One, at, k);
             found_in(Source::Plan, c, w)
         }
         Source::Mapped => {
@@ -60,7 +60,7 @@ pub fn part(incoming: &[u8], v: Version, n: u16, plan: &[u8], r: Resolved, k: u1
 }
 
 // The type whose parts the positions inside the innermost mapping take: that of the mapping's input.
-pub fn enclosing(incoming: &[u8], v: Version, n: u16, plan: &[u8], w: Walk) -> Resolved
+pub fn enclosing(incoming: &[u8], v: Edition, n: u16, plan: &[u8], w: Walk) -> Resolved
     requires { ⌜ ((Δ : Fields) × ScopedAt (now incoming) v n (now plan) w Δ) ⌝ }
     requires { ⌜ 0 < w .deep ⌝ }
     ensures { λ r. ⌜ ((Δ : Fields) → ScopedAt (now (incoming .entry)) v n (now (plan .entry)) w Δ → EnclosingIs (now (incoming .entry)) v n (now (plan .entry)) w Δ r) ⌝ }

@@ -13,9 +13,9 @@ ghost use Rattle.checker.specs.Shallow.{inputOf};
 ghost use Rattle.checker.specs.Standing.{ColumnAlong, TypedAt, StoppedAt, StopIs, Resolves};
 use layout::columns::Position;
 use layout::cursor::Cursor;
+use layout::edition::Edition;
 use layout::find::Found;
 use layout::find::column_at;
-use layout::version::Version;
 use nodes::types::type_at;
 use walk::head::SelectorHead;
 use walk::head::head;
@@ -70,7 +70,7 @@ pub fn outer(w: Walk) -> Walk
 // The type at the end of a path into the column `k` of the incoming layout.
 fn in_column(
     incoming: &[u8],
-    v: Version,
+    v: Edition,
     n: u16,
     k: Position,
     path: [u16; 64],
@@ -89,7 +89,7 @@ fn in_column(
 }
 
 // What stands where no move is left.
-fn stopped(incoming: &[u8], v: Version, n: u16, plan: &[u8], w: Walk) -> Stop
+fn stopped(incoming: &[u8], v: Edition, n: u16, plan: &[u8], w: Walk) -> Stop
     requires { ⌜ ((t : DataType) × StoppedAt (now incoming) v n (now plan) w t) ⌝ }
     ensures { λ r. ⌜ ((t : DataType) → StoppedAt (now (incoming .entry)) v n (now (plan .entry)) w t → StopIs (now (incoming .entry)) v n (now (plan .entry)) w t r) ⌝ }
 {
@@ -100,11 +100,11 @@ fn stopped(incoming: &[u8], v: Version, n: u16, plan: &[u8], w: Walk) -> Stop
             Stop::Incoming(in_column(incoming, v, n, k, path, w.deep, w.len))
         }
         SelectorHead::Constant(_, d) => {
-            Stop::Plan(type_at(plan, Version::ByName, d, path, w.deep, w.len))
+            Stop::Plan(type_at(plan, Edition::One, d, path, w.deep, w.len))
         }
         SelectorHead::Cast(d) => {
             let e = skip_selector(plan, d);
-            Stop::Plan(type_at(plan, Version::ByName, e, path, w.deep, w.len))
+            Stop::Plan(type_at(plan, Edition::One, e, path, w.deep, w.len))
         }
         SelectorHead::Rename(_) => Stop::Rename,
         SelectorHead::Struct(_) => Stop::Mapping,
@@ -114,7 +114,7 @@ fn stopped(incoming: &[u8], v: Version, n: u16, plan: &[u8], w: Walk) -> Stop
     }
 }
 
-pub fn resolve(incoming: &[u8], v: Version, n: u16, plan: &[u8], w: Walk) -> Resolved
+pub fn resolve(incoming: &[u8], v: Edition, n: u16, plan: &[u8], w: Walk) -> Resolved
     requires { ⌜ ((t : DataType) × TypedAt (now incoming) v n (now plan) w t) ⌝ }
     ensures { λ r. ⌜ ((t : DataType) → TypedAt (now (incoming .entry)) v n (now (plan .entry)) w t → Resolves (now (incoming .entry)) v n (now (plan .entry)) w t r) ⌝ }
 {

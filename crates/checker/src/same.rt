@@ -5,7 +5,7 @@ ghost use Prim.Native.Nat.{ℕ};
 ghost use Rattle.layout.specs.Bytes.{Bytes, sameBytes};
 ghost use Rattle.layout.specs.Tree.{DataType, struct, Fields, countFields, dtypeOf, fieldsOf};
 ghost use Rattle.layout.specs.Stands.{TypeAt, ColumnsAt};
-ghost use Rattle.layout.specs.declared.version.Version.{Version as VersionOf};
+ghost use Rattle.layout.specs.declared.edition.Edition.{Edition as EditionOf};
 ghost use Rattle.forms.specs.Form.{headOf};
 ghost use Rattle.forms.specs.Same.{sameDtype, sameFields};
 ghost use Rattle.forms.specs.Labelled.{ElementAt, ColumnAt};
@@ -28,8 +28,8 @@ use forms::compare::same_type;
 use forms::head::head_end;
 use layout::columns::Labelled;
 use layout::cursor::Cursor;
+use layout::edition::Edition;
 use layout::types::Head;
-use layout::version::Version;
 use walk::head::skip_selector;
 use walk::walk::Walk;
 
@@ -76,7 +76,7 @@ fn code(h: TypeHead) -> HeadCode
 
 // Of the target's type at a cursor.
 fn target_code(s: &[u8], c: Cursor) -> HeadCode
-    ensures { λ r. ⌜ ((v : VersionOf) (d : ℕ) (Q : TypeAt v d (now (s .entry)) (c .at)) → r ≡ codeOf (headOf (dtypeOf (Q .tree)))) ⌝ }
+    ensures { λ r. ⌜ ((v : EditionOf) (d : ℕ) (Q : TypeAt v d (now (s .entry)) (c .at)) → r ≡ codeOf (headOf (dtypeOf (Q .tree)))) ⌝ }
 {
     match c.head(s) {
         Head::Leaf(_, _) => HeadCode { code: 0, number: 0 },
@@ -98,12 +98,12 @@ fn target_code(s: &[u8], c: Cursor) -> HeadCode
 
 pub fn same_as(
     incoming: &[u8],
-    v: Version,
+    v: Edition,
     n: u16,
     plan: &[u8],
     r: Resolved,
     target: &[u8],
-    vt: Version,
+    vt: Edition,
     depth: u8,
     c: Cursor,
 ) -> Ends
@@ -115,7 +115,7 @@ pub fn same_as(
     let at = r.at;
     match source {
         Source::Incoming => target_end(same_type(incoming, v, 16, at, target, vt, depth, c)),
-        Source::Plan => target_end(same_type(plan, Version::ByName, 16, at, target, vt, depth, c)),
+        Source::Plan => target_end(same_type(plan, Edition::One, 16, at, target, vt, depth, c)),
         Source::Mapped => same_mapped(incoming, v, n, plan, r, target, vt, depth, c),
     }
 }
@@ -123,12 +123,12 @@ pub fn same_as(
 // A type that a mapping makes.
 fn same_mapped(
     incoming: &[u8],
-    v: Version,
+    v: Edition,
     n: u16,
     plan: &[u8],
     r: Resolved,
     target: &[u8],
-    vt: Version,
+    vt: Edition,
     depth: u8,
     c: Cursor,
 ) -> Ends
@@ -161,12 +161,12 @@ fn same_mapped(
 // The element of a list or an array; the target's label is dropped.
 fn same_element(
     incoming: &[u8],
-    v: Version,
+    v: Edition,
     n: u16,
     plan: &[u8],
     r: Resolved,
     target: &[u8],
-    vt: Version,
+    vt: Edition,
     depth: u8,
     c: Cursor,
 ) -> Ends
@@ -186,12 +186,12 @@ fn same_element(
 // The column that the selector where the walk stands gives, and the target's column at `c`: names and types.
 pub fn same_column(
     incoming: &[u8],
-    v: Version,
+    v: Edition,
     n: u16,
     plan: &[u8],
     w: Walk,
     target: &[u8],
-    vt: Version,
+    vt: Edition,
     depth: u8,
     c: Cursor,
 ) -> Ends
@@ -216,13 +216,13 @@ pub fn same_column(
 // The `count` fields that the struct mapping where the walk stands makes, and as many of the target's columns.
 fn same_fields(
     incoming: &[u8],
-    v: Version,
+    v: Edition,
     n: u16,
     plan: &[u8],
     w: Walk,
     count: u16,
     target: &[u8],
-    vt: Version,
+    vt: Edition,
     depth: u8,
     c: Cursor,
 ) -> Ends

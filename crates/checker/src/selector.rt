@@ -6,7 +6,7 @@ ghost use Prim.Native.Nat.{ℕ};
 ghost use Rattle.layout.specs.Bytes.{Bytes};
 ghost use Rattle.layout.specs.Tree.{Fields, struct, countFields, DataType, dtypeOf};
 ghost use Rattle.layout.specs.Stands.{TypeAt};
-ghost use Rattle.layout.specs.declared.version.Version.{Version as VersionOf};
+ghost use Rattle.layout.specs.declared.edition.Edition.{Edition as EditionOf};
 ghost use Rattle.plan.specs.Selector.{Selector, Selectors, countSelectors, structMapping};
 ghost use Rattle.plan.specs.Check.{Column, columnAt, typeOf, resulting, checkCast};
 ghost use Rattle.walk.specs.Stands.{SelectorAt};
@@ -25,7 +25,7 @@ use crate::resolve::found_in;
 use crate::resolve::resolve;
 use layout::columns::Position;
 use layout::cursor::Cursor;
-use layout::version::Version;
+use layout::edition::Edition;
 use walk::head::SelectorHead;
 use walk::head::cast_option;
 use walk::head::head;
@@ -51,7 +51,7 @@ fn fitting(b: bool) -> Checked
 }
 
 // How many columns positions can take from.
-fn scope_count(incoming: &[u8], v: Version, n: u16, plan: &[u8], w: Walk) -> u16
+fn scope_count(incoming: &[u8], v: Edition, n: u16, plan: &[u8], w: Walk) -> u16
     requires { ⌜ ((Δ : Fields) × ScopedAt (now incoming) v n (now plan) w Δ) ⌝ }
     ensures { λ r. ⌜ ((Δ : Fields) → ScopedAt (now (incoming .entry)) v n (now (plan .entry)) w Δ → r ≡ countFields Δ) ⌝ }
 {
@@ -79,9 +79,9 @@ fn check_position(k: Position, scope: u16) -> Checked
 }
 
 // A cast whose input, at which `x` stands and which begins at `input`, has passed.
-fn cast_result(incoming: &[u8], v: Version, n: u16, plan: &[u8], x: Walk, input: Cursor) -> Checked
-    requires { ⌜ ((a : Column) × (P : SelectorAt (now plan) (input .at)) × (T : TypeAt VersionOf.ByName 16 (now plan) (P .end)) × OptionAt (now plan) (T .end) × TypedAt (now incoming) v n (now plan) x (a .type)) ⌝ }
-    ensures { λ r. ⌜ ((a : Column) (P : SelectorAt (now (plan .entry)) (input .at)) (T : TypeAt VersionOf.ByName 16 (now (plan .entry)) (P .end)) (O : OptionAt (now (plan .entry)) (T .end)) → TypedAt (now (incoming .entry)) v n (now (plan .entry)) x (a .type) → r ≡ checkedOf (checkCast (dtypeOf (T .tree)) (O .option) a)) ⌝ }
+fn cast_result(incoming: &[u8], v: Edition, n: u16, plan: &[u8], x: Walk, input: Cursor) -> Checked
+    requires { ⌜ ((a : Column) × (P : SelectorAt (now plan) (input .at)) × (T : TypeAt EditionOf.One 16 (now plan) (P .end)) × OptionAt (now plan) (T .end) × TypedAt (now incoming) v n (now plan) x (a .type)) ⌝ }
+    ensures { λ r. ⌜ ((a : Column) (P : SelectorAt (now (plan .entry)) (input .at)) (T : TypeAt EditionOf.One 16 (now (plan .entry)) (P .end)) (O : OptionAt (now (plan .entry)) (T .end)) → TypedAt (now (incoming .entry)) v n (now (plan .entry)) x (a .type) → r ≡ checkedOf (checkCast (dtypeOf (T .tree)) (O .option) a)) ⌝ }
 {
     let r = resolve(incoming, v, n, plan, x);
     let h = type_head(incoming, v, n, plan, r);
@@ -111,7 +111,7 @@ fn is_transform(plan: &[u8], c: Cursor) -> bool
 }
 
 // A rename whose input, at which `x` stands, has passed. What a transform gives was found within the limits by its own check.
-fn rename_result(incoming: &[u8], v: Version, n: u16, plan: &[u8], x: Walk) -> Checked
+fn rename_result(incoming: &[u8], v: Edition, n: u16, plan: &[u8], x: Walk) -> Checked
     requires { ⌜ ((a : Column) × NamedAt (now incoming) v n (now plan) x a) ⌝ }
     ensures { λ r. ⌜ ((a : Column) (name : Bytes) → NamedAt (now (incoming .entry)) v n (now (plan .entry)) x a → r ≡ checkedOf (resulting name (a .type))) ⌝ }
 {
@@ -123,7 +123,7 @@ fn rename_result(incoming: &[u8], v: Version, n: u16, plan: &[u8], x: Walk) -> C
 }
 
 // What the input of a mapping begins with.
-fn input_head(incoming: &[u8], v: Version, n: u16, plan: &[u8], x: Walk) -> TypeHead
+fn input_head(incoming: &[u8], v: Edition, n: u16, plan: &[u8], x: Walk) -> TypeHead
     requires { ⌜ ((t : DataType) × TypedAt (now incoming) v n (now plan) x t) ⌝ }
     ensures { λ h. ⌜ ((t : DataType) → TypedAt (now (incoming .entry)) v n (now (plan .entry)) x t → TypeHeadIs (now (incoming .entry)) (now (plan .entry)) t h) ⌝ }
 {
@@ -133,7 +133,7 @@ fn input_head(incoming: &[u8], v: Version, n: u16, plan: &[u8], x: Walk) -> Type
 
 // A position, among so many columns, or a constant.
 fn check_source(plan: &[u8], w: Walk, scope: u16) -> Checked
-    ensures { λ r. ⌜ ((incoming : Bytes) (v : VersionOf) (n : ℕ) (s : Selector) (Δ : Fields) → CheckingAt incoming v n (now (plan .entry)) w s Δ → countFields Δ ≡ scope → isTransform s ≡ false → r ≡ checkedOf (typeOf Δ s)) ⌝ }
+    ensures { λ r. ⌜ ((incoming : Bytes) (v : EditionOf) (n : ℕ) (s : Selector) (Δ : Fields) → CheckingAt incoming v n (now (plan .entry)) w s Δ → countFields Δ ≡ scope → isTransform s ≡ false → r ≡ checkedOf (typeOf Δ s)) ⌝ }
 {
     let c = Cursor { at: w.at };
     match head(plan, c) {
@@ -203,7 +203,7 @@ fn arrayed_left(h: TypeHead) -> Rest
 }
 
 // A transform whose input, at which `x` stands, has passed: the result of a cast or rename, the kind of a mapping's input.
-fn check_input(incoming: &[u8], v: Version, n: u16, plan: &[u8], w: Walk, x: Walk) -> Rest
+fn check_input(incoming: &[u8], v: Edition, n: u16, plan: &[u8], w: Walk, x: Walk) -> Rest
     requires { ⌜ ((s : Selector) × (Δ : Fields) × PassedInput (now incoming) v n (now plan) w x s Δ) ⌝ }
     ensures { λ r. ⌜ ((s : Selector) (Δ : Fields) → PassedInput (now (incoming .entry)) v n (now (plan .entry)) w x s Δ → RestIs (now (incoming .entry)) v n (now (plan .entry)) w s Δ r) ⌝ }
 {
@@ -224,7 +224,7 @@ fn check_input(incoming: &[u8], v: Version, n: u16, plan: &[u8], w: Walk, x: Wal
 }
 
 // The selector at which the walk stands, where positions take from so many columns.
-fn check_scoped(incoming: &[u8], v: Version, n: u16, plan: &[u8], w: Walk, scope: u16) -> Checked
+fn check_scoped(incoming: &[u8], v: Edition, n: u16, plan: &[u8], w: Walk, scope: u16) -> Checked
     requires { ⌜ ((s : Selector) × (Δ : Fields) × CheckingAt (now incoming) v n (now plan) w s Δ × (countFields Δ ≡ scope)) ⌝ }
     ensures { λ r. ⌜ ((s : Selector) (Δ : Fields) → CheckingAt (now (incoming .entry)) v n (now (plan .entry)) w s Δ → countFields Δ ≡ scope → r ≡ checkedOf (typeOf Δ s)) ⌝ }
 {
@@ -236,7 +236,7 @@ fn check_scoped(incoming: &[u8], v: Version, n: u16, plan: &[u8], w: Walk, scope
 
 // The input of a transform, then what is left. What a level of nesting keeps on the stack is here and in the two functions below; the
 // larger work is done in functions that return before the next level.
-fn check_transform(incoming: &[u8], v: Version, n: u16, plan: &[u8], w: Walk, scope: u16) -> Checked
+fn check_transform(incoming: &[u8], v: Edition, n: u16, plan: &[u8], w: Walk, scope: u16) -> Checked
     requires { ⌜ ((s : Selector) × (Δ : Fields) × CheckingAt (now incoming) v n (now plan) w s Δ × (countFields Δ ≡ scope) × (isTransform s ≡ true)) ⌝ }
     ensures { λ r. ⌜ ((s : Selector) (Δ : Fields) → CheckingAt (now (incoming .entry)) v n (now (plan .entry)) w s Δ → countFields Δ ≡ scope → isTransform s ≡ true → r ≡ checkedOf (typeOf Δ s)) ⌝ }
 {
@@ -255,7 +255,7 @@ fn check_transform(incoming: &[u8], v: Version, n: u16, plan: &[u8], w: Walk, sc
 // The selectors of a struct mapping, whose positions take from so many columns, then its result.
 fn check_fields(
     incoming: &[u8],
-    v: Version,
+    v: Edition,
     n: u16,
     plan: &[u8],
     w: Walk,
@@ -285,7 +285,7 @@ fn check_fields(
 }
 
 // The selector of a list or array mapping, then its result. Its positions take from the element alone.
-fn check_element(incoming: &[u8], v: Version, n: u16, plan: &[u8], w: Walk) -> Checked
+fn check_element(incoming: &[u8], v: Edition, n: u16, plan: &[u8], w: Walk) -> Checked
     requires { ⌜ ((t : DataType) × (e : Selector) × (f : DataType → DataType) × Elements (now incoming) v n (now plan) w t e f) ⌝ }
     ensures { λ r. ⌜ ((t : DataType) (e : Selector) (f : DataType → DataType) (name : Bytes) → Elements (now (incoming .entry)) v n (now (plan .entry)) w t e f → r ≡ checkedOf (elementResult t e f name)) ⌝ }
 {
@@ -300,7 +300,7 @@ fn check_element(incoming: &[u8], v: Version, n: u16, plan: &[u8], w: Walk) -> C
 }
 
 // The selector at which the walk stands.
-pub fn check_selector(incoming: &[u8], v: Version, n: u16, plan: &[u8], w: Walk) -> Checked
+pub fn check_selector(incoming: &[u8], v: Edition, n: u16, plan: &[u8], w: Walk) -> Checked
     requires { ⌜ ((s : Selector) × (Δ : Fields) × CheckingAt (now incoming) v n (now plan) w s Δ) ⌝ }
     ensures { λ r. ⌜ ((s : Selector) (Δ : Fields) → CheckingAt (now (incoming .entry)) v n (now (plan .entry)) w s Δ → r ≡ checkedOf (typeOf Δ s)) ⌝ }
 {

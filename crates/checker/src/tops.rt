@@ -13,9 +13,9 @@ use crate::selector::Checked;
 use crate::selector::check_selector;
 use infer::target::fits_target;
 use layout::cursor::Cursor;
+use layout::edition::Edition;
 use layout::read::LayoutRead;
 use layout::read::read_layout;
-use layout::version::Version;
 use plan::read::PlanRead;
 use plan::read::read_plan;
 use walk::head::skip_selector;
@@ -30,7 +30,7 @@ pub enum PlanChecked {
 // Each of a plan's selectors; the place of a refusal is the selector's number.
 fn check_tops(
     incoming: &[u8],
-    v: Version,
+    v: Edition,
     n: u16,
     plan: &[u8],
     count: u16,
@@ -59,13 +59,13 @@ fn check_tops(
 // As many selectors, which have passed, and columns of the target.
 fn same_tops(
     incoming: &[u8],
-    v: Version,
+    v: Edition,
     n: u16,
     plan: &[u8],
     count: u16,
     c: Cursor,
     target: &[u8],
-    vt: Version,
+    vt: Edition,
     b: Cursor,
 ) -> bool
     requires { ⌜ ((fs : Fields) × TypedTops (now incoming) v n (now plan) count (c .at) fs) ⌝ }
@@ -95,12 +95,12 @@ fn same_tops(
 // Refusal 33: names, types or count differ from the target's.
 fn same_plan(
     incoming: &[u8],
-    v: Version,
+    v: Edition,
     n: u16,
     plan: &[u8],
     count: u16,
     target: &[u8],
-    vt: Version,
+    vt: Edition,
     m: u16,
 ) -> bool
     requires { ⌜ ((fs : Fields) × TypedTops (now incoming) v n (now plan) count 7 fs) ⌝ }
@@ -117,12 +117,12 @@ fn same_plan(
 // A plan that was read, over two layouts that were read.
 pub fn check_read(
     incoming: &[u8],
-    v: Version,
+    v: Edition,
     n: u16,
     plan: &[u8],
     count: u16,
     target: &[u8],
-    vt: Version,
+    vt: Edition,
     m: u16,
 ) -> PlanChecked
     requires { ⌜ ((Γ : Fields) × (ss : Selectors) × TopsAt (now incoming) v n (now plan) count 7 Γ ss) ⌝ }
@@ -149,12 +149,12 @@ pub fn check_plan(incoming: &[u8], target: &[u8], plan: &[u8]) -> PlanChecked
 {
     match read_layout(incoming) {
         LayoutRead::Read {
-            version: v,
+            edition: v,
             count: n,
             columns: _,
         } => match read_layout(target) {
             LayoutRead::Read {
-                version: vt,
+                edition: vt,
                 count: m,
                 columns: _,
             } => match read_plan(plan) {

@@ -8,8 +8,8 @@ use Rattle.layout.specs.Bytes.{Bytes, AllBytes}
 use Rattle.layout.specs.Parser.{ok}
 use Rattle.layout.specs.Tree.{DataType, Fields, fnil, fcons, fieldsOf}
 use Rattle.layout.specs.declared.cursor.Cursor.{Cursor}
-use Rattle.layout.specs.declared.version.Version.{Version}
-use Rattle.layout.specs.declared.version.Version.the-variants.{ByName}
+use Rattle.layout.specs.declared.edition.Edition.{Edition}
+use Rattle.layout.specs.declared.edition.Edition.the-variants.{One}
 use Rattle.layout.proofs.View.{next-ok}
 use Rattle.store.proofs.Overlay.{overlay-front}
 use Rattle.values.specs.Value.{Values}
@@ -59,14 +59,14 @@ fits-read (fcons n t fs) s o at vs m e =
     let Q = values-back fs s o i ws j (P .stands .within) q in
     ok-same (λ vs m. FitsAll (fcons n t fs) vs) e (all-cons (P .fits) (Q .fits))
 
-pub row-fits : {v : Version} {lay : Bytes} {n t : ℕ} {rec : Bytes} {c : ℕ} → AllBytes rec → (X : RowAt v lay n t rec c) → FitsAllOver (fieldsOf (X .columns .columns)) (X .values .values)
+pub row-fits : {v : Edition} {lay : Bytes} {n t : ℕ} {rec : Bytes} {c : ℕ} → AllBytes rec → (X : RowAt v lay n t rec c) → FitsAllOver (fieldsOf (X .columns .columns)) (X .values .values)
 row-fits {rec = rec} {c} o X = all-over (fits-read (fieldsOf (X .columns .columns)) rec o c (X .values .values) (X .values .end) (X .values .reads))
 
 pub formed-at : {plan : Bytes} {at : ℕ} → AllBytes plan → (P : SelectorAt plan at) → Formed (P .tree)
 formed-at {plan} {at} o P = selector-back plan o 64 at (P .tree) (P .end) (P .reads) .formed
 
 -- the columns of a row, with the index of their types
-abbrev pub row-scope : {v : Version} {lay : Bytes} {n : ℕ} {t : Cursor} {rec : Bytes} {c stride : ℕ} {types values : List ℕ} → RowAt v lay n (t .at) rec c → IndexedRow v lay n (t .at) rec c stride types values × (0 < stride)
+abbrev pub row-scope : {v : Edition} {lay : Bytes} {n : ℕ} {t : Cursor} {rec : Bytes} {c stride : ℕ} {types values : List ℕ} → RowAt v lay n (t .at) rec c → IndexedRow v lay n (t .at) rec c stride types values × (0 < stride)
     → ScopeAt lay v (Scope.Columns n t) types stride
 row-scope X I = record { fields = fieldsOf (X .columns .columns); parts = record { columns = X .columns; are = refl; indexed = indexed-types X (I .0); strides = I .1 } }
 
@@ -103,10 +103,10 @@ pub composed-as : {Γ : Fields} {ρ : Values} {s t : Selector} {form value : Byt
 composed-as {Γ} {ρ} {form = form} {value} e C = subst (λ (x : Selector). Composed Γ ρ x form value) e C
 
 -- the value that stands there
-pub raw-node : {form value : Bytes} {t c : Cursor} → t .at ≡ 0 → c .at ≡ 0 → (X : RawAt ByName form 0 value 0) → NodeOf ByName form value (X .value .tree) (NodeAt.At t c)
+pub raw-node : {form value : Bytes} {t c : Cursor} → t .at ≡ 0 → c .at ≡ 0 → (X : RawAt One form 0 value 0) → NodeOf One form value (X .value .tree) (NodeAt.At t c)
 raw-node e f X = standing (raw-moved (sym e) (sym f) (record { raw = X; is = refl }))
 
-pub composed-node : {Γ : Fields} {ρ : Values} {s : Selector} {form value : Bytes} {t c : Cursor} → t .at ≡ 0 → c .at ≡ 0 → Composed Γ ρ s form value → NodeOf ByName form value (eval ρ s) (NodeAt.At t c)
+pub composed-node : {Γ : Fields} {ρ : Values} {s : Selector} {form value : Bytes} {t c : Cursor} → t .at ≡ 0 → c .at ≡ 0 → Composed Γ ρ s form value → NodeOf One form value (eval ρ s) (NodeAt.At t c)
 composed-node e f C = standing (raw-moved (sym e) (sym f) (record { raw = C .raw; is = C .is }))
 
 -- the input that was found

@@ -5,7 +5,7 @@ ghost use Prim.Native.Nat.{ℕ, _≤_, _<_};
 ghost use lib.ListN.{length};
 ghost use Rattle.ends.specs.Ends.{Ends};
 ghost use Rattle.layout.specs.Tree.{Fields, fieldsOf};
-ghost use Rattle.layout.specs.declared.version.Version.{Version as VersionOf};
+ghost use Rattle.layout.specs.declared.edition.Edition.{Edition as EditionOf};
 ghost use Rattle.values.specs.Value.{Values};
 ghost use Rattle.plan.specs.Fits.{FitsAllOver};
 ghost use Rattle.walk.specs.Stands.{SelectorAt};
@@ -21,7 +21,7 @@ use infer::form::Inferred;
 use infer::over::infer_leaf;
 use infer::over::infer_over;
 use layout::cursor::Cursor;
-use layout::version::Version;
+use layout::edition::Edition;
 use nodes::raw::NodeAt;
 use transfer::leaf::Reached;
 use transfer::origin::taken_position;
@@ -41,7 +41,7 @@ fn stored_within(r: Reached, len: usize) -> bool
 // A position or a constant at `c`: its type and its value.
 fn compose_leaf(
     lay: &[u8],
-    v: Version,
+    v: Edition,
     n: u16,
     t: Cursor,
     rec: &[u8],
@@ -84,7 +84,7 @@ fn compose_over(
     form: &mut [u8],
     value: &mut [u8],
 ) -> bool
-    requires { ⌜ RawAt VersionOf.ByName (now lay) 0 (now rec) 0 ⌝ }
+    requires { ⌜ RawAt EditionOf.One (now lay) 0 (now rec) 0 ⌝ }
     requires { ⌜ SelectorAt (now plan) (c .at) ⌝ }
     requires { ⌜ (length (now lay) ≤ 65536) × (length (now rec) ≤ 65536) × (length (now plan) ≤ 65536) ⌝ }
     requires { ⌜ (length (now form) ≤ 16384) × (length (now value) ≤ 16384) ⌝ }
@@ -92,14 +92,14 @@ fn compose_over(
 {
     let none: [u16; 1] = [0; 1];
     let start = Cursor { at: 0 };
-    match infer_over(lay, Version::ByName, start, plan, c, 16, form, 0) {
+    match infer_over(lay, Edition::One, start, plan, c, 16, form, 0) {
         Inferred::Is(_) => {
             let node = NodeAt::At(start, start);
             let len = value.len();
             stored_within(
                 transfer_over(
                     lay,
-                    Version::ByName,
+                    Edition::One,
                     rec,
                     node,
                     plan,
@@ -119,7 +119,7 @@ fn compose_over(
 // The selector at `c` over a row: its type at the start of `form`, its value at the start of `value`. Its inputs take turns in the two pairs of buffers.
 pub fn compose_value(
     lay: &[u8],
-    v: Version,
+    v: Edition,
     n: u16,
     t: Cursor,
     rec: &[u8],

@@ -15,7 +15,7 @@ use direct::input::input_of;
 use direct::input::skip_renames;
 use index::row::indexed_value;
 use layout::cursor::Cursor;
-use layout::version::Version;
+use layout::edition::Edition;
 use nodes::raw::NodeAt;
 use transfer::leaf::Reached;
 use transfer::leaf::limited;
@@ -29,7 +29,7 @@ use walk::head::head;
 // With buffers for all that a result can be.
 fn over_large(
     lay: &[u8],
-    v: Version,
+    v: Edition,
     n: u16,
     t: Cursor,
     rec: &[u8],
@@ -81,7 +81,7 @@ fn over_large(
     let node = NodeAt::At(start, start);
     transfer_over(
         &form,
-        Version::ByName,
+        Edition::One,
         &value,
         node,
         plan,
@@ -96,7 +96,7 @@ fn over_large(
 // The transform at `c` of the transform at `input`: with buffers that are cleared in no time, where these do.
 fn over_input(
     lay: &[u8],
-    v: Version,
+    v: Edition,
     n: u16,
     t: Cursor,
     rec: &[u8],
@@ -164,7 +164,7 @@ fn over_input(
     let node = NodeAt::At(start, start);
     transfer_over(
         &form,
-        Version::ByName,
+        Edition::One,
         &value,
         node,
         plan,
@@ -215,7 +215,7 @@ fn is_direct(plan: &[u8], c: Cursor) -> bool
 // The top selector at `c`.
 fn transfer_top(
     lay: &[u8],
-    v: Version,
+    v: Edition,
     n: u16,
     t: Cursor,
     rec: &[u8],
@@ -272,7 +272,7 @@ fn transfer_top(
 // The `count` top selectors from `first` on.
 pub fn transfer_tops(
     lay: &[u8],
-    v: Version,
+    v: Edition,
     n: u16,
     t: Cursor,
     rec: &[u8],

@@ -15,7 +15,7 @@ use index::columns::few;
 use index::columns::stride_of;
 use index::row::index_row;
 use layout::cursor::Cursor;
-use layout::version::Version;
+use layout::edition::Edition;
 use transfer::leaf::Reached;
 
 // The length of the output; or it is not settled.
@@ -27,7 +27,7 @@ pub enum Transferred {
 // Few selectors over few columns, which are passed over.
 fn transfer_few(
     lay: &[u8],
-    v: Version,
+    v: Edition,
     n: u16,
     rec: &[u8],
     plan: &[u8],
@@ -67,7 +67,7 @@ fn transfer_few(
 // Many selectors or columns, with tables of where the columns and their values stand.
 fn transfer_many(
     lay: &[u8],
-    v: Version,
+    v: Edition,
     n: u16,
     rec: &[u8],
     plan: &[u8],
@@ -130,7 +130,7 @@ fn output_of(r: Reached) -> Transferred
 // general way needs.
 pub fn transfer_record(
     lay: &[u8],
-    v: Version,
+    v: Edition,
     n: u16,
     rec: &[u8],
     plan: &[u8],

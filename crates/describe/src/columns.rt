@@ -4,9 +4,9 @@ use layout::columns::Label;
 use layout::columns::Labelled;
 use layout::cursor::Cursor;
 use layout::cursor::Moved;
+use layout::edition::Edition;
 use layout::pass::pass_type;
 use layout::types::Head;
-use layout::version::Version;
 use text::out::deeper;
 use text::out::put;
 use text::out::put_count;
@@ -14,12 +14,24 @@ use text::out::put_indent;
 use text::out::put_number;
 use text::out::put_span;
 
-// A column's name, in version 2 its id, and its type at `c`.
-pub fn put_column(s: &[u8], v: Version, l: Label, c: Cursor) {
+// From version 2 on columns have ids, and elements names and ids.
+fn has_ids(v: Edition) -> bool {
+    match v {
+        Edition::One => false,
+        Edition::Two => true,
+        Edition::Three => true,
+    }
+}
+
+// A column's name, its id where it has one, whether it is required, and its type at `c`.
+pub fn put_column(s: &[u8], v: Edition, l: Label, c: Cursor) {
     put_span(s, l.name);
-    if let Version::ByNumber = v {
+    if has_ids(v) {
         put(b" id ");
         put_number(l.id.0 as u64);
+    }
+    if l.required {
+        put(b" required");
     }
     put(b" ");
     put_type(s, v, 16, c);
@@ -32,9 +44,8 @@ pub fn put_start(i: u64, level: u8) {
     put(b"  ");
 }
 
-// An element has a name and an id in version 2 only.
-fn put_element(s: &[u8], v: Version, l: Label, c: Cursor, level: u8) {
-    if let Version::ByNumber = v {
+fn put_element(s: &[u8], v: Edition, l: Label, c: Cursor, level: u8) {
+    if has_ids(v) {
         put_indent(level);
         put(b"element ");
         put_column(s, v, l, c);
@@ -43,15 +54,12 @@ fn put_element(s: &[u8], v: Version, l: Label, c: Cursor, level: u8) {
 }
 
 // The level of what is inside an element: below the element's line, where it has one.
-fn element_level(v: Version, level: u8) -> u8 {
-    match v {
-        Version::ByName => level,
-        Version::ByNumber => deeper(level),
-    }
+fn element_level(v: Edition, level: u8) -> u8 {
+    if has_ids(v) { deeper(level) } else { level }
 }
 
 // The columns inside the type at `c`.
-pub fn put_inner(s: &[u8], v: Version, depth: u8, c: Cursor, level: u8) {
+pub fn put_inner(s: &[u8], v: Edition, depth: u8, c: Cursor, level: u8) {
     if depth == 0 {
         return;
     }
@@ -64,7 +72,7 @@ pub fn put_inner(s: &[u8], v: Version, depth: u8, c: Cursor, level: u8) {
     }
 }
 
-fn put_inner_element(s: &[u8], v: Version, depth: u8, c: Cursor, level: u8) {
+fn put_inner_element(s: &[u8], v: Edition, depth: u8, c: Cursor, level: u8) {
     if let Labelled::Is(l, d) = c.element_label(s, v) {
         put_element(s, v, l, d, level);
         put_inner(s, v, depth, d, element_level(v, level));
@@ -72,7 +80,7 @@ fn put_inner_element(s: &[u8], v: Version, depth: u8, c: Cursor, level: u8) {
 }
 
 // `n` columns from `c`.
-pub fn put_columns(s: &[u8], v: Version, depth: u8, n: u16, c: Cursor, level: u8) {
+pub fn put_columns(s: &[u8], v: Edition, depth: u8, n: u16, c: Cursor, level: u8) {
     let mut at = c.at;
     let mut i: u16 = 0;
     while i < n {
@@ -92,15 +100,16 @@ pub fn put_columns(s: &[u8], v: Version, depth: u8, n: u16, c: Cursor, level: u8
     }
 }
 
-fn put_version(v: Version) {
+fn put_version(v: Edition) {
     match v {
-        Version::ByName => put(b"layout, version 1, "),
-        Version::ByNumber => put(b"layout, version 2, "),
+        Edition::One => put(b"layout, version 1, "),
+        Edition::Two => put(b"layout, version 2, "),
+        Edition::Three => put(b"layout, version 3, "),
     }
 }
 
 // A layout that was read.
-pub fn put_layout(s: &[u8], v: Version, n: u16, c: Cursor) {
+pub fn put_layout(s: &[u8], v: Edition, n: u16, c: Cursor) {
     put_version(v);
     put_count(n as u64, b"column");
     put(b"\n");

@@ -9,12 +9,12 @@ use layout::columns::Labelled;
 use layout::cursor::Cursor;
 use layout::cursor::Moved;
 use layout::cursor::Short;
+use layout::edition::Edition;
 use layout::leaf::Leaf;
 use layout::pass::pass_type;
 use layout::read::LayoutRead;
 use layout::read::read_layout;
 use layout::types::Head;
-use layout::version::Version;
 use text::leaves::put_leaf_value;
 use text::out::deeper;
 use text::out::put;
@@ -29,7 +29,7 @@ use values::record::read_record;
 // The rest of a line that has the type, and the lines below it; and where the value ends.
 pub fn put_value(
     lay: &[u8],
-    v: Version,
+    v: Edition,
     depth: u8,
     t: Cursor,
     rec: &[u8],
@@ -56,7 +56,7 @@ fn put_leaf_line(rec: &[u8], leaf: Leaf, c: Cursor) -> Moved {
 // After the presence byte of a value that is present.
 fn put_content(
     lay: &[u8],
-    v: Version,
+    v: Edition,
     depth: u8,
     t: Cursor,
     rec: &[u8],
@@ -87,7 +87,7 @@ fn put_content(
 // A count and as many values; the element's label stands at `t`.
 fn put_list(
     lay: &[u8],
-    v: Version,
+    v: Edition,
     depth: u8,
     t: Cursor,
     rec: &[u8],
@@ -108,7 +108,7 @@ fn put_list(
 // `n` values of one type; the element's label stands at `t`.
 fn put_elements(
     lay: &[u8],
-    v: Version,
+    v: Edition,
     depth: u8,
     n: u32,
     t: Cursor,
@@ -137,7 +137,7 @@ fn put_elements(
 // A value for each of `n` columns.
 fn put_fields(
     lay: &[u8],
-    v: Version,
+    v: Edition,
     depth: u8,
     n: u16,
     t: Cursor,
@@ -170,7 +170,7 @@ fn put_fields(
 }
 
 // A record of a layout that was read.
-fn put_read(lay: &[u8], v: Version, n: u16, columns: Cursor, rec: &[u8])
+fn put_read(lay: &[u8], v: Edition, n: u16, columns: Cursor, rec: &[u8])
     requires { ⌜ ColumnsAt v 16 (now lay) n (columns .at) ⌝ }
 {
     let none: [u16; 1] = [0; 1];
@@ -189,7 +189,7 @@ fn put_read(lay: &[u8], v: Version, n: u16, columns: Cursor, rec: &[u8])
 pub fn put_record(lay: &[u8], rec: &[u8]) {
     match read_layout(lay) {
         LayoutRead::Read {
-            version: v,
+            edition: v,
             count: n,
             columns: c,
         } => put_read(lay, v, n, c, rec),

@@ -16,7 +16,7 @@ use layout::cursor::Cursor;
 use layout::cursor::Moved;
 use layout::cursor::Short;
 use layout::cursor::Step;
-use layout::version::Version;
+use layout::edition::Edition;
 use text::leaves::put_leaf_type;
 use text::out::put;
 use text::out::put_count;
@@ -27,7 +27,7 @@ fn put_initial(s: &[u8], c: Cursor) {
     put(b"initial ");
     if let LeafRead::Is(l, d) = read_leaf_type(s, c) {
         put_leaf_type(s, l);
-        put_value(s, Version::ByName, 16, c, s, d, 0);
+        put_value(s, Edition::One, 16, c, s, d, 0);
     }
 }
 
@@ -38,8 +38,8 @@ fn put_each(s: &[u8], t: Cursor, n: u16, c: Cursor) {
     while i < n {
         let d = Cursor { at };
         put_start(i as u64, 1);
-        put_type(s, Version::ByName, 16, t);
-        let Moved::To(end) = put_value(s, Version::ByName, 16, t, s, d, 1) else {
+        put_type(s, Edition::One, 16, t);
+        let Moved::To(end) = put_value(s, Edition::One, 16, t, s, d, 1) else {
             return;
         };
         at = end.at;

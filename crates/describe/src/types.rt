@@ -1,15 +1,15 @@
 // A type on one line. Of a struct only the number of fields is written, so that a line stays short.
 use layout::columns::Labelled;
 use layout::cursor::Cursor;
+use layout::edition::Edition;
 use layout::types::Head;
-use layout::version::Version;
 use text::leaves::put_leaf_type;
 use text::out::put;
 use text::out::put_count;
 use text::out::put_number;
 
 // The type at `c`.
-pub fn put_type(s: &[u8], v: Version, depth: u8, c: Cursor) {
+pub fn put_type(s: &[u8], v: Edition, depth: u8, c: Cursor) {
     if depth == 0 {
         return;
     }

@@ -15,7 +15,7 @@ use Rattle.layout.specs.declared.cursor.Cursor.{Cursor}
 use Rattle.layout.specs.declared.leaf.Leaf.{Leaf}
 use Rattle.layout.specs.declared.types.Head.{Head}
 use Rattle.layout.specs.declared.types.LeafType.{LeafType as LeafSpan}
-use Rattle.layout.specs.declared.version.Version.{Version}
+use Rattle.layout.specs.declared.edition.Edition.{Edition}
 use Rattle.layout.proofs.Ways.{clash}
 use Rattle.forms.specs.Form.{headOf}
 use Rattle.forms.specs.Answers.{endOf}
@@ -62,7 +62,7 @@ pair-spans s t l u o e =
 
 -- ---- what a type begins with
 
-pub kind-of : {v : Version} {d : ℕ} {s : Bytes} {at : ℕ} (Q : TypeAt v d s at) {p q : Head} → headRes s p ≡ kind s at → p ≡ q → {k : Kind} {m : ℕ} → headRes s q ≡ ok k m → k ≡ headOf (dtypeOf (Q .tree))
+pub kind-of : {v : Edition} {d : ℕ} {s : Bytes} {at : ℕ} (Q : TypeAt v d s at) {p q : Head} → headRes s p ≡ kind s at → p ≡ q → {k : Kind} {m : ℕ} → headRes s q ≡ ok k m → k ≡ headOf (dtypeOf (Q .tree))
 kind-of {s = s} {at = at} Q {p} {q} e i {k} {m} g =
     let H = head-at Q {c = record { at = at }} {x = endOf (kind s at) (record { at = at })} refl refl in
     let z : ok k m ≡ ok (headOf (dtypeOf (Q .tree))) _ = sym (ap (headRes s) i ∙ g) ∙ e ∙ H .reads in
@@ -98,7 +98,7 @@ nested-passes : (l : LeafSpan) (s : Bytes) (u : DataType) (o : CastOption) {r : 
     → r ≡ castFits (leaf (leafAt s l)) u o
 nested-passes l s u o g f n = g (leafAt s l) (leaf-of-type (l .leaf) _) ∙ fits-nested (leafAt s l) u o f n
 
-module _ {v : Version} {d : ℕ} {plan : Bytes} {at : ℕ} (Q : TypeAt v d plan at) {p : Head} (e : headRes plan p ≡ kind plan at) where
+module _ {v : Edition} {d : ℕ} {plan : Bytes} {at : ℕ} (Q : TypeAt v d plan at) {p : Head} (e : headRes plan p ≡ kind plan at) where
   pub leaf-passes : {m : LeafSpan} {c : Cursor} (i : LeafType) (o : CastOption) {r : Bool} → p ≡ Head.Leaf m c → r ≡ castPasses i (leafAt plan m) o → r ≡ castFits (leaf i) (dtypeOf (Q .tree)) o
   leaf-passes i o f g = g ∙ fits-leaf i (dtypeOf (Q .tree)) o (kind-of Q e f refl)
 
@@ -124,7 +124,7 @@ nested-none (struct fs) e n u o = refl
 nested-none (list t) e n u o = refl
 nested-none (array w t) e n u o = refl
 
-module _ {v : Version} {d : ℕ} {s : Bytes} {at : ℕ} (T : TypeAt v d s at) {p : Head} (e : headRes s p ≡ kind s at) (u : DataType) (o : CastOption) where
+module _ {v : Edition} {d : ℕ} {s : Bytes} {at : ℕ} (T : TypeAt v d s at) {p : Head} (e : headRes s p ≡ kind s at) (u : DataType) (o : CastOption) where
   pub leaf-type-fits : {l : LeafSpan} {c : Cursor} {r : Bool} → p ≡ Head.Leaf l c → r ≡ castFits (leaf (leafAt s l)) u o → r ≡ castFits (dtypeOf (T .tree)) u o
   leaf-type-fits f g = g ∙ ap (λ (t : DataType). castFits t u o) (leaf-is (dtypeOf (T .tree)) (kind-of T e f refl))
 

@@ -13,8 +13,8 @@ use Rattle.layout.specs.declared.bytes.Span.{Span}
 use Rattle.layout.specs.declared.columns.Siblings.the-variants.{Free}
 use Rattle.layout.specs.declared.cursor.Cursor.{Cursor}
 use Rattle.layout.specs.declared.cursor.Text.{Text}
-use Rattle.layout.specs.declared.version.Version.{Version}
-use Rattle.layout.specs.declared.version.Version.the-variants.{ByName}
+use Rattle.layout.specs.declared.edition.Edition.{Edition}
+use Rattle.layout.specs.declared.edition.Edition.the-variants.{One}
 use Rattle.layout.proofs.Ways.{text-in}
 use Rattle.forms.specs.Same.{sameDtype}
 use Rattle.forms.specs.Answers.{sameOf}
@@ -64,7 +64,7 @@ alike {a} {b} f g = let (z, p, w) = same-to _ f g in (same-dtype-eq a b z, p, w)
 
 -- ---- one selector and one type
 
-module _ {incoming : Bytes} {v : Version} {scope : Scope} {index : List ℕ} {stride : ℕ} {plan : Bytes} {at : ℕ} {target : Bytes} {vt : Version} {bt : ℕ}
+module _ {incoming : Bytes} {v : Edition} {scope : Scope} {index : List ℕ} {stride : ℕ} {plan : Bytes} {at : ℕ} {target : Bytes} {vt : Edition} {bt : ℕ}
     (A : FitAt incoming v scope index stride plan at target vt bt) where
   abbrev Γ : Fields
   Γ = A .scoped .fields
@@ -106,8 +106,8 @@ module _ {incoming : Bytes} {v : Version} {scope : Scope} {index : List ℕ} {st
 
   module _ {m : ℕ} (C : CastAt plan at (A .selector) m) where
     -- the cast's type, where its input ends
-    abbrev pub cast-type : {t : ℕ} → t ≡ C .input .end → TypeAt ByName 16 plan t
-    cast-type h = record { tree = C .type .tree; end = C .type .end; reads = ap (λ (o : ℕ). typeRead ByName Free 16 plan o) h ∙ C .type .reads }
+    abbrev pub cast-type : {t : ℕ} → t ≡ C .input .end → TypeAt One 16 plan t
+    cast-type h = record { tree = C .type .tree; end = C .type .end; reads = ap (λ (o : ℕ). typeRead One Free 16 plan o) h ∙ C .type .reads }
 
     pub cast-fits : {n : Span} {d : ℕ} (K : TakenAt incoming v (typeOf (A .scoped .fields) (C .input .tree)) n d) {q : Same} {x y e : Cursor} {k : Name} {o : CastOption} {b : Bool}
         → q ≡ sameOf (sameDtype (dtypeOf (C .type .tree)) (dtypeOf (A .type .tree))) (C .type .end) (A .type .end) → q ≡ Same.To x y → o ≡ C .option .option

@@ -11,7 +11,7 @@ use Rattle.layout.specs.declared.columns.Label.{Label as LabelSpan}
 use Rattle.layout.specs.declared.columns.Labelled.{Labelled}
 use Rattle.layout.specs.declared.cursor.Cursor.{Cursor}
 use Rattle.layout.specs.declared.types.Head.{Head}
-use Rattle.layout.specs.declared.version.Version.{Version}
+use Rattle.layout.specs.declared.edition.Edition.{Edition}
 use Rattle.layout.proofs.View.{struct-at, list-at, array-at}
 use Rattle.nodes.proofs.Deeper.{deeper-type, deeper-columns}
 use Rattle.direct.specs.declared.inside.Inside.{Inside}
@@ -20,7 +20,7 @@ use Rattle.direct.specs.Insides.{StructIn, ListIn, ArrayIn, ArraysIn, in
 
 -- ---- inside_of
 
-module _ {v : Version} {s : Bytes} {at : ℕ} (T : TypeAt v 16 s at) {p : Head} (e : headRes s p ≡ kind s at) where
+module _ {v : Edition} {s : Bytes} {at : ℕ} (T : TypeAt v 16 s at) {p : Head} (e : headRes s p ≡ kind s at) where
   pub struct-in : {n : ℕ} {d : Cursor} → p ≡ Head.Struct n d → InsideIs v s at T (Inside.Struct n d)
   unfolding dtypeOf deeper-columns
   struct-in f = let S = struct-at T e f in record { parts = record { columns = deeper-columns (omega arith) (S .inner); is = ap dtypeOf (S .is); ends = S .ends } }
@@ -36,7 +36,7 @@ module _ {v : Version} {s : Bytes} {at : ℕ} (T : TypeAt v 16 s at) {p : Head} 
 
 -- ---- both_inside
 
-module _ {v : Version} {s : Bytes} {at : ℕ} {T : TypeAt v 16 s at} {r : Inside} (I : InsideIs v s at T r) where
+module _ {v : Edition} {s : Bytes} {at : ℕ} {T : TypeAt v 16 s at} {r : Inside} (I : InsideIs v s at T r) where
   opened : {q : Inside} → r ≡ q → insideParts v s at T q
   opened e = subst (λ (q : Inside). insideParts v s at T q) e (I .parts)
 
@@ -49,7 +49,7 @@ module _ {v : Version} {s : Bytes} {at : ℕ} {T : TypeAt v 16 s at} {r : Inside
   array-there : {w : ℕ} {c : Cursor} → r ≡ Inside.Array w c → ArrayIn v s at T w (c .at)
   array-there e = opened e
 
-module _ {va : Version} {a : Bytes} {at : ℕ} {T : TypeAt va 16 a at} {p : Inside} (I : InsideIs va a at T p) {vb : Version} {b : Bytes} {bt : ℕ} {Q : TypeAt vb 16 b bt} {q : Inside} (J : InsideIs vb b bt Q q) where
+module _ {va : Edition} {a : Bytes} {at : ℕ} {T : TypeAt va 16 a at} {p : Inside} (I : InsideIs va a at T p) {vb : Edition} {b : Bytes} {bt : ℕ} {Q : TypeAt vb 16 b bt} {q : Inside} (J : InsideIs vb b bt Q q) where
   pub structs-in : {n m : ℕ} {c d : Cursor} → p ≡ Inside.Struct n c → q ≡ Inside.Struct m d → BothIs va a at T vb b bt Q (Both.Structs n c m d)
   structs-in e f = record { parts = (struct-there I e, struct-there J f) }
 
@@ -60,7 +60,7 @@ module _ {va : Version} {a : Bytes} {at : ℕ} {T : TypeAt va 16 a at} {p : Insi
   arrays-in {w} {d = d} e f g = record { parts = record { width = w; first = array-there I e; second = subst (λ (x : ℕ). ArrayIn vb b bt Q x (d .at)) (sym g) (array-there J f) } }
 
 -- what a caller gets from an answer
-module _ {va : Version} {a : Bytes} {at : ℕ} {T : TypeAt va 16 a at} {vb : Version} {b : Bytes} {bt : ℕ} {Q : TypeAt vb 16 b bt} {r : Both} (B : BothIs va a at T vb b bt Q r) where
+module _ {va : Edition} {a : Bytes} {at : ℕ} {T : TypeAt va 16 a at} {vb : Edition} {b : Bytes} {bt : ℕ} {Q : TypeAt vb 16 b bt} {r : Both} (B : BothIs va a at T vb b bt Q r) where
   both-opened : {q : Both} → r ≡ q → bothParts va a at T vb b bt Q q
   both-opened e = subst (λ (q : Both). bothParts va a at T vb b bt Q q) e (B .parts)
 

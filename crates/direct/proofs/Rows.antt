@@ -14,7 +14,7 @@ use Rattle.layout.specs.declared.columns.Label.{Label as LabelSpan}
 use Rattle.layout.specs.declared.columns.Labelled.{Labelled}
 use Rattle.layout.specs.declared.columns.Siblings.the-variants.{Free}
 use Rattle.layout.specs.declared.cursor.Cursor.{Cursor}
-use Rattle.layout.specs.declared.version.Version.{Version}
+use Rattle.layout.specs.declared.edition.Edition.{Edition}
 use Rattle.layout.proofs.OfBytes.{same-bytes-eq}
 use Rattle.layout.proofs.View.{label-got, same-columns, no-column}
 use Rattle.forms.specs.declared.compare.Same.{Same}
@@ -35,7 +35,7 @@ use Rattle.direct.proofs.Trees.{fields-give}
 
 -- ---- one column
 
-module _ {incoming : Bytes} {v : Version} {scope : Scope} {index : List ℕ} {stride : ℕ} {plan : Bytes} {at : ℕ} {target : Bytes} {vt : Version} {bt : ℕ}
+module _ {incoming : Bytes} {v : Edition} {scope : Scope} {index : List ℕ} {stride : ℕ} {plan : Bytes} {at : ℕ} {target : Bytes} {vt : Edition} {bt : ℕ}
     (A : ColumnFitAt incoming v scope index stride plan at target vt bt) {q : Labelled} {l : LabelSpan} {c : Cursor} (e : labelRes target q ≡ label vt target bt) (f : q ≡ Labelled.Is l c) where
   abbrev pub column-asks : FitAt incoming v scope index stride plan at target vt (c .at)
   column-asks = record { scoped = A .scoped; selector = A .selector; type = behind-label (A .column) (label-got target e f); small = A .small }
@@ -50,7 +50,7 @@ module _ {incoming : Bytes} {v : Version} {scope : Scope} {index : List ℕ} {st
 -- ---- the loop over columns
 
 -- after i of n columns, each given by its selector: what the rest gives, the whole gives
-pub record Fitting (incoming : Bytes) (v : Version) (scope : Scope) (index : List ℕ) (stride : ℕ) (plan : Bytes) (n from : ℕ) (target : Bytes) (vt : Version) (from′ i at bt : ℕ) : Type 0 where
+pub record Fitting (incoming : Bytes) (v : Edition) (scope : Scope) (index : List ℕ) (stride : ℕ) (plan : Bytes) (n from : ℕ) (target : Bytes) (vt : Edition) (from′ i at bt : ℕ) : Type 0 where
   pub within : i ≤ n
   pub selectors : SelectorsAt plan (n - i) at
   pub columns : ColumnsAt vt 16 target (n - i) bt
@@ -61,7 +61,7 @@ pub record Fitting (incoming : Bytes) (v : Version) (scope : Scope) (index : Lis
 same-selectors : {s : Bytes} {n at : ℕ} (P Q : SelectorsAt s n at) → (P .trees ≡ Q .trees) × (P .end ≡ Q .end)
 same-selectors P Q = ok-eq (sym (P .reads) ∙ Q .reads)
 
-module _ {incoming : Bytes} {v : Version} {scope : Scope} {index : List ℕ} {stride : ℕ} {plan : Bytes} {n from : ℕ} {target : Bytes} {vt : Version} {from′ : ℕ} where
+module _ {incoming : Bytes} {v : Edition} {scope : Scope} {index : List ℕ} {stride : ℕ} {plan : Bytes} {n from : ℕ} {target : Bytes} {vt : Edition} {from′ : ℕ} where
   pub fitting-none : FieldsFitAt incoming v scope index stride plan n from target vt from′ → Fitting incoming v scope index stride plan n from target vt from′ 0 from from′
   fitting-none B =
       let e : n - 0 ≡ n = omega arith in
@@ -128,7 +128,7 @@ module _ {incoming : Bytes} {v : Version} {scope : Scope} {index : List ℕ} {st
 
 -- ---- a whole plan
 
-abbrev pub plan-asks : {incoming : Bytes} {v : Version} {n : ℕ} {index : List ℕ} {stride : ℕ} {plan : Bytes} {count : ℕ} {target : Bytes} {vt : Version} {m : ℕ}
+abbrev pub plan-asks : {incoming : Bytes} {v : Edition} {n : ℕ} {index : List ℕ} {stride : ℕ} {plan : Bytes} {count : ℕ} {target : Bytes} {vt : Edition} {m : ℕ}
     → (P : ColumnsAt v 16 incoming n 7) → SelectorsAt plan count 7 → ColumnsAt vt 16 target m 7 → Indexed v incoming n 7 stride index → 0 < stride → count ≡ m → length target ≤ 16384
     → FieldsFitAt incoming v (Scope.Columns n (record { at = 7 })) index stride plan m 7 target vt 7
 plan-asks P S Q I h e l = record {

@@ -14,7 +14,7 @@ use Rattle.layout.specs.declared.bytes.Span.{Span}
 use Rattle.layout.specs.declared.columns.Position.{Position}
 use Rattle.layout.specs.declared.cursor.Cursor.{Cursor}
 use Rattle.layout.specs.declared.find.Found.{Found}
-use Rattle.layout.specs.declared.version.Version.{Version}
+use Rattle.layout.specs.declared.edition.Edition.{Edition}
 use Rattle.layout.proofs.Ways.{clash}
 use Rattle.plan.specs.Result.{Result, gives}
 use Rattle.plan.specs.Selector.{Selector, position}
@@ -38,7 +38,7 @@ looked-up k (ccons m u cs) i (suc j) e h = looked-up k cs (i + 1) j (omega arith
 
 -- ---- answers
 
-module _ {s : Bytes} {v : Version} {r : Result Column} {q : Taken} where
+module _ {s : Bytes} {v : Edition} {r : Result Column} {q : Taken} where
   taken-as : {x : Taken} → q ≡ x → takenParts s v r x → TakenIs s v r q
   taken-as e p = record { parts = subst (λ (y : Taken). takenParts s v r y) (sym e) p }
 
@@ -49,10 +49,10 @@ module _ {s : Bytes} {v : Version} {r : Result Column} {q : Taken} where
   pub taken-of : {r′ : Result Column} → r ≡ r′ → TakenIs s v r q → TakenIs s v r′ q
   taken-of e T = subst (λ (y : Result Column). TakenIs s v y q) e T
 
-pub nothing-taken : {s : Bytes} {v : Version} {r : Result Column} → TakenIs s v r Taken.Absent
+pub nothing-taken : {s : Bytes} {v : Edition} {r : Result Column} → TakenIs s v r Taken.Absent
 nothing-taken = record { parts = tt }
 
-pub column-taken : {v : Version} {s : Bytes} {n from : ℕ} {index : List ℕ} {stride : ℕ} {Γ : Fields} (C : ColumnsAre s v n from index stride Γ) (k : Position) (f : Found) {r : Taken} → Finds v 16 s (lookupAt k (C .columns .columns)) f → r ≡ takenFrom f
+pub column-taken : {v : Edition} {s : Bytes} {n from : ℕ} {index : List ℕ} {stride : ℕ} {Γ : Fields} (C : ColumnsAre s v n from index stride Γ) (k : Position) (f : Found) {r : Taken} → Finds v 16 s (lookupAt k (C .columns .columns)) f → r ≡ takenFrom f
     → TakenIs s v (columnAt Γ (k .0)) r
 column-taken {v} {s} {Γ = Γ} C k f {r} F e = go (lookupAt k (C .columns .columns)) refl F
   where
@@ -65,14 +65,14 @@ column-taken {v} {s} {Γ = Γ} C k f {r} F e = go (lookupAt k (C .columns .colum
           ∙ ap (λ (b : Bytes). gives (column b (dtypeOf t))) (sym (ap (λ (x : Label). x .name) (F .label)));
     })
 
-module _ {v : Version} {s : Bytes} {c : Cursor} (T : TypeAt v 16 s (c .at)) (k : Position) where
+module _ {v : Edition} {s : Bytes} {c : Cursor} (T : TypeAt v 16 s (c .at)) (k : Position) where
   pub element-taken : k .0 ≡ 0 → TakenIs s v (columnAt (elementOf (dtypeOf (T .tree))) (k .0)) (Taken.At (record { start = 0; len = 0 }) c)
   unfolding columnAt
   element-taken e = record { parts = record { within = omega arith; type = T; is = ap (λ (i : ℕ). columnAt (elementOf (dtypeOf (T .tree))) i) e } }
 
 -- ---- scopes
 
-module _ {s : Bytes} {v : Version} {scope : Scope} {index : List ℕ} {stride : ℕ} (X : ScopeAt s v scope index stride) where
+module _ {s : Bytes} {v : Edition} {scope : Scope} {index : List ℕ} {stride : ℕ} (X : ScopeAt s v scope index stride) where
   in-scope : {x : Scope} → scope ≡ x → scopeParts s v x index stride (X .fields)
   in-scope e = subst (λ (y : Scope). scopeParts s v y index stride (X .fields)) e (X .parts)
 
@@ -82,9 +82,9 @@ module _ {s : Bytes} {v : Version} {scope : Scope} {index : List ℕ} {stride : 
   pub scope-element : {c : Cursor} → scope ≡ Scope.Element c → ElementIs s v (c .at) (X .fields)
   scope-element e = in-scope e
 
-pub in-element : {s : Bytes} {v : Version} {at : ℕ} {Γ : Fields} {r : Taken} (E : ElementIs s v at Γ) (k : Position) → TakenIs s v (columnAt (elementOf (dtypeOf (E .type .tree))) (k .0)) r → TakenIs s v (columnAt Γ (k .0)) r
+pub in-element : {s : Bytes} {v : Edition} {at : ℕ} {Γ : Fields} {r : Taken} (E : ElementIs s v at Γ) (k : Position) → TakenIs s v (columnAt (elementOf (dtypeOf (E .type .tree))) (k .0)) r → TakenIs s v (columnAt Γ (k .0)) r
 in-element {s} {v} {r = r} E k T = subst (λ (fs : Fields). TakenIs s v (columnAt fs (k .0)) r) (E .are) T
 
-pub position-taken : {s : Bytes} {v : Version} (Γ : Fields) {x : Selector} {k : Position} {r : Taken} → x ≡ position k → TakenIs s v (columnAt Γ (k .0)) r → TakenIs s v (typeOf Γ x) r
+pub position-taken : {s : Bytes} {v : Edition} (Γ : Fields) {x : Selector} {k : Position} {r : Taken} → x ≡ position k → TakenIs s v (columnAt Γ (k .0)) r → TakenIs s v (typeOf Γ x) r
 unfolding typeOf
 position-taken {s} {v} Γ {r = r} e T = subst (λ (y : Selector). TakenIs s v (typeOf Γ y) r) (sym e) T

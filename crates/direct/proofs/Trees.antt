@@ -8,7 +8,7 @@ use borrow.Author.Tests.{le-leb}
 use Rattle.layout.specs.Bytes.{Bytes}
 use Rattle.layout.specs.Tree.{DataType, struct, list, array, Fields, fcons, dtypeOf}
 use Rattle.layout.specs.Stands.{TypeAt}
-use Rattle.layout.specs.declared.version.Version.{Version}
+use Rattle.layout.specs.declared.edition.Edition.{Edition}
 use Rattle.forms.specs.Form.{form}
 use Rattle.forms.specs.Readable.{depthOf}
 use Rattle.forms.proofs.Equal.{same-fields-refl}
@@ -21,7 +21,7 @@ use Rattle.plan.specs.Check.{Column, column, elementOf, structOf, listOf, array
 use Rattle.plan.proofs.Results.{and-true, bind-gives, gives-eq}
 
 -- a type that stands in bytes no longer than a result may be
-pub within : {v : Version} {s : Bytes} {at : ℕ} (Q : TypeAt v 16 s at) → length s ≤ 16384 → withinLimits (dtypeOf (Q .tree)) ≡ true
+pub within : {v : Edition} {s : Bytes} {at : ℕ} (Q : TypeAt v 16 s at) → length s ≤ 16384 → withinLimits (dtypeOf (Q .tree)) ≡ true
 unfolding withinLimits
 within Q h =
     let (a, b) = extent Q in

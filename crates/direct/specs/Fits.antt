@@ -9,7 +9,7 @@ use Rattle.layout.specs.Layout.{deepest}
 use Rattle.layout.specs.Stands.{TypeAt, ColumnsAt}
 use Rattle.layout.specs.declared.bytes.Span.{Span}
 use Rattle.layout.specs.declared.cursor.Cursor.{Cursor}
-use Rattle.layout.specs.declared.version.Version.{Version}
+use Rattle.layout.specs.declared.edition.Edition.{Edition}
 use Rattle.forms.specs.Labelled.{ColumnAt}
 use Rattle.forms.specs.declared.compare.Same.{Same}
 use Rattle.plan.specs.Result.{Result, gives}
@@ -25,7 +25,7 @@ use Rattle.direct.specs.Scopes.{ScopeAt}
 -- ---- a selector of the plan and a type of the target
 
 -- A type of the target is within the limits of a result, for the target is no longer than a result may be.
-pub record FitAt (incoming : Bytes) (v : Version) (scope : Scope) (index : List ℕ) (stride : ℕ) (plan : Bytes) (at : ℕ) (target : Bytes) (vt : Version) (bt : ℕ) : Type 0 where
+pub record FitAt (incoming : Bytes) (v : Edition) (scope : Scope) (index : List ℕ) (stride : ℕ) (plan : Bytes) (at : ℕ) (target : Bytes) (vt : Edition) (bt : ℕ) : Type 0 where
   pub scoped : ScopeAt incoming v scope index stride
   pub selector : SelectorAt plan at
   pub type : TypeAt vt deepest target bt
@@ -46,7 +46,7 @@ fitParts incoming plan r e t f Fit.Unknown = Unit {0}
 pub record FitIs (incoming plan : Bytes) (r : Result Column) (e : ℕ) (t : DataType) (f : ℕ) (q : Fit) : Type 0 where
   pub parts : fitParts incoming plan r e t f q
 
-abbrev pub Fits : {incoming : Bytes} {v : Version} {scope : Scope} {index : List ℕ} {stride : ℕ} {plan : Bytes} {at : ℕ} {target : Bytes} {vt : Version} {bt : ℕ}
+abbrev pub Fits : {incoming : Bytes} {v : Edition} {scope : Scope} {index : List ℕ} {stride : ℕ} {plan : Bytes} {at : ℕ} {target : Bytes} {vt : Edition} {bt : ℕ}
     → FitAt incoming v scope index stride plan at target vt bt → Fit → Type 0
 Fits {incoming = incoming} {plan = plan} A q =
     FitIs incoming plan (typeOf (A .scoped .fields) (A .selector .tree)) (A .selector .end) (dtypeOf (A .type .tree)) (A .type .end) q
@@ -58,7 +58,7 @@ aroundOf name Fit.Unknown = Fit.Unknown
 
 -- ---- a selector and a column of the target
 
-pub record ColumnFitAt (incoming : Bytes) (v : Version) (scope : Scope) (index : List ℕ) (stride : ℕ) (plan : Bytes) (at : ℕ) (target : Bytes) (vt : Version) (bt : ℕ) : Type 0 where
+pub record ColumnFitAt (incoming : Bytes) (v : Edition) (scope : Scope) (index : List ℕ) (stride : ℕ) (plan : Bytes) (at : ℕ) (target : Bytes) (vt : Edition) (bt : ℕ) : Type 0 where
   pub scoped : ScopeAt incoming v scope index stride
   pub selector : SelectorAt plan at
   pub column : ColumnAt vt deepest target bt
@@ -76,19 +76,19 @@ givesParts r e a f Same.No = Unit {0}
 pub record GivesIs {A : Type 0} (r : Result A) (e : ℕ) (a : A) (f : ℕ) (q : Same) : Type 0 where
   pub parts : givesParts r e a f q
 
-abbrev pub FitsColumn : {incoming : Bytes} {v : Version} {scope : Scope} {index : List ℕ} {stride : ℕ} {plan : Bytes} {at : ℕ} {target : Bytes} {vt : Version} {bt : ℕ}
+abbrev pub FitsColumn : {incoming : Bytes} {v : Edition} {scope : Scope} {index : List ℕ} {stride : ℕ} {plan : Bytes} {at : ℕ} {target : Bytes} {vt : Edition} {bt : ℕ}
     → ColumnFitAt incoming v scope index stride plan at target vt bt → Same → Type 0
 FitsColumn A q =
     GivesIs (typeOf (A .scoped .fields) (A .selector .tree)) (A .selector .end) (column (A .column .label .name) (dtypeOf (A .column .inner .tree))) (A .column .inner .end) q
 
 -- ---- as many selectors and columns of the target
 
-pub record FieldsFitAt (incoming : Bytes) (v : Version) (scope : Scope) (index : List ℕ) (stride : ℕ) (plan : Bytes) (n at : ℕ) (target : Bytes) (vt : Version) (bt : ℕ) : Type 0 where
+pub record FieldsFitAt (incoming : Bytes) (v : Edition) (scope : Scope) (index : List ℕ) (stride : ℕ) (plan : Bytes) (n at : ℕ) (target : Bytes) (vt : Edition) (bt : ℕ) : Type 0 where
   pub scoped : ScopeAt incoming v scope index stride
   pub selectors : SelectorsAt plan n at
   pub columns : ColumnsAt vt deepest target n bt
   pub small : length target ≤ longestType
 
-abbrev pub FitsFields : {incoming : Bytes} {v : Version} {scope : Scope} {index : List ℕ} {stride : ℕ} {plan : Bytes} {n at : ℕ} {target : Bytes} {vt : Version} {bt : ℕ}
+abbrev pub FitsFields : {incoming : Bytes} {v : Edition} {scope : Scope} {index : List ℕ} {stride : ℕ} {plan : Bytes} {n at : ℕ} {target : Bytes} {vt : Edition} {bt : ℕ}
     → FieldsFitAt incoming v scope index stride plan n at target vt bt → Same → Type 0
 FitsFields A q = GivesIs (typesOf (A .scoped .fields) (A .selectors .trees)) (A .selectors .end) (fieldsOf (A .columns .columns)) (A .columns .end) q

@@ -3,14 +3,14 @@ ghost use mathlib.Core.Path.{_≡_};
 ghost use Rattle.layout.specs.Tree.{leaf, LeafType as LeafTypeOf, leafOf, dtypeOf};
 ghost use Rattle.layout.specs.Answers.{leafAt, spanIn};
 ghost use Rattle.layout.specs.Stands.{TypeAt};
-ghost use Rattle.layout.specs.declared.version.Version.{Version as VersionOf};
+ghost use Rattle.layout.specs.declared.edition.Edition.{Edition as EditionOf};
 ghost use Rattle.rules.specs.Pairs.{castPasses};
 ghost use Rattle.plan.specs.Check.{castFits, fromNull};
 use layout::cursor::Cursor;
+use layout::edition::Edition;
 use layout::leaf::Leaf;
 use layout::types::Head;
 use layout::types::LeafType;
-use layout::version::Version;
 use rules::kinds::kind;
 use rules::outcome::CastOption;
 use rules::pair::cast_passes;
@@ -41,7 +41,7 @@ fn pair_passes(s: &[u8], l: LeafType, plan: &[u8], m: LeafType, o: CastOption) -
 // A leaf whose zone stands in `s`, to the type at `c` in the plan.
 pub fn leaf_fits(s: &[u8], l: LeafType, plan: &[u8], c: Cursor, o: CastOption) -> bool
     requires { ⌜ spanIn (now s) (l .zone) ⌝ }
-    ensures { λ r. ⌜ ((Q : TypeAt VersionOf.ByName 16 (now (plan .entry)) (c .at)) → r ≡ castFits (leaf (leafAt (now (s .entry)) l)) (dtypeOf (Q .tree)) o) ⌝ }
+    ensures { λ r. ⌜ ((Q : TypeAt EditionOf.One 16 (now (plan .entry)) (c .at)) → r ≡ castFits (leaf (leafAt (now (s .entry)) l)) (dtypeOf (Q .tree)) o) ⌝ }
 {
     let a = l.leaf;
     match c.head(plan) {
@@ -56,13 +56,13 @@ pub fn leaf_fits(s: &[u8], l: LeafType, plan: &[u8], c: Cursor, o: CastOption) -
 // The type at `d` in the incoming layout to the type at `c` in the plan.
 pub fn type_fits(
     incoming: &[u8],
-    v: Version,
+    v: Edition,
     d: Cursor,
     plan: &[u8],
     c: Cursor,
     o: CastOption,
 ) -> bool
-    ensures { λ r. ⌜ ((T : TypeAt v 16 (now (incoming .entry)) (d .at)) (Q : TypeAt VersionOf.ByName 16 (now (plan .entry)) (c .at)) → r ≡ castFits (dtypeOf (T .tree)) (dtypeOf (Q .tree)) o) ⌝ }
+    ensures { λ r. ⌜ ((T : TypeAt v 16 (now (incoming .entry)) (d .at)) (Q : TypeAt EditionOf.One 16 (now (plan .entry)) (c .at)) → r ≡ castFits (dtypeOf (T .tree)) (dtypeOf (Q .tree)) o) ⌝ }
 {
     match d.head(incoming) {
         Head::Leaf(l, _) => leaf_fits(incoming, l, plan, c, o),

@@ -20,7 +20,7 @@ use layout::bytes::Span;
 use layout::columns::Labelled;
 use layout::cursor::Cursor;
 use layout::cursor::Text;
-use layout::version::Version;
+use layout::edition::Edition;
 use walk::head::SelectorHead;
 use walk::head::cast_option;
 use walk::head::head;
@@ -35,14 +35,14 @@ pub enum Fit {
 
 fn fit_position(
     incoming: &[u8],
-    v: Version,
+    v: Edition,
     scope: Scope,
     index: &[u16],
     stride: u16,
     plan: &[u8],
     c: Cursor,
     target: &[u8],
-    vt: Version,
+    vt: Edition,
     b: Cursor,
 ) -> Fit
     requires { ⌜ FitAt (now incoming) v scope (now index) stride (now plan) (c .at) (now target) vt (b .at) ⌝ }
@@ -60,7 +60,7 @@ fn fit_position(
 // A constant whose type begins at `t`.
 fn fit_constant(
     incoming: &[u8],
-    v: Version,
+    v: Edition,
     scope: Scope,
     index: &[u16],
     stride: u16,
@@ -69,13 +69,13 @@ fn fit_constant(
     name: Span,
     t: Cursor,
     target: &[u8],
-    vt: Version,
+    vt: Edition,
     b: Cursor,
 ) -> Fit
     requires { ⌜ ((A : FitAt (now incoming) v scope (now index) stride (now plan) (c .at) (now target) vt (b .at)) × ConstantAt (now plan) (c .at) (A .selector) name (t .at)) ⌝ }
     ensures { λ r. ⌜ ((A : FitAt (now (incoming .entry)) v scope (now (index .entry)) stride (now (plan .entry)) (c .at) (now (target .entry)) vt (b .at)) → ConstantAt (now (plan .entry)) (c .at) (A .selector) name (t .at) → Fits A r) ⌝ }
 {
-    match same_type(plan, Version::ByName, 16, t, target, vt, 16, b) {
+    match same_type(plan, Edition::One, 16, t, target, vt, 16, b) {
         Same::To(_, f) => Fit::Is(skip_selector(plan, c), f, named(Place::Plan, name)),
         Same::No => Fit::Unknown,
     }
@@ -83,7 +83,7 @@ fn fit_constant(
 
 fn fit_cast(
     incoming: &[u8],
-    v: Version,
+    v: Edition,
     scope: Scope,
     index: &[u16],
     stride: u16,
@@ -91,7 +91,7 @@ fn fit_cast(
     c: Cursor,
     input: Cursor,
     target: &[u8],
-    vt: Version,
+    vt: Edition,
     b: Cursor,
 ) -> Fit
     requires { ⌜ ((A : FitAt (now incoming) v scope (now index) stride (now plan) (c .at) (now target) vt (b .at)) × CastAt (now plan) (c .at) (A .selector) (input .at)) ⌝ }
@@ -100,7 +100,7 @@ fn fit_cast(
     match take_position(incoming, v, scope, index, stride, plan, input) {
         Taken::At(name, d) => {
             let t = skip_selector(plan, input);
-            match same_type(plan, Version::ByName, 16, t, target, vt, 16, b) {
+            match same_type(plan, Edition::One, 16, t, target, vt, 16, b) {
                 Same::To(_, f) => {
                     if !type_fits(incoming, v, d, plan, t, cast_option(plan, t)) {
                         return Fit::Unknown;
@@ -116,7 +116,7 @@ fn fit_cast(
 
 fn fit_rename(
     incoming: &[u8],
-    v: Version,
+    v: Edition,
     scope: Scope,
     index: &[u16],
     stride: u16,
@@ -124,7 +124,7 @@ fn fit_rename(
     c: Cursor,
     input: Cursor,
     target: &[u8],
-    vt: Version,
+    vt: Edition,
     b: Cursor,
     levels: u8,
 ) -> Fit
@@ -164,7 +164,7 @@ fn around(name: Span, r: Fit) -> Fit
 
 fn fit_list(
     incoming: &[u8],
-    v: Version,
+    v: Edition,
     scope: Scope,
     index: &[u16],
     stride: u16,
@@ -172,7 +172,7 @@ fn fit_list(
     c: Cursor,
     input: Cursor,
     target: &[u8],
-    vt: Version,
+    vt: Edition,
     b: Cursor,
     levels: u8,
 ) -> Fit
@@ -207,7 +207,7 @@ fn fit_list(
 
 fn fit_array(
     incoming: &[u8],
-    v: Version,
+    v: Edition,
     scope: Scope,
     index: &[u16],
     stride: u16,
@@ -215,7 +215,7 @@ fn fit_array(
     c: Cursor,
     input: Cursor,
     target: &[u8],
-    vt: Version,
+    vt: Edition,
     b: Cursor,
     levels: u8,
 ) -> Fit
@@ -250,7 +250,7 @@ fn fit_array(
 
 fn fit_struct(
     incoming: &[u8],
-    v: Version,
+    v: Edition,
     scope: Scope,
     index: &[u16],
     stride: u16,
@@ -258,7 +258,7 @@ fn fit_struct(
     c: Cursor,
     input: Cursor,
     target: &[u8],
-    vt: Version,
+    vt: Edition,
     b: Cursor,
     levels: u8,
 ) -> Fit
@@ -305,14 +305,14 @@ fn fit_struct(
 // A selector and a column of the target: names and types.
 pub fn fit_column(
     incoming: &[u8],
-    v: Version,
+    v: Edition,
     scope: Scope,
     index: &[u16],
     stride: u16,
     plan: &[u8],
     c: Cursor,
     target: &[u8],
-    vt: Version,
+    vt: Edition,
     b: Cursor,
     levels: u8,
 ) -> Same
@@ -352,7 +352,7 @@ pub fn fit_column(
 // As many selectors and columns of the target.
 pub fn fit_fields(
     incoming: &[u8],
-    v: Version,
+    v: Edition,
     scope: Scope,
     index: &[u16],
     stride: u16,
@@ -360,7 +360,7 @@ pub fn fit_fields(
     c: Cursor,
     n: u16,
     target: &[u8],
-    vt: Version,
+    vt: Edition,
     b: Cursor,
     levels: u8,
 ) -> Same
@@ -400,14 +400,14 @@ pub fn fit_fields(
 // Inside at most so many others.
 fn fit_selector(
     incoming: &[u8],
-    v: Version,
+    v: Edition,
     scope: Scope,
     index: &[u16],
     stride: u16,
     plan: &[u8],
     c: Cursor,
     target: &[u8],
-    vt: Version,
+    vt: Edition,
     b: Cursor,
     levels: u8,
 ) -> Fit

@@ -3,8 +3,8 @@ ghost use Rattle.layout.specs.Stands.{TypeAt};
 ghost use Rattle.direct.specs.Insides.{InsideIs, BothIs};
 use layout::columns::Labelled;
 use layout::cursor::Cursor;
+use layout::edition::Edition;
 use layout::types::Head;
-use layout::version::Version;
 
 // A struct's columns, a list's or array's element; a leaf has none.
 pub enum Inside {
@@ -22,7 +22,7 @@ pub enum Both {
     Apart,
 }
 
-pub fn inside_of(s: &[u8], v: Version, c: Cursor) -> Inside
+pub fn inside_of(s: &[u8], v: Edition, c: Cursor) -> Inside
     ensures { λ r. ⌜ ((T : TypeAt v 16 (now (s .entry)) (c .at)) → InsideIs v (now (s .entry)) (c .at) T r) ⌝ }
 {
     match c.head(s) {
@@ -41,7 +41,7 @@ pub fn inside_of(s: &[u8], v: Version, c: Cursor) -> Inside
 }
 
 // The types at `c` and at `d`, each in its own bytes.
-pub fn both_inside(a: &[u8], va: Version, c: Cursor, b: &[u8], vb: Version, d: Cursor) -> Both
+pub fn both_inside(a: &[u8], va: Edition, c: Cursor, b: &[u8], vb: Edition, d: Cursor) -> Both
     ensures { λ r. ⌜ ((T : TypeAt va 16 (now (a .entry)) (c .at)) (Q : TypeAt vb 16 (now (b .entry)) (d .at)) → BothIs va (now (a .entry)) (c .at) T vb (now (b .entry)) (d .at) Q r) ⌝ }
 {
     match inside_of(a, va, c) {

@@ -13,8 +13,8 @@ use index::columns::indexed_column;
 use layout::bytes::Span;
 use layout::columns::Position;
 use layout::cursor::Cursor;
+use layout::edition::Edition;
 use layout::find::Found;
-use layout::version::Version;
 use walk::head::SelectorHead;
 use walk::head::head;
 
@@ -43,7 +43,7 @@ fn taken_from(f: Found) -> Taken
 }
 
 // An element has position 0 and no name.
-fn take_element(incoming: &[u8], v: Version, c: Cursor, k: Position) -> Taken
+fn take_element(incoming: &[u8], v: Edition, c: Cursor, k: Position) -> Taken
     ensures { λ r. ⌜ ((T : TypeAt v 16 (now (incoming .entry)) (c .at)) → TakenIs (now (incoming .entry)) v (columnAt (elementOf (dtypeOf (T .tree))) (k .0)) r) ⌝ }
 {
     if k.0 == 0 {
@@ -56,7 +56,7 @@ fn take_element(incoming: &[u8], v: Version, c: Cursor, k: Position) -> Taken
 // The column at a position.
 fn take_column(
     incoming: &[u8],
-    v: Version,
+    v: Edition,
     scope: Scope,
     index: &[u16],
     stride: u16,
@@ -74,7 +74,7 @@ fn take_column(
 // The column that the selector at `c` takes, if it is a position.
 pub fn take_position(
     incoming: &[u8],
-    v: Version,
+    v: Edition,
     scope: Scope,
     index: &[u16],
     stride: u16,
@@ -93,7 +93,7 @@ pub fn take_position(
 // Fills a table of the `n` fields from `c` on, of which `m` are taken, and answers how many entries it got. Where few are taken, that would take more time than it saves.
 pub fn index_fields(
     incoming: &[u8],
-    v: Version,
+    v: Edition,
     n: u16,
     c: Cursor,
     m: u16,

@@ -7,11 +7,11 @@ use crate::table::EndFound;
 use crate::table::keep_end;
 use layout::columns::Labelled;
 use layout::cursor::Cursor;
+use layout::edition::Edition;
 use layout::types::Head;
-use layout::version::Version;
 
 // The end of a type; the ends of the structs in it are kept.
-fn fill_type(s: &[u8], v: Version, depth: u8, c: Cursor, ends: &mut [u16]) -> Cursor
+fn fill_type(s: &[u8], v: Edition, depth: u8, c: Cursor, ends: &mut [u16]) -> Cursor
     requires { ⌜ TypeAt v depth (now s) (c .at) ⌝ }
     requires { ⌜ Ends v (now s) (now ends) ⌝ }
     ensures { λ r. ⌜ ((P : TypeAt v depth (now (s .entry)) (c .at)) → r .at ≡ P .end) ⌝ }
@@ -41,7 +41,7 @@ fn fill_type(s: &[u8], v: Version, depth: u8, c: Cursor, ends: &mut [u16]) -> Cu
 }
 
 // The end of `n` columns; the ends of the structs in them are kept.
-pub fn fill_columns(s: &[u8], v: Version, depth: u8, n: u16, c: Cursor, ends: &mut [u16]) -> Cursor
+pub fn fill_columns(s: &[u8], v: Edition, depth: u8, n: u16, c: Cursor, ends: &mut [u16]) -> Cursor
     requires { ⌜ ColumnsAt v depth (now s) n (c .at) ⌝ }
     requires { ⌜ Ends v (now s) (now ends) ⌝ }
     ensures { λ r. ⌜ ((P : ColumnsAt v depth (now (s .entry)) n (c .at)) → r .at ≡ P .end) ⌝ }

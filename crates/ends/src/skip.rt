@@ -7,12 +7,12 @@ use crate::table::EndFound;
 use crate::table::find_end;
 use layout::columns::Labelled;
 use layout::cursor::Cursor;
+use layout::edition::Edition;
 use layout::types::Head;
-use layout::version::Version;
 use layout::walk::skip_type;
 
 // The end of the struct that starts at `c`.
-fn skip_struct(s: &[u8], v: Version, depth: u8, c: Cursor, ends: &[u16]) -> Cursor
+fn skip_struct(s: &[u8], v: Edition, depth: u8, c: Cursor, ends: &[u16]) -> Cursor
     requires { ⌜ TypeAt v depth (now s) (c .at) ⌝ }
     requires { ⌜ Ends v (now s) (now ends) ⌝ }
     ensures { λ r. ⌜ ((P : TypeAt v depth (now (s .entry)) (c .at)) → r .at ≡ P .end) ⌝ }
@@ -24,7 +24,7 @@ fn skip_struct(s: &[u8], v: Version, depth: u8, c: Cursor, ends: &[u16]) -> Curs
 }
 
 // The end of a type: as `layout::walk::skip_type`. A list ends where its element does.
-pub fn skip_type_by(s: &[u8], v: Version, depth: u8, c: Cursor, ends: &[u16]) -> Cursor
+pub fn skip_type_by(s: &[u8], v: Edition, depth: u8, c: Cursor, ends: &[u16]) -> Cursor
     requires { ⌜ TypeAt v depth (now s) (c .at) ⌝ }
     requires { ⌜ Ends v (now s) (now ends) ⌝ }
     ensures { λ r. ⌜ ((P : TypeAt v depth (now (s .entry)) (c .at)) → r .at ≡ P .end) ⌝ }
@@ -49,7 +49,7 @@ pub fn skip_type_by(s: &[u8], v: Version, depth: u8, c: Cursor, ends: &[u16]) ->
 }
 
 // The end of `n` columns.
-pub fn skip_columns_by(s: &[u8], v: Version, depth: u8, n: u16, c: Cursor, ends: &[u16]) -> Cursor
+pub fn skip_columns_by(s: &[u8], v: Edition, depth: u8, n: u16, c: Cursor, ends: &[u16]) -> Cursor
     requires { ⌜ ColumnsAt v depth (now s) n (c .at) ⌝ }
     requires { ⌜ Ends v (now s) (now ends) ⌝ }
     ensures { λ r. ⌜ ((P : ColumnsAt v depth (now (s .entry)) n (c .at)) → r .at ≡ P .end) ⌝ }

@@ -3,7 +3,7 @@
 // entries. Two structs of one layout start at least 4 bytes apart, so that 4,096 entries hold all of them; that is
 // not proved, only that every entry is true.
 ghost use Rattle.layout.specs.Bytes.{Bytes};
-ghost use Rattle.layout.specs.declared.version.Version.{Version as VersionOf};
+ghost use Rattle.layout.specs.declared.edition.Edition.{Edition as EditionOf};
 ghost use Rattle.ends.specs.Ends.{EndAt, Ends, FoundIs};
 use layout::bytes::wide;
 
@@ -14,7 +14,7 @@ pub enum EndFound {
 
 // The end of the struct that starts at `at`, where it is known.
 pub fn find_end(ends: &[u16], at: usize) -> EndFound
-    ensures { λ r. ⌜ ((v : VersionOf) (s : Bytes) → Ends v s (now (ends .entry)) → FoundIs v s at r) ⌝ }
+    ensures { λ r. ⌜ ((v : EditionOf) (s : Bytes) → Ends v s (now (ends .entry)) → FoundIs v s at r) ⌝ }
 {
     if 65535 < at {
         return EndFound::Unknown;
@@ -35,7 +35,7 @@ pub fn find_end(ends: &[u16], at: usize) -> EndFound
 
 // Keeps the end of the struct that starts at `at`, where an entry can hold it.
 pub fn keep_end(ends: &mut [u16], at: usize, end: usize)
-    ensures { λ _. ⌜ ((v : VersionOf) (s : Bytes) → Ends v s (now (ends .entry)) → EndAt v s at end → Ends v s (now (ends .exit))) ⌝ }
+    ensures { λ _. ⌜ ((v : EditionOf) (s : Bytes) → Ends v s (now (ends .entry)) → EndAt v s at end → Ends v s (now (ends .exit))) ⌝ }
 {
     if end <= at {
         return;

@@ -22,7 +22,7 @@ use Rattle.layout.specs.declared.types.LeafType.{LeafType as LeafSpan}
 use Rattle.layout.specs.declared.columns.Label.{Label as LabelSpan}
 use Rattle.layout.specs.declared.columns.Labelled.{Labelled}
 use Rattle.layout.specs.declared.columns.Siblings.the-variants.{Free}
-use Rattle.layout.specs.declared.version.Version.{Version}
+use Rattle.layout.specs.declared.edition.Edition.{Edition}
 use Rattle.layout.proofs.Ways.{clash}
 use Rattle.layout.proofs.Top.{columns-count}
 use Rattle.layout.proofs.View.{next-ok, deep, label-got, label-none, same-columns, columns-any, no-column}
@@ -62,7 +62,7 @@ alike k j e = kind-eq k j (ap (λ (x : Bytes). x ++ []) (same-bytes-eq (kindForm
 abbrev headSpan : ℕ → ℕ → Span
 headSpan at m = record { start = at; len = m - at }
 
-module _ {v : Version} {d : ℕ} {s : Bytes} {at m : ℕ} {P : TypeAt v d s at} (H : HeadAt v d s at P m) where
+module _ {v : Edition} {d : ℕ} {s : Bytes} {at m : ℕ} {P : TypeAt v d s at} (H : HeadAt v d s at P m) where
   pub head-in : spanIn s (headSpan at m)
   head-in = let a = H .from in let b = H .to in omega arith
 
@@ -73,7 +73,7 @@ module _ {v : Version} {d : ℕ} {s : Bytes} {at m : ℕ} {P : TypeAt v d s at} 
       let n : at + (m - at) ≡ m = omega arith in
       sym (slice-take s at (m - at) (omega arith)) ∙ ap (λ (e : ℕ). slice at e s) n ∙ kind-stands s o at (kind→ s at (H .reads)) .0 .is
 
-module _ {va : Version} {da : ℕ} {a : Bytes} {at x : ℕ} {vb : Version} {db : ℕ} {b : Bytes} {bt y : ℕ} {P : TypeAt va da a at} {Q : TypeAt vb db b bt}
+module _ {va : Edition} {da : ℕ} {a : Bytes} {at x : ℕ} {vb : Edition} {db : ℕ} {b : Bytes} {bt y : ℕ} {P : TypeAt va da a at} {Q : TypeAt vb db b bt}
     (H : HeadAt va da a at P x) (G : HeadAt vb db b bt Q y) (oa : AllBytes a) (ob : AllBytes b) {r : Bool} (e : r ≡ sameBytes (spanAt a (headSpan at x)) (spanAt b (headSpan bt y))) where
   by-kinds : r ≡ sameBytes (kindForm (headOf (dtypeOf (P .tree)))) (kindForm (headOf (dtypeOf (Q .tree))))
   by-kinds = e ∙ ap (λ (z : Bytes). sameBytes z (spanAt b (headSpan bt y))) (head-bytes H oa) ∙ ap (λ (z : Bytes). sameBytes (kindForm (headOf (dtypeOf (P .tree)))) z) (head-bytes G ob)
@@ -91,7 +91,7 @@ module _ {va : Version} {da : ℕ} {a : Bytes} {at x : ℕ} {vb : Version} {db :
 
 -- ---- the parts of a type whose head is known
 
-module _ {v : Version} {d : ℕ} {s : Bytes} {at : ℕ} (P : TypeAt v d s at) {m : ℕ} where
+module _ {v : Edition} {d : ℕ} {s : Bytes} {at : ℕ} (P : TypeAt v d s at) {m : ℕ} where
   behind : (k : Kind) → kind s at ≡ ok k m → body v Free (type v Free (d - 1)) k s m ≡ ok (P .tree) (P .end)
   unfolding type next
   behind k q =
@@ -103,22 +103,22 @@ module _ {v : Version} {d : ℕ} {s : Bytes} {at : ℕ} (P : TypeAt v d s at) {m
   unfolding body
   leaf-known {l} q = let (a, b) = ok-eq (behind (aLeaf l) q) in (sym a, sym b)
 
-pub record StructIs (v : Version) (d : ℕ) (s : Bytes) (at : ℕ) (P : TypeAt v d s at) (n m : ℕ) : Type 0 where
+pub record StructIs (v : Edition) (d : ℕ) (s : Bytes) (at : ℕ) (P : TypeAt v d s at) (n m : ℕ) : Type 0 where
   pub inner : ColumnsAt v (d - 1) s n m
   pub is : P .tree ≡ cstruct (inner .columns)
   pub ends : P .end ≡ inner .end
 
-pub record ListIs (v : Version) (d : ℕ) (s : Bytes) (at : ℕ) (P : TypeAt v d s at) (m : ℕ) : Type 0 where
+pub record ListIs (v : Edition) (d : ℕ) (s : Bytes) (at : ℕ) (P : TypeAt v d s at) (m : ℕ) : Type 0 where
   pub element : ElementAt v (d - 1) s m
   pub is : P .tree ≡ clist (element .label) (element .inner .tree)
   pub ends : P .end ≡ element .inner .end
 
-pub record ArrayIs (v : Version) (d : ℕ) (s : Bytes) (at : ℕ) (P : TypeAt v d s at) (w m : ℕ) : Type 0 where
+pub record ArrayIs (v : Edition) (d : ℕ) (s : Bytes) (at : ℕ) (P : TypeAt v d s at) (w m : ℕ) : Type 0 where
   pub element : ElementAt v (d - 1) s m
   pub is : P .tree ≡ carray w (element .label) (element .inner .tree)
   pub ends : P .end ≡ element .inner .end
 
-module _ {v : Version} {d : ℕ} {s : Bytes} {at : ℕ} (P : TypeAt v d s at) {m : ℕ} where
+module _ {v : Edition} {d : ℕ} {s : Bytes} {at : ℕ} (P : TypeAt v d s at) {m : ℕ} where
   pub struct-known : {n : ℕ} → kind s at ≡ ok (aStruct n) m → StructIs v d s at P n m
   unfolding body structType
   struct-known {n} q =
@@ -143,7 +143,7 @@ module _ {v : Version} {d : ℕ} {s : Bytes} {at : ℕ} (P : TypeAt v d s at) {m
       record { element = record { label = l; start = i; labelled = h; inner = record { tree = t; end = e; reads = g } }; is = sym a; ends = sym b }
 
 -- both types, by the answer for the first one's head
-module _ {va : Version} {da : ℕ} {a : Bytes} {at x : ℕ} {vb : Version} {db : ℕ} {b : Bytes} {bt y : ℕ} {P : TypeAt va da a at} {Q : TypeAt vb db b bt}
+module _ {va : Edition} {da : ℕ} {a : Bytes} {at x : ℕ} {vb : Edition} {db : ℕ} {b : Bytes} {bt y : ℕ} {P : TypeAt va da a at} {Q : TypeAt vb db b bt}
     (H : HeadAt va da a at P x) (G : HeadAt vb db b bt Q y) (oa : AllBytes a) (ob : AllBytes b) {r : Bool} (e : r ≡ sameBytes (spanAt a (headSpan at x)) (spanAt b (headSpan bt y)))
     (t : r ≡ true) {h : Head} (f : headRes a h ≡ kind a at) where
   pub leaf-both : {l : LeafSpan} {d : Cursor} → h ≡ Head.Leaf l d → (kind a at ≡ ok (aLeaf (leafAt a l)) x) × (kind b bt ≡ ok (aLeaf (leafAt a l)) y)
@@ -164,7 +164,7 @@ module _ {va : Version} {da : ℕ} {a : Bytes} {at x : ℕ} {vb : Version} {db :
 answer : (c : Bool) {b : Bool} {e f e′ f′ : ℕ} {r : Same} → b ≡ c → e ≡ e′ → f ≡ f′ → r ≡ sameOf c e′ f′ → r ≡ sameOf b e f
 answer c p q w h = rw (p, q, w) h
 
-module _ {va : Version} {da : ℕ} {a : Bytes} {at : ℕ} {vb : Version} {db : ℕ} {b : Bytes} {bt : ℕ} (P : TypeAt va da a at) (Q : TypeAt vb db b bt) where
+module _ {va : Edition} {da : ℕ} {a : Bytes} {at : ℕ} {vb : Edition} {db : ℕ} {b : Bytes} {bt : ℕ} (P : TypeAt va da a at) (Q : TypeAt vb db b bt) where
   abbrev Answers : Same → Type 0
   Answers r = r ≡ sameOf (sameDtype (dtypeOf (P .tree)) (dtypeOf (Q .tree))) (P .end) (Q .end)
 
@@ -194,19 +194,19 @@ module _ {va : Version} {da : ℕ} {a : Bytes} {at : ℕ} {vb : Version} {db : �
 -- ---- labels with types behind them
 
 -- the type, where the label's reader says that it starts
-abbrev pub behind-label : {p : Parser Label} {v : Version} {d : ℕ} {s : Bytes} {at : ℕ} {l : Label} {m : ℕ} (E : LabelledAt p v d s at) → p s at ≡ ok l m → TypeAt v d s m
+abbrev pub behind-label : {p : Parser Label} {v : Edition} {d : ℕ} {s : Bytes} {at : ℕ} {l : Label} {m : ℕ} (E : LabelledAt p v d s at) → p s at ≡ ok l m → TypeAt v d s m
 behind-label {v = v} {d} {s} E h =
     record { tree = E .inner .tree; end = E .inner .end; reads = ap (λ (o : ℕ). type v Free d s o) (ok-eq (sym h ∙ E .labelled) .1) ∙ E .inner .reads }
 
-pub never-unlabelled : {B : Type 0} {p : Parser Label} {v : Version} {d : ℕ} {s : Bytes} {at : ℕ} (E : LabelledAt p v d s at) {q : Labelled} {n : ℕ}
+pub never-unlabelled : {B : Type 0} {p : Parser Label} {v : Edition} {d : ℕ} {s : Bytes} {at : ℕ} (E : LabelledAt p v d s at) {q : Labelled} {n : ℕ}
     → labelRes s q ≡ p s at → q ≡ Labelled.Refused n → B
 never-unlabelled {s = s} E {n = n} e f = let z : refuse n ≡ ok (E .label) (E .start) = sym (label-none s e f) ∙ E .labelled in clash (cc)
 
-name-is : {p : Parser Label} {v : Version} {d : ℕ} {s : Bytes} {at : ℕ} (E : LabelledAt p v d s at) {q : Labelled} {l : LabelSpan} {c : Cursor}
+name-is : {p : Parser Label} {v : Edition} {d : ℕ} {s : Bytes} {at : ℕ} (E : LabelledAt p v d s at) {q : Labelled} {l : LabelSpan} {c : Cursor}
     → labelRes s q ≡ p s at → q ≡ Labelled.Is l c → E .label .name ≡ spanAt s (l .name)
 name-is {s = s} E e f = ap (λ (x : Label). x .name) (ok-eq (sym (E .labelled) ∙ label-got s e f) .0)
 
-module _ {va : Version} {da : ℕ} {a : Bytes} {at : ℕ} {vb : Version} {db : ℕ} {b : Bytes} {bt : ℕ} (E : ColumnAt va da a at) (F : ColumnAt vb db b bt)
+module _ {va : Edition} {da : ℕ} {a : Bytes} {at : ℕ} {vb : Edition} {db : ℕ} {b : Bytes} {bt : ℕ} (E : ColumnAt va da a at) (F : ColumnAt vb db b bt)
     {q : Labelled} {l : LabelSpan} {x : Cursor} (e : labelRes a q ≡ label va a at) (f : q ≡ Labelled.Is l x)
     {u : Labelled} {m : LabelSpan} {y : Cursor} (g : labelRes b u ≡ label vb b bt) (h : u ≡ Labelled.Is m y) {t : Bool} (i : t ≡ sameBytes (spanAt a (l .name)) (spanAt b (m .name))) where
   names : sameBytes (E .label .name) (F .label .name) ≡ t
@@ -224,13 +224,13 @@ module _ {va : Version} {da : ℕ} {a : Bytes} {at : ℕ} {vb : Version} {db : �
 -- ---- the loop over columns
 
 -- a list of columns from its first
-pub record Split (v : Version) (d : ℕ) (s : Bytes) (n at : ℕ) (P : ColumnsAt v d s n at) : Type 0 where
+pub record Split (v : Edition) (d : ℕ) (s : Bytes) (n at : ℕ) (P : ColumnsAt v d s n at) : Type 0 where
   pub first : ColumnAt v d s at
   pub tail : ColumnsAt v d s (n - 1) (first .inner .end)
   pub is : P .columns ≡ ccons (first .label) (first .inner .tree) (tail .columns)
   pub ends : tail .end ≡ P .end
 
-pub split : {v : Version} {d : ℕ} {s : Bytes} {n at : ℕ} (P : ColumnsAt v d s n at) → (n ≡ 0 → ⊥) → Split v d s n at P
+pub split : {v : Edition} {d : ℕ} {s : Bytes} {n at : ℕ} (P : ColumnsAt v d s n at) → (n ≡ 0 → ⊥) → Split v d s n at P
 unfolding columns
 split {v} {d} {s} {n} {at} P h =
     let z : suc (n - 1) ≡ n = omega arith in
@@ -248,11 +248,11 @@ split {v} {d} {s} {n} {at} P h =
       ends = q;
     }
 
-abbrev pub fieldsAt : {v : Version} {d : ℕ} {s : Bytes} {n at : ℕ} → ColumnsAt v d s n at → Fields
+abbrev pub fieldsAt : {v : Edition} {d : ℕ} {s : Bytes} {n at : ℕ} → ColumnsAt v d s n at → Fields
 fieldsAt P = fieldsOf (P .columns)
 
 -- after i of n columns, all the same: the rest decides
-pub record Comparing (va : Version) (da : ℕ) (a : Bytes) (n from : ℕ) (vb : Version) (db : ℕ) (b : Bytes) (from′ i at bt : ℕ) : Type 0 where
+pub record Comparing (va : Edition) (da : ℕ) (a : Bytes) (n from : ℕ) (vb : Edition) (db : ℕ) (b : Bytes) (from′ i at bt : ℕ) : Type 0 where
   pub within : i ≤ n
   pub left : ColumnsAt va da a (n - i) at
   pub right : ColumnsAt vb db b (n - i) bt
@@ -272,7 +272,7 @@ unfolding sameOf
 same-no true e f h k = clash (cc)
 same-no false e f h k = refl
 
-module _ {va : Version} {da : ℕ} {a : Bytes} {n from : ℕ} {vb : Version} {db : ℕ} {b : Bytes} {from′ : ℕ} where
+module _ {va : Edition} {da : ℕ} {a : Bytes} {n from : ℕ} {vb : Edition} {db : ℕ} {b : Bytes} {from′ : ℕ} where
   pub comparing-none : ColumnsAt va da a n from → ColumnsAt vb db b n from′ → Comparing va da a n from vb db b from′ 0 from from′
   comparing-none L R =
       let e : n - 0 ≡ n = omega arith in
@@ -337,10 +337,10 @@ module _ {va : Version} {da : ℕ} {a : Bytes} {n from : ℕ} {vb : Version} {db
 
 -- ---- two whole lists of columns
 
-count-at : {v : Version} {d : ℕ} {s : Bytes} {n at : ℕ} (P : ColumnsAt v d s n at) → countFields (fieldsAt P) ≡ n
+count-at : {v : Edition} {d : ℕ} {s : Bytes} {n at : ℕ} (P : ColumnsAt v d s n at) → countFields (fieldsAt P) ≡ n
 count-at {v} {d} {s} {n} {at} P = count-fields (P .columns) ∙ columns-count v Free (type v Free d) n [] s at (P .columns) (P .end) (P .reads)
 
-pub counts-differ : {va : Version} {da : ℕ} {a : Bytes} {n at : ℕ} {vb : Version} {db : ℕ} {b : Bytes} {m bt : ℕ} → (n ≡ m → ⊥)
+pub counts-differ : {va : Edition} {da : ℕ} {a : Bytes} {n at : ℕ} {vb : Edition} {db : ℕ} {b : Bytes} {m bt : ℕ} → (n ≡ m → ⊥)
     → (P : ColumnsAt va da a n at) (Q : ColumnsAt vb db b m bt) → false ≡ sameFields (fieldsAt P) (fieldsAt Q)
 counts-differ h P Q = go (sameFields (fieldsAt P) (fieldsAt Q)) refl
   where
@@ -349,5 +349,5 @@ counts-differ h P Q = go (sameFields (fieldsAt P) (fieldsAt Q)) refl
     go false e = refl
 
 -- the same columns under another name of their count
-abbrev pub counted : {v : Version} {d : ℕ} {s : Bytes} {n m at : ℕ} → m ≡ n → ColumnsAt v d s m at → ColumnsAt v d s n at
+abbrev pub counted : {v : Edition} {d : ℕ} {s : Bytes} {n m at : ℕ} → m ≡ n → ColumnsAt v d s m at → ColumnsAt v d s n at
 counted {v} {d} {s} {at = at} e P = record { columns = P .columns; end = P .end; reads = ap (λ (k : ℕ). columns v Free (type v Free d) k [] s at) (sym e) ∙ P .reads }

@@ -13,7 +13,7 @@ use Rattle.layout.specs.Stands.{TypeAt}
 use Rattle.layout.specs.declared.cursor.Cursor.{Cursor}
 use Rattle.layout.specs.declared.types.Head.{Head}
 use Rattle.layout.specs.declared.types.LeafType.{LeafType as LeafSpan}
-use Rattle.layout.specs.declared.version.Version.{Version}
+use Rattle.layout.specs.declared.edition.Edition.{Edition}
 use Rattle.layout.specs.declared.columns.Siblings.{Siblings}
 use Rattle.layout.specs.declared.columns.Siblings.the-variants.{Free}
 use Rattle.layout.proofs.Top.{columns-count}
@@ -63,7 +63,7 @@ head-some aList = omega arith
 head-some (anArray w) = omega arith
 
 -- what a type begins with, by the parser
-head-is : (v : Version) (r : Siblings) (p : Parser ColumnType) (k : Kind) (s : Bytes) (m : ℕ) {c : ColumnType} {e : ℕ} → body v r p k s m ≡ ok c e → k ≡ headOf (dtypeOf c)
+head-is : (v : Edition) (r : Siblings) (p : Parser ColumnType) (k : Kind) (s : Bytes) (m : ℕ) {c : ColumnType} {e : ℕ} → body v r p k s m ≡ ok c e → k ≡ headOf (dtypeOf c)
 unfolding body structType listType arrayType dtypeOf headOf
 head-is v r p (aLeaf l) s m h = let q = ok-eq h .0 in rw (← q)
 head-is v r p (aStruct n) s m h =
@@ -83,7 +83,7 @@ head-is v r p (anArray w) s m h =
     rw (← q)
 
 -- the head, and the bytes around it
-pub record HeadAt (v : Version) (d : ℕ) (s : Bytes) (at : ℕ) (P : TypeAt v d s at) (m : ℕ) : Type 0 where
+pub record HeadAt (v : Edition) (d : ℕ) (s : Bytes) (at : ℕ) (P : TypeAt v d s at) (m : ℕ) : Type 0 where
   pub reads : kind s at ≡ ok (headOf (dtypeOf (P .tree))) m
   pub from : at ≤ m
   pub inside : at < length s
@@ -92,7 +92,7 @@ pub record HeadAt (v : Version) (d : ℕ) (s : Bytes) (at : ℕ) (P : TypeAt v d
   pub rest : m + length (restForm (dtypeOf (P .tree))) ≤ P .end
   pub ends : P .end ≤ length s
 
-module _ {v : Version} {d : ℕ} {s : Bytes} {at : ℕ} (P : TypeAt v d s at) where
+module _ {v : Edition} {d : ℕ} {s : Bytes} {at : ℕ} (P : TypeAt v d s at) where
   head-read : (m : ℕ) × (kind s at ≡ ok (headOf (dtypeOf (P .tree))) m)
   unfolding type
   head-read =

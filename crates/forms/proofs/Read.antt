@@ -10,15 +10,15 @@ use borrow.Author.Tests.{ltb-true, leb-true, eqb-true}
 use Rattle.layout.specs.Bytes.{Bytes, AllBytes}
 use Rattle.layout.specs.Parser.{Res, refuse, ok, next, choose, Parser, byte, chunk, u16, u32, test}
 use Rattle.layout.specs.Tree.{LeafType, leafType, datetime, decimal, Label, ColumnType, cleaf, cstruct, clist, carray, Columns, cnil, ccons}
-use Rattle.layout.specs.Layout.{Kind, aLeaf, aStruct, aList, anArray, text, unit, validDecimal, decimalParams, plainLeaf, leafKind, datetimeKind, decimalKind, structKind, arrayKind, kindOf, kind, fieldId, label, elementLabel, repeatsAny, columns, body, structType, listType, arrayType, type}
+use Rattle.layout.specs.Layout.{Kind, aLeaf, aStruct, aList, anArray, text, unit, validDecimal, decimalParams, plainLeaf, leafKind, datetimeKind, decimalKind, structKind, arrayKind, kindOf, kind, fieldId, requiredMark, fieldMark, labelRest, label, elementLabel, repeatsAny, columns, body, structType, listType, arrayType, type}
 use Rattle.layout.specs.declared.leaf.TimeUnit.{TimeUnit}
 use Rattle.layout.specs.declared.leaf.TimeUnit.the-variants.{Nanoseconds, Microseconds, Milliseconds}
 use Rattle.layout.specs.declared.leaf.Leaf.{Leaf}
 use Rattle.layout.specs.declared.leaf.Decimal.{Decimal}
 use Rattle.layout.specs.declared.types.PlainLeaf.{PlainLeaf}
 use Rattle.layout.specs.declared.types.PlainLeaf.the-variants.{Known, Unknown}
-use Rattle.layout.specs.declared.version.Version.{Version}
-use Rattle.layout.specs.declared.version.Version.the-variants.{ByName, ByNumber}
+use Rattle.layout.specs.declared.edition.Edition.{Edition}
+use Rattle.layout.specs.declared.edition.Edition.the-variants.{One, Two, Three}
 use Rattle.layout.specs.declared.columns.Siblings.{Siblings}
 use Rattle.layout.proofs.Ways.{clash}
 use Rattle.layout.proofs.View.{next-ok}
@@ -292,50 +292,61 @@ module _ (s : Bytes) (o : AllBytes s) (at : ℕ) where
 -- ---- labels
 
 module _ (s : Bytes) where
-  pub label-ends : (v : Version) (at : ℕ) {l : Label} {i : ℕ} → label v s at ≡ ok l i → (i ≤ length s) × ((at + length (textBytes (l .name)) ≤ i) × ((length (l .name) ≤ 63) × (AllBytes s → AllBytes (l .name))))
-  unfolding label fieldId
-  label-ends ByName at {l} {i} e =
+  id-ends : (v : Edition) (at : ℕ) {n i : ℕ} → fieldId v s at ≡ ok n i → at ≤ length s → (at ≤ i) × (i ≤ length s)
+  unfolding fieldId
+  id-ends One at e h = let q = ok-eq e .1 in (omega arith, omega arith)
+  id-ends Two at e h = let (d, r) = u32-ends s at e in (omega arith, omega arith)
+  id-ends Three at e h = let (d, r) = u32-ends s at e in (omega arith, omega arith)
+
+  mark-ends : (v : Edition) (at : ℕ) {r : Bool} {i : ℕ} → fieldMark v s at ≡ ok r i → at ≤ length s → (at ≤ i) × (i ≤ length s)
+  unfolding fieldMark requiredMark
+  mark-ends One at e h = let q = ok-eq e .1 in (omega arith, omega arith)
+  mark-ends Two at e h = let q = ok-eq e .1 in (omega arith, omega arith)
+  mark-ends Three at {r} {i} e h =
+      let (m, j, f, g) = next-ok _ _ e in
+      let (p, q) = byte-ends s at f in
+      let c : j ≡ i = case m 0 _ _ g (λ z q. ok-eq q .1) (λ q. case m 1 _ _ q (λ z q. ok-eq q .1) (λ q. clash (cc))) in
+      (omega arith, omega arith)
+
+  pub label-ends : (v : Edition) (at : ℕ) {l : Label} {i : ℕ} → label v s at ≡ ok l i → (i ≤ length s) × ((at + length (textBytes (l .name)) ≤ i) × ((length (l .name) ≤ 63) × (AllBytes s → AllBytes (l .name))))
+  unfolding label labelRest
+  label-ends v at {l} {i} e =
       let (b, j, h, f) = next-ok _ _ e in
-      let (n, o, g, k) = next-ok _ _ f in
+      let (n, o, g, f) = next-ok _ _ f in
+      let (r, u, x, k) = next-ok _ _ f in
       let p : b ≡ l .name = ap (λ (x : Label). x .name) (ok-eq k .0) in
-      let q : j ≡ i = ok-eq g .1 ∙ ok-eq k .1 in
+      let q : u ≡ i = ok-eq k .1 in
       let (a, c) = text-stands s at h in
       let y = stands-length a in
       let z = a .to in
-      rw (← p) (omega arith, (omega arith, c))
-  label-ends ByNumber at {l} {i} e =
-      let (b, j, h, f) = next-ok _ _ e in
-      let (n, o, g, k) = next-ok _ _ f in
-      let p : b ≡ l .name = ap (λ (x : Label). x .name) (ok-eq k .0) in
-      let q : o ≡ i = cc in
-      let (a, c) = text-stands s at h in
-      let (d, r) = u32-ends s j g in
-      let y = stands-length a in
-      let z = a .to in
+      let d = id-ends v j g (omega arith) in
+      let w = mark-ends v o x (d .1) in
       rw (← p) (omega arith, (omega arith, c))
 
-  pub element-ends : (v : Version) (at : ℕ) {l : Label} {i : ℕ} → elementLabel v s at ≡ ok l i → at ≤ length s → (at ≤ i) × (i ≤ length s)
+  pub element-ends : (v : Edition) (at : ℕ) {l : Label} {i : ℕ} → elementLabel v s at ≡ ok l i → at ≤ length s → (at ≤ i) × (i ≤ length s)
   unfolding elementLabel
-  element-ends ByName at e h = let (p, q) = ok-eq e in (omega arith, omega arith)
-  element-ends ByNumber at e h = let (p, (q, r)) = label-ends ByNumber at e in (omega arith, p)
+  element-ends One at e h = let (p, q) = ok-eq e in (omega arith, omega arith)
+  element-ends Two at e h = let (p, (q, r)) = label-ends Two at e in (omega arith, p)
+  element-ends Three at e h = let (p, (q, r)) = label-ends Three at e in (omega arith, p)
 
   -- in version 1 a label is a name, and an element has none
-  pub label-stands : (at : ℕ) {l : Label} {i : ℕ} → label ByName s at ≡ ok l i → Stands s at i (textBytes (l .name))
-  unfolding label fieldId
+  pub label-stands : (at : ℕ) {l : Label} {i : ℕ} → label One s at ≡ ok l i → Stands s at i (textBytes (l .name))
+  unfolding label labelRest fieldId fieldMark
   label-stands at {l} {i} e =
       let (b, j, h, f) = next-ok _ _ e in
-      let (n, o, g, k) = next-ok _ _ f in
+      let (n, o, g, f) = next-ok _ _ f in
+      let (r, u, x, k) = next-ok _ _ f in
       let (p, q) = ok-eq k in
-      stands-eq (ok-eq g .1 ∙ q) (ap (λ (x : Label). textBytes (x .name)) p) (text-stands s at h .0)
+      stands-eq (ok-eq g .1 ∙ ok-eq x .1 ∙ q) (ap (λ (x : Label). textBytes (x .name)) p) (text-stands s at h .0)
 
-  pub element-stands : (at : ℕ) {l : Label} {i : ℕ} → elementLabel ByName s at ≡ ok l i → at ≡ i
+  pub element-stands : (at : ℕ) {l : Label} {i : ℕ} → elementLabel One s at ≡ ok l i → at ≡ i
   unfolding elementLabel
   element-stands at e = ok-eq e .1
 
 -- ---- types and columns
 
 mutual
-  pub data TypeRead (v : Version) (s : Bytes) : ℕ → ℕ → ColumnType → ℕ → Type 0 where
+  pub data TypeRead (v : Edition) (s : Bytes) : ℕ → ℕ → ColumnType → ℕ → Type 0 where
     tr-leaf : {d at e : ℕ} {l : LeafType} → KindRead s at (aLeaf l) e → TypeRead v s (suc d) at (cleaf l) e
     tr-struct : {d at n m e : ℕ} {cs : Columns} → KindRead s at (aStruct n) m → ColumnsRead v s d n m cs e → TypeRead v s (suc d) at (cstruct cs) e
     tr-list : {d at m i e : ℕ} {l : Label} {t : ColumnType} → KindRead s at aList m → elementLabel v s m ≡ ok l i → TypeRead v s d i t e
@@ -343,12 +354,12 @@ mutual
     tr-array : {d at w m i e : ℕ} {l : Label} {t : ColumnType} → KindRead s at (anArray w) m → elementLabel v s m ≡ ok l i → TypeRead v s d i t e
         → TypeRead v s (suc d) at (carray w l t) e
 
-  pub data ColumnsRead (v : Version) (s : Bytes) : ℕ → ℕ → ℕ → Columns → ℕ → Type 0 where
+  pub data ColumnsRead (v : Edition) (s : Bytes) : ℕ → ℕ → ℕ → Columns → ℕ → Type 0 where
     cr-none : {d at : ℕ} → ColumnsRead v s d 0 at cnil at
     cr-column : {d n at i j e : ℕ} {l : Label} {t : ColumnType} {cs : Columns} → label v s at ≡ ok l i → TypeRead v s d i t j → ColumnsRead v s d n j cs e
         → ColumnsRead v s d (suc n) at (ccons l t cs) e
 
-module _ {v : Version} {s : Bytes} where
+module _ {v : Edition} {s : Bytes} where
   type-is : {d at m m′ : ℕ} {t t′ : ColumnType} → t ≡ t′ → m ≡ m′ → TypeRead v s d at t m → TypeRead v s d at t′ m′
   type-is p q r = rw (← p, ← q) r
 
@@ -361,7 +372,7 @@ unfolding choose
 passed true s e = cc
 passed false s e = clash (cc)
 
-module _ (v : Version) (r : Siblings) (s : Bytes) where
+module _ (v : Edition) (r : Siblings) (s : Bytes) where
   module _ (d : ℕ) (deeper : (at : ℕ) (t : ColumnType) (e : ℕ) → type v r d s at ≡ ok t e → TypeRead v s d at t e) where
     pub columns→ : (n : ℕ) (earlier : List Label) (at : ℕ) {cs : Columns} {e : ℕ} → columns v r (type v r d) n earlier s at ≡ ok cs e → ColumnsRead v s d n at cs e
     unfolding columns

@@ -9,8 +9,8 @@ use Rattle.layout.specs.Bytes.{Bytes, AllBytes}
 use Rattle.layout.specs.Parser.{ok}
 use Rattle.layout.specs.Tree.{ColumnType, cleaf, cstruct, clist, carray, Columns, cnil, ccons, dtypeOf, fieldsOf, countFields}
 use Rattle.layout.specs.Layout.{Kind, aLeaf, aStruct, aList, anArray}
-use Rattle.layout.specs.declared.version.Version.{Version}
-use Rattle.layout.specs.declared.version.Version.the-variants.{ByName}
+use Rattle.layout.specs.declared.edition.Edition.{Edition}
+use Rattle.layout.specs.declared.edition.Edition.the-variants.{One}
 use Rattle.forms.specs.Form.{textBytes, leafForm, kindForm, form, formFields}
 use Rattle.forms.specs.Readable.{Readable, ReadableFields, depthOf, depthOfFields}
 use Rattle.forms.proofs.Slices.{Stands, stands-eq, stands-none, stands-append, stands-length}
@@ -37,7 +37,7 @@ around a p q r =
 mutual
   unfolding dtypeOf fieldsOf form formFields kindForm depthOf depthOfFields countFields
 
-  pub type-extent : {v : Version} {s : Bytes} {d at e : ℕ} {c : ColumnType} → TypeRead v s d at c e → Extent s d at e (length (form (dtypeOf c))) (depthOf (dtypeOf c))
+  pub type-extent : {v : Edition} {s : Bytes} {d at e : ℕ} {c : ColumnType} → TypeRead v s d at c e → Extent s d at e (length (form (dtypeOf c))) (depthOf (dtypeOf c))
   type-extent {s = s} {at = at} (tr-leaf {l = l} h) =
       let (p, q) = kind-ends s at h in
       let z : length (kindForm (aLeaf l)) ≡ length (leafForm l) = refl in
@@ -55,7 +55,7 @@ mutual
       let (a, b) = element-ends s v _ l p in
       extent-is (length-append (kindForm (anArray w)) (form (dtypeOf t))) refl (around _ q a (type-extent g))
 
-  pub columns-extent : {v : Version} {s : Bytes} {d n at e : ℕ} {cs : Columns} → ColumnsRead v s d n at cs e → at ≤ length s
+  pub columns-extent : {v : Edition} {s : Bytes} {d n at e : ℕ} {cs : Columns} → ColumnsRead v s d n at cs e → at ≤ length s
       → Extent s d at e (length (formFields (fieldsOf cs))) (depthOfFields (fieldsOf cs)) × (countFields (fieldsOf cs) ≡ n)
   columns-extent cr-none h = (record { from = omega arith; to = h; long = omega arith; deep = omega arith }, refl)
   columns-extent {v} {s} {at = at} (cr-column {l = l} {t = t} {cs = cs} f g k) h =
@@ -70,7 +70,7 @@ mutual
 
 -- ---- with bytes for elements
 
-module _ {v : Version} {s : Bytes} (o : AllBytes s) where
+module _ {v : Edition} {s : Bytes} (o : AllBytes s) where
   mutual
     unfolding dtypeOf fieldsOf countFields
 
@@ -95,7 +95,7 @@ module _ {s : Bytes} (o : AllBytes s) where
   mutual
     unfolding dtypeOf fieldsOf countFields form formFields kindForm
 
-    pub type-stands : {d at e : ℕ} {c : ColumnType} → TypeRead ByName s d at c e → Stands s at e (form (dtypeOf c))
+    pub type-stands : {d at e : ℕ} {c : ColumnType} → TypeRead One s d at c e → Stands s at e (form (dtypeOf c))
     type-stands {at = at} (tr-leaf h) = kind-stands s o at h .0
     type-stands {at = at} (tr-struct {cs = cs} h g) =
         let H = kind-stands s o at h .0 in
@@ -106,7 +106,7 @@ module _ {s : Bytes} (o : AllBytes s) where
     type-stands {at = at} (tr-array h l g) =
         stands-append (stands-eq (element-stands s _ l) refl (kind-stands s o at h .0)) (type-stands g)
 
-    pub columns-stand : {d n at e : ℕ} {cs : Columns} → ColumnsRead ByName s d n at cs e → at ≤ length s
+    pub columns-stand : {d n at e : ℕ} {cs : Columns} → ColumnsRead One s d n at cs e → at ≤ length s
         → (countFields (fieldsOf cs) ≡ n) × Stands s at e (formFields (fieldsOf cs))
     columns-stand cr-none h = (refl, stands-none h)
     columns-stand {at = at} (cr-column f g k) h =

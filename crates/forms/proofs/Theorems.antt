@@ -12,8 +12,8 @@ use Rattle.layout.specs.Parser.{ok}
 use Rattle.layout.specs.Tree.{ColumnType, DataType, Fields, dtypeOf, fieldsOf, countFields}
 use Rattle.layout.specs.Layout.{type}
 use Rattle.layout.specs.Stands.{ColumnsAt}
-use Rattle.layout.specs.declared.version.Version.{Version}
-use Rattle.layout.specs.declared.version.Version.the-variants.{ByName}
+use Rattle.layout.specs.declared.edition.Edition.{Edition}
+use Rattle.layout.specs.declared.edition.Edition.the-variants.{One}
 use Rattle.layout.specs.declared.columns.Siblings.{Siblings}
 use Rattle.layout.specs.declared.columns.Siblings.the-variants.{Free}
 use Rattle.forms.specs.Form.{form, formFields}
@@ -64,22 +64,22 @@ same-fields-decides fs gs = (λ e. same-fields-eq fs gs e, λ e. ap (sameFields 
 -- ---- 2. a form that is written is read back, and nothing behind it is read
 
 pub form-read : (t : DataType) (d : ℕ) (pre post : Bytes) → Readable t → depthOf t ≤ d
-    → (type ByName Free d (pre ++ (form t ++ post)) (length pre) ≡ ok (labelled t) (length pre + length (form t))) × (dtypeOf (labelled t) ≡ t)
+    → (type One Free d (pre ++ (form t ++ post)) (length pre) ≡ ok (labelled t) (length pre + length (form t))) × (dtypeOf (labelled t) ≡ t)
 form-read t d pre post h p = (type-at t d (pre ++ (form t ++ post)) (length pre) post h p (drop-at pre (form t ++ post) (length pre) refl), dtype-labelled t)
 
 -- ---- 3. what was read as a type
 
 -- version 1: the bytes that were read are the type's form
-pub read-form : (r : Siblings) (d : ℕ) (s : Bytes) (at : ℕ) {c : ColumnType} {m : ℕ} → AllBytes s → type ByName r d s at ≡ ok c m → form (dtypeOf c) ≡ take (m - at) (drop at s)
+pub read-form : (r : Siblings) (d : ℕ) (s : Bytes) (at : ℕ) {c : ColumnType} {m : ℕ} → AllBytes s → type One r d s at ≡ ok c m → form (dtypeOf c) ≡ take (m - at) (drop at s)
 read-form r d s at {c} {m} o e =
-    let S = type-stands o (type→ ByName r s d at e) in
+    let S = type-stands o (type→ One r s d at e) in
     let a = S .from in
     let b = S .to in
     let n : at + (m - at) ≡ m = omega arith in
     sym (S .is) ∙ (rw n at (slice-take s at (m - at) (omega arith)))
 
 -- every version: the form is not longer than the bytes, nor deeper than was allowed
-pub read-extent : (v : Version) (r : Siblings) (d : ℕ) (s : Bytes) (at : ℕ) {c : ColumnType} {m : ℕ} → type v r d s at ≡ ok c m
+pub read-extent : (v : Edition) (r : Siblings) (d : ℕ) (s : Bytes) (at : ℕ) {c : ColumnType} {m : ℕ} → type v r d s at ≡ ok c m
     → (at ≤ m) × (m ≤ length s) × (length (form (dtypeOf c)) ≤ m - at) × (depthOf (dtypeOf c) ≤ d)
 read-extent v r d s at e =
     let E = type-extent (type→ v r s d at e) in
@@ -87,11 +87,11 @@ read-extent v r d s at e =
     let b = E .long in
     (a, E .to, omega arith, E .deep)
 
-pub read-readable : (v : Version) (r : Siblings) (d : ℕ) (s : Bytes) (at : ℕ) {c : ColumnType} {m : ℕ} → AllBytes s → type v r d s at ≡ ok c m → Readable (dtypeOf c)
+pub read-readable : (v : Edition) (r : Siblings) (d : ℕ) (s : Bytes) (at : ℕ) {c : ColumnType} {m : ℕ} → AllBytes s → type v r d s at ≡ ok c m → Readable (dtypeOf c)
 read-readable v r d s at o e = type-readable o (type→ v r s d at e)
 
 -- columns that stand: their form is not longer than their bytes, and there are as many as were asked for
-pub columns-reach : {v : Version} {d : ℕ} {s : Bytes} {n at : ℕ} (P : ColumnsAt v d s n at) → at ≤ length s
+pub columns-reach : {v : Edition} {d : ℕ} {s : Bytes} {n at : ℕ} (P : ColumnsAt v d s n at) → at ≤ length s
     → (at ≤ P .end) × (P .end ≤ length s) × (length (formFields (fieldsOf (P .columns))) ≤ P .end - at) × (countFields (fieldsOf (P .columns)) ≡ n)
 columns-reach {v} {d} {s} {n} {at} P h =
     let (E, c) = columns-extent (columns→ v Free s d (λ at t e h. type→ v Free s d at h) n [] at (P .reads)) h in

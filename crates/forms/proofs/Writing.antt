@@ -19,7 +19,7 @@ use Rattle.layout.specs.declared.types.Head.{Head}
 use Rattle.layout.specs.declared.types.LeafType.{LeafType as LeafSpan}
 use Rattle.layout.specs.declared.columns.Label.{Label as LabelSpan}
 use Rattle.layout.specs.declared.columns.Labelled.{Labelled}
-use Rattle.layout.specs.declared.version.Version.{Version}
+use Rattle.layout.specs.declared.edition.Edition.{Edition}
 use Rattle.layout.specs.declared.columns.Siblings.the-variants.{Free}
 use Rattle.layout.proofs.Ways.{label-in}
 use Rattle.layout.proofs.View.{label-got, leaf-at, StructAt, struct-at, ListAt, list-at, ArrayAt, array-at, same-type, same-columns, no-column, FirstAt, first-at, first-labelled}
@@ -57,10 +57,10 @@ abbrev pub fieldBytes : Columns → Bytes
 fieldBytes cs = formFields (fieldsOf cs)
 
 -- how far a type reaches
-pub extent : {v : Version} {d : ℕ} {s : Bytes} {at : ℕ} (P : TypeAt v d s at) → (at + length (bytesOf (P .tree)) ≤ P .end) × (P .end ≤ length s)
+pub extent : {v : Edition} {d : ℕ} {s : Bytes} {at : ℕ} (P : TypeAt v d s at) → (at + length (bytesOf (P .tree)) ≤ P .end) × (P .end ≤ length s)
 extent {v} {d} {s} {at} P = let E = type-extent (type→ v Free s d at (P .reads)) in (E .long, E .to)
 
-pub form-written : {v : Version} {d : ℕ} {s : Bytes} {at m : ℕ} (P : TypeAt v d s at) → HeadAt v d s at P m → AllBytes s → (out : Bytes) (k : ℕ) {o o′ : Bytes}
+pub form-written : {v : Edition} {d : ℕ} {s : Bytes} {at m : ℕ} (P : TypeAt v d s at) → HeadAt v d s at P m → AllBytes s → (out : Bytes) (k : ℕ) {o o′ : Bytes}
     → o ≡ overlay out k (slice at m s) → o′ ≡ overlay o (k + (m - at)) (restOf (P .tree)) → o′ ≡ overlay out k (bytesOf (P .tree))
 form-written {s = s} {at} {m} P H b out k e f =
     let S = kind-stands s b at (kind→ s at (H .reads)) .0 in
@@ -70,7 +70,7 @@ form-written {s = s} {at} {m} P H b out k e f =
 
 -- ---- what follows the head
 
-module _ {v : Version} {d : ℕ} {s : Bytes} {at : ℕ} (P : TypeAt v d s at) where
+module _ {v : Edition} {d : ℕ} {s : Bytes} {at : ℕ} (P : TypeAt v d s at) where
   pub rest-leaf : {p : Head} {l : LeafSpan} {c : Cursor} → headRes s p ≡ kind s at → p ≡ Head.Leaf l c → (restOf (P .tree) ≡ []) × (c .at ≡ P .end)
   unfolding dtypeOf restForm
   rest-leaf e f = let (p, q) = leaf-at P e f in (rw p, q)
@@ -96,7 +96,7 @@ none-stored out k e = rw e
 pub rest-room : (n : ℕ) (c : Cursor) {x : Cursor} (z : Res Kind) → x ≡ endOf z c → n < 2 ^ 64 + endOf z c .at → n < 2 ^ 64 + x .at
 rest-room n c z e h = rw (← e) at h
 
-pub element-room : (n : ℕ) (c : Cursor) {v : Version} {d : ℕ} {s : Bytes} {x b : Cursor} {q : Labelled} {l : LabelSpan} → TypeAt v d s (c .at) → x ≡ endOf (kind s (c .at)) c
+pub element-room : (n : ℕ) (c : Cursor) {v : Edition} {d : ℕ} {s : Bytes} {x b : Cursor} {q : Labelled} {l : LabelSpan} → TypeAt v d s (c .at) → x ≡ endOf (kind s (c .at)) c
     → labelRes s q ≡ elementLabel v s (x .at) → q ≡ Labelled.Is l b → n < 2 ^ 64 + endOf (kind s (c .at)) c .at → n < 2 ^ 64 + b .at
 element-room n c {v} {s = s} {x} P e g f h =
     let H = head-at P refl e in
@@ -114,7 +114,7 @@ stored out k p e = rw p e
 -- ---- the loop over columns
 
 -- after i of n columns: the rest is still to be written
-pub record Writing (v : Version) (d : ℕ) (s : Bytes) (n from : ℕ) (out₀ : Bytes) (k : ℕ) (out : Bytes) (at to i : ℕ) : Type 0 where
+pub record Writing (v : Edition) (d : ℕ) (s : Bytes) (n from : ℕ) (out₀ : Bytes) (k : ℕ) (out : Bytes) (at to i : ℕ) : Type 0 where
   pub within : i ≤ n
   pub room : to + 2 * length s < 2 ^ 64 + at
   pub over : k ≤ to
@@ -124,7 +124,7 @@ pub record Writing (v : Version) (d : ℕ) (s : Bytes) (n from : ℕ) (out₀ : 
   pub long : (P : ColumnsAt v d s n from) → k + length (fieldBytes (P .columns)) ≡ to + length (fieldBytes (rest .columns))
   pub stores : (P : ColumnsAt v d s n from) → overlay out to (fieldBytes (rest .columns)) ≡ overlay out₀ k (fieldBytes (P .columns))
 
-module _ {v : Version} {d : ℕ} {s : Bytes} {n from : ℕ} {out₀ : Bytes} {k : ℕ} where
+module _ {v : Edition} {d : ℕ} {s : Bytes} {n from : ℕ} {out₀ : Bytes} {k : ℕ} where
   pub writing-none : ColumnsAt v d s n from → k + 2 * length s < 2 ^ 64 + from → Writing v d s n from out₀ k out₀ from k 0
   writing-none Q h =
       let e : n ≡ n - 0 = omega arith in

@@ -11,11 +11,11 @@ use borrow.Author.Tests.{lt-ltb, le-leb, ne-eqb}
 use Rattle.layout.specs.Bytes.{Bytes}
 use Rattle.layout.specs.Parser.{Res, ok, next, choose, byte, chunk, u16, u32}
 use Rattle.layout.specs.Tree.{LeafType, leafType, datetime, decimal, Label, ColumnType, cleaf, cstruct, clist, carray, Columns, cnil, ccons, DataType, leaf, struct, list, array, Fields, fnil, fcons, countFields, dtypeOf, fieldsOf}
-use Rattle.layout.specs.Layout.{Kind, aLeaf, aStruct, aList, anArray, text, unit, validDecimal, decimalParams, plainLeaf, leafKind, datetimeKind, decimalKind, structKind, arrayKind, kindOf, kind, fieldId, label, elementLabel, columns, body, structType, listType, arrayType, type}
+use Rattle.layout.specs.Layout.{Kind, aLeaf, aStruct, aList, anArray, text, unit, validDecimal, decimalParams, plainLeaf, leafKind, datetimeKind, decimalKind, structKind, arrayKind, kindOf, kind, fieldId, fieldMark, labelRest, label, elementLabel, columns, body, structType, listType, arrayType, type}
 use Rattle.layout.specs.declared.leaf.TimeUnit.{TimeUnit}
 use Rattle.layout.specs.declared.leaf.Decimal.{Decimal}
 use Rattle.layout.specs.declared.leaf.TimeUnit.the-variants.{Nanoseconds, Microseconds, Milliseconds}
-use Rattle.layout.specs.declared.version.Version.the-variants.{ByName}
+use Rattle.layout.specs.declared.edition.Edition.the-variants.{One}
 use Rattle.layout.specs.declared.columns.Siblings.the-variants.{Free}
 use Rattle.layout.proofs.FreeRule.{repeats-free}
 use Rattle.layout.specs.Layout.{unitCode}
@@ -123,8 +123,8 @@ kind-at s at (anArray w) r h e =
     let z : at + 1 + 4 ≡ at + 5 = omega arith in
     rw (byte-at s at e, u32-at s (at + 1) w r (behind s at (20 ∷ []) _ e), z)
 
-label-at : (s : Bytes) (at : ℕ) (b r : Bytes) → length b ≤ 63 → drop at s ≡ textBytes b ++ r → label ByName s at ≡ ok (named b) (at + length (textBytes b))
-unfolding label fieldId next
+label-at : (s : Bytes) (at : ℕ) (b r : Bytes) → length b ≤ 63 → drop at s ≡ textBytes b ++ r → label One s at ≡ ok (named b) (at + length (textBytes b))
+unfolding label labelRest fieldId fieldMark next
 label-at s at b r l e = rw (text-at s at b r l e)
 
 -- one part and what is behind it, of a form
@@ -138,7 +138,7 @@ mutual
   unfolding form formFields kindForm depthOf depthOfFields labelled labelledFields countFields type body structType listType arrayType elementLabel columns next choose
 
   pub type-at : (t : DataType) (d : ℕ) (s : Bytes) (at : ℕ) (r : Bytes) → Readable t → depthOf t ≤ d → drop at s ≡ form t ++ r
-      → type ByName Free d s at ≡ ok (labelled t) (at + length (form t))
+      → type One Free d s at ≡ ok (labelled t) (at + length (form t))
   type-at (leaf l) zero s at r h p e = absurd (omega arith)
   type-at (leaf l) (suc d) s at r h p e = rw (kind-at s at (aLeaf l) r h e)
   type-at (struct fs) zero s at r h p e = absurd (omega arith)
@@ -155,7 +155,7 @@ mutual
       rw (kind-at s at (anArray w) (form t ++ r) tt f, type-at t d s _ r (h .1) (omega arith) g, ends at (kindForm (anArray w)) (form t))
 
   pub fields-at : (fs : Fields) (d : ℕ) (s : Bytes) (at : ℕ) (r : Bytes) (earlier : List Label) → ReadableFields fs → depthOfFields fs ≤ d → drop at s ≡ formFields fs ++ r
-      → columns ByName Free (type ByName Free d) (countFields fs) earlier s at ≡ ok (labelledFields fs) (at + length (formFields fs))
+      → columns One Free (type One Free d) (countFields fs) earlier s at ≡ ok (labelledFields fs) (at + length (formFields fs))
   fields-at fnil d s at r earlier h p e = let z : at ≡ at + 0 = omega arith in ap (λ (m : ℕ). ok cnil m) z
   fields-at (fcons n t fs) d s at r earlier h p e =
       let (f, g) = parts s at (textBytes n) (form t ++ formFields fs) r e in

@@ -6,16 +6,16 @@ use Rattle.layout.specs.Parser.{Parser, ok}
 use Rattle.layout.specs.Tree.{Label}
 use Rattle.layout.specs.Layout.{label as labelOf, elementLabel}
 use Rattle.layout.specs.Stands.{TypeAt}
-use Rattle.layout.specs.declared.version.Version.{Version}
+use Rattle.layout.specs.declared.edition.Edition.{Edition}
 
-pub record LabelledAt (p : Parser Label) (v : Version) (d : ℕ) (s : Bytes) (at : ℕ) : Type 0 where
+pub record LabelledAt (p : Parser Label) (v : Edition) (d : ℕ) (s : Bytes) (at : ℕ) : Type 0 where
   pub label : Label
   pub start : ℕ
   pub labelled : p s at ≡ ok label start
   pub inner : TypeAt v d s start
 
-abbrev pub ElementAt : Version → ℕ → Bytes → ℕ → Type 0
+abbrev pub ElementAt : Edition → ℕ → Bytes → ℕ → Type 0
 ElementAt v d s at = LabelledAt (elementLabel v) v d s at
 
-abbrev pub ColumnAt : Version → ℕ → Bytes → ℕ → Type 0
+abbrev pub ColumnAt : Edition → ℕ → Bytes → ℕ → Type 0
 ColumnAt v d s at = LabelledAt (labelOf v) v d s at

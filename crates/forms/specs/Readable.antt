@@ -5,7 +5,7 @@ use mathlib.Core.List.{[]}
 use lib.ListN.{length}
 use Rattle.layout.specs.Bytes.{Bytes, AllBytes}
 use mathlib.Core.Path.{_≡_}
-use mathlib.Core.Bool.{true}
+use mathlib.Core.Bool.{true, false}
 use Rattle.layout.specs.Layout.{validDecimal}
 use Rattle.layout.specs.Tree.{LeafType, null, boolean, integer, float, date, datetime, string, binary, categorical, decimal, Label, ColumnType, cleaf, cstruct, clist, carray, Columns, cnil, ccons, DataType, leaf, struct, list, array, Fields, fnil, fcons, countFields}
 
@@ -49,9 +49,9 @@ unfoldable mutual
   depthOfFields fnil = 0
   depthOfFields (fcons n t fs) = max (depthOf t) (depthOfFields fs)
 
--- A type as version 1 reads it: ids are 0 and an element has no name.
+-- A type as version 1 reads it: ids are 0, nothing is required and an element has no name.
 abbrev pub named : Bytes → Label
-named n = record { name = n; id = record { 0 = 0 } }
+named n = record { name = n; id = record { 0 = 0 }; required = false }
 
 unfoldable mutual
   pub labelled : DataType → ColumnType

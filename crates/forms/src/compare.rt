@@ -13,8 +13,8 @@ use layout::bytes::Span;
 use layout::bytes::same_bytes;
 use layout::columns::Labelled;
 use layout::cursor::Cursor;
+use layout::edition::Edition;
 use layout::types::Head;
-use layout::version::Version;
 
 // Where two types that are the same end, each in its own bytes.
 pub enum Same {
@@ -35,11 +35,11 @@ pub fn same_text(a: &[u8], p: Span, b: &[u8], q: Span) -> bool
 // What the types begin with is compared as bytes: the code, a date-time's unit and zone, a struct's count, an array's width.
 pub fn same_type(
     a: &[u8],
-    va: Version,
+    va: Edition,
     da: u8,
     ca: Cursor,
     b: &[u8],
-    vb: Version,
+    vb: Edition,
     db: u8,
     cb: Cursor,
 ) -> Same
@@ -72,11 +72,11 @@ pub fn same_type(
 // The elements' labels are dropped.
 fn same_element(
     a: &[u8],
-    va: Version,
+    va: Edition,
     da: u8,
     ca: Cursor,
     b: &[u8],
-    vb: Version,
+    vb: Edition,
     db: u8,
     cb: Cursor,
 ) -> Same
@@ -96,11 +96,11 @@ fn same_element(
 // Of a column's label the name counts.
 fn same_column(
     a: &[u8],
-    va: Version,
+    va: Edition,
     da: u8,
     ca: Cursor,
     b: &[u8],
-    vb: Version,
+    vb: Edition,
     db: u8,
     cb: Cursor,
 ) -> Same
@@ -127,12 +127,12 @@ fn same_column(
 // `n` columns of each.
 fn same_fields(
     a: &[u8],
-    va: Version,
+    va: Edition,
     da: u8,
     n: u16,
     ca: Cursor,
     b: &[u8],
-    vb: Version,
+    vb: Edition,
     db: u8,
     cb: Cursor,
 ) -> Same
@@ -161,12 +161,12 @@ fn same_fields(
 // Whether two lists of columns have the same names, types and count.
 pub fn same_columns(
     a: &[u8],
-    va: Version,
+    va: Edition,
     da: u8,
     n: u16,
     ca: Cursor,
     b: &[u8],
-    vb: Version,
+    vb: Edition,
     db: u8,
     m: u16,
     cb: Cursor,

@@ -13,8 +13,8 @@ use crate::head::head_end;
 use layout::bytes::Span;
 use layout::columns::Labelled;
 use layout::cursor::Cursor;
+use layout::edition::Edition;
 use layout::types::Head;
-use layout::version::Version;
 use store::copy;
 use store::put;
 
@@ -37,7 +37,7 @@ pub fn write_text(s: &[u8], p: Span, out: &mut [u8], k: usize) -> usize
 }
 
 // The form of a type of at most `depth` levels, from index `k` on.
-pub fn write_form(s: &[u8], v: Version, depth: u8, c: Cursor, out: &mut [u8], k: usize) -> Written
+pub fn write_form(s: &[u8], v: Edition, depth: u8, c: Cursor, out: &mut [u8], k: usize) -> Written
     requires { ⌜ TypeAt v depth (now s) (c .at) ⌝ }
     requires { ⌜ k + 2 * length (now s) < 2 ^ 64 + c .at ⌝ }
     ensures { λ r. ⌜ ((P : TypeAt v depth (now (s .entry)) (c .at)) → (r .len ≡ length (form (dtypeOf (P .tree)))) × (r .end .at ≡ P .end)) ⌝ }
@@ -55,7 +55,7 @@ pub fn write_form(s: &[u8], v: Version, depth: u8, c: Cursor, out: &mut [u8], k:
 }
 
 // The form of what follows the head: a struct's columns, or an element.
-fn write_rest(s: &[u8], v: Version, depth: u8, c: Cursor, out: &mut [u8], k: usize) -> Written
+fn write_rest(s: &[u8], v: Edition, depth: u8, c: Cursor, out: &mut [u8], k: usize) -> Written
     requires { ⌜ TypeAt v depth (now s) (c .at) ⌝ }
     requires { ⌜ k + 2 * length (now s) < 2 ^ 64 + endOf (kind (now s) (c .at)) c .at ⌝ }
     ensures { λ r. ⌜ ((P : TypeAt v depth (now (s .entry)) (c .at)) → (r .len ≡ length (restForm (dtypeOf (P .tree)))) × (r .end .at ≡ P .end)) ⌝ }
@@ -79,7 +79,7 @@ fn write_rest(s: &[u8], v: Version, depth: u8, c: Cursor, out: &mut [u8], k: usi
 // The names and forms of `n` columns.
 pub fn write_fields(
     s: &[u8],
-    v: Version,
+    v: Edition,
     depth: u8,
     n: u16,
     c: Cursor,

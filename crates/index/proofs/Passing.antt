@@ -21,7 +21,7 @@ use Rattle.layout.specs.declared.columns.Siblings.the-variants.{Free}
 use Rattle.layout.specs.declared.cursor.Cursor.{Cursor}
 use Rattle.layout.specs.declared.cursor.Moved.{Moved}
 use Rattle.layout.specs.declared.find.Found.{Found}
-use Rattle.layout.specs.declared.version.Version.{Version}
+use Rattle.layout.specs.declared.edition.Edition.{Edition}
 use Rattle.layout.proofs.Ways.{clash, moved-to, moved-refused}
 use Rattle.layout.proofs.View.{first-at, first-labelled, no-column}
 use Rattle.nodes.proofs.Rows.{first-column, column-before}
@@ -29,17 +29,17 @@ use Rattle.index.specs.Indexed.{dropColumns, firstAs, StartsAt, Indexed}
 use Rattle.index.proofs.Drop.{none-left, drop-more, find-drop, parts, next-multiple}
 
 -- as many columns, under another name of their number and place
-renamed : {v : Version} {s : Bytes} {n m at to : ℕ} (P : ColumnsAt v deepest s n at) → n ≡ m → at ≡ to → columnsOf v Free (type v Free deepest) m [] s to ≡ ok (P .columns) (P .end)
+renamed : {v : Edition} {s : Bytes} {n m at to : ℕ} (P : ColumnsAt v deepest s n at) → n ≡ m → at ≡ to → columnsOf v Free (type v Free deepest) m [] s to ≡ ok (P .columns) (P .end)
 renamed {v} {s} {n} {m} {at} {to} P e g =
     sym (ap (λ (k : ℕ). columnsOf v Free (type v Free deepest) k [] s at) e ∙ ap (λ (o : ℕ). columnsOf v Free (type v Free deepest) m [] s o) g) ∙ P .reads
 
 -- the first m, and those after them
-record Split (v : Version) (s : Bytes) (n at : ℕ) (P : ColumnsAt v deepest s n at) (m : ℕ) : Type 0 where
+record Split (v : Edition) (s : Bytes) (n at : ℕ) (P : ColumnsAt v deepest s n at) (m : ℕ) : Type 0 where
   pub front : ColumnsAt v deepest s m at
   pub back : ColumnsAt v deepest s (n - m) (front .end)
   pub is : back .columns ≡ dropColumns m (P .columns)
 
-split : (m : ℕ) {v : Version} {s : Bytes} {n at : ℕ} (P : ColumnsAt v deepest s n at) → m ≤ n → Split v s n at P m
+split : (m : ℕ) {v : Edition} {s : Bytes} {n at : ℕ} (P : ColumnsAt v deepest s n at) → m ≤ n → Split v s n at P m
 unfolding columnsOf dropColumns
 split zero {v} {s} {n} {at} P h = record {
   front = record { columns = cnil; end = at; reads = refl };
@@ -57,7 +57,7 @@ split (suc m) {v} {s} {n} {at} P h =
 
 -- ---- columns that were passed
 
-module _ {v : Version} {s : Bytes} {m at : ℕ} {r : Moved} (g : r ≡ movedOf (columnsOf v Free (type v Free deepest) m [] s at)) {n : ℕ} (P : ColumnsAt v deepest s n at) (h : m ≤ n) where
+module _ {v : Edition} {s : Bytes} {m at : ℕ} {r : Moved} (g : r ≡ movedOf (columnsOf v Free (type v Free deepest) m [] s at)) {n : ℕ} (P : ColumnsAt v deepest s n at) (h : m ≤ n) where
   abbrev S : Split v s n at P m
   S = split m P h
 
@@ -81,7 +81,7 @@ module _ {v : Version} {s : Bytes} {m at : ℕ} {r : Moved} (g : r ≡ movedOf (
     }
 
 -- columns that start after i others, and those after m more
-further : {v : Version} {s : Bytes} {n at : ℕ} {P : ColumnsAt v deepest s n at} {i o m e : ℕ} (T : StartsAt v s n at P i o) → StartsAt v s (n - i) o (T .rest) m e → StartsAt v s n at P (i + m) e
+further : {v : Edition} {s : Bytes} {n at : ℕ} {P : ColumnsAt v deepest s n at} {i o m e : ℕ} (T : StartsAt v s n at P i o) → StartsAt v s (n - i) o (T .rest) m e → StartsAt v s n at P (i + m) e
 further {v} {s} {n} {at} {P} {i} {o} {m} {e} T U = record {
   within = let h = T .within in let k = U .within in omega arith;
   rest = record { columns = U .rest .columns; end = U .rest .end; reads = renamed (U .rest) (let e : n - i - m ≡ n - (i + m) = omega arith in e) refl };
@@ -90,7 +90,7 @@ further {v} {s} {n} {at} {P} {i} {o} {m} {e} T U = record {
 
 -- ---- the column after m others
 
-module _ {v : Version} {s : Bytes} {m at : ℕ} {r : Moved} (g : r ≡ movedOf (columnsOf v Free (type v Free deepest) m [] s at)) where
+module _ {v : Edition} {s : Bytes} {m at : ℕ} {r : Moved} (g : r ≡ movedOf (columnsOf v Free (type v Free deepest) m [] s at)) where
   pub after-stuck : (k : Position) {a : ℕ} → r ≡ Moved.Refused a → (n : ℕ) (P : ColumnsAt v deepest s n at) → m < n → Finds v deepest s (firstAs k (dropColumns m (P .columns))) Found.Absent
   after-stuck k f n P h = never-passed g P (omega arith) f
 
@@ -109,7 +109,7 @@ module _ {v : Version} {s : Bytes} {m at : ℕ} {r : Moved} (g : r ≡ movedOf (
 
 -- ---- the column at a position
 
-module _ {v : Version} {s : Bytes} {n at : ℕ} (P : ColumnsAt v deepest s n at) (k : Position) where
+module _ {v : Edition} {s : Bytes} {n at : ℕ} (P : ColumnsAt v deepest s n at) (k : Position) where
   pub past-last : n ≤ k .0 → Finds v deepest s (columnAt k (P .columns)) Found.Absent
   unfolding firstAs dropColumns
   past-last h =
@@ -136,14 +136,14 @@ module _ {v : Version} {s : Bytes} {n at : ℕ} (P : ColumnsAt v deepest s n at)
 -- ---- the entries of a table
 
 -- after j entries column i, which stands at `at`, is the next
-pub record Filling (v : Version) (s : Bytes) (n from stride at i j : ℕ) (starts : List ℕ) : Type 0 where
+pub record Filling (v : Edition) (s : Bytes) (n from stride at i j : ℕ) (starts : List ℕ) : Type 0 where
   pub within : i ≤ n
   pub counted : i ≡ j * stride
   pub room : j ≤ length starts
   pub here : (P : ColumnsAt v deepest s n from) → StartsAt v s n from P i at
   pub filled : (P : ColumnsAt v deepest s n from) (e : ℕ) → e < j → StartsAt v s n from P (e * stride) (getD starts e 0)
 
-module _ {v : Version} {s : Bytes} {n from stride : ℕ} where
+module _ {v : Edition} {s : Bytes} {n from stride : ℕ} where
   pub filling-start : (starts : List ℕ) → Filling v s n from stride from 0 0 starts
   unfolding dropColumns
   filling-start starts = record {

@@ -14,7 +14,7 @@ use Rattle.layout.specs.Layout.{columns as columnsOf, type, deepest}
 use Rattle.layout.specs.Stands.{ColumnsAt}
 use Rattle.layout.specs.declared.columns.Siblings.the-variants.{Free}
 use Rattle.layout.specs.declared.cursor.Cursor.{Cursor}
-use Rattle.layout.specs.declared.version.Version.{Version}
+use Rattle.layout.specs.declared.edition.Edition.{Edition}
 use Rattle.layout.proofs.View.{same-columns}
 use Rattle.values.specs.Value.{Value, Values}
 use Rattle.values.specs.Reading.{values as valuesOf}
@@ -29,7 +29,7 @@ use Rattle.index.specs.Indexed.{dropColumns, dropValues, RowStarts, Inde
 use Rattle.index.proofs.Drop.{drop-more, drop-values-more, value-drop, parts, next-multiple}
 
 -- as many columns and values, under another name of their number and place
-renamed : {v : Version} {lay : Bytes} {n m t u : ℕ} {rec : Bytes} {c d : ℕ} → n ≡ m → t ≡ u → c ≡ d → RowAt v lay n t rec c → RowAt v lay m u rec d
+renamed : {v : Edition} {lay : Bytes} {n m t u : ℕ} {rec : Bytes} {c d : ℕ} → n ≡ m → t ≡ u → c ≡ d → RowAt v lay n t rec c → RowAt v lay m u rec d
 renamed {v} {lay} {n} {m} {t} {u} {rec} {c} {d} e f g X = record {
   columns = record {
     columns = X .columns .columns;
@@ -40,7 +40,7 @@ renamed {v} {lay} {n} {m} {t} {u} {rec} {c} {d} e f g X = record {
 }
 
 -- the values after the first k
-after : (k : ℕ) {v : Version} {lay : Bytes} {n t : ℕ} {rec : Bytes} {c : ℕ} (X : RowAt v lay n t rec c) (h : k ≤ n) → split-of k X h .back .values .values ≡ dropValues k (X .values .values)
+after : (k : ℕ) {v : Edition} {lay : Bytes} {n t : ℕ} {rec : Bytes} {c : ℕ} (X : RowAt v lay n t rec c) (h : k ≤ n) → split-of k X h .back .values .values ≡ dropValues k (X .values .values)
 unfolding split-of dropValues
 after zero X h = refl
 after (suc k) {n = n} X h =
@@ -48,7 +48,7 @@ after (suc k) {n = n} X h =
     after k (F .tail) (omega arith) ∙ ap (dropValues (suc k)) (sym (F .is))
 
 -- the first column, and those after it
-first-and-rest : {v : Version} {lay : Bytes} {n t : ℕ} {rec : Bytes} {c : ℕ} (X : RowAt v lay n t rec c) (F : FirstOf v lay n t rec c X) → (n ≡ 0 → ⊥) → X .columns .columns ≡ ccons (F .label) (F .head .type .tree) (F .tail .columns .columns)
+first-and-rest : {v : Edition} {lay : Bytes} {n t : ℕ} {rec : Bytes} {c : ℕ} (X : RowAt v lay n t rec c) (F : FirstOf v lay n t rec c X) → (n ≡ 0 → ⊥) → X .columns .columns ≡ ccons (F .label) (F .head .type .tree) (F .tail .columns .columns)
 first-and-rest {v} {lay} {n} {t} X F h =
     let e : suc (n - 1) ≡ n = omega arith in
     let r = ap (λ (k : ℕ). columnsOf v Free (type v Free deepest) k [] lay t) e ∙ X .columns .reads in
@@ -57,7 +57,7 @@ first-and-rest {v} {lay} {n} {t} X F h =
     cc
 
 -- the columns after the first k
-after-columns : (k : ℕ) {v : Version} {lay : Bytes} {n t : ℕ} {rec : Bytes} {c : ℕ} (X : RowAt v lay n t rec c) (h : k ≤ n) → split-of k X h .back .columns .columns ≡ dropColumns k (X .columns .columns)
+after-columns : (k : ℕ) {v : Edition} {lay : Bytes} {n t : ℕ} {rec : Bytes} {c : ℕ} (X : RowAt v lay n t rec c) (h : k ≤ n) → split-of k X h .back .columns .columns ≡ dropColumns k (X .columns .columns)
 unfolding split-of dropColumns
 after-columns zero X h = refl
 after-columns (suc k) {n = n} X h =
@@ -65,7 +65,7 @@ after-columns (suc k) {n = n} X h =
     after-columns k (F .tail) (omega arith) ∙ ap (dropColumns (suc k)) (sym (first-and-rest X F (λ z. omega arith)))
 
 -- columns that start after i others, and those after m more
-module _ {v : Version} {lay : Bytes} {n t : ℕ} {rec : Bytes} {c : ℕ} {X : RowAt v lay n t rec c} {i a o : ℕ} (T : RowStarts v lay n t rec c X i a o) {m : ℕ} (h : m ≤ n - i) where
+module _ {v : Edition} {lay : Bytes} {n t : ℕ} {rec : Bytes} {c : ℕ} {X : RowAt v lay n t rec c} {i a o : ℕ} (T : RowStarts v lay n t rec c X i a o) {m : ℕ} (h : m ≤ n - i) where
   pub front-columns : ColumnsAt v deepest lay m a
   front-columns = split-of m (T .rest) h .front .columns
 
@@ -86,7 +86,7 @@ module _ {v : Version} {lay : Bytes} {n t : ℕ} {rec : Bytes} {c : ℕ} {X : Ro
 
 -- ---- the value of a column, from an entry on
 
-module _ {v : Version} {lay : Bytes} {n t : ℕ} {rec : Bytes} {c stride : ℕ} {types values : List ℕ} (I : IndexedRow v lay n t rec c stride types values) (X : RowAt v lay n t rec c) (k : ℕ) {j : ℕ} (q : j ≡ k / stride) (lt : j < length types) where
+module _ {v : Edition} {lay : Bytes} {n t : ℕ} {rec : Bytes} {c stride : ℕ} {types values : List ℕ} (I : IndexedRow v lay n t rec c stride types values) (X : RowAt v lay n t rec c) (k : ℕ) {j : ℕ} (q : j ≡ k / stride) (lt : j < length types) where
   entry : RowStarts v lay n t rec c X (k / stride * stride) (getD types j 0) (getD values j 0)
   entry = subst (λ (b : ℕ). RowStarts v lay n t rec c X (b * stride) (getD types j 0) (getD values j 0)) q (I .starts X j lt .1)
 
@@ -108,7 +108,7 @@ module _ {v : Version} {lay : Bytes} {n t : ℕ} {rec : Bytes} {c stride : ℕ} 
         (g entry-row)
 
 -- the table of the types, for the columns alone
-pub indexed-types : {v : Version} {lay : Bytes} {n t : ℕ} {rec : Bytes} {c stride : ℕ} {types values : List ℕ} → RowAt v lay n t rec c → IndexedRow v lay n t rec c stride types values → Indexed v lay n t stride types
+pub indexed-types : {v : Edition} {lay : Bytes} {n t : ℕ} {rec : Bytes} {c stride : ℕ} {types values : List ℕ} → RowAt v lay n t rec c → IndexedRow v lay n t rec c stride types values → Indexed v lay n t stride types
 indexed-types {stride = stride} X I = record {
   starts = λ P j h.
       let T = I .starts X j h .1 in
@@ -118,7 +118,7 @@ indexed-types {stride = stride} X I = record {
 -- ---- the entries of two tables
 
 -- after j entries column i, which stands at `at` and whose value stands at `to`, is the next
-pub record Filling (v : Version) (lay : Bytes) (n t : ℕ) (rec : Bytes) (c stride at to i j : ℕ) (types values : List ℕ) : Type 0 where
+pub record Filling (v : Edition) (lay : Bytes) (n t : ℕ) (rec : Bytes) (c stride at to i j : ℕ) (types values : List ℕ) : Type 0 where
   pub within : i ≤ n
   pub counted : i ≡ j * stride
   pub room : j ≤ length types
@@ -126,7 +126,7 @@ pub record Filling (v : Version) (lay : Bytes) (n t : ℕ) (rec : Bytes) (c stri
   pub here : (X : RowAt v lay n t rec c) → RowStarts v lay n t rec c X i at to
   pub filled : (X : RowAt v lay n t rec c) (e : ℕ) → e < j → RowStarts v lay n t rec c X (e * stride) (getD types e 0) (getD values e 0)
 
-module _ {v : Version} {lay : Bytes} {n t : ℕ} {rec : Bytes} {c stride : ℕ} where
+module _ {v : Edition} {lay : Bytes} {n t : ℕ} {rec : Bytes} {c stride : ℕ} where
   pub filling-start : (types values : List ℕ) → Filling v lay n t rec c stride t c 0 0 types values
   unfolding dropValues dropColumns renamed
   filling-start types values = record {

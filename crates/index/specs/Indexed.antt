@@ -9,7 +9,7 @@ use Rattle.layout.specs.Layout.{deepest}
 use Rattle.layout.specs.Stands.{ColumnsAt}
 use Rattle.layout.specs.Find.{Lookup, absent, at as found}
 use Rattle.layout.specs.declared.columns.Position.{Position}
-use Rattle.layout.specs.declared.version.Version.{Version}
+use Rattle.layout.specs.declared.edition.Edition.{Edition}
 use Rattle.values.specs.Value.{Values, vnil, vcons}
 use Rattle.nodes.specs.Raw.{RowAt}
 
@@ -35,22 +35,22 @@ dropValues (suc i) vnil = vnil
 dropValues (suc i) (vcons v vs) = dropValues i vs
 
 -- column i stands at m, and those after it follow
-pub record StartsAt (v : Version) (s : Bytes) (n at : ℕ) (P : ColumnsAt v deepest s n at) (i m : ℕ) : Type 0 where
+pub record StartsAt (v : Edition) (s : Bytes) (n at : ℕ) (P : ColumnsAt v deepest s n at) (i m : ℕ) : Type 0 where
   pub within : i ≤ n
   pub rest : ColumnsAt v deepest s (n - i) m
   pub is : rest .columns ≡ dropColumns i (P .columns)
 
 -- entry j is where column j * stride stands
-pub record Indexed (v : Version) (s : Bytes) (n at stride : ℕ) (index : List ℕ) : Type 0 where
+pub record Indexed (v : Edition) (s : Bytes) (n at stride : ℕ) (index : List ℕ) : Type 0 where
   pub starts : (P : ColumnsAt v deepest s n at) (j : ℕ) → j < length index → StartsAt v s n at P (j * stride) (getD index j 0)
 
 -- column i stands at m, and its value at o
-pub record RowStarts (v : Version) (lay : Bytes) (n t : ℕ) (rec : Bytes) (c : ℕ) (X : RowAt v lay n t rec c) (i m o : ℕ) : Type 0 where
+pub record RowStarts (v : Edition) (lay : Bytes) (n t : ℕ) (rec : Bytes) (c : ℕ) (X : RowAt v lay n t rec c) (i m o : ℕ) : Type 0 where
   pub within : i ≤ n
   pub rest : RowAt v lay (n - i) m rec o
   pub is : rest .values .values ≡ dropValues i (X .values .values)
   pub columns : rest .columns .columns ≡ dropColumns i (X .columns .columns)
 
 -- entry j of the two tables is where column j * stride and its value stand
-pub record IndexedRow (v : Version) (lay : Bytes) (n t : ℕ) (rec : Bytes) (c stride : ℕ) (types values : List ℕ) : Type 0 where
+pub record IndexedRow (v : Edition) (lay : Bytes) (n t : ℕ) (rec : Bytes) (c stride : ℕ) (types values : List ℕ) : Type 0 where
   pub starts : (X : RowAt v lay n t rec c) (j : ℕ) → j < length types → (j < length values) × RowStarts v lay n t rec c X (j * stride) (getD types j 0) (getD values j 0)

@@ -10,9 +10,9 @@ use layout::columns::Labelled;
 use layout::columns::Position;
 use layout::cursor::Cursor;
 use layout::cursor::Moved;
+use layout::edition::Edition;
 use layout::find::Found;
 use layout::pass::pass_columns;
-use layout::version::Version;
 
 // A stride at which 256 entries do for `n` columns.
 pub fn stride_of(n: u16) -> u16
@@ -41,7 +41,7 @@ pub fn few(n: u16, count: u16) -> bool {
 // columns themselves.
 pub fn index_columns(
     s: &[u8],
-    v: Version,
+    v: Edition,
     n: u16,
     first: Cursor,
     stride: u16,
@@ -75,7 +75,7 @@ pub fn index_columns(
 }
 
 // The column after `m` others, whose position is `k`.
-fn column_after(s: &[u8], v: Version, m: u16, c: Cursor, k: Position) -> Found
+fn column_after(s: &[u8], v: Edition, m: u16, c: Cursor, k: Position) -> Found
     ensures { λ r. ⌜ ((n : ℕ) (P : ColumnsAt v 16 (now (s .entry)) n (c .at)) → m < n → Finds v 16 (now (s .entry)) (firstAs k (dropColumns m (P .columns))) r) ⌝ }
 {
     match pass_columns(s, v, 16, m, c) {
@@ -90,7 +90,7 @@ fn column_after(s: &[u8], v: Version, m: u16, c: Cursor, k: Position) -> Found
 // Column `k` of `n`, as `layout::find::column_at` finds it.
 pub fn indexed_column(
     s: &[u8],
-    v: Version,
+    v: Edition,
     n: u16,
     first: Cursor,
     index: &[u16],

@@ -9,7 +9,7 @@ ghost use Rattle.nodes.specs.Raw.{RowAt, NodeOf};
 ghost use Rattle.index.specs.Indexed.{IndexedRow};
 use layout::bytes::wide;
 use layout::cursor::Cursor;
-use layout::version::Version;
+use layout::edition::Edition;
 use nodes::raw::NodeAt;
 use nodes::raw::field_at;
 use values::read::ValueRead;
@@ -37,7 +37,7 @@ fn storable(j: usize, types: usize, values: usize, at: usize, to: usize) -> bool
 // Fills the two tables for the values from `c` on and answers how many entries each got.
 pub fn index_row(
     lay: &[u8],
-    v: Version,
+    v: Edition,
     n: u16,
     columns: Cursor,
     rec: &[u8],
@@ -81,7 +81,7 @@ pub fn index_row(
 // The value of column `k` of `n`, as `nodes::raw::field_at` finds it.
 pub fn indexed_value(
     lay: &[u8],
-    v: Version,
+    v: Edition,
     n: u16,
     columns: Cursor,
     rec: &[u8],

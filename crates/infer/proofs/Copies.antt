@@ -16,7 +16,7 @@ use Rattle.layout.specs.Stands.{TypeAt}
 use Rattle.layout.specs.declared.cursor.Cursor.{Cursor}
 use Rattle.layout.specs.declared.types.Head.{Head}
 use Rattle.layout.specs.declared.types.LeafType.{LeafType as LeafSpan}
-use Rattle.layout.specs.declared.version.Version.{Version}
+use Rattle.layout.specs.declared.edition.Edition.{Edition}
 use Rattle.layout.specs.declared.columns.Siblings.the-variants.{Free}
 use Rattle.layout.proofs.Ways.{clash}
 use Rattle.forms.specs.Form.{u16Bytes, u32Bytes, kindForm, form}
@@ -34,7 +34,7 @@ use Rattle.infer.specs.declared.form.Inferred.{Inferred}
 pub untrue : {X : Type 0} → false ≡ true → X
 untrue e = clash (cc)
 
-pub copied : {v : Version} {s : Bytes} {at : ℕ} (T : TypeAt v 16 s at) → AllBytes s → {z : FormSize} (depth : ℕ) (out : Bytes) (k : ℕ) {new : Bytes}
+pub copied : {v : Edition} {s : Bytes} {at : ℕ} (T : TypeAt v 16 s at) → AllBytes s → {z : FormSize} (depth : ℕ) (out : Bytes) (k : ℕ) {new : Bytes}
     → SizeOf (dtypeOf (T .tree)) (T .end) z → z .deep ≤ depth → z .size ≤ 16384 → k + z .size ≤ length out → new ≡ overlay out k (form (dtypeOf (T .tree)))
     → CopiedIs (dtypeOf (T .tree)) depth out k (Inferred.Is (z .size)) new
 copied {v} {s} {at} T o depth out k Z d l r e =
@@ -48,7 +48,7 @@ leaf-filled s a e h i depth out k d l r w =
     let n : length (slice a e s) ≡ e - a = length-slice a e s i in
     record { parts = (sym n, omega arith, l, record { stored = w; room = omega arith }) }
 
-module _ {v : Version} {s : Bytes} {c : Cursor} (T : TypeAt v 16 s (c .at)) {p : Head} (e : headRes s p ≡ kind s (c .at)) {l : LeafSpan} {b : Cursor} (f : p ≡ Head.Leaf l b) where
+module _ {v : Edition} {s : Bytes} {c : Cursor} (T : TypeAt v 16 s (c .at)) {p : Head} (e : headRes s p ≡ kind s (c .at)) {l : LeafSpan} {b : Cursor} (f : p ≡ Head.Leaf l b) where
   pub leaf-span : (c .at ≤ b .at) × (b .at ≤ length s)
   leaf-span =
       let (x, y) = rest-leaf T e f in

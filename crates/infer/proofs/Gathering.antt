@@ -10,7 +10,7 @@ use Rattle.store.proofs.Overlay.{length-overlay}
 use Rattle.layout.specs.Bytes.{Bytes}
 use Rattle.layout.specs.Tree.{Fields, fnil, fcons, countFields}
 use Rattle.layout.specs.declared.cursor.Cursor.{Cursor}
-use Rattle.layout.specs.declared.version.Version.{Version}
+use Rattle.layout.specs.declared.edition.Edition.{Edition}
 use Rattle.forms.specs.Form.{formFields}
 use Rattle.forms.specs.Readable.{depthOfFields}
 use Rattle.forms.proofs.Read.{ok-eq}
@@ -53,7 +53,7 @@ same-selectors P Q = ok-eq (sym (P .reads) ∙ Q .reads)
 -- ---- the loop over selectors
 
 -- after i of n selectors, whose columns stand from k up to at: what the rest gives and writes, the whole gives and writes
-pub record Gathering (s : Bytes) (v : Version) (scope : Scope) (index : List ℕ) (stride : ℕ) (plan : Bytes) (n depth : ℕ) (out₀ : Bytes) (k first : ℕ) (out : Bytes) (from at i : ℕ) : Type 0 where
+pub record Gathering (s : Bytes) (v : Edition) (scope : Scope) (index : List ℕ) (stride : ℕ) (plan : Bytes) (n depth : ℕ) (out₀ : Bytes) (k first : ℕ) (out : Bytes) (from at i : ℕ) : Type 0 where
   pub within : i ≤ n
   pub over : k ≤ at
   pub room : at ≤ length out
@@ -62,7 +62,7 @@ pub record Gathering (s : Bytes) (v : Version) (scope : Scope) (index : List ℕ
   pub all : (X : ScopeAt s v scope index stride) (S : SelectorsAt plan n first) (len : ℕ) (new : Bytes) → FieldsTo (typesOf (X .fields) (left .trees)) (n - i) depth out at len new
       → FieldsTo (typesOf (X .fields) (S .trees)) n depth out₀ k (at - k + len) new
 
-module _ {s : Bytes} {v : Version} {scope : Scope} {index : List ℕ} {stride : ℕ} {plan : Bytes} {n depth : ℕ} {out₀ : Bytes} {k first : ℕ} where
+module _ {s : Bytes} {v : Edition} {scope : Scope} {index : List ℕ} {stride : ℕ} {plan : Bytes} {n depth : ℕ} {out₀ : Bytes} {k first : ℕ} where
   pub gathering-none : SelectorsAt plan n first → k ≤ length out₀ → Gathering s v scope index stride plan n depth out₀ k first out₀ first k 0
   gathering-none Q h =
       let e : n - 0 ≡ n = omega arith in

@@ -12,7 +12,7 @@ use Rattle.layout.specs.declared.bytes.Span.{Span}
 use Rattle.layout.specs.declared.columns.Position.{Position}
 use Rattle.layout.specs.declared.columns.Siblings.the-variants.{Free}
 use Rattle.layout.specs.declared.cursor.Cursor.{Cursor}
-use Rattle.layout.specs.declared.version.Version.{Version}
+use Rattle.layout.specs.declared.edition.Edition.{Edition}
 use Rattle.forms.specs.Form.{textBytes}
 use Rattle.forms.specs.Readable.{ShortText, ReadableFields}
 use Rattle.forms.proofs.Read.{text-stands, type→, columns→}
@@ -46,7 +46,7 @@ use Rattle.infer.specs.declared.name.Named.{Named}
 none-short : ShortText []
 none-short = (omega arith, λ i. omega arith)
 
-pub scope-readable : {s : Bytes} {v : Version} {scope : Scope} {index : List ℕ} {stride : ℕ} → AllBytes s → (X : ScopeAt s v scope index stride) → ReadableFields (X .fields)
+pub scope-readable : {s : Bytes} {v : Edition} {scope : Scope} {index : List ℕ} {stride : ℕ} → AllBytes s → (X : ScopeAt s v scope index stride) → ReadableFields (X .fields)
 scope-readable {s} {v} {scope} {index} {stride} o X = go scope (X .fields) (X .parts)
   where
     go : (x : Scope) (Γ : Fields) → scopeParts s v x index stride Γ → ReadableFields Γ
@@ -100,7 +100,7 @@ array-named f d e =
 -- ---- one step
 
 module _ {s plan : Bytes} (Γ : Fields) {at : ℕ} {P : SelectorAt plan at} where
-  pub position-step : {v : Version} {k : Position} {q : Taken} {n : Span} {c : Cursor} {m : Name} → ReadableFields Γ → P .tree ≡ position k → TakenIs s v (typeOf Γ (P .tree)) q → q ≡ Taken.At n c
+  pub position-step : {v : Edition} {k : Position} {q : Taken} {n : Span} {c : Cursor} {m : Name} → ReadableFields Γ → P .tree ≡ position k → TakenIs s v (typeOf Γ (P .tree)) q → q ≡ Taken.At n c
       → m ≡ record { place = Place.Incoming; span = n } → NameStep s plan Γ at P (Named.Is m)
   unfolding typeOf
   position-step {k = k} {n = n} R p T f e =
@@ -192,11 +192,11 @@ module _ {s plan : Bytes} {Γ : Fields} {at : ℕ} {P : SelectorAt plan at} {q :
 -- ---- the loop over inputs
 
 -- whatever column the selector at `at` gives, the one at `to` gives one with the same name
-pub record Inner (s : Bytes) (v : Version) (scope : Scope) (index : List ℕ) (stride : ℕ) (plan : Bytes) (at to : ℕ) : Type 0 where
+pub record Inner (s : Bytes) (v : Edition) (scope : Scope) (index : List ℕ) (stride : ℕ) (plan : Bytes) (at to : ℕ) : Type 0 where
   pub here : SelectorAt plan to
   pub same : (X : ScopeAt s v scope index stride) (P : SelectorAt plan at) (c : Column) → typeOf (X .fields) (P .tree) ≡ gives c → (d : Column) × (typeOf (X .fields) (here .tree) ≡ gives d) × (c .name ≡ d .name)
 
-module _ {s : Bytes} {v : Version} {scope : Scope} {index : List ℕ} {stride : ℕ} {plan : Bytes} {at : ℕ} where
+module _ {s : Bytes} {v : Edition} {scope : Scope} {index : List ℕ} {stride : ℕ} {plan : Bytes} {at : ℕ} where
   pub inner-start : SelectorAt plan at → Inner s v scope index stride plan at at
   inner-start Q = record { here = Q; same = λ X P c e. (c, ap (typeOf (X .fields)) (same-selector Q P .0) ∙ e, refl) }
 

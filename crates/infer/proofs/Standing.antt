@@ -11,7 +11,7 @@ use Rattle.store.proofs.Overlay.{length-overlay}
 use Rattle.layout.specs.Bytes.{Bytes}
 use Rattle.layout.specs.Tree.{DataType, dtypeOf}
 use Rattle.layout.specs.Stands.{TypeAt}
-use Rattle.layout.specs.declared.version.Version.the-variants.{ByName}
+use Rattle.layout.specs.declared.edition.Edition.the-variants.{One}
 use Rattle.forms.specs.Form.{form}
 use Rattle.forms.specs.Readable.{labelled}
 use Rattle.forms.proofs.Written.{type-at, dtype-labelled}
@@ -33,7 +33,7 @@ module _ {t : DataType} {d : ℕ} {out : Bytes} {k len : ℕ} {out′ : Bytes} (
   stood = let h = W .room in let e = W .long in ap (λ (l : Bytes). drop k l) (W .stored) ∙ drop-overlay out k (form t) (omega arith)
 
   -- the type, where it was written
-  abbrev pub standing : TypeAt ByName d out′ k
+  abbrev pub standing : TypeAt One d out′ k
   standing = record { tree = labelled t; end = k + length (form t); reads = type-at t d out′ k (drop (k + length (form t)) out) (W .readable) (W .deep) stood }
 
   pub standing-is : dtypeOf (standing .tree) ≡ t

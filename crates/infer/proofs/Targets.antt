@@ -9,7 +9,7 @@ use Rattle.layout.specs.Answers.{spanAt, labelRes}
 use Rattle.layout.specs.declared.columns.Label.{Label as LabelSpan}
 use Rattle.layout.specs.declared.columns.Labelled.{Labelled}
 use Rattle.layout.specs.declared.cursor.Cursor.{Cursor}
-use Rattle.layout.specs.declared.version.Version.{Version}
+use Rattle.layout.specs.declared.edition.Edition.{Edition}
 use Rattle.layout.proofs.View.{label-got}
 use Rattle.forms.specs.Same.{sameDtype}
 use Rattle.forms.specs.Answers.{sameOf}
@@ -33,7 +33,7 @@ pub given-as : {A : Type 0} {r : Result A} {e : ℕ} {a : A} {f : ℕ} {q p : Sa
 given-as {r = r} {e} {a} {f} G h = subst (λ (x : Same). GivesIs r e a f x) h G
 
 -- the type that was written is the target's
-pub composed-fits : {incoming : Bytes} {v : Version} {scope : Scope} {index : List ℕ} {stride : ℕ} {plan : Bytes} {at : ℕ} {target : Bytes} {vt : Version} {bt : ℕ} (A : FitAt incoming v scope index stride plan at target vt bt)
+pub composed-fits : {incoming : Bytes} {v : Edition} {scope : Scope} {index : List ℕ} {stride : ℕ} {plan : Bytes} {at : ℕ} {target : Bytes} {vt : Edition} {bt : ℕ} (A : FitAt incoming v scope index stride plan at target vt bt)
     {depth : ℕ} {out : Bytes} {k len : ℕ} {out′ : Bytes} (W : InferredTo (typeOf (A .scoped .fields) (A .selector .tree)) depth out k len out′) {q : Same} {x y e : Cursor}
     → q ≡ sameOf (sameDtype (dtypeOf (standing (W .writes) .tree)) (dtypeOf (A .type .tree))) (standing (W .writes) .end) (A .type .end) → q ≡ Same.To x y → e .at ≡ A .selector .end → FitsType A (Same.To e y)
 composed-fits A W f g h =
@@ -53,7 +53,7 @@ named-given {t = t} h (Same.To x y) T =
 named-given h Same.No T = none-given
 
 -- a type and a name of the target make a column of the target
-pub column-typed : {incoming : Bytes} {v : Version} {scope : Scope} {index : List ℕ} {stride : ℕ} {plan : Bytes} {at : ℕ} {target : Bytes} {vt : Version} {bt : ℕ}
+pub column-typed : {incoming : Bytes} {v : Edition} {scope : Scope} {index : List ℕ} {stride : ℕ} {plan : Bytes} {at : ℕ} {target : Bytes} {vt : Edition} {bt : ℕ}
     (A : ColumnFitAt incoming v scope index stride plan at target vt bt) {p : Labelled} {l : LabelSpan} {c : Cursor} → labelRes target p ≡ label vt target bt → p ≡ Labelled.Is l c
     → ((a : Column) → typeOf (A .scoped .fields) (A .selector .tree) ≡ gives a → a .name ≡ spanAt target (l .name))
     → {q : Same} → TypedIs (typeOf (A .scoped .fields) (A .selector .tree)) (A .selector .end) (dtypeOf (A .column .inner .tree)) (A .column .inner .end) q → FitsColumn A q

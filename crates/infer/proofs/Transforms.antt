@@ -12,8 +12,8 @@ use Rattle.layout.specs.Stands.{TypeAt}
 use Rattle.layout.specs.declared.bytes.Span.{Span}
 use Rattle.layout.specs.declared.columns.Siblings.the-variants.{Free}
 use Rattle.layout.specs.declared.cursor.Cursor.{Cursor}
-use Rattle.layout.specs.declared.version.Version.{Version}
-use Rattle.layout.specs.declared.version.Version.the-variants.{ByName}
+use Rattle.layout.specs.declared.edition.Edition.{Edition}
+use Rattle.layout.specs.declared.edition.Edition.the-variants.{One}
 use Rattle.forms.specs.Form.{kindForm, textBytes}
 use Rattle.forms.specs.Readable.{Readable}
 use Rattle.forms.proofs.Theorems.{read-readable}
@@ -88,7 +88,7 @@ input-at {s} {at} {P} I e = subst (λ (x : Input). inputParts s at P x) e (I .pa
 pub named-to : {s plan : Bytes} {r : Result Column} {q : Named} {n : Name} → NamedIs s plan r q → q ≡ Named.Is n → NamedTo s plan r n
 named-to {s} {plan} {r} I e = subst (λ (x : Named). namedParts s plan r x) e (I .parts)
 
-module _ {v : Version} {s : Bytes} {at : ℕ} {T : TypeAt v 16 s at} {r : Inside} (I : InsideIs v s at T r) where
+module _ {v : Edition} {s : Bytes} {at : ℕ} {T : TypeAt v 16 s at} {r : Inside} (I : InsideIs v s at T r) where
   pub in-struct : {n : ℕ} {c : Cursor} → r ≡ Inside.Struct n c → StructIn v s at T n (c .at)
   in-struct e = subst (λ (x : Inside). insideParts v s at T x) e (I .parts)
 
@@ -99,12 +99,12 @@ module _ {v : Version} {s : Bytes} {at : ℕ} {T : TypeAt v 16 s at} {r : Inside
   in-array e = subst (λ (x : Inside). insideParts v s at T x) e (I .parts)
 
 -- a width that was read fits its field
-pub array-width : {v : Version} {s : Bytes} {at : ℕ} (T : TypeAt v 16 s at) {w m : ℕ} → ArrayIn v s at T w m → AllBytes s → w < 4294967296
+pub array-width : {v : Edition} {s : Bytes} {at : ℕ} (T : TypeAt v 16 s at) {w m : ℕ} → ArrayIn v s at T w m → AllBytes s → w < 4294967296
 array-width {v} {s} {at} T I b = subst (λ (t : DataType). Readable t) (I .is) (read-readable v Free 16 s at b (T .reads)) .0
 
 -- ---- positions and constants
 
-pub position-infers : {s : Bytes} {v : Version} {r : Result Column} {n : Span} {d : ℕ} (K : TakenAt s v r n d) {depth : ℕ} {out : Bytes} {k : ℕ} {q : Inferred} {o : Bytes} → CopiedIs (dtypeOf (K .type .tree)) depth out k q o → depth ≤ 16
+pub position-infers : {s : Bytes} {v : Edition} {r : Result Column} {n : Span} {d : ℕ} (K : TakenAt s v r n d) {depth : ℕ} {out : Bytes} {k : ℕ} {q : Inferred} {o : Bytes} → CopiedIs (dtypeOf (K .type .tree)) depth out k q o → depth ≤ 16
     → InferredIs r depth out k q o
 position-infers K C h = copied-infers C (λ w. K .is) h
 
@@ -137,10 +137,10 @@ module _ {plan : Bytes} {at : ℕ} {P : SelectorAt plan at} {m : ℕ} (Γ : Fiel
   array-from S e = ap (λ (x : Selector). typeOf Γ (inputOf x)) (sym (S .is)) ∙ e
 
 -- the cast's type, where its input ends
-abbrev pub cast-type : {plan : Bytes} {at : ℕ} {P : SelectorAt plan at} {m : ℕ} (S : CastAt plan at P m) {t : ℕ} → t ≡ S .input .end → TypeAt ByName 16 plan t
-cast-type {plan} S h = record { tree = S .type .tree; end = S .type .end; reads = ap (λ (o : ℕ). typeRead ByName Free 16 plan o) h ∙ S .type .reads }
+abbrev pub cast-type : {plan : Bytes} {at : ℕ} {P : SelectorAt plan at} {m : ℕ} (S : CastAt plan at P m) {t : ℕ} → t ≡ S .input .end → TypeAt One 16 plan t
+cast-type {plan} S h = record { tree = S .type .tree; end = S .type .end; reads = ap (λ (o : ℕ). typeRead One Free 16 plan o) h ∙ S .type .reads }
 
-module _ {v : Version} {s : Bytes} {d : ℕ} (T : TypeAt v 16 s d) {plan : Bytes} {at : ℕ} {P : SelectorAt plan at} {m : ℕ} (Γ : Fields) {n : Bytes} {depth : ℕ} {out : Bytes} {k : ℕ} {o : Bytes} where
+module _ {v : Edition} {s : Bytes} {d : ℕ} (T : TypeAt v 16 s d) {plan : Bytes} {at : ℕ} {P : SelectorAt plan at} {m : ℕ} (Γ : Fields) {n : Bytes} {depth : ℕ} {out : Bytes} {k : ℕ} {o : Bytes} where
   pub cast-infers : (S : CastAt plan at P m) → typeOf Γ (S .input .tree) ≡ gives (column n (dtypeOf (T .tree))) → {q : Inferred} {c : CastOption} {b : Bool} → c ≡ S .option .option
       → b ≡ castFits (dtypeOf (T .tree)) (dtypeOf (S .type .tree)) c → b ≡ true → CopiedIs (dtypeOf (S .type .tree)) depth out k q o → depth ≤ 16 → InferredIs (typeOf Γ (P .tree)) depth out k q o
   cast-infers S e p f g C h =
@@ -198,13 +198,13 @@ module _ {v : Version} {s : Bytes} {d : ℕ} (T : TypeAt v 16 s d) {plan : Bytes
 
 -- ---- scopes inside
 
-abbrev pub list-scope : {v : Version} {s : Bytes} {at : ℕ} {T : TypeAt v 16 s at} {x : Cursor} (I : ListIn v s at T (x .at)) {index : List ℕ} {stride : ℕ} → ScopeAt s v (Scope.Element x) index stride
+abbrev pub list-scope : {v : Edition} {s : Bytes} {at : ℕ} {T : TypeAt v 16 s at} {x : Cursor} (I : ListIn v s at T (x .at)) {index : List ℕ} {stride : ℕ} → ScopeAt s v (Scope.Element x) index stride
 list-scope I = record { fields = elementOf (dtypeOf (I .type .tree)); parts = record { type = I .type; are = refl } }
 
-abbrev pub array-scope : {v : Version} {s : Bytes} {at : ℕ} {T : TypeAt v 16 s at} {w : ℕ} {x : Cursor} (I : ArrayIn v s at T w (x .at)) {index : List ℕ} {stride : ℕ} → ScopeAt s v (Scope.Element x) index stride
+abbrev pub array-scope : {v : Edition} {s : Bytes} {at : ℕ} {T : TypeAt v 16 s at} {w : ℕ} {x : Cursor} (I : ArrayIn v s at T w (x .at)) {index : List ℕ} {stride : ℕ} → ScopeAt s v (Scope.Element x) index stride
 array-scope I = record { fields = elementOf (dtypeOf (I .type .tree)); parts = record { type = I .type; are = refl } }
 
-abbrev pub struct-scope : {v : Version} {s : Bytes} {at : ℕ} {T : TypeAt v 16 s at} {n : ℕ} {x : Cursor} (I : StructIn v s at T n (x .at)) {index : List ℕ} {stride : ℕ} → Indexed v s n (x .at) stride index → 0 < stride
+abbrev pub struct-scope : {v : Edition} {s : Bytes} {at : ℕ} {T : TypeAt v 16 s at} {n : ℕ} {x : Cursor} (I : StructIn v s at T n (x .at)) {index : List ℕ} {stride : ℕ} → Indexed v s n (x .at) stride index → 0 < stride
     → ScopeAt s v (Scope.Columns n x) index stride
 struct-scope I X z = record { fields = fieldsOf (I .columns .columns); parts = record { columns = I .columns; are = refl; indexed = X; strides = z } }
 

@@ -5,7 +5,7 @@ use mathlib.Core.List.{List}
 use Rattle.layout.specs.Bytes.{Bytes}
 use Rattle.layout.specs.Tree.{DataType, dtypeOf}
 use Rattle.layout.specs.declared.cursor.Cursor.{Cursor}
-use Rattle.layout.specs.declared.version.Version.{Version}
+use Rattle.layout.specs.declared.edition.Edition.{Edition}
 use Rattle.forms.specs.declared.compare.Same.{Same}
 use Rattle.plan.specs.Result.{Result, gives}
 use Rattle.plan.specs.Check.{Column, column, typeOf}
@@ -25,6 +25,6 @@ typedParts r e t f Same.No = Unit {0}
 pub record TypedIs (r : Result Column) (e : ℕ) (t : DataType) (f : ℕ) (q : Same) : Type 0 where
   pub parts : typedParts r e t f q
 
-abbrev pub FitsType : {incoming : Bytes} {v : Version} {scope : Scope} {index : List ℕ} {stride : ℕ} {plan : Bytes} {at : ℕ} {target : Bytes} {vt : Version} {bt : ℕ}
+abbrev pub FitsType : {incoming : Bytes} {v : Edition} {scope : Scope} {index : List ℕ} {stride : ℕ} {plan : Bytes} {at : ℕ} {target : Bytes} {vt : Edition} {bt : ℕ}
     → FitAt incoming v scope index stride plan at target vt bt → Same → Type 0
 FitsType A q = TypedIs (typeOf (A .scoped .fields) (A .selector .tree)) (A .selector .end) (dtypeOf (A .type .tree)) (A .type .end) q

@@ -13,13 +13,13 @@ use direct::input::Input;
 use direct::input::input_of;
 use direct::scope::Scope;
 use layout::cursor::Cursor;
-use layout::version::Version;
+use layout::edition::Edition;
 
 // The type of the selector at `c`, at the start of `out`. The types of its inputs take turns in the two buffers.
 // What `out` held before is lost.
 pub fn compose_type(
     s: &[u8],
-    v: Version,
+    v: Edition,
     scope: Scope,
     index: &[u16],
     stride: u16,
@@ -55,7 +55,7 @@ pub fn compose_type(
             match r {
                 Inferred::Is(_) => {
                     let start = Cursor { at: 0 };
-                    infer_over(other, Version::ByName, start, plan, c, 16, out, 0)
+                    infer_over(other, Edition::One, start, plan, c, 16, out, 0)
                 }
                 Inferred::Unknown => Inferred::Unknown,
             }

@@ -11,8 +11,8 @@ ghost use Rattle.forms.specs.Form.{kindForm};
 ghost use Rattle.infer.specs.Writing.{Fills, LeafCopied, CopiedIs, behindOf};
 use forms::write::write_form;
 use layout::cursor::Cursor;
+use layout::edition::Edition;
 use layout::types::Head;
-use layout::version::Version;
 use nodes::types::form_size;
 use store::copy;
 use store::put;
@@ -44,7 +44,7 @@ fn copy_leaf(s: &[u8], d: Cursor, e: Cursor, depth: u8, out: &mut [u8], k: usize
     Inferred::Is(len)
 }
 
-fn copy_nested(s: &[u8], v: Version, d: Cursor, depth: u8, out: &mut [u8], k: usize) -> Inferred
+fn copy_nested(s: &[u8], v: Edition, d: Cursor, depth: u8, out: &mut [u8], k: usize) -> Inferred
     requires { ⌜ TypeAt v 16 (now s) (d .at) ⌝ }
     requires { ⌜ (length (now s) ≤ 65536) × (length (now out) ≤ 65536) × (k ≤ length (now out)) ⌝ }
     ensures { λ r. ⌜ ((T : TypeAt v 16 (now (s .entry)) (d .at)) → CopiedIs (dtypeOf (T .tree)) depth (now (out .entry)) k r (now (out .exit))) ⌝ }
@@ -64,7 +64,7 @@ fn copy_nested(s: &[u8], v: Version, d: Cursor, depth: u8, out: &mut [u8], k: us
 }
 
 // The type at `d`, as it stands, of at most `depth` levels.
-pub fn copy_type(s: &[u8], v: Version, d: Cursor, depth: u8, out: &mut [u8], k: usize) -> Inferred
+pub fn copy_type(s: &[u8], v: Edition, d: Cursor, depth: u8, out: &mut [u8], k: usize) -> Inferred
     requires { ⌜ TypeAt v 16 (now s) (d .at) ⌝ }
     requires { ⌜ (length (now s) ≤ 65536) × (length (now out) ≤ 65536) × (k ≤ length (now out)) ⌝ }
     ensures { λ r. ⌜ ((T : TypeAt v 16 (now (s .entry)) (d .at)) → CopiedIs (dtypeOf (T .tree)) depth (now (out .entry)) k r (now (out .exit))) ⌝ }

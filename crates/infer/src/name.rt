@@ -19,7 +19,7 @@ use direct::scope::Taken;
 use direct::scope::take_position;
 use forms::write::write_text;
 use layout::cursor::Cursor;
-use layout::version::Version;
+use layout::edition::Edition;
 use walk::head::SelectorHead;
 use walk::head::head;
 use walk::head::rename_name;
@@ -33,7 +33,7 @@ pub enum Named {
 
 fn name_at(
     s: &[u8],
-    v: Version,
+    v: Edition,
     scope: Scope,
     index: &[u16],
     stride: u16,
@@ -61,7 +61,7 @@ fn name_at(
 // Where the name of the column that the selector at `c` gives stands: in the bytes of the scope or in the plan. `Input` is no answer.
 pub fn infer_name(
     s: &[u8],
-    v: Version,
+    v: Edition,
     scope: Scope,
     index: &[u16],
     stride: u16,

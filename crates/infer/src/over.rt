@@ -33,7 +33,7 @@ use direct::scope::index_fields;
 use direct::scope::take_position;
 use index::columns::field_stride;
 use layout::cursor::Cursor;
-use layout::version::Version;
+use layout::edition::Edition;
 use walk::head::SelectorHead;
 use walk::head::cast_option;
 use walk::head::head;
@@ -43,7 +43,7 @@ use walk::head::struct_fields;
 // A cast with its input at `input`, which has the type at `d`.
 fn cast_over(
     s: &[u8],
-    v: Version,
+    v: Edition,
     d: Cursor,
     plan: &[u8],
     input: Cursor,
@@ -60,13 +60,13 @@ fn cast_over(
     if !type_fits(s, v, d, plan, t, cast_option(plan, t)) {
         return Inferred::Unknown;
     }
-    copy_type(plan, Version::ByName, t, depth, out, k)
+    copy_type(plan, Edition::One, t, depth, out, k)
 }
 
 // The name and the form of the column that the selector at `c` gives.
 fn infer_column(
     s: &[u8],
-    v: Version,
+    v: Edition,
     scope: Scope,
     index: &[u16],
     stride: u16,
@@ -98,7 +98,7 @@ fn infer_column(
 // The names and forms of the columns that `n` selectors from `c` on give.
 fn infer_fields(
     s: &[u8],
-    v: Version,
+    v: Edition,
     scope: Scope,
     index: &[u16],
     stride: u16,
@@ -135,7 +135,7 @@ fn infer_fields(
 // A struct mapping with its input at `input`; its fields have at most `depth` levels.
 fn struct_over(
     s: &[u8],
-    v: Version,
+    v: Edition,
     d: Cursor,
     plan: &[u8],
     input: Cursor,
@@ -183,7 +183,7 @@ fn struct_over(
 // A list mapping with its input at `input`. An element needs no index.
 fn list_over(
     s: &[u8],
-    v: Version,
+    v: Edition,
     d: Cursor,
     plan: &[u8],
     input: Cursor,
@@ -214,7 +214,7 @@ fn list_over(
 // An array mapping with its input at `input`.
 fn array_over(
     s: &[u8],
-    v: Version,
+    v: Edition,
     d: Cursor,
     plan: &[u8],
     input: Cursor,
@@ -245,7 +245,7 @@ fn array_over(
 // The transform at `c`, whose input has the type at `d`: its type, of at most `depth` levels.
 pub fn infer_over(
     s: &[u8],
-    v: Version,
+    v: Edition,
     d: Cursor,
     plan: &[u8],
     c: Cursor,
@@ -277,7 +277,7 @@ pub fn infer_over(
 // A position or a constant at `c`.
 pub fn infer_leaf(
     s: &[u8],
-    v: Version,
+    v: Edition,
     scope: Scope,
     index: &[u16],
     stride: u16,
@@ -297,7 +297,7 @@ pub fn infer_leaf(
             Taken::At(_, d) => copy_type(s, v, d, depth, out, k),
             Taken::Absent => Inferred::Unknown,
         },
-        SelectorHead::Constant(_, t) => copy_type(plan, Version::ByName, t, depth, out, k),
+        SelectorHead::Constant(_, t) => copy_type(plan, Edition::One, t, depth, out, k),
         _ => Inferred::Unknown,
     }
 }
@@ -305,7 +305,7 @@ pub fn infer_leaf(
 // The selector at `c` over a scope: a position, a constant, or a transform of a position, inside renames.
 fn infer_selector(
     s: &[u8],
-    v: Version,
+    v: Edition,
     scope: Scope,
     index: &[u16],
     stride: u16,

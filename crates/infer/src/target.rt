@@ -27,20 +27,20 @@ use index::columns::stride_of;
 use layout::bytes::Span;
 use layout::columns::Labelled;
 use layout::cursor::Cursor;
-use layout::version::Version;
+use layout::edition::Edition;
 use walk::head::skip_selector;
 
 // Whether the type that the selector at `c` gives is the target's at `b`, and where both end.
 fn fit_composed(
     s: &[u8],
-    v: Version,
+    v: Edition,
     scope: Scope,
     index: &[u16],
     stride: u16,
     plan: &[u8],
     c: Cursor,
     target: &[u8],
-    vt: Version,
+    vt: Edition,
     b: Cursor,
     out: &mut [u8],
     other: &mut [u8],
@@ -52,7 +52,7 @@ fn fit_composed(
     match compose_type(s, v, scope, index, stride, plan, c, 64, out, other) {
         Inferred::Is(_) => {
             let start = Cursor { at: 0 };
-            match same_type(out, Version::ByName, 16, start, target, vt, 16, b) {
+            match same_type(out, Edition::One, 16, start, target, vt, 16, b) {
                 Same::To(_, f) => Same::To(skip_selector(plan, c), f),
                 Same::No => Same::No,
             }
@@ -64,14 +64,14 @@ fn fit_composed(
 // With buffers that are cleared in no time.
 fn fit_small(
     s: &[u8],
-    v: Version,
+    v: Edition,
     scope: Scope,
     index: &[u16],
     stride: u16,
     plan: &[u8],
     c: Cursor,
     target: &[u8],
-    vt: Version,
+    vt: Edition,
     b: Cursor,
 ) -> Same
     requires { ⌜ FitAt (now s) v scope (now index) stride (now plan) (c .at) (now target) vt (b .at) ⌝ }
@@ -99,14 +99,14 @@ fn fit_small(
 // With buffers for every type of a result.
 fn fit_large(
     s: &[u8],
-    v: Version,
+    v: Edition,
     scope: Scope,
     index: &[u16],
     stride: u16,
     plan: &[u8],
     c: Cursor,
     target: &[u8],
-    vt: Version,
+    vt: Edition,
     b: Cursor,
 ) -> Same
     requires { ⌜ FitAt (now s) v scope (now index) stride (now plan) (c .at) (now target) vt (b .at) ⌝ }
@@ -134,7 +134,7 @@ fn fit_large(
 // The name that the selector at `c` gives, and the target's at `q`.
 fn same_label(
     s: &[u8],
-    v: Version,
+    v: Edition,
     scope: Scope,
     index: &[u16],
     stride: u16,
@@ -158,14 +158,14 @@ fn same_label(
 // A top selector whose inputs may be transforms, and a column of the target.
 fn fit_inputs(
     s: &[u8],
-    v: Version,
+    v: Edition,
     scope: Scope,
     index: &[u16],
     stride: u16,
     plan: &[u8],
     c: Cursor,
     target: &[u8],
-    vt: Version,
+    vt: Edition,
     b: Cursor,
 ) -> Same
     requires { ⌜ ColumnFitAt (now s) v scope (now index) stride (now plan) (c .at) (now target) vt (b .at) ⌝ }
@@ -190,14 +190,14 @@ fn fit_inputs(
 // A top selector and a column of the target.
 fn fit_top(
     s: &[u8],
-    v: Version,
+    v: Edition,
     scope: Scope,
     index: &[u16],
     stride: u16,
     plan: &[u8],
     c: Cursor,
     target: &[u8],
-    vt: Version,
+    vt: Edition,
     b: Cursor,
 ) -> Same
     requires { ⌜ ColumnFitAt (now s) v scope (now index) stride (now plan) (c .at) (now target) vt (b .at) ⌝ }
@@ -213,7 +213,7 @@ fn fit_top(
 // As many top selectors and columns of the target.
 fn fit_tops(
     s: &[u8],
-    v: Version,
+    v: Edition,
     scope: Scope,
     index: &[u16],
     stride: u16,
@@ -221,7 +221,7 @@ fn fit_tops(
     c: Cursor,
     n: u16,
     target: &[u8],
-    vt: Version,
+    vt: Edition,
     b: Cursor,
 ) -> Same
     requires { ⌜ FieldsFitAt (now s) v scope (now index) stride (now plan) n (c .at) (now target) vt (b .at) ⌝ }
@@ -249,11 +249,11 @@ fn fit_tops(
 // Few selectors over few columns, which are passed over.
 fn fits_few(
     incoming: &[u8],
-    v: Version,
+    v: Edition,
     n: u16,
     plan: &[u8],
     target: &[u8],
-    vt: Version,
+    vt: Edition,
     m: u16,
 ) -> bool
     requires { ⌜ ColumnsAt v 16 (now incoming) n 7 ⌝ }
@@ -287,11 +287,11 @@ fn fits_few(
 // Many selectors or columns, with a table of where the columns stand.
 fn fits_many(
     incoming: &[u8],
-    v: Version,
+    v: Edition,
     n: u16,
     plan: &[u8],
     target: &[u8],
-    vt: Version,
+    vt: Edition,
     m: u16,
 ) -> bool
     requires { ⌜ ColumnsAt v 16 (now incoming) n 7 ⌝ }
@@ -328,12 +328,12 @@ fn fits_many(
 // compiled into the check, and its buffers would stand below all that the general check needs.
 pub fn fits_target(
     incoming: &[u8],
-    v: Version,
+    v: Edition,
     n: u16,
     plan: &[u8],
     count: u16,
     target: &[u8],
-    vt: Version,
+    vt: Edition,
     m: u16,
 ) -> bool
     requires { ⌜ ColumnsAt v 16 (now incoming) n 7 ⌝ }

@@ -21,7 +21,8 @@ use Rattle.layout.specs.declared.columns.Labelled.{Labelled}
 use Rattle.layout.specs.declared.columns.Siblings.the-variants.{Free}
 use Rattle.layout.specs.declared.cursor.Cursor.{Cursor}
 use Rattle.layout.specs.declared.cursor.Moved.{Moved}
-use Rattle.layout.specs.declared.version.Version.{Version}
+use Rattle.layout.specs.declared.edition.Edition.{Edition}
+use Rattle.layout.specs.declared.matching.Matching.{Matching}
 use Rattle.layout.proofs.View.{FirstAt, first-at, type-ends}
 use Rattle.layout.proofs.Top.{columns-count}
 use Rattle.labels.specs.Table.{most, none, node, slotOf, firstOf, after, Leads, Begins, Cleared, Places, Noted, Chains, Table}
@@ -48,25 +49,25 @@ cleared-from e a = record { empty = λ k le lt. a .empty k (omega arith) lt }
 -- ---- the places
 
 -- as many columns, under another name of their number and place
-renamed : {v : Version} {d : ℕ} {s : Bytes} {n m at to : ℕ} (P : ColumnsAt v d s n at) → n ≡ m → at ≡ to → columnsOf v Free (type v Free d) m [] s to ≡ ok (P .columns) (P .end)
+renamed : {v : Edition} {d : ℕ} {s : Bytes} {n m at to : ℕ} (P : ColumnsAt v d s n at) → n ≡ m → at ≡ to → columnsOf v Free (type v Free d) m [] s to ≡ ok (P .columns) (P .end)
 renamed {v} {d} {s} {n} {m} {at} {to} P e g =
     sym (ap (λ (k : ℕ). columnsOf v Free (type v Free d) k [] s at) e ∙ ap (λ (o : ℕ). columnsOf v Free (type v Free d) m [] s o) g) ∙ P .reads
 
 -- what the label there says of the columns that begin at a place
-pub begun : {v : Version} {d : ℕ} {s : Bytes} {n : ℕ} {cs : Columns} {i o : ℕ} (B : Begins v d s n cs i o) → i < n → {p : Labelled} → labelRes s p ≡ label v s o → {l : LabelSpan} {c : Cursor}
+pub begun : {v : Edition} {d : ℕ} {s : Bytes} {n : ℕ} {cs : Columns} {i o : ℕ} (B : Begins v d s n cs i o) → i < n → {p : Labelled} → labelRes s p ≡ label v s o → {l : LabelSpan} {c : Cursor}
     → p ≡ Labelled.Is l c → FirstAt v d s (n - i) o (B .rest) (labelAt s l) (c .at)
 begun B lt g h = first-at (B .rest) (λ z. omega arith) g h
 
-pub record NotingAt (v : Version) (d : ℕ) (s : Bytes) (n i at : ℕ) (cs : Columns) (table : List ℕ) : Type 0 where
+pub record NotingAt (v : Edition) (d : ℕ) (s : Bytes) (n i at : ℕ) (cs : Columns) (table : List ℕ) : Type 0 where
   pub next : Begins v d s n cs i at
   pub places : Places v d s n i cs table
 
-pub record Noting (v : Version) (d : ℕ) (s : Bytes) (n from i at : ℕ) (table : List ℕ) : Type 0 where
+pub record Noting (v : Edition) (d : ℕ) (s : Bytes) (n from i at : ℕ) (table : List ℕ) : Type 0 where
   pub within : i ≤ n
   pub cleared : Cleared (node n) (length table) table
   pub here : (P : ColumnsAt v d s n from) → NotingAt v d s n i at (P .columns) table
 
-module _ {v : Version} {d : ℕ} {s : Bytes} {n from : ℕ} {table : List ℕ} where
+module _ {v : Edition} {d : ℕ} {s : Bytes} {n from : ℕ} {table : List ℕ} where
   pub noting-start : Cleared (node n) (length table) table → Noting v d s n from 0 from table
   unfolding after
   noting-start C = record {
@@ -115,37 +116,37 @@ module _ {v : Version} {d : ℕ} {s : Bytes} {n from : ℕ} {table : List ℕ} w
 
 -- ---- the chains
 
-pub record LinkingAt (v : Version) (d : ℕ) (s : Bytes) (heads n i : ℕ) (cs : Columns) (table : List ℕ) : Type 0 where
+pub record LinkingAt (v : Edition) (how : Matching) (d : ℕ) (s : Bytes) (heads n i : ℕ) (cs : Columns) (table : List ℕ) : Type 0 where
   pub places : Places v d s n n cs table
-  pub chains : Chains v heads n i cs table
+  pub chains : Chains how heads n i cs table
 
-pub record Linking (v : Version) (d : ℕ) (s : Bytes) (heads n i : ℕ) (old table : List ℕ) : Type 0 where
+pub record Linking (v : Edition) (how : Matching) (d : ℕ) (s : Bytes) (heads n i : ℕ) (old table : List ℕ) : Type 0 where
   pub within : i ≤ n
-  pub here : (cs : Columns) → countColumns cs ≡ n → Places v d s n n cs old → LinkingAt v d s heads n i cs table
+  pub here : (cs : Columns) → countColumns cs ≡ n → Places v d s n n cs old → LinkingAt v how d s heads n i cs table
 
-pub count-is : {v : Version} {d : ℕ} {s : Bytes} {n from : ℕ} (P : ColumnsAt v d s n from) → countColumns (P .columns) ≡ n
+pub count-is : {v : Edition} {d : ℕ} {s : Bytes} {n from : ℕ} (P : ColumnsAt v d s n from) → countColumns (P .columns) ≡ n
 count-is {v} {d} {s} {n} {from} P = columns-count v Free (type v Free d) n [] s from (P .columns) (P .end) (P .reads)
 
 pub leads-to : {x y : ℕ} {a b : Lookup} → x ≡ y → a ≡ b → Leads x a → Leads y b
 leads-to {x} {y} {a} {b} e f h = subst (λ (k : ℕ). Leads k b) e (subst (λ (k : Lookup). Leads x k) f h)
 
-module _ {v : Version} {d : ℕ} {s : Bytes} {heads n : ℕ} {table : List ℕ} where
-  pub linking-start : {i : ℕ} → i ≡ n → node n + heads ≡ length table → Cleared (node n) (length table) table → Linking v d s heads n i table table
+module _ {v : Edition} {how : Matching} {d : ℕ} {s : Bytes} {heads n : ℕ} {table : List ℕ} where
+  pub linking-start : {i : ℕ} → i ≡ n → node n + heads ≡ length table → Cleared (node n) (length table) table → Linking v how d s heads n i table table
   unfolding findFrom
-  linking-start {i} f long C = subst (λ (k : ℕ). Linking v d s heads n k table table) (sym f) (record {
+  linking-start {i} f long C = subst (λ (k : ℕ). Linking v how d s heads n k table table) (sym f) (record {
     within = omega arith;
     here = λ cs e P. record {
       places = P;
       chains = record {
-        first = λ h lt. leads-to {b = firstOf v heads h n (after n cs)} (sym (C .empty (node n + h) (omega arith) (omega arith))) (sym (ap (firstOf v heads h n) (after-all n cs e))) (let z : Leads none absent = refl in z);
+        first = λ h lt. leads-to {b = firstOf how heads h n (after n cs)} (sym (C .empty (node n + h) (omega arith) (omega arith))) (sym (ap (firstOf how heads h n) (after-all n cs e))) (let z : Leads none absent = refl in z);
         next = λ j le l t r q. absurd (let m = after-counts j cs q in omega arith);
       };
     };
   })
 
   -- the column j, which comes before those from i on
-  module _ {old : List ℕ} {i : ℕ} (j : ℕ) (a : Linking v d s heads n i old table) (e : i ≡ j + 1) (long : node n + heads ≡ length table)
-      {p : Labelled} {o : ℕ} (told : labelRes s p ≡ label v s o) (here : o ≡ getD table (node j + 1) 0) {m : LabelSpan} {c : Cursor} (f : p ≡ Labelled.Is m c) {h : ℕ} (q : h ≡ slotOf v heads (labelAt s m)) (lt : h < heads) {g : ℕ} (hg : g ≡ node n + h) where
+  module _ {old : List ℕ} {i : ℕ} (j : ℕ) (a : Linking v how d s heads n i old table) (e : i ≡ j + 1) (long : node n + heads ≡ length table)
+      {p : Labelled} {o : ℕ} (told : labelRes s p ≡ label v s o) (here : o ≡ getD table (node j + 1) 0) {m : LabelSpan} {c : Cursor} (f : p ≡ Labelled.Is m c) {h : ℕ} (q : h ≡ slotOf how heads (labelAt s m)) (lt : h < heads) {g : ℕ} (hg : g ≡ node n + h) where
     once : List ℕ
     once = set table (node j) (getD table g 0)
 
@@ -166,7 +167,7 @@ module _ {v : Version} {d : ℕ} {s : Bytes} {heads n : ℕ} {table : List ℕ} 
     elsewhere k x y = getD-set-other once g k (node j) 0 x ∙ getD-set-other table (node j) k (getD table g 0) 0 y
 
     module _ (cs : Columns) (w : countColumns cs ≡ n) (O : Places v d s n n cs old) where
-      L : LinkingAt v d s heads n i cs table
+      L : LinkingAt v how d s heads n i cs table
       L = a .here cs w O
 
       B : Begins v d s n cs j (getD table (node j + 1) 0)
@@ -183,44 +184,44 @@ module _ {v : Version} {d : ℕ} {s : Bytes} {heads n : ℕ} {table : List ℕ} 
       behind : after i cs ≡ F .tail .columns
       behind = ap (λ (k : ℕ). after k cs) e ∙ after-next j cs split
 
-      step : (k : ℕ) {b : Bool} → eqb (slotOf v heads (labelAt s m)) k ≡ b
-          → firstOf v heads k j (after j cs) ≡ choose b (found (record { 0 = j }) (labelAt s m) (F .head .tree)) (firstOf v heads k (j + 1) (F .tail .columns))
+      step : (k : ℕ) {b : Bool} → eqb (slotOf how heads (labelAt s m)) k ≡ b
+          → firstOf how heads k j (after j cs) ≡ choose b (found (record { 0 = j }) (labelAt s m) (F .head .tree)) (firstOf how heads k (j + 1) (F .tail .columns))
       unfolding findFrom
       step k y =
-          ap (firstOf v heads k j) split
-          ∙ ap (λ (b : Bool). choose b (found (record { 0 = j }) (labelAt s m) (F .head .tree)) (firstOf v heads k (j + 1) (F .tail .columns))) y
+          ap (firstOf how heads k j) split
+          ∙ ap (λ (b : Bool). choose b (found (record { 0 = j }) (labelAt s m) (F .head .tree)) (firstOf how heads k (j + 1) (F .tail .columns))) y
 
       -- what led to the chain's first from i on
-      led : (k : ℕ) → k < heads → Leads (getD table (node n + k) 0) (firstOf v heads k (j + 1) (F .tail .columns))
+      led : (k : ℕ) → k < heads → Leads (getD table (node n + k) 0) (firstOf how heads k (j + 1) (F .tail .columns))
       unfolding L
-      led k y = leads-to refl (ap (λ (b : ℕ). firstOf v heads k b (after i cs)) e ∙ ap (firstOf v heads k (j + 1)) behind) (L .chains .first k y)
+      led k y = leads-to refl (ap (λ (b : ℕ). firstOf how heads k b (after i cs)) e ∙ ap (firstOf how heads k (j + 1)) behind) (L .chains .first k y)
 
-      head-of : (k : ℕ) → k < heads → Dec (k ≡ h) → Leads (getD twice (node n + k) 0) (firstOf v heads k j (after j cs))
+      head-of : (k : ℕ) → k < heads → Dec (k ≡ h) → Leads (getD twice (node n + k) 0) (firstOf how heads k j (after j cs))
       unfolding choose
       head-of k y (yes z) =
-          let x = step k (eq-eqb (slotOf v heads (labelAt s m)) k (sym (z ∙ q))) in
+          let x = step k (eq-eqb (slotOf how heads (labelAt s m)) k (sym (z ∙ q))) in
           leads-to (sym (ap (λ (b : ℕ). getD twice b 0) (ap (λ (b : ℕ). node n + b) z ∙ sym hg) ∙ at-head)) (sym x) (let o : Leads (node j) (found (record { 0 = j }) (labelAt s m) (F .head .tree)) = refl in o)
       head-of k y (no z) =
-          let x = step k (ne-eqb (slotOf v heads (labelAt s m)) k (λ o. z (sym (q ∙ o)))) in
+          let x = step k (ne-eqb (slotOf how heads (labelAt s m)) k (λ o. z (sym (q ∙ o)))) in
           leads-to (sym (elsewhere (node n + k) (λ o. z (omega arith)) (λ o. let le = a .within in omega arith))) (sym x) (led k y)
 
-      node-of : (k : ℕ) → j ≤ k → Dec (k ≡ j) → (l : Label) (t : ColumnType) (r : Columns) → after k cs ≡ ccons l t r → Leads (getD twice (node k) 0) (firstOf v heads (slotOf v heads l) (k + 1) r)
+      node-of : (k : ℕ) → j ≤ k → Dec (k ≡ j) → (l : Label) (t : ColumnType) (r : Columns) → after k cs ≡ ccons l t r → Leads (getD twice (node k) 0) (firstOf how heads (slotOf how heads l) (k + 1) r)
       unfolding L
       node-of k le (yes z) l t r o =
           let x : ccons (labelAt s m) (F .head .tree) (F .tail .columns) ≡ ccons l t r = sym split ∙ ap (λ (b : ℕ). after b cs) (sym z) ∙ o in
           let y : labelAt s m ≡ l = cc in
           let u : F .tail .columns ≡ r = cc in
           leads-to (sym (ap (λ (b : ℕ). getD twice (node b) 0) z ∙ at-node))
-          (ap (λ (b : ℕ). firstOf v heads b (j + 1) (F .tail .columns)) (q ∙ ap (slotOf v heads) y) ∙ ap (λ (b : ℕ). firstOf v heads (slotOf v heads l) (b + 1) (F .tail .columns)) (sym z) ∙ ap (firstOf v heads (slotOf v heads l) (k + 1)) u)
-          (leads-to {b = firstOf v heads h (j + 1) (F .tail .columns)} (ap (λ (b : ℕ). getD table b 0) (sym hg)) refl (led h lt))
+          (ap (λ (b : ℕ). firstOf how heads b (j + 1) (F .tail .columns)) (q ∙ ap (slotOf how heads) y) ∙ ap (λ (b : ℕ). firstOf how heads (slotOf how heads l) (b + 1) (F .tail .columns)) (sym z) ∙ ap (firstOf how heads (slotOf how heads l) (k + 1)) u)
+          (leads-to {b = firstOf how heads h (j + 1) (F .tail .columns)} (ap (λ (b : ℕ). getD table b 0) (sym hg)) refl (led h lt))
       node-of k le (no z) l t r o =
-          leads-to {a = firstOf v heads (slotOf v heads l) (k + 1) r} (sym (elsewhere (node k) (λ x. let y = after-counts k cs o in omega arith) (λ x. z (omega arith)))) refl (L .chains .next k (omega arith) l t r o)
+          leads-to {a = firstOf how heads (slotOf how heads l) (k + 1) r} (sym (elsewhere (node k) (λ x. let y = after-counts k cs o in omega arith) (λ x. z (omega arith)))) refl (L .chains .next k (omega arith) l t r o)
 
       place-of : (k : ℕ) → k < n → Begins v d s n cs k (getD twice (node k + 1) 0)
       unfolding L
       place-of k y = subst (λ (o : ℕ). Begins v d s n cs k o) (sym (elsewhere (node k + 1) (λ x. omega arith) (λ x. omega arith))) (L .places .begins k y)
 
-    pub linking-more : Linking v d s heads n j old (set (set table (node j) (getD table g 0)) g (node j))
+    pub linking-more : Linking v how d s heads n j old (set (set table (node j) (getD table g 0)) g (node j))
     unfolding twice once
     linking-more = record {
       within = let le = a .within in omega arith;
@@ -230,11 +231,11 @@ module _ {v : Version} {d : ℕ} {s : Bytes} {heads n : ℕ} {table : List ℕ} 
       };
     }
 
-  pub linking-end : {old : List ℕ} {i from : ℕ} → Linking v d s heads n i old table → i ≤ 0 → n ≤ most → 0 < heads → node n + heads ≡ length table → Noted v d s n from old → Table v d s n from table
+  pub linking-end : {old : List ℕ} {i from : ℕ} → Linking v how d s heads n i old table → i ≤ 0 → n ≤ most → 0 < heads → node n + heads ≡ length table → Noted v d s n from old → Table v how d s n from table
   linking-end {i = i} a le few some long N = record {
     few = few;
     long = omega arith;
     places = λ P. a .here (P .columns) (count-is P) (N .places P) .places;
-    chains = λ P q e. subst (λ (k : ℕ). Chains v k n 0 (P .columns) table) (let z : heads ≡ q = omega arith in z)
-        (subst (λ (k : ℕ). Chains v heads n k (P .columns) table) (let z : i ≡ 0 = omega arith in z) (a .here (P .columns) (count-is P) (N .places P) .chains));
+    chains = λ P q e. subst (λ (k : ℕ). Chains how k n 0 (P .columns) table) (let z : heads ≡ q = omega arith in z)
+        (subst (λ (k : ℕ). Chains how heads n k (P .columns) table) (let z : i ≡ 0 = omega arith in z) (a .here (P .columns) (count-is P) (N .places P) .chains));
   }

@@ -6,12 +6,12 @@ use lib.Dec.{eqb}
 use borrow.Author.Tests.{eq-eqb}
 use Rattle.layout.specs.Parser.{choose}
 use Rattle.layout.specs.Tree.{Label, ColumnType, Columns, cnil, ccons}
-use Rattle.layout.specs.Layout.{repeats, topRule}
+use Rattle.layout.specs.Layout.{repeats}
 use Rattle.layout.specs.Seen.{labelHash}
 use Rattle.layout.specs.declared.columns.Siblings.{Siblings}
-use Rattle.layout.specs.Find.{Lookup, absent, at, findFrom}
+use Rattle.layout.specs.Find.{Lookup, absent, at, findFrom, matchRule}
 use Rattle.layout.specs.declared.columns.Position.{Position}
-use Rattle.layout.specs.declared.version.Version.{Version}
+use Rattle.layout.specs.declared.matching.Matching.{Matching}
 use Rattle.layout.proofs.Ways.{clash, choose-true, choose-false}
 use Rattle.layout.proofs.Marking.{same-hash}
 use Rattle.labels.specs.Table.{slotOf}
@@ -53,9 +53,9 @@ module _ (f g : Label → Bool) (h : (l : Label) → f l ≡ true → g l ≡ tr
       first-before f (g m) (record { 0 = i }) m u (findFrom (λ j a. f a) (i + 1) cs) (findFrom (λ j a. g a) (i + 1) cs) (h m) e k (λ q. first-of (i + 1) cs q k)
 
 -- labels that match have the same hash
-pub same-slot : (v : Version) (q : ℕ) (w l : Label) → repeats (topRule v) l w ≡ true → eqb (slotOf v q l) (slotOf v q w) ≡ true
-same-slot v q w l e = eq-eqb (slotOf v q l) (slotOf v q w) (ap (λ (h : ℕ). h % q) (same-hash (topRule v) 0 l w e))
+pub same-slot : (how : Matching) (q : ℕ) (w l : Label) → repeats (matchRule how) l w ≡ true → eqb (slotOf how q l) (slotOf how q w) ≡ true
+same-slot how q w l e = eq-eqb (slotOf how q l) (slotOf how q w) (ap (λ (h : ℕ). h % q) (same-hash (matchRule how) 0 l w e))
 
 -- a label's chain, by its hash
-pub slot-is : (v : Version) (q : ℕ) (l : Label) {r : Siblings} {h : ℕ} → r ≡ topRule v → h ≡ labelHash r 0 l → h % q ≡ slotOf v q l
-slot-is v q l e f = ap (λ (h : ℕ). h % q) (f ∙ ap (λ (r : Siblings). labelHash r 0 l) e)
+pub slot-is : (how : Matching) (q : ℕ) (l : Label) {r : Siblings} {h : ℕ} → r ≡ matchRule how → h ≡ labelHash r 0 l → h % q ≡ slotOf how q l
+slot-is how q l e f = ap (λ (h : ℕ). h % q) (f ∙ ap (λ (r : Siblings). labelHash r 0 l) e)

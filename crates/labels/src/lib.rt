@@ -16,12 +16,13 @@ use layout::columns::Position;
 use layout::columns::same_label;
 use layout::cursor::Cursor;
 use layout::cursor::Moved;
+use layout::edition::Edition;
 use layout::find::Found;
 use layout::find::find_counterpart;
+use layout::matching::Matching;
+use layout::matching::match_rule;
 use layout::pass::pass_type;
 use layout::seen::label_hash;
-use layout::version::Version;
-use layout::version::top_rule;
 
 // How many columns a table holds at most: their indexes are below `NONE`.
 const MOST: u16 = 32767;
@@ -30,13 +31,13 @@ const MOST: u16 = 32767;
 const NONE: u16 = 65535;
 
 // A label's chain, of so many.
-fn slot(s: &[u8], v: Version, heads: usize, l: Label) -> usize
+fn slot(s: &[u8], how: Matching, heads: usize, l: Label) -> usize
     requires { ⌜ spanIn (now s) (l .name) ⌝ }
     requires { ⌜ 0 < heads ⌝ }
-    ensures { λ r. ⌜ r ≡ slotOf v heads (labelAt (now (s .entry)) l) ⌝ }
+    ensures { λ r. ⌜ r ≡ slotOf how heads (labelAt (now (s .entry)) l) ⌝ }
     ensures { λ r. ⌜ r < heads ⌝ }
 {
-    let rule = top_rule(v);
+    let rule = match_rule(how);
     (label_hash(s, rule, 0, l) as usize) % heads
 }
 
@@ -53,7 +54,7 @@ fn clear(from: usize, table: &mut [u16])
 }
 
 // Notes where each of `n` columns begins. False says nothing of what the table then holds.
-fn note(s: &[u8], v: Version, depth: u8, n: u16, first: Cursor, table: &mut [u16]) -> bool
+fn note(s: &[u8], v: Edition, depth: u8, n: u16, first: Cursor, table: &mut [u16]) -> bool
     requires { ⌜ node n ≤ length (now table) ⌝ }
     requires { ⌜ Cleared (node n) (length (now table)) (now table) ⌝ }
     ensures { λ _. ⌜ length (now (table .exit)) ≡ length (now (table .entry)) ⌝ }
@@ -83,11 +84,19 @@ fn note(s: &[u8], v: Version, depth: u8, n: u16, first: Cursor, table: &mut [u16
 }
 
 // Puts the columns into their chains, the last one first, so that each chain begins with its first column.
-fn link(s: &[u8], v: Version, depth: u8, n: u16, first: Cursor, table: &mut [u16]) -> bool
+fn link(
+    s: &[u8],
+    v: Edition,
+    how: Matching,
+    depth: u8,
+    n: u16,
+    first: Cursor,
+    table: &mut [u16],
+) -> bool
     requires { ⌜ n ≤ most ⌝ }
     requires { ⌜ node n < length (now table) ⌝ }
     requires { ⌜ Noted v depth (now s) n (first .at) (now table) ⌝ }
-    ensures { λ r. ⌜ (r ≡ true → Table v depth (now (s .entry)) n (first .at) (now (table .exit))) ⌝ }
+    ensures { λ r. ⌜ (r ≡ true → Table v how depth (now (s .entry)) n (first .at) (now (table .exit))) ⌝ }
 {
     let mut i = wide(n);
     let from = 2 * i;
@@ -99,7 +108,7 @@ fn link(s: &[u8], v: Version, depth: u8, n: u16, first: Cursor, table: &mut [u16
         let d = Cursor { at };
         match d.label(s, v) {
             Labelled::Is(l, _) => {
-                let h = from + slot(s, v, heads, l);
+                let h = from + slot(s, how, heads, l);
                 table[k] = table[h];
                 table[h] = k as u16;
             }
@@ -110,8 +119,16 @@ fn link(s: &[u8], v: Version, depth: u8, n: u16, first: Cursor, table: &mut [u16
 }
 
 // Fills a table for `n` columns, whatever it held. False says nothing of what it then holds.
-fn fill(s: &[u8], v: Version, depth: u8, n: u16, first: Cursor, table: &mut [u16]) -> bool
-    ensures { λ r. ⌜ (r ≡ true → Table v depth (now (s .entry)) n (first .at) (now (table .exit))) ⌝ }
+fn fill(
+    s: &[u8],
+    v: Edition,
+    how: Matching,
+    depth: u8,
+    n: u16,
+    first: Cursor,
+    table: &mut [u16],
+) -> bool
+    ensures { λ r. ⌜ (r ≡ true → Table v how depth (now (s .entry)) n (first .at) (now (table .exit))) ⌝ }
 {
     if MOST < n {
         return false;
@@ -124,7 +141,7 @@ fn fill(s: &[u8], v: Version, depth: u8, n: u16, first: Cursor, table: &mut [u16
     if !note(s, v, depth, n, first, table) {
         return false;
     }
-    link(s, v, depth, n, first, table)
+    link(s, v, how, depth, n, first, table)
 }
 
 // Where many labels will be looked up, fills a table for `n` columns at the start of an arena, and answers its length. 0 where there is none: few
@@ -132,14 +149,15 @@ fn fill(s: &[u8], v: Version, depth: u8, n: u16, first: Cursor, table: &mut [u16
 pub fn fill_in(
     wanted: u16,
     s: &[u8],
-    v: Version,
+    v: Edition,
+    how: Matching,
     depth: u8,
     n: u16,
     first: Cursor,
     arena: &mut [u16],
 ) -> usize
     ensures { λ r. ⌜ r ≤ length (now (arena .exit)) ⌝ }
-    ensures { λ r. ⌜ (0 < r → Table v depth (now (s .entry)) n (first .at) (take r (now (arena .exit)))) ⌝ }
+    ensures { λ r. ⌜ (0 < r → Table v how depth (now (s .entry)) n (first .at) (take r (now (arena .exit)))) ⌝ }
 {
     if wanted <= 16 {
         return 0;
@@ -148,7 +166,7 @@ pub fn fill_in(
     if arena.len() < len {
         return 0;
     }
-    if !fill(s, v, depth, n, first, &mut arena[..len]) {
+    if !fill(s, v, how, depth, n, first, &mut arena[..len]) {
         return 0;
     }
     len
@@ -157,7 +175,8 @@ pub fn fill_in(
 // Among `n` columns, the one of the name of the label `l`, which stands in `t`; by number, of its id.
 pub fn counterpart_in(
     s: &[u8],
-    v: Version,
+    v: Edition,
+    how: Matching,
     depth: u8,
     n: u16,
     c: Cursor,
@@ -166,13 +185,13 @@ pub fn counterpart_in(
     l: Label,
 ) -> Found
     requires { ⌜ ColumnsAt v depth (now s) n (c .at) ⌝ }
-    requires { ⌜ Table v depth (now s) n (c .at) (now table) ⌝ }
+    requires { ⌜ Table v how depth (now s) n (c .at) (now table) ⌝ }
     requires { ⌜ spanIn (now t) (l .name) ⌝ }
-    ensures { λ r. ⌜ ((P : ColumnsAt v depth (now (s .entry)) n (c .at)) → Finds v depth (now (s .entry)) (counterpart v (labelAt (now (t .entry)) l) (P .columns)) r) ⌝ }
+    ensures { λ r. ⌜ ((P : ColumnsAt v depth (now (s .entry)) n (c .at)) → Finds v depth (now (s .entry)) (counterpart how (labelAt (now (t .entry)) l) (P .columns)) r) ⌝ }
 {
-    let rule = top_rule(v);
+    let rule = match_rule(how);
     let from = 2 * wide(n);
-    let h = from + slot(t, v, table.len() - from, l);
+    let h = from + slot(t, how, table.len() - from, l);
     let mut x = table[h];
     while x < NONE {
         let k = wide(x);
@@ -194,7 +213,8 @@ pub fn counterpart_in(
 // The same where there may be no table: an empty slice, and the columns are scanned.
 pub fn find_in(
     s: &[u8],
-    v: Version,
+    v: Edition,
+    how: Matching,
     depth: u8,
     n: u16,
     c: Cursor,
@@ -203,12 +223,12 @@ pub fn find_in(
     l: Label,
 ) -> Found
     requires { ⌜ ColumnsAt v depth (now s) n (c .at) ⌝ }
-    requires { ⌜ (0 < length (now table) → Table v depth (now s) n (c .at) (now table)) ⌝ }
+    requires { ⌜ (0 < length (now table) → Table v how depth (now s) n (c .at) (now table)) ⌝ }
     requires { ⌜ spanIn (now t) (l .name) ⌝ }
-    ensures { λ r. ⌜ ((P : ColumnsAt v depth (now (s .entry)) n (c .at)) → Finds v depth (now (s .entry)) (counterpart v (labelAt (now (t .entry)) l) (P .columns)) r) ⌝ }
+    ensures { λ r. ⌜ ((P : ColumnsAt v depth (now (s .entry)) n (c .at)) → Finds v depth (now (s .entry)) (counterpart how (labelAt (now (t .entry)) l) (P .columns)) r) ⌝ }
 {
     if table.len() == 0 {
-        return find_counterpart(s, v, depth, n, c, t, l);
+        return find_counterpart(s, v, how, depth, n, c, t, l);
     }
-    counterpart_in(s, v, depth, n, c, table, t, l)
+    counterpart_in(s, v, how, depth, n, c, table, t, l)
 }

@@ -11,10 +11,10 @@ use borrow.Author.Tests.{eq-eqb, ne-eqb}
 use Rattle.layout.specs.Bytes.{Bytes, sameBytes}
 use Rattle.layout.specs.Parser.{ok, choose}
 use Rattle.layout.specs.Tree.{Label, ColumnType, Columns, cnil, ccons}
-use Rattle.layout.specs.Layout.{label, repeats, columns, type, topRule}
+use Rattle.layout.specs.Layout.{label, repeats, columns, type}
 use Rattle.layout.specs.Answers.{labelRes, labelAt, labelIn, spanAt, movedOf}
 use Rattle.layout.specs.Stands.{TypeAt, ColumnsAt}
-use Rattle.layout.specs.Find.{Lookup, absent, at, findFrom, columnNamed, columnOfId, columnAt, counterpart, FoundAt, Finds, wantedBy}
+use Rattle.layout.specs.Find.{Lookup, absent, at, findFrom, columnNamed, columnOfId, columnAt, counterpart, matchRule, FoundAt, Finds, wantedBy}
 use Rattle.layout.specs.declared.bytes.Span.{Span}
 use Rattle.layout.specs.declared.columns.Position.{Position}
 use Rattle.layout.specs.declared.columns.Label.{Label as LabelSpan}
@@ -24,25 +24,26 @@ use Rattle.layout.specs.declared.cursor.Cursor.{Cursor}
 use Rattle.layout.specs.declared.cursor.Moved.{Moved}
 use Rattle.layout.specs.declared.find.Found.{Found}
 use Rattle.layout.specs.declared.find.Wanted.{Wanted}
-use Rattle.layout.specs.declared.version.Version.{Version}
-use Rattle.layout.specs.declared.version.Version.the-variants.{ByName, ByNumber}
+use Rattle.layout.specs.declared.edition.Edition.{Edition}
+use Rattle.layout.specs.declared.matching.Matching.{Matching}
+use Rattle.layout.specs.declared.matching.Matching.the-variants.{ByName, ByNumber}
 use Rattle.layout.proofs.Ways.{clash}
 use Rattle.layout.proofs.FreeRule.{repeats-free}
 use Rattle.layout.proofs.Reading.{columns-suc}
 use Rattle.layout.proofs.View.{FirstAt, first-at, head-at, columns-any, first-labelled, no-column, same-columns, type-ends, never-stuck}
 
-pub record Seeking (v : Version) (d : ℕ) (s : Bytes) (f : ℕ → Label → Bool) (n from i here : ℕ) : Type 0 where
+pub record Seeking (v : Edition) (d : ℕ) (s : Bytes) (f : ℕ → Label → Bool) (n from i here : ℕ) : Type 0 where
   pub whole : ColumnsAt v d s n from
   pub within : i ≤ n
   pub rest : ColumnsAt v d s (n - i) here
   pub is : findFrom f 0 (whole .columns) ≡ findFrom f i (rest .columns)
 
 -- as many columns, under another name of their number and place
-renamed : {v : Version} {d : ℕ} {s : Bytes} {n m at to : ℕ} (P : ColumnsAt v d s n at) → n ≡ m → at ≡ to → columns v Free (type v Free d) m [] s to ≡ ok (P .columns) (P .end)
+renamed : {v : Edition} {d : ℕ} {s : Bytes} {n m at to : ℕ} (P : ColumnsAt v d s n at) → n ≡ m → at ≡ to → columns v Free (type v Free d) m [] s to ≡ ok (P .columns) (P .end)
 renamed {v} {d} {s} {n} {m} {at} {to} P e g =
     sym (ap (λ (k : ℕ). columns v Free (type v Free d) k [] s at) e ∙ ap (λ (o : ℕ). columns v Free (type v Free d) m [] s o) g) ∙ P .reads
 
-module _ {v : Version} {d : ℕ} {s : Bytes} (f : ℕ → Label → Bool) {n from : ℕ} where
+module _ {v : Edition} {d : ℕ} {s : Bytes} (f : ℕ → Label → Bool) {n from : ℕ} where
   pub seeking-start : ColumnsAt v d s n from → Seeking v d s f n from 0 from
   seeking-start P = record {
     whole = P;
@@ -104,13 +105,13 @@ module _ {v : Version} {d : ℕ} {s : Bytes} (f : ℕ → Label → Bool) {n fro
 -- ---- the column at a position
 
 -- after the first k columns, which f does not want
-record After (v : Version) (d : ℕ) (s : Bytes) (f : ℕ → Label → Bool) (j n here : ℕ) (P : ColumnsAt v d s n here) (k : ℕ) : Type 0 where
+record After (v : Edition) (d : ℕ) (s : Bytes) (f : ℕ → Label → Bool) (j n here : ℕ) (P : ColumnsAt v d s n here) (k : ℕ) : Type 0 where
   end : ℕ
   passes : movedOf (columns v Free (type v Free d) k [] s here) ≡ Moved.To (record { at = end })
   rest : ColumnsAt v d s (n - k) end
   is : findFrom f j (P .columns) ≡ findFrom f (j + k) (rest .columns)
 
-after : {v : Version} {d : ℕ} {s : Bytes} (f : ℕ → Label → Bool) (k j : ℕ) {n here : ℕ} (P : ColumnsAt v d s n here) → k ≤ n
+after : {v : Edition} {d : ℕ} {s : Bytes} (f : ℕ → Label → Bool) (k j : ℕ) {n here : ℕ} (P : ColumnsAt v d s n here) → k ≤ n
     → ((i : ℕ) (l : Label) → i < j + k → f i l ≡ false) → After v d s f j n here P k
 unfolding columns movedOf findFrom choose
 after f zero j {n} {here} P le un = record {
@@ -141,7 +142,7 @@ after {v} {d} {s} f (suc k) j {n} {here} P le un =
 before : (k : ℕ) {m : ℕ} → m ≤ k → (i : ℕ) (l : Label) → i < 0 + m → eqb i k ≡ false
 before k h i l lt = ne-eqb i k (λ z. omega arith)
 
-module _ {v : Version} {d : ℕ} {s : Bytes} {n from : ℕ} (k : Position) (P : ColumnsAt v d s n from) where
+module _ {v : Edition} {d : ℕ} {s : Bytes} {n from : ℕ} (k : Position) (P : ColumnsAt v d s n from) where
   pub position-past : n ≤ k .0 → (Q : ColumnsAt v d s n from) → Finds v d s (columnAt k (Q .columns)) Found.Absent
   position-past h =
       let f : ℕ → Label → Bool = λ i l. eqb i (k .0) in
@@ -186,19 +187,23 @@ module _ (s name : Bytes) (l : LabelSpan) where
 -- ---- a counterpart
 
 -- it is the first column whose label matches
-pub counterpart-first : (v : Version) (w : Label) (cs : Columns) → counterpart v w cs ≡ findFrom (λ i l. repeats (topRule v) l w) 0 cs
+pub counterpart-first : (how : Matching) (w : Label) (cs : Columns) → counterpart how w cs ≡ findFrom (λ i l. repeats (matchRule how) l w) 0 cs
 counterpart-first ByName w cs = refl
 counterpart-first ByNumber w cs = refl
 
-module _ (v : Version) (d : ℕ) (s : Bytes) where
+module _ (v : Edition) (d : ℕ) (s : Bytes) where
   -- a name, by the part of the bytes that was lent
   pub by-name : (r : Found) (t : Bytes) (p : Span) (cs : Columns) → Finds v d s (columnNamed (take (p .start + p .len - p .start) (drop (p .start) t)) cs) r
       → Finds v d s (columnNamed (spanAt t p) cs) r
   by-name r t p cs f = subst (λ (n : ℕ). Finds v d s (columnNamed (take n (drop (p .start) t)) cs) r) (add-sub-cancel-left (p .start) (p .len)) f
 
-  pub counterpart-name : (r : Found) (t : Bytes) (l : LabelSpan) (cs : Columns) → v ≡ ByName
-      → Finds v d s (columnNamed (take (l .name .start + l .name .len - l .name .start) (drop (l .name .start) t)) cs) r → Finds v d s (counterpart v (labelAt t l) cs) r
-  counterpart-name r t l cs h f = subst (λ (w : Version). Finds v d s (counterpart w (labelAt t l) cs) r) (sym h) (by-name r t (l .name) cs f)
+  module _ (how : Matching) (r : Found) (t : Bytes) (l : LabelSpan) (cs : Columns) where
+    matched : {w : Matching} → how ≡ w → Finds v d s (counterpart w (labelAt t l) cs) r → Finds v d s (counterpart how (labelAt t l) cs) r
+    matched h f = subst (λ (w : Matching). Finds v d s (counterpart w (labelAt t l) cs) r) (sym h) f
 
-  pub counterpart-id : (r : Found) (t : Bytes) (l : LabelSpan) (cs : Columns) → v ≡ ByNumber → Finds v d s (columnOfId (l .id) cs) r → Finds v d s (counterpart v (labelAt t l) cs) r
-  counterpart-id r t l cs h f = subst (λ (w : Version). Finds v d s (counterpart w (labelAt t l) cs) r) (sym h) f
+    pub counterpart-name : how ≡ ByName → Finds v d s (columnNamed (take (l .name .start + l .name .len - l .name .start) (drop (l .name .start) t)) cs) r
+        → Finds v d s (counterpart how (labelAt t l) cs) r
+    counterpart-name h f = matched h (by-name r t (l .name) cs f)
+
+    pub counterpart-id : how ≡ ByNumber → Finds v d s (columnOfId (l .id) cs) r → Finds v d s (counterpart how (labelAt t l) cs) r
+    counterpart-id h f = matched h f

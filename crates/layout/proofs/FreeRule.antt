@@ -6,7 +6,7 @@ use mathlib.Core.Bool.{Bool, true, false, not}
 use Rattle.layout.specs.Parser.{Res, refuse, ok, next, choose, Parser, test}
 use Rattle.layout.specs.Tree.{Label, ColumnType, ccons, cstruct}
 use Rattle.layout.specs.Layout.{Kind, aLeaf, aStruct, aList, anArray, label, kind, body, structType, listType, arrayType, elementLabel, columns, type, repeatsAny}
-use Rattle.layout.specs.declared.version.Version.{Version}
+use Rattle.layout.specs.declared.edition.Edition.{Edition}
 use Rattle.layout.specs.declared.columns.Siblings.{Siblings}
 use Rattle.layout.proofs.Ways.{clash}
 
@@ -36,7 +36,7 @@ test-free : (r : Siblings) (l : Label) (fs : List Label) (s : List ℕ) (at : �
     → Within (test (not (repeatsAny r l fs)) 5 s at) (test (not (repeatsAny Siblings.Free l fs)) 5 s at)
 test-free r l fs s at = rw (repeats-free l fs) (test-within (not (repeatsAny r l fs)) 5 s at)
 
-module _ (v : Version) (r : Siblings) (s : List ℕ) where
+module _ (v : Edition) (r : Siblings) (s : List ℕ) where
   module _ (p q : Parser ColumnType) (w : (at : ℕ) → Within (p s at) (q s at)) where
     pub columns-free : (n : ℕ) (earlier : List Label) (at : ℕ) → Within (columns v r p n earlier s at) (columns v Siblings.Free q n earlier s at)
     unfolding columns

@@ -20,7 +20,7 @@ use Rattle.layout.specs.Layout.{repeats}
 use Rattle.layout.specs.Answers.{labelAt}
 use Rattle.layout.specs.Seen.{mixed, hashBytes, labelHash, wordOf, bitsOf, Marked, Keeps, Noted}
 use Rattle.layout.specs.Scan.{scan}
-use Rattle.layout.specs.declared.version.Version.{Version}
+use Rattle.layout.specs.declared.edition.Edition.{Edition}
 use Rattle.layout.specs.declared.columns.Label.{Label as LabelSpan}
 use Rattle.layout.specs.declared.columns.Siblings.{Siblings}
 use Rattle.layout.proofs.Ways.{clash}
@@ -88,7 +88,7 @@ pub marked-as : {t : List ℕ} {h g : ℕ} → h ≡ g → Marked t h → Marked
 marked-as {t} e m = subst (λ (j : ℕ). Marked t j) e m
 
 -- a label that is not marked is new
-pub not-noted : {v : Version} {r : Siblings} {d : ℕ} {l : Label} {n : ℕ} {s : Bytes} {from : ℕ} {t : List ℕ} {h : ℕ} {b : Bool} → Noted v r d l n s from t
+pub not-noted : {v : Edition} {r : Siblings} {d : ℕ} {l : Label} {n : ℕ} {s : Bytes} {from : ℕ} {t : List ℕ} {h : ℕ} {b : Bool} → Noted v r d l n s from t
     → h ≡ labelHash r from l → (Marked t h → b ≡ true) → b ≡ false → false ≡ scan v r d l n s from
 not-noted {v} {r} {d} {l} {n} {s} {from} {t} {h} {b} a e f g = go (scan v r d l n s from) refl
   where

@@ -11,9 +11,9 @@ use borrow.Author.Tests.{lt-ltb, le-ltb, eq-eqb, ne-eqb}
 use Rattle.layout.specs.Bytes.{Bytes}
 use Rattle.layout.specs.Parser.{Res, refuse, ok, next, choose, byte, u16, u32}
 use Rattle.layout.specs.Tree.{Label, ColumnType, leafType, cstruct, clist, carray}
-use Rattle.layout.specs.Layout.{Kind, aLeaf, text, unit, label, fieldId, elementLabel, plainLeaf, leafKind, datetimeKind, decimalParams, decimalKind, structKind, arrayKind, kindOf, kind, body, structType, listType, arrayType, columns, type}
+use Rattle.layout.specs.Layout.{Kind, aLeaf, text, unit, requiredMark, fieldId, fieldMark, labelRest, label, elementLabel, plainLeaf, leafKind, datetimeKind, decimalParams, decimalKind, structKind, arrayKind, kindOf, kind, body, structType, listType, arrayType, columns, type}
 use Rattle.layout.specs.Pass.{typeRest}
-use Rattle.layout.specs.Answers.{stepRes, shortRes, unitRes, decimalRes, textRes, movedOf}
+use Rattle.layout.specs.Answers.{stepRes, shortRes, unitRes, decimalRes, markRes, textRes, movedOf}
 use Rattle.layout.specs.declared.bytes.Span.{Span}
 use Rattle.layout.specs.declared.cursor.Cursor.{Cursor}
 use Rattle.layout.specs.declared.cursor.Step.{Step}
@@ -26,10 +26,11 @@ use Rattle.layout.specs.declared.leaf.Decimal.{Decimal}
 use Rattle.layout.specs.declared.types.PlainLeaf.{PlainLeaf}
 use Rattle.layout.specs.declared.types.Unit.{Unit as UnitRead}
 use Rattle.layout.specs.declared.types.DecimalRead.{DecimalRead}
+use Rattle.layout.specs.declared.columns.MarkRead.{MarkRead}
 use Rattle.layout.specs.declared.columns.Siblings.{Siblings}
-use Rattle.layout.specs.declared.version.Version.{Version}
+use Rattle.layout.specs.declared.edition.Edition.{Edition}
 use Rattle.layout.proofs.Leaves.{other-code}
-use Rattle.layout.proofs.Ways.{clash, moved-to, moved-refused, to-pure, choose-true, choose-false, element-none, element-some, type-deep}
+use Rattle.layout.proofs.Ways.{clash, moved-to, moved-refused, to-pure, choose-true, choose-false, type-deep}
 use Rattle.layout.proofs.FreeRule.{repeats-free}
 use Rattle.layout.proofs.Reading.{columns-suc}
 use Rattle.layout.proofs.View.{columns-any}
@@ -71,14 +72,28 @@ module _ (s : Bytes) (at : ℕ) where
 
 -- ---- a label
 
-module _ (v : Version) (s : Bytes) (at : ℕ) {p : Text} (e : textRes s p ≡ text s at) where
-  pub label-named : {b : Span} {c : Cursor} → p ≡ Text.Is b c → v ≡ Version.ByName → Moved.To c ≡ movedOf (label v s at)
-  unfolding label fieldId next movedOf
+module _ (v : Edition) (s : Bytes) (at : ℕ) {p : Text} (e : textRes s p ≡ text s at) where
+  pub label-named : {b : Span} {c : Cursor} → p ≡ Text.Is b c → v ≡ Edition.One → Moved.To c ≡ movedOf (label v s at)
+  unfolding label labelRest fieldId fieldMark next movedOf
   label-named f h = rw (← e, f, h)
 
-  pub label-numbered : {b : Span} {c : Cursor} {o : Moved} → p ≡ Text.Is b c → v ≡ Version.ByNumber → o ≡ movedOf (u32 s (c .at)) → o ≡ movedOf (label v s at)
-  unfolding label fieldId next
+  pub label-numbered : {b : Span} {c : Cursor} {o : Moved} → p ≡ Text.Is b c → v ≡ Edition.Two → o ≡ movedOf (u32 s (c .at)) → o ≡ movedOf (label v s at)
+  unfolding label labelRest fieldId fieldMark next
   label-numbered {c = c} f h g = rw (← e, f, h) (to-pure _ (u32 s (c .at)) g)
+
+  module _ {b : Span} {c : Cursor} (f : p ≡ Text.Is b c) (h : v ≡ Edition.Three) {q : Moved} (g : q ≡ movedOf (u32 s (c .at))) where
+    pub label-idless : {k : ℕ} → q ≡ Moved.Refused k → Moved.Refused k ≡ movedOf (label v s at)
+    unfolding label labelRest fieldId next movedOf
+    label-idless i = rw (← e, f, h) (rw (moved-refused (u32 s (c .at)) g i))
+
+    module _ {d : Cursor} (i : q ≡ Moved.To d) {m : MarkRead} (j : markRes m ≡ requiredMark s (d .at)) where
+      pub label-marked : {r : Bool} {n : Cursor} → m ≡ MarkRead.Is r n → Moved.To n ≡ movedOf (label v s at)
+      unfolding label labelRest fieldId fieldMark next movedOf
+      label-marked k = rw (← e, f, h) (rw (moved-to (u32 s (c .at)) g i .1, ← j, k))
+
+      pub label-markless : {k : ℕ} → m ≡ MarkRead.Refused k → Moved.Refused k ≡ movedOf (label v s at)
+      unfolding label labelRest fieldId fieldMark next movedOf
+      label-markless k = rw (← e, f, h) (rw (moved-to (u32 s (c .at)) g i .1, ← j, k))
 
   pub label-nameless : {k : ℕ} → p ≡ Text.Refused k → Moved.Refused k ≡ movedOf (label v s at)
   unfolding label next movedOf
@@ -113,13 +128,13 @@ module _ (s : Bytes) (at : ℕ) {p : DecimalRead} (e : decimalRes p ≡ decimalP
 
 -- ---- a type
 
-pub type-unruled : (v : Version) (r : Siblings) (s : Bytes) (at d : ℕ) {o : Moved} → r ≡ Siblings.Free → o ≡ movedOf (type v Siblings.Free d s at) → o ≡ movedOf (type v r d s at)
+pub type-unruled : (v : Edition) (r : Siblings) (s : Bytes) (at d : ℕ) {o : Moved} → r ≡ Siblings.Free → o ≡ movedOf (type v Siblings.Free d s at) → o ≡ movedOf (type v r d s at)
 type-unruled v r s at d h e = rw h e
 
 pub not-plain : (code : ℕ) {q : PlainLeaf} → q ≡ plainLeaf code → q ≡ PlainLeaf.Unknown → plainLeaf code ≡ PlainLeaf.Unknown
 not-plain code e f = sym e ∙ f
 
-module _ (v : Version) (r : Siblings) (s : Bytes) (at d : ℕ) (z : d ≡ 0 → ⊥) where
+module _ (v : Edition) (r : Siblings) (s : Bytes) (at d : ℕ) (z : d ≡ 0 → ⊥) where
   level : movedOf (next (byte s at) (λ code m. typeRest v r (d - 1) code s m)) ≡ movedOf (type v r d s at)
   unfolding type kind typeRest next
   level = go (byte s at) ∙ ap (λ (k : ℕ). movedOf (type v r k s at)) (let e : suc (d - 1) ≡ d = omega arith in e)
@@ -129,7 +144,7 @@ module _ (v : Version) (r : Siblings) (s : Bytes) (at d : ℕ) (z : d ≡ 0 → 
       go (refuse n) = refl
       go (ok code m) = refl
 
-module _ (v : Version) (r : Siblings) (s : Bytes) (at d : ℕ) (z : d ≡ 0 → ⊥) {p : Step} (e : stepRes p ≡ byte s at) where
+module _ (v : Edition) (r : Siblings) (s : Bytes) (at d : ℕ) (z : d ≡ 0 → ⊥) {p : Step} (e : stepRes p ≡ byte s at) where
   pub pass-ended : {k : ℕ} → p ≡ Step.Refused k → Moved.Refused k ≡ movedOf (type v r d s at)
   unfolding next movedOf
   pass-ended f = rw (← level v r s at d z, ← e, f)
@@ -145,7 +160,7 @@ module _ (v : Version) (r : Siblings) (s : Bytes) (at d : ℕ) (z : d ≡ 0 → 
     unfolding next
     pass-on h = rw (← level v r s at d z, ← e, f) h
 
-module _ (v : Version) (r : Siblings) (d : ℕ) (s : Bytes) where
+module _ (v : Edition) (r : Siblings) (d : ℕ) (s : Bytes) where
   -- an array's element is passed as a list's
   as-list : (w m : ℕ) → movedOf (listType v (type v r d) s m) ≡ movedOf (arrayType v w (type v r d) s m)
   unfolding listType arrayType next movedOf
@@ -161,7 +176,7 @@ module _ (v : Version) (r : Siblings) (d : ℕ) (s : Bytes) where
           type-of l (ok t j) = refl
 
 -- what follows a code
-module _ (v : Version) (r : Siblings) (d : ℕ) (s : Bytes) (at : ℕ) {code : ℕ} where
+module _ (v : Edition) (r : Siblings) (d : ℕ) (s : Bytes) (at : ℕ) {code : ℕ} where
   pub rest-datetime : {o : Moved} → code ≡ 14 → o ≡ movedOf (datetimeKind s at) → o ≡ movedOf (typeRest v r d code s at)
   unfolding typeRest kindOf choose datetimeKind next movedOf body
   rest-datetime {o} h e = rw h (e ∙ go (unit s at) (λ m. text s m))
@@ -212,30 +227,41 @@ module _ (v : Version) (r : Siblings) (d : ℕ) (s : Bytes) (at : ℕ) {code : �
   unfolding typeRest kindOf choose leafKind next movedOf
   rest-unknown a b c e g f = rw (ne-eqb code 14 a, ne-eqb code 18 b, ne-eqb code 19 c, ne-eqb code 20 e, ne-eqb code 21 g, f)
 
+-- an element's label
+module _ (v : Edition) (s : Bytes) (at : ℕ) where
+  pub label-none : {c : Cursor} → v ≡ Edition.One → c .at ≡ at → Moved.To c ≡ movedOf (elementLabel v s at)
+  unfolding elementLabel movedOf
+  label-none h e = rw (h, ← e)
+
+  pub label-two : {o : Moved} → v ≡ Edition.Two → o ≡ movedOf (label v s at) → o ≡ movedOf (elementLabel v s at)
+  unfolding elementLabel
+  label-two h e = rw h (rw h at e)
+
+  pub label-three : {o : Moved} → v ≡ Edition.Three → o ≡ movedOf (label v s at) → o ≡ movedOf (elementLabel v s at)
+  unfolding elementLabel
+  label-three h e = rw h (rw h at e)
+
 -- an element
-module _ (v : Version) (r : Siblings) (d : ℕ) (s : Bytes) (at : ℕ) where
+module _ (v : Edition) (r : Siblings) (d : ℕ) (s : Bytes) (at : ℕ) where
   of-type : (l : Label) {o : Moved} (m : ℕ) → elementLabel v s at ≡ ok l m → o ≡ movedOf (type v r d s m) → o ≡ movedOf (listType v (type v r d) s at)
   unfolding listType next
   of-type l m h e = rw h (to-pure (clist l) (type v r d s m) e)
 
-  pub element-named : {o : Moved} → v ≡ Version.ByName → o ≡ movedOf (type v r d s at) → o ≡ movedOf (listType v (type v r d) s at)
-  element-named h e = of-type _ at (sym (element-none v s at h)) e
+  module _ {p : Moved} (e : p ≡ movedOf (elementLabel v s at)) where
+    pub element-on : {o : Moved} {c : Cursor} → p ≡ Moved.To c → o ≡ movedOf (type v r d s (c .at)) → o ≡ movedOf (listType v (type v r d) s at)
+    element-on {c = c} f g = let t = moved-to (elementLabel v s at) e f in of-type (t .0) (c .at) (t .1) g
 
-  module _ {p : Moved} (h : v ≡ Version.ByNumber) (e : p ≡ movedOf (label v s at)) where
-    pub element-numbered : {o : Moved} {c : Cursor} → p ≡ Moved.To c → o ≡ movedOf (type v r d s (c .at)) → o ≡ movedOf (listType v (type v r d) s at)
-    element-numbered {c = c} f g = let t = moved-to (label v s at) e f in of-type (t .0) (c .at) (sym (element-some v s at h (sym (t .1)))) g
-
-    pub element-unlabelled : {k : ℕ} → p ≡ Moved.Refused k → Moved.Refused k ≡ movedOf (listType v (type v r d) s at)
+    pub element-off : {k : ℕ} → p ≡ Moved.Refused k → Moved.Refused k ≡ movedOf (listType v (type v r d) s at)
     unfolding listType next movedOf
-    element-unlabelled f = rw (← element-some v s at h (sym (moved-refused (label v s at) e f)))
+    element-off f = rw (moved-refused (elementLabel v s at) e f)
 
 -- ---- columns
 
-pub record Passing (v : Version) (d : ℕ) (s : Bytes) (n from i at : ℕ) : Type 0 where
+pub record Passing (v : Edition) (d : ℕ) (s : Bytes) (n from i at : ℕ) : Type 0 where
   pub within : i ≤ n
   pub rest : movedOf (columns v Siblings.Free (type v Siblings.Free d) n [] s from) ≡ movedOf (columns v Siblings.Free (type v Siblings.Free d) (n - i) [] s at)
 
-module _ (v : Version) (d : ℕ) (s : Bytes) (n from : ℕ) where
+module _ (v : Edition) (d : ℕ) (s : Bytes) (n from : ℕ) where
   pub passing-none : Passing v d s n from 0 from
   passing-none = record {
     within = omega arith;
@@ -275,4 +301,8 @@ pub ruleset type-passed = (type-deep, pass-ended, pass-plain, pass-on)
 
 pub ruleset rest-passed = (rest-datetime, rest-struct, rest-uncounted, rest-list, rest-array, rest-widthless, rest-decimal, rest-unknown)
 
-pub ruleset element-passed = (element-named, element-numbered, element-unlabelled)
+pub ruleset label-passed = (label-named, label-numbered, label-idless, label-marked, label-markless, label-nameless)
+
+pub ruleset element-labelled = (label-none, label-two, label-three)
+
+pub ruleset element-passed = (element-on, element-off)

@@ -14,7 +14,7 @@ use Rattle.layout.specs.declared.cursor.Cursor.{Cursor}
 use Rattle.layout.specs.declared.cursor.Moved.{Moved}
 use Rattle.layout.specs.declared.columns.Labelled.{Labelled}
 use Rattle.layout.specs.declared.columns.Label.{Label as LabelSpan}
-use Rattle.layout.specs.declared.version.Version.{Version}
+use Rattle.layout.specs.declared.edition.Edition.{Edition}
 use Rattle.layout.specs.declared.columns.Siblings.{Siblings}
 use Rattle.layout.proofs.Ways.{clash, moved-to, moved-refused, to-pure}
 use Rattle.layout.proofs.FreeRule.{type-free}
@@ -33,13 +33,13 @@ repeatsAny-snoc r l [] m = or-false (repeats r l m)
 repeatsAny-snoc r l (k ∷ ms) m = rw (repeatsAny-snoc r l ms m) (sym (or-assoc (repeats r l k) (repeatsAny r l ms) (repeats r l m)))
 
 -- one more column of a scan
-scan-suc : (v : Version) (r : Siblings) (d : ℕ) (l : Label) (n : ℕ) (s : List ℕ) (at : ℕ) {k : Label} {m e : ℕ} {t : ColumnType} → label v s at ≡ ok k m
+scan-suc : (v : Edition) (r : Siblings) (d : ℕ) (l : Label) (n : ℕ) (s : List ℕ) (at : ℕ) {k : Label} {m e : ℕ} {t : ColumnType} → label v s at ≡ ok k m
     → type v Siblings.Free d s m ≡ ok t e → scan v r d l (suc n) s at ≡ (repeats r l k || scan v r d l n s e)
 unfolding scan
 scan-suc v r d l n s at h g = rw (h, g)
 
 -- one more column read
-pub columns-suc : (v : Version) (r : Siblings) (p : Parser ColumnType) (n : ℕ) (ms : List Label) (s : List ℕ) (at : ℕ) {l : Label} {m e : ℕ} {t : ColumnType}
+pub columns-suc : (v : Edition) (r : Siblings) (p : Parser ColumnType) (n : ℕ) (ms : List Label) (s : List ℕ) (at : ℕ) {l : Label} {m e : ℕ} {t : ColumnType}
     → label v s at ≡ ok l m → p s m ≡ ok t e → repeatsAny r l ms ≡ false
     → movedOf (columns v r p (suc n) ms s at) ≡ movedOf (columns v r p n (ms ++ (l ∷ [])) s e)
 unfolding columns next choose
@@ -55,7 +55,7 @@ snoc-marked r from l k ms {t} {u} f a m e = go (repeatsAny r l ms) refl (sym (re
     go false q h = marked-as (sym (same-hash r from l k h)) m
 
 -- after i of n columns; the table was t₀ and is t
-pub record Reading (v : Version) (r inner : Siblings) (d : ℕ) (s : List ℕ) (n from : ℕ) (t₀ : List ℕ) (i at : ℕ) (t : List ℕ) : Type 0 where
+pub record Reading (v : Edition) (r inner : Siblings) (d : ℕ) (s : List ℕ) (n from : ℕ) (t₀ : List ℕ) (i at : ℕ) (t : List ℕ) : Type 0 where
   pub within : i ≤ n
   pub earlier : List Label
   pub rest : movedOf (columns v r (type v inner d) n [] s from) ≡ movedOf (columns v r (type v inner d) (n - i) earlier s at)
@@ -63,7 +63,7 @@ pub record Reading (v : Version) (r inner : Siblings) (d : ℕ) (s : List ℕ) (
   pub kept : Keeps t₀ t
   pub marked : (l : Label) → repeatsAny r l earlier ≡ true → Marked t (labelHash r from l)
 
-module _ (v : Version) (r inner : Siblings) (d : ℕ) (s : List ℕ) (n from : ℕ) (t₀ : List ℕ) where
+module _ (v : Edition) (r inner : Siblings) (d : ℕ) (s : List ℕ) (n from : ℕ) (t₀ : List ℕ) where
   pub reading-none : Reading v r inner d s n from t₀ 0 from t₀
   unfolding repeatsAny
   reading-none = record {
@@ -137,11 +137,11 @@ module _ (v : Version) (r inner : Siblings) (d : ℕ) (s : List ℕ) (n from : �
               }
 
 -- a scan for a label
-pub record Scanning (v : Version) (r : Siblings) (d : ℕ) (l : Label) (s : List ℕ) (n from i at : ℕ) : Type 0 where
+pub record Scanning (v : Edition) (r : Siblings) (d : ℕ) (l : Label) (s : List ℕ) (n from i at : ℕ) : Type 0 where
   pub within : i ≤ n
   pub rest : scan v r d l n s from ≡ scan v r d l (n - i) s at
 
-module _ (v : Version) (r : Siblings) (d : ℕ) (l : Label) (s : List ℕ) (n from : ℕ) where
+module _ (v : Edition) (r : Siblings) (d : ℕ) (l : Label) (s : List ℕ) (n from : ℕ) where
   pub scanning-none : Scanning v r d l s n from 0 from
   scanning-none = record {
     within = omega arith;
@@ -189,10 +189,10 @@ found-none : {A : Type 0} (x : Res A) (k : A → ℕ → Bool) → ((a : A) (e :
 found-none (refuse n) k h = refl
 found-none (ok a e) k h = h a e
 
-scan-free : (v : Version) (d : ℕ) (l : Label) (n : ℕ) (s : List ℕ) (at : ℕ) → false ≡ scan v Siblings.Free d l n s at
+scan-free : (v : Edition) (d : ℕ) (l : Label) (n : ℕ) (s : List ℕ) (at : ℕ) → false ≡ scan v Siblings.Free d l n s at
 unfolding scan
 scan-free v d l zero s at = refl
 scan-free v d l (suc n) s at = found-none (label v s at) _ (λ m e. found-none (type v Siblings.Free d s e) _ (λ t o. scan-free v d l n s o))
 
-pub scanning-free : (v : Version) (r : Siblings) (d : ℕ) (l : Label) (n : ℕ) (s : List ℕ) (at : ℕ) → r ≡ Siblings.Free → false ≡ scan v r d l n s at
+pub scanning-free : (v : Edition) (r : Siblings) (d : ℕ) (l : Label) (n : ℕ) (s : List ℕ) (at : ℕ) → r ≡ Siblings.Free → false ≡ scan v r d l n s at
 scanning-free v r d l n s at h = rw h (scan-free v d l n s at)

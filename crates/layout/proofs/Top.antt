@@ -1,4 +1,4 @@
--- What reading a version and a whole layout returns on each way.
+-- What reading an edition and a whole layout returns on each way.
 use Prim.Native.Nat.{ℕ, zero, suc, _+_, _≤_, _<_}
 use mathlib.Core.Path.{_≡_, refl, sym, ap, _∙_, subst}
 use mathlib.Core.List.{List, [], _∷_, _++_}
@@ -10,13 +10,13 @@ use borrow.Author.Tests.{le-leb, lt-leb, eq-eqb, ne-eqb}
 use Rattle.layout.specs.Parser.{Res, refuse, ok, next, choose, test, Parser, u16}
 use Rattle.layout.specs.Tree.{Label, ColumnType, Columns, cnil, ccons, countColumns}
 use Rattle.layout.specs.Bytes.{sameBytes}
-use Rattle.layout.specs.Layout.{label, columns, type, repeatsAny, mark, version, sized, ended, topRule, innerRule, counted, layoutFrom, layout}
-use Rattle.layout.specs.Answers.{movedOf, shortRes, versionRes, layoutOf}
+use Rattle.layout.specs.Layout.{label, columns, type, repeatsAny, mark, edition, sized, ended, topRule, innerRule, counted, layoutFrom, layout}
+use Rattle.layout.specs.Answers.{movedOf, shortRes, editionRes, layoutOf}
 use Rattle.layout.specs.declared.cursor.Cursor.{Cursor}
 use Rattle.layout.specs.declared.cursor.Moved.{Moved}
 use Rattle.layout.specs.declared.cursor.Short.{Short}
-use Rattle.layout.specs.declared.version.Version.{Version}
-use Rattle.layout.specs.declared.version.VersionRead.{VersionRead}
+use Rattle.layout.specs.declared.edition.Edition.{Edition}
+use Rattle.layout.specs.declared.edition.EditionRead.{EditionRead}
 use Rattle.layout.specs.declared.read.LayoutRead.{LayoutRead}
 use Rattle.layout.specs.declared.columns.Siblings.{Siblings}
 use Rattle.layout.proofs.Ways.{clash, moved-to, moved-refused}
@@ -28,11 +28,11 @@ shorter [] (y ∷ ys) h = refl
 shorter (x ∷ xs) [] h = refl
 shorter (x ∷ xs) (y ∷ ys) h = rw (shorter xs ys (omega arith)) (and-false (eqb x y))
 
-pub mark-short : (s : List ℕ) → length s < 5 → refuse 1 ≡ version s 0
-unfolding version choose
+pub mark-short : (s : List ℕ) → length s < 5 → refuse 1 ≡ edition s 0
+unfolding edition choose
 mark-short s h =
     let k : length (take 5 s) < 5 = simp length-take (omega arith) in
-    rw (shorter (take 5 s) (mark 1) k, shorter (take 5 s) (mark 2) k)
+    rw (shorter (take 5 s) (mark 1) k, shorter (take 5 s) (mark 2) k, shorter (take 5 s) (mark 3) k)
 
 -- as many columns are read as were asked for
 abbrev Gives : {A : Type 0} → Res A → (A → Type 0) → Type 0
@@ -48,7 +48,7 @@ unfolding next
 next-after (refuse n) f Q P h g b e j = clash (cc)
 next-after (ok a m) f Q P h g b e j = let q : f a ≡ b = cc in subst P q (g a (h a m refl))
 
-pub columns-count : (v : Version) (r : Siblings) (p : Parser ColumnType) (n : ℕ) (ms : List Label) (s : List ℕ) (at : ℕ)
+pub columns-count : (v : Edition) (r : Siblings) (p : Parser ColumnType) (n : ℕ) (ms : List Label) (s : List ℕ) (at : ℕ)
     → Gives (columns v r p n ms s at) (λ cs. countColumns cs ≡ n)
 unfolding columns countColumns
 columns-count v r p zero ms s at = λ cs m h. let e : cs ≡ cnil = cc in rw e
@@ -62,17 +62,17 @@ module _ (s : List ℕ) where
   unfolding layout layoutFrom sized layoutOf next choose
   layout-big h = rw (lt-leb (length s) 16384 h)
 
-  pub layout-unmarked : {p : VersionRead} {k : ℕ} → length s ≤ 16384 → versionRes p ≡ version s 0 → p ≡ VersionRead.Refused k
+  pub layout-unmarked : {p : EditionRead} {k : ℕ} → length s ≤ 16384 → editionRes p ≡ edition s 0 → p ≡ EditionRead.Refused k
       → LayoutRead.Refused k ≡ layoutOf (layout s)
   unfolding layout layoutFrom sized layoutOf next choose
   layout-unmarked small e f = rw (le-leb (length s) 16384 small, ← e, f)
 
-  pub layout-marked : {p : VersionRead} {v : Version} {r : LayoutRead} → length s ≤ 16384 → versionRes p ≡ version s 0 → p ≡ VersionRead.Is v
+  pub layout-marked : {p : EditionRead} {v : Edition} {r : LayoutRead} → length s ≤ 16384 → editionRes p ≡ edition s 0 → p ≡ EditionRead.Is v
       → r ≡ layoutOf (counted v s 5) → r ≡ layoutOf (layout s)
   unfolding layout layoutFrom sized next choose
   layout-marked small e f g = rw (le-leb (length s) 16384 small, ← e, f) g
 
-  module _ (v : Version) {q : Short} (g : shortRes q ≡ u16 s 5) where
+  module _ (v : Edition) {q : Short} (g : shortRes q ≡ u16 s 5) where
     pub layout-uncounted : {k : ℕ} → q ≡ Short.Refused k → LayoutRead.Refused k ≡ layoutOf (counted v s 5)
     unfolding counted layoutOf next
     layout-uncounted h = rw (← g, h)

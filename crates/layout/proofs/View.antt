@@ -20,7 +20,7 @@ use Rattle.layout.specs.declared.types.LeafType.{LeafType as LeafSpan}
 use Rattle.layout.specs.declared.columns.Label.{Label as LabelSpan}
 use Rattle.layout.specs.declared.columns.Labelled.{Labelled}
 use Rattle.layout.specs.declared.columns.Siblings.the-variants.{Free}
-use Rattle.layout.specs.declared.version.Version.{Version}
+use Rattle.layout.specs.declared.edition.Edition.{Edition}
 use Rattle.layout.proofs.Ways.{clash, moved-to, moved-refused}
 use Rattle.layout.proofs.Leaves.{plain-kind}
 use Rattle.layout.proofs.FreeRule.{repeats-free}
@@ -34,19 +34,19 @@ next-ok (ok a m) k h = (a, m, refl, h)
 -- ---- a type's parts, where the readers say that they start
 
 -- a struct's columns, from m on
-pub record StructAt (v : Version) (d : ℕ) (s : Bytes) (at : ℕ) (P : TypeAt v d s at) (n m : ℕ) : Type 0 where
+pub record StructAt (v : Edition) (d : ℕ) (s : Bytes) (at : ℕ) (P : TypeAt v d s at) (n m : ℕ) : Type 0 where
   pub inner : ColumnsAt v (d - 1) s n m
   pub is : P .tree ≡ cstruct (inner .columns)
   pub ends : inner .end ≡ P .end
 
 -- a list's element, whose label is l and whose type begins at m
-pub record ListAt (v : Version) (d : ℕ) (s : Bytes) (at : ℕ) (P : TypeAt v d s at) (l : Label) (m : ℕ) : Type 0 where
+pub record ListAt (v : Edition) (d : ℕ) (s : Bytes) (at : ℕ) (P : TypeAt v d s at) (l : Label) (m : ℕ) : Type 0 where
   pub inner : TypeAt v (d - 1) s m
   pub is : P .tree ≡ clist l (inner .tree)
   pub ends : inner .end ≡ P .end
 
 -- an array's element
-pub record ArrayAt (v : Version) (d : ℕ) (s : Bytes) (at : ℕ) (P : TypeAt v d s at) (w : ℕ) (l : Label) (m : ℕ) : Type 0 where
+pub record ArrayAt (v : Edition) (d : ℕ) (s : Bytes) (at : ℕ) (P : TypeAt v d s at) (w : ℕ) (l : Label) (m : ℕ) : Type 0 where
   pub inner : TypeAt v (d - 1) s m
   pub is : P .tree ≡ carray w l (inner .tree)
   pub ends : inner .end ≡ P .end
@@ -58,7 +58,7 @@ label-got s e f = sym e ∙ ap (labelRes s) f
 pub label-none : (s : Bytes) {x : Res Label} {q : Labelled} {n : ℕ} → labelRes s q ≡ x → q ≡ Labelled.Refused n → x ≡ refuse n
 label-none s e f = sym e ∙ ap (labelRes s) f
 
-module _ {v : Version} {d : ℕ} {s : Bytes} {at : ℕ} (P : TypeAt v d s at) where
+module _ {v : Edition} {d : ℕ} {s : Bytes} {at : ℕ} (P : TypeAt v d s at) where
   pub deep : d ≡ 0 → ⊥
   unfolding type
   deep z = let h : type v Free 0 s at ≡ ok (P .tree) (P .end) = rw z at (P .reads) in clash (cc)
@@ -142,24 +142,24 @@ module _ {v : Version} {d : ℕ} {s : Bytes} {at : ℕ} (P : TypeAt v d s at) wh
   never-stuck {n = n} e f = let z : refuse n ≡ ok (P .tree) (P .end) = sym (moved-refused (type v Free d s at) e f) ∙ P .reads in clash (cc)
 
 -- two readings of one place agree
-pub same-type : {v : Version} {d : ℕ} {s : Bytes} {at : ℕ} (P Q : TypeAt v d s at) → (P .tree ≡ Q .tree) × (P .end ≡ Q .end)
+pub same-type : {v : Edition} {d : ℕ} {s : Bytes} {at : ℕ} (P Q : TypeAt v d s at) → (P .tree ≡ Q .tree) × (P .end ≡ Q .end)
 same-type P Q = let z : ok (P .tree) (P .end) ≡ ok (Q .tree) (Q .end) = sym (P .reads) ∙ Q .reads in (cc, cc)
 
-pub same-columns : {v : Version} {d : ℕ} {s : Bytes} {n at : ℕ} (P Q : ColumnsAt v d s n at) → (P .columns ≡ Q .columns) × (P .end ≡ Q .end)
+pub same-columns : {v : Edition} {d : ℕ} {s : Bytes} {n at : ℕ} (P Q : ColumnsAt v d s n at) → (P .columns ≡ Q .columns) × (P .end ≡ Q .end)
 same-columns P Q = let z : ok (P .columns) (P .end) ≡ ok (Q .columns) (Q .end) = sym (P .reads) ∙ Q .reads in (cc, cc)
 
 -- the same place under another name
-pub type-moved : {v : Version} {d : ℕ} {s : Bytes} {at to : ℕ} → at ≡ to → TypeAt v d s at → TypeAt v d s to
+pub type-moved : {v : Edition} {d : ℕ} {s : Bytes} {at to : ℕ} → at ≡ to → TypeAt v d s at → TypeAt v d s to
 type-moved {v} {d} {s} e P = record { tree = P .tree; end = P .end; reads = ap (λ (o : ℕ). type v Free d s o) (sym e) ∙ P .reads }
 
-pub columns-moved : {v : Version} {d : ℕ} {s : Bytes} {n at to : ℕ} → at ≡ to → ColumnsAt v d s n at → ColumnsAt v d s n to
+pub columns-moved : {v : Edition} {d : ℕ} {s : Bytes} {n at to : ℕ} → at ≡ to → ColumnsAt v d s n at → ColumnsAt v d s n to
 columns-moved {v} {d} {s} {n} e P =
     record { columns = P .columns; end = P .end; reads = ap (λ (o : ℕ). columns v Free (type v Free d) n [] s o) (sym e) ∙ P .reads }
 
 -- ---- columns, from the first
 
 -- with no rule the earlier labels have no say
-pub columns-any : (v : Version) (p : Parser ColumnType) (n : ℕ) (ms ks : List Label) (s : Bytes) (at : ℕ) → columns v Free p n ms s at ≡ columns v Free p n ks s at
+pub columns-any : (v : Edition) (p : Parser ColumnType) (n : ℕ) (ms ks : List Label) (s : Bytes) (at : ℕ) → columns v Free p n ms s at ≡ columns v Free p n ks s at
 unfolding columns
 columns-any v p zero ms ks s at = refl
 columns-any v p (suc n) ms ks s at =
@@ -174,20 +174,20 @@ unfolding choose
 tested true s e = cc
 tested false s e = clash (cc)
 
-pub record FirstAt (v : Version) (d : ℕ) (s : Bytes) (n at : ℕ) (P : ColumnsAt v d s n at) (l : Label) (m : ℕ) : Type 0 where
+pub record FirstAt (v : Edition) (d : ℕ) (s : Bytes) (n at : ℕ) (P : ColumnsAt v d s n at) (l : Label) (m : ℕ) : Type 0 where
   pub head : TypeAt v d s m
   pub tail : ColumnsAt v d s (n - 1) (head .end)
   pub is : P .columns ≡ ccons l (head .tree) (tail .columns)
   pub ends : tail .end ≡ P .end
 
 -- the first column, with its label
-pub record HeadAt (v : Version) (d : ℕ) (s : Bytes) (n at : ℕ) (P : ColumnsAt v d s n at) : Type 0 where
+pub record HeadAt (v : Edition) (d : ℕ) (s : Bytes) (n at : ℕ) (P : ColumnsAt v d s n at) : Type 0 where
   pub label : Label
   pub start : ℕ
   pub labelled : labelOf v s at ≡ ok label start
   pub first : FirstAt v d s n at P label start
 
-module _ {v : Version} {d : ℕ} {s : Bytes} {n at : ℕ} (P : ColumnsAt v d s n at) where
+module _ {v : Edition} {d : ℕ} {s : Bytes} {n at : ℕ} (P : ColumnsAt v d s n at) where
   pub no-column : n ≡ 0 → (P .columns ≡ cnil) × (P .end ≡ at)
   unfolding columns
   no-column h = let q : columns v Free (type v Free d) 0 [] s at ≡ ok (P .columns) (P .end) = rw h at (P .reads) in (cc, cc)

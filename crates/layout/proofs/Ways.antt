@@ -9,8 +9,8 @@ use lib.Dec.{eqb, leb}
 use borrow.Author.Tests.{lt-ltb, le-ltb, le-leb, lt-leb, eq-eqb, ne-eqb}
 use Rattle.layout.specs.Parser.{Res, refuse, ok, next, choose, byte, chunk, u32}
 use Rattle.layout.specs.Tree.{leafType, Label}
-use Rattle.layout.specs.Layout.{Kind, aLeaf, label, fieldId, elementLabel, plainLeaf, leafKind, decimalKind, kindOf, kind, type}
-use Rattle.layout.specs.Answers.{stepRes, shortRes, longRes, unitRes, decimalRes, spanAt, spanIn, textRes, headIn, labelRes, labelAt, textIn, labelIn, movedOf}
+use Rattle.layout.specs.Layout.{Kind, aLeaf, fieldId, fieldMark, labelRest, label, elementLabel, plainLeaf, leafKind, decimalKind, kindOf, kind, type}
+use Rattle.layout.specs.Answers.{stepRes, shortRes, longRes, unitRes, decimalRes, markRes, spanAt, spanIn, textRes, headIn, labelRes, labelAt, textIn, labelIn, movedOf}
 use Rattle.layout.specs.declared.bytes.Span.{Span}
 use Rattle.layout.specs.declared.cursor.Cursor.{Cursor}
 use Rattle.layout.specs.declared.cursor.Step.{Step}
@@ -26,10 +26,11 @@ use Rattle.layout.specs.declared.types.PlainLeaf.{PlainLeaf}
 use Rattle.layout.specs.declared.types.Head.{Head}
 use Rattle.layout.specs.declared.types.Unit.{Unit as UnitRead}
 use Rattle.layout.specs.declared.types.DecimalRead.{DecimalRead}
+use Rattle.layout.specs.declared.columns.MarkRead.{MarkRead}
 use Rattle.layout.specs.declared.columns.Labelled.{Labelled}
 use Rattle.layout.specs.declared.columns.Label.{Label as LabelSpan}
 use Rattle.layout.specs.declared.columns.Siblings.{Siblings}
-use Rattle.layout.specs.declared.version.Version.{Version}
+use Rattle.layout.specs.declared.edition.Edition.{Edition}
 
 pub clash : {A : Type 0} → _≡_ {A = ℕ} 0 1 → A
 clash z = absurd (omega arith)
@@ -59,17 +60,23 @@ module _ (n : ℕ) (s : List ℕ) (at : ℕ) where
   unfolding chunk
   chunk-short h = choose-false _ _ _ (lt-leb (at + n) (length s) (omega arith)) refl
 
-pub id-none : (v : Version) (s : List ℕ) (at : ℕ) → v ≡ Version.ByName → ok 0 at ≡ fieldId v s at
-unfolding fieldId
-id-none v s at h = rw h
+-- what follows a label's name, by the edition
+module _ (v : Edition) (b : List ℕ) (s : List ℕ) (at : ℕ) where
+  pub rest-bare : v ≡ Edition.One → ok (record { name = b; id = record { 0 = 0 }; required = false }) at ≡ labelRest v b s at
+  unfolding labelRest fieldId fieldMark next
+  rest-bare h = rw h
 
-pub id-none-on : {B : Type 0} (v : Version) (s : List ℕ) (at : ℕ) (k : ℕ → ℕ → Res B) {y : Res B} → v ≡ Version.ByName → y ≡ k 0 at → y ≡ next (fieldId v s at) k
-unfolding fieldId next
-id-none-on v s at k h e = rw h e
+  module _ (h : v ≡ Edition.Two) {p : Long} (e : longRes p ≡ u32 s at) where
+    pub rest-numbered : {i : ℕ} {c : Cursor} → p ≡ Long.Is i c → ok (record { name = b; id = record { 0 = i }; required = false }) (c .at) ≡ labelRest v b s at
+    unfolding labelRest fieldId fieldMark next
+    rest-numbered f = rw (h, ← e, f)
 
-pub id-some : (v : Version) (s : List ℕ) (at : ℕ) {y : Res ℕ} → v ≡ Version.ByNumber → y ≡ u32 s at → y ≡ fieldId v s at
-unfolding fieldId
-id-some v s at h e = rw h e
+    pub rest-idless : {n : ℕ} → p ≡ Long.Refused n → refuse n ≡ labelRest v b s at
+    unfolding labelRest fieldId fieldMark next
+    rest-idless f = rw (h, ← e, f)
+
+  pub rest-marked : {y : Res Label} → v ≡ Edition.Three → y ≡ labelRest Edition.Three b s at → y ≡ labelRest v b s at
+  rest-marked h e = rw h e
 
 pub text-in : (s : List ℕ) {p : Text} {b : Span} {c : Cursor} → textIn s p → p ≡ Text.Is b c → spanIn s b
 text-in s h e = rw e at h
@@ -98,13 +105,17 @@ eqb-from k n h e = rw h e
 pub leb-from : (k n : ℕ) {m : ℕ} {b : Bool} → k ≡ m → leb m n ≡ b → leb k n ≡ b
 leb-from k n h e = rw h e
 
-pub element-none : (v : Version) (s : List ℕ) (at : ℕ) → v ≡ Version.ByName → ok (record { name = []; id = record { 0 = 0 } }) at ≡ elementLabel v s at
+pub element-none : (v : Edition) (s : List ℕ) (at : ℕ) → v ≡ Edition.One → ok (record { name = []; id = record { 0 = 0 }; required = false }) at ≡ elementLabel v s at
 unfolding elementLabel
 element-none v s at h = rw h
 
-pub element-some : (v : Version) (s : List ℕ) (at : ℕ) {y : Res Label} → v ≡ Version.ByNumber → y ≡ label v s at → y ≡ elementLabel v s at
+pub element-two : (v : Edition) (s : List ℕ) (at : ℕ) {y : Res Label} → v ≡ Edition.Two → y ≡ label v s at → y ≡ elementLabel v s at
 unfolding elementLabel
-element-some v s at h e = rw h (rw h at e)
+element-two v s at h e = rw h (rw h at e)
+
+pub element-three : (v : Edition) (s : List ℕ) (at : ℕ) {y : Res Label} → v ≡ Edition.Three → y ≡ label v s at → y ≡ elementLabel v s at
+unfolding elementLabel
+element-three v s at h e = rw h (rw h at e)
 
 -- the leaf of a code that is not a date-time's
 pub leaf-known : (code : ℕ) (s : List ℕ) (at : ℕ) {p : PlainLeaf} {l : Leaf} → p ≡ plainLeaf code → p ≡ PlainLeaf.Known l → ok (aLeaf (leafType l [])) at ≡ leafKind (plainLeaf code) s at
@@ -157,6 +168,14 @@ module _ {B : Type 0} where
   unfolding next
   decimal-off x k e f = rw (← e, f)
 
+  pub mark-on : (x : Res Bool) (k : Bool → ℕ → Res B) {y : Res B} {p : MarkRead} {r : Bool} {c : Cursor} → markRes p ≡ x → p ≡ MarkRead.Is r c → y ≡ k r (c .at) → y ≡ next x k
+  unfolding next
+  mark-on x k e f g = rw (← e, f) g
+
+  pub mark-off : (x : Res Bool) (k : Bool → ℕ → Res B) {p : MarkRead} {n : ℕ} → markRes p ≡ x → p ≡ MarkRead.Refused n → refuse n ≡ next x k
+  unfolding next
+  mark-off x k e f = rw (← e, f)
+
   pub text-on : (s : List ℕ) (x : Res (List ℕ)) (k : List ℕ → ℕ → Res B) {y : Res B} {p : Text} {b : Span} {c : Cursor} → textRes s p ≡ x → p ≡ Text.Is b c → y ≡ k (spanAt s b) (c .at) → y ≡ next x k
   unfolding next
   text-on s x k e f g = rw (← e, f) g
@@ -179,7 +198,7 @@ pub kind-decimal : (s : List ℕ) (at : ℕ) {p : Step} {code : ℕ} {c : Cursor
 unfolding kind kindOf next choose
 kind-decimal s at e f h g = rw (← e, f, h) g
 
-pub ruleset ways = (step-on, step-off, short-on, short-off, long-on, long-off, unit-on, unit-off, decimal-on, decimal-off, text-on, text-off, label-on, label-off, choose-true, choose-false, chunk-fits, chunk-past, chunk-short, id-none-on, id-some, eqb-from, leb-from, element-none, element-some, leaf-known, leaf-unknown, text-in, flag, lt-ltb, le-ltb, le-leb, lt-leb, eq-eqb, ne-eqb)
+pub ruleset ways = (step-on, step-off, short-on, short-off, long-on, long-off, unit-on, unit-off, decimal-on, decimal-off, mark-on, mark-off, text-on, text-off, label-on, label-off, choose-true, choose-false, chunk-fits, chunk-past, chunk-short, rest-bare, rest-numbered, rest-idless, rest-marked, eqb-from, leb-from, element-none, element-two, element-three, leaf-known, leaf-unknown, text-in, flag, lt-ltb, le-ltb, le-leb, lt-leb, eq-eqb, ne-eqb)
 
 -- where only the position is answered
 module _ {A : Type 0} {o : Moved} where
@@ -197,7 +216,7 @@ pub to-off : {A B : Type 0} (x : Res A) (k : A → ℕ → Res B) {p : Moved} {n
 unfolding next movedOf
 to-off x k e f = rw (moved-refused x e f)
 
-module _ (v : Version) (r : Siblings) (s : List ℕ) (at d : ℕ) where
+module _ (v : Edition) (r : Siblings) (s : List ℕ) (at d : ℕ) where
   pub type-deep : d ≡ 0 → Moved.Refused 4 ≡ movedOf (type v r d s at)
   unfolding type movedOf
   type-deep z = rw z

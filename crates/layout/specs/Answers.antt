@@ -1,6 +1,7 @@
 -- What each answer of the code stands for: what a parser of specs/ gives, with positions standing for the bytes there.
 use Prim.Native.Nat.{ℕ, _+_, _≤_}
 use mathlib.Core.List.{List}
+use mathlib.Core.Bool.{Bool}
 use lib.ListN.{length, take, drop}
 use Rattle.layout.specs.Bytes.{Bytes}
 use Rattle.layout.specs.Parser.{Res, refuse, ok}
@@ -21,8 +22,9 @@ use Rattle.layout.specs.declared.types.LeafType.{LeafType as LeafSpan}
 use Rattle.layout.specs.declared.types.Head.{Head}
 use Rattle.layout.specs.declared.columns.Label.{Label as LabelSpan}
 use Rattle.layout.specs.declared.columns.Labelled.{Labelled}
-use Rattle.layout.specs.declared.version.Version.{Version}
-use Rattle.layout.specs.declared.version.VersionRead.{VersionRead}
+use Rattle.layout.specs.declared.columns.MarkRead.{MarkRead}
+use Rattle.layout.specs.declared.edition.Edition.{Edition}
+use Rattle.layout.specs.declared.edition.EditionRead.{EditionRead}
 use Rattle.layout.specs.declared.read.LayoutRead.{LayoutRead}
 
 abbrev pub stepRes : Step → Res ℕ
@@ -78,8 +80,12 @@ headIn s (Head.List c) = Unit {0}
 headIn s (Head.Array w c) = Unit {0}
 headIn s (Head.Refused n) = Unit {0}
 
+abbrev pub markRes : MarkRead → Res Bool
+markRes (MarkRead.Is r c) = ok r (c .at)
+markRes (MarkRead.Refused n) = refuse n
+
 abbrev pub labelAt : Bytes → LabelSpan → Label
-labelAt s l = record { name = spanAt s (l .name); id = l .id }
+labelAt s l = record { name = spanAt s (l .name); id = l .id; required = l .required }
 
 abbrev pub labelRes : Bytes → Labelled → Res Label
 labelRes s (Labelled.Is l c) = ok (labelAt s l) (c .at)
@@ -95,11 +101,11 @@ movedOf (refuse n) = Moved.Refused n
 movedOf (ok a at) = Moved.To (record { at = at })
 
 -- the mark and the version take five bytes
-abbrev pub versionRes : VersionRead → Res Version
-versionRes (VersionRead.Is v) = ok v 5
-versionRes (VersionRead.Refused n) = refuse n
+abbrev pub editionRes : EditionRead → Res Edition
+editionRes (EditionRead.Is v) = ok v 5
+editionRes (EditionRead.Refused n) = refuse n
 
 -- the columns begin after the mark, the version and the count
 unfoldable pub layoutOf : Res Layout → LayoutRead
 layoutOf (refuse n) = LayoutRead.Refused n
-layoutOf (ok l at) = LayoutRead.Read (l .version) (countColumns (l .columns)) (record { at = 7 })
+layoutOf (ok l at) = LayoutRead.Read (l .edition) (countColumns (l .columns)) (record { at = 7 })

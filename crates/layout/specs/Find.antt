@@ -11,12 +11,14 @@ use Rattle.layout.specs.Answers.{labelAt, spanIn}
 use Rattle.layout.specs.declared.columns.FieldId.{FieldId}
 use Rattle.layout.specs.declared.columns.Position.{Position}
 use Rattle.layout.specs.declared.columns.Label.{Label as LabelSpan}
-use Rattle.layout.specs.declared.columns.Siblings.the-variants.{Free}
+use Rattle.layout.specs.declared.columns.Siblings.{Siblings}
+use Rattle.layout.specs.declared.columns.Siblings.the-variants.{Names, Ids, Free}
 use Rattle.layout.specs.declared.cursor.Cursor.{Cursor}
 use Rattle.layout.specs.declared.find.Wanted.{Wanted}
 use Rattle.layout.specs.declared.find.Found.{Found}
-use Rattle.layout.specs.declared.version.Version.{Version}
-use Rattle.layout.specs.declared.version.Version.the-variants.{ByName, ByNumber}
+use Rattle.layout.specs.declared.edition.Edition.{Edition}
+use Rattle.layout.specs.declared.matching.Matching.{Matching}
+use Rattle.layout.specs.declared.matching.Matching.the-variants.{ByName, ByNumber}
 
 -- a column's position, label and type
 pub data Lookup : Type 0 where
@@ -38,9 +40,14 @@ abbrev pub columnAt : Position → Columns → Lookup
 columnAt k = findFrom (λ i l. eqb i (k .0)) 0
 
 -- a label's counterpart: the column of the same name; by number, of the same id
-abbrev pub counterpart : Version → Label → Columns → Lookup
+abbrev pub counterpart : Matching → Label → Columns → Lookup
 counterpart ByName l cs = columnNamed (l .name) cs
 counterpart ByNumber l cs = columnOfId (l .id) cs
+
+-- what is compared
+abbrev pub matchRule : Matching → Siblings
+matchRule ByName = Names
+matchRule ByNumber = Ids
 
 -- what the code looks for; the name stands beside it
 abbrev pub wantedBy : Wanted → Bytes → Label → Bool
@@ -48,7 +55,7 @@ wantedBy Wanted.Name name l = sameBytes (l .name) name
 wantedBy (Wanted.Id id) name l = eqb (l .id .0) (id .0)
 
 -- the answer r is the column k with the label l, whose type t stands where r says
-pub record FoundAt (v : Version) (d : ℕ) (s : Bytes) (k : Position) (l : Label) (t : ColumnType) (r : Found) : Type 0 where
+pub record FoundAt (v : Edition) (d : ℕ) (s : Bytes) (k : Position) (l : Label) (t : ColumnType) (r : Found) : Type 0 where
   pub span : LabelSpan
   pub start : Cursor
   pub end : ℕ
@@ -58,6 +65,6 @@ pub record FoundAt (v : Version) (d : ℕ) (s : Bytes) (k : Position) (l : Label
   pub reads : type v Free d s (start .at) ≡ ok t end
 
 -- the answer r is what was looked up
-abbrev pub Finds : Version → ℕ → Bytes → Lookup → Found → Type 0
+abbrev pub Finds : Edition → ℕ → Bytes → Lookup → Found → Type 0
 Finds v d s absent r = r ≡ Found.Absent
 Finds v d s (at k l t) r = FoundAt v d s k l t r

@@ -1,6 +1,6 @@
--- Document 01, "Reading a layout" and "Layouts", and document 02, L1: bytes to a tree, or the number of the first refusal.
+-- Document 01, "Reading a layout" and "Layouts", and document 02, L1 and L5: bytes to a tree, or the number of the first refusal.
 -- Each parser refuses where the document has the test: 2 where the bytes end, 4 at a length over 63 or at a depth over 16,
--- 3 at an unknown code or unit, 5 once a sibling that repeats is read.
+-- 3 at an unknown code, unit or mark, 5 once a sibling that repeats is read.
 use Prim.Native.Nat.{ℕ, zero, suc, _+_, _*_}
 use mathlib.Core.List.{List, [], _∷_, _++_}
 use mathlib.Core.Bool.{Bool, true, false, not, _||_, _&&_}
@@ -19,8 +19,8 @@ use Rattle.numeric.specs.declared.floats.Format.{Format}
 use Rattle.numeric.specs.declared.floats.Format.the-variants.{Binary16, Binary32, Binary64}
 use Rattle.layout.specs.declared.types.PlainLeaf.{PlainLeaf}
 use Rattle.layout.specs.declared.types.PlainLeaf.the-variants.{Known, Unknown}
-use Rattle.layout.specs.declared.version.Version.{Version}
-use Rattle.layout.specs.declared.version.Version.the-variants.{ByName, ByNumber}
+use Rattle.layout.specs.declared.edition.Edition.{Edition}
+use Rattle.layout.specs.declared.edition.Edition.the-variants.{One, Two, Three}
 use Rattle.layout.specs.declared.columns.Siblings.{Siblings}
 use Rattle.layout.specs.declared.columns.Siblings.the-variants.{Names, Ids, Free}
 
@@ -140,20 +140,39 @@ kind = do
   c ← byte
   kindOf c
 
-unfoldable pub fieldId : Version → Parser ℕ
-fieldId ByName = pure 0
-fieldId ByNumber = u32
+unfoldable pub fieldId : Edition → Parser ℕ
+fieldId One = pure 0
+fieldId Two = u32
+fieldId Three = u32
 
-unfoldable pub label : Version → Parser Label
+-- L5: "version 2 with a u8 after each id: 0 optional, 1 required, other values 3"
+unfoldable pub requiredMark : Parser Bool
+requiredMark = do
+  m ← byte
+  if (eqb m 0) (pure false) (if (eqb m 1) (pure true) (fail 3))
+
+unfoldable pub fieldMark : Edition → Parser Bool
+fieldMark One = pure false
+fieldMark Two = pure false
+fieldMark Three = requiredMark
+
+-- what follows a label's name
+unfoldable pub labelRest : Edition → Bytes → Parser Label
+labelRest v n = do
+  i ← fieldId v
+  r ← fieldMark v
+  pure (record { name = n; id = record { 0 = i }; required = r })
+
+unfoldable pub label : Edition → Parser Label
 label v = do
   n ← text
-  i ← fieldId v
-  pure (record { name = n; id = record { 0 = i } })
+  labelRest v n
 
--- an element has a label in version 2 only
-unfoldable pub elementLabel : Version → Parser Label
-elementLabel ByName = pure (record { name = []; id = record { 0 = 0 } })
-elementLabel ByNumber = label ByNumber
+-- an element has a label from version 2 on
+unfoldable pub elementLabel : Edition → Parser Label
+elementLabel One = pure (record { name = []; id = record { 0 = 0 }; required = false })
+elementLabel Two = label Two
+elementLabel Three = label Three
 
 -- whether a label repeats another, under a rule
 abbrev pub repeats : Siblings → Label → Label → Bool
@@ -166,7 +185,7 @@ repeatsAny r l [] = false
 repeatsAny r l (m ∷ ms) = repeats r l m || repeatsAny r l ms
 
 -- n columns after the earlier labels, whose types p reads; 5 is tested once a column is read
-unfoldable pub columns : Version → Siblings → Parser ColumnType → ℕ → List Label → Parser Columns
+unfoldable pub columns : Edition → Siblings → Parser ColumnType → ℕ → List Label → Parser Columns
 columns v r p zero earlier = pure cnil
 columns v r p (suc n) earlier = do
   l ← label v
@@ -176,56 +195,59 @@ columns v r p (suc n) earlier = do
   pure (ccons l t cs)
 
 -- a list's element
-unfoldable pub listType : Version → Parser ColumnType → Parser ColumnType
+unfoldable pub listType : Edition → Parser ColumnType → Parser ColumnType
 listType v p = do
   l ← elementLabel v
   t ← p
   pure (clist l t)
 
-unfoldable pub arrayType : Version → ℕ → Parser ColumnType → Parser ColumnType
+unfoldable pub arrayType : Edition → ℕ → Parser ColumnType → Parser ColumnType
 arrayType v w p = do
   l ← elementLabel v
   t ← p
   pure (carray w l t)
 
-unfoldable pub structType : Version → Siblings → ℕ → Parser ColumnType → Parser ColumnType
+unfoldable pub structType : Edition → Siblings → ℕ → Parser ColumnType → Parser ColumnType
 structType v r n p = do
   cs ← columns v r p n []
   pure (cstruct cs)
 
 -- the rest of a type, whose inner types p reads
-unfoldable pub body : Version → Siblings → Parser ColumnType → Kind → Parser ColumnType
+unfoldable pub body : Edition → Siblings → Parser ColumnType → Kind → Parser ColumnType
 body v r p (aLeaf l) = pure (cleaf l)
 body v r p (aStruct n) = structType v r n p
 body v r p aList = listType v p
 body v r p (anArray w) = arrayType v w p
 
 -- a type of at most d levels, whose inner columns keep to the rule r; the depth is tested before the code is read
-unfoldable pub type : Version → Siblings → ℕ → Parser ColumnType
+unfoldable pub type : Edition → Siblings → ℕ → Parser ColumnType
 type v r zero = fail 4
 type v r (suc d) = do
   k ← kind
   body v r (type v r d) k
 
--- 5: version 1 tests names, of top columns only; version 2 tests ids, at all levels
-abbrev pub topRule : Version → Siblings
-topRule ByName = Names
-topRule ByNumber = Ids
+-- 5: version 1 tests names, of top columns only; versions 2 and 3 test ids, at all levels
+abbrev pub topRule : Edition → Siblings
+topRule One = Names
+topRule Two = Ids
+topRule Three = Ids
 
-abbrev pub innerRule : Version → Siblings
-innerRule ByName = Free
-innerRule ByNumber = Ids
+abbrev pub innerRule : Edition → Siblings
+innerRule One = Free
+innerRule Two = Ids
+innerRule Three = Ids
 
 -- `LAY` and a version
 abbrev pub mark : ℕ → Bytes
 mark v = 0x4C ∷ 0x41 ∷ 0x59 ∷ v ∷ 0 ∷ []
 
 -- 1 where the first five bytes are not a known mark and version
-unfoldable pub version : Parser Version
-version s at =
-    choose (sameBytes (take 5 s) (mark 1)) (ok ByName 5)
-    (choose (sameBytes (take 5 s) (mark 2)) (ok ByNumber 5)
-    (refuse 1))
+unfoldable pub edition : Parser Edition
+edition s at =
+    choose (sameBytes (take 5 s) (mark 1)) (ok One 5)
+    (choose (sameBytes (take 5 s) (mark 2)) (ok Two 5)
+    (choose (sameBytes (take 5 s) (mark 3)) (ok Three 5)
+    (refuse 1)))
 
 -- 4 where there are over 16,384 bytes
 unfoldable pub sized : Parser (Unit {0})
@@ -240,17 +262,17 @@ abbrev pub deepest : ℕ
 deepest = 16
 
 -- the count, the columns and the end
-unfoldable pub counted : Version → Parser Layout
+unfoldable pub counted : Edition → Parser Layout
 counted v = do
   n ← u16
   cs ← columns v (topRule v) (type v (innerRule v) deepest) n []
   ended
-  pure (record { version = v; columns = cs })
+  pure (record { edition = v; columns = cs })
 
 unfoldable pub layoutFrom : Parser Layout
 layoutFrom = do
   sized
-  v ← version
+  v ← edition
   counted v
 
 -- reading a layout

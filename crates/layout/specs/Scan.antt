@@ -5,7 +5,7 @@ use mathlib.Core.Bool.{Bool, true, false, _||_}
 use Rattle.layout.specs.Parser.{Res, refuse, ok}
 use Rattle.layout.specs.Tree.{Label}
 use Rattle.layout.specs.Layout.{label, type, repeats}
-use Rattle.layout.specs.declared.version.Version.{Version}
+use Rattle.layout.specs.declared.edition.Edition.{Edition}
 use Rattle.layout.specs.declared.columns.Siblings.{Siblings}
 
 abbrev pub found : {A : Type 0} → Res A → (A → ℕ → Bool) → Bool
@@ -13,7 +13,7 @@ found (refuse n) k = false
 found (ok a at) k = k a at
 
 -- whether one of n columns repeats the label
-unfoldable pub scan : Version → Siblings → ℕ → Label → ℕ → List ℕ → ℕ → Bool
+unfoldable pub scan : Edition → Siblings → ℕ → Label → ℕ → List ℕ → ℕ → Bool
 scan v r d l zero s at = false
 scan v r d l (suc n) s at =
     found (label v s at) (λ m at′. repeats r l m || found (type v Siblings.Free d s at′) (λ t at″. scan v r d l n s at″))

@@ -9,7 +9,7 @@ use lib.Bits.{bitOr}
 use Rattle.layout.specs.Bytes.{Bytes}
 use Rattle.layout.specs.Tree.{Label}
 use Rattle.layout.specs.Scan.{scan}
-use Rattle.layout.specs.declared.version.Version.{Version}
+use Rattle.layout.specs.declared.edition.Edition.{Edition}
 use Rattle.layout.specs.declared.columns.Siblings.{Siblings}
 use Rattle.layout.specs.declared.columns.Siblings.the-variants.{Names, Ids, Free}
 
@@ -44,5 +44,5 @@ pub record Keeps (t u : List ℕ) : Type 0 where
   pub kept : (h : ℕ) → Marked t h → Marked u h
 
 -- a label that one of n columns repeats is marked
-pub record Noted (v : Version) (r : Siblings) (d : ℕ) (l : Label) (n : ℕ) (s : Bytes) (from : ℕ) (t : List ℕ) : Type 0 where
+pub record Noted (v : Edition) (r : Siblings) (d : ℕ) (l : Label) (n : ℕ) (s : Bytes) (from : ℕ) (t : List ℕ) : Type 0 where
   pub noted : scan v r d l n s from ≡ true → Marked t (labelHash r from l)

@@ -1,6 +1,7 @@
--- Document 01, "Layouts", and document 02, L1: types and layouts as trees. antt has no nested recursion, so lists of columns are data types of their own.
+-- Document 01, "Layouts", and document 02, L1 and L5: types and layouts as trees. antt has no nested recursion, so lists of columns are data types of their own.
 use Prim.Native.Nat.{ℕ, zero, suc}
 use mathlib.Core.List.{List, []}
+use mathlib.Core.Bool.{Bool}
 use Rattle.layout.specs.Bytes.{Bytes}
 use Rattle.layout.specs.declared.leaf.TimeUnit.{TimeUnit}
 use Rattle.layout.specs.declared.leaf.Leaf.{Leaf}
@@ -8,7 +9,7 @@ use Rattle.layout.specs.declared.leaf.Decimal.{Decimal}
 use Rattle.numeric.specs.declared.integers.Integer.{Integer}
 use Rattle.numeric.specs.declared.floats.Format.{Format}
 use Rattle.layout.specs.declared.columns.FieldId.{FieldId}
-use Rattle.layout.specs.declared.version.Version.{Version}
+use Rattle.layout.specs.declared.edition.Edition.{Edition}
 
 -- a leaf type: its kind, and of a date-time also the zone (empty: no zone)
 pub data LeafType : Type 0 where
@@ -57,12 +58,14 @@ zoneOf binary = []
 zoneOf categorical = []
 zoneOf (decimal d) = []
 
--- what stands before a column's type: its name and, in version 2, its id (0 in version 1)
+-- What stands before a column's type: its name, from version 2 on its id (0 in version 1), and in version 3 whether it is required.
+-- L5: "Older columns count as optional".
 pub record Label : Type 0 where
   pub name : Bytes
   pub id : FieldId
+  pub required : Bool
 
--- A type as a layout has it. A list's or array's element is a column in version 2; in version 1 its label is empty.
+-- A type as a layout has it. A list's or array's element is a column from version 2 on; in version 1 its label is empty.
 mutual
   pub data ColumnType : Type 0 where
     cleaf : LeafType → ColumnType
@@ -75,14 +78,14 @@ mutual
     ccons : Label → ColumnType → Columns → Columns
 
 pub record Layout : Type 0 where
-  pub version : Version
+  pub edition : Edition
   pub columns : Columns
 
 unfoldable pub countColumns : Columns → ℕ
 countColumns cnil = 0
 countColumns (ccons l t cs) = suc (countColumns cs)
 
--- A type with ids and element names dropped, as `to_polars_dtype` drops them: what plans hold, and what check and run compare.
+-- A type with ids, required marks and element names dropped, as `to_polars_dtype` drops them: what plans hold, and what check and run compare.
 mutual
   pub data DataType : Type 0 where
     leaf : LeafType → DataType

@@ -1,15 +1,17 @@
-// What stands before a column's type: its name and, in version 2, its id.
+// What stands before a column's type: its name, from version 2 on its id, and in version 3 whether it is required.
 ghost use mathlib.Core.Path.{_≡_};
 ghost use Prim.Native.Nat.{_+_, _≤_};
 ghost use lib.ListN.{length};
-ghost use Rattle.layout.specs.Layout.{label, elementLabel, repeats};
-ghost use Rattle.layout.specs.Answers.{labelRes, labelIn, labelAt};
+ghost use Rattle.layout.specs.Layout.{requiredMark, labelRest, label, elementLabel, repeats};
+ghost use Rattle.layout.specs.Answers.{markRes, labelRes, labelIn, labelAt, spanAt, spanIn};
+ghost use Rattle.layout.specs.declared.edition.Edition.{Edition as EditionOf};
 use crate::bytes::Span;
 use crate::bytes::same_bytes;
 use crate::cursor::Cursor;
 use crate::cursor::Long;
+use crate::cursor::Step;
 use crate::cursor::Text;
-use crate::version::Version;
+use crate::edition::Edition;
 
 // A field's id and a position among siblings are separate kinds of quantity: a lookup by id can't be given an index.
 pub struct FieldId(pub u32);
@@ -23,10 +25,16 @@ pub enum Siblings {
     Free,
 }
 
-// Where the name stands, and the id (0 in version 1).
+// Where the name stands, the id (0 in version 1), and whether the column is required (never before version 3).
 pub struct Label {
     pub name: Span,
     pub id: FieldId,
+    pub required: bool,
+}
+
+pub enum MarkRead {
+    Is(bool, Cursor),
+    Refused(u8),
 }
 
 pub enum Labelled {
@@ -35,48 +43,85 @@ pub enum Labelled {
 }
 
 impl Cursor {
-    pub fn label(self, s: &[u8], v: Version) -> Labelled
+    // A column's mark: 0 optional, 1 required.
+    pub fn required_mark(self, s: &[u8]) -> MarkRead
+        ensures { λ r. ⌜ markRes r ≡ requiredMark (now (s .entry)) (self .at) ⌝ }
+    {
+        match self.byte(s) {
+            Step::Byte(m, c) => match m {
+                0 => MarkRead::Is(false, c),
+                1 => MarkRead::Is(true, c),
+                _ => MarkRead::Refused(3),
+            },
+            Step::Refused(k) => MarkRead::Refused(k),
+        }
+    }
+
+    // What follows a label's name in version 3.
+    fn marked_label(self, s: &[u8], name: Span) -> Labelled
+        requires { ⌜ spanIn (now s) name ⌝ }
+        ensures { λ r. ⌜ labelRes (now (s .entry)) r ≡ labelRest EditionOf.Three (spanAt (now (s .entry)) name) (now (s .entry)) (self .at) ⌝ }
+        ensures { λ r. ⌜ labelIn (now (s .entry)) r ⌝ }
+    {
+        match self.long(s) {
+            Long::Is(i, c) => match c.required_mark(s) {
+                MarkRead::Is(required, d) => {
+                    let id = FieldId(i);
+                    Labelled::Is(Label { name, id, required }, d)
+                }
+                MarkRead::Refused(k) => Labelled::Refused(k),
+            },
+            Long::Refused(k) => Labelled::Refused(k),
+        }
+    }
+
+    pub fn label(self, s: &[u8], v: Edition) -> Labelled
         ensures { λ r. ⌜ labelRes (now (s .entry)) r ≡ label v (now (s .entry)) (self .at) ⌝ }
         ensures { λ r. ⌜ labelIn (now (s .entry)) r ⌝ }
     {
         match self.text(s) {
             Text::Is(name, next) => match v {
-                Version::ByName => Labelled::Is(
+                Edition::One => Labelled::Is(
                     Label {
                         name,
                         id: FieldId(0),
+                        required: false,
                     },
                     next,
                 ),
-                Version::ByNumber => match next.long(s) {
+                Edition::Two => match next.long(s) {
                     Long::Is(i, d) => Labelled::Is(
                         Label {
                             name,
                             id: FieldId(i),
+                            required: false,
                         },
                         d,
                     ),
                     Long::Refused(k) => Labelled::Refused(k),
                 },
+                Edition::Three => next.marked_label(s, name),
             },
             Text::Refused(k) => Labelled::Refused(k),
         }
     }
 
     // An element's label: nothing stands for it in version 1.
-    pub fn element_label(self, s: &[u8], v: Version) -> Labelled
+    pub fn element_label(self, s: &[u8], v: Edition) -> Labelled
         ensures { λ r. ⌜ labelRes (now (s .entry)) r ≡ elementLabel v (now (s .entry)) (self .at) ⌝ }
         ensures { λ r. ⌜ labelIn (now (s .entry)) r ⌝ }
     {
         match v {
-            Version::ByName => Labelled::Is(
+            Edition::One => Labelled::Is(
                 Label {
                     name: Span { start: 0, len: 0 },
                     id: FieldId(0),
+                    required: false,
                 },
                 self,
             ),
-            Version::ByNumber => self.label(s, v),
+            Edition::Two => self.label(s, v),
+            Edition::Three => self.label(s, v),
         }
     }
 }

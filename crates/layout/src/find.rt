@@ -10,9 +10,10 @@ use crate::columns::Labelled;
 use crate::columns::Position;
 use crate::cursor::Cursor;
 use crate::cursor::Moved;
+use crate::edition::Edition;
+use crate::matching::Matching;
 use crate::pass::pass_columns;
 use crate::pass::pass_type;
-use crate::version::Version;
 
 pub enum Found {
     At(Position, Label, Cursor),
@@ -41,7 +42,7 @@ fn is_wanted(s: &[u8], wanted: Wanted, name: &[u8], l: Label) -> bool
 // The first of `n` columns from a cursor that is wanted.
 pub fn find_column(
     s: &[u8],
-    v: Version,
+    v: Edition,
     depth: u8,
     n: u16,
     c: Cursor,
@@ -74,14 +75,14 @@ pub fn find_column(
     Found::Absent
 }
 
-pub fn column_named(s: &[u8], v: Version, depth: u8, n: u16, c: Cursor, name: &[u8]) -> Found
+pub fn column_named(s: &[u8], v: Edition, depth: u8, n: u16, c: Cursor, name: &[u8]) -> Found
     requires { ⌜ ColumnsAt v depth (now s) n (c .at) ⌝ }
     ensures { λ r. ⌜ ((P : ColumnsAt v depth (now (s .entry)) n (c .at)) → Finds v depth (now (s .entry)) (columnNamed (now (name .entry)) (P .columns)) r) ⌝ }
 {
     find_column(s, v, depth, n, c, Wanted::Name, name)
 }
 
-pub fn column_of_id(s: &[u8], v: Version, depth: u8, n: u16, c: Cursor, id: FieldId) -> Found
+pub fn column_of_id(s: &[u8], v: Edition, depth: u8, n: u16, c: Cursor, id: FieldId) -> Found
     requires { ⌜ ColumnsAt v depth (now s) n (c .at) ⌝ }
     ensures { λ r. ⌜ ((P : ColumnsAt v depth (now (s .entry)) n (c .at)) → Finds v depth (now (s .entry)) (columnOfId id (P .columns)) r) ⌝ }
 {
@@ -91,7 +92,8 @@ pub fn column_of_id(s: &[u8], v: Version, depth: u8, n: u16, c: Cursor, id: Fiel
 // Among `n` columns, the one of the name of the label `l`, which stands in `t`; by number, of its id.
 pub fn find_counterpart(
     s: &[u8],
-    v: Version,
+    v: Edition,
+    how: Matching,
     depth: u8,
     n: u16,
     c: Cursor,
@@ -100,18 +102,18 @@ pub fn find_counterpart(
 ) -> Found
     requires { ⌜ ColumnsAt v depth (now s) n (c .at) ⌝ }
     requires { ⌜ spanIn (now t) (l .name) ⌝ }
-    ensures { λ r. ⌜ ((P : ColumnsAt v depth (now (s .entry)) n (c .at)) → Finds v depth (now (s .entry)) (counterpart v (labelAt (now (t .entry)) l) (P .columns)) r) ⌝ }
+    ensures { λ r. ⌜ ((P : ColumnsAt v depth (now (s .entry)) n (c .at)) → Finds v depth (now (s .entry)) (counterpart how (labelAt (now (t .entry)) l) (P .columns)) r) ⌝ }
 {
-    match v {
-        Version::ByName => {
+    match how {
+        Matching::ByName => {
             let a = l.name.start;
             column_named(s, v, depth, n, c, &t[a..a + l.name.len])
         }
-        Version::ByNumber => column_of_id(s, v, depth, n, c, l.id),
+        Matching::ByNumber => column_of_id(s, v, depth, n, c, l.id),
     }
 }
 
-pub fn column_at(s: &[u8], v: Version, depth: u8, n: u16, c: Cursor, k: Position) -> Found
+pub fn column_at(s: &[u8], v: Edition, depth: u8, n: u16, c: Cursor, k: Position) -> Found
     requires { ⌜ ColumnsAt v depth (now s) n (c .at) ⌝ }
     ensures { λ r. ⌜ ((P : ColumnsAt v depth (now (s .entry)) n (c .at)) → Finds v depth (now (s .entry)) (columnAt k (P .columns)) r) ⌝ }
 {

@@ -2,11 +2,12 @@
 pub mod bytes;
 pub mod columns;
 pub mod cursor;
+pub mod edition;
 pub mod find;
 pub mod leaf;
+pub mod matching;
 pub mod pass;
 pub mod read;
 pub mod seen;
 pub mod types;
-pub mod version;
 pub mod walk;

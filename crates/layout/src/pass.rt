@@ -2,21 +2,22 @@
 ghost use mathlib.Core.Path.{_≡_};
 ghost use mathlib.Core.List.{[]};
 ghost use Rattle.layout.specs.Parser.{u32};
-ghost use Rattle.layout.specs.Layout.{label, plainLeaf, datetimeKind, decimalKind, listType, columns, type};
+ghost use Rattle.layout.specs.Layout.{label, elementLabel, plainLeaf, datetimeKind, decimalKind, listType, columns, type};
 ghost use Rattle.layout.specs.Pass.{typeRest};
 ghost use Rattle.layout.specs.Answers.{movedOf};
 ghost use Rattle.layout.specs.declared.columns.Siblings.{Siblings};
 ghost use Rattle.layout.specs.declared.types.PlainLeaf.{PlainLeaf as PlainLeafOf};
+use crate::columns::MarkRead;
 use crate::cursor::Cursor;
 use crate::cursor::Moved;
 use crate::cursor::Short;
 use crate::cursor::Step;
 use crate::cursor::Text;
+use crate::edition::Edition;
 use crate::types::DecimalRead;
 use crate::types::PlainLeaf;
 use crate::types::Unit;
 use crate::types::plain_leaf;
-use crate::version::Version;
 
 // Four bytes.
 pub fn pass_long(s: &[u8], c: Cursor) -> Moved
@@ -33,15 +34,33 @@ pub fn pass_long(s: &[u8], c: Cursor) -> Moved
     }
 }
 
-pub fn pass_label(s: &[u8], v: Version, c: Cursor) -> Moved
+pub fn pass_label(s: &[u8], v: Edition, c: Cursor) -> Moved
     ensures { λ r. ⌜ r ≡ movedOf (label v (now (s .entry)) (c .at)) ⌝ }
 {
     match c.text(s) {
         Text::Is(_, d) => match v {
-            Version::ByName => Moved::To(d),
-            Version::ByNumber => pass_long(s, d),
+            Edition::One => Moved::To(d),
+            Edition::Two => pass_long(s, d),
+            Edition::Three => match pass_long(s, d) {
+                Moved::To(e) => match e.required_mark(s) {
+                    MarkRead::Is(_, next) => Moved::To(next),
+                    MarkRead::Refused(k) => Moved::Refused(k),
+                },
+                Moved::Refused(k) => Moved::Refused(k),
+            },
         },
         Text::Refused(k) => Moved::Refused(k),
+    }
+}
+
+// An element's label: nothing stands for it in version 1.
+pub fn pass_element_label(s: &[u8], v: Edition, c: Cursor) -> Moved
+    ensures { λ r. ⌜ r ≡ movedOf (elementLabel v (now (s .entry)) (c .at)) ⌝ }
+{
+    match v {
+        Edition::One => Moved::To(c),
+        Edition::Two => pass_label(s, v, c),
+        Edition::Three => pass_label(s, v, c),
     }
 }
 
@@ -69,7 +88,7 @@ pub fn pass_decimal(s: &[u8], c: Cursor) -> Moved
 }
 
 // A type of at most `depth` levels. Most are a code alone.
-pub fn pass_type(s: &[u8], v: Version, depth: u8, c: Cursor) -> Moved
+pub fn pass_type(s: &[u8], v: Edition, depth: u8, c: Cursor) -> Moved
     ensures { λ r. ⌜ r ≡ movedOf (type v Siblings.Free depth (now (s .entry)) (c .at)) ⌝ }
 {
     if depth == 0 {
@@ -85,7 +104,7 @@ pub fn pass_type(s: &[u8], v: Version, depth: u8, c: Cursor) -> Moved
 }
 
 // What follows a code that is not a whole type; the types inside have at most `depth` levels.
-fn pass_rest(s: &[u8], v: Version, depth: u8, code: u8, c: Cursor) -> Moved
+fn pass_rest(s: &[u8], v: Edition, depth: u8, code: u8, c: Cursor) -> Moved
     requires { ⌜ plainLeaf code ≡ PlainLeafOf.Unknown ⌝ }
     ensures { λ r. ⌜ r ≡ movedOf (typeRest v Siblings.Free depth code (now (s .entry)) (c .at)) ⌝ }
 {
@@ -106,20 +125,17 @@ fn pass_rest(s: &[u8], v: Version, depth: u8, code: u8, c: Cursor) -> Moved
 }
 
 // The element of a list or an array.
-fn pass_element(s: &[u8], v: Version, depth: u8, c: Cursor) -> Moved
+fn pass_element(s: &[u8], v: Edition, depth: u8, c: Cursor) -> Moved
     ensures { λ r. ⌜ r ≡ movedOf (listType v (type v Siblings.Free depth) (now (s .entry)) (c .at)) ⌝ }
 {
-    match v {
-        Version::ByName => pass_type(s, v, depth, c),
-        Version::ByNumber => match pass_label(s, v, c) {
-            Moved::To(d) => pass_type(s, v, depth, d),
-            Moved::Refused(k) => Moved::Refused(k),
-        },
+    match pass_element_label(s, v, c) {
+        Moved::To(d) => pass_type(s, v, depth, d),
+        Moved::Refused(k) => Moved::Refused(k),
     }
 }
 
 // `n` columns, whose types have at most `depth` levels.
-pub fn pass_columns(s: &[u8], v: Version, depth: u8, n: u16, c: Cursor) -> Moved
+pub fn pass_columns(s: &[u8], v: Edition, depth: u8, n: u16, c: Cursor) -> Moved
     ensures { λ r. ⌜ r ≡ movedOf (columns v Siblings.Free (type v Siblings.Free depth) n [] (now (s .entry)) (c .at)) ⌝ }
 {
     let mut at = c.at;

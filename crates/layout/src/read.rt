@@ -17,25 +17,25 @@ use crate::cursor::Cursor;
 use crate::cursor::Moved;
 use crate::cursor::Short;
 use crate::cursor::Step;
+use crate::edition::Edition;
+use crate::edition::EditionRead;
+use crate::edition::inner_rule;
+use crate::edition::read_edition;
+use crate::edition::top_rule;
 use crate::pass::pass_datetime;
 use crate::pass::pass_decimal;
-use crate::pass::pass_label;
+use crate::pass::pass_element_label;
 use crate::pass::pass_long;
 use crate::pass::pass_type;
 use crate::seen::label_hash;
 use crate::seen::mark;
 use crate::types::PlainLeaf;
 use crate::types::plain_leaf;
-use crate::version::Version;
-use crate::version::VersionRead;
-use crate::version::inner_rule;
-use crate::version::read_version;
-use crate::version::top_rule;
 
 // A layout's version, its number of columns and where they begin.
 pub enum LayoutRead {
     Read {
-        version: Version,
+        edition: Edition,
         count: u16,
         columns: Cursor,
     },
@@ -45,7 +45,7 @@ pub enum LayoutRead {
 // One type of at most `depth` levels, whose inner columns keep to the rule. `seen` is the table of the labels that may have been read.
 fn read_type(
     s: &[u8],
-    v: Version,
+    v: Edition,
     rule: Siblings,
     depth: u8,
     c: Cursor,
@@ -73,7 +73,7 @@ fn read_type(
 // What follows a code that is not a whole type; the types inside have at most `depth` levels.
 fn read_rest(
     s: &[u8],
-    v: Version,
+    v: Edition,
     rule: Siblings,
     depth: u8,
     code: u8,
@@ -104,7 +104,7 @@ fn read_rest(
 // The element of a list or an array.
 fn read_element(
     s: &[u8],
-    v: Version,
+    v: Edition,
     rule: Siblings,
     depth: u8,
     c: Cursor,
@@ -114,19 +114,16 @@ fn read_element(
     ensures { λ r. ⌜ r ≡ movedOf (listType v (type v rule depth) (now (s .entry)) (c .at)) ⌝ }
     ensures { λ _. ⌜ Keeps (now (seen .entry)) (now (seen .exit)) ⌝ }
 {
-    match v {
-        Version::ByName => read_type(s, v, rule, depth, c, seen),
-        Version::ByNumber => match pass_label(s, v, c) {
-            Moved::To(d) => read_type(s, v, rule, depth, d, seen),
-            Moved::Refused(k) => Moved::Refused(k),
-        },
+    match pass_element_label(s, v, c) {
+        Moved::To(d) => read_type(s, v, rule, depth, d, seen),
+        Moved::Refused(k) => Moved::Refused(k),
     }
 }
 
 // `n` columns that keep to a rule among themselves, and to another inside their types.
 pub fn read_columns(
     s: &[u8],
-    v: Version,
+    v: Edition,
     rule: Siblings,
     inner: Siblings,
     depth: u8,
@@ -162,7 +159,7 @@ pub fn read_columns(
 // Whether one of the `n` columns from a cursor repeats a label, which is marked. They are scanned only where it may be marked already.
 fn is_repeated(
     s: &[u8],
-    v: Version,
+    v: Edition,
     rule: Siblings,
     depth: u8,
     n: u16,
@@ -187,7 +184,7 @@ fn is_repeated(
 
 // Whether one of the `n` columns from a cursor repeats a label. Their types are passed over with no such test inside, else the
 // work would be exponential in the depth.
-fn repeats(s: &[u8], v: Version, rule: Siblings, depth: u8, n: u16, c: Cursor, l: Label) -> bool
+fn repeats(s: &[u8], v: Edition, rule: Siblings, depth: u8, n: u16, c: Cursor, l: Label) -> bool
     requires { ⌜ l .name .start + l .name .len ≤ length (now s) ⌝ }
     ensures { λ r. ⌜ r ≡ scan v rule depth (labelAt (now (s .entry)) l) n (now (s .entry)) (c .at) ⌝ }
 {
@@ -218,7 +215,7 @@ fn repeats(s: &[u8], v: Version, rule: Siblings, depth: u8, n: u16, c: Cursor, l
 }
 
 // The count and the columns of a layout, which begin after its version, to the end.
-fn read_counted(s: &[u8], v: Version) -> LayoutRead
+fn read_counted(s: &[u8], v: Edition) -> LayoutRead
     ensures { λ r. ⌜ r ≡ layoutOf (counted v (now (s .entry)) 5) ⌝ }
 {
     let mut seen = [0u64; 512];
@@ -230,7 +227,7 @@ fn read_counted(s: &[u8], v: Version) -> LayoutRead
             Moved::To(e) => {
                 if e.at == s.len() {
                     LayoutRead::Read {
-                        version: v,
+                        edition: v,
                         count: n,
                         columns: Cursor { at: 7 },
                     }
@@ -250,8 +247,8 @@ pub fn read_layout(s: &[u8]) -> LayoutRead
     if 16384 < s.len() {
         return LayoutRead::Refused(4);
     }
-    match read_version(s) {
-        VersionRead::Is(v) => read_counted(s, v),
-        VersionRead::Refused(k) => LayoutRead::Refused(k),
+    match read_edition(s) {
+        EditionRead::Is(v) => read_counted(s, v),
+        EditionRead::Refused(k) => LayoutRead::Refused(k),
     }
 }

@@ -3,11 +3,11 @@ ghost use mathlib.Core.Path.{_≡_};
 ghost use Rattle.layout.specs.Stands.{TypeAt};
 use crate::cursor::Cursor;
 use crate::cursor::Moved;
+use crate::edition::Edition;
 use crate::pass::pass_type;
-use crate::version::Version;
 
 // The end of a type, without the tests for repeated siblings that reading makes.
-pub fn skip_type(s: &[u8], v: Version, depth: u8, c: Cursor) -> Cursor
+pub fn skip_type(s: &[u8], v: Edition, depth: u8, c: Cursor) -> Cursor
     requires { ⌜ TypeAt v depth (now s) (c .at) ⌝ }
     ensures { λ r. ⌜ ((P : TypeAt v depth (now (s .entry)) (c .at)) → r .at ≡ P .end) ⌝ }
 {

@@ -7,13 +7,13 @@ use Rattle.layout.specs.Parser.{Parser}
 use Rattle.layout.specs.Tree.{Label, ColumnType}
 use Rattle.layout.specs.Layout.{Kind, aLeaf, aStruct, aList, anArray, label, kind, body, structType, listType, arrayType, elementLabel, columns, type, deepest}
 use Rattle.layout.specs.Stands.{TypeAt, ColumnsAt}
-use Rattle.layout.specs.declared.version.Version.{Version}
+use Rattle.layout.specs.declared.edition.Edition.{Edition}
 use Rattle.layout.specs.declared.columns.Siblings.{Siblings}
 use Rattle.layout.specs.declared.columns.Siblings.the-variants.{Free}
 use Rattle.layout.proofs.Ways.{clash}
 use Rattle.layout.proofs.FreeRule.{Within, next-within, same}
 
-module _ (v : Version) (r : Siblings) (s : Bytes) where
+module _ (v : Edition) (r : Siblings) (s : Bytes) where
   -- where q reads all that p reads
   module _ (p q : Parser ColumnType) (w : (at : ℕ) → Within (p s at) (q s at)) where
     pub columns-within : (n : ℕ) (earlier : List Label) (at : ℕ) → Within (columns v r p n earlier s at) (columns v r q n earlier s at)
@@ -40,8 +40,8 @@ module _ (v : Version) (r : Siblings) (s : Bytes) where
   columns-deeper d e h = columns-within (type v r d) (type v r e) (type-deeper d e h)
 
 -- the same tree and the same end
-unfoldable pub deeper-type : {v : Version} {d : ℕ} {s : Bytes} {at : ℕ} → d ≤ deepest → TypeAt v d s at → TypeAt v deepest s at
+unfoldable pub deeper-type : {v : Edition} {d : ℕ} {s : Bytes} {at : ℕ} → d ≤ deepest → TypeAt v d s at → TypeAt v deepest s at
 deeper-type {v} {d} {s} {at} h P = record { tree = P .tree; end = P .end; reads = type-deeper v Free s d deepest h at _ _ (P .reads) }
 
-unfoldable pub deeper-columns : {v : Version} {d : ℕ} {s : Bytes} {n at : ℕ} → d ≤ deepest → ColumnsAt v d s n at → ColumnsAt v deepest s n at
+unfoldable pub deeper-columns : {v : Edition} {d : ℕ} {s : Bytes} {n at : ℕ} → d ≤ deepest → ColumnsAt v d s n at → ColumnsAt v deepest s n at
 deeper-columns {v} {d} {s} {n} {at} h P = record { columns = P .columns; end = P .end; reads = columns-deeper v Free s d deepest h n [] at _ _ (P .reads) }

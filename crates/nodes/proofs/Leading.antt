@@ -23,7 +23,7 @@ use Rattle.layout.specs.declared.cursor.Cursor.{Cursor}
 use Rattle.layout.specs.declared.find.Found.{Found}
 use Rattle.layout.specs.declared.types.Head.{Head}
 use Rattle.layout.specs.declared.types.LeafType.{LeafType as LeafSpan}
-use Rattle.layout.specs.declared.version.Version.{Version}
+use Rattle.layout.specs.declared.edition.Edition.{Edition}
 use Rattle.layout.proofs.Ways.{clash}
 use Rattle.layout.proofs.View.{leaf-at, struct-at, list-at, array-at}
 use Rattle.plan.specs.Result.{gives}
@@ -80,7 +80,7 @@ placed (suc k) m i (ccons l t cs) h e =
     let z : eqb i m ≡ false = ne-eqb i m (λ q. omega arith) in
     record { label = P .label; type = P .type; found = rw z (P .found); is = P .is }
 
-record FieldAt (v : Version) (s : Bytes) (r : Found) (t : DataType) : Type 0 where
+record FieldAt (v : Edition) (s : Bytes) (r : Found) (t : DataType) : Type 0 where
   pub position : Position
   pub span : LabelSpan
   pub start : Cursor
@@ -89,12 +89,12 @@ record FieldAt (v : Version) (s : Bytes) (r : Found) (t : DataType) : Type 0 whe
   pub is : dtypeOf (type .tree) ≡ t
 
 -- the field that a path takes
-record Taken (v : Version) (s : Bytes) (r : Found) (p : List ℕ) (u : DataType) : Type 0 where
+record Taken (v : Edition) (s : Bytes) (r : Found) (p : List ℕ) (u : DataType) : Type 0 where
   pub type : DataType
   pub field : FieldAt v s r type
   pub along : Along type p u
 
-found-at : {v : Version} {s : Bytes} {r : Found} (k : Position) (l : Label) (t : ColumnType) → FoundAt v 15 s k l t r → FieldAt v s r (dtypeOf t)
+found-at : {v : Edition} {s : Bytes} {r : Found} (k : Position) (l : Label) (t : ColumnType) → FoundAt v 15 s k l t r → FieldAt v s r (dtypeOf t)
 unfolding deeper-type
 found-at {v} {s} {r} k l t F = record {
   position = k;
@@ -105,7 +105,7 @@ found-at {v} {s} {r} k l t F = record {
   is = refl;
 }
 
-module _ (v : Version) (s : Bytes) (c k : ℕ) (p : List ℕ) (u : DataType) (L : LeadsAt v s c (k ∷ p) u) {h : Head} (e : headRes s h ≡ kind s c) where
+module _ (v : Edition) (s : Bytes) (c k : ℕ) (p : List ℕ) (u : DataType) (L : LeadsAt v s c (k ∷ p) u) {h : Head} (e : headRes s h ≡ kind s c) where
   pub leads-leaf : {B : Type 0} {l : LeafSpan} {d : Cursor} → h ≡ Head.Leaf l d → B
   unfolding dtypeOf
   leads-leaf f = along-leaf (ap dtypeOf (leaf-at (L .type) e f .0)) (L .along)
@@ -152,14 +152,14 @@ module _ (v : Version) (s : Bytes) (c k : ℕ) (p : List ℕ) (u : DataType) (L 
 
 -- ---- the loop: after the numbers before i
 
-pub record Leading (v : Version) (s : Bytes) (c : ℕ) (path : List ℕ) (from len o i : ℕ) : Type 0 where
+pub record Leading (v : Edition) (s : Bytes) (c : ℕ) (path : List ℕ) (from len o i : ℕ) : Type 0 where
   pub within : i ≤ len
   pub leads : (u : DataType) → LeadsAt v s c (slice from len path) u → LeadsAt v s o (slice i len path) u
 
-pub leading-start : {v : Version} {s : Bytes} {c : ℕ} {path : List ℕ} {from len : ℕ} → from ≤ len → Leading v s c path from len c from
+pub leading-start : {v : Edition} {s : Bytes} {c : ℕ} {path : List ℕ} {from len : ℕ} → from ≤ len → Leading v s c path from len c from
 leading-start h = record { within = h; leads = λ u L. L }
 
-module _ {v : Version} {s : Bytes} {c : ℕ} {path : List ℕ} {from len o i : ℕ} (a : Leading v s c path from len o i) where
+module _ {v : Edition} {s : Bytes} {c : ℕ} {path : List ℕ} {from len o i : ℕ} (a : Leading v s c path from len o i) where
   pub leading-end : len ≤ i → (u : DataType) → LeadsAt v s c (slice from len path) u → TypeIs v s o u
   leading-end h u L =
       let M = a .leads u L in

@@ -17,7 +17,7 @@ use Rattle.layout.specs.declared.types.LeafType.{LeafType as LeafSpan}
 use Rattle.layout.specs.declared.columns.Label.{Label as LabelSpan}
 use Rattle.layout.specs.declared.columns.Labelled.{Labelled}
 use Rattle.layout.specs.declared.columns.Siblings.the-variants.{Free}
-use Rattle.layout.specs.declared.version.Version.{Version}
+use Rattle.layout.specs.declared.edition.Edition.{Edition}
 use Rattle.layout.proofs.Ways.{clash}
 use Rattle.layout.proofs.View.{next-ok, label-got, label-none, leaf-at, struct-at, list-at, array-at}
 use Rattle.values.specs.Value.{Value, vnull, vnumber, vtext, Values}
@@ -39,7 +39,7 @@ use Rattle.nodes.proofs.Deeper.{deeper-type, deeper-columns}
 use Rattle.nodes.proofs.Rows.{first-of, split-of, count-row, past-values, element-of, count-each}
 
 -- the same place under another name
-pub raw-moved : {v : Version} {lay : Bytes} {t u : ℕ} {rec : Bytes} {c d : ℕ} → t ≡ u → c ≡ d → {x : Value} → NodeIs v lay t rec c x → NodeIs v lay u rec d x
+pub raw-moved : {v : Edition} {lay : Bytes} {t u : ℕ} {rec : Bytes} {c d : ℕ} → t ≡ u → c ≡ d → {x : Value} → NodeIs v lay t rec c x → NodeIs v lay u rec d x
 raw-moved {v} {lay} {t} {u} {rec} {c} {d} e f N = record {
   raw = record {
     type = record { tree = N .raw .type .tree; end = N .raw .type .end; reads = ap (λ (o : ℕ). type v Free deepest lay o) (sym e) ∙ N .raw .type .reads };
@@ -50,25 +50,25 @@ raw-moved {v} {lay} {t} {u} {rec} {c} {d} e f N = record {
 
 -- ---- the two answers
 
-pub nowhere : {v : Version} {lay rec : Bytes} {x : Value} → x ≡ vnull → NodeOf v lay rec x NodeAt.Null
+pub nowhere : {v : Edition} {lay rec : Bytes} {x : Value} → x ≡ vnull → NodeOf v lay rec x NodeAt.Null
 nowhere e = record { none = λ q. e; here = λ t c q. clash (cc) }
 
-pub standing : {v : Version} {lay rec : Bytes} {x : Value} {t c : Cursor} → NodeIs v lay (t .at) rec (c .at) x → NodeOf v lay rec x (NodeAt.At t c)
+pub standing : {v : Edition} {lay rec : Bytes} {x : Value} {t c : Cursor} → NodeIs v lay (t .at) rec (c .at) x → NodeOf v lay rec x (NodeAt.At t c)
 standing {t = t} {c = c} N = record {
   none = λ q. clash (cc);
   here = λ u d q. let e : t .at ≡ u .at = cc in let f : c .at ≡ d .at = cc in raw-moved e f N;
 }
 
 -- the same node, by an equation of its value
-pub node-as : {v : Version} {lay rec : Bytes} {r : NodeAt} {x y : Value} → x ≡ y → NodeOf v lay rec x r → NodeOf v lay rec y r
+pub node-as : {v : Edition} {lay rec : Bytes} {r : NodeAt} {x y : Value} → x ≡ y → NodeOf v lay rec x r → NodeOf v lay rec y r
 node-as {v} {lay} {rec} {r} e h = subst (λ (z : Value). NodeOf v lay rec z r) e h
 
-pub part-as : {v : Version} {lay rec : Bytes} (k : ℕ) {r : NodeAt} {x y : Value} → x ≡ y → NodeOf v lay rec (partAt x k) r → NodeOf v lay rec (partAt y k) r
+pub part-as : {v : Edition} {lay rec : Bytes} (k : ℕ) {r : NodeAt} {x y : Value} → x ≡ y → NodeOf v lay rec (partAt x k) r → NodeOf v lay rec (partAt y k) r
 part-as {v} {lay} {rec} k {r} e h = subst (λ (z : Value). NodeOf v lay rec (partAt z k) r) e h
 
 -- ---- a column's value
 
-module _ {v : Version} {lay : Bytes} {n t : ℕ} {rec : Bytes} {c : ℕ} (X : RowAt v lay n t rec c) {k : ℕ} where
+module _ {v : Edition} {lay : Bytes} {n t : ℕ} {rec : Bytes} {c : ℕ} (X : RowAt v lay n t rec c) {k : ℕ} where
   pub field-past : n ≤ k → NodeOf v lay rec (valueAt (X .values .values) k) NodeAt.Null
   field-past h = nowhere (past-values (X .values .values) k (let e = count-row X in omega arith))
 
@@ -121,7 +121,7 @@ module _ {v : Version} {lay : Bytes} {n t : ℕ} {rec : Bytes} {c : ℕ} (X : Ro
 
 -- ---- an element
 
-module _ {v : Version} {lay : Bytes} {n t : ℕ} {rec : Bytes} {c : ℕ} (X : ElementsAt v lay n t rec c) {k : ℕ} where
+module _ {v : Edition} {lay : Bytes} {n t : ℕ} {rec : Bytes} {c : ℕ} (X : ElementsAt v lay n t rec c) {k : ℕ} where
   pub element-past : n ≤ k → NodeOf v lay rec (valueAt (X .values .values) k) NodeAt.Null
   element-past h = nowhere (past-values (X .values .values) k (let e = count-each (X .values) in omega arith))
 
@@ -143,12 +143,12 @@ module _ {v : Version} {lay : Bytes} {n t : ℕ} {rec : Bytes} {c : ℕ} (X : El
 -- ---- the parts of a value that is present
 
 -- a list's elements, after its count
-pub record ElementsIn (v : Version) (lay : Bytes) (n t : ℕ) (rec : Bytes) (c : ℕ) (x : Value) : Type 0 where
+pub record ElementsIn (v : Edition) (lay : Bytes) (n t : ℕ) (rec : Bytes) (c : ℕ) (x : Value) : Type 0 where
   pub elements : ElementsAt v lay n t rec c
   pub part : (k : ℕ) → partAt x k ≡ valueAt (elements .values .values) k
   pub parts : partsOf x ≡ Parts.Some n
 
-module _ {v : Version} {lay : Bytes} {t : ℕ} {rec : Bytes} {c : ℕ} (X : ListOf v lay t rec c) {q : Short} (e : shortRes q ≡ u16 rec c) where
+module _ {v : Edition} {lay : Bytes} {t : ℕ} {rec : Bytes} {c : ℕ} (X : ListOf v lay t rec c) {q : Short} (e : shortRes q ≡ u16 rec c) where
   pub list-counted : {n : ℕ} {d : Cursor} → q ≡ Short.Is n d → ElementsIn v lay n t rec (d .at) (X .content .tree)
   unfolding opened partsOf
   list-counted f =
@@ -191,22 +191,22 @@ content-no-parts (Number w) k s at x e = let (b, i, h, g) = next-ok (chunk w s a
 content-no-parts Text k s at x e = let (b, i, h, g) = next-ok (longText s at) _ e in no-text x {b = b} (cc)
 
 -- a struct's columns and their values
-pub record RowIn (v : Version) (lay : Bytes) (n t : ℕ) (rec : Bytes) (c : ℕ) (x : Value) : Type 0 where
+pub record RowIn (v : Edition) (lay : Bytes) (n t : ℕ) (rec : Bytes) (c : ℕ) (x : Value) : Type 0 where
   pub row : RowAt v lay n t rec c
   pub part : (k : ℕ) → partAt x k ≡ valueAt (row .values .values) k
   pub parts : partsOf x ≡ Parts.Some n
 
 -- a type, after what it begins with
-behind : {v : Version} {lay : Bytes} {t : ℕ} {rec : Bytes} {c : ℕ} (X : PresentAt v lay t rec c) {k : Kind} {m : ℕ} → kind lay t ≡ ok k m → body v Free (type v Free 15) k lay m ≡ ok (X .type .tree) (X .type .end)
+behind : {v : Edition} {lay : Bytes} {t : ℕ} {rec : Bytes} {c : ℕ} (X : PresentAt v lay t rec c) {k : Kind} {m : ℕ} → kind lay t ≡ ok k m → body v Free (type v Free 15) k lay m ≡ ok (X .type .tree) (X .type .end)
 unfolding type next
 behind X q = rw q at (X .type .reads)
 
 -- a list, whose element's type is known
-pub record ListIs (v : Version) (lay : Bytes) (t : ℕ) (rec : Bytes) (c : ℕ) (x : Value) : Type 0 where
+pub record ListIs (v : Edition) (lay : Bytes) (t : ℕ) (rec : Bytes) (c : ℕ) (x : Value) : Type 0 where
   pub inner : ListOf v lay t rec c
   pub is : inner .content .tree ≡ x
 
-module _ {v : Version} {lay : Bytes} {t : ℕ} {rec : Bytes} {c : ℕ} (X : PresentAt v lay t rec c) {p : Head} (e : headRes lay p ≡ kind lay t) where
+module _ {v : Edition} {lay : Bytes} {t : ℕ} {rec : Bytes} {c : ℕ} (X : PresentAt v lay t rec c) {p : Head} (e : headRes lay p ≡ kind lay t) where
   pub leaf-none : {l : LeafSpan} {b : Cursor} → p ≡ Head.Leaf l b → NoParts (X .content .tree)
   unfolding dtypeOf contentOfType leafContent content-as
   leaf-none f =
@@ -272,11 +272,11 @@ module _ {v : Version} {lay : Bytes} {t : ℕ} {rec : Bytes} {c : ℕ} (X : Pres
 
 -- ---- by the presence byte
 
-pub record PresentIs (v : Version) (lay : Bytes) (t : ℕ) (rec : Bytes) (c : ℕ) (x : Value) : Type 0 where
+pub record PresentIs (v : Edition) (lay : Bytes) (t : ℕ) (rec : Bytes) (c : ℕ) (x : Value) : Type 0 where
   pub inner : PresentAt v lay t rec c
   pub is : inner .content .tree ≡ x
 
-module _ {v : Version} {lay : Bytes} {t : ℕ} {rec : Bytes} {c : ℕ} (X : RawAt v lay t rec c) {p : Presence} (e : presenceRes p ≡ presence rec c) where
+module _ {v : Edition} {lay : Bytes} {t : ℕ} {rec : Bytes} {c : ℕ} (X : RawAt v lay t rec c) {p : Presence} (e : presenceRes p ≡ presence rec c) where
   pub raw-null : {d : Cursor} → p ≡ Presence.Null d → NoParts (X .value .tree)
   raw-null f = no-null (null-at (X .value) e f .0)
 

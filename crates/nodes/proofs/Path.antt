@@ -8,7 +8,7 @@ use lib.ListN.{length, getD}
 use lib.Seq.{slice, slice-empty, slice-cons}
 use Rattle.layout.specs.Bytes.{Bytes}
 use Rattle.layout.specs.declared.cursor.Cursor.{Cursor}
-use Rattle.layout.specs.declared.version.Version.{Version}
+use Rattle.layout.specs.declared.edition.Edition.{Edition}
 use Rattle.values.specs.Value.{Value, vnull, vnumber, vtext, voverflow, vstruct, vlist, varray}
 use Rattle.walk.specs.Values.{opened, valueNode}
 use Rattle.nodes.specs.Raw.{RawAt, NodeOf, partAt}
@@ -41,19 +41,19 @@ node-part (vlist vs) k p = refl
 node-part (varray vs) k p = refl
 
 -- the value at t and c, and its node at the path p: what is left to find is the node at q of what stands at u and d
-pub record Nearer (v : Version) (lay rec : Bytes) (x : Value) (p : List ℕ) (u d : ℕ) (q : List ℕ) : Type 0 where
+pub record Nearer (v : Edition) (lay rec : Bytes) (x : Value) (p : List ℕ) (u d : ℕ) (q : List ℕ) : Type 0 where
   pub raw : RawAt v lay u rec d
   pub is : valueNode (raw .value .tree) q ≡ valueNode x p
 
 -- after the numbers before i
-pub record Going (v : Version) (lay : Bytes) (t : ℕ) (rec : Bytes) (c : ℕ) (path : List ℕ) (from len u d i : ℕ) : Type 0 where
+pub record Going (v : Edition) (lay : Bytes) (t : ℕ) (rec : Bytes) (c : ℕ) (path : List ℕ) (from len u d i : ℕ) : Type 0 where
   pub within : i ≤ len
   pub goes : (X : RawAt v lay t rec c) → Nearer v lay rec (X .value .tree) (slice from len path) u d (slice i len path)
 
-pub going-start : {v : Version} {lay : Bytes} {t : ℕ} {rec : Bytes} {c : ℕ} {path : List ℕ} {from len : ℕ} → from ≤ len → Going v lay t rec c path from len t c from
+pub going-start : {v : Edition} {lay : Bytes} {t : ℕ} {rec : Bytes} {c : ℕ} {path : List ℕ} {from len : ℕ} → from ≤ len → Going v lay t rec c path from len t c from
 going-start h = record { within = h; goes = λ X. record { raw = X; is = refl } }
 
-module _ {v : Version} {lay : Bytes} {t : ℕ} {rec : Bytes} {c : ℕ} {path : List ℕ} {from len u d i : ℕ} (a : Going v lay t rec c path from len u d i) where
+module _ {v : Edition} {lay : Bytes} {t : ℕ} {rec : Bytes} {c : ℕ} {path : List ℕ} {from len u d i : ℕ} (a : Going v lay t rec c path from len u d i) where
   pub going-end : len ≤ i → (X : RawAt v lay t rec c) → NodeOf v lay rec (valueNode (X .value .tree) (slice from len path)) (NodeAt.At (record { at = u }) (record { at = d }))
   unfolding valueNode
   going-end h X =

@@ -9,7 +9,7 @@ use Rattle.layout.specs.Parser.{ok, next, choose, test}
 use Rattle.layout.specs.Tree.{Label, DataType, Fields, Columns, cnil, ccons, dtypeOf, fieldsOf}
 use Rattle.layout.specs.Layout.{label as labelOf, columns as columnsOf, type as typeOf, deepest, repeatsAny}
 use Rattle.layout.specs.Stands.{TypeAt, ColumnsAt}
-use Rattle.layout.specs.declared.version.Version.{Version}
+use Rattle.layout.specs.declared.edition.Edition.{Edition}
 use Rattle.layout.specs.declared.columns.Siblings.the-variants.{Free}
 use Rattle.layout.proofs.Ways.{clash}
 use Rattle.layout.proofs.View.{next-ok, no-column, columns-any}
@@ -29,7 +29,7 @@ tested true s e = cc
 tested false s e = clash (cc)
 
 -- the first column
-pub record First (v : Version) (d : ℕ) (s : Bytes) (n at : ℕ) (cs : Columns) (end : ℕ) : Type 0 where
+pub record First (v : Edition) (d : ℕ) (s : Bytes) (n at : ℕ) (cs : Columns) (end : ℕ) : Type 0 where
   pub label : Label
   pub start : ℕ
   pub labelled : labelOf v s at ≡ ok label start
@@ -38,7 +38,7 @@ pub record First (v : Version) (d : ℕ) (s : Bytes) (n at : ℕ) (cs : Columns)
   pub is : cs ≡ ccons label (head .tree) (tail .columns)
   pub ends : tail .end ≡ end
 
-pub first-column : (v : Version) (d : ℕ) (s : Bytes) (n at : ℕ) (cs : Columns) (end : ℕ) → columnsOf v Free (typeOf v Free d) (suc n) [] s at ≡ ok cs end → First v d s n at cs end
+pub first-column : (v : Edition) (d : ℕ) (s : Bytes) (n at : ℕ) (cs : Columns) (end : ℕ) → columnsOf v Free (typeOf v Free d) (suc n) [] s at ≡ ok cs end → First v d s n at cs end
 unfolding columnsOf
 first-column v d s n at cs end e =
     let (m, i, h₁, g₁) = next-ok _ _ e in
@@ -57,12 +57,12 @@ first-column v d s n at cs end e =
     }
 
 -- a column before others
-pub column-before : (v : Version) (d : ℕ) (s : Bytes) (n at : ℕ) {l : Label} {m : ℕ} → labelOf v s at ≡ ok l m → (H : TypeAt v d s m) (T : ColumnsAt v d s n (H .end))
+pub column-before : (v : Edition) (d : ℕ) (s : Bytes) (n at : ℕ) {l : Label} {m : ℕ} → labelOf v s at ≡ ok l m → (H : TypeAt v d s m) (T : ColumnsAt v d s n (H .end))
     → columnsOf v Free (typeOf v Free d) (suc n) [] s at ≡ ok (ccons l (H .tree) (T .columns)) (T .end)
 unfolding columnsOf next choose repeatsAny
 column-before v d s n at {l} e H T = rw (e, H .reads, columns-any v (typeOf v Free d) n ([] ++ (l ∷ [])) [] s (H .end), T .reads)
 
-pub value-before : (l : Label) (cs : Columns) {v : Version} {d : ℕ} {s : Bytes} {m : ℕ} (H : TypeAt v d s m) (rec : Bytes) (c : ℕ) (X : ValueAt (dtypeOf (H .tree)) rec c) (Y : ValuesAt (fieldsOf cs) rec (X .end))
+pub value-before : (l : Label) (cs : Columns) {v : Edition} {d : ℕ} {s : Bytes} {m : ℕ} (H : TypeAt v d s m) (rec : Bytes) (c : ℕ) (X : ValueAt (dtypeOf (H .tree)) rec c) (Y : ValuesAt (fieldsOf cs) rec (X .end))
     → valuesOf (fieldsOf (ccons l (H .tree) cs)) rec c ≡ ok (vcons (X .tree) (Y .values)) (Y .end)
 unfolding fieldsOf valuesOf value next
 value-before l cs H rec c X Y = rw (X .reads, Y .reads)
@@ -70,7 +70,7 @@ value-before l cs H rec c X Y = rw (X .reads, Y .reads)
 -- ---- columns and their values
 
 -- the first of them
-pub record FirstOf (v : Version) (lay : Bytes) (n t : ℕ) (rec : Bytes) (c : ℕ) (X : RowAt v lay n t rec c) : Type 0 where
+pub record FirstOf (v : Edition) (lay : Bytes) (n t : ℕ) (rec : Bytes) (c : ℕ) (X : RowAt v lay n t rec c) : Type 0 where
   pub label : Label
   pub start : ℕ
   pub labelled : labelOf v lay t ≡ ok label start
@@ -81,7 +81,7 @@ pub record FirstOf (v : Version) (lay : Bytes) (n t : ℕ) (rec : Bytes) (c : �
 values-as : {fs gs : Fields} {s : Bytes} {at : ℕ} → fs ≡ gs → ValuesAt fs s at → ValuesAt gs s at
 values-as {s = s} {at = at} e P = record { values = P .values; end = P .end; reads = ap (λ (f : Fields). valuesOf f s at) (sym e) ∙ P .reads }
 
-pub first-of : {v : Version} {lay : Bytes} {n t : ℕ} {rec : Bytes} {c : ℕ} (X : RowAt v lay n t rec c) → (n ≡ 0 → ⊥) → FirstOf v lay n t rec c X
+pub first-of : {v : Edition} {lay : Bytes} {n t : ℕ} {rec : Bytes} {c : ℕ} (X : RowAt v lay n t rec c) → (n ≡ 0 → ⊥) → FirstOf v lay n t rec c X
 unfolding fieldsOf values-as
 first-of {v} {lay} {n} {t} {rec} {c} X h =
     let e : suc (n - 1) ≡ n = omega arith in
@@ -97,12 +97,12 @@ first-of {v} {lay} {n} {t} {rec} {c} X h =
     }
 
 -- the first k, and those after them
-pub record SplitOf (v : Version) (lay : Bytes) (n t : ℕ) (rec : Bytes) (c : ℕ) (X : RowAt v lay n t rec c) (k : ℕ) : Type 0 where
+pub record SplitOf (v : Edition) (lay : Bytes) (n t : ℕ) (rec : Bytes) (c : ℕ) (X : RowAt v lay n t rec c) (k : ℕ) : Type 0 where
   pub front : RowAt v lay k t rec c
   pub back : RowAt v lay (n - k) (front .columns .end) rec (front .values .end)
   pub is : valueAt (X .values .values) k ≡ valueAt (back .values .values) 0
 
-unfoldable pub split-of : (k : ℕ) {v : Version} {lay : Bytes} {n t : ℕ} {rec : Bytes} {c : ℕ} (X : RowAt v lay n t rec c) → k ≤ n → SplitOf v lay n t rec c X k
+unfoldable pub split-of : (k : ℕ) {v : Edition} {lay : Bytes} {n t : ℕ} {rec : Bytes} {c : ℕ} (X : RowAt v lay n t rec c) → k ≤ n → SplitOf v lay n t rec c X k
 unfolding columnsOf valuesOf fieldsOf valueAt
 split-of zero {v} {lay} {n} {t} {rec} {c} X h =
     record {
@@ -135,7 +135,7 @@ split-of (suc k) {v} {lay} {n} {t} {rec} {c} X h =
     }
 
 -- as many values as columns
-count-from : (m : ℕ) {v : Version} {lay : Bytes} {n t : ℕ} {rec : Bytes} {c : ℕ} (X : RowAt v lay n t rec c) → n ≡ m → countValues (X .values .values) ≡ m
+count-from : (m : ℕ) {v : Edition} {lay : Bytes} {n t : ℕ} {rec : Bytes} {c : ℕ} (X : RowAt v lay n t rec c) → n ≡ m → countValues (X .values .values) ≡ m
 unfolding fieldsOf countValues values-as
 count-from zero X h =
     let e = no-column (X .columns) h in
@@ -144,7 +144,7 @@ count-from (suc m) X h =
     let F = first-of X (λ z. omega arith) in
     ap countValues (F .is) ∙ ap suc (count-from m (F .tail) (omega arith))
 
-pub count-row : {v : Version} {lay : Bytes} {n t : ℕ} {rec : Bytes} {c : ℕ} (X : RowAt v lay n t rec c) → countValues (X .values .values) ≡ n
+pub count-row : {v : Edition} {lay : Bytes} {n t : ℕ} {rec : Bytes} {c : ℕ} (X : RowAt v lay n t rec c) → countValues (X .values .values) ≡ n
 count-row {n = n} X = count-from n X refl
 
 -- past the last there is none

@@ -1,13 +1,14 @@
 -- What the functions ask can be had: a list of two elements, of which the second is null, in a struct of one field. Computed.
 use mathlib.Core.Path.{_≡_, refl}
+use mathlib.Core.Bool.{false}
 use mathlib.Core.List.{[], _∷_}
 use lib.ListN.{length}
 use Rattle.layout.specs.Bytes.{Bytes}
 use Rattle.layout.specs.Parser.{Res, ok, next, choose, byte, chunk, u16}
 use Rattle.layout.specs.Tree.{Label, ColumnType, cleaf, cstruct, clist, cnil, ccons, leaf, dtypeOf, integer}
-use Rattle.layout.specs.Layout.{text, leafKind, structKind, kindOf, kind, fieldId, label, elementLabel, repeatsAny, columns, structType, listType, body, type, deepest}
+use Rattle.layout.specs.Layout.{text, leafKind, structKind, kindOf, kind, fieldId, fieldMark, labelRest, label, elementLabel, repeatsAny, columns, structType, listType, body, type, deepest}
 use Rattle.layout.specs.declared.leaf.Leaf.{Leaf}
-use Rattle.layout.specs.declared.version.Version.the-variants.{ByName}
+use Rattle.layout.specs.declared.edition.Edition.the-variants.{One}
 use Rattle.layout.specs.declared.columns.Siblings.the-variants.{Free}
 use Rattle.values.specs.Value.{Value, vnull, vnumber, vstruct, vlist, vnil, vcons, countValues}
 use Rattle.values.specs.Reading.{presence, nullable, little, contentBy, leafContent, times, listContent, structContent, content, value}
@@ -31,17 +32,17 @@ abbrev rec : Bytes
 rec = 1 ∷ 1 ∷ 2 ∷ 0 ∷ 1 ∷ 5 ∷ 0 ∷ 0 ∷ []
 
 abbrev named : Bytes → Label
-named n = record { name = n; id = record { 0 = 0 } }
+named n = record { name = n; id = record { 0 = 0 }; required = false }
 
 abbrev tree : ColumnType
 tree = cstruct (ccons (named (0x74 ∷ [])) (clist (named []) (cleaf (integer Int16))) cnil)
 
 -- opens every definition that a sample computes through
 computed : Bytes → Res Value
-unfolding type kind kindOf leafKind structKind body structType listType columns label text fieldId elementLabel repeatsAny byte chunk u16 next choose dtypeOf presence nullable little contentBy leafContent times listContent structContent content value
+unfolding type kind kindOf leafKind structKind body structType listType columns label labelRest text fieldId fieldMark elementLabel repeatsAny byte chunk u16 next choose dtypeOf presence nullable little contentBy leafContent times listContent structContent content value
 computed s = value (dtypeOf tree) s 0
 
-type-read : type ByName Free deepest lay 0 ≡ ok tree 7
+type-read : type One Free deepest lay 0 ≡ ok tree 7
 unfolding computed
 type-read = refl
 
@@ -50,7 +51,7 @@ unfolding computed
 value-read = refl
 
 -- what `value_at` and `parts_at` ask
-pub raw-stands : RawAt ByName lay 0 rec 0
+pub raw-stands : RawAt One lay 0 rec 0
 raw-stands = record { type = record { tree = tree; end = 7; reads = type-read }; value = record { tree = _; end = 8; reads = value-read } }
 
 -- the first element, the null, one past the end, and a part of a leaf
@@ -75,7 +76,7 @@ unfolding raw-stands valueNode opened valueAt partsOf countValues
 two-parts = refl
 
 -- what `type_at` asks: the element's number has no say
-pub leads : LeadsAt ByName lay 0 (0 ∷ 9 ∷ []) (leaf (integer Int16))
+pub leads : LeadsAt One lay 0 (0 ∷ 9 ∷ []) (leaf (integer Int16))
 unfolding dtypeOf columnAt
 leads = record { type = record { tree = tree; end = 7; reads = type-read }; along = a-field refl (a-list a-here) }
 

@@ -15,7 +15,7 @@ use Rattle.layout.specs.declared.types.LeafType.{LeafType as LeafSpan}
 use Rattle.layout.specs.declared.columns.Label.{Label as LabelSpan}
 use Rattle.layout.specs.declared.columns.Labelled.{Labelled}
 use Rattle.layout.specs.declared.columns.Siblings.the-variants.{Free}
-use Rattle.layout.specs.declared.version.Version.{Version}
+use Rattle.layout.specs.declared.edition.Edition.{Edition}
 use Rattle.layout.proofs.Ways.{label-in}
 use Rattle.layout.proofs.View.{label-got, leaf-at, struct-at, list-at, array-at, same-columns, no-column, FirstAt, first-at, first-labelled}
 use Rattle.forms.specs.Form.{textBytes, formFields, restForm}
@@ -29,25 +29,25 @@ use Rattle.nodes.specs.declared.types.FormSize.{FormSize}
 
 -- ---- a type
 
-pub depth-within : {v : Version} {d : ℕ} {s : Bytes} {at : ℕ} (P : TypeAt v d s at) → depthOf (dtypeOf (P .tree)) ≤ d
+pub depth-within : {v : Edition} {d : ℕ} {s : Bytes} {at : ℕ} (P : TypeAt v d s at) → depthOf (dtypeOf (P .tree)) ≤ d
 depth-within {v} {d} {s} {at} P = type-extent (type→ v Free s d at (P .reads)) .deep
 
 -- what is one level inside a type, after its head, which ends at m: n bytes and k levels, up to the type's end
-pub record InsideOf (v : Version) (d : ℕ) (s : Bytes) (at : ℕ) (P : TypeAt v d s at) (m n k e : ℕ) : Type 0 where
+pub record InsideOf (v : Edition) (d : ℕ) (s : Bytes) (at : ℕ) (P : TypeAt v d s at) (m n k e : ℕ) : Type 0 where
   pub head : HeadAt v d s at P m
   pub rest : length (restForm (dtypeOf (P .tree))) ≡ n
   pub deep : depthOf (dtypeOf (P .tree)) ≡ suc k
   pub ends : e ≡ P .end
 
 -- what is added to it fits
-pub inside-fits : {v : Version} {d : ℕ} {s : Bytes} {at : ℕ} {P : TypeAt v d s at} {m n k e : ℕ} → InsideOf v d s at P m n k e → length s < 2 ^ 64 → d < 256
+pub inside-fits : {v : Edition} {d : ℕ} {s : Bytes} {at : ℕ} {P : TypeAt v d s at} {m n k e : ℕ} → InsideOf v d s at P m n k e → length s < 2 ^ 64 → d < 256
     → (at ≤ m) × (m - at + n < 2 ^ 64) × (k < 255)
 inside-fits {P = P} I h g =
     let H = I .head in
     let w = depth-within P in
     (H .from, omega (arith, H .from, H .rest, H .ends, I .rest), omega (arith, w, I .deep))
 
-pub inside-size : {v : Version} {d : ℕ} {s : Bytes} {at : ℕ} {P : TypeAt v d s at} {m n k e : ℕ} {r : FormSize} → InsideOf v d s at P m n k e
+pub inside-size : {v : Edition} {d : ℕ} {s : Bytes} {at : ℕ} {P : TypeAt v d s at} {m n k e : ℕ} {r : FormSize} → InsideOf v d s at P m n k e
     → (r .size ≡ m - at + n) × (r .deep ≡ k + 1) × (r .end .at ≡ e) → SizeOf (dtypeOf (P .tree)) (P .end) r
 inside-size {P = P} I (a, b, c) =
     let H = I .head in
@@ -57,7 +57,7 @@ inside-size {P = P} I (a, b, c) =
       ends = c ∙ I .ends;
     }
 
-module _ {v : Version} {d : ℕ} {s : Bytes} {c : Cursor} (P : TypeAt v d s (c .at)) {p : Head} (e : headRes s p ≡ kind s (c .at)) where
+module _ {v : Edition} {d : ℕ} {s : Bytes} {c : Cursor} (P : TypeAt v d s (c .at)) {p : Head} (e : headRes s p ≡ kind s (c .at)) where
   pub size-leaf : {l : LeafSpan} {b : Cursor} → p ≡ Head.Leaf l b → (c .at ≤ b .at) × SizeOf (dtypeOf (P .tree)) (P .end) (record { size = b .at - c .at; deep = 1; end = b })
   unfolding dtypeOf depthOf
   size-leaf f =
@@ -110,7 +110,7 @@ module _ {v : Version} {d : ℕ} {s : Bytes} {c : Cursor} (P : TypeAt v d s (c .
 abbrev fieldsDepth : Columns → ℕ
 fieldsDepth cs = depthOfFields (fieldsOf cs)
 
-pub record Sizing (v : Version) (d : ℕ) (s : Bytes) (n from at size deep i : ℕ) : Type 0 where
+pub record Sizing (v : Edition) (d : ℕ) (s : Bytes) (n from at size deep i : ℕ) : Type 0 where
   pub within : i ≤ n
   pub room : from + size ≤ at
   pub rest : ColumnsAt v d s (n - i) at
@@ -118,7 +118,7 @@ pub record Sizing (v : Version) (d : ℕ) (s : Bytes) (n from at size deep i : �
   pub long : (P : ColumnsAt v d s n from) → length (fieldBytes (P .columns)) ≡ size + length (fieldBytes (rest .columns))
   pub levels : (P : ColumnsAt v d s n from) → fieldsDepth (P .columns) ≡ max deep (fieldsDepth (rest .columns))
 
-module _ {v : Version} {d : ℕ} {s : Bytes} {n from : ℕ} where
+module _ {v : Edition} {d : ℕ} {s : Bytes} {n from : ℕ} where
   pub sizing-none : ColumnsAt v d s n from → Sizing v d s n from from 0 0 0
   sizing-none Q = record {
     within = omega arith;

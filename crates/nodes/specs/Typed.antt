@@ -7,19 +7,19 @@ use Rattle.layout.specs.Bytes.{Bytes}
 use Rattle.layout.specs.Tree.{DataType, Fields, dtypeOf}
 use Rattle.layout.specs.Layout.{deepest}
 use Rattle.layout.specs.Stands.{TypeAt}
-use Rattle.layout.specs.declared.version.Version.{Version}
+use Rattle.layout.specs.declared.edition.Edition.{Edition}
 use Rattle.forms.specs.Form.{form, formFields}
 use Rattle.forms.specs.Readable.{depthOf, depthOfFields}
 use Rattle.walk.specs.Types.{Along}
 use Rattle.nodes.specs.declared.types.FormSize.{FormSize}
 
 -- a type, from which the path p leads to the type u
-pub record LeadsAt (v : Version) (s : Bytes) (at : ℕ) (p : List ℕ) (u : DataType) : Type 0 where
+pub record LeadsAt (v : Edition) (s : Bytes) (at : ℕ) (p : List ℕ) (u : DataType) : Type 0 where
   pub type : TypeAt v deepest s at
   pub along : Along (dtypeOf (type .tree)) p u
 
 -- the type u, with ids and element names dropped
-pub record TypeIs (v : Version) (s : Bytes) (at : ℕ) (u : DataType) : Type 0 where
+pub record TypeIs (v : Edition) (s : Bytes) (at : ℕ) (u : DataType) : Type 0 where
   pub type : TypeAt v deepest s at
   pub is : dtypeOf (type .tree) ≡ u
 

@@ -10,8 +10,8 @@ ghost use Rattle.nodes.specs.Raw.{RawAt, RowAt, ElementsAt, ListOf, Pres
 use layout::columns::Labelled;
 use layout::cursor::Cursor;
 use layout::cursor::Short;
+use layout::edition::Edition;
 use layout::types::Head;
-use layout::version::Version;
 use values::leaf::Presence;
 use values::leaf::read_presence;
 use values::read::ValueRead;
@@ -33,7 +33,7 @@ pub enum Parts {
 // The value of column `k` of `n`, whose values stand from a cursor on.
 pub fn field_at(
     lay: &[u8],
-    v: Version,
+    v: Edition,
     n: u16,
     columns: Cursor,
     rec: &[u8],
@@ -60,7 +60,7 @@ pub fn field_at(
 // Element `k` of `n`.
 fn element_at(
     lay: &[u8],
-    v: Version,
+    v: Edition,
     n: u32,
     t: Cursor,
     rec: &[u8],
@@ -85,7 +85,7 @@ fn element_at(
 // Element `k` of a list that is present, from its count on.
 fn list_element(
     lay: &[u8],
-    v: Version,
+    v: Edition,
     t: Cursor,
     rec: &[u8],
     c: Cursor,
@@ -105,7 +105,7 @@ fn list_element(
 // Field or element `k` of a value that is present.
 fn present_part(
     lay: &[u8],
-    v: Version,
+    v: Edition,
     t: Cursor,
     rec: &[u8],
     c: Cursor,
@@ -132,7 +132,7 @@ fn present_part(
 }
 
 // Field or element `k` of a value; a null and a leaf have none.
-fn part_at(lay: &[u8], v: Version, t: Cursor, rec: &[u8], c: Cursor, k: u16, ends: &[u16]) -> NodeAt
+fn part_at(lay: &[u8], v: Edition, t: Cursor, rec: &[u8], c: Cursor, k: u16, ends: &[u16]) -> NodeAt
     requires { ⌜ RawAt v (now lay) (t .at) (now rec) (c .at) ⌝ }
     requires { ⌜ Ends v (now lay) (now ends) ⌝ }
     ensures { λ r. ⌜ ((X : RawAt v (now (lay .entry)) (t .at) (now (rec .entry)) (c .at)) → NodeOf v (now (lay .entry)) (now (rec .entry)) (partAt (X .value .tree) k) r) ⌝ }
@@ -147,7 +147,7 @@ fn part_at(lay: &[u8], v: Version, t: Cursor, rec: &[u8], c: Cursor, k: u16, end
 // The node at a path.
 pub fn value_at(
     lay: &[u8],
-    v: Version,
+    v: Edition,
     t: Cursor,
     rec: &[u8],
     c: Cursor,
@@ -180,7 +180,7 @@ pub fn value_at(
 }
 
 // The number of parts of a value that is present.
-fn present_parts(lay: &[u8], v: Version, t: Cursor, rec: &[u8], c: Cursor) -> Parts
+fn present_parts(lay: &[u8], v: Edition, t: Cursor, rec: &[u8], c: Cursor) -> Parts
     requires { ⌜ PresentAt v (now lay) (t .at) (now rec) (c .at) ⌝ }
     ensures { λ r. ⌜ ((X : PresentAt v (now (lay .entry)) (t .at) (now (rec .entry)) (c .at)) → r ≡ partsOf (X .content .tree)) ⌝ }
 {
@@ -196,7 +196,7 @@ fn present_parts(lay: &[u8], v: Version, t: Cursor, rec: &[u8], c: Cursor) -> Pa
     }
 }
 
-pub fn parts_at(lay: &[u8], v: Version, t: Cursor, rec: &[u8], c: Cursor) -> Parts
+pub fn parts_at(lay: &[u8], v: Edition, t: Cursor, rec: &[u8], c: Cursor) -> Parts
     requires { ⌜ RawAt v (now lay) (t .at) (now rec) (c .at) ⌝ }
     ensures { λ r. ⌜ ((X : RawAt v (now (lay .entry)) (t .at) (now (rec .entry)) (c .at)) → r ≡ partsOf (X .value .tree)) ⌝ }
 {
@@ -210,7 +210,7 @@ pub fn parts_at(lay: &[u8], v: Version, t: Cursor, rec: &[u8], c: Cursor) -> Par
 // The value of a record's column `k`, of `n`.
 pub fn column_value(
     lay: &[u8],
-    v: Version,
+    v: Edition,
     n: u16,
     columns: Cursor,
     rec: &[u8],

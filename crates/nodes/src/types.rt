@@ -10,13 +10,13 @@ ghost use Rattle.nodes.specs.Typed.{LeadsAt, TypeIs, SizeOf, SizesOf};
 use layout::columns::Labelled;
 use layout::columns::Position;
 use layout::cursor::Cursor;
+use layout::edition::Edition;
 use layout::find::Found;
 use layout::find::column_at;
 use layout::types::Head;
-use layout::version::Version;
 
 // The type of field `k`, or of an element, whose number has no say.
-fn type_part(s: &[u8], v: Version, c: Cursor, k: u16) -> Cursor
+fn type_part(s: &[u8], v: Edition, c: Cursor, k: u16) -> Cursor
     requires { ⌜ TypeAt v 16 (now s) (c .at) ⌝ }
     ensures { λ r. ⌜ ((p : List ℕ) (u : DataType) → LeadsAt v (now (s .entry)) (c .at) (k ∷ p) u → LeadsAt v (now (s .entry)) (r .at) p u) ⌝ }
 {
@@ -39,7 +39,7 @@ fn type_part(s: &[u8], v: Version, c: Cursor, k: u16) -> Cursor
 }
 
 // The type at the end of a path that leads somewhere.
-pub fn type_at(s: &[u8], v: Version, c: Cursor, path: [u16; 64], from: usize, len: usize) -> Cursor
+pub fn type_at(s: &[u8], v: Edition, c: Cursor, path: [u16; 64], from: usize, len: usize) -> Cursor
     requires { ⌜ ((u : DataType) × LeadsAt v (now s) (c .at) (slice from len path) u) ⌝ }
     requires { ⌜ (from ≤ len) × (len ≤ length path) ⌝ }
     ensures { λ r. ⌜ ((u : DataType) → LeadsAt v (now (s .entry)) (c .at) (slice from len path) u → TypeIs v (now (s .entry)) (r .at) u) ⌝ }
@@ -90,7 +90,7 @@ fn around(head: usize, inner: FormSize) -> FormSize
     }
 }
 
-fn type_size(s: &[u8], v: Version, depth: u8, c: Cursor) -> FormSize
+fn type_size(s: &[u8], v: Edition, depth: u8, c: Cursor) -> FormSize
     requires { ⌜ TypeAt v depth (now s) (c .at) ⌝ }
     ensures { λ r. ⌜ ((P : TypeAt v depth (now (s .entry)) (c .at)) → SizeOf (dtypeOf (P .tree)) (P .end) r) ⌝ }
 {
@@ -123,7 +123,7 @@ fn type_size(s: &[u8], v: Version, depth: u8, c: Cursor) -> FormSize
 }
 
 // The names and forms of `n` columns.
-fn fields_size(s: &[u8], v: Version, depth: u8, n: u16, c: Cursor) -> FormSize
+fn fields_size(s: &[u8], v: Edition, depth: u8, n: u16, c: Cursor) -> FormSize
     requires { ⌜ ColumnsAt v depth (now s) n (c .at) ⌝ }
     ensures { λ r. ⌜ ((P : ColumnsAt v depth (now (s .entry)) n (c .at)) → SizesOf (fieldsOf (P .columns)) (P .end) r) ⌝ }
 {
@@ -151,7 +151,7 @@ fn fields_size(s: &[u8], v: Version, depth: u8, n: u16, c: Cursor) -> FormSize
     }
 }
 
-pub fn form_size(s: &[u8], v: Version, c: Cursor) -> FormSize
+pub fn form_size(s: &[u8], v: Edition, c: Cursor) -> FormSize
     requires { ⌜ TypeAt v 16 (now s) (c .at) ⌝ }
     ensures { λ r. ⌜ ((P : TypeAt v 16 (now (s .entry)) (c .at)) → SizeOf (dtypeOf (P .tree)) (P .end) r) ⌝ }
 {

@@ -12,7 +12,7 @@ use Rattle.layout.specs.Bytes.{Bytes}
 use Rattle.layout.specs.Parser.{choose}
 use Rattle.layout.specs.Tree.{leaf, struct, list, array}
 use Rattle.layout.specs.declared.leaf.Leaf.{Leaf}
-use Rattle.layout.specs.declared.version.Version.{Version}
+use Rattle.layout.specs.declared.edition.Edition.{Edition}
 use Rattle.layout.proofs.Ways.{clash}
 use Rattle.store.specs.Overlay.{overlay}
 use Rattle.values.specs.Value.{Value, vnull, vnumber, vtext, voverflow, vstruct, vlist, varray, Values, vnil, vcons, countValues}
@@ -174,7 +174,7 @@ child-value ρ x {i} e P = part-value ρ (x .selector) (x .frames) i (part-moves
 emits-stored : {out : Bytes} {k : ℕ} {b : Bytes} {r : ℕ} {new : Bytes} → Stores out k b r new → Emits out k b r new
 emits-stored {out} {k} {b} S = emits-exact out k b (S .ends) (S .stored)
 
-module _ {v : Version} {lay : Bytes} {n t : ℕ} {rec plan : Bytes} {w : Walk} (A : EmitAt v lay n t rec plan w) {o : Origin} (O : OriginIs plan (A .state) w o) where
+module _ {v : Edition} {lay : Bytes} {n t : ℕ} {rec plan : Bytes} {w : Walk} (A : EmitAt v lay n t rec plan w) {o : Origin} (O : OriginIs plan (A .state) w o) where
   abbrev ρ : Values
   ρ = A .row .values .values
 
@@ -188,7 +188,7 @@ module _ {v : Version} {lay : Bytes} {n t : ℕ} {rec plan : Bytes} {w : Walk} (
   unfolding isNumber
   emitted-null e S = emitted (stores-as (sym (ap (castAll (O .kinds)) e ∙ casts-kept (O .kinds) vnull refl)) S)
 
-  pub emitted-node : {v′ : Version} {lay′ : Bytes} {t′ : ℕ} {rec′ : Bytes} {c′ : ℕ} (N : NodeIs v′ lay′ t′ rec′ c′ (stateValue ρ (O .state))) {out : Bytes} {k r : ℕ} {new : Bytes}
+  pub emitted-node : {v′ : Edition} {lay′ : Bytes} {t′ : ℕ} {rec′ : Bytes} {c′ : ℕ} (N : NodeIs v′ lay′ t′ rec′ c′ (stateValue ρ (O .state))) {out : Bytes} {k r : ℕ} {new : Bytes}
       → Stores out k (encodeValue (castAll (O .kinds) (N .raw .value .tree))) r new → Emits out k (encodeValue (stateValue ρ (A .state))) r new
   emitted-node N S = emitted (stores-as (ap (castAll (O .kinds)) (N .is)) S)
 
@@ -320,7 +320,7 @@ module _ {us : Values} {out₀ : Bytes} {k i at : ℕ} {out : Bytes} (R : Rowing
 
 -- ---- one part
 
-module _ {v : Version} {lay : Bytes} {n t : ℕ} {rec plan : Bytes} {w : Walk} (A : EmitAt v lay n t rec plan w) (M : Mapped (A .state)) where
+module _ {v : Edition} {lay : Bytes} {n t : ℕ} {rec plan : Bytes} {w : Walk} (A : EmitAt v lay n t rec plan w) (M : Mapped (A .state)) where
   abbrev σ : Values
   σ = A .row .values .values
 

@@ -16,7 +16,7 @@ use Rattle.layout.specs.declared.columns.Siblings.the-variants.{Free}
 use Rattle.layout.specs.declared.cursor.Cursor.{Cursor}
 use Rattle.layout.specs.declared.types.Head.{Head}
 use Rattle.layout.specs.declared.types.LeafType.{LeafType as LeafSpan}
-use Rattle.layout.specs.declared.version.Version.{Version}
+use Rattle.layout.specs.declared.edition.Edition.{Edition}
 use Rattle.layout.specs.declared.leaf.Leaf.{Leaf}
 use Rattle.layout.specs.declared.leaf.Leaf.the-variants.{Null}
 use Rattle.layout.proofs.Ways.{clash}
@@ -43,7 +43,7 @@ goes-nested (struct fs) e = refl
 goes-nested (list t) e = refl
 goes-nested (array w t) e = refl
 
-module _ {v : Version} {s : Bytes} {at : ℕ} (T : TypeAt v 16 s at) where
+module _ {v : Edition} {s : Bytes} {at : ℕ} (T : TypeAt v 16 s at) where
   cast-by : {c : ColumnType} → c ≡ T .tree → castPass (dtypeOf c) ≡ castPass (dtypeOf (T .tree))
   cast-by e = ap (λ (c : ColumnType). castPass (dtypeOf c)) e
 
@@ -61,7 +61,7 @@ module _ {v : Version} {s : Bytes} {at : ℕ} (T : TypeAt v 16 s at) where
   type-array h q = goes-nested (dtypeOf (T .tree)) (array-nested T h q)
 
 -- the answer at the type's place under another name
-pub type-as : {v : Version} {s : Bytes} {at to : ℕ} (T : TypeAt v 16 s at) {r : Pass} → to ≡ at → ((U : TypeAt v 16 s to) → r ≡ castPass (dtypeOf (U .tree))) → r ≡ castPass (dtypeOf (T .tree))
+pub type-as : {v : Edition} {s : Bytes} {at to : ℕ} (T : TypeAt v 16 s at) {r : Pass} → to ≡ at → ((U : TypeAt v 16 s to) → r ≡ castPass (dtypeOf (U .tree))) → r ≡ castPass (dtypeOf (T .tree))
 type-as {v} {s} T e f = f (record { tree = T .tree; end = T .end; reads = ap (λ (i : ℕ). type v Free 16 s i) e ∙ T .reads })
 
 -- ---- what a walk does next, by its selector

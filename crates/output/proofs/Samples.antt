@@ -1,14 +1,14 @@
 -- What `write_output` asks can be had: sample S1 of document 01. Computed.
 use mathlib.Core.Path.{_≡_, refl}
 use mathlib.Core.List.{[], _∷_}
-use mathlib.Core.Bool.{true}
+use mathlib.Core.Bool.{true, false}
 use native.Mathlib.Omega.{arith}
 use Rattle.layout.specs.Bytes.{Bytes, sameBytes}
 use Rattle.layout.specs.Parser.{ok, next, choose, byte, chunk, u16}
 use Rattle.layout.specs.Tree.{string, leaf, Columns, cleaf, cnil, ccons, Fields, fnil, fcons, dtypeOf, fieldsOf, integer}
-use Rattle.layout.specs.Layout.{text, leafKind, kindOf, kind, fieldId, label, repeatsAny, columns, body, type, deepest}
+use Rattle.layout.specs.Layout.{text, leafKind, kindOf, kind, fieldId, fieldMark, labelRest, label, repeatsAny, columns, body, type, deepest}
 use Rattle.layout.specs.declared.leaf.Leaf.{Leaf}
-use Rattle.layout.specs.declared.version.Version.the-variants.{ByName}
+use Rattle.layout.specs.declared.edition.Edition.the-variants.{One}
 use Rattle.layout.specs.declared.columns.Siblings.the-variants.{Free}
 use Rattle.store.specs.Overlay.{littleBytes}
 use Rattle.forms.specs.Form.{u16Bytes, textBytes, carried, leafForm, kindForm, form}
@@ -42,7 +42,7 @@ abbrev rec : Bytes
 rec = 1 ∷ 0xFE ∷ 0xFF ∷ []
 
 abbrev incoming : Columns
-incoming = ccons (record { name = 0x74 ∷ []; id = record { 0 = 0 } }) (cleaf (integer Int16)) cnil
+incoming = ccons (record { name = 0x74 ∷ []; id = record { 0 = 0 }; required = false }) (cleaf (integer Int16)) cnil
 
 abbrev row : Values
 row = vcons (vnumber (Leaf.Integer Int16) 65534) vnil
@@ -53,8 +53,8 @@ ss = scons (cast (position (record { 0 = 0 })) (leaf (integer Int32)) Overflowin
 abbrev target : Fields
 target = fcons (0x74 ∷ []) (leaf (integer Int32)) (fcons (0x73 ∷ []) (leaf string) fnil)
 
-columns-read : columns ByName Free (type ByName Free deepest) 1 [] lay 7 ≡ ok incoming 10
-unfolding columns label text fieldId repeatsAny type kind kindOf leafKind body byte chunk next choose
+columns-read : columns One Free (type One Free deepest) 1 [] lay 7 ≡ ok incoming 10
+unfolding columns label labelRest text fieldId fieldMark repeatsAny type kind kindOf leafKind body byte chunk next choose
 columns-read = refl
 
 values-read : values (fieldsOf incoming) rec 0 ≡ ok row 3
@@ -73,7 +73,7 @@ is-clean : cleanAll (evals row ss) ≡ true
 unfolding evals eval valueAt castValue castLeaf convert convertAs cleanAll clean
 is-clean = refl
 
-pub output-stands : OutputAt ByName lay 1 7 rec plan 2 7
+pub output-stands : OutputAt One lay 1 7 rec plan 2 7
 unfolding depthOfFields depthOf
 output-stands = record {
   row = record { columns = record { columns = incoming; end = 10; reads = columns-read }; values = record { values = row; end = 3; reads = values-read } };

@@ -9,8 +9,8 @@ use Rattle.layout.specs.Bytes.{Bytes}
 use Rattle.layout.specs.Tree.{DataType, leaf, struct, list, array}
 use Rattle.layout.specs.declared.columns.Position.{Position}
 use Rattle.layout.specs.declared.cursor.Cursor.{Cursor}
-use Rattle.layout.specs.declared.version.Version.{Version}
-use Rattle.layout.specs.declared.version.Version.the-variants.{ByName}
+use Rattle.layout.specs.declared.edition.Edition.{Edition}
+use Rattle.layout.specs.declared.edition.Edition.the-variants.{One}
 use Rattle.layout.proofs.Ways.{clash}
 use Rattle.rules.specs.declared.outcome.CastOption.{CastOption}
 use Rattle.values.specs.Value.{Value, vnull, Values}
@@ -37,10 +37,10 @@ use Rattle.output.proofs.Ends.{within-null, position-null, field-null}
 
 -- ---- the nodes
 
-pub null-node : {v : Version} {lay rec : Bytes} {x : Value} {r : NodeAt} → NodeOf v lay rec x r → r ≡ NodeAt.Null → (p : List ℕ) → NodeOf v lay rec (valueNode x p) NodeAt.Null
+pub null-node : {v : Edition} {lay rec : Bytes} {x : Value} {r : NodeAt} → NodeOf v lay rec x r → r ≡ NodeAt.Null → (p : List ℕ) → NodeOf v lay rec (valueNode x p) NodeAt.Null
 null-node N e p = record { none = λ q. ap (λ (y : Value). valueNode y p) (N .none e) ∙ node-null p; here = λ t c q. clash (cc) }
 
-pub node-valued : {v : Version} {lay rec : Bytes} {x y : Value} → x ≡ y → (p : List ℕ) {r : NodeAt} → NodeOf v lay rec (valueNode x p) r → NodeOf v lay rec (valueNode y p) r
+pub node-valued : {v : Edition} {lay rec : Bytes} {x y : Value} → x ≡ y → (p : List ℕ) {r : NodeAt} → NodeOf v lay rec (valueNode x p) r → NodeOf v lay rec (valueNode y p) r
 node-valued e p N = node-as (ap (λ (z : Value). valueNode z p) e) N
 
 module _ {plan : Bytes} {w : Walk} {P : SelectorAt plan (w .at)} {m : ℕ} (A : StructAt plan (w .at) P m) where
@@ -91,7 +91,7 @@ module _ {plan : Bytes} {w : Walk} {x : State} (W : WalkAt plan w x) where
     value-by {s} {E} {p} e f g = ap (λ (s : Selector). stateValue ρ (state s (x .frames) (x .path))) (selected e)
         ∙ ap (λ (E : List Frame). stateValue ρ (state s E (x .path))) f ∙ ap (λ (p : List ℕ). stateValue ρ (state s E p)) g
 
-    module _ {v : Version} {lay rec : Bytes} where
+    module _ {v : Edition} {lay rec : Bytes} where
       pub source-column : {k : Position} → W .here .tree ≡ position k → w .deep ≡ 0 → {q : NodeAt} {r : Source}
           → NodeOf v lay rec (valueNode (valueAt ρ (k .0)) (slice (w .deep) (w .len) (w .path))) q → r ≡ recordSource q → SourceIs ρ v lay rec plan x r
       unfolding stateValue within given
@@ -111,14 +111,14 @@ module _ {plan : Bytes} {w : Walk} {x : State} (W : WalkAt plan w x) where
           record { answer = value-by e g refl ∙ position-null ρ k f F (x .path) (ap (λ (E : List Frame). nextOut (k .0) E (x .path)) (sym g) ∙ next-by e h) }
 
       pub source-constant : {n : Bytes} {t : DataType} {u : Value} → W .here .tree ≡ constant n t u → {q : NodeAt} {r : Source}
-          → NodeOf ByName plan plan (valueNode u (slice (w .deep) (w .len) (w .path))) q → r ≡ constantSource q → SourceIs ρ v lay rec plan x r
+          → NodeOf One plan plan (valueNode u (slice (w .deep) (w .len) (w .path))) q → r ≡ constantSource q → SourceIs ρ v lay rec plan x r
       unfolding stateValue given
       source-constant {n} {t} {u} e {q} N h = subst (λ (r : Source). SourceIs ρ v lay rec plan x r) (sym h) (go q (node-as (ap (valueNode u) (W .path)) N))
         where
           is : stateValue ρ x ≡ within ρ (x .frames) (λ σ. valueNode u (x .path))
           is = value-by e refl refl
 
-          go : (q : NodeAt) → NodeOf ByName plan plan (valueNode u (x .path)) q → SourceIs ρ v lay rec plan x (constantSource q)
+          go : (q : NodeAt) → NodeOf One plan plan (valueNode u (x .path)) q → SourceIs ρ v lay rec plan x (constantSource q)
           go NodeAt.Null N = record { answer = is ∙ ap (λ (y : Value). within ρ (x .frames) (λ σ. y)) (N .none refl) ∙ within-null ρ (x .frames) }
           go (NodeAt.At t c) N = record { answer = record { value = valueNode u (x .path); node = N .here t c refl; is = is } }
 
@@ -147,7 +147,7 @@ module _ {plan : Bytes} {w : Walk} {x : State} (W : WalkAt plan w x) where
 
 -- ---- opening an answer
 
-module _ {ρ : Values} {v : Version} {lay rec plan : Bytes} {x : State} {r : Source} (S : SourceIs ρ v lay rec plan x r) where
+module _ {ρ : Values} {v : Edition} {lay rec plan : Bytes} {x : State} {r : Source} (S : SourceIs ρ v lay rec plan x r) where
   opened : {q : Source} → r ≡ q → sourceAnswer ρ v lay rec plan x q
   opened e = subst (λ (q : Source). sourceAnswer ρ v lay rec plan x q) e (S .answer)
 

@@ -13,7 +13,7 @@ use borrow.Author.Tests.{le-leb, lt-leb}
 use Rattle.layout.specs.Bytes.{Bytes, AllBytes}
 use Rattle.layout.specs.Parser.{ok}
 use Rattle.layout.specs.Tree.{DataType, Fields, fieldsOf}
-use Rattle.layout.specs.declared.version.Version.{Version}
+use Rattle.layout.specs.declared.edition.Edition.{Edition}
 use Rattle.store.specs.Overlay.{overlay}
 use Rattle.store.proofs.Overlay.{overlay-front}
 use Rattle.store.proofs.Holds.{holds-front}
@@ -52,7 +52,7 @@ use Rattle.output.proofs.Emitting.{Rowing, rowing-none, rowing-past, ro
 sub-zero : (n : ℕ) → n - 0 ≡ n
 sub-zero n = omega arith
 
-module _ {v : Version} {lay : Bytes} {n t : ℕ} {rec plan : Bytes} {count first : ℕ} (A : EmitAllAt v lay n t rec plan count first) where
+module _ {v : Edition} {lay : Bytes} {n t : ℕ} {rec plan : Bytes} {count first : ℕ} (A : EmitAllAt v lay n t rec plan count first) where
   abbrev ρ : Values
   ρ = A .row .values .values
 
@@ -208,7 +208,7 @@ module _ (σ : Values) (ss : Selectors) (x : cleanAll (evals σ ss) ≡ true) {a
 
 -- ---- the output
 
-module _ {v : Version} {lay : Bytes} {n t : ℕ} {rec plan : Bytes} {count first : ℕ} (A : OutputAt v lay n t rec plan count first) (ro : AllBytes rec) (po : AllBytes plan) where
+module _ {v : Edition} {lay : Bytes} {n t : ℕ} {rec plan : Bytes} {count first : ℕ} (A : OutputAt v lay n t rec plan count first) (ro : AllBytes rec) (po : AllBytes plan) where
   abbrev σ : Values
   σ = A .row .values .values
 

@@ -8,8 +8,8 @@ use Rattle.layout.specs.Bytes.{Bytes}
 use Rattle.layout.specs.Tree.{leafOf, DataType, leaf, struct, list, array, Fields, fieldsOf}
 use Rattle.layout.specs.Layout.{deepest}
 use Rattle.layout.specs.declared.leaf.Leaf.{Leaf}
-use Rattle.layout.specs.declared.version.Version.{Version}
-use Rattle.layout.specs.declared.version.Version.the-variants.{ByName}
+use Rattle.layout.specs.declared.edition.Edition.{Edition}
+use Rattle.layout.specs.declared.edition.Edition.the-variants.{One}
 use Rattle.values.specs.Value.{Value, vnull, vnumber, voverflow, Values}
 use Rattle.values.specs.Record.{longest}
 use Rattle.forms.specs.Readable.{depthOfFields}
@@ -104,7 +104,7 @@ pub record StructSource (plan : Bytes) (w : Walk) (P : SelectorAt plan (w .at)) 
 -- the constant's value u, wherever its selector is run
 pub record ConstantIs (ρ : Values) (plan : Bytes) (x : State) (t c : ℕ) : Type 0 where
   pub value : Value
-  pub node : NodeIs ByName plan t plan c value
+  pub node : NodeIs One plan t plan c value
   pub is : stateValue ρ x ≡ within ρ (x .frames) (λ σ. value)
 
 pub record StructIs (x : State) (n : ℕ) : Type 0 where
@@ -126,7 +126,7 @@ pub record ArrayIs (x : State) : Type 0 where
   pub selector : x .selector ≡ arrayMapping input element
   pub path : x .path ≡ []
 
-abbrev pub sourceAnswer : Values → Version → Bytes → Bytes → Bytes → State → Source → Type 0
+abbrev pub sourceAnswer : Values → Edition → Bytes → Bytes → Bytes → State → Source → Type 0
 sourceAnswer ρ v lay rec plan x Source.Null = stateValue ρ x ≡ vnull
 sourceAnswer ρ v lay rec plan x (Source.Record t c) = NodeIs v lay (t .at) rec (c .at) (stateValue ρ x)
 sourceAnswer ρ v lay rec plan x (Source.Constant t c) = ConstantIs ρ plan x (t .at) (c .at)
@@ -135,7 +135,7 @@ sourceAnswer ρ v lay rec plan x Source.List = ListIs x
 sourceAnswer ρ v lay rec plan x Source.Array = ArrayIs x
 
 -- where the value of x comes from
-pub record SourceIs (ρ : Values) (v : Version) (lay rec plan : Bytes) (x : State) (r : Source) : Type 0 where
+pub record SourceIs (ρ : Values) (v : Edition) (lay rec plan : Bytes) (x : State) (r : Source) : Type 0 where
   pub answer : sourceAnswer ρ v lay rec plan x r
 
 -- ---- src/parts.rt
@@ -177,7 +177,7 @@ unfoldable pub size : State → ℕ
 size x = length (x .frames) + length (x .path)
 
 -- over the record's values, the value where w stands has no date-time that is too large, and its parts nest no deeper than a walk can follow
-pub record EmitAt (v : Version) (lay : Bytes) (n t : ℕ) (rec plan : Bytes) (w : Walk) : Type 0 where
+pub record EmitAt (v : Edition) (lay : Bytes) (n t : ℕ) (rec plan : Bytes) (w : Walk) : Type 0 where
   pub row : RowAt v lay n t rec 0
   pub state : State
   pub standing : WalkAt plan w state
@@ -202,7 +202,7 @@ isList (arrayMapping s e) = false
 -- ---- src/write.rt
 
 -- the same of what count selectors give, the first of which stands at `first`
-pub record EmitAllAt (v : Version) (lay : Bytes) (n t : ℕ) (rec plan : Bytes) (count first : ℕ) : Type 0 where
+pub record EmitAllAt (v : Edition) (lay : Bytes) (n t : ℕ) (rec plan : Bytes) (count first : ℕ) : Type 0 where
   pub row : RowAt v lay n t rec 0
   pub selectors : SelectorsAt plan count first
   pub clean : cleanAll (givens (row .values .values) (selectors .trees)) ≡ true
@@ -211,7 +211,7 @@ pub record EmitAllAt (v : Version) (lay : Bytes) (n t : ℕ) (rec plan : Bytes) 
   pub small : length plan ≤ longestPlan
 
 -- a plan that passed the check from the columns of a layout, over a record that fits them, where no strict date-time is too large
-pub record OutputAt (v : Version) (lay : Bytes) (n t : ℕ) (rec plan : Bytes) (count first : ℕ) : Type 0 where
+pub record OutputAt (v : Edition) (lay : Bytes) (n t : ℕ) (rec plan : Bytes) (count first : ℕ) : Type 0 where
   pub row : RowAt v lay n t rec 0
   pub selectors : SelectorsAt plan count first
   pub target : Fields

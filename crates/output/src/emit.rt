@@ -23,7 +23,7 @@ use crate::parts::parts_count;
 use crate::source::Source;
 use crate::source::source_at;
 use layout::cursor::Cursor;
-use layout::version::Version;
+use layout::edition::Edition;
 use nodes::raw::Parts;
 use raw::copy::is_null;
 use raw::copy::put_lead;
@@ -33,7 +33,7 @@ use walk::walk::Walk;
 // The constant at `t` and `c` where `at` stands, through the casts that `w` passes; null if it is not run.
 fn emit_constant(
     lay: &[u8],
-    v: Version,
+    v: Edition,
     n: u16,
     columns: Cursor,
     rec: &[u8],
@@ -60,7 +60,7 @@ fn emit_constant(
     if is_run(lay, v, n, columns, rec, plan, at, table) {
         return put_raw(
             plan,
-            Version::ByName,
+            Edition::One,
             t,
             plan,
             c,
@@ -78,7 +78,7 @@ fn emit_constant(
 // The `m` parts of the mapping where the walk stands.
 pub fn emit_parts(
     lay: &[u8],
-    v: Version,
+    v: Edition,
     n: u16,
     columns: Cursor,
     rec: &[u8],
@@ -110,7 +110,7 @@ pub fn emit_parts(
 // A mapping with no path left: null, or its parts.
 fn emit_mapping(
     lay: &[u8],
-    v: Version,
+    v: Edition,
     n: u16,
     columns: Cursor,
     rec: &[u8],
@@ -138,7 +138,7 @@ fn emit_mapping(
 // What the selector where the walk stands gives, from an index on; where it ends, or past the limit.
 pub fn emit(
     lay: &[u8],
-    v: Version,
+    v: Edition,
     n: u16,
     columns: Cursor,
     rec: &[u8],

@@ -18,8 +18,8 @@ use convert::leaf::Converted;
 use convert::leaf::convert_leaf;
 use convert::put::put_number;
 use layout::cursor::Cursor;
+use layout::edition::Edition;
 use layout::leaf::Leaf;
-use layout::version::Version;
 use raw::copy::copy_raw;
 use raw::leaf::LeafValue;
 use raw::leaf::leaf_at;
@@ -76,7 +76,7 @@ fn put_cast(
 // Stores a value through the casts that a walk passes; only a number changes.
 pub fn put_raw(
     lay: &[u8],
-    v: Version,
+    v: Edition,
     t: Cursor,
     rec: &[u8],
     c: Cursor,

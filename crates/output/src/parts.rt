@@ -19,7 +19,7 @@ use crate::casts::find_origin;
 use crate::source::Source;
 use crate::source::source_at;
 use layout::cursor::Cursor;
-use layout::version::Version;
+use layout::edition::Edition;
 use nodes::raw::Parts;
 use nodes::raw::parts_at;
 use walk::walk::Walk;
@@ -112,7 +112,7 @@ fn ask_struct(p: Parts) -> Asked
 
 fn ask_step(
     lay: &[u8],
-    v: Version,
+    v: Edition,
     n: u16,
     columns: Cursor,
     rec: &[u8],
@@ -134,7 +134,7 @@ fn ask_step(
             Asked::Answer(meet(least, own, p))
         }
         Source::Constant(t, c) => {
-            let p = parts_at(plan, Version::ByName, t, plan, c);
+            let p = parts_at(plan, Edition::One, t, plan, c);
             ask_constant(plan, w, meet(least, own, p))
         }
         Source::Struct(count) => ask_struct(meet(least, own, Parts::Some(count as u32))),
@@ -146,7 +146,7 @@ fn ask_step(
 // What is asked of the parts of the value where the walk stands.
 pub fn ask(
     lay: &[u8],
-    v: Version,
+    v: Edition,
     n: u16,
     columns: Cursor,
     rec: &[u8],
@@ -186,7 +186,7 @@ pub fn ask(
 // The number of parts of the value where the walk stands.
 pub fn parts_count(
     lay: &[u8],
-    v: Version,
+    v: Edition,
     n: u16,
     columns: Cursor,
     rec: &[u8],
@@ -205,7 +205,7 @@ pub fn parts_count(
 // Whether the selector where the walk stands is run at all: inside entered mappings, whether the innermost one's input has the part.
 pub fn is_run(
     lay: &[u8],
-    v: Version,
+    v: Edition,
     n: u16,
     columns: Cursor,
     rec: &[u8],

@@ -4,7 +4,7 @@ ghost use Prim.Native.Nat.{_≤_};
 ghost use lib.ListN.{length};
 ghost use lib.Seq.{slice};
 ghost use Rattle.ends.specs.Ends.{Ends};
-ghost use Rattle.layout.specs.declared.version.Version.{Version as VersionOf};
+ghost use Rattle.layout.specs.declared.edition.Edition.{Edition as EditionOf};
 ghost use Rattle.plan.specs.Run.{valueAt};
 ghost use Rattle.walk.specs.State.{State};
 ghost use Rattle.walk.specs.Stands.{SelectorAt};
@@ -16,7 +16,7 @@ ghost use Rattle.raw.specs.Constant.{ConstantRaw};
 ghost use Rattle.output.specs.Chain.{ends, next};
 ghost use Rattle.output.specs.Answers.{recordSource, constantSource, StructSource, SourceIs};
 use layout::cursor::Cursor;
-use layout::version::Version;
+use layout::edition::Edition;
 use layout::walk::skip_type;
 use nodes::raw::NodeAt;
 use nodes::raw::column_value;
@@ -58,7 +58,7 @@ fn constant_source(node: NodeAt) -> Source
 // The column `k` of the record, at what is left of the path.
 fn column_node(
     lay: &[u8],
-    v: Version,
+    v: Edition,
     n: u16,
     columns: Cursor,
     rec: &[u8],
@@ -82,14 +82,14 @@ fn column_node(
 fn constant_node(plan: &[u8], w: Walk, t: Cursor) -> NodeAt
     requires { ⌜ ConstantRaw (now plan) (t .at) ⌝ }
     requires { ⌜ (w .deep ≤ w .len) × (w .len ≤ length (w .path)) ⌝ }
-    ensures { λ r. ⌜ ((X : ConstantRaw (now (plan .entry)) (t .at)) → NodeOf VersionOf.ByName (now (plan .entry)) (now (plan .entry)) (valueNode (X .value .tree) (slice (w .deep) (w .len) (w .path))) r) ⌝ }
+    ensures { λ r. ⌜ ((X : ConstantRaw (now (plan .entry)) (t .at)) → NodeOf EditionOf.One (now (plan .entry)) (now (plan .entry)) (valueNode (X .value .tree) (slice (w .deep) (w .len) (w .path))) r) ⌝ }
 {
     let none: [u16; 1] = [0; 1];
     let path = w.path;
-    let c = skip_type(plan, Version::ByName, 16, t);
+    let c = skip_type(plan, Edition::One, 16, t);
     value_at(
         plan,
-        Version::ByName,
+        Edition::One,
         t,
         plan,
         c,
@@ -112,7 +112,7 @@ fn struct_source(plan: &[u8], w: Walk, input: Cursor) -> Source
 
 pub fn source_at(
     lay: &[u8],
-    v: Version,
+    v: Edition,
     n: u16,
     columns: Cursor,
     rec: &[u8],

@@ -11,7 +11,7 @@ ghost use Rattle.plan.specs.Calls.{bufferAfter};
 ghost use Rattle.output.specs.Answers.{EmitAllAt, OutputAt, writtenOf};
 use crate::emit::emit;
 use layout::cursor::Cursor;
-use layout::version::Version;
+use layout::edition::Edition;
 use walk::head::skip_selector;
 use walk::walk::top;
 
@@ -24,7 +24,7 @@ pub enum Written {
 // What `count` selectors give one after another, from an index on; where it ends, or past the limit.
 pub fn emit_all(
     lay: &[u8],
-    v: Version,
+    v: Edition,
     n: u16,
     columns: Cursor,
     rec: &[u8],
@@ -68,7 +68,7 @@ pub fn scratch() -> [u8; 16384]
 // nothing of the buffer.
 pub fn write_output(
     lay: &[u8],
-    v: Version,
+    v: Edition,
     n: u16,
     columns: Cursor,
     rec: &[u8],

@@ -14,7 +14,7 @@ use Rattle.layout.specs.declared.cursor.Cursor.{Cursor}
 use Rattle.layout.specs.declared.types.Head.{Head}
 use Rattle.layout.specs.declared.types.LeafType.{LeafType as LeafSpan}
 use Rattle.layout.specs.declared.columns.Siblings.the-variants.{Free}
-use Rattle.layout.specs.declared.version.Version.the-variants.{ByName}
+use Rattle.layout.specs.declared.edition.Edition.the-variants.{One}
 use Rattle.layout.proofs.Ways.{clash}
 use Rattle.layout.proofs.View.{next-ok, leaf-at, struct-at}
 use Rattle.layout.proofs.Leaves.{leaf-of-type}
@@ -36,7 +36,7 @@ use Rattle.overflow.specs.declared.stop.Stop.the-variants.{No, Yes, Outw
 -- ---- a constant's value, after its type
 
 pub record RawOf (plan : Bytes) (t : ℕ) (X : RawIn plan t) (c : ℕ) : Type 0 where
-  pub raw : RawAt ByName plan t plan c
+  pub raw : RawAt One plan t plan c
   pub is : raw .value .tree ≡ X .value .tree
 
 pub raw-of : {plan : Bytes} {t : ℕ} (X : RawIn plan t) {c : ℕ} → c ≡ X .type .end → RawOf plan t X c
@@ -51,11 +51,11 @@ raw-of {plan} X e = record {
 -- ---- a cast, by its type
 
 -- a type, after what it begins with
-behind : {s : Bytes} {t : ℕ} (T : TypeAt ByName deepest s t) {k : Kind} {m : ℕ} → kind s t ≡ ok k m → body ByName Free (type ByName Free 15) k s m ≡ ok (T .tree) (T .end)
+behind : {s : Bytes} {t : ℕ} (T : TypeAt One deepest s t) {k : Kind} {m : ℕ} → kind s t ≡ ok k m → body One Free (type One Free 15) k s m ≡ ok (T .tree) (T .end)
 unfolding type next
 behind T q = rw q at (T .reads)
 
-module _ {s : Bytes} {t : ℕ} (T : TypeAt ByName deepest s t) {p : Head} (e : headRes s p ≡ kind s t) (w : Want) where
+module _ {s : Bytes} {t : ℕ} (T : TypeAt One deepest s t) {p : Head} (e : headRes s p ≡ kind s t) (w : Want) where
   pub cast-leaf : {l : LeafSpan} {b : Cursor} → p ≡ Head.Leaf l b → {q : Timed} {r : Stop} → q ≡ timeOf (l .leaf) → r ≡ timeStop q w → r ≡ castStop [] (dtypeOf (T .tree)) w
   unfolding castStop dtypeOf
   cast-leaf {l} f g h =

@@ -14,7 +14,7 @@ use Rattle.layout.specs.declared.cursor.Cursor.{Cursor}
 use Rattle.layout.specs.declared.columns.Label.{Label as LabelSpan}
 use Rattle.layout.specs.declared.columns.Labelled.{Labelled}
 use Rattle.layout.specs.declared.columns.Siblings.the-variants.{Free}
-use Rattle.layout.specs.declared.version.Version.{Version}
+use Rattle.layout.specs.declared.edition.Edition.{Edition}
 use Rattle.layout.proofs.Ways.{clash}
 use Rattle.layout.proofs.View.{FirstAt, first-at, first-labelled, no-column}
 use Rattle.values.specs.Value.{Values}
@@ -54,7 +54,7 @@ unfolding countSelectors
 counted ss e h = let k = sym (ap countSelectors e) ∙ h in omega arith
 
 -- the columns from i on are left; b is whether there is an overflow
-pub record Columning (plan : Bytes) (Γ : Fields) (ρ : Values) (y : Version) (tgt : Bytes) (m : ℕ) (b : Bool) (at to i : ℕ) : Type 0 where
+pub record Columning (plan : Bytes) (Γ : Fields) (ρ : Values) (y : Edition) (tgt : Bytes) (m : ℕ) (b : Bool) (at to i : ℕ) : Type 0 where
   pub within : i ≤ m
   pub fits : FitsAllOver Γ ρ
   pub small : length plan ≤ longestPlan
@@ -77,7 +77,7 @@ none-left : (ρ : Values) (ss : Selectors) → ss ≡ snil → not (cleanAll (ev
 unfolding evals cleanAll
 none-left ρ ss e = rw e
 
-module _ {plan : Bytes} {Γ : Fields} {ρ : Values} {y : Version} {tgt : Bytes} {m : ℕ} {b : Bool} {at to i : ℕ} (C : Columning plan Γ ρ y tgt m b at to i) where
+module _ {plan : Bytes} {Γ : Fields} {ρ : Values} {y : Edition} {tgt : Bytes} {m : ℕ} {b : Bool} {at to i : ℕ} (C : Columning plan Γ ρ y tgt m b at to i) where
   pub columning-all : m ≤ i → false ≡ b
   unfolding fieldsOf
   columning-all h =
@@ -153,12 +153,12 @@ module _ {plan : Bytes} {Γ : Fields} {ρ : Values} {y : Version} {tgt : Bytes} 
             }
 
 -- of all that stand there
-abbrev pub Columnings : Version → Bytes → ℕ → ℕ → Bytes → Bytes → ℕ → Version → Bytes → ℕ → ℕ → ℕ → ℕ → ℕ → Type 0
+abbrev pub Columnings : Edition → Bytes → ℕ → ℕ → Bytes → Bytes → ℕ → Edition → Bytes → ℕ → ℕ → ℕ → ℕ → ℕ → Type 0
 Columnings v lay n columns rec plan first y tgt m target at to i =
     (X : RowAt v lay n columns rec 0) (D : ColumnsAt y 16 tgt m target) (P : PlanAt plan first (fieldsOf (X .columns .columns)) (fieldsOf (D .columns)))
     → Columning plan (fieldsOf (X .columns .columns)) (X .values .values) y tgt m (not (cleanAll (evals (X .values .values) (P .selectors .trees)))) at to i
 
-pub columning-start : (v : Version) (lay : Bytes) (n columns : ℕ) (rec plan : Bytes) (first : ℕ) (y : Version) (tgt : Bytes) (m target : ℕ) → AllBytes rec → AllBytes plan
+pub columning-start : (v : Edition) (lay : Bytes) (n columns : ℕ) (rec plan : Bytes) (first : ℕ) (y : Edition) (tgt : Bytes) (m target : ℕ) → AllBytes rec → AllBytes plan
     → Columnings v lay n columns rec plan first y tgt m target first target 0
 columning-start v lay n columns rec plan first y tgt m target o p X D P = record {
   within = omega arith;

@@ -19,7 +19,7 @@ use Rattle.layout.specs.declared.types.LeafType.{LeafType as LeafSpan}
 use Rattle.layout.specs.declared.columns.Label.{Label as LabelSpan}
 use Rattle.layout.specs.declared.columns.Labelled.{Labelled}
 use Rattle.layout.specs.declared.columns.Siblings.the-variants.{Free}
-use Rattle.layout.specs.declared.version.Version.{Version}
+use Rattle.layout.specs.declared.edition.Edition.{Edition}
 use Rattle.layout.proofs.View.{leaf-at, struct-at, list-at, array-at, FirstAt, first-at, first-labelled, no-column, same-columns}
 use Rattle.layout.proofs.Leaves.{leaf-of-type}
 use Rattle.values.specs.Value.{Values}
@@ -92,7 +92,7 @@ time-kind s l g = g ∙ sym (ap timeOf (leaf-of-type (l .leaf) _))
 leaves-as : (f : List ℕ → TimeUnit → Bool) {t u : ColumnType} {b : Bool} → t ≡ u → b ≡ leaves (dtypeOf u) f → b ≡ leaves (dtypeOf t) f
 leaves-as f h g = g ∙ sym (ap (λ (t : ColumnType). leaves (dtypeOf t) f) h)
 
-module _ {v : Version} {d : ℕ} {s : Bytes} {at : ℕ} (Q : TypeAt v d s at) {p : Head} (e : headRes s p ≡ kind s at) (f : List ℕ → TimeUnit → Bool) where
+module _ {v : Edition} {d : ℕ} {s : Bytes} {at : ℕ} (Q : TypeAt v d s at) {p : Head} (e : headRes s p ≡ kind s at) (f : List ℕ → TimeUnit → Bool) where
   module _ {l : LeafSpan} {c : Cursor} (h : p ≡ Head.Leaf l c) {q : Timed} (g : q ≡ timeOf (l .leaf)) where
     pub time-leaves : {u : TimeUnit} {b : Bool} → q ≡ In u → b ≡ f [] u → b ≡ leaves (dtypeOf (Q .tree)) f
     unfolding leaves dtypeOf atLeaf
@@ -118,13 +118,13 @@ module _ {v : Version} {d : ℕ} {s : Bytes} {at : ℕ} (Q : TypeAt v d s at) {p
 
 -- ---- the loop over a struct's columns: none of the first i of n has one
 
-pub record Fielding (v : Version) (d : ℕ) (s : Bytes) (n c : ℕ) (f : List ℕ → TimeUnit → Bool) (i at : ℕ) : Type 0 where
+pub record Fielding (v : Edition) (d : ℕ) (s : Bytes) (n c : ℕ) (f : List ℕ → TimeUnit → Bool) (i at : ℕ) : Type 0 where
   pub within : i ≤ n
   pub whole : ColumnsAt v d s n c
   pub left : ColumnsAt v d s (n - i) at
   pub same : leavesFrom (fieldsOf (whole .columns)) 0 f ≡ leavesFrom (fieldsOf (left .columns)) i f
 
-pub fielding-none : {v : Version} {d : ℕ} {s : Bytes} {n c : ℕ} (f : List ℕ → TimeUnit → Bool) → ColumnsAt v d s n c → Fielding v d s n c f 0 c
+pub fielding-none : {v : Edition} {d : ℕ} {s : Bytes} {n c : ℕ} (f : List ℕ → TimeUnit → Bool) → ColumnsAt v d s n c → Fielding v d s n c f 0 c
 fielding-none {v} {d} {s} {n} {c} f P = record {
   within = omega arith;
   whole = P;
@@ -147,7 +147,7 @@ or-true b e = rw e
 or-false : {a : Bool} (b : Bool) → a ≡ false → (a || b) ≡ b
 or-false b e = rw e
 
-module _ {v : Version} {d : ℕ} {s : Bytes} {n c : ℕ} {f : List ℕ → TimeUnit → Bool} {i at : ℕ} (F : Fielding v d s n c f i at) where
+module _ {v : Edition} {d : ℕ} {s : Bytes} {n c : ℕ} {f : List ℕ → TimeUnit → Bool} {i at : ℕ} (F : Fielding v d s n c f i at) where
   fielded : (Q : ColumnsAt v d s n c) → leavesFrom (fieldsOf (Q .columns)) 0 f ≡ leavesFrom (fieldsOf (F .left .columns)) i f
   fielded Q = ap (λ (cs : Columns). leavesFrom (fieldsOf cs) 0 f) (same-columns Q (F .whole) .0) ∙ F .same
 
@@ -185,6 +185,6 @@ module _ {v : Version} {d : ℕ} {s : Bytes} {n c : ℕ} {f : List ℕ → TimeU
             }
 
 -- of all that stand there
-abbrev pub Fieldings : Version → Bytes → ℕ → ℕ → Bytes → Bytes → ℕ → Version → ℕ → Bytes → ℕ → ℕ → List ℕ → ℕ → ℕ → ℕ → Type 0
+abbrev pub Fieldings : Edition → Bytes → ℕ → ℕ → Bytes → Bytes → ℕ → Edition → ℕ → Bytes → ℕ → ℕ → List ℕ → ℕ → ℕ → ℕ → Type 0
 Fieldings v lay n columns rec plan top y d tgt m c path len i at =
     (X : RowAt v lay n columns rec 0) (T : TopAt plan top (fieldsOf (X .columns .columns))) → Fielding y d tgt m c (λ p u. overAt (X .values .values) (T .here .tree) path len p u) i at

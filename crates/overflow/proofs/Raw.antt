@@ -21,7 +21,7 @@ use Rattle.layout.specs.declared.types.LeafType.{LeafType as LeafSpan}
 use Rattle.layout.specs.declared.columns.Label.{Label as LabelSpan}
 use Rattle.layout.specs.declared.columns.Labelled.{Labelled}
 use Rattle.layout.specs.declared.columns.Siblings.the-variants.{Free}
-use Rattle.layout.specs.declared.version.Version.{Version}
+use Rattle.layout.specs.declared.edition.Edition.{Edition}
 use Rattle.layout.proofs.Ways.{clash}
 use Rattle.layout.proofs.View.{next-ok, leaf-at, struct-at, array-at}
 use Rattle.layout.proofs.Leaves.{leaf-of-type}
@@ -106,12 +106,12 @@ time-content (Leaf.Decimal d) e = clash (cc)
 -- ---- by what the type begins with
 
 -- a type, after what it begins with
-behind : {v : Version} {lay : Bytes} {t : ℕ} {rec : Bytes} {c : ℕ} (X : PresentAt v lay t rec c) {k : Kind} {m : ℕ} → kind lay t ≡ ok k m → body v Free (type v Free 15) k lay m ≡ ok (X .type .tree) (X .type .end)
+behind : {v : Edition} {lay : Bytes} {t : ℕ} {rec : Bytes} {c : ℕ} (X : PresentAt v lay t rec c) {k : Kind} {m : ℕ} → kind lay t ≡ ok k m → body v Free (type v Free 15) k lay m ≡ ok (X .type .tree) (X .type .end)
 unfolding type next
 behind X q = rw q at (X .type .reads)
 
 -- a value that is a struct, a list or an array, of which n elements
-pub record StructValue (v : Version) (lay : Bytes) (n t : ℕ) (rec : Bytes) (c : ℕ) (x : Value) : Type 0 where
+pub record StructValue (v : Edition) (lay : Bytes) (n t : ℕ) (rec : Bytes) (c : ℕ) (x : Value) : Type 0 where
   pub row : RowAt v lay n t rec c
   pub is : x ≡ vstruct (row .values .values)
 
@@ -124,7 +124,7 @@ pub record ArrayValue (w : ℕ) (x : Value) : Type 0 where
   pub is : x ≡ varray values
   pub counts : countValues values ≡ w
 
-pub record ArrayElements (v : Version) (lay : Bytes) (n t : ℕ) (rec : Bytes) (c : ℕ) (x : Value) : Type 0 where
+pub record ArrayElements (v : Edition) (lay : Bytes) (n t : ℕ) (rec : Bytes) (c : ℕ) (x : Value) : Type 0 where
   pub elements : ElementsAt v lay n t rec c
   pub is : x ≡ varray (elements .values .values)
 
@@ -135,7 +135,7 @@ list-value P =
     let (vs, j, k, f) = next-ok _ _ g in
     record { values = vs; is = cc }
 
-module _ {v : Version} {lay : Bytes} {t : ℕ} {rec : Bytes} {c : ℕ} (X : PresentAt v lay t rec c) {p : Head} (e : headRes lay p ≡ kind lay t) where
+module _ {v : Edition} {lay : Bytes} {t : ℕ} {rec : Bytes} {c : ℕ} (X : PresentAt v lay t rec c) {p : Head} (e : headRes lay p ≡ kind lay t) where
   leaf-type : {l : LeafSpan} {b : Cursor} → p ≡ Head.Leaf l b → dtypeOf (X .type .tree) ≡ leaf (leafAt lay l)
   unfolding dtypeOf
   leaf-type f = ap dtypeOf (leaf-at (X .type) e f .0)

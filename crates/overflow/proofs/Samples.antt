@@ -8,13 +8,13 @@ use lib.ListN.{length}
 use Rattle.layout.specs.Bytes.{Bytes, sameBytes}
 use Rattle.layout.specs.Parser.{Res, ok, next, choose, byte, chunk, u16}
 use Rattle.layout.specs.Tree.{datetime, leaf, Fields, Columns, cleaf, cnil, ccons, dtypeOf, fieldsOf, countFields}
-use Rattle.layout.specs.Layout.{text, unit, leafKind, datetimeKind, kindOf, kind, fieldId, label, repeatsAny, columns, body, type}
+use Rattle.layout.specs.Layout.{text, unit, leafKind, datetimeKind, kindOf, kind, fieldId, fieldMark, labelRest, label, repeatsAny, columns, body, type}
 use Rattle.layout.specs.Stands.{ColumnsAt}
 use Rattle.layout.specs.declared.leaf.TimeUnit.{TimeUnit}
 use Rattle.layout.specs.declared.leaf.TimeUnit.the-variants.{Nanoseconds, Milliseconds}
 use Rattle.layout.specs.declared.leaf.Leaf.the-variants.{Datetime}
 use Rattle.layout.specs.declared.columns.Siblings.the-variants.{Free}
-use Rattle.layout.specs.declared.version.Version.the-variants.{ByName}
+use Rattle.layout.specs.declared.edition.Edition.the-variants.{One}
 use Rattle.layout.specs.Layout.{unitCode}
 use Rattle.forms.specs.Form.{u16Bytes, textBytes, carried, leafForm, kindForm, form, formFields}
 use Rattle.forms.specs.Readable.{depthOf, depthOfFields}
@@ -56,15 +56,15 @@ abbrev s6 : Bytes
 s6 = 1 ∷ 247 ∷ 90 ∷ 208 ∷ 123 ∷ 99 ∷ 8 ∷ 0 ∷ 0 ∷ []
 
 abbrev one : TimeUnit → Columns
-one u = ccons (record { name = 0x74 ∷ []; id = record { 0 = 0 } }) (cleaf (datetime u [])) cnil
+one u = ccons (record { name = 0x74 ∷ []; id = record { 0 = 0 }; required = false }) (cleaf (datetime u [])) cnil
 
 abbrev strict : Selectors
 strict = scons (cast (position (record { 0 = 0 })) (leaf (datetime Nanoseconds [])) Strict) snil
 
 -- opens every definition that the readings go through
 columns-computed : Bytes → Res Columns
-unfolding type kind kindOf leafKind datetimeKind unit body columns label text fieldId repeatsAny byte chunk u16 next choose
-columns-computed s = columns ByName Free (type ByName Free 16) 1 [] s 0
+unfolding type kind kindOf leafKind datetimeKind unit body columns label labelRest text fieldId fieldMark repeatsAny byte chunk u16 next choose
+columns-computed s = columns One Free (type One Free 16) 1 [] s 0
 
 values-computed : Bytes → Res Values
 unfolding fieldsOf dtypeOf presence nullable little contentBy leafContent content byte chunk next choose
@@ -74,19 +74,19 @@ plan-computed : Bytes → Res Selectors
 unfolding columns-computed dtypeOf selectors selector selectorRest positionRest castRest dataType castOption knownOption
 plan-computed s = selectors (selector deepestSelector) 1 s 0
 
-row : (rec : Bytes) (vs : Values) → values (fieldsOf (one Milliseconds)) rec 0 ≡ ok vs 9 → RowAt ByName lay 1 0 rec 0
+row : (rec : Bytes) (vs : Values) → values (fieldsOf (one Milliseconds)) rec 0 ≡ ok vs 9 → RowAt One lay 1 0 rec 0
 unfolding columns-computed
 row rec vs e = record { columns = record { columns = one Milliseconds; end = 5; reads = refl }; values = record { values = vs; end = 9; reads = e } }
 
-s5-row : RowAt ByName lay 1 0 s5 0
+s5-row : RowAt One lay 1 0 s5 0
 unfolding values-computed
 s5-row = row s5 (vcons (vnumber (Datetime Milliseconds) 9223372036854) vnil) refl
 
-s6-row : RowAt ByName lay 1 0 s6 0
+s6-row : RowAt One lay 1 0 s6 0
 unfolding values-computed
 s6-row = row s6 (vcons (vnumber (Datetime Milliseconds) 9223372036855) vnil) refl
 
-targeted : ColumnsAt ByName 16 target 1 0
+targeted : ColumnsAt One 16 target 1 0
 unfolding columns-computed
 targeted = record { columns = one Nanoseconds; end = 5; reads = refl }
 

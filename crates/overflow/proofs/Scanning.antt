@@ -16,7 +16,7 @@ use Rattle.layout.specs.Stands.{TypeAt}
 use Rattle.layout.specs.declared.cursor.Cursor.{Cursor}
 use Rattle.layout.specs.declared.cursor.Moved.{Moved}
 use Rattle.layout.specs.declared.cursor.Short.{Short}
-use Rattle.layout.specs.declared.version.Version.{Version}
+use Rattle.layout.specs.declared.edition.Edition.{Edition}
 use Rattle.layout.proofs.Ways.{clash, moved-to, moved-refused}
 use Rattle.layout.proofs.View.{same-type}
 use Rattle.values.specs.Value.{Value, vnull, vstruct, vlist, varray, Values, vnil, vcons}
@@ -73,11 +73,11 @@ module _ (w : Want) {p : List ℕ} {k : ℕ} {q : List ℕ} (e : p ≡ k ∷ q) 
 
 -- ---- a list's elements, after its count
 
-pub record ListElements (v : Version) (lay : Bytes) (n t : ℕ) (rec : Bytes) (c : ℕ) (x : Value) : Type 0 where
+pub record ListElements (v : Edition) (lay : Bytes) (n t : ℕ) (rec : Bytes) (c : ℕ) (x : Value) : Type 0 where
   pub elements : ElementsAt v lay n t rec c
   pub is : x ≡ vlist (elements .values .values)
 
-pub list-elements : {v : Version} {lay : Bytes} {t : ℕ} {rec : Bytes} {c : ℕ} (X : ListOf v lay t rec c) {q : Short} {n : ℕ} {d : Cursor} → shortRes q ≡ u16 rec c → q ≡ Short.Is n d
+pub list-elements : {v : Edition} {lay : Bytes} {t : ℕ} {rec : Bytes} {c : ℕ} (X : ListOf v lay t rec c) {q : Short} {n : ℕ} {d : Cursor} → shortRes q ≡ u16 rec c → q ≡ Short.Is n d
     → ListElements v lay n t rec (d .at) (X .content .tree)
 list-elements X e f = let L = list-in (X .content) e f in record { elements = record { type = X .type; values = L .inner }; is = L .is }
 
@@ -87,20 +87,20 @@ list-any f e h = h ∙ sym (ap (somePart 0 f) e)
 
 -- ---- the loop over elements: none of the first i of n is such
 
-same-elements : {v : Version} {lay : Bytes} {n t : ℕ} {rec : Bytes} {c : ℕ} (X Y : ElementsAt v lay n t rec c) → X .values .values ≡ Y .values .values
+same-elements : {v : Edition} {lay : Bytes} {n t : ℕ} {rec : Bytes} {c : ℕ} (X Y : ElementsAt v lay n t rec c) → X .values .values ≡ Y .values .values
 same-elements {n = n} {rec = rec} {c = c} X Y =
     let e = same-type (X .type) (Y .type) .0 in
     let z : ok (X .values .values) (X .values .end) ≡ ok (Y .values .values) (Y .values .end) =
     sym (X .values .reads) ∙ ap (λ (t : ColumnType). times n (value (dtypeOf t)) rec c) e ∙ Y .values .reads in
     cc
 
-pub record Scanning (v : Version) (lay : Bytes) (n t : ℕ) (rec : Bytes) (c : ℕ) (f : Value → Bool) (i at : ℕ) : Type 0 where
+pub record Scanning (v : Edition) (lay : Bytes) (n t : ℕ) (rec : Bytes) (c : ℕ) (f : Value → Bool) (i at : ℕ) : Type 0 where
   pub within : i ≤ n
   pub whole : ElementsAt v lay n t rec c
   pub left : EachAt (dtypeOf (whole .type .tree)) (n - i) rec at
   pub same : anyOf f (whole .values .values) ≡ anyOf f (left .values)
 
-pub scanning-none : {v : Version} {lay : Bytes} {n t : ℕ} {rec : Bytes} {c : ℕ} (f : Value → Bool) → ElementsAt v lay n t rec c → Scanning v lay n t rec c f 0 c
+pub scanning-none : {v : Edition} {lay : Bytes} {n t : ℕ} {rec : Bytes} {c : ℕ} (f : Value → Bool) → ElementsAt v lay n t rec c → Scanning v lay n t rec c f 0 c
 scanning-none {n = n} {rec = rec} {c = c} f X = record {
   within = omega arith;
   whole = X;
@@ -124,7 +124,7 @@ any-end : (f : Value → Bool) (vs : Values) → vs ≡ vnil → anyOf f vs ≡ 
 unfolding anyOf
 any-end f vs e = rw e
 
-module _ {v : Version} {lay : Bytes} {n t : ℕ} {rec : Bytes} {c : ℕ} {f : Value → Bool} {i at : ℕ} (S : Scanning v lay n t rec c f i at) where
+module _ {v : Edition} {lay : Bytes} {n t : ℕ} {rec : Bytes} {c : ℕ} {f : Value → Bool} {i at : ℕ} (S : Scanning v lay n t rec c f i at) where
   answer : (X : ElementsAt v lay n t rec c) → anyOf f (X .values .values) ≡ anyOf f (S .left .values)
   answer X = ap (anyOf f) (same-elements X (S .whole)) ∙ S .same
 

@@ -8,7 +8,7 @@ use lib.ListN.{getD}
 use lib.Seq.{slice-empty}
 use Rattle.layout.specs.Bytes.{Bytes, AllBytes}
 use Rattle.layout.specs.Tree.{Fields, fieldsOf}
-use Rattle.layout.specs.declared.version.Version.{Version}
+use Rattle.layout.specs.declared.edition.Edition.{Edition}
 use Rattle.values.specs.Value.{Values}
 use Rattle.values.proofs.Back.{values-back}
 use Rattle.plan.specs.Selector.{Selector}
@@ -149,19 +149,19 @@ module _ {plan : Bytes} {Γ : Fields} {ρ : Values} {b : Bool} {w : Walk} {a : W
 
 -- ---- the start
 
-pub row-over : {v : Version} {lay : Bytes} {n t : ℕ} {rec : Bytes} → AllBytes rec → (X : RowAt v lay n t rec 0) → FitsAllOver (fieldsOf (X .columns .columns)) (X .values .values)
+pub row-over : {v : Edition} {lay : Bytes} {n t : ℕ} {rec : Bytes} → AllBytes rec → (X : RowAt v lay n t rec 0) → FitsAllOver (fieldsOf (X .columns .columns)) (X .values .values)
 row-over {rec = rec} o X = all-over (values-back (fieldsOf (X .columns .columns)) rec o 0 (X .values .values) (X .values .end) (omega arith) (X .values .reads) .fits)
 
 formed-at : {plan : Bytes} {at : ℕ} → AllBytes plan → (P : SelectorAt plan at) → Formed (P .tree)
 formed-at {plan} {at} o P = selector-back plan o 64 at (P .tree) (P .end) (P .reads) .formed
 
 -- of all that stand there
-abbrev pub Going : Version → Bytes → ℕ → ℕ → Bytes → Bytes → Walk → Want → Walk → Want → Type 0
+abbrev pub Going : Edition → Bytes → ℕ → ℕ → Bytes → Bytes → Walk → Want → Walk → Want → Type 0
 Going v lay n columns rec plan w₀ a₀ w a =
     (X : RowAt v lay n columns rec 0) (S : Seeks plan w₀ (fieldsOf (X .columns .columns)))
     → Seeking plan (fieldsOf (X .columns .columns)) (X .values .values) (some a₀ (S .path) (eval (X .values .values) (S .selector))) w a
 
-pub going-start : (v : Version) (lay : Bytes) (n columns : ℕ) (rec plan : Bytes) (w : Walk) (a : Want) → AllBytes rec → AllBytes plan → SmallWant a → Going v lay n columns rec plan w a w a
+pub going-start : (v : Edition) (lay : Bytes) (n columns : ℕ) (rec plan : Bytes) (w : Walk) (a : Want) → AllBytes rec → AllBytes plan → SmallWant a → Going v lay n columns rec plan w a w a
 unfolding asked someIn
 going-start v lay n columns rec plan w a o p s X S = record {
   fits = row-over o X;

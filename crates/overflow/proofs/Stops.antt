@@ -14,7 +14,7 @@ use Rattle.layout.specs.declared.bytes.Span.{Span}
 use Rattle.layout.specs.declared.columns.Position.{Position}
 use Rattle.layout.specs.declared.columns.Siblings.the-variants.{Free}
 use Rattle.layout.specs.declared.cursor.Cursor.{Cursor}
-use Rattle.layout.specs.declared.version.Version.the-variants.{ByName}
+use Rattle.layout.specs.declared.edition.Edition.the-variants.{One}
 use Rattle.values.specs.Value.{Value, Values}
 use Rattle.plan.specs.Selector.{Selector, position}
 use Rattle.plan.specs.Run.{valueAt}
@@ -103,11 +103,11 @@ module _ {plan : Bytes} {w : Walk} {x : State} (M : WalkAt plan w x) where
         constant-stop h = let K = is-constant H f in selected (walk-is M (K .is)) (h (record { type = K .type; value = K .value }))
 
       module _ {c : Cursor} (f : q ≡ SelectorHead.Cast c) {m : ℕ} (g : (P : SelectorAt plan (c .at)) → m ≡ P .end) where
-        pub cast-stop : {r : Stop} → ((T : TypeAt ByName deepest plan m) → r ≡ castStop (x .path) (dtypeOf (T .tree)) a) → r ≡ stopOf ρ x a
+        pub cast-stop : {r : Stop} → ((T : TypeAt One deepest plan m) → r ≡ castStop (x .path) (dtypeOf (T .tree)) a) → r ≡ stopOf ρ x a
         unfolding stopAt
         cast-stop h =
             let C = is-cast H f in
-            selected (walk-is M (C .is)) (h (record { tree = C .type .tree; end = C .type .end; reads = ap (λ (o : ℕ). type ByName Free deepest plan o) (g (C .input)) ∙ C .type .reads }))
+            selected (walk-is M (C .is)) (h (record { tree = C .type .tree; end = C .type .end; reads = ap (λ (o : ℕ). type One Free deepest plan o) (g (C .input)) ∙ C .type .reads }))
 
   -- ---- what the callees ask
 
@@ -118,10 +118,10 @@ module _ {plan : Bytes} {w : Walk} {x : State} (M : WalkAt plan w x) where
     pub constant-raw : {n : Span} {c : Cursor} → q ≡ SelectorHead.Constant n c → RawIn plan (c .at)
     constant-raw f = let K = is-constant H f in record { type = K .type; value = K .value }
 
-    pub cast-type : {c : Cursor} → q ≡ SelectorHead.Cast c → {m : ℕ} → ((P : SelectorAt plan (c .at)) → m ≡ P .end) → TypeAt ByName deepest plan m
+    pub cast-type : {c : Cursor} → q ≡ SelectorHead.Cast c → {m : ℕ} → ((P : SelectorAt plan (c .at)) → m ≡ P .end) → TypeAt One deepest plan m
     cast-type f g =
         let C = is-cast H f in
-        record { tree = C .type .tree; end = C .type .end; reads = ap (λ (o : ℕ). type ByName Free deepest plan o) (g (C .input)) ∙ C .type .reads }
+        record { tree = C .type .tree; end = C .type .end; reads = ap (λ (o : ℕ). type One Free deepest plan o) (g (C .input)) ∙ C .type .reads }
 
   pub path-room : w .len ≤ length (w .path)
   path-room = omega (arith, M .short, M .room .1)

@@ -8,7 +8,7 @@ use Rattle.layout.specs.Bytes.{Bytes}
 use Rattle.layout.specs.Tree.{leafOf, DataType, leaf, struct, list, array, Fields, dtypeOf}
 use Rattle.layout.specs.Layout.{deepest}
 use Rattle.layout.specs.Stands.{TypeAt}
-use Rattle.layout.specs.declared.version.Version.the-variants.{ByName}
+use Rattle.layout.specs.declared.edition.Edition.the-variants.{One}
 use Rattle.values.specs.Value.{Values}
 use Rattle.values.specs.Stands.{ValueAt}
 use Rattle.plan.specs.Result.{gives}
@@ -88,7 +88,7 @@ stopOf ρ x w = stopAt ρ (x .selector) (x .frames) (x .path) w
 
 -- a type in a plan, and after it a value of it: a constant
 pub record RawIn (plan : Bytes) (t : ℕ) : Type 0 where
-  pub type : TypeAt ByName deepest plan t
+  pub type : TypeAt One deepest plan t
   pub value : ValueAt (dtypeOf (type .tree)) plan (type .end)
 
 -- the walk begins at a column's selector, which passed the check over the columns Γ

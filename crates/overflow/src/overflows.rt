@@ -19,9 +19,9 @@ use crate::want::Want;
 use crate::want::time_of;
 use layout::columns::Labelled;
 use layout::cursor::Cursor;
+use layout::edition::Edition;
 use layout::leaf::TimeUnit;
 use layout::types::Head;
-use layout::version::Version;
 use layout::walk::skip_type;
 use walk::head::skip_selector;
 use walk::walk::Walk;
@@ -55,7 +55,7 @@ fn start(at: usize, lim: usize, path: [u16; 64], len: usize) -> Walk
 // At the path to a date-time leaf of the unit `u`, in what the selector at `top` gives.
 fn over_leaf(
     lay: &[u8],
-    v: Version,
+    v: Edition,
     n: u16,
     columns: Cursor,
     rec: &[u8],
@@ -92,14 +92,14 @@ fn over_leaf(
 // At the paths that go on to a date-time leaf of the type at `t`.
 fn over_type(
     lay: &[u8],
-    v: Version,
+    v: Edition,
     n: u16,
     columns: Cursor,
     rec: &[u8],
     plan: &[u8],
     top: usize,
     tgt: &[u8],
-    y: Version,
+    y: Edition,
     depth: u8,
     t: Cursor,
     path: [u16; 64],
@@ -181,14 +181,14 @@ fn over_type(
 // Of a list's or array's element, whose type stands at `t`: every one.
 fn over_element(
     lay: &[u8],
-    v: Version,
+    v: Edition,
     n: u16,
     columns: Cursor,
     rec: &[u8],
     plan: &[u8],
     top: usize,
     tgt: &[u8],
-    y: Version,
+    y: Edition,
     depth: u8,
     t: Cursor,
     path: [u16; 64],
@@ -222,14 +222,14 @@ fn over_element(
 // Of a struct's `m` columns from a cursor.
 fn over_fields(
     lay: &[u8],
-    v: Version,
+    v: Edition,
     n: u16,
     columns: Cursor,
     rec: &[u8],
     plan: &[u8],
     top: usize,
     tgt: &[u8],
-    y: Version,
+    y: Edition,
     depth: u8,
     m: u16,
     c: Cursor,
@@ -281,14 +281,14 @@ fn over_fields(
 // In the output of a plan whose selectors begin at `first`, over a record; the target has `m` columns.
 pub fn overflows(
     lay: &[u8],
-    v: Version,
+    v: Edition,
     n: u16,
     columns: Cursor,
     rec: &[u8],
     plan: &[u8],
     first: Cursor,
     tgt: &[u8],
-    y: Version,
+    y: Edition,
     m: u16,
     target: Cursor,
     table: &[u16],

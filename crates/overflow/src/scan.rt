@@ -16,9 +16,9 @@ use layout::columns::Labelled;
 use layout::cursor::Cursor;
 use layout::cursor::Moved;
 use layout::cursor::Short;
+use layout::edition::Edition;
 use layout::leaf::TimeUnit;
 use layout::types::Head;
-use layout::version::Version;
 use nodes::raw::NodeAt;
 use nodes::raw::field_at;
 use values::leaf::Presence;
@@ -28,7 +28,7 @@ use values::read::read_element;
 
 // ---- a value that is present, at the path's end
 
-fn is_struct(lay: &[u8], v: Version, t: Cursor, rec: &[u8], c: Cursor) -> bool
+fn is_struct(lay: &[u8], v: Edition, t: Cursor, rec: &[u8], c: Cursor) -> bool
     requires { ⌜ PresentAt v (now lay) (t .at) (now rec) (c .at) ⌝ }
     ensures { λ r. ⌜ ((X : PresentAt v (now (lay .entry)) (t .at) (now (rec .entry)) (c .at)) → r ≡ isStruct (X .content .tree)) ⌝ }
 {
@@ -41,7 +41,7 @@ fn is_struct(lay: &[u8], v: Version, t: Cursor, rec: &[u8], c: Cursor) -> bool
     }
 }
 
-fn is_filled(lay: &[u8], v: Version, t: Cursor, rec: &[u8], c: Cursor) -> bool
+fn is_filled(lay: &[u8], v: Edition, t: Cursor, rec: &[u8], c: Cursor) -> bool
     requires { ⌜ PresentAt v (now lay) (t .at) (now rec) (c .at) ⌝ }
     ensures { λ r. ⌜ ((X : PresentAt v (now (lay .entry)) (t .at) (now (rec .entry)) (c .at)) → r ≡ isFilled (X .content .tree)) ⌝ }
 {
@@ -59,7 +59,7 @@ fn is_filled(lay: &[u8], v: Version, t: Cursor, rec: &[u8], c: Cursor) -> bool
 
 fn is_beyond(
     lay: &[u8],
-    v: Version,
+    v: Edition,
     t: Cursor,
     rec: &[u8],
     c: Cursor,
@@ -85,7 +85,7 @@ fn is_beyond(
     }
 }
 
-fn present_meets(lay: &[u8], v: Version, t: Cursor, rec: &[u8], c: Cursor, want: Want) -> bool
+fn present_meets(lay: &[u8], v: Edition, t: Cursor, rec: &[u8], c: Cursor, want: Want) -> bool
     requires { ⌜ PresentAt v (now lay) (t .at) (now rec) (c .at) ⌝ }
     requires { ⌜ SmallWant want ⌝ }
     ensures { λ r. ⌜ ((X : PresentAt v (now (lay .entry)) (t .at) (now (rec .entry)) (c .at)) → r ≡ meets want (X .content .tree)) ⌝ }
@@ -102,7 +102,7 @@ fn present_meets(lay: &[u8], v: Version, t: Cursor, rec: &[u8], c: Cursor, want:
 // Whether one of the nodes at the rest of the path is such as is wanted.
 pub fn some_at(
     lay: &[u8],
-    v: Version,
+    v: Edition,
     t: Cursor,
     rec: &[u8],
     c: Cursor,
@@ -133,7 +133,7 @@ pub fn some_at(
 // The same of a value that is present, where the path is not at its end.
 fn some_part(
     lay: &[u8],
-    v: Version,
+    v: Edition,
     t: Cursor,
     rec: &[u8],
     c: Cursor,
@@ -181,7 +181,7 @@ fn some_part(
 // Of an element of a list that is present, from its count on.
 fn some_listed(
     lay: &[u8],
-    v: Version,
+    v: Edition,
     t: Cursor,
     rec: &[u8],
     c: Cursor,
@@ -205,7 +205,7 @@ fn some_listed(
 // Of one of `n` elements.
 fn some_element(
     lay: &[u8],
-    v: Version,
+    v: Edition,
     n: u32,
     t: Cursor,
     rec: &[u8],

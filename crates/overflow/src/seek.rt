@@ -17,7 +17,7 @@ use crate::stop::Stop;
 use crate::stop::at_stop;
 use crate::want::Want;
 use layout::cursor::Cursor;
-use layout::version::Version;
+use layout::edition::Edition;
 use walk::walk::Walk;
 
 // To the input of the innermost mapping, with no path.
@@ -37,7 +37,7 @@ fn outward(w: Walk) -> Walk
 
 pub fn seek(
     lay: &[u8],
-    v: Version,
+    v: Edition,
     n: u16,
     columns: Cursor,
     rec: &[u8],

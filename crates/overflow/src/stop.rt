@@ -7,7 +7,7 @@ ghost use lib.Seq.{slice};
 ghost use Rattle.ends.specs.Ends.{Ends};
 ghost use Rattle.layout.specs.Tree.{dtypeOf};
 ghost use Rattle.layout.specs.Stands.{TypeAt};
-ghost use Rattle.layout.specs.declared.version.Version.{Version as VersionOf};
+ghost use Rattle.layout.specs.declared.edition.Edition.{Edition as EditionOf};
 ghost use Rattle.layout.specs.Bytes.{Bytes};
 ghost use Rattle.plan.specs.Run.{valueAt};
 ghost use Rattle.plan.specs.Selector.{position};
@@ -24,8 +24,8 @@ use crate::want::bounds_before;
 use crate::want::time_of;
 use layout::columns::Position;
 use layout::cursor::Cursor;
+use layout::edition::Edition;
 use layout::types::Head;
-use layout::version::Version;
 use layout::walk::skip_type;
 use nodes::raw::NodeAt;
 use nodes::raw::column_value;
@@ -51,7 +51,7 @@ fn answer(found: bool) -> Stop
 // In the record's column `k`, at a path.
 fn in_column(
     lay: &[u8],
-    v: Version,
+    v: Edition,
     n: u16,
     columns: Cursor,
     rec: &[u8],
@@ -79,10 +79,10 @@ fn in_constant(plan: &[u8], t: Cursor, path: [u16; 64], from: usize, len: usize,
     ensures { λ r. ⌜ ((X : RawIn (now (plan .entry)) (t .at)) → r ≡ some want (slice from len path) (X .value .tree)) ⌝ }
 {
     let none: [u16; 1] = [0; 1];
-    let c = skip_type(plan, Version::ByName, 16, t);
+    let c = skip_type(plan, Edition::One, 16, t);
     some_at(
         plan,
-        Version::ByName,
+        Edition::One,
         t,
         plan,
         c,
@@ -127,9 +127,9 @@ fn before_time(t: Timed, want: Want) -> Stop
 
 // Before a cast to the type that stands at `t`.
 fn before_cast(plan: &[u8], t: Cursor, want: Want) -> Stop
-    requires { ⌜ TypeAt VersionOf.ByName 16 (now plan) (t .at) ⌝ }
+    requires { ⌜ TypeAt EditionOf.One 16 (now plan) (t .at) ⌝ }
     requires { ⌜ SmallWant want ⌝ }
-    ensures { λ r. ⌜ ((T : TypeAt VersionOf.ByName 16 (now (plan .entry)) (t .at)) → r ≡ castStop [] (dtypeOf (T .tree)) want) ⌝ }
+    ensures { λ r. ⌜ ((T : TypeAt EditionOf.One 16 (now (plan .entry)) (t .at)) → r ≡ castStop [] (dtypeOf (T .tree)) want) ⌝ }
 {
     match t.head(plan) {
         Head::Leaf(l, _) => {
@@ -167,7 +167,7 @@ fn before_list(want: Want) -> Stop
 
 fn at_position(
     lay: &[u8],
-    v: Version,
+    v: Edition,
     n: u16,
     columns: Cursor,
     rec: &[u8],
@@ -208,9 +208,9 @@ fn at_constant(plan: &[u8], t: Cursor, w: Walk, want: Want) -> Stop
 
 // Whose type stands at `t`.
 fn at_cast(plan: &[u8], t: Cursor, w: Walk, want: Want) -> Stop
-    requires { ⌜ TypeAt VersionOf.ByName 16 (now plan) (t .at) ⌝ }
+    requires { ⌜ TypeAt EditionOf.One 16 (now plan) (t .at) ⌝ }
     requires { ⌜ SmallWant want ⌝ }
-    ensures { λ r. ⌜ ((T : TypeAt VersionOf.ByName 16 (now (plan .entry)) (t .at)) (x : State) → WalkAt (now (plan .entry)) w x → r ≡ castStop (x .path) (dtypeOf (T .tree)) want) ⌝ }
+    ensures { λ r. ⌜ ((T : TypeAt EditionOf.One 16 (now (plan .entry)) (t .at)) (x : State) → WalkAt (now (plan .entry)) w x → r ≡ castStop (x .path) (dtypeOf (T .tree)) want) ⌝ }
 {
     if w.deep < w.len {
         return Stop::No;
@@ -229,7 +229,7 @@ fn at_struct(w: Walk, want: Want) -> Stop
 
 pub fn at_stop(
     lay: &[u8],
-    v: Version,
+    v: Edition,
     n: u16,
     columns: Cursor,
     rec: &[u8],

@@ -20,7 +20,7 @@ use Rattle.layout.specs.declared.cursor.Short.{Short}
 use Rattle.layout.specs.declared.cursor.Text.{Text}
 use Rattle.layout.specs.declared.cursor.Moved.{Moved}
 use Rattle.layout.specs.declared.columns.Siblings.the-variants.{Free}
-use Rattle.layout.specs.declared.version.Version.the-variants.{ByName}
+use Rattle.layout.specs.declared.edition.Edition.the-variants.{One}
 use Rattle.layout.proofs.Ways.{clash, moved-to, moved-refused, to-pure, to-on, to-off}
 use Rattle.layout.proofs.Keys.{None, none}
 use Rattle.layout.proofs.OfBytes.{same-bytes-eq}
@@ -48,9 +48,9 @@ module _ (s : Bytes) (at : ℕ) where
   unfolding movedOf
   text-stopped e f = rw (← e, f)
 
-  pub type-to : {r : Moved} → r ≡ movedOf (type ByName Free 16 s at) → r ≡ movedOf (dataType s at)
+  pub type-to : {r : Moved} → r ≡ movedOf (type One Free 16 s at) → r ≡ movedOf (dataType s at)
   unfolding dataType
-  type-to e = to-pure dtypeOf (type ByName Free 16 s at) e
+  type-to e = to-pure dtypeOf (type One Free 16 s at) e
 
   pub position-to : {q : Short} {n : ℕ} {c : Cursor} → shortRes q ≡ u16 s at → q ≡ Short.Is n c → Moved.To c ≡ movedOf (positionRest s at)
   unfolding positionRest next movedOf
@@ -81,25 +81,25 @@ value-end-is e (refuse n) = refl
 value-end-is e (ok v m) = refl
 
 -- the type that a reader passed over
-pub type-stands : (s : Bytes) {d : Cursor} {m : Moved} {e : Cursor} → m ≡ movedOf (type ByName Free 16 s (d .at)) → m ≡ Moved.To e → TypeAt ByName 16 s (d .at)
-type-stands s {d} {m} {e} g h = let t = moved-to (type ByName Free 16 s (d .at)) g h in record { tree = t .0; end = e .at; reads = t .1 }
+pub type-stands : (s : Bytes) {d : Cursor} {m : Moved} {e : Cursor} → m ≡ movedOf (type One Free 16 s (d .at)) → m ≡ Moved.To e → TypeAt One 16 s (d .at)
+type-stands s {d} {m} {e} g h = let t = moved-to (type One Free 16 s (d .at)) g h in record { tree = t .0; end = e .at; reads = t .1 }
 
 module _ (s : Bytes) (at : ℕ) {q : Text} (a : textRes s q ≡ text s at) where
   pub constant-stopped : {n : ℕ} → q ≡ Text.Refused n → Moved.Refused n ≡ movedOf (constantRest s at)
   unfolding constantRest next movedOf
   constant-stopped f = rw (← a, f)
 
-  module _ {p : Span} {d : Cursor} (f : q ≡ Text.Is p d) {m : Moved} (g : m ≡ movedOf (type ByName Free 16 s (d .at))) where
+  module _ {p : Span} {d : Cursor} (f : q ≡ Text.Is p d) {m : Moved} (g : m ≡ movedOf (type One Free 16 s (d .at))) where
     pub constant-untyped : {n : ℕ} → m ≡ Moved.Refused n → Moved.Refused n ≡ movedOf (constantRest s at)
     unfolding constantRest dataType next movedOf
-    constant-untyped h = rw (← a, f) (rw (moved-refused (type ByName Free 16 s (d .at)) g h))
+    constant-untyped h = rw (← a, f) (rw (moved-refused (type One Free 16 s (d .at)) g h))
 
     pub constant-to : {e : Cursor} {r : ValueRead} {o : Moved} → m ≡ Moved.To e
-        → ((P : TypeAt ByName 16 s (d .at)) → r ≡ valueMoved (P .end) (value (dtypeOf (P .tree)) s (e .at))) → o ≡ valueEnd r → o ≡ movedOf (constantRest s at)
+        → ((P : TypeAt One 16 s (d .at)) → r ≡ valueMoved (P .end) (value (dtypeOf (P .tree)) s (e .at))) → o ≡ valueEnd r → o ≡ movedOf (constantRest s at)
     unfolding constantRest dataType next
     constant-to {e} {r} {o} h v w =
-        let t = moved-to (type ByName Free 16 s (d .at)) g h in
-        let P : TypeAt ByName 16 s (d .at) = record { tree = t .0; end = e .at; reads = t .1 } in
+        let t = moved-to (type One Free 16 s (d .at)) g h in
+        let P : TypeAt One 16 s (d .at) = record { tree = t .0; end = e .at; reads = t .1 } in
         let z : o ≡ movedOf (value (dtypeOf (t .0)) s (e .at)) = w ∙ ap valueEnd (v P) ∙ value-end-is (e .at) (value (dtypeOf (t .0)) s (e .at)) in
         rw (← a, f) (rw (t .1) (to-pure (λ (x : Value). constant _ (dtypeOf (t .0)) x) (value (dtypeOf (t .0)) s (e .at)) z))
 

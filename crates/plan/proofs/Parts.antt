@@ -11,7 +11,7 @@ use Rattle.layout.specs.Parser.{ok, next, choose, byte, u16}
 use Rattle.layout.specs.Tree.{DataType}
 use Rattle.layout.specs.Layout.{text, deepest}
 use Rattle.layout.specs.declared.columns.Siblings.the-variants.{Free}
-use Rattle.layout.specs.declared.version.Version.the-variants.{ByName}
+use Rattle.layout.specs.declared.edition.Edition.the-variants.{One}
 use Rattle.layout.proofs.Ways.{clash}
 use Rattle.layout.proofs.View.{next-ok}
 use Rattle.forms.specs.Form.{u16Bytes, textBytes, form}
@@ -77,9 +77,9 @@ module _ (s : Bytes) (o : AllBytes s) (at : ℕ) where
   unfolding dataType
   type-back e =
       let (c, i, p, q) = next-ok _ _ e in
-      let (a, b, l, d) = read-extent ByName Free deepest s at p in
+      let (a, b, l, d) = read-extent One Free deepest s at p in
       ok-same (λ t m. Stand s at (form t) m × FormedType t) q
-      (stands→stand (type-stands o (type→ ByName Free s deepest at p)), record { readable = read-readable ByName Free deepest s at o p; deep = d })
+      (stands→stand (type-stands o (type→ One Free s deepest at p)), record { readable = read-readable One Free deepest s at o p; deep = d })
 
   known-back : (k : OptionCode) (b i : ℕ) {c : CastOption} {m : ℕ} → optionAt b ≡ k → byte s at ≡ ok b i → knownOption k s i ≡ ok c m → Stand s at (optionCode c ∷ []) m
   unfolding knownOption

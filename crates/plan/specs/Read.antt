@@ -9,7 +9,7 @@ use Rattle.layout.specs.Parser.{Res, refuse, ok, Parser, _>>=_, _>>_, pure, fai
 use Rattle.layout.specs.Tree.{DataType, dtypeOf}
 use Rattle.layout.specs.Layout.{text, type, deepest, ended}
 use Rattle.layout.specs.declared.columns.Siblings.the-variants.{Free}
-use Rattle.layout.specs.declared.version.Version.the-variants.{ByName}
+use Rattle.layout.specs.declared.edition.Edition.the-variants.{One}
 use Rattle.rules.specs.declared.outcome.CastOption.{CastOption}
 use Rattle.rules.specs.declared.outcome.OptionCode.{OptionCode}
 use Rattle.rules.specs.declared.outcome.OptionCode.the-variants.{Known, Unknown}
@@ -22,7 +22,7 @@ use Rattle.plan.specs.Encode.{planMark}
 -- a type in version 1 form; its inner names may repeat, and it starts at depth 1 wherever its selector stands
 unfoldable pub dataType : Parser DataType
 dataType = do
-  c ← type ByName Free deepest
+  c ← type One Free deepest
   pure (dtypeOf c)
 
 unfoldable pub knownOption : OptionCode → Parser CastOption

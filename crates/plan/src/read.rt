@@ -13,8 +13,8 @@ use layout::cursor::Moved;
 use layout::cursor::Short;
 use layout::cursor::Step;
 use layout::cursor::Text;
+use layout::edition::Edition;
 use layout::pass::pass_type;
-use layout::version::Version;
 use rules::outcome::OptionCode;
 use rules::outcome::option_of_code;
 use values::read::ValueRead;
@@ -39,7 +39,7 @@ fn read_text(s: &[u8], c: Cursor) -> Moved
 fn read_data_type(s: &[u8], c: Cursor) -> Moved
     ensures { λ r. ⌜ r ≡ movedOf (dataType (now (s .entry)) (c .at)) ⌝ }
 {
-    pass_type(s, Version::ByName, 16, c)
+    pass_type(s, Edition::One, 16, c)
 }
 
 fn read_option(s: &[u8], c: Cursor) -> Moved
@@ -78,8 +78,8 @@ fn read_constant(s: &[u8], c: Cursor) -> Moved
 {
     let none: [u16; 1] = [0; 1];
     match c.text(s) {
-        Text::Is(_, d) => match pass_type(s, Version::ByName, 16, d) {
-            Moved::To(e) => value_end(read_value(s, Version::ByName, 16, d, s, e, &none[..0])),
+        Text::Is(_, d) => match pass_type(s, Edition::One, 16, d) {
+            Moved::To(e) => value_end(read_value(s, Edition::One, 16, d, s, e, &none[..0])),
             Moved::Refused(k) => Moved::Refused(k),
         },
         Text::Refused(k) => Moved::Refused(k),

@@ -20,7 +20,7 @@ use Rattle.layout.specs.declared.cursor.Cursor.{Cursor}
 use Rattle.layout.specs.declared.leaf.Leaf.{Leaf}
 use Rattle.layout.specs.declared.types.Head.{Head}
 use Rattle.layout.specs.declared.types.LeafType.{LeafType as LeafSpan}
-use Rattle.layout.specs.declared.version.Version.{Version}
+use Rattle.layout.specs.declared.edition.Edition.{Edition}
 use Rattle.layout.proofs.Leaves.{leaf-of-type}
 use Rattle.layout.proofs.Ways.{clash}
 use Rattle.layout.proofs.View.{next-ok, leaf-at}
@@ -156,7 +156,7 @@ content-other (list t) s at {v} n e =
 content-other (array w t) s at {v} n e = let (vs, i, h, g) = next-ok _ _ e in let z : varray vs ≡ v = cc in ap isNumber (sym z)
 
 -- a type, by what it begins with
-module _ {v : Version} {s : Bytes} {at : ℕ} (T : TypeAt v 16 s at) where
+module _ {v : Edition} {s : Bytes} {at : ℕ} (T : TypeAt v 16 s at) where
   behind : {k : Kind} {m : ℕ} → kind s at ≡ ok k m → body v Free (type v Free 15) k s m ≡ ok (T .tree) (T .end)
   unfolding type next
   behind q = rw q at (T .reads)
@@ -187,7 +187,7 @@ module _ {v : Version} {s : Bytes} {at : ℕ} (T : TypeAt v 16 s at) where
       let z : carray w l u ≡ T .tree = cc in
       sym (nested-by z)
 
-module _ {v : Version} {lay : Bytes} {t : ℕ} {rec : Bytes} {c : ℕ} (X : PresentAt v lay t rec c) where
+module _ {v : Edition} {lay : Bytes} {t : ℕ} {rec : Bytes} {c : ℕ} (X : PresentAt v lay t rec c) where
   nested-other : isNested (dtypeOf (X .type .tree)) ≡ true → LeafIs (X .content .tree) LeafValue.Other
   nested-other n = is-other (content-other (dtypeOf (X .type .tree)) rec c n (X .content .reads))
 
@@ -204,7 +204,7 @@ pub record LeafIn (k : Leaf) (s : Bytes) (at : ℕ) (v : Value) : Type 0 where
   pub inner : LeafAt k s at
   pub is : inner .tree ≡ v
 
-pub leaf-in : {v : Version} {lay : Bytes} {t : ℕ} {rec : Bytes} {c : ℕ} (X : PresentAt v lay t rec c) {p : Head} {l : LeafSpan} {e : Cursor}
+pub leaf-in : {v : Edition} {lay : Bytes} {t : ℕ} {rec : Bytes} {c : ℕ} (X : PresentAt v lay t rec c) {p : Head} {l : LeafSpan} {e : Cursor}
     → headRes lay p ≡ kind lay t → p ≡ Head.Leaf l e → LeafIn (l .leaf) rec c (X .content .tree)
 unfolding content dtypeOf
 leaf-in {lay = lay} {rec = rec} {c = c} X {l = l} h q =
@@ -220,7 +220,7 @@ leaf-as {r = r} e h = subst (λ (x : Value). LeafIs x r) e h
 length-part : (s : Bytes) (a m : ℕ) → a < m → m ≤ length s → length (take (m - a) (drop a s)) ≡ m - a
 length-part s a m h l = length-take-le (m - a) (drop a s) (let z : length (drop a s) ≡ length s - a = length-drop a s in omega arith)
 
-module _ {v : Version} {lay : Bytes} {t : ℕ} {rec : Bytes} {c : ℕ} (X : RawAt v lay t rec c) {r : ValueRead}
+module _ {v : Edition} {lay : Bytes} {t : ℕ} {rec : Bytes} {c : ℕ} (X : RawAt v lay t rec c) {r : ValueRead}
     (h : r ≡ valueMoved (X .type .end) (value (dtypeOf (X .type .tree)) rec c)) where
   pub raw-refused : {B : Type 0} {n : ℕ} → r ≡ ValueRead.Refused n → B
   raw-refused {n = n} q =

@@ -11,7 +11,7 @@ ghost use Rattle.values.specs.Stands.{ValueAt};
 ghost use Rattle.nodes.specs.Raw.{RawAt};
 ghost use Rattle.raw.specs.Stored.{Stores, lead};
 use layout::cursor::Cursor;
-use layout::version::Version;
+use layout::edition::Edition;
 use store::put;
 use values::copy::copy_value;
 use values::leaf::Presence;
@@ -31,7 +31,7 @@ pub fn is_null(rec: &[u8], c: Cursor) -> bool
 // Stores the value's bytes from an index on; where they end.
 pub fn copy_raw(
     lay: &[u8],
-    v: Version,
+    v: Edition,
     t: Cursor,
     rec: &[u8],
     c: Cursor,

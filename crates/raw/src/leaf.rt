@@ -2,9 +2,9 @@
 ghost use Rattle.nodes.specs.Raw.{RawAt};
 ghost use Rattle.raw.specs.Number.{LeafAt, LeafIs};
 use layout::cursor::Cursor;
+use layout::edition::Edition;
 use layout::leaf::Leaf;
 use layout::types::Head;
-use layout::version::Version;
 use values::content::Content;
 use values::content::content_of;
 use values::leaf::Presence;
@@ -32,7 +32,7 @@ fn present_leaf(rec: &[u8], leaf: Leaf, c: Cursor) -> LeafValue
     }
 }
 
-pub fn leaf_at(lay: &[u8], v: Version, t: Cursor, rec: &[u8], c: Cursor) -> LeafValue
+pub fn leaf_at(lay: &[u8], v: Edition, t: Cursor, rec: &[u8], c: Cursor) -> LeafValue
     requires { ⌜ RawAt v (now lay) (t .at) (now rec) (c .at) ⌝ }
     ensures { λ r. ⌜ ((X : RawAt v (now (lay .entry)) (t .at) (now (rec .entry)) (c .at)) → LeafIs (X .value .tree) r) ⌝ }
 {

@@ -12,7 +12,7 @@ use Rattle.layout.specs.Tree.{Layout, Fields, fieldsOf}
 use Rattle.layout.specs.Layout.{layout, deepest}
 use Rattle.layout.specs.Stands.{ColumnsAt, LayoutAt}
 use Rattle.layout.specs.declared.columns.Siblings.the-variants.{Free}
-use Rattle.layout.specs.declared.version.Version.{Version}
+use Rattle.layout.specs.declared.edition.Edition.{Edition}
 use Rattle.layout.proofs.Ways.{clash}
 use Rattle.forms.specs.Readable.{depthOfFields}
 use Rattle.forms.proofs.Read.{type→, columns→}
@@ -136,7 +136,7 @@ module _ (ρ : Values) (ss : Selectors) {aside₀ : Bytes} (size : 16384 ≡ len
 
 -- ---- what a plan that passed gives to the parts
 
-module _ {incoming : Bytes} {v : Version} {n : ℕ} {plan : Bytes} {count : ℕ} {target : Bytes} {vt : Version} {m : ℕ} (P : PassedAt incoming v n plan count target vt m) {rec : Bytes}
+module _ {incoming : Bytes} {v : Edition} {n : ℕ} {plan : Bytes} {count : ℕ} {target : Bytes} {vt : Edition} {m : ℕ} (P : PassedAt incoming v n plan count target vt m) {rec : Bytes}
     (F : RecordFits (fieldsOf (P .columns .columns)) rec) where
   abbrev pub row-of : RowAt v incoming n 7 rec 0
   row-of = record { columns = P .columns; values = record-at F .inner }
@@ -157,13 +157,13 @@ module _ {incoming : Bytes} {v : Version} {n : ℕ} {plan : Bytes} {count : ℕ}
     within = P .starts;
   }
 
-abbrev pub plan-of : {incoming : Bytes} {v : Version} {n : ℕ} {plan : Bytes} {count : ℕ} {target : Bytes} {vt : Version} {m : ℕ} (P : PassedAt incoming v n plan count target vt m)
+abbrev pub plan-of : {incoming : Bytes} {v : Edition} {n : ℕ} {plan : Bytes} {count : ℕ} {target : Bytes} {vt : Edition} {m : ℕ} (P : PassedAt incoming v n plan count target vt m)
     → PlanAt plan 7 (fieldsOf (P .columns .columns)) (fieldsOf (P .targets .columns))
 plan-of {count = count} P = record { count = count; selectors = P .selectors; starts = P .starts; small = P .small; passes = P .passes }
 
 -- ---- the check
 
-module _ {incoming : Bytes} {v : Version} {n : ℕ} {plan : Bytes} {count : ℕ} {target : Bytes} {vt : Version} {m : ℕ} {Γ : Fields} {ss : Selectors}
+module _ {incoming : Bytes} {v : Edition} {n : ℕ} {plan : Bytes} {count : ℕ} {target : Bytes} {vt : Edition} {m : ℕ} {Γ : Fields} {ss : Selectors}
     (T : TopsAt incoming v n plan count 7 Γ ss) (Q : ColumnsAt vt deepest target m 7) where
   pub check-passed : (x : Answer (Unit {0})) → planChecked x ≡ PlanChecked.Passed → x ≡ accepted tt
   check-passed (accepted u) e = refl
@@ -214,12 +214,12 @@ module _ (incoming target bytes rec : Bytes) (room : ℕ) where
   unfolding runPlan readPlan readAt
   run-first e = rw e
 
-  module _ {v : Version} {n : ℕ} (L : LayoutAt incoming v n) where
+  module _ {v : Edition} {n : ℕ} (L : LayoutAt incoming v n) where
     pub run-second : {k : ℕ} → layout target ≡ refuse k → runPlan incoming target bytes rec room ≡ refusedAt k 2
     unfolding runPlan readPlan readAt
     run-second e = rw (L .reads, e)
 
-    module _ {w : Version} {m : ℕ} (M : LayoutAt target w m) where
+    module _ {w : Edition} {m : ℕ} (M : LayoutAt target w m) where
       pub run-third : {k : ℕ} → plan bytes ≡ refuse k → runPlan incoming target bytes rec room ≡ refusedAt k 0
       unfolding runPlan readPlan readAt
       run-third e = rw (L .reads, M .reads, e)

@@ -7,7 +7,7 @@ use Rattle.layout.specs.Bytes.{Bytes}
 use Rattle.layout.specs.Tree.{Fields, fieldsOf}
 use Rattle.layout.specs.Layout.{deepest}
 use Rattle.layout.specs.Stands.{ColumnsAt}
-use Rattle.layout.specs.declared.version.Version.{Version}
+use Rattle.layout.specs.declared.edition.Edition.{Edition}
 use Rattle.values.specs.Value.{Values}
 use Rattle.values.specs.Record.{recordOf}
 use Rattle.plan.specs.Result.{Answer, accepted, refusedAt, answered}
@@ -36,7 +36,7 @@ abbrev pub checkedRun : Fields → Fields → Selectors → Bytes → ℕ → An
 checkedRun Γ Δ ss rec room = answered (check Γ Δ ss) (λ x. recordRun Γ ss rec room)
 
 -- a plan that passed the check between two layouts, where all three stand
-pub record PassedAt (incoming : Bytes) (v : Version) (n : ℕ) (plan : Bytes) (count : ℕ) (target : Bytes) (vt : Version) (m : ℕ) : Type 0 where
+pub record PassedAt (incoming : Bytes) (v : Edition) (n : ℕ) (plan : Bytes) (count : ℕ) (target : Bytes) (vt : Edition) (m : ℕ) : Type 0 where
   pub columns : ColumnsAt v deepest incoming n 7
   pub targets : ColumnsAt vt deepest target m 7
   pub selectors : SelectorsAt plan count 7

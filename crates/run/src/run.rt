@@ -16,9 +16,9 @@ use checker::tops::PlanChecked;
 use checker::tops::check_read;
 use ends::fill::fill_columns;
 use layout::cursor::Cursor;
+use layout::edition::Edition;
 use layout::read::LayoutRead;
 use layout::read::read_layout;
-use layout::version::Version;
 use output::write::Written;
 use output::write::write_output;
 use overflow::overflows::overflows;
@@ -42,12 +42,12 @@ fn finish(w: Written) -> WriteResult
 // paths.
 fn run_general(
     incoming: &[u8],
-    v: Version,
+    v: Edition,
     n: u16,
     plan: &[u8],
     count: u16,
     target: &[u8],
-    vt: Version,
+    vt: Edition,
     m: u16,
     rec: &[u8],
     output: &mut [u8],
@@ -80,12 +80,12 @@ fn run_general(
 // The same, with a table of its own.
 fn run_filled(
     incoming: &[u8],
-    v: Version,
+    v: Edition,
     n: u16,
     plan: &[u8],
     count: u16,
     target: &[u8],
-    vt: Version,
+    vt: Edition,
     m: u16,
     rec: &[u8],
     output: &mut [u8],
@@ -113,12 +113,12 @@ fn run_filled(
 // The same, where the table may be empty: the general way reads values more than once.
 fn run_unsettled(
     incoming: &[u8],
-    v: Version,
+    v: Edition,
     n: u16,
     plan: &[u8],
     count: u16,
     target: &[u8],
-    vt: Version,
+    vt: Edition,
     m: u16,
     rec: &[u8],
     output: &mut [u8],
@@ -149,12 +149,12 @@ fn run_unsettled(
 // A plan that passed the check, over a record, with a table of where structs end: in one pass, where that settles it.
 fn run_record(
     incoming: &[u8],
-    v: Version,
+    v: Edition,
     n: u16,
     plan: &[u8],
     count: u16,
     target: &[u8],
-    vt: Version,
+    vt: Edition,
     m: u16,
     rec: &[u8],
     output: &mut [u8],
@@ -199,12 +199,12 @@ fn is_short(len: usize, rec: usize) -> bool {
 // With a table of where the structs of the incoming layout end.
 fn run_tabled(
     incoming: &[u8],
-    v: Version,
+    v: Edition,
     n: u16,
     plan: &[u8],
     count: u16,
     target: &[u8],
-    vt: Version,
+    vt: Edition,
     m: u16,
     rec: &[u8],
     output: &mut [u8],
@@ -232,12 +232,12 @@ fn run_tabled(
 // A plan that passed the check, over a record.
 fn run_passed(
     incoming: &[u8],
-    v: Version,
+    v: Edition,
     n: u16,
     plan: &[u8],
     count: u16,
     target: &[u8],
-    vt: Version,
+    vt: Edition,
     m: u16,
     rec: &[u8],
     output: &mut [u8],
@@ -267,12 +267,12 @@ fn run_passed(
 // A plan that was read, over two layouts that were read.
 fn run_read(
     incoming: &[u8],
-    v: Version,
+    v: Edition,
     n: u16,
     plan: &[u8],
     count: u16,
     target: &[u8],
-    vt: Version,
+    vt: Edition,
     m: u16,
     rec: &[u8],
     output: &mut [u8],
@@ -299,12 +299,12 @@ pub fn run_plan(
 {
     match read_layout(incoming) {
         LayoutRead::Read {
-            version: v,
+            edition: v,
             count: n,
             columns: _,
         } => match read_layout(target) {
             LayoutRead::Read {
-                version: vt,
+                edition: vt,
                 count: m,
                 columns: _,
             } => match read_plan(plan) {

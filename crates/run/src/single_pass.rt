@@ -7,7 +7,7 @@ ghost use Rattle.nodes.specs.Raw.{RowAt};
 ghost use Rattle.run.specs.Answers.{DirectIs};
 use composed::whole::Transferred;
 use composed::whole::transfer_record;
-use layout::version::Version;
+use layout::edition::Edition;
 use output::write::Written;
 use output::write::scratch;
 
@@ -19,7 +19,7 @@ pub enum Direct {
 
 pub fn write_direct(
     lay: &[u8],
-    v: Version,
+    v: Edition,
     n: u16,
     rec: &[u8],
     plan: &[u8],

@@ -51,7 +51,7 @@ fn begins(file: &[u8], mark: &[u8]) -> bool
 fn show_layout(file: &[u8]) {
     match read_layout(file) {
         LayoutRead::Read {
-            version: v,
+            edition: v,
             count: n,
             columns: c,
         } => put_layout(file, v, n, c),

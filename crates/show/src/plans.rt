@@ -18,7 +18,7 @@ use text::words::put_refusal;
 fn top_scope(lay: &[u8]) -> Scope {
     match read_layout(lay) {
         LayoutRead::Read {
-            version: v,
+            edition: v,
             count: n,
             columns: c,
         } => Scope::Columns(Source::Incoming, v, n, c),
@@ -45,7 +45,7 @@ pub fn put_plan_alone(plan: &[u8]) {
 pub fn put_plan_over(plan: &[u8], incoming: &[u8]) {
     match read_layout(incoming) {
         LayoutRead::Read {
-            version: v,
+            edition: v,
             count: n,
             columns: c,
         } => put_plan(

@@ -6,9 +6,9 @@ use layout::columns::Labelled;
 use layout::columns::Position;
 use layout::cursor::Cursor;
 use layout::cursor::Moved;
+use layout::edition::Edition;
 use layout::pass::pass_columns;
 use layout::types::Head;
-use layout::version::Version;
 use text::out::put;
 use text::out::put_number;
 use walk::head::SelectorHead;
@@ -23,14 +23,14 @@ pub enum Source {
 
 // The number of columns and where they begin; where an element's type begins.
 pub enum Scope {
-    Columns(Source, Version, u16, Cursor),
-    Element(Source, Version, Cursor),
+    Columns(Source, Edition, u16, Cursor),
+    Element(Source, Edition, Cursor),
     Unknown,
 }
 
 // Where a type begins.
 pub enum Known {
-    At(Source, Version, Cursor),
+    At(Source, Edition, Cursor),
     Unknown,
 }
 
@@ -40,7 +40,7 @@ pub enum Column {
 }
 
 // The column at a position among `n` that begin at `c`.
-pub fn find_column(s: &[u8], v: Version, n: u16, c: Cursor, k: Position) -> Column {
+pub fn find_column(s: &[u8], v: Edition, n: u16, c: Cursor, k: Position) -> Column {
     if n <= k.0 {
         return Column::Absent;
     }
@@ -53,7 +53,7 @@ pub fn find_column(s: &[u8], v: Version, n: u16, c: Cursor, k: Position) -> Colu
     }
 }
 
-fn column_type(s: &[u8], source: Source, v: Version, n: u16, c: Cursor, k: Position) -> Known {
+fn column_type(s: &[u8], source: Source, v: Edition, n: u16, c: Cursor, k: Position) -> Known {
     match find_column(s, v, n, c, k) {
         Column::Is(_, d) => Known::At(source, v, d),
         Column::Absent => Known::Unknown,
@@ -78,10 +78,10 @@ pub fn type_of(plan: &[u8], incoming: &[u8], scope: Scope, depth: u8, c: Cursor)
     }
     match head(plan, c) {
         SelectorHead::Position(k) => position_type(plan, incoming, scope, k),
-        SelectorHead::Constant(_, d) => Known::At(Source::Plan, Version::ByName, d),
+        SelectorHead::Constant(_, d) => Known::At(Source::Plan, Edition::One, d),
         SelectorHead::Cast(input) => Known::At(
             Source::Plan,
-            Version::ByName,
+            Edition::One,
             skip_selector(plan, input),
         ),
         SelectorHead::Rename(input) => type_of(plan, incoming, scope, depth - 1, input),
@@ -92,7 +92,7 @@ pub fn type_of(plan: &[u8], incoming: &[u8], scope: Scope, depth: u8, c: Cursor)
     }
 }
 
-fn scope_at(s: &[u8], source: Source, v: Version, c: Cursor) -> Scope {
+fn scope_at(s: &[u8], source: Source, v: Edition, c: Cursor) -> Scope {
     match c.head(s) {
         Head::Leaf(_, _) => Scope::Unknown,
         Head::Struct(n, d) => Scope::Columns(source, v, n, d),
@@ -102,7 +102,7 @@ fn scope_at(s: &[u8], source: Source, v: Version, c: Cursor) -> Scope {
     }
 }
 
-fn element_at(s: &[u8], source: Source, v: Version, c: Cursor) -> Scope {
+fn element_at(s: &[u8], source: Source, v: Edition, c: Cursor) -> Scope {
     match c.element_label(s, v) {
         Labelled::Is(_, d) => Scope::Element(source, v, d),
         Labelled::Refused(_) => Scope::Unknown,
@@ -120,7 +120,7 @@ pub fn inside(plan: &[u8], incoming: &[u8], known: Known) -> Scope {
     }
 }
 
-fn put_taken(s: &[u8], v: Version, n: u16, c: Cursor, k: Position) {
+fn put_taken(s: &[u8], v: Edition, n: u16, c: Cursor, k: Position) {
     match find_column(s, v, n, c, k) {
         Column::Is(l, d) => {
             put(b" ");
@@ -130,7 +130,7 @@ fn put_taken(s: &[u8], v: Version, n: u16, c: Cursor, k: Position) {
     }
 }
 
-fn put_element_taken(s: &[u8], v: Version, c: Cursor, k: Position) {
+fn put_element_taken(s: &[u8], v: Edition, c: Cursor, k: Position) {
     if k.0 == 0 {
         put(b" ");
         put_type(s, v, 16, c);

@@ -17,8 +17,8 @@ use describe::types::put_type;
 use layout::bytes::Span;
 use layout::cursor::Cursor;
 use layout::cursor::Moved;
+use layout::edition::Edition;
 use layout::pass::pass_type;
-use layout::version::Version;
 use plan::read::read_selector;
 use rules::outcome::CastOption;
 use text::out::deeper;
@@ -47,16 +47,16 @@ fn put_option(o: CastOption) {
 fn put_cast(plan: &[u8], input: Cursor, level: u8) {
     let t = skip_selector(plan, input);
     put(b"cast to ");
-    put_type(plan, Version::ByName, 16, t);
+    put_type(plan, Edition::One, 16, t);
     put_option(cast_option(plan, t));
-    put_inner(plan, Version::ByName, 16, t, deeper(deeper(level)));
+    put_inner(plan, Edition::One, 16, t, deeper(deeper(level)));
 }
 
 // A constant's value of the type at `t`. Of a null one the columns inside its type are written below, else those of the value.
 fn put_constant_value(plan: &[u8], t: Cursor, c: Cursor, level: u8) {
-    put_value(plan, Version::ByName, 16, t, plan, c, level);
+    put_value(plan, Edition::One, 16, t, plan, c, level);
     if let Presence::Null(_) = read_presence(plan, c) {
-        put_inner(plan, Version::ByName, 16, t, deeper(level));
+        put_inner(plan, Edition::One, 16, t, deeper(level));
     }
 }
 
@@ -64,8 +64,8 @@ fn put_constant(plan: &[u8], name: Span, t: Cursor, level: u8) {
     put(b"constant ");
     put_span(plan, name);
     put(b" ");
-    put_type(plan, Version::ByName, 16, t);
-    if let Moved::To(c) = pass_type(plan, Version::ByName, 16, t) {
+    put_type(plan, Edition::One, 16, t);
+    if let Moved::To(c) = pass_type(plan, Edition::One, 16, t) {
         put_constant_value(plan, t, c, level);
     }
 }

@@ -6,28 +6,28 @@ use describe::types::put_type;
 use layout::columns::Labelled;
 use layout::columns::Position;
 use layout::cursor::Cursor;
+use layout::edition::Edition;
 use layout::read::LayoutRead;
 use layout::read::read_layout;
 use layout::types::Head;
-use layout::version::Version;
 use text::out::put;
 
 // Where the type of what is made begins.
 pub enum Made {
-    At(Version, Cursor),
+    At(Edition, Cursor),
     Unknown,
 }
 
 // The number of columns made and where they begin.
 pub enum MadeColumns {
-    From(Version, u16, Cursor),
+    From(Edition, u16, Cursor),
     Unknown,
 }
 
 pub fn top_columns(target: &[u8]) -> MadeColumns {
     match read_layout(target) {
         LayoutRead::Read {
-            version: v,
+            edition: v,
             count: n,
             columns: c,
         } => MadeColumns::From(v, n, c),
@@ -45,7 +45,7 @@ pub fn made_fields(target: &[u8], made: Made) -> MadeColumns {
     MadeColumns::Unknown
 }
 
-fn element_made(target: &[u8], v: Version, c: Cursor) -> Made {
+fn element_made(target: &[u8], v: Edition, c: Cursor) -> Made {
     match c.element_label(target, v) {
         Labelled::Is(_, d) => Made::At(v, d),
         Labelled::Refused(_) => Made::Unknown,

@@ -13,8 +13,8 @@ use Rattle.layout.specs.declared.cursor.Cursor.{Cursor}
 use Rattle.layout.specs.declared.leaf.Leaf.{Leaf}
 use Rattle.layout.specs.declared.types.Head.{Head}
 use Rattle.layout.specs.declared.types.LeafType.{LeafType as LeafSpan}
-use Rattle.layout.specs.declared.version.Version.{Version}
-use Rattle.layout.specs.declared.version.Version.the-variants.{ByName}
+use Rattle.layout.specs.declared.edition.Edition.{Edition}
+use Rattle.layout.specs.declared.edition.Edition.the-variants.{One}
 use Rattle.values.specs.Value.{Value, Values, vnull, vnumber}
 use Rattle.values.specs.Encode.{encodeValue}
 use Rattle.plan.specs.Selector.{Selector, position}
@@ -74,17 +74,17 @@ module _ {x y : Value} {q : ChainValue} (C : ChainIs x y q) where
       let (e, n) = chain-to C f in
       record { answer = (cast-kept k x (ap isNumber e ∙ n) ∙ e, n) }
 
-  module _ {v : Version} {s : Bytes} {at : ℕ} (T : TypeAt v 16 s at) where
+  module _ {v : Edition} {s : Bytes} {at : ℕ} (T : TypeAt v 16 s at) where
     pub by-nested : isNested (dtypeOf (T .tree)) ≡ true → ChainIs (castValue (dtypeOf (T .tree)) x) y q
     by-nested n = chain-as (cast-nested (dtypeOf (T .tree)) x n) refl C
 
-pub by-leaf : {v : Version} {s : Bytes} {at : ℕ} (T : TypeAt v 16 s at) (x : Value) {y : Value} {r : ChainValue} {p : Head} {l : LeafSpan} {c : Cursor} → headRes s p ≡ kind s at → p ≡ Head.Leaf l c
+pub by-leaf : {v : Edition} {s : Bytes} {at : ℕ} (T : TypeAt v 16 s at) (x : Value) {y : Value} {r : ChainValue} {p : Head} {l : LeafSpan} {c : Cursor} → headRes s p ≡ kind s at → p ≡ Head.Leaf l c
     → ChainIs (castLeaf (l .leaf) x) y r → ChainIs (castValue (dtypeOf (T .tree)) x) y r
 by-leaf T x h q C = chain-as (cast-leaf T x h q) refl C
 
 -- ---- a chain
 
-pub node-as : {v : Version} {lay rec : Bytes} {x y : Value} {r : NodeAt} → x ≡ y → NodeOf v lay rec x r → NodeOf v lay rec y r
+pub node-as : {v : Edition} {lay rec : Bytes} {x y : Value} {r : NodeAt} → x ≡ y → NodeOf v lay rec x r → NodeOf v lay rec y r
 node-as {v} {lay} {rec} {r = r} e N = subst (λ (z : Value). NodeOf v lay rec z r) e N
 
 module _ {s : Bytes} {at : ℕ} (P : SelectorAt s at) (ρ : Values) where
@@ -101,8 +101,8 @@ module _ {s : Bytes} {at : ℕ} (P : SelectorAt s at) (ρ : Values) where
   rename-takes K = sym (ap takes (K .is))
 
   -- the cast's type, where its input ends
-  abbrev pub type-moved : {m : ℕ} (K : CastAt s at P m) {t : ℕ} → t ≡ K .input .end → TypeAt ByName 16 s t
-  type-moved K h = record { tree = K .type .tree; end = K .type .end; reads = ap (λ (o : ℕ). typeRead ByName Free 16 s o) h ∙ K .type .reads }
+  abbrev pub type-moved : {m : ℕ} (K : CastAt s at P m) {t : ℕ} → t ≡ K .input .end → TypeAt One 16 s t
+  type-moved K h = record { tree = K .type .tree; end = K .type .end; reads = ap (λ (o : ℕ). typeRead One Free 16 s o) h ∙ K .type .reads }
 
   pub chain-cast : {m : ℕ} (K : CastAt s at P m) {r : ChainValue} → ChainIs (castValue (dtypeOf (K .type .tree)) (eval ρ (K .input .tree))) (valueAt ρ (takes (K .input .tree))) r
       → ChainIs (eval ρ (P .tree)) (valueAt ρ (takes (P .tree))) r

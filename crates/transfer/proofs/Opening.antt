@@ -12,7 +12,7 @@ use Rattle.layout.specs.declared.cursor.Short.{Short}
 use Rattle.layout.specs.declared.columns.Label.{Label as LabelSpan}
 use Rattle.layout.specs.declared.columns.Labelled.{Labelled}
 use Rattle.layout.specs.declared.types.Head.{Head}
-use Rattle.layout.specs.declared.version.Version.{Version}
+use Rattle.layout.specs.declared.edition.Edition.{Edition}
 use Rattle.layout.proofs.View.{struct-at, array-at}
 use Rattle.values.specs.Value.{Value}
 use Rattle.values.specs.Reading.{content as contentOf}
@@ -23,17 +23,17 @@ use Rattle.nodes.proofs.Deeper.{deeper-type, deeper-columns}
 use Rattle.transfer.specs.Opening.{OpenedIs}
 use Rattle.transfer.specs.declared.opened.Opened.{Opened}
 
-pub opened-as : {v : Version} {lay rec : Bytes} {x y : Value} {r : Opened} → x ≡ y → OpenedIs v lay rec x r → OpenedIs v lay rec y r
+pub opened-as : {v : Edition} {lay rec : Bytes} {x y : Value} {r : Opened} → x ≡ y → OpenedIs v lay rec x r → OpenedIs v lay rec y r
 opened-as {v} {lay} {rec} {r = r} e R = subst (λ (z : Value). OpenedIs v lay rec z r) e R
 
 content-as : {t u : DataType} {s : Bytes} {at : ℕ} → t ≡ u → ContentAt t s at → ContentAt u s at
 content-as {s = s} {at = at} e P = record { tree = P .tree; end = P .end; reads = ap (λ (t : DataType). contentOf t s at) (sym e) ∙ P .reads }
 
-pub opened-counted : {v : Version} {lay : Bytes} {rec : Bytes} {c : ℕ} {t : Cursor} (X : ListOf v lay (t .at) rec c) {q : Short} {n : ℕ} {d : Cursor} → shortRes q ≡ u16 rec c → q ≡ Short.Is n d
+pub opened-counted : {v : Edition} {lay : Bytes} {rec : Bytes} {c : ℕ} {t : Cursor} (X : ListOf v lay (t .at) rec c) {q : Short} {n : ℕ} {d : Cursor} → shortRes q ≡ u16 rec c → q ≡ Short.Is n d
     → OpenedIs v lay rec (X .content .tree) (Opened.List n t d)
 opened-counted X e f = let L = list-in (X .content) e f in record { answer = record { elements = record { type = X .type; values = L .inner }; is = L .is } }
 
-module _ {v : Version} {lay : Bytes} {t : ℕ} {rec : Bytes} {c : Cursor} (X : PresentAt v lay t rec (c .at)) {p : Head} (e : headRes lay p ≡ kind lay t) where
+module _ {v : Edition} {lay : Bytes} {t : ℕ} {rec : Bytes} {c : Cursor} (X : PresentAt v lay t rec (c .at)) {p : Head} (e : headRes lay p ≡ kind lay t) where
   pub opened-struct : {n : ℕ} {b : Cursor} → p ≡ Head.Struct n b → OpenedIs v lay rec (X .content .tree) (Opened.Row n b c)
   unfolding dtypeOf content-as deeper-columns
   opened-struct f =

@@ -11,7 +11,7 @@ use Rattle.layout.specs.declared.cursor.Cursor.{Cursor}
 use Rattle.layout.specs.declared.leaf.Leaf.{Leaf}
 use Rattle.layout.specs.declared.types.Head.{Head}
 use Rattle.layout.specs.declared.types.LeafType.{LeafType as LeafSpan}
-use Rattle.layout.specs.declared.version.Version.{Version}
+use Rattle.layout.specs.declared.edition.Edition.{Edition}
 use Rattle.layout.proofs.Ways.{clash}
 use Rattle.layout.proofs.View.{leaf-at}
 use Rattle.values.specs.Value.{Value, vnull, vnumber}
@@ -54,7 +54,7 @@ unfolding clean
 reached-null q R = reached-as (sym q) R
 
 -- what was read has no date-time that is too large
-pub raw-clean : {v : Version} {lay : Bytes} {t : ℕ} {rec : Bytes} {c : ℕ} → AllBytes rec → (X : RawAt v lay t rec c) → clean (X .value .tree) ≡ true
+pub raw-clean : {v : Edition} {lay : Bytes} {t : ℕ} {rec : Bytes} {c : ℕ} → AllBytes rec → (X : RawAt v lay t rec c) → clean (X .value .tree) ≡ true
 raw-clean {rec = rec} {c = c} o X = fits-clean (value-back (dtypeOf (X .type .tree)) rec o c (X .value .tree) (X .value .end) (X .value .reads) .fits)
 
 -- ---- casts
@@ -88,12 +88,12 @@ cast-nested (struct fs) x e = refl
 cast-nested (list t) x e = refl
 cast-nested (array w t) x e = refl
 
-pub cast-leaf : {v : Version} {s : Bytes} {at : ℕ} (T : TypeAt v 16 s at) (x : Value) {p : Head} {l : LeafSpan} {c : Cursor} → headRes s p ≡ kind s at → p ≡ Head.Leaf l c
+pub cast-leaf : {v : Edition} {s : Bytes} {at : ℕ} (T : TypeAt v 16 s at) (x : Value) {p : Head} {l : LeafSpan} {c : Cursor} → headRes s p ≡ kind s at → p ≡ Head.Leaf l c
     → castLeaf (l .leaf) x ≡ castValue (dtypeOf (T .tree)) x
 unfolding dtypeOf castValue
 cast-leaf T x {l = l} h q = ap (λ (k : Leaf). castLeaf k x) (sym (leaf-of-type (l .leaf) _)) ∙ ap (λ (c : ColumnType). castValue (dtypeOf c) x) (sym (leaf-at T h q .0))
 
-module _ {v : Version} {s : Bytes} {at : ℕ} (T : TypeAt v 16 s at) (x : Value) {e : ℕ} {out : Bytes} {k : ℕ} {r : Reached} {new : Bytes} where
+module _ {v : Edition} {s : Bytes} {at : ℕ} (T : TypeAt v 16 s at) (x : Value) {e : ℕ} {out : Bytes} {k : ℕ} {r : Reached} {new : Bytes} where
   pub nested-reached : isNested (dtypeOf (T .tree)) ≡ true → ReachedIs (clean x) (encodeValue x) e out k r new
       → ReachedIs (clean (castValue (dtypeOf (T .tree)) x)) (encodeValue (castValue (dtypeOf (T .tree)) x)) e out k r new
   nested-reached n R = reached-as (cast-nested (dtypeOf (T .tree)) x n) R

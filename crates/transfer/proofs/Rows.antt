@@ -17,7 +17,7 @@ use Rattle.layout.specs.declared.bytes.Span.{Span}
 use Rattle.layout.specs.declared.cursor.Cursor.{Cursor}
 use Rattle.layout.specs.declared.cursor.Moved.{Moved}
 use Rattle.layout.specs.declared.cursor.Text.{Text}
-use Rattle.layout.specs.declared.version.Version.{Version}
+use Rattle.layout.specs.declared.edition.Edition.{Edition}
 use Rattle.layout.proofs.Ways.{clash, moved-to, moved-refused}
 use Rattle.store.specs.Overlay.{overlay}
 use Rattle.store.proofs.Overlay.{overlay-append}
@@ -138,7 +138,7 @@ module _ {plan : Bytes} {count first : ℕ} (ρ : Values) (S : SelectorsAt plan 
 
 -- ---- elements
 
-module _ {v : Version} {lay : Bytes} {m t : ℕ} {rec : Bytes} {first : ℕ} (f : Value → Value) (X : ElementsAt v lay m t rec first) where
+module _ {v : Edition} {lay : Bytes} {m t : ℕ} {rec : Bytes} {first : ℕ} (f : Value → Value) (X : ElementsAt v lay m t rec first) where
   abbrev each : Values
   each = mapValues f (X .values .values)
 
@@ -182,7 +182,7 @@ count-mapped f vnil = refl
 count-mapped f (vcons v vs) = ap suc (count-mapped f vs)
 
 -- the only value of an element is the element
-module _ {v : Version} {lay rec : Bytes} {t c : Cursor} (X : RawAt v lay (t .at) rec (c .at)) (p : ℕ) where
+module _ {v : Edition} {lay rec : Bytes} {t c : Cursor} (X : RawAt v lay (t .at) rec (c .at)) (p : ℕ) where
   pub element-here : p ≡ 0 → NodeOf v lay rec (valueAt (vcons (X .value .tree) vnil) p) (NodeAt.At t c)
   unfolding valueAt
   element-here e = node-as (ap (valueAt (vcons (X .value .tree) vnil)) (sym e)) (standing (record { raw = X; is = refl }))
@@ -201,7 +201,7 @@ module _ {v : Version} {lay rec : Bytes} {t c : Cursor} (X : RawAt v lay (t .at)
 abbrev pub selector-moved : {s : Bytes} {at to : ℕ} → SelectorAt s at → to ≡ at → SelectorAt s to
 selector-moved {s} P e = record { tree = P .tree; end = P .end; reads = ap (λ (o : ℕ). selector deepestSelector s o) e ∙ P .reads }
 
-abbrev pub type-moved : {v : Version} {s : Bytes} {at to : ℕ} → TypeAt v 16 s at → to ≡ at → TypeAt v 16 s to
+abbrev pub type-moved : {v : Edition} {s : Bytes} {at to : ℕ} → TypeAt v 16 s at → to ≡ at → TypeAt v 16 s to
 type-moved {v} {s} T e = record { tree = T .tree; end = T .end; reads = ap (λ (o : ℕ). type v Free 16 s o) e ∙ T .reads }
 
 -- what follows the bytes before the parts
@@ -209,7 +209,7 @@ pub led : {out : Bytes} {k : ℕ} {xs : Bytes} {j : ℕ} {o : Bytes} {ok : Bool}
 led (Reached.To c r) S R = let (p, K) = R .answer in record { answer = (p, record { clean = K .clean; stores = stores-append S (K .stores); within = K .within }) }
 led Reached.Unknown S R = unknown
 
-pub opened-by : {v : Version} {lay rec : Bytes} {x : Value} {r q : Opened} → OpenedIs v lay rec x r → r ≡ q → openedAnswer v lay rec x q
+pub opened-by : {v : Edition} {lay rec : Bytes} {x : Value} {r q : Opened} → OpenedIs v lay rec x r → r ≡ q → openedAnswer v lay rec x q
 opened-by {v} {lay} {rec} {x} O e = subst (λ (z : Opened). openedAnswer v lay rec x z) e (O .answer)
 
 module _ {s : Bytes} {at : ℕ} {P : SelectorAt s at} (ρ : Values) {m : ℕ} where
@@ -225,7 +225,7 @@ module _ {s : Bytes} {at : ℕ} {P : SelectorAt s at} (ρ : Values) {m : ℕ} wh
   unfolding eval
   rename-reached K R = reached-as (sym (ap (eval ρ) (K .is))) R
 
-module _ {s : Bytes} {at : ℕ} {P : SelectorAt s at} (ρ : Values) {m : ℕ} {v : Version} {lay rec : Bytes} {r : Opened} (K : StructAt s at P m) (O : OpenedIs v lay rec (eval ρ (K .input .tree)) r) where
+module _ {s : Bytes} {at : ℕ} {P : SelectorAt s at} (ρ : Values) {m : ℕ} {v : Edition} {lay rec : Bytes} {r : Opened} (K : StructAt s at P m) (O : OpenedIs v lay rec (eval ρ (K .input .tree)) r) where
   struct-by : {x : Value} → eval ρ (K .input .tree) ≡ x → onStruct (λ vs. evals vs (K .fields .selectors .trees)) x ≡ eval ρ (P .tree)
   unfolding eval
   struct-by h = sym (ap (eval ρ) (K .is) ∙ ap (onStruct (λ vs. evals vs (K .fields .selectors .trees))) h)
@@ -242,7 +242,7 @@ module _ {s : Bytes} {at : ℕ} {P : SelectorAt s at} (ρ : Values) {m : ℕ} {v
   unfolding onStruct clean encodeValue
   struct-reached f {q = q} S R = reached-as (struct-by (struct-row f .is)) (led q S R)
 
-module _ {s : Bytes} {at : ℕ} {P : SelectorAt s at} (ρ : Values) {m : ℕ} {v : Version} {lay rec : Bytes} {r : Opened} (K : ListAt s at P m) (O : OpenedIs v lay rec (eval ρ (K .input .tree)) r) where
+module _ {s : Bytes} {at : ℕ} {P : SelectorAt s at} (ρ : Values) {m : ℕ} {v : Edition} {lay rec : Bytes} {r : Opened} (K : ListAt s at P m) (O : OpenedIs v lay rec (eval ρ (K .input .tree)) r) where
   list-by : {x : Value} → eval ρ (K .input .tree) ≡ x → onList (λ y. eval (vcons y vnil) (K .element .tree)) x ≡ eval ρ (P .tree)
   unfolding eval
   list-by h = sym (ap (eval ρ) (K .is) ∙ ap (onList (λ y. eval (vcons y vnil) (K .element .tree))) h)
@@ -261,7 +261,7 @@ module _ {s : Bytes} {at : ℕ} {P : SelectorAt s at} (ρ : Values) {m : ℕ} {v
       let c = sym (count-mapped (λ y. eval (vcons y vnil) (K .element .tree)) (list-row f .elements .values .values) ∙ count-each (list-row f .elements .values)) in
       reached-as (list-by (list-row f .is)) (led q (subst (λ (n : ℕ). Stores out k (lead true n) j o) c S) R)
 
-module _ {s : Bytes} {at : ℕ} {P : SelectorAt s at} (ρ : Values) {m : ℕ} {v : Version} {lay rec : Bytes} {r : Opened} (K : ArrayAt s at P m) (O : OpenedIs v lay rec (eval ρ (K .input .tree)) r) where
+module _ {s : Bytes} {at : ℕ} {P : SelectorAt s at} (ρ : Values) {m : ℕ} {v : Edition} {lay rec : Bytes} {r : Opened} (K : ArrayAt s at P m) (O : OpenedIs v lay rec (eval ρ (K .input .tree)) r) where
   array-by : {x : Value} → eval ρ (K .input .tree) ≡ x → onArray (λ y. eval (vcons y vnil) (K .element .tree)) x ≡ eval ρ (P .tree)
   unfolding eval
   array-by h = sym (ap (eval ρ) (K .is) ∙ ap (onArray (λ y. eval (vcons y vnil) (K .element .tree))) h)
@@ -287,7 +287,7 @@ fields-at {s} K {r} C = record {
 }
 
 -- what a rename takes, its input takes
-pub rename-takes : {v : Version} {lay rec : Bytes} {s : Bytes} {at : ℕ} {P : SelectorAt s at} {m : ℕ} (ρ : Values) {node : NodeAt} → NodeOf v lay rec (valueAt ρ (takes (P .tree))) node → (K : RenameAt s at P m) → NodeOf v lay rec (valueAt ρ (takes (K .input .tree))) node
+pub rename-takes : {v : Edition} {lay rec : Bytes} {s : Bytes} {at : ℕ} {P : SelectorAt s at} {m : ℕ} (ρ : Values) {node : NodeAt} → NodeOf v lay rec (valueAt ρ (takes (P .tree))) node → (K : RenameAt s at P m) → NodeOf v lay rec (valueAt ρ (takes (K .input .tree))) node
 unfolding takes
 rename-takes ρ N K = node-as (ap (λ (x : Selector). valueAt ρ (takes x)) (K .is)) N
 
@@ -302,12 +302,12 @@ takes-input (listMapping s e) = refl
 takes-input (arrayMapping s e) = refl
 
 -- an input that is a position gives the value that the transform takes
-pub input-gives : {v : Version} {lay rec : Bytes} {s : Bytes} {at : ℕ} {P : SelectorAt s at} {m : ℕ} (ρ : Values) {node : NodeAt} (I : InputAt s at P m) → valueAt ρ (takes (I .input .tree)) ≡ eval ρ (I .input .tree)
+pub input-gives : {v : Edition} {lay rec : Bytes} {s : Bytes} {at : ℕ} {P : SelectorAt s at} {m : ℕ} (ρ : Values) {node : NodeAt} (I : InputAt s at P m) → valueAt ρ (takes (I .input .tree)) ≡ eval ρ (I .input .tree)
     → NodeOf v lay rec (valueAt ρ (takes (P .tree))) node → NodeOf v lay rec (eval ρ (inputOf (P .tree))) node
 input-gives {P = P} ρ I h N = node-as (ap (valueAt ρ) (sym (takes-input (P .tree))) ∙ sym (ap (λ (x : Selector). valueAt ρ (takes x)) (I .is)) ∙ h ∙ ap (eval ρ) (I .is)) N
 
 -- what the input of a transform gives
-module _ {v : Version} {lay rec : Bytes} {s : Bytes} {at : ℕ} {P : SelectorAt s at} {m : ℕ} (ρ : Values) {node : NodeAt} (N : NodeOf v lay rec (eval ρ (inputOf (P .tree))) node) where
+module _ {v : Edition} {lay rec : Bytes} {s : Bytes} {at : ℕ} {P : SelectorAt s at} {m : ℕ} (ρ : Values) {node : NodeAt} (N : NodeOf v lay rec (eval ρ (inputOf (P .tree))) node) where
   pub cast-given : (K : CastAt s at P m) → NodeOf v lay rec (eval ρ (K .input .tree)) node
   unfolding inputOf
   cast-given K = node-as (ap (λ (x : Selector). eval ρ (inputOf x)) (K .is)) N
@@ -338,16 +338,16 @@ past-text {s} N R f {q} {n} {d} g h =
     record { answer = (y, K) }
 
 -- where a value ends
-pub value-ended : {v : Version} {lay : Bytes} {t : ℕ} {rec : Bytes} {c : ℕ} (X : RawAt v lay t rec c) {r : Moved} → ((T : TypeAt v 16 lay t) → r ≡ movedOf (value (dtypeOf (T .tree)) rec c)) → {d : Cursor} → r ≡ Moved.To d → d .at ≡ X .value .end
+pub value-ended : {v : Edition} {lay : Bytes} {t : ℕ} {rec : Bytes} {c : ℕ} (X : RawAt v lay t rec c) {r : Moved} → ((T : TypeAt v 16 lay t) → r ≡ movedOf (value (dtypeOf (T .tree)) rec c)) → {d : Cursor} → r ≡ Moved.To d → d .at ≡ X .value .end
 value-ended {rec = rec} {c} X h f =
     let t = moved-to (value (dtypeOf (X .type .tree)) rec c) (h (X .type)) f in
     let z : ok (t .0) _ ≡ ok (X .value .tree) (X .value .end) = sym (t .1) ∙ X .value .reads in
     cc
 
-pub value-unread : {B : Type 0} {v : Version} {lay : Bytes} {t : ℕ} {rec : Bytes} {c : ℕ} (X : RawAt v lay t rec c) {r : Moved} → ((T : TypeAt v 16 lay t) → r ≡ movedOf (value (dtypeOf (T .tree)) rec c)) → {n : ℕ} → r ≡ Moved.Refused n → B
+pub value-unread : {B : Type 0} {v : Edition} {lay : Bytes} {t : ℕ} {rec : Bytes} {c : ℕ} (X : RawAt v lay t rec c) {r : Moved} → ((T : TypeAt v 16 lay t) → r ≡ movedOf (value (dtypeOf (T .tree)) rec c)) → {n : ℕ} → r ≡ Moved.Refused n → B
 value-unread {rec = rec} {c} X h {n} f = let z : refuse n ≡ ok (X .value .tree) (X .value .end) = sym (moved-refused (value (dtypeOf (X .type .tree)) rec c) (h (X .type)) f) ∙ X .value .reads in clash (cc)
 
 -- ---- the value that is taken
 
-pub taken-node : {v : Version} {lay rec : Bytes} {node : NodeAt} (ρ : Values) {p k : ℕ} → p ≡ k → NodeOf v lay rec (valueAt ρ p) node → NodeOf v lay rec (valueAt ρ k) node
+pub taken-node : {v : Edition} {lay rec : Bytes} {node : NodeAt} (ρ : Values) {p k : ℕ} → p ≡ k → NodeOf v lay rec (valueAt ρ p) node → NodeOf v lay rec (valueAt ρ k) node
 taken-node ρ e N = node-as (ap (valueAt ρ) e) N

@@ -4,7 +4,7 @@ ghost use lib.ListN.{length};
 ghost use Rattle.ends.specs.Ends.{Ends};
 ghost use Rattle.layout.specs.Tree.{dtypeOf};
 ghost use Rattle.layout.specs.Stands.{TypeAt};
-ghost use Rattle.layout.specs.declared.version.Version.{Version as VersionOf};
+ghost use Rattle.layout.specs.declared.edition.Edition.{Edition as EditionOf};
 ghost use Rattle.values.specs.Value.{Value, Values, vnumber};
 ghost use Rattle.values.specs.Encode.{encodeValue};
 ghost use Rattle.plan.specs.Run.{valueAt, castLeaf, castValue, eval, clean};
@@ -19,9 +19,9 @@ use convert::leaf::Converted;
 use convert::leaf::convert_leaf;
 use convert::put::put_number;
 use layout::cursor::Cursor;
+use layout::edition::Edition;
 use layout::leaf::Leaf;
 use layout::types::Head;
-use layout::version::Version;
 use nodes::raw::NodeAt;
 use raw::leaf::LeafValue;
 use raw::leaf::leaf_at;
@@ -37,7 +37,7 @@ pub enum ChainValue {
 }
 
 // The value that was taken.
-fn taken_leaf(lay: &[u8], v: Version, rec: &[u8], node: NodeAt) -> ChainValue
+fn taken_leaf(lay: &[u8], v: Edition, rec: &[u8], node: NodeAt) -> ChainValue
     requires { ⌜ ((x : Value) × NodeOf v (now lay) (now rec) x node) ⌝ }
     ensures { λ r. ⌜ ((x : Value) → NodeOf v (now (lay .entry)) (now (rec .entry)) x node → ChainIs x x r) ⌝ }
 {
@@ -73,7 +73,7 @@ fn cast_to(q: ChainValue, to: Leaf) -> ChainValue
 
 // Cast to the type that begins at `t` of the plan.
 fn cast_by(q: ChainValue, plan: &[u8], t: Cursor) -> ChainValue
-    ensures { λ r. ⌜ ((x y : Value) (T : TypeAt VersionOf.ByName 16 (now (plan .entry)) (t .at)) → ChainIs x y q → ChainIs (castValue (dtypeOf (T .tree)) x) y r) ⌝ }
+    ensures { λ r. ⌜ ((x y : Value) (T : TypeAt EditionOf.One 16 (now (plan .entry)) (t .at)) → ChainIs x y q → ChainIs (castValue (dtypeOf (T .tree)) x) y r) ⌝ }
 {
     match t.head(plan) {
         Head::Leaf(l, _) => {
@@ -90,7 +90,7 @@ fn cast_by(q: ChainValue, plan: &[u8], t: Cursor) -> ChainValue
 // What the selector at `c` gives, if it is made of casts and renames of a position: the node is the value there.
 pub fn chain_value(
     lay: &[u8],
-    v: Version,
+    v: Edition,
     rec: &[u8],
     node: NodeAt,
     plan: &[u8],
@@ -120,7 +120,7 @@ pub fn chain_value(
 
 fn put_chain(
     lay: &[u8],
-    v: Version,
+    v: Edition,
     rec: &[u8],
     node: NodeAt,
     q: ChainValue,
@@ -144,7 +144,7 @@ fn put_chain(
 // The cast at `c` of a position, or of casts of one: the node is the value there.
 pub fn transfer_cast(
     lay: &[u8],
-    v: Version,
+    v: Edition,
     rec: &[u8],
     node: NodeAt,
     plan: &[u8],

@@ -7,7 +7,7 @@ ghost use Rattle.ends.specs.Ends.{Ends};
 ghost use Rattle.layout.specs.Bytes.{Bytes};
 ghost use Rattle.layout.specs.Tree.{dtypeOf};
 ghost use Rattle.layout.specs.Stands.{TypeAt};
-ghost use Rattle.layout.specs.declared.version.Version.{Version as VersionOf};
+ghost use Rattle.layout.specs.declared.edition.Edition.{Edition as EditionOf};
 ghost use Rattle.values.specs.Value.{Value, vnull, vnumber};
 ghost use Rattle.values.specs.Encode.{encodeValue};
 ghost use Rattle.plan.specs.Run.{castLeaf, castValue, clean};
@@ -19,9 +19,9 @@ use convert::leaf::Converted;
 use convert::leaf::convert_leaf;
 use convert::put::put_number;
 use layout::cursor::Cursor;
+use layout::edition::Edition;
 use layout::leaf::Leaf;
 use layout::types::Head;
-use layout::version::Version;
 use layout::walk::skip_type;
 use nodes::raw::NodeAt;
 use raw::copy::copy_raw;
@@ -56,7 +56,7 @@ pub fn put_nothing(end: Cursor, out: &mut [u8], k: usize) -> Reached
 // The value as it stands.
 pub fn put_value(
     lay: &[u8],
-    v: Version,
+    v: Edition,
     t: Cursor,
     rec: &[u8],
     c: Cursor,
@@ -75,7 +75,7 @@ pub fn put_value(
 
 pub fn put_node(
     lay: &[u8],
-    v: Version,
+    v: Edition,
     rec: &[u8],
     node: NodeAt,
     end: Cursor,
@@ -101,8 +101,8 @@ pub fn put_constant(plan: &[u8], t: Cursor, end: Cursor, out: &mut [u8], k: usiz
     ensures { λ r. ⌜ ((X : ConstantRaw (now (plan .entry)) (t .at)) → ReachedIs (clean (X .value .tree)) (encodeValue (X .value .tree)) (end .at) (now (out .entry)) k r (now (out .exit))) ⌝ }
 {
     let none: [u16; 1] = [0; 1];
-    let c = skip_type(plan, Version::ByName, 16, t);
-    put_value(plan, Version::ByName, t, plan, c, end, out, k, &none[..0])
+    let c = skip_type(plan, Edition::One, 16, t);
+    put_value(plan, Edition::One, t, plan, c, end, out, k, &none[..0])
 }
 
 // The number `n` of the kind `kind`, cast to the kind `to`.
@@ -119,7 +119,7 @@ fn put_converted(kind: Leaf, n: u64, to: Leaf, end: Cursor, out: &mut [u8], k: u
 // A value cast to the kind `to`; only a number changes.
 fn put_leaf(
     lay: &[u8],
-    v: Version,
+    v: Edition,
     t: Cursor,
     rec: &[u8],
     c: Cursor,
@@ -142,7 +142,7 @@ fn put_leaf(
 
 fn cast_node(
     lay: &[u8],
-    v: Version,
+    v: Edition,
     rec: &[u8],
     node: NodeAt,
     to: Leaf,
@@ -165,7 +165,7 @@ fn cast_node(
 // The value cast to the type that begins at `t` of the plan.
 pub fn put_cast(
     lay: &[u8],
-    v: Version,
+    v: Edition,
     rec: &[u8],
     node: NodeAt,
     plan: &[u8],
@@ -178,7 +178,7 @@ pub fn put_cast(
     requires { ⌜ Ends v (now lay) (now ends) ⌝ }
     requires { ⌜ ((x : Value) × NodeOf v (now lay) (now rec) x node) ⌝ }
     requires { ⌜ (length (now rec) ≤ 65536) × (k ≤ 16384) ⌝ }
-    ensures { λ r. ⌜ ((x : Value) (T : TypeAt VersionOf.ByName 16 (now (plan .entry)) (t .at)) → NodeOf v (now (lay .entry)) (now (rec .entry)) x node → ReachedIs (clean (castValue (dtypeOf (T .tree)) x)) (encodeValue (castValue (dtypeOf (T .tree)) x)) (end .at) (now (out .entry)) k r (now (out .exit))) ⌝ }
+    ensures { λ r. ⌜ ((x : Value) (T : TypeAt EditionOf.One 16 (now (plan .entry)) (t .at)) → NodeOf v (now (lay .entry)) (now (rec .entry)) x node → ReachedIs (clean (castValue (dtypeOf (T .tree)) x)) (encodeValue (castValue (dtypeOf (T .tree)) x)) (end .at) (now (out .entry)) k r (now (out .exit))) ⌝ }
 {
     match t.head(plan) {
         Head::Leaf(l, _) => {

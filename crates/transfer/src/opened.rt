@@ -1,14 +1,14 @@
 // What a value is made of: the values of a struct's columns, the elements of a list or an array.
 ghost use Rattle.layout.specs.Bytes.{Bytes};
-ghost use Rattle.layout.specs.declared.version.Version.{Version as VersionOf};
+ghost use Rattle.layout.specs.declared.edition.Edition.{Edition as EditionOf};
 ghost use Rattle.values.specs.Value.{Value};
 ghost use Rattle.nodes.specs.Raw.{RawAt, PresentAt, ListOf, NodeOf};
 ghost use Rattle.transfer.specs.Opening.{OpenedIs};
 use layout::columns::Labelled;
 use layout::cursor::Cursor;
 use layout::cursor::Short;
+use layout::edition::Edition;
 use layout::types::Head;
-use layout::version::Version;
 use nodes::raw::NodeAt;
 use values::leaf::Presence;
 use values::leaf::read_presence;
@@ -24,7 +24,7 @@ pub enum Opened {
 
 // A list that is present, from its count on.
 fn open_list(t: Cursor, rec: &[u8], c: Cursor) -> Opened
-    ensures { λ r. ⌜ ((v : VersionOf) (lay : Bytes) (X : ListOf v lay (t .at) (now (rec .entry)) (c .at)) → OpenedIs v lay (now (rec .entry)) (X .content .tree) r) ⌝ }
+    ensures { λ r. ⌜ ((v : EditionOf) (lay : Bytes) (X : ListOf v lay (t .at) (now (rec .entry)) (c .at)) → OpenedIs v lay (now (rec .entry)) (X .content .tree) r) ⌝ }
 {
     match c.short(rec) {
         Short::Is(n, d) => Opened::List(n as u32, t, d),
@@ -33,7 +33,7 @@ fn open_list(t: Cursor, rec: &[u8], c: Cursor) -> Opened
 }
 
 // A value that is present, after its presence byte.
-fn open_present(lay: &[u8], v: Version, t: Cursor, rec: &[u8], c: Cursor) -> Opened
+fn open_present(lay: &[u8], v: Edition, t: Cursor, rec: &[u8], c: Cursor) -> Opened
     ensures { λ r. ⌜ ((X : PresentAt v (now (lay .entry)) (t .at) (now (rec .entry)) (c .at)) → OpenedIs v (now (lay .entry)) (now (rec .entry)) (X .content .tree) r) ⌝ }
 {
     match t.head(lay) {
@@ -51,7 +51,7 @@ fn open_present(lay: &[u8], v: Version, t: Cursor, rec: &[u8], c: Cursor) -> Ope
     }
 }
 
-fn open_value(lay: &[u8], v: Version, t: Cursor, rec: &[u8], c: Cursor) -> Opened
+fn open_value(lay: &[u8], v: Edition, t: Cursor, rec: &[u8], c: Cursor) -> Opened
     ensures { λ r. ⌜ ((X : RawAt v (now (lay .entry)) (t .at) (now (rec .entry)) (c .at)) → OpenedIs v (now (lay .entry)) (now (rec .entry)) (X .value .tree) r) ⌝ }
 {
     match read_presence(rec, c) {
@@ -61,7 +61,7 @@ fn open_value(lay: &[u8], v: Version, t: Cursor, rec: &[u8], c: Cursor) -> Opene
     }
 }
 
-pub fn open_node(lay: &[u8], v: Version, rec: &[u8], node: NodeAt) -> Opened
+pub fn open_node(lay: &[u8], v: Edition, rec: &[u8], node: NodeAt) -> Opened
     ensures { λ r. ⌜ ((x : Value) → NodeOf v (now (lay .entry)) (now (rec .entry)) x node → OpenedIs v (now (lay .entry)) (now (rec .entry)) x r) ⌝ }
 {
     match node {

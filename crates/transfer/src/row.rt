@@ -5,7 +5,7 @@ ghost use Prim.Native.Nat.{ℕ, _≤_, _<_};
 ghost use lib.ListN.{length, take};
 ghost use Rattle.ends.specs.Ends.{Ends};
 ghost use Rattle.layout.specs.Bytes.{Bytes};
-ghost use Rattle.layout.specs.declared.version.Version.{Version as VersionOf};
+ghost use Rattle.layout.specs.declared.edition.Edition.{Edition as EditionOf};
 ghost use Rattle.values.specs.Value.{Value, Values, vnil, vcons};
 ghost use Rattle.values.specs.Encode.{encodeValue, encodeValues};
 ghost use Rattle.plan.specs.Run.{valueAt, mapValues, eval, evals, clean, cleanAll};
@@ -32,7 +32,7 @@ use index::row::indexed_value;
 use layout::cursor::Cursor;
 use layout::cursor::Moved;
 use layout::cursor::Text;
-use layout::version::Version;
+use layout::edition::Edition;
 use nodes::raw::NodeAt;
 use raw::copy::put_lead;
 use values::read::read_element;
@@ -44,7 +44,7 @@ use walk::head::struct_fields;
 // The cast at `c`: the node is what its input gives.
 fn cast_over(
     lay: &[u8],
-    v: Version,
+    v: Edition,
     rec: &[u8],
     node: NodeAt,
     plan: &[u8],
@@ -79,7 +79,7 @@ fn past_name(plan: &[u8], r: Reached) -> Reached
 
 // The one value that an element's selector can take.
 fn element_node(p: u16, t: Cursor, c: Cursor) -> NodeAt
-    ensures { λ r. ⌜ ((v : VersionOf) (lay rec : Bytes) (X : RawAt v lay (t .at) rec (c .at)) → NodeOf v lay rec (valueAt (vcons (X .value .tree) vnil) p) r) ⌝ }
+    ensures { λ r. ⌜ ((v : EditionOf) (lay rec : Bytes) (X : RawAt v lay (t .at) rec (c .at)) → NodeOf v lay rec (valueAt (vcons (X .value .tree) vnil) p) r) ⌝ }
 {
     if p == 0 {
         return NodeAt::At(t, c);
@@ -87,7 +87,7 @@ fn element_node(p: u16, t: Cursor, c: Cursor) -> NodeAt
     NodeAt::Null
 }
 
-fn skip_value(lay: &[u8], v: Version, t: Cursor, rec: &[u8], c: Cursor, ends: &[u16]) -> Cursor
+fn skip_value(lay: &[u8], v: Edition, t: Cursor, rec: &[u8], c: Cursor, ends: &[u16]) -> Cursor
     requires { ⌜ Ends v (now lay) (now ends) ⌝ }
     requires { ⌜ RawAt v (now lay) (t .at) (now rec) (c .at) ⌝ }
     ensures { λ r. ⌜ ((X : RawAt v (now (lay .entry)) (t .at) (now (rec .entry)) (c .at)) → r .at ≡ X .value .end) ⌝ }
@@ -101,7 +101,7 @@ fn skip_value(lay: &[u8], v: Version, t: Cursor, rec: &[u8], c: Cursor, ends: &[
 // The `count` selectors from `first` on, over the values from `d` on of the `n` columns at `t`.
 pub fn transfer_row(
     lay: &[u8],
-    v: Version,
+    v: Edition,
     n: u16,
     t: Cursor,
     rec: &[u8],
@@ -146,7 +146,7 @@ pub fn transfer_row(
 // The selector `element` over each of `m` values from `d` on of the type at `t`; the mapping ends at `end`.
 fn transfer_elements(
     lay: &[u8],
-    v: Version,
+    v: Edition,
     m: u32,
     t: Cursor,
     rec: &[u8],
@@ -188,7 +188,7 @@ fn transfer_elements(
 // Fills the tables of a struct's fields, of which `count` are taken; where these are few, it would take longer than passing over fields.
 fn index_fields(
     lay: &[u8],
-    v: Version,
+    v: Edition,
     n: u16,
     t: Cursor,
     rec: &[u8],
@@ -214,7 +214,7 @@ fn index_fields(
 // The selectors of a struct mapping: as `transfer_row`, with tables of the struct's own fields.
 fn transfer_fields(
     lay: &[u8],
-    v: Version,
+    v: Edition,
     n: u16,
     t: Cursor,
     rec: &[u8],
@@ -272,7 +272,7 @@ fn transfer_fields(
 // The struct mapping at `c`: the node is what its input gives.
 fn struct_over(
     lay: &[u8],
-    v: Version,
+    v: Edition,
     rec: &[u8],
     node: NodeAt,
     plan: &[u8],
@@ -319,7 +319,7 @@ fn struct_over(
 // The list mapping at `c`: the node is what its input gives.
 fn list_over(
     lay: &[u8],
-    v: Version,
+    v: Edition,
     rec: &[u8],
     node: NodeAt,
     plan: &[u8],
@@ -367,7 +367,7 @@ fn list_over(
 // The array mapping at `c`: the node is what its input gives.
 fn array_over(
     lay: &[u8],
-    v: Version,
+    v: Edition,
     rec: &[u8],
     node: NodeAt,
     plan: &[u8],
@@ -415,7 +415,7 @@ fn array_over(
 // The transform at `c`: the node is what its input gives.
 pub fn transfer_over(
     lay: &[u8],
-    v: Version,
+    v: Edition,
     rec: &[u8],
     node: NodeAt,
     plan: &[u8],
@@ -483,7 +483,7 @@ pub fn transfer_over(
 // The transform at `c` of the position at `input`: the node is the value there.
 fn transfer_taken(
     lay: &[u8],
-    v: Version,
+    v: Edition,
     rec: &[u8],
     node: NodeAt,
     plan: &[u8],
@@ -509,7 +509,7 @@ fn transfer_taken(
 // The selector at `c`: the node is the value that it takes.
 pub fn transfer(
     lay: &[u8],
-    v: Version,
+    v: Edition,
     rec: &[u8],
     node: NodeAt,
     plan: &[u8],

@@ -13,7 +13,7 @@ use Rattle.layout.specs.declared.cursor.Moved.{Moved}
 use Rattle.layout.specs.declared.cursor.Step.{Step}
 use Rattle.layout.specs.declared.leaf.Leaf.{Leaf}
 use Rattle.layout.specs.declared.types.PlainLeaf.{PlainLeaf}
-use Rattle.layout.specs.declared.version.Version.{Version}
+use Rattle.layout.specs.declared.edition.Edition.{Edition}
 use Rattle.layout.proofs.Ways.{clash, moved-to, moved-refused}
 use Rattle.layout.proofs.View.{plain-at}
 use Rattle.values.specs.Content.{contentOf, numberIn, numberBy, numberBytes}
@@ -36,7 +36,7 @@ number-by : (x : PlainLeaf) → (numberBy x ≡ 0 → ⊥) → (k : Leaf) × (x 
 number-by (PlainLeaf.Known k) z = (k, refl, number-in (contentOf k) z)
 number-by PlainLeaf.Unknown z = absurd (z refl)
 
-module _ {v : Version} {d : ℕ} {s : Bytes} {at : ℕ} (P : TypeAt v d s at) (rec : Bytes) (c : ℕ) {p : Step} (e : stepRes p ≡ byte s at) {code : ℕ} {b : Cursor}
+module _ {v : Edition} {d : ℕ} {s : Bytes} {at : ℕ} (P : TypeAt v d s at) (rec : Bytes) (c : ℕ) {p : Step} (e : stepRes p ≡ byte s at) {code : ℕ} {b : Cursor}
     (f : p ≡ Step.Byte code b) {w : ℕ} (g : w ≡ numberBytes code) (z : w ≡ 0 → ⊥) {q : Moved} (h : q ≡ movedOf (chunk w rec c)) where
   number : (k : Leaf) × (plainLeaf code ≡ PlainLeaf.Known k) × (contentOf k ≡ Number (numberBytes code))
   number = number-by (plainLeaf code) (λ y. z (g ∙ y))

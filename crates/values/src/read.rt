@@ -5,7 +5,7 @@ ghost use Rattle.layout.specs.Tree.{dtypeOf, fieldsOf};
 ghost use Rattle.layout.specs.Stands.{TypeAt, ColumnsAt};
 ghost use Rattle.layout.specs.Answers.{movedOf};
 ghost use Rattle.ends.specs.Ends.{Ends};
-ghost use Rattle.layout.specs.declared.version.Version.{Version as VersionOf};
+ghost use Rattle.layout.specs.declared.edition.Edition.{Edition as EditionOf};
 ghost use Rattle.values.specs.Reading.{value, values, content, listContent, times};
 ghost use Rattle.values.specs.Answers.{valueMoved, NumberIs};
 use crate::content::number_bytes;
@@ -19,8 +19,8 @@ use layout::cursor::Cursor;
 use layout::cursor::Moved;
 use layout::cursor::Short;
 use layout::cursor::Step;
+use layout::edition::Edition;
 use layout::types::Head;
-use layout::version::Version;
 
 // Where the type ends and where the value ends.
 pub enum ValueRead {
@@ -29,7 +29,7 @@ pub enum ValueRead {
 }
 
 // A value that ends at `c`, of a type that is not passed yet.
-fn pass_type(lay: &[u8], v: Version, depth: u8, t: Cursor, c: Cursor, ends: &[u16]) -> ValueRead
+fn pass_type(lay: &[u8], v: Edition, depth: u8, t: Cursor, c: Cursor, ends: &[u16]) -> ValueRead
     requires { ⌜ TypeAt v depth (now lay) (t .at) ⌝ }
     requires { ⌜ Ends v (now lay) (now ends) ⌝ }
     ensures { λ r. ⌜ ((P : TypeAt v depth (now (lay .entry)) (t .at)) → r ≡ ValueRead.To (record { at = P .end }) c) ⌝ }
@@ -44,7 +44,7 @@ enum NumberRead {
 }
 
 fn read_number(lay: &[u8], t: Cursor, rec: &[u8], c: Cursor) -> NumberRead
-    ensures { λ r. ⌜ ((v : VersionOf) (depth : ℕ) (P : TypeAt v depth (now (lay .entry)) (t .at)) → NumberIs (P .end) (content (dtypeOf (P .tree)) (now (rec .entry)) (c .at)) r) ⌝ }
+    ensures { λ r. ⌜ ((v : EditionOf) (depth : ℕ) (P : TypeAt v depth (now (lay .entry)) (t .at)) → NumberIs (P .end) (content (dtypeOf (P .tree)) (now (rec .entry)) (c .at)) r) ⌝ }
 {
     match t.byte(lay) {
         Step::Byte(code, e) => {
@@ -63,7 +63,7 @@ fn read_number(lay: &[u8], t: Cursor, rec: &[u8], c: Cursor) -> NumberRead
 
 pub fn read_value(
     lay: &[u8],
-    v: Version,
+    v: Edition,
     depth: u8,
     t: Cursor,
     rec: &[u8],
@@ -84,7 +84,7 @@ pub fn read_value(
 // What follows the presence byte of a value that is present.
 pub fn read_content(
     lay: &[u8],
-    v: Version,
+    v: Edition,
     depth: u8,
     t: Cursor,
     rec: &[u8],
@@ -123,7 +123,7 @@ pub fn read_content(
 // A value for each of `n` columns.
 pub fn read_fields(
     lay: &[u8],
-    v: Version,
+    v: Edition,
     depth: u8,
     n: u16,
     t: Cursor,
@@ -161,7 +161,7 @@ pub fn read_fields(
 // A count and as many values of one type.
 fn read_list(
     lay: &[u8],
-    v: Version,
+    v: Edition,
     depth: u8,
     t: Cursor,
     rec: &[u8],
@@ -181,7 +181,7 @@ fn read_list(
 // One element, whose type is not passed.
 pub fn read_element(
     lay: &[u8],
-    v: Version,
+    v: Edition,
     depth: u8,
     t: Cursor,
     rec: &[u8],
@@ -205,7 +205,7 @@ pub fn read_element(
 // `n` values of one type, which is passed once at the end and not at each null.
 pub fn read_elements(
     lay: &[u8],
-    v: Version,
+    v: Edition,
     depth: u8,
     n: u32,
     t: Cursor,

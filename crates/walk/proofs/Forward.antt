@@ -11,7 +11,7 @@ use Rattle.layout.specs.Tree.{leafOf, DataType, leaf, struct, list, array, Fiel
 use Rattle.layout.specs.Layout.{text, type}
 use Rattle.layout.specs.declared.columns.Siblings.the-variants.{Free}
 use Rattle.layout.specs.declared.leaf.Leaf.{Leaf}
-use Rattle.layout.specs.declared.version.Version.the-variants.{ByName}
+use Rattle.layout.specs.declared.edition.Edition.the-variants.{One}
 use Rattle.layout.proofs.Ways.{clash}
 use Rattle.layout.proofs.View.{next-ok}
 use Rattle.forms.proofs.Theorems.{read-extent}
@@ -64,8 +64,8 @@ module _ (s : Bytes) where
   unfolding text
   text-from at = next-from _ _ (byte-from at) (λ n i. choose-from (leb n 63) _ _ (chunk-from n i) (refuse-from 4))
 
-  pub type-from : (at : ℕ) → From at (type ByName Free 16 s at)
-  type-from at c m e = read-extent ByName Free 16 s at e .0
+  pub type-from : (at : ℕ) → From at (type One Free 16 s at)
+  type-from at c m e = read-extent One Free 16 s at e .0
 
   dtype-from : (at : ℕ) → From at (dataType s at)
   unfolding dataType

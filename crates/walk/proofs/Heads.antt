@@ -16,7 +16,7 @@ use Rattle.layout.specs.declared.cursor.Moved.{Moved}
 use Rattle.layout.specs.declared.cursor.Short.{Short}
 use Rattle.layout.specs.declared.cursor.Step.{Step}
 use Rattle.layout.specs.declared.cursor.Text.{Text}
-use Rattle.layout.specs.declared.version.Version.the-variants.{ByName}
+use Rattle.layout.specs.declared.edition.Edition.the-variants.{One}
 use Rattle.layout.proofs.Keys.{None, none}
 use Rattle.layout.proofs.Ways.{clash, moved-to, moved-refused, text-in}
 use Rattle.layout.proofs.View.{next-ok, type-ends}
@@ -125,7 +125,7 @@ module _ {s : Bytes} {n at : ℕ} (Q : SelectorsAt s n at) {k : ℕ} (l : k < n)
 
 -- ---- a cast's option
 
-module _ {s : Bytes} {at : ℕ} (T : TypeAt ByName 16 s at) (O : OptionAt s (T .end)) {r : Moved} {d : Cursor} (e : r ≡ movedOf (type ByName Free 16 s at)) (f : r ≡ Moved.To d) where
+module _ {s : Bytes} {at : ℕ} (T : TypeAt One 16 s at) (O : OptionAt s (T .end)) {r : Moved} {d : Cursor} (e : r ≡ movedOf (type One Free 16 s at)) (f : r ≡ Moved.To d) where
   option-read : castOption s (d .at) ≡ ok (O .option) (O .end)
   option-read = ap (λ (m : ℕ). castOption s m) (type-ends T e f) ∙ O .reads
 

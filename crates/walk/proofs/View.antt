@@ -15,7 +15,7 @@ use Rattle.layout.specs.Answers.{spanAt, spanIn}
 use Rattle.layout.specs.declared.bytes.Span.{Span}
 use Rattle.layout.specs.declared.columns.Position.{Position}
 use Rattle.layout.specs.declared.columns.Siblings.the-variants.{Free}
-use Rattle.layout.specs.declared.version.Version.the-variants.{ByName}
+use Rattle.layout.specs.declared.edition.Edition.the-variants.{One}
 use Rattle.layout.proofs.Ways.{clash}
 use Rattle.layout.proofs.View.{next-ok}
 use Rattle.values.specs.Value.{Value}
@@ -75,7 +75,7 @@ byte-is s at {c} {m} e = go (ltb at (length s)) refl e
 -- ---- a type
 
 record DataTypeAt (s : Bytes) (at : ℕ) (t : DataType) (e : ℕ) : Type 0 where
-  type : TypeAt ByName 16 s at
+  type : TypeAt One 16 s at
   is : t ≡ dtypeOf (type .tree)
   ends : e ≡ type .end
 
@@ -161,7 +161,7 @@ module _ {s : Bytes} {at : ℕ} (P : SelectorAt s at) where
         record {
           code = from-code h;
           named = r;
-          type = record { tree = y; end = o; reads = ap (λ (b : ℕ). type ByName Free 16 s b) (sym u) ∙ b };
+          type = record { tree = y; end = o; reads = ap (λ (b : ℕ). type One Free 16 s b) (sym u) ∙ b };
           value = record { tree = v; end = k; reads = (λ p. value (sym w p) s (sym l p)) ∙ a₂ };
           is = cc;
           starts = omega (arith, from-start, long);

@@ -11,7 +11,7 @@ use Rattle.layout.specs.Layout.{text}
 use Rattle.layout.specs.Stands.{TypeAt}
 use Rattle.layout.specs.Answers.{spanAt, spanIn}
 use Rattle.layout.specs.declared.bytes.Span.{Span}
-use Rattle.layout.specs.declared.version.Version.the-variants.{ByName}
+use Rattle.layout.specs.declared.edition.Edition.the-variants.{One}
 use Rattle.rules.specs.declared.outcome.CastOption.{CastOption}
 use Rattle.values.specs.Stands.{ValueAt}
 use Rattle.plan.specs.Selector.{position, constant, cast, rename, structMapping, listMapping, arrayMapping}
@@ -43,7 +43,7 @@ pub record CountedAt (s : Bytes) (at : ℕ) : Type 0 where
 pub record ConstantAt (s : Bytes) (at : ℕ) (P : SelectorAt s at) (n : Span) (m : ℕ) : Type 0 where
   pub code : getD s at 0 ≡ 1
   pub named : spanIn s n
-  pub type : TypeAt ByName 16 s m
+  pub type : TypeAt One 16 s m
   pub value : ValueAt (dtypeOf (type .tree)) s (type .end)
   pub is : P .tree ≡ constant (spanAt s n) (dtypeOf (type .tree)) (value .tree)
   pub starts : at < m
@@ -52,7 +52,7 @@ pub record ConstantAt (s : Bytes) (at : ℕ) (P : SelectorAt s at) (n : Span) (m
 pub record CastAt (s : Bytes) (at : ℕ) (P : SelectorAt s at) (m : ℕ) : Type 0 where
   pub code : getD s at 0 ≡ 2
   pub input : SelectorAt s m
-  pub type : TypeAt ByName 16 s (input .end)
+  pub type : TypeAt One 16 s (input .end)
   pub option : OptionAt s (type .end)
   pub is : P .tree ≡ cast (input .tree) (dtypeOf (type .tree)) (option .option)
   pub starts : m ≡ at + 1

@@ -3,7 +3,7 @@
 ghost use mathlib.Core.Path.{_≡_};
 ghost use Prim.Native.Nat.{ℕ, _<_};
 ghost use Rattle.layout.specs.Stands.{TypeAt};
-ghost use Rattle.layout.specs.declared.version.Version.{Version as VersionOf};
+ghost use Rattle.layout.specs.declared.edition.Edition.{Edition as EditionOf};
 ghost use Rattle.walk.specs.Stands.{SelectorAt, SelectorsAt};
 ghost use Rattle.walk.specs.Parts.{TextAt, OptionAt, CountedAt, NameIs, CountedIs, NthIs, HeadIs};
 use layout::bytes::Span;
@@ -13,8 +13,8 @@ use layout::cursor::Moved;
 use layout::cursor::Short;
 use layout::cursor::Step;
 use layout::cursor::Text;
+use layout::edition::Edition;
 use layout::pass::pass_type;
-use layout::version::Version;
 use plan::read::read_selector;
 use plan::read::read_selectors;
 use rules::outcome::CastOption;
@@ -85,9 +85,9 @@ pub fn nth_selector(plan: &[u8], first: Cursor, k: u16) -> Cursor
 
 // Of the cast whose type begins at `c`.
 pub fn cast_option(plan: &[u8], c: Cursor) -> CastOption
-    ensures { λ r. ⌜ ((T : TypeAt VersionOf.ByName 16 (now (plan .entry)) (c .at)) (O : OptionAt (now (plan .entry)) (T .end)) → r ≡ O .option) ⌝ }
+    ensures { λ r. ⌜ ((T : TypeAt EditionOf.One 16 (now (plan .entry)) (c .at)) (O : OptionAt (now (plan .entry)) (T .end)) → r ≡ O .option) ⌝ }
 {
-    match pass_type(plan, Version::ByName, 16, c) {
+    match pass_type(plan, Edition::One, 16, c) {
         Moved::To(d) => match d.byte(plan) {
             Step::Byte(b, _) => match option_of_code(b) {
                 OptionCode::Known(o) => o,

@@ -19,16 +19,16 @@ use Rattle.labels.proofs.slot.Reads as slot-reads
 use Rattle.layout.proofs.bytes.wide.Reads as wide-reads
 use Rattle.layout.proofs.columns.same_label.Reads as same-label-reads
 use Rattle.layout.proofs.cursor.Cursor.label.Reads as label-reads
-use Rattle.layout.proofs.version.top_rule.Reads as top-rule-reads
+use Rattle.layout.proofs.matching.match_rule.Reads as match-rule-reads
 
 abbrev Inv-loop : tie.InvT-loop
-Inv-loop s v depth n table t l rule from h x₀ x = (at : ℕ) → Table v depth s n at table → (heads : ℕ) → node n + heads ≡ length table → (P : ColumnsAt v depth s n at) → Seeking v heads (labelAt t l) (P .columns) x
+Inv-loop s v how depth n table t l rule from h x₀ x = (at : ℕ) → Table v how depth s n at table → (heads : ℕ) → node n + heads ≡ length table → (P : ColumnsAt v depth s n at) → Seeking how heads (labelAt t l) (P .columns) x
 
 abbrev μ-loop : tie.MeasureT-loop
-μ-loop s v depth n table t l rule from h x₀ x = 65535 - x
+μ-loop s v how depth n table t l rule from h x₀ x = 65535 - x
 
-top-rule-requires : tie.Need-top-rule-requires Inv-loop μ-loop
-top-rule-requires c κs = search needs
+match-rule-requires : tie.Need-match-rule-requires Inv-loop μ-loop
+match-rule-requires c κs = search needs
 
 wide-requires : tie.Need-wide-requires Inv-loop μ-loop
 wide-requires c κs = search needs
@@ -87,7 +87,7 @@ same-label-requires c κs = (label-in _ (c .before .before .before .label .ensur
 returns : tie.Need-returns Inv-loop μ-loop
 returns c =
     let T = c .before .before .before .before .before .before .before .before .before .before .before .before .before .before .before .before .before .before .pre .1 .0 in
-    λ Q. seeking-found T (behind T) (c .before .before .before .before .before .before .before .before .before .before .before .before .before .before .before .before .before .before .pre .0) (c .before .before .before .before .before .before .before .before .before .before .loop .inv _ T _ (behind T) (c .before .before .before .before .before .before .before .before .before .before .before .before .before .before .before .before .before .before .pre .0)) (c .before .before .before .before .before .before .before .before .before .loop-test .taken) (c .before .before .before .before .before .label .ensures .0) (c .before .before .before .before .before .before .wide3 .ensures) (c .before .before .before .before .before .before .before .before .wide2 .ensures) (c .before .before .before .m .given .1) (c .before .before .before .before .before .label .ensures .1) (c .before .before .before .before .before .before .before .before .before .before .before .before .before .before .top-rule .ensures) (c .before .same-label .ensures) (c .if1 .taken) refl Q
+    λ Q. seeking-found T (behind T) (c .before .before .before .before .before .before .before .before .before .before .before .before .before .before .before .before .before .before .pre .0) (c .before .before .before .before .before .before .before .before .before .before .loop .inv _ T _ (behind T) (c .before .before .before .before .before .before .before .before .before .before .before .before .before .before .before .before .before .before .pre .0)) (c .before .before .before .before .before .before .before .before .before .loop-test .taken) (c .before .before .before .before .before .label .ensures .0) (c .before .before .before .before .before .before .wide3 .ensures) (c .before .before .before .before .before .before .before .before .wide2 .ensures) (c .before .before .before .m .given .1) (c .before .before .before .before .before .label .ensures .1) (c .before .before .before .before .before .before .before .before .before .before .before .before .before .before .match-rule .ensures) (c .before .same-label .ensures) (c .if1 .taken) refl Q
 
 enum-told : tie.Need-enum-told Inv-loop μ-loop
 enum-told c = search needs
@@ -110,13 +110,13 @@ shared-slice-read-x-2 c =
 loop-less : tie.Need-loop-less Inv-loop μ-loop
 loop-less c =
     let T = c .before .before .before .before .before .before .before .before .before .before .before .before .before .before .before .before .before .before .before .pre .1 .0 in
-    let b = seeking-falls T (behind T) (c .before .before .before .before .before .before .before .before .before .before .before .before .before .before .before .before .before .before .before .pre .0) (c .before .before .before .before .before .before .before .before .before .before .before .loop .inv _ T _ (behind T) (c .before .before .before .before .before .before .before .before .before .before .before .before .before .before .before .before .before .before .before .pre .0)) (c .before .before .before .before .before .before .before .before .before .before .loop-test .taken) (c .before .before .before .before .before .before .label .ensures .0) (c .before .before .before .before .before .before .before .wide3 .ensures) (c .before .before .before .before .before .before .before .before .before .wide2 .ensures) (c .before .before .before .before .m .given .1) (c .before .before .before .before .before .before .before .before .before .before .before .before .before .before .before .top-rule .ensures) (c .before .before .same-label .ensures) (c .before .if1 .left) in
+    let b = seeking-falls T (behind T) (c .before .before .before .before .before .before .before .before .before .before .before .before .before .before .before .before .before .before .before .pre .0) (c .before .before .before .before .before .before .before .before .before .before .before .loop .inv _ T _ (behind T) (c .before .before .before .before .before .before .before .before .before .before .before .before .before .before .before .before .before .before .before .pre .0)) (c .before .before .before .before .before .before .before .before .before .before .loop-test .taken) (c .before .before .before .before .before .before .label .ensures .0) (c .before .before .before .before .before .before .before .wide3 .ensures) (c .before .before .before .before .before .before .before .before .before .wide2 .ensures) (c .before .before .before .before .m .given .1) (c .before .before .before .before .before .before .before .before .before .before .before .before .before .before .before .match-rule .ensures) (c .before .before .same-label .ensures) (c .before .if1 .left) in
     let e = c .before .before .before .before .before .before .before .before .before .before .loop-test .taken in
     omega arith
 
 loop-again : tie.Need-loop-again Inv-loop μ-loop
 loop-again c =
-    λ at T heads e P. seeking-more T e P (c .before .before .before .before .before .before .before .before .before .before .before .loop .inv _ T _ e P) (c .before .before .before .before .before .before .before .before .before .before .loop-test .taken) (c .before .before .before .before .before .before .label .ensures .0) (c .before .before .before .before .before .before .before .wide3 .ensures) (c .before .before .before .before .before .before .before .before .before .wide2 .ensures) (c .before .before .before .before .m .given .1) (c .before .before .before .before .before .before .before .before .before .before .before .before .before .before .before .top-rule .ensures) (c .before .before .same-label .ensures) (c .before .if1 .left)
+    λ at T heads e P. seeking-more T e P (c .before .before .before .before .before .before .before .before .before .before .before .loop .inv _ T _ e P) (c .before .before .before .before .before .before .before .before .before .before .loop-test .taken) (c .before .before .before .before .before .before .label .ensures .0) (c .before .before .before .before .before .before .before .wide3 .ensures) (c .before .before .before .before .before .before .before .before .before .wide2 .ensures) (c .before .before .before .before .m .given .1) (c .before .before .before .before .before .before .before .before .before .before .before .before .before .before .before .match-rule .ensures) (c .before .before .same-label .ensures) (c .before .if1 .left)
 
 returns-3 : tie.Need-returns-3 Inv-loop μ-loop
 returns-3 c =
@@ -129,7 +129,7 @@ counterpart-in-spec =
     (tie.spec
     Inv-loop
     μ-loop
-    top-rule-requires
+    match-rule-requires
     wide-requires
     mul-from
     sub-slot

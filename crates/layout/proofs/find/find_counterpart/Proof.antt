@@ -1,4 +1,4 @@
--- `layout::find::find_counterpart` meets its contract: a case for each version. Assumes nothing.
+-- `layout::find::find_counterpart` meets its contract: a case for each way of matching. Assumes nothing.
 use denote.Ref.{now}
 use Rattle.layout.proofs.Finding.{counterpart-name, counterpart-id}
 use borrow.Author.Needs.{needs}
@@ -17,5 +17,5 @@ find-counterpart-spec =
     (λ c κs. search needs)
     (λ c. search needs)
     (λ c κs. search needs)
-    (λ c. λ P. counterpart-name (c .before .before .before .before .before .before .before .args .v) (c .before .before .before .before .before .before .before .args .depth) (now (c .before .before .before .before .before .before .before .args .s)) (c .column-named .result) (now (c .before .before .before .before .before .before .before .args .t)) (c .before .before .before .before .before .before .before .args .l) (P .columns) (c .before .before .before .enum-told .given .1) (c .column-named .ensures P))
-    (λ c. λ P. counterpart-id (c .before .before .before .before .before .args .v) (c .before .before .before .before .before .args .depth) (now (c .before .before .before .before .before .args .s)) (c .column-of-id .result) (now (c .before .before .before .before .before .args .t)) (c .before .before .before .before .before .args .l) (P .columns) (c .before .enum-told2 .given .1) (c .column-of-id .ensures P)))
+    (λ c. λ P. counterpart-name (c .before .before .before .before .before .before .before .args .v) (c .before .before .before .before .before .before .before .args .depth) (now (c .before .before .before .before .before .before .before .args .s)) (c .before .before .before .before .before .before .before .args .how) (c .column-named .result) (now (c .before .before .before .before .before .before .before .args .t)) (c .before .before .before .before .before .before .before .args .l) (P .columns) (c .before .before .before .enum-told .given .1) (c .column-named .ensures P))
+    (λ c. λ P. counterpart-id (c .before .before .before .before .before .args .v) (c .before .before .before .before .before .args .depth) (now (c .before .before .before .before .before .args .s)) (c .before .before .before .before .before .args .how) (c .column-of-id .result) (now (c .before .before .before .before .before .args .t)) (c .before .before .before .before .before .args .l) (P .columns) (c .before .enum-told2 .given .1) (c .column-of-id .ensures P)))

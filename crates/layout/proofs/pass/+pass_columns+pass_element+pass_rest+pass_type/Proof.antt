@@ -22,6 +22,7 @@ use Rattle.layout.proofs.cursor.Cursor.byte.Reads as byte-reads
 use Rattle.layout.proofs.cursor.Cursor.short.Reads as short-reads
 use Rattle.layout.proofs.pass.pass_datetime.Reads as pass-datetime-reads
 use Rattle.layout.proofs.pass.pass_decimal.Reads as pass-decimal-reads
+use Rattle.layout.proofs.pass.pass_element_label.Reads as pass-element-label-reads
 use Rattle.layout.proofs.pass.pass_label.Reads as pass-label-reads
 use Rattle.layout.proofs.pass.pass_long.Reads as pass-long-reads
 use Rattle.layout.proofs.types.plain_leaf.Reads as plain-leaf-reads
@@ -88,7 +89,7 @@ abbrev pass-columns-claims : ℕ → pass-columns-lts.Claims
 pass-columns-claims t = (pass-label-reads.Asked, pass-label-reads.Learnt, pass-type-below t, pass-type.Post)
 
 abbrev pass-element-claims : ℕ → pass-element-lts.Claims
-pass-element-claims t = (pass-type-below t, pass-type.Post, pass-label-reads.Asked, pass-label-reads.Learnt)
+pass-element-claims t = (pass-element-label-reads.Asked, pass-element-label-reads.Learnt, pass-type-below t, pass-type.Post)
 
 abbrev pass-rest-claims : ℕ → pass-rest-lts.Claims
 pass-rest-claims t = (pass-datetime-reads.Asked, pass-datetime-reads.Learnt, short-reads.Asked, short-reads.Learnt, pass-columns-below t, pass-columns.Post, pass-element-below t, pass-element.Post, pass-long-reads.Asked, pass-long-reads.Learnt, pass-decimal-reads.Asked, pass-decimal-reads.Learnt)
@@ -119,14 +120,10 @@ pub +pass-columns+pass-element+pass-rest+pass-type-spec : {M : Type 1} → state
     (λ t. pass-element-lts.spec (pass-element-claims t)
     (pass-element-at t)
     pass-element.Post
-    (λ c. search needs)
     (λ c κs. search needs)
     (λ c. search needs)
     (λ c κs. search needs)
     (λ c. search needs)
-    (λ c κs. search needs)
-    (λ c. search needs)
-    (λ c. search element-passed)
     (λ c. search element-passed)
     (λ c. search element-passed))
     (λ t. pass-rest-lts.spec (pass-rest-claims t)

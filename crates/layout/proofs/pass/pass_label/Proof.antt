@@ -1,6 +1,6 @@
 -- `layout::pass::pass_label` meets its contract: each way has its rule in `Passing`. Assumes nothing.
 use borrow.Author.Needs.{needs}
-use Rattle.layout.proofs.Passing.{label-named, label-numbered, label-nameless}
+use Rattle.layout.proofs.Passing.{label-passed}
 use Rattle.layout.proofs.pass.pass_label.Statement.{statement}
 use Rattle.layout.proofs.pass.pass_label.Tie as tie
 
@@ -14,6 +14,16 @@ pass-label-spec =
     (λ c. search needs)
     (λ c κs. search needs)
     (λ c. search needs)
-    (λ c. search (label-named, label-numbered, label-nameless))
-    (λ c. search (label-named, label-numbered, label-nameless))
-    (λ c. search (label-named, label-numbered, label-nameless)))
+    (λ c κs. search needs)
+    (λ c. search needs)
+    (λ c κs. search needs)
+    (λ c. search needs)
+    (λ c. search needs)
+    (λ c. search needs)
+    (λ c. search needs)
+    (λ c. search label-passed)
+    (λ c. search label-passed)
+    (λ c. search label-passed)
+    (λ c. search label-passed)
+    (λ c. search label-passed)
+    (λ c. search label-passed))

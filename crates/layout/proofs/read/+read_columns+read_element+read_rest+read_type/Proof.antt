@@ -27,7 +27,7 @@ use Rattle.layout.proofs.cursor.Cursor.label.Reads as label-reads
 use Rattle.layout.proofs.cursor.Cursor.short.Reads as short-reads
 use Rattle.layout.proofs.pass.pass_datetime.Reads as pass-datetime-reads
 use Rattle.layout.proofs.pass.pass_decimal.Reads as pass-decimal-reads
-use Rattle.layout.proofs.pass.pass_label.Reads as pass-label-reads
+use Rattle.layout.proofs.pass.pass_element_label.Reads as pass-element-label-reads
 use Rattle.layout.proofs.pass.pass_long.Reads as pass-long-reads
 use Rattle.layout.proofs.pass.pass_type.Reads as pass-type-reads
 use Rattle.layout.proofs.read.is_repeated.Reads as is-repeated-reads
@@ -95,7 +95,7 @@ abbrev read-columns-claims : ℕ → read-columns-lts.Claims
 read-columns-claims t = (label-reads.Asked, label-reads.Learnt, read-type-below t, read-type.Post, is-repeated-reads.Asked, is-repeated-reads.Learnt)
 
 abbrev read-element-claims : ℕ → read-element-lts.Claims
-read-element-claims t = (read-type-below t, read-type.Post, pass-label-reads.Asked, pass-label-reads.Learnt)
+read-element-claims t = (pass-element-label-reads.Asked, pass-element-label-reads.Learnt, read-type-below t, read-type.Post)
 
 abbrev read-rest-claims : ℕ → read-rest-lts.Claims
 read-rest-claims t = (pass-datetime-reads.Asked, pass-datetime-reads.Learnt, short-reads.Asked, short-reads.Learnt, read-columns-below t, read-columns.Post, read-element-below t, read-element.Post, pass-long-reads.Asked, pass-long-reads.Learnt, pass-decimal-reads.Asked, pass-decimal-reads.Learnt)
@@ -128,15 +128,11 @@ pub +read-columns+read-element+read-rest+read-type-spec : {M : Type 1} → state
     (λ t. read-element-lts.spec (read-element-claims t)
     (read-element-at t)
     read-element.Post
-    (λ c. search needs)
-    (λ c κs. search needs)
-    (λ c. search needs)
     (λ c κs. search needs)
     (λ c. search needs)
     (λ c κs. search needs)
     (λ c. search needs)
     (λ c. (search element-passed, c .read-type .ensures .1))
-    (λ c. (search element-passed, c .read-type2 .ensures .1))
     (λ c. (search element-passed, keeps-same _)))
     (λ t. read-rest-lts.spec (read-rest-claims t)
     (read-rest-at t)

@@ -1,7 +1,6 @@
 use lib.ListN.{length}
 use denote.Ref.{now}
-use Rattle.layout.proofs.Whole.{layout-at, layout-refused}
-use Rattle.matching.proofs.Limits.{header}
+use Rattle.layout.proofs.Whole.{header, layout-at, layout-refused}
 use Rattle.checker.proofs.Topping.{plan-at, plan-refused, plan-tops}
 use Rattle.run.proofs.Running.{ran-refused, ran-as, run-first, run-second, run-third, run-checked}
 use borrow.Author.Needs.{needs}

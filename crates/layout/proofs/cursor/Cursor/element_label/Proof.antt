@@ -5,4 +5,14 @@ use Rattle.layout.proofs.cursor.Cursor.element_label.Statement.{stateme
 use Rattle.layout.proofs.cursor.Cursor.element_label.Tie as tie
 
 pub element-label-spec : {M : Type 1} → statement M
-element-label-spec = tie.close (tie.spec (λ c. search needs) (λ c. search needs) (λ c κs. search needs) (λ c. search (ways, needs) depth 12) (λ c. search (ways, needs) depth 12))
+element-label-spec =
+    tie.close
+    (tie.spec
+    (λ c. search needs)
+    (λ c. search needs)
+    (λ c κs. search needs)
+    (λ c. search needs)
+    (λ c κs. search needs)
+    (λ c. search (ways, needs) depth 12)
+    (λ c. search (ways, needs) depth 12)
+    (λ c. search (ways, needs) depth 12))

@@ -1,6 +1,6 @@
 -- `layout::cursor::Cursor::label` meets its contract: each way through it is found by the rules `ways`. Assumes nothing.
 use borrow.Author.Needs.{needs}
-use Rattle.layout.proofs.Ways.{ways}
+use Rattle.layout.proofs.Ways.{ways, text-in}
 use Rattle.layout.specs.Layout.{label}
 use Rattle.layout.proofs.cursor.Cursor.label.Statement.{statement}
 use Rattle.layout.proofs.cursor.Cursor.label.Tie as tie
@@ -17,6 +17,9 @@ label-spec =
     (λ c. search needs)
     (λ c. search needs)
     (λ c. search needs)
+    (λ c κs. search (text-in, needs))
+    (λ c. search needs)
+    (λ c. unfold label in search (ways, needs) depth 12)
     (λ c. unfold label in search (ways, needs) depth 12)
     (λ c. unfold label in search (ways, needs) depth 12)
     (λ c. unfold label in search (ways, needs) depth 12)

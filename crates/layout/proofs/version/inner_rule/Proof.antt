@@ -1,7 +1,0 @@
--- `layout::version::inner_rule` meets its contract: a case for each version. Assumes nothing.
-use borrow.Author.Needs.{needs}
-use Rattle.layout.proofs.version.inner_rule.Statement.{statement}
-use Rattle.layout.proofs.version.inner_rule.Tie as tie
-
-pub inner-rule-spec : {M : Type 1} → statement M
-inner-rule-spec = tie.close (tie.spec (λ c. search needs) (λ c. search needs) (λ c. rw (c .enum-told .given .1)) (λ c. rw (c .enum-told2 .given .1)))
