@@ -8,16 +8,19 @@
 # The cases of base.jsonl are taken over, of L01.jsonl those that only decimals can ask, of L02.jsonl those whose answers the spellings
 # of UTC changed and of L03.jsonl those of extra top columns, which stand first there. In base.jsonl no decimal stands; in its policy
 # words bit 14, which is theirs now, is on or off, and changes no answer. In the files before L03.jsonl bit 15, which refuses extra top
-# columns now where it is off, had no meaning: it is turned on.
-# Of L07.jsonl those are taken whose layouts are of version 2, for the others ask what the library does not know yet.
-# Layouts at the edges of the rules of documents 01 and 02 are added, whose answers come from the reader below, and builds of
-# the original source (compare/rust/sample.txt). The reader is written from these documents and shares nothing with the library; where it
+# columns now where it is off, had no meaning: it is turned on. In the files before L05.jsonl a layout of version 3 was none (1), and
+# in those before L07.jsonl a table of version 2: such cases are left out.
+# Layouts at the edges of the rules of documents 01 and 02 are added, whose answers come from the reader below, calls with required
+# fields, whose answers stand in compare/required.py, and builds of the original source (compare/rust/sample.txt). The reader is written from these documents and shares nothing with the library; where it
 # disagrees with an answer of VECTORS, nothing is written and the exit status is 1. Which plans one pass is to settle (docs/ARCHITECTURE.md)
 # is read from the plans' bytes. Written: crates/cases/stdin and crates/cases/stdout.
 import itertools
 import json
 import os
 import sys
+
+from forms import INT8, LIST, array, col, datetime, decimal, lay, struct, u16
+from required import required
 
 ROOT = os.path.dirname(os.path.dirname(os.path.abspath(__file__)))
 STORED = os.path.join(ROOT, "crates", "cases")
@@ -28,6 +31,7 @@ TAKEN = [
     ("L01.jsonl", 251, "its answers where decimals stand"),
     ("L02.jsonl", 23, "its answers where zones count as UTC"),
     ("L03.jsonl", 56, "its answers where columns are extra"),
+    ("L05.jsonl", None, "its answers where fields are required"),
     ("L07.jsonl", None, "its answers where tables have owners"),
 ]
 # The lines of these files whose answers a later request changed: L2 the one, a build from the zone Etc/UTC to Z that was 21.
@@ -35,6 +39,9 @@ CHANGED = {("base.jsonl", 140)}
 # The files whose policy words have no bit for extra top columns.
 BEFORE_EXTRA_COLUMNS = ("base.jsonl", "L01.jsonl", "L02.jsonl")
 EXTRA_COLUMNS = 1 << 15
+# The files that were made before a layout could be of version 3, and before a table could be of version 2.
+BEFORE_MARKS = ("base.jsonl", "L01.jsonl", "L02.jsonl", "L03.jsonl")
+BEFORE_OWNERS = BEFORE_MARKS + ("L05.jsonl",)
 SAMPLE = os.path.join(ROOT, "compare", "rust", "sample.txt")
 
 HEAD = """\
@@ -84,9 +91,9 @@ class Reader:
         names, ids = set(), set()
         for _ in range(count):
             name = self.text()
-            ident = self.number(4) if self.version == 2 else None
+            ident = self.ident()
             self.type(depth)
-            if self.version == 2:
+            if self.version >= 2:
                 if ident in ids:
                     raise Refused(5)
                 ids.add(ident)
@@ -94,6 +101,13 @@ class Reader:
                 if name in names:
                     raise Refused(5)
                 names.add(name)
+
+    # An id, in version 3 with the mark after it.
+    def ident(self):
+        ident = self.number(4) if self.version >= 2 else None
+        if self.version >= 3 and self.number(1) > 1:
+            raise Refused(3)
+        return ident
 
     def type(self, depth):
         if depth > 16:
@@ -114,9 +128,9 @@ class Reader:
         elif code in (19, 20):
             if code == 20:
                 self.number(4)
-            if self.version == 2:
+            if self.version >= 2:
                 self.text()
-                self.number(4)
+                self.ident()
             self.type(depth + 1)
 
 
@@ -124,7 +138,7 @@ class Reader:
 def read(data):
     if len(data) > 16384:
         return 4
-    if data[:5] not in (b"LAY\x01\x00", b"LAY\x02\x00"):
+    if data[:5] not in (b"LAY\x01\x00", b"LAY\x02\x00", b"LAY\x03\x00"):
         return 1
     reader = Reader(data, data[3])
     try:
@@ -235,68 +249,36 @@ def settled(selector, run):
 # --- layouts to read -----------------------------------------------------------------------------------------------------------
 
 
-def u16(n):
-    return n.to_bytes(2, "little")
+# What a label has after its name: nothing in version 1, an id in version 2, in version 3 a mark too.
+LABELS = {1: (), 2: (9,), 3: (9, 1)}
 
 
-def u32(n):
-    return n.to_bytes(4, "little")
-
-
-def lay(version, count, *columns):
-    return b"LAY" + u16(version) + u16(count) + b"".join(columns)
-
-
-# A column with an id where one is given.
-def col(name, kind, ident=None):
-    return bytes([len(name)]) + name + (b"" if ident is None else u32(ident)) + kind
-
-
-def struct(*columns):
-    return b"\x12" + u16(len(columns)) + b"".join(columns)
-
-
-def datetime(unit, zone):
-    return bytes([14, unit, len(zone)]) + zone
-
-
-def decimal(precision, scale):
-    return bytes([21, precision, scale])
-
-
-INT8 = b"\x02"
-LIST = b"\x13"
-
-
-def array(width):
-    return b"\x14" + u32(width)
-
-
-# A type of so many levels: in version 2 each element has a label.
+# A type of so many levels: from version 2 on each element has a label.
 def nested(version, depth, outer, leaf=INT8):
-    label = b"" if version == 1 else col(b"e", b"", 9)
+    label = b"" if version == 1 else col(b"e", b"", *LABELS[version])
     return (outer + label) * (depth - 1) + leaf
 
 
 def nested_structs(version, depth, leaf=INT8):
-    label = col(b"f", b"", None if version == 1 else 9)
+    label = col(b"f", b"", *LABELS[version])
     return (b"\x12" + u16(1) + label) * (depth - 1) + leaf
 
 
 def heads():
     yield b""
     for n in range(1, 6):
-        yield b"LAY\x01\x00"[:n]
-        yield b"LAY\x02\x00"[:n]
+        for version in (1, 2, 3):
+            yield (b"LAY" + u16(version))[:n]
     for at in range(5):
         for flip in (1, 0x20, 0x80):
             mark = bytearray(lay(1, 0))
             mark[at] ^= flip
             yield bytes(mark)
-    for version in (0, 1, 2, 3, 4, 255, 256, 257, 258, 513, 65535):
+    for version in (0, 1, 2, 3, 4, 5, 255, 256, 257, 258, 259, 513, 769, 65535):
         yield lay(version, 0)
         yield lay(version, 1, col(b"a", INT8))
         yield lay(version, 1, col(b"a", INT8, 7))
+        yield lay(version, 1, col(b"a", INT8, 7, 1))
     yield b"YAL" + lay(1, 0)[3:]
     yield b"DEF" + lay(1, 0)[3:]
     yield b"PLN" + lay(1, 0)[3:]
@@ -449,8 +431,8 @@ def limits():
             yield full[:-1]
             yield full[:-1] + b"\xff"
             yield lay(1, fit + 2, *each[:fit], last)
-            yield b"LAY" + u16(3) + full[5:]
-            yield b"LAY" + u16(3) + full[5:] + b"\x00"
+            yield b"LAY" + u16(4) + full[5:]
+            yield b"LAY" + u16(4) + full[5:] + b"\x00"
     yield b"\x00" * 16384
     yield b"\x00" * 16385
     # the most columns: each has no name but its id (version 2), or a name of two bytes
@@ -478,6 +460,46 @@ def decimals():
                 yield lay(version, 1, col(b"a", nested(version, depth, array(2), kind), ident))
 
 
+# The mark of version 3, in a column, a field and an element: 0 or 1, tested before the type and, in an element, before its depth.
+def marks():
+    label = LABELS[3]
+    for mark in (0, 1, 2, 3, 127, 128, 255):
+        yield lay(3, 1, col(b"a", INT8, 7, mark))
+        yield lay(3, 1, col(b"a", b"\xff", 7, mark))
+        yield lay(3, 1, col(b"a", b"", 7, mark))
+        yield lay(3, 1, col(b"a", struct(col(b"x", INT8, 7, mark)), 7, 0))
+        yield lay(3, 1, col(b"a", LIST + col(b"x", INT8, 7, mark), 7, 1))
+        yield lay(3, 1, col(b"a", array(2) + col(b"x", b"\x00", 7, mark), 7, 1))
+        yield lay(3, 2, col(b"a", INT8, 7, 0), col(b"a", INT8, 7, mark))
+        for depth in (15, 16, 17):
+            for kind in (b"", INT8, b"\xff"):
+                yield lay(3, 1, col(b"a", nested(3, depth - 1, LIST, LIST) + col(b"e", kind, 9, mark), 7, 0))
+                yield lay(3, 1, col(b"a", nested_structs(3, depth - 1, struct(col(b"e", kind, 9, mark))), 7, 0))
+    # the bytes end before the mark, at each level
+    yield lay(3, 1, col(b"a", b"", 7))
+    yield lay(3, 1, col(b"a", struct(col(b"x", b"", 7)), *label))
+    for depth in (2, 16, 17):
+        yield lay(3, 1, col(b"a", nested(3, depth - 1, LIST, LIST) + col(b"e", b"", 9), *label))
+    for outer in (LIST, array(2)):
+        for depth in (1, 2, 15, 16, 17, 18):
+            yield lay(3, 1, col(b"a", nested(3, depth, outer), *label))
+            yield lay(3, 1, col(b"a", nested(3, depth, outer)[:-1], *label))
+    # names may repeat, ids may not, whatever the marks
+    yield lay(3, 2, col(b"a", INT8, 1, 0), col(b"a", INT8, 2, 1))
+    for kind in (b"", b"\xff", INT8, struct(col(b"b", INT8, 1, 1)), struct(col(b"b", INT8, 1, 1))[:-1]):
+        yield lay(3, 2, col(b"a", INT8, 1, 0), col(b"c", kind, 1, 1))
+        yield lay(3, 1, col(b"s", struct(col(b"a", INT8, 1, 1), col(b"c", kind, 1, 0)), 1, 1))
+    fields = struct(col(b"x", LIST + col(b"e", decimal(9, 3), 5, 1), 3, 1), col(b"x", array(3) + col(b"", struct(), 6, 0), 4, 0))
+    whole = lay(3, 3, col(b"at", datetime(2, b"Z"), 1, 1), col(b"s", fields, 2, 0), col(b"", b"\x11", 0, 1))
+    for n in range(len(whole) + 1):
+        yield whole[:n]
+    yield whole + b"\x00"
+    # the most columns, each with no name but its id and mark
+    most = [col(b"", b"\x00", n, n % 2) for n in range(2339)]
+    yield lay(3, len(most), *most)
+    yield lay(3, len(most), *most) + b"\x00" * 12
+
+
 GROUPS = [
     ("marks and versions", heads),
     ("type codes and units", codes),
@@ -487,6 +509,7 @@ GROUPS = [
     ("counts", counts),
     ("ends at every byte", prefixes),
     ("decimals", decimals),
+    ("required marks", marks),
     ("16,384 bytes", limits),
 ]
 
@@ -531,19 +554,22 @@ def other(case, on):
     return " ".join(words)
 
 
-# Whether a case with an owner asks what the library knows: layouts of version 2 alone.
-def known(given):
-    layouts = [given.get(name, "")[6:10] for name in ("incoming", "target")]
-    return "owner" not in given or layouts == ["0200", "0200"]
+# Whether a case's answer changed when layouts of version 3 or tables of version 2 became known.
+def outdated(file, given):
+    layouts = [given.get(name, "") for name in ("layout", "incoming", "target")]
+    marks = any(layout.startswith("4c41590300") for layout in layouts)
+    owners = given.get("defaults", "").startswith("4445460200")
+    return file in BEFORE_MARKS and marks or file in BEFORE_OWNERS and owners
 
 
 # The cases of a file as lines, of the first so many alone where a number is given.
 def taken(path, most=None):
     lines = []
-    on = EXTRA_COLUMNS if os.path.basename(path) in BEFORE_EXTRA_COLUMNS else 0
+    file = os.path.basename(path)
+    on = EXTRA_COLUMNS if file in BEFORE_EXTRA_COLUMNS else 0
     for number, text in enumerate(itertools.islice(open(path), most), 1):
         case = json.loads(text)
-        if case["op"] not in CALLS or not known(case["in"]) or (os.path.basename(path), number) in CHANGED:
+        if case["op"] not in CALLS or outdated(file, case["in"]) or (file, number) in CHANGED:
             continue
         if case["op"] != "layout":
             lines.append(other(case, on))
@@ -588,6 +614,12 @@ def main():
                 seen.add(one)
                 lines.append(one)
                 text.append(one + "\n")
+    text.append("# required fields, by hand (compare/required.py)\n")
+    for one in required():
+        if one not in seen:
+            seen.add(one)
+            lines.append(one)
+            text.append(one + "\n")
     text.append("# the original builder's answers (compare/rust/sample.txt says how they were made)\n")
     for one in open(SAMPLE):
         one = one.rstrip("\n")
@@ -603,4 +635,5 @@ def main():
         stored.write("".join(passes + counts) + "%d cases, 0 differ\n" % len(lines))
 
 
-main()
+if __name__ == "__main__":
+    main()

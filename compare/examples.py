@@ -22,6 +22,7 @@ FLOAT32, FLOAT64 = b"\x0b", b"\x0c"
 STRING, CATEGORY = b"\x0f", b"\x11"
 NANOSECONDS, MILLISECONDS = 0, 2
 NONSTRICT, STRICT, OVERFLOWING = b"\x00", b"\x01", b"\x02"
+OPTIONAL, REQUIRED = b"\x00", b"\x01"
 
 
 def u16(n):
@@ -47,9 +48,9 @@ def decimal(precision, scale):
     return bytes([21, precision, scale])
 
 
-# A column by name, or with an id by number.
-def column(name, kind, ident=None):
-    return text(name) + (b"" if ident is None else u32(ident)) + kind
+# A column by name, or with an id by number; in version 3 with its mark.
+def column(name, kind, ident=None, mark=b""):
+    return text(name) + (b"" if ident is None else u32(ident)) + mark + kind
 
 
 def struct_of(*columns):
@@ -227,6 +228,36 @@ FOLDERS = {
             ),
             "record.bin": number("h", -2) + many(number("b", 7), NULL) + present(number("?", True)),
             "output.bin": number("i", -2) + many(number("h", 7), NULL) + present(number("?", True), number("b", 40)) + string("north"),
+        },
+    ),
+    "gates": (
+        "By number, between layouts of version 3: the sluice gates must have a level. Both layouts mark it as required, and so the elements of the marks; the"
+        " limit, which the neighbour lacks, is required too and has a default. So no run of the plan gives null to any of them. Without the default the build is"
+        " refused with 54, and with 55 if the neighbour sent its level as optional, or a layout of version 2, whose columns are optional; a record whose level is"
+        " null is refused with 56.",
+        ALL_ON,
+        {
+            "incoming.lay": layout(
+                3,
+                column("level", INT16, 1, REQUIRED),
+                column("marks", list_of(column("mark", INT8, 3, REQUIRED)), 2, OPTIONAL),
+            ),
+            "target.lay": layout(
+                3,
+                column("level", INT32, 1, REQUIRED),
+                column("marks", list_of(column("mark", INT16, 3, REQUIRED)), 2, OPTIONAL),
+                column("limit", INT8, 4, REQUIRED),
+                column("note", STRING, 5, OPTIONAL),
+            ),
+            "defaults.def": table(initial(4, INT8, number("b", 40))),
+            "plan.pln": plan(
+                cast(position(0), INT32, OVERFLOWING),
+                list_mapping(position(1), cast(position(0), INT16, OVERFLOWING)),
+                constant("limit", INT8, number("b", 40)),
+                constant("note", STRING, NULL),
+            ),
+            "record.bin": number("h", -2) + many(number("b", 7), number("b", -3)),
+            "output.bin": number("i", -2) + many(number("h", 7), number("h", -3)) + number("b", 40) + NULL,
         },
     ),
     "overflow": (

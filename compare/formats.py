@@ -15,6 +15,7 @@ NEEDED = [
     "examples/older/target.lay",
     "examples/sluice/incoming.lay",
     "examples/salinometer/incoming.lay",
+    "examples/gates/incoming.lay",
     "examples/sluice/record.bin",
     "examples/salinometer/record.bin",
     "examples/sluice/defaults.def",

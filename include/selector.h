@@ -63,9 +63,9 @@ extern "C" {
  * is read forward by byte, and the first of 2 to 5 and 50 that applies is the answer; 6 comes last. */
 #define SELECTOR_UNKNOWN_MARK 1 /* not a known mark and version */
 #define SELECTOR_ENDS_EARLY 2   /* the bytes end early */
-#define SELECTOR_UNKNOWN_CODE 3 /* unknown type code or unit; of a table: unknown type code, unit, kind or load byte,
-                                   a wrong precision or scale, a type that is no leaf, or a value that does not fit
-                                   its type */
+#define SELECTOR_UNKNOWN_CODE 3 /* unknown type code, unit or required mark; of a table: unknown type code, unit, kind
+                                   or load byte, a wrong precision or scale, a type that is no leaf, or a value that
+                                   does not fit its type */
 #define SELECTOR_TOO_LARGE 4    /* more than 16384 bytes, a name or zone of more than 63, or a type deeper than 16;
                                    of a table: more than 16384 bytes, or a zone of more than 63 */
 #define SELECTOR_REPEATED 5     /* a column repeats a sibling's name or id; of a table: an entry repeats an id of its
@@ -119,6 +119,11 @@ extern "C" {
 /* A refusal of a build, before its columns are matched. */
 #define SELECTOR_EXTRA_COLUMN 53 /* an incoming column has no counterpart, and extra columns are not ignored */
 
+/* Refusals of required fields: 54 of a build, 55 of a build and a check, 56 of a run's record. */
+#define SELECTOR_MISSING_REQUIRED 54     /* a required field would be filled with null */
+#define SELECTOR_OPTIONAL_TO_REQUIRED 55 /* an optional field meets a required one */
+#define SELECTOR_RECORD_NULL 56          /* null in a required field of the record */
+
 /* The policy word: a bit each, 1 allows; docs/policy.txt is the list. All other bits are ignored, and a later edition
  * may give one a meaning: a word that was made before SELECTOR_IGNORE_EXTRA_COLUMNS, bit 15, now refuses extra columns,
  * so make words of these names. SELECTOR_ALLOW_ALL has all of them, and grows with them. */
@@ -140,10 +145,10 @@ extern "C" {
 #define SELECTOR_IGNORE_EXTRA_COLUMNS (UINT32_C(1) << 15)
 #define SELECTOR_ALLOW_ALL UINT32_C(0xFFFF)
 
-/* Reads a layout of version 1 or 2 to its end. The answer is 0 where it is accepted. Refusals: 1 to 6, 50. The place of
- * 1 to 6 is 1. Stack: SELECTOR_READ_STACK. Time: grows with the bytes; earlier siblings are scanned for a repeated name
- * or id only where a table of bits says that there may be one, so that only layouts made for it take the square of the
- * number of columns. */
+/* Reads a layout of version 1, 2 or 3 to its end. The answer is 0 where it is accepted. Refusals: 1 to 6, 50. The place
+ * of 1 to 6 is 1. Stack: SELECTOR_READ_STACK. Time: grows with the bytes; earlier siblings are scanned for a repeated
+ * name or id only where a table of bits says that there may be one, so that only layouts made for it take the square of
+ * the number of columns. */
 uint64_t selector_read_layout(const uint8_t *layout, size_t length);
 
 /* Builds the plan that takes records of the incoming layout to the target layout, columns matched by name. Both are of
@@ -153,25 +158,26 @@ uint64_t selector_read_layout(const uint8_t *layout, size_t length);
 uint64_t selector_build_by_name(uint32_t policy, const uint8_t *incoming, size_t incoming_length,
                                 const uint8_t *target, size_t target_length, uint8_t *plan, size_t plan_length);
 
-/* The same by field id, with defaults for missing fields. Both layouts are of version 2. Of the table of defaults the
- * entries of the owner count, and in a table of version 1 all entries; of a partition's values the source index, from 0,
- * picks one. Entries of other owners change no answer, but a fault in one refuses the table. Refusals: 1 to 6, 10, 11,
- * 13 to 28, 50, 51, 53. Stack: SELECTOR_BUILD_STACK. */
+/* The same by field id, with defaults for missing fields. Each layout is of version 2 or 3; a field that version 3
+ * marks as required gets no null from an accepted plan. Of the table of defaults the entries of the owner count, and in
+ * a table of version 1 all entries; of a partition's values the source index, from 0, picks one. Entries of other
+ * owners change no answer, but a fault in one refuses the table. Refusals: 1 to 6, 10, 11, 13 to 28, 50, 51, 53 to 55.
+ * Stack: SELECTOR_BUILD_STACK. */
 uint64_t selector_build_by_number(uint32_t policy, uint32_t source_index, uint16_t owner,
                                   const uint8_t *incoming, size_t incoming_length,
                                   const uint8_t *target, size_t target_length,
                                   const uint8_t *defaults, size_t defaults_length, uint8_t *plan, size_t plan_length);
 
-/* Checks that a plan takes records of the incoming layout to the target layout; the layouts are of either version.
- * Refusals: 1 to 6, 30 to 33, 50. Stack: SELECTOR_CHECK_STACK. Time: bounded by a polynomial in the bytes
- * (docs/ARCHITECTURE.md, "Work and stack"), however large the types that a plan asks for. */
+/* Checks that a plan takes records of the incoming layout to the target layout, and never null to a required field; the
+ * layouts are of any version. Refusals: 1 to 6, 30 to 33, 50, 55. Stack: SELECTOR_CHECK_STACK. Time: bounded by a
+ * polynomial in the bytes (docs/ARCHITECTURE.md, "Work and stack"), however large the types that a plan asks for. */
 uint64_t selector_check_plan(const uint8_t *incoming, size_t incoming_length,
                              const uint8_t *target, size_t target_length, const uint8_t *plan, size_t plan_length);
 
 /* Runs a plan over one record of the incoming layout and writes the record of the target layout. All of the check is
- * made first. Refusals: 1 to 6, 30 to 33, 40 to 45, 50, 52. A plan that passes the check, run over a record that fits,
- * can only be refused with 44 or 45. Stack: SELECTOR_RUN_STACK. Time: bounded likewise, however long the output that a
- * plan asks for: 44 is decided without it, and it is written no further than the limit. */
+ * made first. Refusals: 1 to 6, 30 to 33, 40 to 45, 50, 52, 55, 56. A plan that passes the check, run over a record
+ * that fits, can only be refused with 44 or 45. Stack: SELECTOR_RUN_STACK. Time: bounded likewise, however long the
+ * output that a plan asks for: 44 is decided without it, and it is written no further than the limit. */
 uint64_t selector_run(const uint8_t *incoming, size_t incoming_length, const uint8_t *target, size_t target_length,
                       const uint8_t *plan, size_t plan_length, const uint8_t *record, size_t record_length,
                       uint8_t *output, size_t output_length);

@@ -190,9 +190,9 @@ static const struct {
     uint32_t first, last;
 } refusals[] = {
     {BUILD_NAME, 1, 6}, {BUILD_NAME, 10, 24}, {BUILD_NAME, 27, 27}, {BUILD_NAME, 50, 51}, {BUILD_NAME, 53, 53},
-    {BUILD_NUMBER, 1, 6}, {BUILD_NUMBER, 10, 11}, {BUILD_NUMBER, 13, 28}, {BUILD_NUMBER, 50, 51}, {BUILD_NUMBER, 53, 53},
-    {CHECK, 1, 6}, {CHECK, 30, 33}, {CHECK, 50, 50},
-    {RUN, 1, 6}, {RUN, 30, 33}, {RUN, 40, 45}, {RUN, 50, 50}, {RUN, 52, 52},
+    {BUILD_NUMBER, 1, 6}, {BUILD_NUMBER, 10, 11}, {BUILD_NUMBER, 13, 28}, {BUILD_NUMBER, 50, 51}, {BUILD_NUMBER, 53, 55},
+    {CHECK, 1, 6}, {CHECK, 30, 33}, {CHECK, 50, 50}, {CHECK, 55, 55},
+    {RUN, 1, 6}, {RUN, 30, 33}, {RUN, 40, 45}, {RUN, 50, 50}, {RUN, 52, 52}, {RUN, 55, 56},
 };
 
 /* Whether a call of the kind may answer with the number. */

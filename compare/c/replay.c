@@ -67,8 +67,10 @@ typedef struct {
 static label get_label(reader *r) {
     label l = {0, 0, 0};
     l.start = get_text(r, &l.length);
-    if (r->version == 2)
+    if (r->version >= 2)
         l.id = get(r, 4);
+    if (r->version == 3 && get(r, 1) > 1 && r->refusal == 0)
+        r->refusal = 3;
     return l;
 }
 
@@ -89,7 +91,7 @@ static void get_columns(reader *r, int depth, int top) {
         label l = get_label(r);
         get_type(r, depth);
         for (size_t j = first; j < labels_used && r->refusal == 0; j++)
-            if (r->version == 2 ? labels[j].id == l.id : top && same_name(r, labels[j], l))
+            if (r->version >= 2 ? labels[j].id == l.id : top && same_name(r, labels[j], l))
                 r->refusal = 5;
         if (r->refusal == 0)
             labels[labels_used++] = l;
@@ -119,7 +121,7 @@ static void get_type(reader *r, int depth) {
         get(r, 4);
         /* fall through */
     case 19:
-        if (r->version == 2)
+        if (r->version >= 2)
             get_label(r);
         get_type(r, depth + 1);
         break;
@@ -138,7 +140,7 @@ static void get_type(reader *r, int depth) {
 static unsigned second_answer(const uint8_t *bytes, size_t length) {
     if (length > LIMIT)
         return 4;
-    if (length < 5 || memcmp(bytes, "LAY", 3) != 0 || bytes[3] < 1 || bytes[3] > 2 || bytes[4] != 0)
+    if (length < 5 || memcmp(bytes, "LAY", 3) != 0 || bytes[3] < 1 || bytes[3] > 3 || bytes[4] != 0)
         return 1;
     reader r = {bytes, length, 5, bytes[3], 0};
     labels_used = 0;
@@ -233,8 +235,10 @@ static void put_name(text *t) {
 
 static void put_label(text *t) {
     put_name(t);
-    if (t->version == 2)
+    if (t->version >= 2)
         put(t, random_below(10) == 0 ? random_below(4) << 24 : random_below(2000), 4);
+    if (t->version == 3)
+        put(t, random_below(2), 1);
 }
 
 static void put_type(text *t, int depth);
@@ -266,7 +270,7 @@ static void put_type(text *t, int depth) {
     } else if (code >= 19) {
         if (code == 20)
             put(t, random_below(70000), 4);
-        if (t->version == 2)
+        if (t->version >= 2)
             put_label(t);
         put_type(t, depth + 1);
     }
@@ -274,7 +278,7 @@ static void put_type(text *t, int depth) {
 
 static void make(text *t) {
     t->length = 0;
-    t->version = 1 + (int)random_below(2);
+    t->version = 1 + (int)random_below(3);
     t->deep = random_below(4) == 0;
     put(t, 'L' | 'A' << 8 | 'Y' << 16, 3);
     put(t, (uint32_t)t->version, 2);
@@ -305,7 +309,7 @@ static void damage(text *t) {
         t->bytes[at] = (uint8_t)(t->bytes[at] + (random_below(2) == 0 ? 1 : 255));
         break;
     case 5: /* a code or a limit */
-        t->bytes[at] = (uint8_t)"\x00\x01\x0E\x12\x13\x14\x15\x16\x3F\x40\xFF"[random_below(11)];
+        t->bytes[at] = (uint8_t)"\x00\x01\x02\x03\x0E\x12\x13\x14\x15\x16\x3F\x40\xFF"[random_below(13)];
         break;
     case 6:
         if (at + run <= t->length) {

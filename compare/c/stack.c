@@ -116,11 +116,14 @@ static void put(int i, uint64_t value, int count) {
         bytes[i][length[i]++] = (uint8_t)(value >> (8 * k));
 }
 
+/* In version 3 everything is required. */
 static void label(int i, uint32_t version, uint32_t name, uint32_t id) {
     put(i, 1, 1);
     put(i, name, 1);
-    if (version == 2)
+    if (version >= 2)
         put(i, id, 4);
+    if (version == 3)
+        put(i, 1, 1);
 }
 
 /* A layout whose last column has so many levels with a leaf inside. From one level on, the top being 0, there are so
@@ -136,7 +139,7 @@ static void nested_from(int i, uint32_t version, uint32_t code, uint32_t levels,
             label(i, version, 'A' + j, 64 * (k + 1) + j);
             put(i, 3, 1);
         }
-        if (k == 0 || code == 18 || version == 2)
+        if (k == 0 || code == 18 || version >= 2)
             label(i, version, 'a', k + 1);
         put(i, k < levels ? code : leaf, 1);
         if (k < levels && code != 19)
@@ -167,7 +170,7 @@ static void deepest_of(uint32_t version, uint32_t code, uint32_t from, uint32_t 
  * ignored. */
 static void deepest(void) {
     space = SPACE;
-    for (uint32_t version = 1; version <= 2; version++)
+    for (uint32_t version = 1; version <= 3; version++)
         for (uint32_t ignore = 0; ignore <= 1; ignore++) {
             policy = SELECTOR_ALLOW_ALL;
             if (!ignore)
@@ -224,9 +227,9 @@ static void check_and_run(void) {
 }
 
 /* Two layouts of nested structs of so many fields, and the head of a plan of so many selectors between them. */
-static void between_nested(uint32_t fields, uint32_t selectors) {
-    nested(0, 1, 18, 15, fields, 3);
-    nested(1, 1, 18, 15, fields, 3);
+static void between_nested(uint32_t version, uint32_t fields, uint32_t selectors) {
+    nested(0, version, 18, 15, fields, 3);
+    nested(1, version, 18, 15, fields, 3);
     length[2] = 0;
     put(2, 'P' | 'L' << 8 | 'N' << 16, 3);
     put(2, 1, 2);
@@ -248,7 +251,7 @@ static void deepest_plans(void) {
 /* 63 struct mappings nested as fields, each over a constant struct of one field, which the innermost takes: the check
  * refuses them, but only once it has been there. */
 static void fields_over_constants(void) {
-    between_nested(1, 1);
+    between_nested(1, 1, 1);
     for (int k = 1; k <= 63; k++) {
         put(2, 4, 1);
         put(2, 1, 2); /* a constant without a name: */
@@ -280,10 +283,14 @@ static void fields_by(uint32_t levels) {
         put(2, 31 << 8, 3);
 }
 
-/* Struct mappings one over another, the outermost over all levels of its struct: what one pass writes out, in its longer buffers. */
-static void composed_plans(void) {
+/* A leaf of the record: null, in version 3 a value. */
+static void leaf_of(uint32_t version) { put(3, version == 3, version == 3 ? 3 : 1); }
+
+/* Struct mappings one over another, the outermost over all levels of its struct: what one pass writes out, in its longer buffers. In version 3 the check follows every required place
+ * through all of them. */
+static void composed_plans(uint32_t version) {
     for (uint32_t levels = 0; levels <= 14; levels += 7) {
-        between_nested(32, 32);
+        between_nested(version, 32, 32);
         for (uint32_t k = 0; k < 31; k++)
             put(2, k << 8, 3);
         uint32_t mappings = 63 - levels;
@@ -296,11 +303,56 @@ static void composed_plans(void) {
         length[3] = 0;
         for (uint32_t k = 0; k <= 15; k++) {
             for (uint32_t j = 0; j < 31; j++)
-                put(3, 0, 1); /* a null */
-            put(3, k < 15, 1);
+                leaf_of(version);
+            if (k < 15)
+                put(3, 1, 1);
+            else
+                leaf_of(version);
         }
         check_and_run();
         if (selector_run(bytes[0], length[0], bytes[1], length[1], bytes[2], length[2], bytes[3], length[3], buffer, space) != length[3])
+            exit(2);
+    }
+}
+
+/* A required place that is 15 lists deep: in a constant, in mappings one inside another, and below a null that is cast. */
+static void required_places(void) {
+    length[0] = 0;
+    put(0, 'L' | 'A' << 8 | 'Y' << 16, 3);
+    put(0, 1, 2);
+    put(0, 1, 2);
+    put(0, 0, 2); /* a null column without a name */
+    nested(1, 3, 19, 15, 1, 2);
+    bytes[1][7 + 2 + 4] = 0; /* the column itself is optional */
+    length[3] = 1;
+    bytes[3][0] = 0;
+    for (int shape = 0; shape < 3; shape++) {
+        length[2] = 0;
+        put(2, 'P' | 'L' << 8 | 'N' << 16, 3);
+        put(2, 1, 2);
+        put(2, 1, 2);
+        put(2, 3, 1); /* a rename, so that the column has its name */
+        if (shape == 1) {
+            for (int k = 0; k < 15; k++) {
+                put(2, 0x0105, 2); /* a list mapping of a constant without a name, */
+                put(2, 0x021300, 3);
+                put(2, 0x000001, 3); /* an empty list of int8 */
+            }
+            put(2, 0x01020001, 4); /* the constant 1, int8 */
+            put(2, 1, 1);
+        } else {
+            put(2, shape == 0 ? 1 : 2, 1);
+            put(2, 0, shape == 0 ? 1 : 3);
+            for (int k = 0; k < 15; k++)
+                put(2, 19, 1);
+            put(2, 2, 1);
+            for (int k = 0; shape == 0 && k < 15; k++)
+                put(2, 0x000101, 3); /* one element */
+            put(2, shape == 0 ? 0x0101 : 0, shape == 0 ? 2 : 1);
+        }
+        put(2, 0x6101, 2);
+        check_and_run();
+        if (selector_check_plan(bytes[0], length[0], bytes[1], length[1], bytes[2], length[2]) != 0)
             exit(2);
     }
 }
@@ -314,7 +366,9 @@ int main(int count, char **words) {
     deepest();
     deepest_plans();
     fields_over_constants();
-    composed_plans();
+    composed_plans(1);
+    composed_plans(3);
+    required_places();
     each_line(words[1], one_line);
     int within = 1;
     for (int k = 0; k < KINDS; k++) {

@@ -16,7 +16,8 @@ impl<'a> Plan<'a> {
         Ok(Plan::new(&buffer[..length]))
     }
 
-    /// The same by field id, with the defaults of a table for missing fields. Both layouts are of version 2.
+    /// The same by field id, with the defaults of a table for missing fields. Each layout is of version
+    /// 2 or 3.
     pub fn build_by_number_into(
         policy: Policy,
         incoming: Incoming,

@@ -89,8 +89,8 @@ macro_rules! reasons {
 reasons! {
     1 UnknownMark Input "not a known mark and version";
     2 EndsEarly Input "the bytes end early";
-    3 UnknownCode Input "unknown type code or unit; of a table: unknown type code, unit, kind or load byte, \
-        a wrong precision or scale, a type that is no leaf, or a value that does not fit its type";
+    3 UnknownCode Input "unknown type code, unit or required mark; of a table: unknown type code, unit, kind or load \
+        byte, a wrong precision or scale, a type that is no leaf, or a value that does not fit its type";
     4 TooLarge Input "more than 16384 bytes, a name or zone of more than 63, or a type deeper than 16; \
         of a table: more than 16384 bytes, or a zone of more than 63";
     5 Repeated Input "a column repeats a sibling's name or id; of a table: an entry repeats an id of its kind";
@@ -117,6 +117,8 @@ reasons! {
     28 DefaultType Column "the default taken has a type unlike the field's";
     51 DecimalWidening None "a cast to a decimal of larger precision is not allowed";
     53 ExtraColumn Incoming "an incoming column has no counterpart, and extra columns are not ignored";
+    54 MissingRequired None "a required field would be filled with null";
+    55 OptionalToRequired None "an optional field meets a required one";
     30 MalformedPlan None "malformed plan";
     31 NoSuchPosition Selector "a selector takes a position that is not there";
     32 UnfitTransform Selector "a transform does not fit its input, or its result is too deep or too large a type";
@@ -128,6 +130,7 @@ reasons! {
     44 Overflow None "a date-time is too large for its finer unit";
     45 OutputTooLong None "the output exceeds the buffer or 16384 bytes";
     52 DecimalTooLarge None "a decimal of the record has more digits than its precision";
+    56 RecordNull None "null in a required field of the record";
 }
 
 /// A refusal: its reason, and its place, which [`Reason::place`] tells the meaning of.

@@ -218,6 +218,41 @@ fn owners() {
     assert_eq!(two.with_owner(2).owner(), 2);
 }
 
+/// What examples/gates/about.txt says of a missing default, of a neighbour whose level is optional, and of a record without a level.
+#[test]
+fn gates() {
+    let folder = PathBuf::from(env!("CARGO_MANIFEST_DIR")).join("../examples/gates");
+    let file = |name: &str| fs::read(folder.join(name)).unwrap();
+    let (from, to, table) = (
+        file("incoming.lay"),
+        file("target.lay"),
+        file("defaults.def"),
+    );
+    let build = |from: &[u8], defaults| {
+        PlanBuf::build_by_number(Policy::ALL, incoming(from), target(&to), defaults)
+    };
+    assert_eq!(refused(build(&from, Defaults::NONE)), (54, 0));
+    let mut optional = from.clone();
+    // The mark after the name and the id of the level.
+    optional[7 + 6 + 4] = 0;
+    let defaults = Defaults::new(&table);
+    let refusal = build(&optional, defaults).unwrap_err();
+    assert_eq!(
+        (refusal.reason, refusal.place),
+        (Reason::OptionalToRequired, 0)
+    );
+    let built = build(&from, defaults).unwrap();
+    let plan = built.plan();
+    let checked = plan.check(incoming(&optional), target(&to));
+    assert_eq!(refused(checked), (55, 0));
+    let run = |record| plan.run(incoming(&from), target(&to), Record::new(record));
+    assert_eq!(refused(run(b"\x00\x00")), (56, 0));
+    assert_eq!(
+        run(b"\x01\x02\x00\x00").unwrap(),
+        b"\x01\x02\x00\x00\x00\x00\x01\x28\x00"
+    );
+}
+
 /// What examples/salinometer/about.txt says of other policies and of the other way round, and the record that has too many digits.
 #[test]
 fn salinometer() {

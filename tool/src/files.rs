@@ -1,7 +1,7 @@
 //! Files in and out.
 
 use crate::failure::Failure;
-use crate::form::Layout;
+use crate::form::{Column, Layout};
 use crate::read;
 use crate::text::{self, Kind, Places, TextError};
 use crate::told::{Case, Told, tell};
@@ -145,18 +145,23 @@ pub fn test_table(input: &Input) -> Result<(), Failure> {
     built.map(drop).map_err(|refusal| refused(refusal, case))
 }
 
-/// Tests a record by a run that takes every column as it is.
-pub fn test_record(record: &Input, layout: &Input, columns: usize) -> Result<(), Failure> {
-    let selectors = (0..columns as u16)
+/// Tests a record of a layout by a run that takes every column as it is, to a layout where nothing is required.
+pub fn test_record(record: &Input, layout: &Input, tree: &Layout) -> Result<(), Failure> {
+    let selectors = (0..tree.columns.len() as u16)
         .map(crate::form::Selector::Position)
         .collect();
     let plan = write::plan_bytes(&crate::form::Plan {
         version: 1,
         selectors,
     });
-    let plan = plan.map_err(|message| Failure::File(format!("{}: {message}", layout.name)))?;
-    let same = column_selector::Layout::new(&layout.bytes);
-    let run = Plan::new(&plan).run(Incoming(same), Target(same), Record::new(&record.bytes));
+    let target = write::layout_bytes(&Layout {
+        version: tree.version,
+        columns: tree.columns.iter().map(Column::optional).collect(),
+    });
+    let fail = |message| Failure::File(format!("{}: {message}", layout.name));
+    let (plan, target) = (plan.map_err(fail)?, target.map_err(fail)?);
+    let [from, to] = [&layout.bytes, &target].map(|bytes| column_selector::Layout::new(bytes));
+    let run = Plan::new(&plan).run(Incoming(from), Target(to), Record::new(&record.bytes));
     let case = Case {
         incoming: Some(layout),
         record: Some(record),

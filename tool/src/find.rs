@@ -2,10 +2,12 @@
 
 mod build;
 mod check;
+mod marks;
 mod run;
 mod selector;
 
 pub use build::{Build, Spot};
 pub use check::difference;
+pub use marks::optional_place;
 pub use run::Run;
 pub use selector::refused_selector;

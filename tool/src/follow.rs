@@ -11,11 +11,7 @@ const SIZE_LIMIT: usize = 16_384;
 pub fn made(selector: &Selector, scope: &[Column]) -> Option<Column> {
     match selector {
         Selector::Position(position) => scope.get(usize::from(*position)).cloned(),
-        Selector::Constant(name, of, _) => Some(Column {
-            name: name.clone(),
-            id: 0,
-            of: of.clone(),
-        }),
+        Selector::Constant(name, of, _) => Some(Column::named(name.clone(), of.clone())),
         Selector::Cast(input, of, _) => Some(Column {
             of: of.clone(),
             ..made(input, scope)?

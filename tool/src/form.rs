@@ -1,7 +1,7 @@
 //! Layouts, tables of defaults, records and plans as trees. docs/FORMATS.md has their bytes.
 
 /// The versions of layouts, tables of defaults and plans that are read and written here.
-pub const LAYOUT_VERSIONS: &[u16] = &[1, 2];
+pub const LAYOUT_VERSIONS: &[u16] = &[1, 2, 3];
 pub const TABLE_VERSIONS: &[u16] = &[1, 2];
 pub const PLAN_VERSIONS: &[u16] = &[1];
 
@@ -26,19 +26,57 @@ pub fn by_number(version: u16) -> bool {
     version >= 2
 }
 
-/// A column, a struct's field or an element. The id is 0 where the layout has none, and an element's name empty.
+/// Whether columns of a layout's version say if they are required.
+pub fn marked(version: u16) -> bool {
+    version >= 3
+}
+
+/// A column, a struct's field or an element. The id is 0 where the layout has none, an element's name empty, and none is
+/// required where the layout can't say it.
 #[derive(Clone, Debug, PartialEq, Eq)]
 pub struct Column {
     pub name: Bytes,
     pub id: u32,
+    pub required: bool,
     pub of: Type,
 }
 
 impl Column {
+    /// A column of a layout by name.
+    pub fn named(name: Bytes, of: Type) -> Column {
+        let (id, required) = (0, false);
+        Column {
+            name,
+            id,
+            required,
+            of,
+        }
+    }
+
     /// An element of a layout by name.
     pub fn bare(of: Type) -> Column {
-        let name = Bytes::new();
-        Column { name, id: 0, of }
+        Column::named(Bytes::new(), of)
+    }
+
+    /// The same, required at none of its places.
+    pub fn optional(&self) -> Column {
+        let parts = || self.of.inside().iter().map(Column::optional);
+        let of = match &self.of {
+            Type::Leaf(leaf) => Type::Leaf(leaf.clone()),
+            Type::Struct(_) => Type::Struct(parts().collect()),
+            Type::List(element) => Type::List(Box::new(element.optional())),
+            Type::Array(width, element) => Type::Array(*width, Box::new(element.optional())),
+        };
+        Column {
+            required: false,
+            of,
+            ..self.clone()
+        }
+    }
+
+    /// Whether it or something inside it is required.
+    pub fn has_required(&self) -> bool {
+        self.required || self.of.inside().iter().any(Column::has_required)
     }
 }
 
@@ -51,7 +89,7 @@ pub enum Type {
 }
 
 impl Type {
-    /// Whether the two are equal, ids and elements' names aside.
+    /// Whether the two are equal, ids, marks and elements' names aside.
     pub fn equals(&self, other: &Type) -> bool {
         match (self, other) {
             (Type::Leaf(one), Type::Leaf(other)) => one == other,

@@ -1,6 +1,8 @@
 //! What is written for programs; docs/TEXT.md says what stands where.
 
-use crate::form::{Cast, Column, Default, Entry, Layout, Leaf, Plan, Selector, Table, Type, Value};
+use crate::form::{
+    self, Cast, Column, Default, Entry, Layout, Leaf, Plan, Selector, Table, Type, Value,
+};
 use crate::text::{type_name, value_text};
 use std::fmt::{self, Write};
 
@@ -106,35 +108,41 @@ pub fn layout_json(layout: &Layout) -> Json {
         (
             "columns",
             list(&layout.columns, |column| {
-                column_json(column, layout.by_number())
+                column_json(column, layout.version)
             }),
         ),
     ])
 }
 
-fn column_json(column: &Column, by_number: bool) -> Json {
+/// By the layout's version.
+fn column_json(column: &Column, version: u16) -> Json {
     let mut fields = vec![("name", bytes_json(&column.name))];
-    if by_number {
+    if form::by_number(version) {
         fields.push(("id", column.id.into()));
     }
-    fields.push(("type", type_json(&column.of, by_number)));
+    if form::marked(version) {
+        fields.push(("required", Json::Truth(column.required)));
+    }
+    fields.push(("type", of_json(&column.of, version)));
     Json::Object(fields)
 }
 
-pub fn type_json(of: &Type, by_number: bool) -> Json {
-    let element = |column: &Column| match by_number {
-        true => column_json(column, true),
-        false => type_json(&column.of, false),
+/// A type without ids and marks.
+pub fn type_json(of: &Type) -> Json {
+    of_json(of, 1)
+}
+
+fn of_json(of: &Type, version: u16) -> Json {
+    let element = |column: &Column| match form::by_number(version) {
+        true => column_json(column, version),
+        false => of_json(&column.of, version),
     };
     Json::Object(match of {
         Type::Leaf(leaf) => leaf_fields(leaf),
         Type::Struct(fields) => {
             vec![
                 ("type", "struct".into()),
-                (
-                    "fields",
-                    list(fields, |field| column_json(field, by_number)),
-                ),
+                ("fields", list(fields, |field| column_json(field, version))),
             ]
         }
         Type::List(inner) => vec![("type", "list".into()), ("element", element(inner))],
@@ -225,10 +233,7 @@ fn entry_json(entry: &Entry) -> Json {
     match &entry.default {
         Default::Initial(leaf, value) => {
             let of = Type::Leaf(leaf.clone());
-            fields.extend([
-                ("default", "initial".into()),
-                ("type", type_json(&of, false)),
-            ]);
+            fields.extend([("default", "initial".into()), ("type", type_json(&of))]);
             fields.push(("value", value_json(value, &of)));
         }
         Default::Loaded(leaf, values) => {
@@ -237,7 +242,7 @@ fn entry_json(entry: &Entry) -> Json {
                 ("default", "partition".into()),
                 ("loaded", Json::Truth(true)),
             ]);
-            fields.push(("type", type_json(&of, false)));
+            fields.push(("type", type_json(&of)));
             fields.push(("values", list(values, |value| value_json(value, &of))));
         }
         Default::Failed => fields.extend([
@@ -262,10 +267,10 @@ fn selector_json(selector: &Selector) -> Json {
         Selector::Constant(name, of, value) => vec![
             ("constant", value_json(value, of)),
             ("name", bytes_json(name)),
-            ("type", type_json(of, false)),
+            ("type", type_json(of)),
         ],
         Selector::Cast(_, of, cast) => {
-            vec![("cast", type_json(of, false)), ("option", cast_json(*cast))]
+            vec![("cast", type_json(of)), ("option", cast_json(*cast))]
         }
         Selector::Rename(_, name) => vec![("rename", bytes_json(name))],
         Selector::Struct(_, fields) => vec![("struct", list(fields, selector_json))],

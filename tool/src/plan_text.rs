@@ -156,11 +156,7 @@ fn selector_text(selector: &Selector, scope: Scope) -> String {
     match selector {
         Selector::Position(position) => position_text(*position, scope),
         Selector::Constant(name, of, value) => {
-            let column = Column {
-                name: name.clone(),
-                id: 0,
-                of: of.clone(),
-            };
+            let column = Column::named(name.clone(), of.clone());
             format!(
                 "constant {} ({})",
                 value_text(value, of),

@@ -30,6 +30,7 @@ pub struct About {
     pub file: String,
     pub path: String,
     pub of: String,
+    required: bool,
 }
 
 #[derive(Clone, Debug)]
@@ -132,6 +133,7 @@ impl Told {
                 self.note = self.refused_selector(case, &incoming);
             }
             (33, _) => self.find_difference(case, &incoming, &target),
+            (55, _) if case.plan.is_some() => self.find_optional(case, &target),
             (44 | 45, _) => {
                 let way = self.run_way(case, &incoming, &target);
                 self.target = way.and_then(|way| about(to, &way, &target.columns));
@@ -145,6 +147,10 @@ impl Told {
                     self.incoming = spot
                         .incoming
                         .and_then(|way| about(from, &way, &incoming.columns));
+                }
+                if let 54 | 55 = self.refusal.number() {
+                    self.target.iter_mut().for_each(About::mark);
+                    self.incoming.iter_mut().for_each(About::mark);
                 }
             }
         }
@@ -166,6 +172,17 @@ impl Told {
         let way: Way = path.iter().map(step_index).collect();
         self.target = about(to, &way, &target.columns);
         self.note = Some(how);
+    }
+
+    /// Where the plan may give null to what is required.
+    fn find_optional(&mut self, case: Case, target: &Layout) {
+        let (Some(from), Some(to), Some(plan)) = (case.incoming, case.target, case.plan) else {
+            return;
+        };
+        let way = find::optional_place(self.refusal, &from.bytes, target, &plan.bytes);
+        self.target = way.and_then(|way| about(to, &way, &target.columns));
+        self.target.iter_mut().for_each(About::mark);
+        self.note = Some("the plan may give null there".to_string());
     }
 
     /// The target's column in which a run is refused; a field inside it where one by itself is.
@@ -225,7 +242,7 @@ impl Told {
             ));
         }
         for (role, about) in [("target", &self.target), ("incoming", &self.incoming)] {
-            if let Some(About { file, path, of }) = about {
+            if let Some(About { file, path, of, .. }) = about {
                 text.push_str(&format!("  {role} {file}: {path}: {of}\n"));
             }
         }
@@ -283,6 +300,16 @@ impl Told {
 }
 
 impl About {
+    /// Says whether the column is required, where that is what the refusal is about.
+    fn mark(&mut self) {
+        let mark = if self.required {
+            "required"
+        } else {
+            "optional"
+        };
+        self.of = format!("{mark}, {}", self.of);
+    }
+
     fn json(&self) -> Json {
         Json::Object(vec![
             ("file", self.file.as_str().into()),
@@ -327,5 +354,6 @@ fn about(input: &Input, way: &Way, columns: &[Column]) -> Option<About> {
         file: input.name.clone(),
         path: way_text(way, columns),
         of: type_text(&column.of),
+        required: column.required,
     })
 }

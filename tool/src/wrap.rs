@@ -18,6 +18,17 @@ pub fn wrapped(text: &str, indent: usize, more: usize) -> String {
     format!("{lines}{}\n", line.trim_end())
 }
 
+/// Numbers in words: `1, 2 and 3`.
+pub fn listed(numbers: &[u16], before_last: &str) -> String {
+    let words: Vec<String> = numbers.iter().map(u16::to_string).collect();
+    match words.split_last() {
+        Some((last, others)) if !others.is_empty() => {
+            format!("{} {before_last} {last}", others.join(", "))
+        }
+        _ => words.concat(),
+    }
+}
+
 #[cfg(test)]
 mod tests {
     use super::*;

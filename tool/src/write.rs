@@ -4,7 +4,7 @@ use crate::form::{self, Column, Default, Layout, Leaf, Plan, Selector, Table, Ty
 
 pub fn layout_bytes(layout: &Layout) -> Result<Vec<u8>, String> {
     let mut out = Out::start(b"LAY", layout.version);
-    out.by_number = layout.by_number();
+    out.version = layout.version;
     out.columns(&layout.columns)?;
     Ok(out.bytes)
 }
@@ -52,7 +52,8 @@ pub fn plan_bytes(plan: &Plan) -> Result<Vec<u8>, String> {
 #[derive(Default)]
 struct Out {
     bytes: Vec<u8>,
-    by_number: bool,
+    /// Of the layout; types of plans have none, and are written as those of version 1.
+    version: u16,
 }
 
 impl Out {
@@ -86,8 +87,11 @@ impl Out {
 
     fn column(&mut self, column: &Column) -> Result<(), String> {
         self.text(&column.name)?;
-        if self.by_number {
+        if form::by_number(self.version) {
             self.bytes.extend(column.id.to_le_bytes());
+        }
+        if form::marked(self.version) {
+            self.bytes.push(u8::from(column.required));
         }
         self.of(&column.of)
     }
@@ -112,7 +116,7 @@ impl Out {
     }
 
     fn element(&mut self, element: &Column) -> Result<(), String> {
-        match self.by_number {
+        match form::by_number(self.version) {
             true => self.column(element),
             false => self.of(&element.of),
         }

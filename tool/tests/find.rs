@@ -44,7 +44,7 @@ fn refused(
     );
     let policy = lists::policy(policy).unwrap();
     let build = Build {
-        by_number: version == 2,
+        by_number: version >= 2,
         policy,
         defaults: Defaults::new(&table.bytes),
     };
@@ -133,6 +133,133 @@ fn an_extra_column() {
     let (two, one) = ("a @1: int8, b @2: int8", "b @2: int8");
     let refused = refused(2, "-extra_columns", two, one, "");
     assert_eq!(refused, due(53, "", "a"));
+}
+
+#[test]
+fn required_fields() {
+    let refused = |incoming: &str, target: &str, defaults: &str| {
+        refused(3, "all", incoming, target, defaults)
+    };
+    // An optional field meets a required one: at the top, in a struct, in an element, and each before what is inside it.
+    assert_eq!(
+        refused(
+            "a @1: int8, b @2: int8",
+            "a @1: int8, c @2 required: int8",
+            ""
+        ),
+        due(55, "c", "b")
+    );
+    assert_eq!(
+        refused(
+            "s @1 required: struct { x @2: int8, y @3: int8 }",
+            "s @1 required: struct { x @2: int8, z @3 required: string }",
+            ""
+        ),
+        due(55, "s.z", "s.y")
+    );
+    assert_eq!(
+        refused(
+            "s @1: struct { x @2: int8 }",
+            "s @1 required: struct { x @2 required: int8 }",
+            ""
+        ),
+        due(55, "s", "s")
+    );
+    let listed = |list: &str, element: &str, field: &str| {
+        format!("s @1{list}: list of e @2{element}: struct {{ x @3{field}: int8 }}")
+    };
+    let required = " required";
+    for (list, element, field, path) in [
+        ("", required, required, "s"),
+        (required, "", "", "s[]"),
+        (required, required, "", "s[].x"),
+    ] {
+        assert_eq!(
+            refused(
+                &listed(list, element, field),
+                &listed(required, required, required),
+                ""
+            ),
+            due(55, path, path)
+        );
+    }
+    assert_eq!(
+        refused("a @1 required: null", "a @1 required: int8", ""),
+        due(55, "a", "a")
+    );
+    // A missing one would be null: by itself, in the default of a struct, in a struct that is there, in an element.
+    assert_eq!(
+        refused("a @1: int8", "a @1: int8, b @2 required: int8", ""),
+        due(54, "b", "")
+    );
+    let missing = "s @1: struct { x @2 required: int8, y @3: int8 }";
+    assert_eq!(
+        refused("a @9: int8", missing, "@3 initial int8: 7"),
+        due(54, "s.x", "")
+    );
+    assert_eq!(
+        refused(
+            "a @9: int8",
+            "s @1 required: struct { x @2 required: int8, y @3: int8 }",
+            ""
+        ),
+        due(54, "s", "")
+    );
+    assert_eq!(
+        refused("s @1: struct { y @3: int8 }", missing, ""),
+        due(54, "s.x", "")
+    );
+    assert_eq!(
+        refused(
+            "s @1: list of e @4: struct { y @3: int8 }",
+            "s @1: list of e @4: struct { y @3: int8, x @2 required: int8 }",
+            "@2 initial int8: 7"
+        ),
+        due(54, "s[].x", "")
+    );
+}
+
+/// A plan that may give null to what is required is told with the place.
+#[test]
+fn plans_for_other_marks() {
+    let columns = |a: &str, p: &str, e: &str| {
+        format!("a @1{a}: int8, s @2: struct {{ p @3{p}: int8, l @4: list of e @5{e}: int8 }}")
+    };
+    let required = " required";
+    let target = layout("to", 3, &columns(required, required, required));
+    let plan = Plan::new(b"PLN\x01\x00\x02\x00\x00\x00\x00\x00\x01\x00");
+    for (a, p, e, path) in [
+        ("", required, required, "a"),
+        (required, "", required, "s.p"),
+        (required, required, "", "s.l[]"),
+        (required, "", "", "s.p"),
+    ] {
+        let incoming = layout("in", 3, &columns(a, p, e));
+        let layouts = (
+            Incoming(Layout::new(&incoming.bytes)),
+            Target(Layout::new(&target.bytes)),
+        );
+        let refusal = plan.check(layouts.0, layouts.1).unwrap_err();
+        let input = Input {
+            name: "plan".to_string(),
+            bytes: plan.as_bytes().to_vec(),
+            places: None,
+        };
+        let case = Case {
+            incoming: Some(&incoming),
+            target: Some(&target),
+            plan: Some(&input),
+            ..Case::default()
+        };
+        let told = tell(refusal, case);
+        assert_eq!(refusal.number(), 55);
+        assert_eq!(told.target.as_ref().unwrap().path, path);
+        assert!(
+            told.text().contains(": required, int8\n"),
+            "{}",
+            told.text()
+        );
+    }
 }
 
 #[test]

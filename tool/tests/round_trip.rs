@@ -110,6 +110,18 @@ fn errors_have_line_and_column() {
         ("layout version 1\nlevel: int9", 2, 8, "`int9` is no type"),
         ("layout version 1\nlevel @1: int8", 2, 7, "has no ids"),
         (
+            "layout version 2\nlevel @1 required: int8",
+            2,
+            10,
+            "only a layout of version 3",
+        ),
+        (
+            "layout version 3\nlevel @1 optional: int8",
+            2,
+            10,
+            "expected `:`",
+        ),
+        (
             "layout version 2\nlevel: int8",
             2,
             6,

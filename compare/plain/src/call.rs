@@ -1,7 +1,8 @@
-//! The calls over any bytes: every test in document 01's order.
+//! The calls over any bytes: every test in the order of documents 01 and 02.
 
+use crate::build;
 use crate::check::check;
-use crate::form::{Fault, Layout, read_layout as layout};
+use crate::form::{Fault, Layout, read_defaults, read_layout as layout};
 use crate::run::run as run_checked;
 use crate::selector::{Selector, read_plan};
 use crate::value::read_record;
@@ -31,6 +32,47 @@ pub fn read_layout(bytes: &[u8]) -> Result<(), Refusal> {
     layout(bytes).map(drop).map_err(Refusal::of_input(1))
 }
 
+/// The number of a refusal, and the place of a column or selector.
+fn at_column((number, place): (Fault, usize)) -> Refusal {
+    Refusal {
+        number,
+        place: place as u32,
+    }
+}
+
+/// The plan, for a buffer of `space` bytes.
+pub fn build_by_name(
+    policy: u32,
+    incoming: &[u8],
+    target: &[u8],
+    space: usize,
+) -> Result<Vec<u8>, Refusal> {
+    let incoming = layout(incoming).map_err(Refusal::of_input(1))?;
+    let target = layout(target).map_err(Refusal::of_input(2))?;
+    if incoming.version != 1 || target.version != 1 {
+        return Err(Refusal::of(10));
+    }
+    build::by_name(policy, (&incoming, &target), space).map_err(at_column)
+}
+
+/// The same, with source index, owner and table of defaults.
+pub fn build_by_number(
+    policy: u32,
+    (source_index, owner, defaults): (u32, u16, &[u8]),
+    incoming: &[u8],
+    target: &[u8],
+    space: usize,
+) -> Result<Vec<u8>, Refusal> {
+    let incoming = layout(incoming).map_err(Refusal::of_input(1))?;
+    let target = layout(target).map_err(Refusal::of_input(2))?;
+    if incoming.version == 1 || target.version == 1 {
+        return Err(Refusal::of(10));
+    }
+    let entries = read_defaults(defaults, owner).map_err(Refusal::of_input(3))?;
+    let layouts = (&incoming, &target);
+    build::by_number(policy, source_index, layouts, &entries, space).map_err(at_column)
+}
+
 /// The layouts and the plan of a check or a run.
 struct Read<'a> {
     incoming: Layout,
@@ -48,11 +90,7 @@ impl<'a> Read<'a> {
     }
 
     fn check(&self) -> Result<(), Refusal> {
-        let refusal = |(number, place)| Refusal {
-            number,
-            place: place as u32,
-        };
-        check(&self.incoming, &self.target, &self.plan).map_err(refusal)
+        check(&self.incoming, &self.target, &self.plan).map_err(at_column)
     }
 }
 

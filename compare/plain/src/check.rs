@@ -1,6 +1,7 @@
 //! The check: the column that each selector gives, then whether these are the target's.
 
 use crate::form::{Column, DEPTH_LIMIT, Fault, LAYOUT_LIMIT, Layout, Leaf, Type};
+use crate::nullness;
 use crate::rules::{CastOption, cast_option};
 use crate::selector::Selector;
 use std::rc::Rc;
@@ -85,13 +86,7 @@ impl<'a> DataType<'a> {
     }
 
     fn to_type(&self) -> Type {
-        let element = |inner: &DataType| {
-            Box::new(Column {
-                name: Vec::new(),
-                id: 0,
-                type_: inner.to_type(),
-            })
-        };
+        let element = |inner: &DataType| Box::new(Column::of(&[], inner.to_type()));
         match self {
             DataType::Leaf(leaf) => Type::Leaf((*leaf).clone()),
             DataType::Nested(nested) => match &nested.shape {
@@ -128,11 +123,7 @@ impl<'a> Field<'a> {
     }
 
     fn column(&self) -> Column {
-        Column {
-            name: self.name.to_vec(),
-            id: 0,
-            type_: self.type_.to_type(),
-        }
+        Column::of(self.name, self.type_.to_type())
     }
 }
 
@@ -224,23 +215,26 @@ fn mapped<'a>(inner: &DataType<'a>, element: &'a Selector<'a>) -> Result<DataTyp
 
 /// What the top selectors give: 31 or 32 with the selector's number.
 fn fields<'a>(
-    incoming: &'a Layout,
+    incoming: &'a [Column],
     plan: &'a [Selector<'a>],
 ) -> Result<Vec<Field<'a>>, (Fault, usize)> {
-    let scope: Vec<Field> = incoming.columns.iter().map(Field::of).collect();
+    let scope: Vec<Field> = incoming.iter().map(Field::of).collect();
     let one = |(place, selector)| field(&scope, selector).map_err(|number| (number, place));
     plan.iter().enumerate().map(one).collect()
 }
 
-/// 31 and 32, then 33.
+/// 31 and 32, then 33, then 55.
 pub fn check(incoming: &Layout, target: &Layout, plan: &[Selector]) -> Result<(), (Fault, usize)> {
-    match are(&fields(incoming, plan)?, &target.columns) {
+    if !are(&fields(&incoming.columns, plan)?, &target.columns) {
+        return Err((33, 0));
+    }
+    match nullness::meets(&incoming.columns, &target.columns, plan) {
         true => Ok(()),
-        false => Err((33, 0)),
+        false => Err((55, 0)),
     }
 }
 
-/// The columns that a plan leads to, without ids.
-pub fn columns(incoming: &Layout, plan: &[Selector]) -> Result<Vec<Column>, (Fault, usize)> {
+/// The columns that a plan leads to, without ids and marks.
+pub fn columns(incoming: &[Column], plan: &[Selector]) -> Result<Vec<Column>, (Fault, usize)> {
     Ok(fields(incoming, plan)?.iter().map(Field::column).collect())
 }

@@ -18,7 +18,21 @@ pub struct Column {
     pub name: Vec<u8>,
     /// 0 in version 1.
     pub id: u32,
+    /// Only version 3 has such.
+    pub required: bool,
     pub type_: Type,
+}
+
+impl Column {
+    /// A name and a type, as version 1 has them.
+    pub fn of(name: &[u8], type_: Type) -> Column {
+        Column {
+            name: name.to_vec(),
+            id: 0,
+            required: false,
+            type_,
+        }
+    }
 }
 
 #[derive(Clone, Debug, PartialEq, Eq)]
@@ -79,7 +93,7 @@ pub fn read_layout(bytes: &[u8]) -> Result<Layout, Fault> {
         return Err(4);
     }
     let (version, rest) = match bytes {
-        [b'L', b'A', b'Y', version @ (1 | 2), 0, rest @ ..] => (*version, rest),
+        [b'L', b'A', b'Y', version @ 1..=3, 0, rest @ ..] => (*version, rest),
         _ => return Err(1),
     };
     let mut reader = Reader::new(rest, version);
@@ -189,16 +203,19 @@ fn write_columns(bytes: &mut Vec<u8>, version: u8, columns: &[Column]) {
 
 fn write_column(bytes: &mut Vec<u8>, version: u8, column: &Column) {
     write_text(bytes, &column.name);
-    if version == 2 {
+    if version >= 2 {
         bytes.extend(column.id.to_le_bytes());
+    }
+    if version >= 3 {
+        bytes.push(column.required.into());
     }
     write_type(bytes, version, &column.type_);
 }
 
 fn write_element(bytes: &mut Vec<u8>, version: u8, element: &Column) {
     match version {
-        2 => write_column(bytes, version, element),
-        _ => write_type(bytes, version, &element.type_),
+        1 => write_type(bytes, version, &element.type_),
+        _ => write_column(bytes, version, element),
     }
 }
 

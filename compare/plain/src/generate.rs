@@ -2,6 +2,7 @@
 //! ids or repeated names, at every level.
 
 pub mod damage;
+pub mod marks;
 pub mod plans;
 pub mod records;
 
@@ -25,13 +26,26 @@ struct Style {
     by_number: bool,
     /// Only changes that are accepted where the policy allows everything.
     tame: bool,
+    /// Layouts of version 3 have required marks.
+    marks: bool,
 }
 
+/// A build without required marks; layouts of version 3 are among those by number.
 pub fn case(random: &mut Random) -> Case {
+    styled(random, false)
+}
+
+/// A build by number is mostly one with required marks.
+pub fn marked_case(random: &mut Random) -> Case {
+    styled(random, true)
+}
+
+fn styled(random: &mut Random, marks: bool) -> Case {
     loop {
         let style = Style {
             by_number: random.percent(50),
             tame: random.percent(45),
+            marks,
         };
         let case = one(random, &style);
         if case.incoming.len() <= LAYOUT_LIMIT && case.target.len() <= LAYOUT_LIMIT {
@@ -50,8 +64,14 @@ fn one(random: &mut Random, style: &Style) -> Case {
         incoming.push(deep_column(random));
     }
     distinct(&mut incoming, style);
+    if style.marks {
+        marks::incoming(random, &mut incoming);
+    }
     let mut target = related_columns(random, style, &incoming, 1);
     distinct(&mut target, style);
+    if style.marks {
+        marks::target(random, &mut target);
+    }
 
     let number = style.by_number.then(|| {
         let source_index = if random.percent(1) {
@@ -65,13 +85,26 @@ fn one(random: &mut Random, style: &Style) -> Case {
             defaults: table(random, &[&incoming, &target]),
         }
     });
-    let version = if style.by_number { 2 } else { 1 };
-    let write = |columns: Vec<Column>| form::write_layout(&Layout { version, columns });
+    let mut write = |columns: Vec<Column>| {
+        let version = version(random, style);
+        form::write_layout(&Layout { version, columns })
+    };
+    let (incoming, target) = (write(incoming), write(target));
     Case {
         policy: policy(random, style),
-        incoming: write(incoming),
-        target: write(target),
+        incoming,
+        target,
         number,
+    }
+}
+
+/// By number versions 2 and 3 are mixed; with marks, 2 is rare.
+fn version(random: &mut Random, style: &Style) -> u8 {
+    let older = if style.marks { 5 } else { 80 };
+    match style.by_number {
+        false => 1,
+        true if random.percent(older) => 2,
+        true => 3,
     }
 }
 
@@ -152,6 +185,7 @@ fn column(random: &mut Random, depth: u32) -> Column {
     Column {
         name: name(random),
         id: id(random),
+        required: false,
         type_: type_(random, depth),
     }
 }
@@ -168,6 +202,7 @@ fn wide_row(random: &mut Random, depth: u32) -> Vec<Column> {
     let wide_column = |random: &mut Random| Column {
         name: format!("reading{}", random.below(20_000)).into_bytes(),
         id: 100 + random.below(20_000) as u32,
+        required: false,
         type_: match random.percent(95) {
             true => Type::Leaf(leaf(random)),
             false => type_(random, depth),
@@ -332,6 +367,7 @@ fn related_column(random: &mut Random, style: &Style, from: &Column, depth: u32)
         } else {
             from.id
         },
+        required: from.required,
         type_: related_type(random, style, &from.type_, depth),
     }
 }

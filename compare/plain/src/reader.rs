@@ -83,13 +83,9 @@ impl<'a> Reader<'a> {
     }
 
     fn element(&mut self, depth: u32) -> Result<Box<Column>, Fault> {
-        if self.version == 2 {
-            return Ok(Box::new(self.column(depth)?.1));
-        }
-        Ok(Box::new(Column {
-            name: Vec::new(),
-            id: 0,
-            type_: self.type_(depth)?,
+        Ok(Box::new(match self.version {
+            1 => Column::of(&[], self.type_(depth)?),
+            _ => self.column(depth)?.1,
         }))
     }
 
@@ -97,9 +93,25 @@ impl<'a> Reader<'a> {
     fn column(&mut self, depth: u32) -> Result<(&'a [u8], Column), Fault> {
         let text = self.text()?;
         let name = text.to_vec();
-        let id = if self.version == 2 { self.u32()? } else { 0 };
+        let id = if self.version >= 2 { self.u32()? } else { 0 };
+        let required = self.version >= 3 && self.mark()?;
         let type_ = self.type_(depth)?;
-        Ok((text, Column { name, id, type_ }))
+        let column = Column {
+            name,
+            id,
+            required,
+            type_,
+        };
+        Ok((text, column))
+    }
+
+    /// Whether a column is required.
+    fn mark(&mut self) -> Result<bool, Fault> {
+        match self.u8()? {
+            0 => Ok(false),
+            1 => Ok(true),
+            _ => Err(3),
+        }
     }
 
     pub fn columns(&mut self, depth: u32, top: bool) -> Result<Vec<Column>, Fault> {
@@ -110,8 +122,8 @@ impl<'a> Reader<'a> {
         for _ in 0..count {
             let (name, column) = self.column(depth)?;
             let new = match self.version {
-                2 => ids.insert(column.id),
-                _ => !top || names.insert(name),
+                1 => !top || names.insert(name),
+                _ => ids.insert(column.id),
             };
             if !new {
                 return Err(5);

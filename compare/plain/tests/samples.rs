@@ -22,8 +22,7 @@ fn decimal(precision: u8, scale: u8) -> Type {
 }
 
 fn column(name: &str, type_: Type) -> Column {
-    let name = name.as_bytes().to_vec();
-    Column { name, id: 0, type_ }
+    Column::of(name.as_bytes(), type_)
 }
 
 fn layout(type_: &Type) -> Vec<u8> {

@@ -8,7 +8,10 @@ use crate::oracle::{self, Answer};
 use column_selector::call as library;
 use plain::call as plainly;
 use plain::case::{Case, Number};
-use plain::form::{self, Column, LAYOUT_LIMIT, Layout, Leaf, PLAN_LIMIT, RECORD_LIMIT, Type};
+use plain::form::{
+    self, Column, Default, Entry, LAYOUT_LIMIT, Layout, Leaf, PLAN_LIMIT, RECORD_LIMIT, Type,
+};
+use plain::generate::marks;
 use plain::policy::{ALL, EXTRA_COLUMNS};
 use plain::rules::CastOption;
 use plain::write;
@@ -80,9 +83,8 @@ fn leaf(index: usize, role: Role) -> Type {
 fn type_of(index: usize, role: Role, order: Order) -> Type {
     let structure = || {
         let field = |field: usize| Column {
-            name: format!("part{field}").into_bytes(),
             id: (10_000 + 10 * index + field) as u32,
-            type_: leaf(index + field, role),
+            ..Column::of(format!("part{field}").as_bytes(), leaf(index + field, role))
         };
         let mut fields: Vec<Column> = (0..4).map(field).collect();
         if role == Role::Target && order == Order::Reversed {
@@ -92,9 +94,8 @@ fn type_of(index: usize, role: Role, order: Order) -> Type {
     };
     let list = |type_: Type| {
         Type::List(Box::new(Column {
-            name: Vec::new(),
             id: u32::MAX,
-            type_,
+            ..Column::of(&[], type_)
         }))
     };
     match index {
@@ -105,29 +106,34 @@ fn type_of(index: usize, role: Role, order: Order) -> Type {
     }
 }
 
-/// Of `count` columns the incoming layout lacks a tenth. By number the original's comparison has no missing top columns, so there the target does too.
+/// Of `count` columns the incoming layout lacks a tenth. By number the original's comparison has no missing top columns, so there the target does too. In version 3
+/// every column, field and element is required.
 fn layout(version: u8, count: usize, role: Role, order: Order, place: Place) -> Vec<u8> {
-    let missing = role == Role::Incoming || version == 2;
+    let missing = role == Role::Incoming || version >= 2;
     let mut columns: Vec<Column> = (0..count)
         .filter(|index| !missing || index % 10 != 9)
         .map(|index| Column {
-            name: format!("reading_{index}").into_bytes(),
-            id: if version == 2 { 1 + index as u32 } else { 0 },
-            type_: type_of(index, role, order),
+            id: if version >= 2 { 1 + index as u32 } else { 0 },
+            ..Column::of(
+                format!("reading_{index}").as_bytes(),
+                type_of(index, role, order),
+            )
         })
         .collect();
     if role == Role::Target && order == Order::Reversed {
         columns.reverse();
     }
+    if version == 3 {
+        marks::each(&mut columns, &mut |_| true);
+    }
     for level in 0..place.levels() {
         columns = vec![Column {
-            name: b"readings".to_vec(),
-            id: if version == 2 {
+            id: if version >= 2 {
                 u32::MAX - 1 - level
             } else {
                 0
             },
-            type_: Type::Struct(columns),
+            ..Column::of(b"readings", Type::Struct(columns))
         }];
     }
     form::write_layout(&Layout { version, columns })
@@ -135,12 +141,15 @@ fn layout(version: u8, count: usize, role: Role, order: Order, place: Place) -> 
 
 /// As many columns as a layout can have.
 fn widest(version: u8) -> (usize, Vec<u8>) {
-    let (name, bytes) = if version == 1 { (2, 4) } else { (0, 6) };
+    let (name, bytes) = match version {
+        1 => (2, 4),
+        2 => (0, 6),
+        _ => (0, 7),
+    };
     let count = (LAYOUT_LIMIT - 7) / bytes;
     let column = |index: usize| Column {
-        name: index.to_le_bytes()[..name].to_vec(),
         id: index as u32,
-        type_: Type::Leaf(Leaf::Plain(2)),
+        ..Column::of(&index.to_le_bytes()[..name], Type::Leaf(Leaf::Plain(2)))
     };
     let columns = (0..count).map(column).collect();
     (count, form::write_layout(&Layout { version, columns }))
@@ -148,7 +157,7 @@ fn widest(version: u8) -> (usize, Vec<u8>) {
 
 /// By name or by number, as the layouts' version asks.
 fn of_layouts(version: u8, incoming: Vec<u8>, target: Vec<u8>) -> Case {
-    let number = (version == 2).then(|| Number {
+    let number = (version >= 2).then(|| Number {
         source_index: 0,
         owner: 0,
         defaults: form::write_defaults(&[]),
@@ -169,9 +178,11 @@ fn case(version: u8, count: usize, order: Order, place: Place) -> Case {
 /// Columns of one leaf type.
 fn layout_of(version: u8, count: usize, leaf: &Leaf) -> Vec<u8> {
     let column = |index: usize| Column {
-        name: format!("reading_{index}").into_bytes(),
         id: 1 + index as u32,
-        type_: Type::Leaf(leaf.clone()),
+        ..Column::of(
+            format!("reading_{index}").as_bytes(),
+            Type::Leaf(leaf.clone()),
+        )
     };
     let columns = (0..count).map(column).collect();
     form::write_layout(&Layout { version, columns })
@@ -326,6 +337,47 @@ fn building_beside(name: &str, count: usize, ours: &Case, theirs: &Case) -> Resu
     Ok(())
 }
 
+/// The plan of plain Rust, which has defaults and required fields where the original has not.
+fn built_plainly(case: &Case) -> Result<Vec<u8>, plainly::Refusal> {
+    let Case {
+        policy,
+        incoming,
+        target,
+        number,
+    } = case;
+    match number {
+        None => plainly::build_by_name(*policy, incoming, target, PLAN_LIMIT),
+        Some(number) => {
+            let number = (
+                number.source_index,
+                number.owner,
+                number.defaults.as_slice(),
+            );
+            plainly::build_by_number(*policy, number, incoming, target, PLAN_LIMIT)
+        }
+    }
+}
+
+/// Beside compare/plain.
+fn building_plainly(name: &str, count: usize, case: &Case) -> Result<(), String> {
+    let mut plan = vec![0u8; PLAN_LIMIT];
+    let length = Library.build(case, &mut plan) as usize;
+    if plan.get(..length) != built_plainly(case).ok().as_deref() {
+        return Err(differs(name));
+    }
+    line(
+        name,
+        count,
+        || {
+            black_box(Library.build(black_box(case), &mut plan));
+        },
+        || {
+            black_box(built_plainly(black_box(case))).ok();
+        },
+    );
+    Ok(())
+}
+
 /// Extra top columns are refused, though none is there; the original ignores them.
 fn building_strict(name: &str, version: u8, count: usize) -> Result<(), String> {
     let theirs = floats(version, count);
@@ -389,15 +441,18 @@ impl Planned {
         }
     }
 
+    /// A built plan between layouts of version 3, in which everything is required.
+    fn required(count: usize) -> Option<Planned> {
+        let case = case(3, count, Order::Reversed, Place::Top);
+        let plan = built_plainly(&case).ok()?;
+        Planned::of(case, plan)
+    }
+
     /// A plan that no builder writes, but two built plans made into one would be such: each leaf is cast twice, each fifth column is a struct whose fields are turned
     /// round twice.
     fn twice(count: usize) -> Option<Planned> {
         let layout = |code: u8| {
-            let named = |name: String, type_: Type| Column {
-                name: name.into_bytes(),
-                id: 0,
-                type_,
-            };
+            let named = |name: String, type_: Type| Column::of(name.as_bytes(), type_);
             let leaf = || Type::Leaf(Leaf::Plain(code));
             let structure =
                 || Type::Struct((0..4).map(|k| named(format!("part{k}"), leaf())).collect());
@@ -583,7 +638,80 @@ pub fn run() -> Result<(), String> {
         planned(way, built(Order::Reversed, place))?;
     }
     planned("everything twice", Planned::twice)?;
-    decimals()
+    decimals()?;
+    defaults()?;
+    required()
+}
+
+/// How many columns are missing in a build with a full table of defaults.
+const MISSING: usize = 600;
+
+/// A table of as many entries as fit, with values of int8. In version 2 they are of four owners in turn. The ids are those of the missing columns, or others.
+fn full_table(version: u8, first: u32) -> Vec<u8> {
+    let entry = |index: u32| Entry {
+        id: first + if version == 1 { index } else { index / 4 },
+        default: Default::Initial(Leaf::Plain(2), Some(vec![7])),
+    };
+    let count = |bytes: usize| ((LAYOUT_LIMIT - 7) / bytes) as u32;
+    match version {
+        1 => form::write_defaults(&(0..count(8)).map(entry).collect::<Vec<_>>()),
+        _ => {
+            let owned = |index: u32| ((index % 4) as u16, entry(index));
+            form::write_owned(&(0..count(10)).map(owned).collect::<Vec<_>>())
+        }
+    }
+}
+
+/// Builds of missing columns with a full table of defaults: each column has an entry in it, or none has.
+fn defaults() -> Result<(), String> {
+    println!(
+        "Missing columns and a full table of defaults (plain Rust is compare/plain, with a hash table of its entries):"
+    );
+    let column = |index: usize| Column {
+        id: index as u32,
+        ..Column::of(&[], Type::Leaf(Leaf::Plain(2)))
+    };
+    let columns = (0..MISSING).map(column).collect();
+    let version = 2;
+    let target = form::write_layout(&Layout { version, columns });
+    let columns = Vec::new();
+    let incoming = form::write_layout(&Layout { version, columns });
+    for (version, first, found) in [
+        (1, 0, "found"),
+        (1, MISSING as u32, "not found"),
+        (2, 0, "of four owners, found"),
+        (2, MISSING as u32, "of four owners, not found"),
+    ] {
+        let number = Number {
+            source_index: 0,
+            owner: 3,
+            defaults: full_table(version, first),
+        };
+        let case = Case {
+            policy: ALL,
+            incoming: incoming.clone(),
+            target: target.clone(),
+            number: Some(number),
+        };
+        building_plainly(&format!("defaults, {found}"), MISSING, &case)?;
+    }
+    Ok(())
+}
+
+/// Everything is required: reading, building, checking and running.
+fn required() -> Result<(), String> {
+    println!("Required fields, everywhere in both layouts (plain Rust is compare/plain):");
+    let built = |count: usize| case(3, count, Order::Reversed, Place::Top);
+    let most = largest(|count| built(count).target.len() <= LAYOUT_LIMIT);
+    for count in [SMALL, MIDDLE, most] {
+        reading("reading, version 3", count, &built(count).target)?;
+    }
+    let (count, layout) = widest(3);
+    reading("reading, version 3, leaves alone", count, &layout)?;
+    for count in [SMALL, MIDDLE, most] {
+        building_plainly("building by number, required", count, &built(count))?;
+    }
+    planned("required", Planned::required)
 }
 
 /// Reading, building, checking and running columns of decimals, each made a wider one.

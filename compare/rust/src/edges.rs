@@ -13,8 +13,10 @@ const ALL: u32 = policy::ALL;
 const ELEMENT: u32 = u32::MAX;
 
 fn column(name: &str, id: u32, type_: Type) -> Column {
-    let name = name.as_bytes().to_vec();
-    Column { name, id, type_ }
+    Column {
+        id,
+        ..Column::of(name.as_bytes(), type_)
+    }
 }
 
 fn leaf(code: u8) -> Type {

@@ -39,9 +39,8 @@ pub fn all_flags() -> Vec<u32> {
 pub fn cases(policies: Vec<u32>) -> impl Iterator<Item = Case> {
     let layout = |version: u8, leaf: &Leaf| {
         let column = Column {
-            name: b"a".to_vec(),
             id: 1,
-            type_: Type::Leaf(leaf.clone()),
+            ..Column::of(b"a", Type::Leaf(leaf.clone()))
         };
         write_layout(&Layout {
             version,

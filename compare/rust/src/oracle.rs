@@ -9,6 +9,7 @@ use crate::nodes::io_sources::multi_scan::components::default_field_values::Iceb
 use plain::call::Refusal;
 use plain::case::Case;
 use plain::form::{self, Column, Default, Entry, Layout, Leaf, LeafValue, Type};
+use plain::nullness::has_required;
 use plain::policy;
 use polars_core::chunked_array::cast::CastOptions;
 use polars_core::prelude::{DataType, Field, TimeUnit, TimeZone, Value};
@@ -31,8 +32,10 @@ pub enum Answer {
 pub enum Aside {
     /// A layout or the table can't be read.
     Unreadable { number: u32, place: u32 },
-    /// A layout is not of the build's version.
+    /// A layout is of a version that the build does not take.
     Version,
+    /// A layout has a required field, which the original does not know.
+    Required,
     /// A name or zone is not UTF-8.
     Text,
     /// By number, a top column is missing.
@@ -71,9 +74,12 @@ pub fn original(case: &Case) -> Result<Answer, Aside> {
     };
     let incoming = form::read_layout(&case.incoming).map_err(unreadable(1))?;
     let target = form::read_layout(&case.target).map_err(unreadable(2))?;
-    let version = if case.number.is_some() { 2 } else { 1 };
-    if incoming.version != version || target.version != version {
+    let taken = |layout: &Layout| (layout.version == 1) == case.number.is_none();
+    if !taken(&incoming) || !taken(&target) {
         return Err(Aside::Version);
+    }
+    if has_required(&incoming.columns) || has_required(&target.columns) {
+        return Err(Aside::Required);
     }
     if case.policy & policy::EXTRA_COLUMNS == 0 {
         return Err(Aside::ExtraColumns);

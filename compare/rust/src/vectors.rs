@@ -102,6 +102,7 @@ fn one(outcome: &mut Outcome, case: &Case, buffer: usize, stored: &Answer) {
                 (Aside::Version | Aside::Space, Answer::Plan(_)) => false,
                 (
                     Aside::Text
+                    | Aside::Required
                     | Aside::MissingTop
                     | Aside::StructDefault
                     | Aside::Widening

@@ -10,8 +10,10 @@ use plain::policy::{ALL, DECIMAL_WIDENING};
 const INT8: Leaf = Leaf::Plain(2);
 
 fn column(name: &str, id: u32, type_: Type) -> Column {
-    let name = name.as_bytes().to_vec();
-    Column { name, id, type_ }
+    Column {
+        id,
+        ..Column::of(name.as_bytes(), type_)
+    }
 }
 
 fn int8(name: &str, id: u32) -> Column {
@@ -156,11 +158,7 @@ fn the_longest_plan_found_by_name_is_within_the_limit() {
     // A list level is a byte of a layout and four of the plan, and a field in a struct may have a short name.
     let layout = |leaf: u8| {
         let names = (0..128).map(|byte| vec![byte]).chain([vec![]]);
-        let field = |name: Vec<u8>| Column {
-            name,
-            id: 0,
-            type_: lists(leaf),
-        };
+        let field = |name: Vec<u8>| Column::of(&name, lists(leaf));
         let fields: Vec<Column> = names.map(field).collect();
         let structs = (0..7).map(|i| column(&i.to_string(), i, Type::Struct(fields.clone())));
         let mut columns: Vec<Column> = structs.collect();

@@ -11,7 +11,7 @@ fn put_reading(number: u8) {
     match number {
         1 => put(b"not a known mark and version"),
         2 => put(b"the bytes end early"),
-        3 => put(b"unknown type code or unit"),
+        3 => put(b"unknown type code, unit or required mark"),
         4 => put(
             b"more than 16384 bytes, a name or zone of more than 63, or a type deeper than 16",
         ),
@@ -105,6 +105,9 @@ fn put_requested(number: u8) {
         51 => put(b"a cast to a decimal of larger precision is not allowed"),
         52 => put(b"a decimal of the record has more digits than its precision"),
         53 => put(b"an incoming column has no counterpart, and extra columns are not ignored"),
+        54 => put(b"a required field would be filled with null"),
+        55 => put(b"an optional field meets a required one"),
+        56 => put(b"null in a required field of the record"),
         _ => put_unknown(),
     }
 }
@@ -116,7 +119,7 @@ fn put_words(number: u8) {
         20..=29 => put_matching(number),
         30..=39 => put_checking(number),
         40..=49 => put_running(number),
-        50..=53 => put_requested(number),
+        50..=56 => put_requested(number),
         _ => put_unknown(),
     }
 }
@@ -145,7 +148,7 @@ fn put_refused(number: u8, place: u16) {
     put(b": ");
 }
 
-// refused 3 (place 1): unknown type code or unit
+// refused 3 (place 1): unknown type code, unit or required mark
 pub fn put_refusal(number: u8, place: u16) {
     put_refused(number, place);
     put_words(number);

@@ -15,7 +15,7 @@ use std::ffi::OsStr;
 const BY_NAME: Choice = flag("--by-name", "match columns by name (layouts of version 1)");
 const BY_NUMBER: Choice = flag(
     "--by-number",
-    "match columns by field id (layouts of version 2)",
+    "match columns by field id (layouts of version 2 or 3)",
 );
 const POLICY: Choice = valued(
     "--policy",

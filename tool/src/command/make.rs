@@ -55,7 +55,7 @@ fn record(args: &Args) -> Result<(), Failure> {
     let input = files::read_file(operand(1))?;
     is_text(&input, Kind::Record)?;
     let input = files::made(input, Kind::Record, Some(&tree))?;
-    files::test_record(&input, &layout, tree.columns.len())?;
+    files::test_record(&input, &layout, &tree)?;
     files::put_bytes(&input.bytes, args.output())
 }
 

@@ -98,7 +98,7 @@ fn show_table(args: &Args, input: Input) -> Result<(), Failure> {
 fn show_record(args: &Args, input: Input, layout: &Input) -> Result<(), Failure> {
     let tree = files::layout_tree(layout)?;
     let input = files::made(input, Kind::Record, Some(&tree))?;
-    files::test_record(&input, layout, tree.columns.len())?;
+    files::test_record(&input, layout, &tree)?;
     let values = read::read_record(&input.bytes, &tree).map_err(|_| files::unread(&input))?;
     put(
         args,

@@ -1,7 +1,7 @@
 //! The field in which a build is refused.
 
 use crate::follow::Way;
-use crate::form::{Column, Layout, Selector, Type};
+use crate::form::{Column, Layout, Leaf, Selector, Type};
 use crate::read::read_plan;
 use crate::write::layout_bytes;
 use column_selector::{Defaults, Incoming, Place, PlanBuf, Policy, Refusal, Target};
@@ -35,7 +35,12 @@ impl Build<'_> {
     /// The build of columns.
     fn columns(&self, incoming: &[Column], target: &[Column]) -> Result<PlanBuf, Refusal> {
         let bytes = |columns: &[Column]| {
-            let (version, columns) = (if self.by_number { 2 } else { 1 }, columns.to_vec());
+            let version = match self.by_number {
+                true if columns.iter().any(Column::has_required) => 3,
+                true => 2,
+                false => 1,
+            };
+            let columns = columns.to_vec();
             layout_bytes(&Layout { version, columns }).unwrap_or_default()
         };
         self.call(&bytes(incoming), &bytes(target))
@@ -110,8 +115,42 @@ impl Build<'_> {
             })
     }
 
+    /// Whether it is the column itself, not something inside it, that is refused for what is required.
+    fn itself(&self, number: u32, incoming: Option<&Column>, target: &Column) -> bool {
+        let refused = |incoming: &[Column], target: &Column| {
+            let refusal = self.refusal_of(incoming, target);
+            refusal.is_some_and(|refusal| refusal.number() == number)
+        };
+        match (number, incoming) {
+            (MISSING_REQUIRED, None) => {
+                let optional = Column {
+                    required: false,
+                    ..target.clone()
+                };
+                !refused(&[], &optional)
+            }
+            // Of one leaf type, so that only the marks differ.
+            (OPTIONAL_TO_REQUIRED, Some(incoming)) => {
+                let of = match &incoming.of {
+                    Type::Leaf(leaf) => Type::Leaf(leaf.clone()),
+                    _ => Type::Leaf(Leaf::Boolean),
+                };
+                let [one, other] = [incoming.required, target.required].map(|required| Column {
+                    required,
+                    of: of.clone(),
+                    ..target.clone()
+                });
+                refused(&[one], &other)
+            }
+            _ => false,
+        }
+    }
+
     /// Goes on inside a column that is refused.
     fn descend(&self, number: u32, incoming: Option<&Column>, target: &Column, spot: &mut Spot) {
+        if self.itself(number, incoming, target) {
+            return;
+        }
         match (incoming.map(|column| &column.of), &target.of) {
             (Some(Type::Struct(ones)), Type::Struct(others)) => {
                 self.descend_fields(number, ones, others, spot)
@@ -120,13 +159,19 @@ impl Build<'_> {
             (Some(Type::List(one)), Type::List(other))
             | (Some(Type::Array(_, one)), Type::Array(_, other)) => {
                 let same = Column {
+                    required: one.required,
                     of: one.of.clone(),
                     ..(**other).clone()
                 };
-                let refused = self.refusal_of(&[same], other);
+                // No field inside an element has a default.
+                let build = Build {
+                    defaults: Defaults::NONE,
+                    ..*self
+                };
+                let refused = build.refusal_of(&[same], other);
                 if refused.is_some_and(|refusal| refusal.number() == number) {
                     spot.step(0, Some(0));
-                    self.descend(number, Some(one), other, spot);
+                    build.descend(number, Some(one), other, spot);
                 }
             }
             _ => {}
@@ -166,6 +211,8 @@ const MISSING_COLUMN: u32 = 11;
 const REPEATED_NAME: u32 = 12;
 const EXTRA_FIELD: u32 = 13;
 const MISSING_FIELD: u32 = 14;
+const MISSING_REQUIRED: u32 = 54;
+const OPTIONAL_TO_REQUIRED: u32 = 55;
 
 impl Spot {
     fn step(&mut self, target: usize, incoming: Option<usize>) {

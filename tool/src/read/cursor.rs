@@ -1,6 +1,7 @@
 //! A place in bytes, and the path to what is read there.
 
 use crate::text::name_text;
+use crate::wrap::listed;
 use std::fmt::Write;
 
 /// What is read; the same fault has another number in each.
@@ -46,6 +47,7 @@ pub enum Cause {
     DecimalLimits,
     ValueByte,
     DecimalTooLarge,
+    Null,
 }
 
 impl Cause {
@@ -57,6 +59,7 @@ impl Cause {
             (File::Record, Cause::End) => 40,
             (File::Record, Cause::Left) => 42,
             (File::Record, Cause::DecimalTooLarge) => 52,
+            (File::Record, Cause::Null) => 56,
             (File::Record, _) => 41,
             (_, Cause::Mark) => 1,
             (_, Cause::End) => 2,
@@ -64,9 +67,7 @@ impl Cause {
             (_, Cause::Repeated) => 5,
             (_, Cause::Left) => 6,
             (File::Layout, Cause::DecimalLimits) => 50,
-            (_, Cause::Code | Cause::DecimalLimits | Cause::ValueByte | Cause::DecimalTooLarge) => {
-                3
-            }
+            _ => 3,
         }
     }
 }
@@ -173,11 +174,10 @@ impl<'a> Cursor<'a> {
         };
         if !versions.contains(&version) {
             let to = self.bytes.len().min(5);
-            let known: Vec<String> = versions.iter().map(u16::to_string).collect();
             let expected = format!(
                 "the mark {} and version {}",
                 String::from_utf8_lossy(mark),
-                known.join(" or ")
+                listed(versions, "or")
             );
             return Err(self.fault_at(Cause::Mark, 0, to, expected));
         }

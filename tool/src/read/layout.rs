@@ -62,14 +62,35 @@ impl Types {
         cursor.know(Step::Column(index, Some(name.clone())));
         let id = self.id(cursor)?;
         let named = cursor.at;
+        let required = self.mark(cursor)?;
         let of = self.of(cursor, depth)?;
-        Ok((Column { name, id, of }, named))
+        let column = Column {
+            name,
+            id,
+            required,
+            of,
+        };
+        Ok((column, named))
     }
 
     fn id(&self, cursor: &mut Cursor) -> Read<u32> {
         match form::by_number(self.version) {
             true => cursor.u32("the column's id"),
             false => Ok(0),
+        }
+    }
+
+    fn mark(&self, cursor: &mut Cursor) -> Read<bool> {
+        if !form::marked(self.version) {
+            return Ok(false);
+        }
+        let from = cursor.at;
+        match cursor.u8("the required mark")? {
+            mark @ (0 | 1) => Ok(mark == 1),
+            mark => {
+                let expected = format!("a required mark, 0 (optional) or 1 (required), not {mark}");
+                Err(cursor.fault(Cause::Code, from, expected))
+            }
         }
     }
 
@@ -80,8 +101,14 @@ impl Types {
             }
             let name = cursor.text("the element's name")?;
             let id = self.id(cursor)?;
+            let required = self.mark(cursor)?;
             let of = self.of(cursor, depth)?;
-            Ok(Box::new(Column { name, id, of }))
+            Ok(Box::new(Column {
+                name,
+                id,
+                required,
+                of,
+            }))
         })
     }
 

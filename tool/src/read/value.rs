@@ -16,9 +16,21 @@ fn columns(cursor: &mut Cursor, columns: &[Column]) -> Read<Vec<Value>> {
     let row = columns.iter().enumerate();
     row.map(|(index, column)| {
         let step = Step::Column(index, Some(column.name.clone()));
-        cursor.within(step, |cursor| value(cursor, &column.of))
+        cursor.within(step, |cursor| marked(cursor, column))
     })
     .collect()
+}
+
+/// The value of a column or element, which may be required.
+fn marked(cursor: &mut Cursor, column: &Column) -> Read<Value> {
+    let from = cursor.at;
+    match value(cursor, &column.of)? {
+        Value::Null if column.required => {
+            let expected = "a value, which is required, not null".to_string();
+            Err(cursor.fault_at(Cause::Null, from, from + 1, expected))
+        }
+        value => Ok(value),
+    }
 }
 
 pub fn value(cursor: &mut Cursor, of: &Type) -> Read<Value> {
@@ -54,7 +66,7 @@ fn elements(cursor: &mut Cursor, count: u32, element: &Column) -> Read<Value> {
     let mut row = Vec::new();
     for index in 0..count as usize {
         let step = Step::Element(Some(index));
-        row.push(cursor.within(step, |cursor| value(cursor, &element.of))?);
+        row.push(cursor.within(step, |cursor| marked(cursor, element))?);
     }
     Ok(Value::Row(row))
 }

@@ -3,6 +3,7 @@
 use super::lex::{Place, TextError, Token, lex};
 use crate::number;
 use crate::read::Step;
+use crate::wrap::listed;
 use std::collections::HashMap;
 
 /// What a text holds, by its first word.
@@ -218,14 +219,9 @@ impl Parser {
         match versions.contains(&version) {
             true => Ok(version),
             false => {
-                let known: Vec<String> = versions.iter().map(u16::to_string).collect();
-                self.error(
-                    place,
-                    format!(
-                        "version {version} is not known here, but {}",
-                        known.join(" and ")
-                    ),
-                )
+                let known = listed(versions, "and");
+                let message = format!("version {version} is not known here, but {known}");
+                self.error(place, message)
             }
         }
     }

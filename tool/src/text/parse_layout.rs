@@ -21,7 +21,7 @@ fn columns(parser: &mut Parser, version: u16, close: Option<char>) -> Parsed<Vec
     Ok(found)
 }
 
-/// `name: type`, in a layout by number `name @id: type`.
+/// `name: type`, in a layout by number `name @id: type`, in version 3 also `name @id required: type`.
 fn column(parser: &mut Parser, version: u16) -> Parsed<Column> {
     let name = parser.name("a column's name")?;
     let id = match (form::by_number(version), parser.is_mark('@')) {
@@ -33,9 +33,21 @@ fn column(parser: &mut Parser, version: u16) -> Parsed<Column> {
         (false, true) => return parser.wrong("`:`, for a layout of version 1 has no ids"),
         (false, false) => 0,
     };
+    let required = parser.is_word("required");
+    if required && !form::marked(version) {
+        return parser.wrong("`:`, for only a layout of version 3 says what is required");
+    }
+    if required {
+        parser.next();
+    }
     parser.mark(':')?;
     let of = of(parser, version)?;
-    Ok(Column { name, id, of })
+    Ok(Column {
+        name,
+        id,
+        required,
+        of,
+    })
 }
 
 fn of(parser: &mut Parser, version: u16) -> Parsed<Type> {

@@ -93,7 +93,10 @@ fn indent(depth: usize) -> String {
 
 fn column_head(column: &Column, by_number: bool) -> String {
     match by_number {
-        true => format!("{} @{}: ", name_text(&column.name), column.id),
+        true => {
+            let required = if column.required { " required" } else { "" };
+            format!("{} @{}{required}: ", name_text(&column.name), column.id)
+        }
         false => format!("{}: ", name_text(&column.name)),
     }
 }

@@ -92,13 +92,18 @@ impl Random {
         }
     }
 
+    /// A null can't be required, or no record fits.
+    fn required(&mut self, of: &Type) -> bool {
+        *of != Type::Leaf(Leaf::Null) && self.below(2) == 0
+    }
+
     fn element(&mut self, depth: usize, by_number: bool) -> Box<Column> {
         let of = self.of(depth, by_number);
         Box::new(match by_number {
             true => Column {
-                name: self.bytes(8),
                 id: self.next() as u32,
-                of,
+                required: self.required(&of),
+                ..Column::named(self.bytes(8), of)
             },
             false => Column::bare(of),
         })
@@ -115,21 +120,26 @@ impl Random {
                 } else {
                     0
                 };
+                let of = self.of(depth, by_number);
                 Column {
-                    name,
                     id,
-                    of: self.of(depth, by_number),
+                    required: self.required(&of),
+                    ..Column::named(name, of)
                 }
             })
             .collect()
     }
 
     pub fn layout(&mut self) -> Layout {
-        let version = 1 + self.below(2) as u16;
+        let version = 1 + self.below(3) as u16;
         let depth = self.below(6);
+        let columns = self.columns(depth, version >= 2);
         Layout {
             version,
-            columns: self.columns(depth, version == 2),
+            columns: match version {
+                3 => columns,
+                _ => columns.iter().map(Column::optional).collect(),
+            },
         }
     }
 
@@ -137,8 +147,18 @@ impl Random {
         layout
             .columns
             .iter()
-            .map(|column| self.value(&column.of))
+            .map(|column| self.column_value(column))
             .collect()
+    }
+
+    /// Not null where one is required.
+    fn column_value(&mut self, column: &Column) -> Value {
+        loop {
+            match self.value(&column.of) {
+                Value::Null if column.required => {}
+                value => return value,
+            }
+        }
     }
 
     pub fn value(&mut self, of: &Type) -> Value {
@@ -147,16 +167,19 @@ impl Random {
         }
         match of {
             Type::Leaf(leaf) => self.leaf_value(leaf),
-            Type::Struct(fields) => {
-                Value::Row(fields.iter().map(|field| self.value(&field.of)).collect())
-            }
+            Type::Struct(fields) => Value::Row(
+                fields
+                    .iter()
+                    .map(|field| self.column_value(field))
+                    .collect(),
+            ),
             Type::List(element) => Value::Row(
                 (0..self.below(4))
-                    .map(|_| self.value(&element.of))
+                    .map(|_| self.column_value(element))
                     .collect(),
             ),
             Type::Array(width, element) => {
-                Value::Row((0..*width).map(|_| self.value(&element.of)).collect())
+                Value::Row((0..*width).map(|_| self.column_value(element)).collect())
             }
         }
     }

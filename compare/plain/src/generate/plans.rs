@@ -107,7 +107,8 @@ impl Generator<'_> {
             let column = self.column();
             let mut value = Vec::new();
             let shares = Shares {
-                nulls: 15,
+                nulls: self.random.pick(&[0, 5, 15, 40]),
+                missing: 0,
                 exceeding: if self.unfit > 0 { 10 } else { 0 },
             };
             records::value(self.random, &mut value, &column.type_, shares);
@@ -121,13 +122,15 @@ impl Generator<'_> {
         }
     }
 
-    /// A column for a constant.
+    /// A column for a constant: sometimes of nothing but nulls, which casts take to any type.
     fn column(&mut self) -> Column {
-        Column {
-            name: name(self.random),
-            id: 0,
-            type_: type_(self.random, 3),
-        }
+        let null = Type::Leaf(Leaf::Plain(0));
+        let type_ = match self.random.below(20) {
+            0 => null,
+            1 => Type::List(Box::new(Column::of(&[], null))),
+            _ => type_(self.random, 3),
+        };
+        Column::of(&name(self.random), type_)
     }
 
     /// One transform more; selectors inside it nest at most `room` deep.

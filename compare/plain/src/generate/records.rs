@@ -1,4 +1,5 @@
-//! Records that fit a layout, with the values at which conversions change among them, and records with decimals that are too large.
+//! Records that fit a layout, with the values at which conversions change among them, and records with decimals that are too large or nulls where a value is
+//! required.
 
 use crate::form::{Column, Leaf, Type};
 use crate::number::Kind;
@@ -8,36 +9,62 @@ use crate::random::Random;
 #[derive(Clone, Copy)]
 pub struct Shares {
     pub nulls: u64,
+    /// Nulls in required fields.
+    pub missing: u64,
     /// Decimals that are too large for their precision.
     pub exceeding: u64,
 }
 
 /// A record of the columns; longer than the limit only where the layout leaves no choice.
 pub fn record(random: &mut Random, columns: &[Column]) -> Vec<u8> {
-    record_of(random, columns, 0)
+    record_of(random, columns, 0, 0)
 }
 
 /// The same, but that a decimal may be too large.
 pub fn exceeding_record(random: &mut Random, columns: &[Column]) -> Vec<u8> {
-    record_of(random, columns, 30)
+    record_of(random, columns, 30, 0)
 }
 
-fn record_of(random: &mut Random, columns: &[Column], exceeding: u64) -> Vec<u8> {
+/// The same, but that a required field may be null.
+pub fn lacking_record(random: &mut Random, columns: &[Column]) -> Vec<u8> {
+    let missing = random.pick(&[2, 20]);
+    record_of(random, columns, 0, missing)
+}
+
+fn record_of(random: &mut Random, columns: &[Column], exceeding: u64, missing: u64) -> Vec<u8> {
     let mut bytes = Vec::new();
     let nulls = if random.percent(10) { 60 } else { 12 };
+    let shares = Shares {
+        nulls,
+        missing,
+        exceeding,
+    };
     for column in columns {
-        let shares = Shares { nulls, exceeding };
-        value(random, &mut bytes, &column.type_, shares);
+        column_value(random, &mut bytes, column, shares);
     }
     bytes
 }
 
+/// A column's value: one that is required is seldom null.
+fn column_value(random: &mut Random, bytes: &mut Vec<u8>, column: &Column, shares: Shares) {
+    let share = match column.required {
+        true => shares.missing,
+        false => shares.nulls,
+    };
+    value_of(random, bytes, &column.type_, share, shares);
+}
+
 /// A value in the type's form, presence byte first.
 pub fn value(random: &mut Random, bytes: &mut Vec<u8>, type_: &Type, shares: Shares) {
+    value_of(random, bytes, type_, shares.nulls, shares);
+}
+
+/// The same, with another share of nulls at the top.
+fn value_of(random: &mut Random, bytes: &mut Vec<u8>, type_: &Type, nulls: u64, shares: Shares) {
     // Arrays too wide for a record, and what would make it too long, are null.
     let wide = matches!(type_, Type::Array(width, _) if *width > 64);
     let none = *type_ == Type::Leaf(Leaf::Plain(0));
-    if none || wide || bytes.len() > 8_000 || random.percent(shares.nulls) {
+    if none || wide || bytes.len() > 8_000 || random.percent(nulls) {
         bytes.push(0);
         return;
     }
@@ -49,7 +76,7 @@ pub fn value(random: &mut Random, bytes: &mut Vec<u8>, type_: &Type, shares: Sha
         Type::Leaf(leaf) => leaf_bytes(random, bytes, leaf),
         Type::Struct(columns) => {
             for column in columns {
-                value(random, bytes, &column.type_, shares);
+                column_value(random, bytes, column, shares);
             }
         }
         Type::List(element) => {
@@ -59,12 +86,12 @@ pub fn value(random: &mut Random, bytes: &mut Vec<u8>, type_: &Type, shares: Sha
             };
             bytes.extend((count as u16).to_le_bytes());
             for _ in 0..count {
-                value(random, bytes, &element.type_, shares);
+                column_value(random, bytes, element, shares);
             }
         }
         Type::Array(width, element) => {
             for _ in 0..*width {
-                value(random, bytes, &element.type_, shares);
+                column_value(random, bytes, element, shares);
             }
         }
     }

@@ -77,7 +77,7 @@ fn planned(types: &[Type], selectors: &[Vec<u8>]) -> Trial {
     };
     let plan = plan(selectors);
     let read = read_plan(&plan).ok();
-    let target = read.and_then(|read| check::columns(&incoming, &read).ok());
+    let target = read.and_then(|read| check::columns(&incoming.columns, &read).ok());
     let incoming = layout(1, incoming.columns);
     Trial {
         space: RECORD_LIMIT + 100,

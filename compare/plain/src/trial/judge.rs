@@ -5,9 +5,8 @@ use crate::tally::Tally;
 use column_selector::call as library;
 use plain::call::{self as plain_call, Refusal};
 use plain::due::{Pairing, due};
-use plain::form::{self, Column, Entry, Layout, PLAN_LIMIT};
+use plain::form::{self, Entry, Fault, Layout};
 use plain::hex::hex;
-use plain::policy;
 use plain::value::{Value, read_record};
 use std::fmt;
 
@@ -44,9 +43,9 @@ impl Call {
         match self {
             Call::ReadLayout => matches!(number, 1..=6 | 50),
             Call::BuildByName => matches!(number, 1..=6 | 10..=24 | 27 | 50 | 51 | 53),
-            Call::BuildByNumber => matches!(number, 1..=6 | 10 | 11 | 13..=28 | 50 | 51 | 53),
-            Call::CheckPlan => matches!(number, 1..=6 | 30..=33 | 50),
-            Call::Run => matches!(number, 1..=6 | 30..=33 | 40..=45 | 50 | 52),
+            Call::BuildByNumber => matches!(number, 1..=6 | 10 | 11 | 13..=28 | 50 | 51 | 53..=55),
+            Call::CheckPlan => matches!(number, 1..=6 | 30..=33 | 50 | 55),
+            Call::Run => matches!(number, 1..=6 | 30..=33 | 40..=45 | 50 | 52 | 55 | 56),
         }
     }
 }
@@ -249,19 +248,14 @@ impl Judge {
         Ok(given)
     }
 
+    /// Space is the last test: without any, a refusal is the same.
     fn judge_build(&mut self, trial: &Trial, given: &Answer, side: Side) -> Result<(), Difference> {
-        let arguments = match Arguments::read(trial) {
-            Ok(arguments) => arguments,
-            Err(refusal) => return same("reading", given, &Err(refusal)),
+        same("the plan", given, &plain_build(trial))?;
+        let plan = match given {
+            Ok(plan) => plan,
+            Err(_) => return self.expect("without space", &trial.resized(0), given, side),
         };
-        if let Some(place) = arguments.extra(trial) {
-            let due = Err(Refusal { number: 53, place });
-            same("an extra column", given, &due)?;
-            return self.expect("without space", &trial.resized(0), &due, side);
-        }
-        let Ok(plan) = given else {
-            return self.judge_refused(trial, given, side);
-        };
+        let arguments = Arguments::read(trial).expect("what was built can be read");
         let (exact, short) = (plan.len(), plan.len() - 1);
         let refused = Err(Refusal::of(27));
         self.expect("exact space", &trial.resized(exact), given, side)?;
@@ -279,30 +273,6 @@ impl Judge {
             ..check
         };
         self.judge_run(&run, &arguments.due(trial, run.space), side)
-    }
-
-    /// A build whose arguments can be read, but that is refused.
-    fn judge_refused(
-        &mut self,
-        trial: &Trial,
-        given: &Answer,
-        side: Side,
-    ) -> Result<(), Difference> {
-        match number(given) {
-            1..=10 | 50 => Err("refused as if it could not be read".to_owned()),
-            27 => match self.library(&trial.resized(PLAN_LIMIT), side)? {
-                Ok(plan) if plan.len() <= trial.space => Err("27 for a plan that fits".to_owned()),
-                Ok(_) => Ok(()),
-                other => same("given space", &other, given),
-            },
-            51 if trial.policy & policy::DECIMAL_WIDENING != 0 => {
-                Err("51 though the flag allows it".to_owned())
-            }
-            51 if *given != Err(Refusal::of(51)) => Err("51 with a place".to_owned()),
-            53 => Err("53 though no column is extra, or such are ignored".to_owned()),
-            // Space is the last test.
-            _ => self.expect("without space", &trial.resized(0), given, side),
-        }
     }
 
     /// The run of a built plan, with the answer due.
@@ -332,6 +302,27 @@ impl Judge {
     }
 }
 
+/// The plan that plain Rust builds.
+fn plain_build(trial: &Trial) -> Answer {
+    let Trial {
+        policy,
+        source_index,
+        owner,
+        incoming,
+        target,
+        defaults,
+        space,
+        ..
+    } = trial;
+    match trial.call {
+        Call::BuildByNumber => {
+            let number = (*source_index, *owner, defaults.as_slice());
+            plain_call::build_by_number(*policy, number, incoming, target, *space)
+        }
+        _ => plain_call::build_by_name(*policy, incoming, target, *space),
+    }
+}
+
 /// A build's arguments, read.
 struct Arguments {
     incoming: Layout,
@@ -340,45 +331,15 @@ struct Arguments {
 }
 
 impl Arguments {
-    /// 1 to 6, 50 and 10 in their order.
-    fn read(trial: &Trial) -> Result<Arguments, Refusal> {
-        let at = Refusal::of_input;
-        let incoming = form::read_layout(&trial.incoming).map_err(at(1))?;
-        let target = form::read_layout(&trial.target).map_err(at(2))?;
-        let version = if trial.call == Call::BuildByName {
-            1
-        } else {
-            2
-        };
-        if incoming.version != version || target.version != version {
-            return Err(Refusal::of(10));
-        }
-        let entries = match trial.call {
-            Call::BuildByNumber => {
-                form::read_defaults(&trial.defaults, trial.owner).map_err(at(3))?
-            }
-            _ => Vec::new(),
-        };
+    fn read(trial: &Trial) -> Result<Arguments, Fault> {
         Ok(Arguments {
-            incoming,
-            target,
-            entries,
+            incoming: form::read_layout(&trial.incoming)?,
+            target: form::read_layout(&trial.target)?,
+            entries: match trial.call {
+                Call::BuildByNumber => form::read_defaults(&trial.defaults, trial.owner)?,
+                _ => Vec::new(),
+            },
         })
-    }
-
-    /// Under Raise, the position of the first incoming column without a counterpart.
-    fn extra(&self, trial: &Trial) -> Option<u32> {
-        if trial.policy & policy::EXTRA_COLUMNS != 0 {
-            return None;
-        }
-        let same = |incoming: &Column, target: &Column| match trial.call {
-            Call::BuildByNumber => incoming.id == target.id,
-            _ => incoming.name == target.name,
-        };
-        let targets = &self.target.columns;
-        let extra = |incoming: &Column| !targets.iter().any(|target| same(incoming, target));
-        let position = self.incoming.columns.iter().position(extra)?;
-        Some(position as u32)
     }
 
     /// The record due, for a buffer of that length; where the record doesn't fit, why.

@@ -4,12 +4,15 @@ use crate::guard::SPACE;
 use crate::judge::{Call, Trial};
 use column_selector::call as library;
 use plain::call as plain_call;
-use plain::case::Number;
+use plain::case::{Case, Number};
+use plain::check;
 use plain::form::{self, Column, Layout, PLAN_LIMIT, RECORD_LIMIT, Type};
 use plain::generate::damage::{damage, marked};
-use plain::generate::{self, plans, records};
+use plain::generate::{self, marks, plans, records};
+use plain::nullness;
 use plain::policy;
 use plain::random::Random;
+use plain::selector::read_plan;
 
 pub fn trial(random: &mut Random) -> Trial {
     let mut trial = match random.below(20) {
@@ -42,9 +45,17 @@ fn damage_one(random: &mut Random, trial: &mut Trial) {
     }
 }
 
+/// Layouts of version 3 have required marks in most.
+fn case(random: &mut Random) -> Case {
+    match random.percent(60) {
+        true => generate::marked_case(random),
+        false => generate::case(random),
+    }
+}
+
 /// A layout alone.
 fn layout(random: &mut Random) -> Trial {
-    let case = generate::case(random);
+    let case = case(random);
     let mut incoming = case.incoming;
     if random.percent(50) {
         damage(random, &mut incoming);
@@ -81,38 +92,42 @@ fn space(random: &mut Random) -> usize {
 
 /// Mostly one that fits.
 fn record(random: &mut Random, columns: &[Column]) -> Vec<u8> {
-    match random.percent(5) {
-        true => records::exceeding_record(random, columns),
-        false => records::record(random, columns),
+    match random.below(20) {
+        0 => records::exceeding_record(random, columns),
+        1 => records::lacking_record(random, columns),
+        _ => records::record(random, columns),
     }
 }
 
 /// A build of related layouts, with a record for its plan.
 fn build(random: &mut Random) -> Trial {
-    let case = generate::case(random);
-    let call = match case.number {
+    let Case {
+        policy,
+        mut incoming,
+        mut target,
+        number,
+    } = case(random);
+    let call = match number {
         None => Call::BuildByName,
         Some(_) => Call::BuildByNumber,
     };
-    let number = case.number.unwrap_or(Number {
+    let number = number.unwrap_or(Number {
         source_index: 0,
         owner: 0,
         defaults: Vec::new(),
     });
-    let mut incoming = case.incoming;
     let mut layout = form::read_layout(&incoming).unwrap();
     if random.percent(25) {
         thin(random, &mut layout.columns);
         incoming = form::write_layout(&layout);
     }
-    let mut target = case.target;
     if random.percent(2) {
         let other = if random.percent(50) {
             &mut incoming
         } else {
             &mut target
         };
-        *other = generate::case(random).target;
+        *other = case(random).target;
     }
     // The generator ignores extra top columns, as the original does.
     let raise = if random.percent(20) {
@@ -121,7 +136,7 @@ fn build(random: &mut Random) -> Trial {
         0
     };
     Trial {
-        policy: case.policy & !raise,
+        policy: policy & !raise,
         source_index: number.source_index,
         owner: number.owner,
         space: space(random),
@@ -167,13 +182,16 @@ fn built(random: &mut Random) -> Trial {
 
 /// A check or run of a plan made for an incoming layout.
 fn planned(random: &mut Random) -> Trial {
-    let case = generate::case(random);
+    let case = case(random);
     let incoming = form::read_layout(&case.incoming).unwrap();
     let (plan, mut columns) = plans::plan(random, &incoming.columns);
+    let version = 1 + random.below(3) as u8;
+    if version == 3 {
+        mark(random, &incoming.columns, &plan, &mut columns);
+    }
     if random.percent(4) {
         thin(random, &mut columns);
     }
-    let version = 1 + random.below(2) as u8;
     let trial = Trial {
         record: record(random, &incoming.columns),
         incoming: case.incoming,
@@ -182,6 +200,17 @@ fn planned(random: &mut Random) -> Trial {
         ..Trial::new(Call::Run)
     };
     check_or_run(random, trial)
+}
+
+/// The marks of a plan's target: mostly some of those that the plan admits, with few others.
+fn mark(random: &mut Random, incoming: &[Column], plan: &[u8], target: &mut [Column]) {
+    if random.percent(80)
+        && let Ok(plan) = read_plan(plan)
+        && check::columns(incoming, &plan).is_ok()
+    {
+        nullness::mark(incoming, &plan, target);
+    }
+    marks::target(random, target);
 }
 
 /// A run's buffer is often just long enough, or a byte too short.

@@ -24,8 +24,7 @@ pub fn time(unit: u8) -> Type {
 }
 
 pub fn column(name: &str, type_: Type) -> Column {
-    let name = name.as_bytes().to_vec();
-    Column { name, id: 0, type_ }
+    Column::of(name.as_bytes(), type_)
 }
 
 pub fn list(type_: Type) -> Type {
