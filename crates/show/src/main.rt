@@ -2,6 +2,7 @@
 // record, which needs its layout. A plan is written with the incoming layout's columns where that is given, and checked where the target layout is given too. What can't be read
 // is refused as the library refuses it, with number, place and words. A file that can't be opened counts as empty; of a longer one a byte past its limit is read, which is
 // enough to refuse it. A program's exit status is always 0; the script ./show answers 1 by the first line, where that is a refusal or says that a record needs its layout.
+mod dropped;
 mod plans;
 mod scope;
 mod selectors;
@@ -68,19 +69,39 @@ fn show_plan(file: &[u8], first: &[u8], second: &[u8], layouts: usize) {
 }
 
 fn show_record(file: &[u8], first: &[u8], layouts: usize) {
-    if layouts == 0 {
-        put(b"a record needs its layout: show RECORD LAYOUT\n");
-    } else {
-        put_record(first, file);
+    match layouts {
+        0 => put(b"a record needs its layout: show RECORD LAYOUT\n"),
+        1 => put_record(first, file),
+        _ => put(b"a record has one layout: show RECORD LAYOUT\n"),
     }
+}
+
+// A layout or a table of defaults, where other files are named too.
+fn refuse_others(file: &[u8]) {
+    if begins(file, b"LAY") {
+        put(b"a layout is shown alone: show LAYOUT\n");
+    } else {
+        put(b"a table of defaults is shown alone: show DEFAULTS\n");
+    }
+}
+
+// A layout or a table of defaults.
+fn show_alone(file: &[u8], layouts: usize) {
+    if 0 < layouts {
+        return refuse_others(file);
+    }
+    if begins(file, b"LAY") {
+        return show_layout(file);
+    }
+    put_table(file);
 }
 
 fn show(file: &[u8], first: &[u8], second: &[u8], layouts: usize) {
     if begins(file, b"LAY") {
-        return show_layout(file);
+        return show_alone(file, layouts);
     }
     if begins(file, b"DEF") {
-        return put_table(file);
+        return show_alone(file, layouts);
     }
     if begins(file, b"PLN") {
         return show_plan(file, first, second, layouts);

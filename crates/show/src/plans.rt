@@ -1,8 +1,10 @@
 // A plan: alone, over the incoming layout, or over both layouts, when it is checked first.
+use crate::dropped::put_dropped;
 use crate::scope::Scope;
 use crate::scope::Source;
 use crate::selectors::put_selectors;
 use crate::target::MadeColumns;
+use crate::target::refused_columns;
 use crate::target::top_columns;
 use checker::tops::PlanChecked;
 use checker::tops::check_plan;
@@ -33,6 +35,7 @@ fn put_plan(plan: &[u8], incoming: &[u8], taken: Scope, target: &[u8], made: Mad
             put_count(n as u64, b"selector");
             put(b"\n");
             put_selectors(plan, incoming, taken, target, made, 64, n, c, 0);
+            put_dropped(plan, incoming, taken, n, c, 0);
         }
         PlanRead::Refused(k) => put_refusal(k, 0),
     }
@@ -62,19 +65,22 @@ pub fn put_plan_over(plan: &[u8], incoming: &[u8]) {
 // A plan that the check refuses is written all the same, unless the plan or a layout could not be read.
 pub fn put_checked_plan(plan: &[u8], incoming: &[u8], target: &[u8]) {
     match check_plan(incoming, target, plan) {
-        PlanChecked::Passed => put(b"passes the check\n"),
+        PlanChecked::Passed => {
+            put(b"passes the check\n");
+            put_plan(
+                plan,
+                incoming,
+                top_scope(incoming),
+                target,
+                top_columns(target),
+            );
+        }
         PlanChecked::Refused(k, place) => {
             put_refusal(k, place);
-            if k <= 30 {
-                return;
+            if 30 < k {
+                let made = refused_columns(target, k, place);
+                put_plan(plan, incoming, top_scope(incoming), target, made);
             }
         }
     }
-    put_plan(
-        plan,
-        incoming,
-        top_scope(incoming),
-        target,
-        top_columns(target),
-    );
 }

@@ -1,4 +1,5 @@
 // Selectors, one to a line, with their inputs and parts indented below.
+use crate::dropped::put_dropped;
 use crate::scope::Scope;
 use crate::scope::inside;
 use crate::scope::put_position;
@@ -208,6 +209,7 @@ fn put_struct(
         first,
         deeper(level),
     );
+    put_dropped(plan, incoming, inner, count, first, deeper(level));
 }
 
 // `n` selectors from `c`; positions take from `scope`, and `columns` are made.

@@ -18,9 +18,10 @@ pub enum Made {
     Unknown,
 }
 
-// The number of columns made and where they begin.
+// The number of columns made and where they begin; and the number of the selector that the check refuses.
 pub enum MadeColumns {
     From(Edition, u16, Cursor),
+    Refused(Edition, u16, Cursor, u16),
     Unknown,
 }
 
@@ -33,6 +34,20 @@ pub fn top_columns(target: &[u8]) -> MadeColumns {
         } => MadeColumns::From(v, n, c),
         LayoutRead::Refused(_) => MadeColumns::Unknown,
     }
+}
+
+// The same, where the check refuses with this number and place. 31 and 32 have the selector's number for a place.
+pub fn refused_columns(target: &[u8], number: u8, place: u16) -> MadeColumns {
+    let made = top_columns(target);
+    if let MadeColumns::From(v, n, c) = made {
+        if number == 31 {
+            return MadeColumns::Refused(v, n, c, place);
+        }
+        if number == 32 {
+            return MadeColumns::Refused(v, n, c, place);
+        }
+    }
+    made
 }
 
 // What a struct mapping's fields make.
@@ -74,16 +89,28 @@ pub fn put_array(target: &[u8], made: Made) -> Made {
     Made::Unknown
 }
 
-// The column that selector `i` makes, before the selector.
-pub fn put_made_column(target: &[u8], columns: MadeColumns, i: u16) -> Made {
-    if let MadeColumns::From(v, n, c) = columns {
-        if let Column::Is(l, d) = find_column(target, v, n, c, Position(i)) {
-            put_column(target, v, l, d);
-            put(b" <- ");
-            return Made::At(v, d);
-        }
+// Column `i` of the target, where it has so many.
+fn put_column_at(target: &[u8], v: Edition, n: u16, c: Cursor, i: u16) -> Made {
+    if let Column::Is(l, d) = find_column(target, v, n, c, Position(i)) {
+        put_column(target, v, l, d);
+        put(b" <- ");
+        return Made::At(v, d);
     }
     Made::Unknown
+}
+
+// The column that selector `i` makes, before the selector; a sign before the one that is refused.
+pub fn put_made_column(target: &[u8], columns: MadeColumns, i: u16) -> Made {
+    match columns {
+        MadeColumns::From(v, n, c) => put_column_at(target, v, n, c, i),
+        MadeColumns::Refused(v, n, c, k) => {
+            if k == i {
+                put(b">> ");
+            }
+            put_column_at(target, v, n, c, i)
+        }
+        MadeColumns::Unknown => Made::Unknown,
+    }
 }
 
 // The element that a selector makes, before the selector.

@@ -3,8 +3,11 @@ ghost use Prim.Native.Nat.{_+_, _*_, _≤_, _<_};
 ghost use mathlib.Core.Path.{_≡_};
 ghost use lib.ListN.{length, take, drop};
 ghost use Rattle.values.specs.Reading.{little};
+use crate::calendar::put_date;
+use crate::calendar::put_datetime;
 use crate::floats::put_float;
 use crate::out::put;
+use crate::out::put_digits;
 use crate::out::put_number;
 use crate::out::put_span;
 use layout::bytes::Span;
@@ -121,17 +124,6 @@ fn magnitude(x: u64, half: u64) -> u64
     half - (x - half)
 }
 
-// The last digits of a number, with zeros in front.
-fn put_digits(m: u64, count: usize)
-    requires { ⌜ count ≤ 18 ⌝ }
-{
-    let mut i = count;
-    while 0 < i {
-        i -= 1;
-        put_number(m / power_of_ten(i) % 10);
-    }
-}
-
 // A magnitude with its point: 12340 at scale 3 is 12.340.
 fn put_scaled(m: u64, scale: u8) {
     if scale == 0 {
@@ -181,11 +173,17 @@ fn put_pattern(leaf: Leaf, x: u64) {
         Leaf::Date => {
             put(b"day ");
             put_signed(x, 0x8000_0000);
+            put(b" (");
+            put_date(x);
+            put(b")");
         }
         Leaf::Datetime(unit) => {
             put_signed(x, 0x8000_0000_0000_0000);
             put(b" ");
             put_unit(unit);
+            put(b" (");
+            put_datetime(x, unit);
+            put(b")");
         }
         Leaf::Decimal(d) => put_decimal(x, d.scale),
         _ => put_number(x),

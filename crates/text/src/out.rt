@@ -2,8 +2,10 @@
 ghost use Prim.Native.Nat.{_+_, _≤_, min};
 ghost use mathlib.Core.Path.{_≡_};
 ghost use lib.ListN.{length};
+use crate::utf8::plain_len;
 use layout::bytes::Span;
 use libc::STDOUT_FILENO;
+use numeric::decimals::power_of_ten;
 
 pub fn put(text: &[u8]) {
     io::write_all(STDOUT_FILENO, text);
@@ -16,6 +18,17 @@ pub fn put_number(n: u64) {
 // With zeros in front, up to as many digits.
 pub fn put_hex(n: u64, digits: usize) {
     io::print_hex(STDOUT_FILENO, n, digits);
+}
+
+// The last digits of a number, with zeros in front.
+pub fn put_digits(m: u64, count: usize)
+    requires { ⌜ count ≤ 18 ⌝ }
+{
+    let mut i = count;
+    while 0 < i {
+        i -= 1;
+        put_number(m / power_of_ten(i) % 10);
+    }
 }
 
 // A number and what it counts: 1 field, 2 fields.
@@ -44,17 +57,7 @@ pub fn put_indent(level: u8) {
     }
 }
 
-// Whether a byte of a text stands for itself.
-fn is_plain(b: u8) -> bool {
-    match b {
-        0x22 => false,
-        0x5C => false,
-        0x20..=0x7E => true,
-        _ => false,
-    }
-}
-
-// The first place from `at` on where a byte is not plain, or else the end.
+// The first place from `at` on where no letter stands that is written as it is, or else the end.
 fn plain_end(s: &[u8], at: usize) -> usize
     requires { ⌜ at ≤ length (now s) ⌝ }
     ensures { λ r. ⌜ at ≤ r ⌝ }
@@ -62,10 +65,11 @@ fn plain_end(s: &[u8], at: usize) -> usize
 {
     let mut i = at;
     while i < s.len() {
-        if !is_plain(s[i]) {
+        let n = plain_len(s, i);
+        if n == 0 {
             return i;
         }
-        i += 1;
+        i += n;
     }
     i
 }
@@ -75,7 +79,7 @@ fn put_escaped(b: u8) {
     put_hex(b as u64, 2);
 }
 
-// In quotes; a quote, a backslash and what is not printable ASCII as \x and two digits.
+// In quotes; a quote, a backslash, what is no UTF-8 and letters that can't be seen byte by byte, as \x and two digits.
 pub fn put_text(s: &[u8]) {
     put(b"\"");
     let mut at: usize = 0;

@@ -1,8 +1,8 @@
--- `text::leaves::put_digits` is safe and ends: the place of the next digit is at most 18, and falls. Assumes nothing.
+-- `text::out::put_digits` is safe and ends: the place of the next digit is at most 18, and falls. Assumes nothing.
 use Prim.Native.Nat.{_≤_}
 use borrow.Author.Needs.{needs}
-use Rattle.text.proofs.leaves.put_digits.Statement.{statement}
-use Rattle.text.proofs.leaves.put_digits.Tie as tie
+use Rattle.text.proofs.out.put_digits.Statement.{statement}
+use Rattle.text.proofs.out.put_digits.Tie as tie
 
 abbrev Inv-loop : tie.InvT-loop
 Inv-loop m count i₀ i = i ≤ 18
