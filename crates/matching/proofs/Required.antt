@@ -6,9 +6,9 @@ use Rattle.layout.specs.Tree.{LeafType, leafOf, Label, ColumnType, cleaf, cstru
 use Rattle.rules.specs.Classes.{isNull}
 use Rattle.values.specs.Value.{Value, vnull, vnumber, vtext, voverflow, vstruct, vlist, varray, Values, vcons, isNullValue}
 use Rattle.values.specs.Fits.{Fits}
-use Rattle.values.specs.Filled.{Filled}
+use Rattle.values.specs.Filled.{requiredOf, Filled}
 use Rattle.plan.specs.Nullness.{nnil, topOf, nullnessAt, ofValue, ofFields}
-use Rattle.plan.specs.Marks.{requiredOf, placeOf, allowed, given, meets, meetsAll}
+use Rattle.plan.specs.Marks.{placeOf, allowed, given, meets, meetsAll}
 use Rattle.plan.proofs.Results.{true≠false}
 use Rattle.plan.proofs.Exact.{nowhere-meets, constant-exact}
 use Rattle.matching.specs.Build.{isNullType, keepsRequired, fillsRequired}
