@@ -19,7 +19,9 @@ use Rattle.plan.specs.Read.{plan}
 use Rattle.plan.specs.Run.{written, run}
 use Rattle.plan.specs.Calls.{readAt, readPlan, checkPlan, runPlan}
 use Rattle.matching.proofs.Calls.{Built}
-use Rattle.matching.proofs.Unmarked.{UnmarkedAll, layout-unmarked, by-name-older}
+use Rattle.values.proofs.Unmarked.{UnmarkedAll}
+use Rattle.values.proofs.Older.{layout-older}
+use Rattle.matching.proofs.Unmarked.{by-name-older}
 use Rattle.plan.proofs.Results.{both, true≠false}
 use Rattle.matching.specs.Default.{Defaults, noDefaults}
 use Rattle.matching.specs.Build.{build}
@@ -127,8 +129,8 @@ layouts-past v incoming target f h g e =
     (x .columns, y .columns, record { edition = x .edition; end = m; reads = q; taken = c }, record { edition = y .edition; end = n; reads = r; taken = d }, e)
 
 -- by name the target has no required column
-pub named-unmarked : (v : Matching) {target : Bytes} {cs : Columns} → ReadFor v target cs → v ≡ ByName → UnmarkedAll cs
-named-unmarked ByName {target} R e = layout-unmarked target (R .reads) (by-name-older (R .edition) (R .taken))
+pub named-unmarked : (v : Matching) {target : Bytes} {cs : Columns} → ReadFor v target cs → v ≡ ByName → UnmarkedAll requiredOf cs
+named-unmarked ByName {target} R e = layout-older target _ _ (R .reads) (by-name-older (R .edition) (R .taken))
 named-unmarked ByNumber R e = clash (cc)
 
 pub table-past : (defaults : Bytes) (f : TableTree → Answer Bytes) {n k : ℕ} → isIn n tableRefusals ≡ false → readAt 3 (table defaults) f ≡ refusedAt n k

@@ -21,7 +21,8 @@ use Rattle.matching.specs.Default.{Defaults, noDefaults}
 use Rattle.matching.specs.Build.{extraColumns, buildFrom, build}
 use Rattle.matching.specs.Calls.{ofEdition, bothLayouts, roomFor, writtenPlan, buildByName, buildByNumber}
 use Rattle.matching.specs.Extra.{FirstExtra}
-use Rattle.matching.proofs.Unmarked.{UnmarkedAll}
+use Rattle.values.specs.Filled.{requiredOf}
+use Rattle.values.proofs.Unmarked.{UnmarkedAll}
 use Rattle.matching.proofs.Extra.{columns-refused, build-raised, build-ignoring}
 use Rattle.demands.specs.Refusals.{isIn, columnRefusals}
 use Rattle.demands.specs.Stated.{ExtraColumn, NumberExtraColumn}
@@ -52,7 +53,7 @@ unextra v space (in-accepted {a = ss} u) e = absurd (omega (arith, written-lengt
 unextra v space (in-refusedAt R) e = true≠false (ap (λ (m : ℕ). isIn m (columnRefusals v)) (sym (number-eq e)) ∙ R .among) (no-column v)
 
 module _ (v : Matching) (p : Policy) (space : ℕ) where
-  raised : (d : Defaults) → DefaultsIn (columnRefusals v) d → (a b : Columns) {k : ℕ} → (v ≡ ByName → UnmarkedAll b) → answered (build v p d a b) (λ ss. writtenPlan space ss) ≡ refusedAt 53 k
+  raised : (d : Defaults) → DefaultsIn (columnRefusals v) d → (a b : Columns) {k : ℕ} → (v ≡ ByName → UnmarkedAll requiredOf b) → answered (build v p d a b) (λ ss. writtenPlan space ss) ≡ refusedAt 53 k
       → (p .«extra_columns» ≡ Raise) × FirstExtra v b a 0 k
   unfolding build answered
   raised d o a b {k} m e = go (extraColumns (p .«extra_columns») v a b) refl e

@@ -26,6 +26,8 @@ use Rattle.rules.specs.Promotion.{holds}
 use Rattle.rules.specs.Chain.{sameType, wider, unitAllowed, chain}
 use Rattle.rules.specs.Pairs.{pairRule}
 use Rattle.values.specs.Value.{Value, Values, vnil, vcons, isNullValue}
+use Rattle.values.specs.Filled.{requiredOf}
+use Rattle.values.proofs.Unmarked.{Unmarked, UnmarkedAll}
 use Rattle.plan.specs.Result.{Result, gives, refuses, demand, Answer, accepted, refusedAt, placed}
 use Rattle.plan.specs.Selector.{Selector, constant, Selectors}
 use Rattle.plan.specs.Encode.{encodePlan}
@@ -38,7 +40,7 @@ use Rattle.matching.specs.Build.{leafPart, structPart, listPart, arrayPart, unl
 use Rattle.matching.specs.Build.{keepsRequired, fillsRequired}
 use Rattle.matching.specs.Calls.{roomFor, writtenPlan}
 use Rattle.matching.proofs.Required.{keeps-optional}
-use Rattle.matching.proofs.Unmarked.{Unmarked, UnmarkedAll, fills-unmarked}
+use Rattle.matching.proofs.Unmarked.{struct-bare, list-bare, array-bare, column-bare, fills-unmarked}
 use Rattle.demands.specs.Refusals.{isIn, pairRefusals, extraRefusals, columnRefusals}
 use Rattle.demands.proofs.Refusing.{all, all-in, ResultIn, in-gives, in-refuses, bind-in, demand-in, result-choose-in, Answers, in-accepted, in-refusedAt, placed-in, answered-in, answers-as, ColumnRefusal, BuildRefusal, by-extra, by-column}
 
@@ -232,7 +234,7 @@ unfolding demand isIn
 kept-in ByName a t b m o = rw (keeps-optional a t b (m refl)) o
 kept-in ByNumber a t b m o = demand-in (keepsRequired a t b) 55 refl o
 
-filled-in : (v : Matching) (b : Label) (u : ColumnType) → (v ≡ ByName → (b .required ≡ false) × Unmarked u) → (x : Value) {A : Type 0} {r : Result A} → ColumnIn v r
+filled-in : (v : Matching) (b : Label) (u : ColumnType) → (v ≡ ByName → (b .required ≡ false) × Unmarked requiredOf u) → (x : Value) {A : Type 0} {r : Result A} → ColumnIn v r
     → ColumnIn v (demand (fillsRequired b u x) 54 r)
 unfolding demand isIn
 filled-in ByName b u m x o = let (e, h) = m refl in rw (fills-unmarked b u x e h) o
@@ -261,51 +263,51 @@ module _ (v : Matching) (p : Policy) where
   mutual
     unfolding attachTransforms attachFields isIn
 
-    attach-in : (u : ColumnType) (d : Defaults) (k : Position) (t : ColumnType) → DefaultsIn (columnRefusals v) d → (v ≡ ByName → Unmarked u)
+    attach-in : (u : ColumnType) (d : Defaults) (k : Position) (t : ColumnType) → DefaultsIn (columnRefusals v) d → (v ≡ ByName → Unmarked requiredOf u)
         → ColumnIn v (attachTransforms v p d u k t)
     attach-in (cleaf u) d k t o m = bind-in (leaf-part-in v t) (λ l. ruled-in v k u (pair-in p l u))
     attach-in (cstruct gs) d k t o m =
         unless-null-in v p k (cstruct gs) t
         (bind-in (struct-part-in v t) (λ fs.
-        distinct-in v gs (distinct-in v fs (demand-in _ 13 (in-both v 13 refl) (bind-in (fields-in gs d fs o m) (λ ss. in-gives))))))
+        distinct-in v gs (distinct-in v fs (demand-in _ 13 (in-both v 13 refl) (bind-in (fields-in gs d fs o (λ q. struct-bare (m q))) (λ ss. in-gives))))))
     attach-in (clist l u) d k t o m =
         unless-null-in v p k (clist l u) t
         (bind-in (list-part-in v t) (λ e.
-        element-in v (e .label) l (kept-in v (e .label) (e .type) l (λ q. m q .0)
-        (bind-in (attach-in u noDefaults _ (e .type) (none-in (columnRefusals v)) (λ q. m q .1)) (λ s. in-gives)))))
+        element-in v (e .label) l (kept-in v (e .label) (e .type) l (λ q. list-bare (m q) .0)
+        (bind-in (attach-in u noDefaults _ (e .type) (none-in (columnRefusals v)) (λ q. list-bare (m q) .1)) (λ s. in-gives)))))
     attach-in (carray w l u) d k t o m =
         unless-null-in v p k (carray w l u) t
         (bind-in (array-part-in v w t) (λ e.
-        element-in v (e .label) l (kept-in v (e .label) (e .type) l (λ q. m q .0)
-        (bind-in (attach-in u noDefaults _ (e .type) (none-in (columnRefusals v)) (λ q. m q .1)) (λ s. in-gives)))))
+        element-in v (e .label) l (kept-in v (e .label) (e .type) l (λ q. array-bare (m q) .0)
+        (bind-in (attach-in u noDefaults _ (e .type) (none-in (columnRefusals v)) (λ q. array-bare (m q) .1)) (λ s. in-gives)))))
 
-    fields-in : (gs : Columns) (d : Defaults) (fs : Columns) → DefaultsIn (columnRefusals v) d → (v ≡ ByName → UnmarkedAll gs)
+    fields-in : (gs : Columns) (d : Defaults) (fs : Columns) → DefaultsIn (columnRefusals v) d → (v ≡ ByName → UnmarkedAll requiredOf gs)
         → ColumnIn v (attachFields v p d gs fs)
     fields-in cnil d fs o m = in-gives
     fields-in (ccons l u gs) d fs o m =
         bind-in
-        (sought-in v _ (missing-in o _ 14 l u (in-both v 14 refl) (λ x. filled-in v l u (λ q. (m q .0, m q .1 .0)) x in-gives))
-        (λ k a t. kept-in v a t l (λ q. m q .0) (bind-in (attach-in u d k t o (λ q. m q .1 .0)) (λ s. in-gives)))) (λ s.
-        bind-in (fields-in gs d fs o (λ q. m q .1 .1)) (λ ss. in-gives))
+        (sought-in v _ (missing-in o _ 14 l u (in-both v 14 refl) (λ x. filled-in v l u (λ q. (column-bare (m q) .0, column-bare (m q) .1 .0)) x in-gives))
+        (λ k a t. kept-in v a t l (λ q. column-bare (m q) .0) (bind-in (attach-in u d k t o (λ q. column-bare (m q) .1 .0)) (λ s. in-gives)))) (λ s.
+        bind-in (fields-in gs d fs o (λ q. column-bare (m q) .1 .1)) (λ ss. in-gives))
 
   -- ---- the build
 
   module _ (d : Defaults) (o : DefaultsIn (columnRefusals v) d) (fs : Columns) where
-    column-in : (l : Label) (u : ColumnType) → (v ≡ ByName → (l .required ≡ false) × Unmarked u) → ColumnIn v (buildColumnSelector v p d l u fs)
+    column-in : (l : Label) (u : ColumnType) → (v ≡ ByName → (l .required ≡ false) × Unmarked requiredOf u) → ColumnIn v (buildColumnSelector v p d l u fs)
     unfolding buildColumnSelector isIn
     column-in l u m =
         sought-in v _ (missing-in o _ 11 l u (in-both v 11 refl) (λ x. filled-in v l u m x in-gives))
         (λ k a t. kept-in v a t l (λ q. m q .0) (bind-in (attach-in u d k t o (λ q. m q .1)) (λ s. in-gives)))
 
-    pub from-in : (gs : Columns) (i count : ℕ) → i + countColumns gs ≤ count → (v ≡ ByName → UnmarkedAll gs)
+    pub from-in : (gs : Columns) (i count : ℕ) → i + countColumns gs ≤ count → (v ≡ ByName → UnmarkedAll requiredOf gs)
         → Answers (λ ss. Unit {0}) (ColumnRefusal (columnRefusals v) count) (buildFrom v p d gs fs i)
     unfolding buildFrom countColumns
     from-in cnil i count h m = in-accepted tt
     from-in (ccons l u gs) i count h m =
-        placed-in i (column-in l u (λ q. (m q .0, m q .1 .0))) (λ n e. record { among = e; place = omega (arith, h) })
-        (λ s. answered-in (from-in gs (i + 1) count (omega (arith, h)) (λ q. m q .1 .1)) (λ n k r. r) (λ ss x. in-accepted tt))
+        placed-in i (column-in l u (λ q. (column-bare (m q) .0, column-bare (m q) .1 .0))) (λ n e. record { among = e; place = omega (arith, h) })
+        (λ s. answered-in (from-in gs (i + 1) count (omega (arith, h)) (λ q. column-bare (m q) .1 .1)) (λ n k r. r) (λ ss x. in-accepted tt))
 
-    pub build-in : (to : Columns) → (v ≡ ByName → UnmarkedAll to)
+    pub build-in : (to : Columns) → (v ≡ ByName → UnmarkedAll requiredOf to)
         → Answers (λ ss. Unit {0}) (BuildRefusal v (countColumns fs) (countColumns to)) (build v p d fs to)
     unfolding build
     build-in to m =

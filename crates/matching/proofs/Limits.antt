@@ -1,6 +1,6 @@
 -- Columns within the limits of a layout, and that the columns of every layout that was read are. Assumes nothing.
 use Prim.Native.Nat.{ℕ, _+_, _≤_, _<_}
-use mathlib.Core.Path.{_≡_, refl, sym, ap, _∙_, subst}
+use mathlib.Core.Path.{_≡_, refl, sym, ap, _∙_}
 use mathlib.Core.Bool.{Bool, true, false}
 use mathlib.Core.List.{[], _++_}
 use native.Mathlib.Omega.{arith}
@@ -170,16 +170,10 @@ limits-of {cs = cs} s o h k R =
     let n = count-below (fieldsOf cs) in
     record { within = record { deep = E .deep; long = omega arith }; count = omega arith; readable = columns-readable o R .1; names = columns-short o R }
 
--- the columns of a layout that was read, rule by rule
-pub layout-columns : (s : Bytes) {l : Layout} {m : ℕ} → layout s ≡ ok l m → (e : ℕ) × ColumnsRead (l .edition) s deepest (countColumns (l .columns)) 7 (l .columns) e
-layout-columns s {l} {m} e =
+pub layout-limits : (s : Bytes) {l : Layout} {m : ℕ} → AllBytes s → layout s ≡ ok l m → LayoutLimits (l .columns)
+layout-limits s {l} {m} o e =
     let (L, z) = layout-at s refl (layout-read (layout s) e) in
     let C = L .columns in
     let q : l .columns ≡ C .columns = columns-eq (sym e ∙ L .reads) in
     let R = columns→ (l .edition) Free s deepest (λ at t e h. type→ (l .edition) Free s deepest at h) (countColumns (l .columns)) [] 7 (C .reads) in
-    (C .end, subst (λ (cs : Columns). ColumnsRead (l .edition) s deepest (countColumns (l .columns)) 7 cs (C .end)) (sym q) R)
-
-pub layout-limits : (s : Bytes) {l : Layout} {m : ℕ} → AllBytes s → layout s ≡ ok l m → LayoutLimits (l .columns)
-layout-limits s o e =
-    let (L, z) = layout-at s refl (layout-read (layout s) e) in
-    limits-of s o (header s e) (layout-small L) (layout-columns s e .1)
+    rw q (limits-of s o (header s e) (layout-small L) R)

@@ -1,12 +1,9 @@
--- "Older columns count as optional" (document 02, L5): no column of a layout of version 1 or 2 is required. Where no column of the target is, 54 and 55 are
--- never met, and the builders' clauses are document 01's, as the equations here have them. Assumes nothing.
+-- "Older columns count as optional" (document 02, L5): where no column of the target is required, 54 and 55 are never met, and the builders' clauses
+-- are document 01's, as the equations here have them. Assumes nothing.
 use Prim.Native.Nat.{ℕ}
-use mathlib.Core.Path.{_≡_, refl, ap, _∙_}
+use mathlib.Core.Path.{_≡_, refl}
 use mathlib.Core.Bool.{Bool, true, false}
-use Rattle.layout.specs.Bytes.{Bytes}
-use Rattle.layout.specs.Parser.{ok}
-use Rattle.layout.specs.Tree.{Layout, Label, ColumnType, cleaf, cstruct, clist, carray, Columns, cnil, ccons, dtypeOf}
-use Rattle.layout.specs.Layout.{fieldMark, labelRest, label, elementLabel, layout}
+use Rattle.layout.specs.Tree.{Label, ColumnType, cleaf, cstruct, clist, carray, Columns, cnil, ccons, dtypeOf}
 use Rattle.layout.specs.Find.{counterpart}
 use Rattle.layout.specs.declared.columns.Position.{Position}
 use Rattle.layout.specs.declared.edition.Edition.{Edition}
@@ -14,10 +11,10 @@ use Rattle.layout.specs.declared.edition.Edition.the-variants.{One, Two, Three}
 use Rattle.layout.specs.declared.matching.Matching.{Matching}
 use Rattle.layout.specs.declared.matching.Matching.the-variants.{ByName}
 use Rattle.layout.proofs.Ways.{clash}
-use Rattle.layout.proofs.View.{next-ok}
-use Rattle.forms.proofs.Read.{TypeRead, tr-leaf, tr-struct, tr-list, tr-array, ColumnsRead, cr-none, cr-column}
 use Rattle.rules.specs.declared.policy.Policy.{Policy}
 use Rattle.values.specs.Value.{Value}
+use Rattle.values.specs.Filled.{requiredOf}
+use Rattle.values.proofs.Unmarked.{Unmarked, bare-struct, bare-list, bare-array, UnmarkedAll, bare-cons}
 use Rattle.plan.specs.Result.{Result, gives, _>>=_, demand}
 use Rattle.plan.specs.Selector.{Selector, constant, scons}
 use Rattle.plan.specs.Nullness.{Place, required, optional, novalue, Nullness, Nullnesses, nnil, ncons, topOf, insideOf, nullnessAt, ofValue}
@@ -27,20 +24,24 @@ use Rattle.matching.specs.Default.{Defaults, noDefaults, missingValue}
 use Rattle.matching.specs.Build.{listPart, arrayPart, unlessNullType, renamed, sameElement, inserts, keepsRequired, fillsRequired, missing, listSelector}
 use Rattle.matching.specs.Build.{arraySelector, first, sought, attachTransforms, attachFields, buildColumnSelector}
 use Rattle.matching.specs.Calls.{takes}
-use Rattle.matching.proofs.Limits.{layout-columns}
 use Rattle.matching.proofs.Required.{keeps-optional}
 
--- no column inside is required
-abbrev mutual
-  pub Unmarked : ColumnType → Type 0
-  Unmarked (cleaf l) = Unit {0}
-  Unmarked (cstruct cs) = UnmarkedAll cs
-  Unmarked (clist l t) = (l .required ≡ false) × Unmarked t
-  Unmarked (carray w l t) = (l .required ≡ false) × Unmarked t
+-- ---- the parts of what has no required column inside
 
-  pub UnmarkedAll : Columns → Type 0
-  UnmarkedAll cnil = Unit {0}
-  UnmarkedAll (ccons l t cs) = (l .required ≡ false) × (Unmarked t × UnmarkedAll cs)
+pub struct-bare : {cs : Columns} → Unmarked requiredOf (cstruct cs) → UnmarkedAll requiredOf cs
+struct-bare (bare-struct h) = h
+
+pub list-bare : {l : Label} {t : ColumnType} → Unmarked requiredOf (clist l t) → (l .required ≡ false) × Unmarked requiredOf t
+list-bare (bare-list e h) = (e, h)
+
+pub array-bare : {w : ℕ} {l : Label} {t : ColumnType} → Unmarked requiredOf (carray w l t) → (l .required ≡ false) × Unmarked requiredOf t
+array-bare (bare-array e h) = (e, h)
+
+pub column-bare : {l : Label} {t : ColumnType} {cs : Columns} → UnmarkedAll requiredOf (ccons l t cs)
+    → (l .required ≡ false) × (Unmarked requiredOf t × UnmarkedAll requiredOf cs)
+column-bare (bare-cons e h hs) = (e, (h, hs))
+
+-- ---- 54 and 55 are never met
 
 allowed-optional : (p : Place) → allowed p false ≡ true
 unfolding allowed
@@ -51,18 +52,21 @@ allowed-optional novalue = refl
 mutual
   unfolding meets meetsAll
 
-  meets-unmarked : (t : ColumnType) (n : Nullness) (r : Bool) → r ≡ false → Unmarked t → meets n r t ≡ true
+  meets-unmarked : (t : ColumnType) (n : Nullness) (r : Bool) → r ≡ false → Unmarked requiredOf t → meets n r t ≡ true
   meets-unmarked (cleaf l) n r e u = rw e (allowed-optional (topOf n))
-  meets-unmarked (cstruct cs) n r e u = rw e (and-true (allowed-optional (topOf n)) (meet-unmarked cs (insideOf n) u))
-  meets-unmarked (clist l t) n r e u = rw e (and-true (allowed-optional (topOf n)) (meets-unmarked t (nullnessAt (insideOf n) 0) (l .required) (u .0) (u .1)))
-  meets-unmarked (carray w l t) n r e u = rw e (and-true (allowed-optional (topOf n)) (meets-unmarked t (nullnessAt (insideOf n) 0) (l .required) (u .0) (u .1)))
+  meets-unmarked (cstruct cs) n r e u = rw e (and-true (allowed-optional (topOf n)) (meet-unmarked cs (insideOf n) (struct-bare u)))
+  meets-unmarked (clist l t) n r e u =
+      let (o, h) = list-bare u in rw e (and-true (allowed-optional (topOf n)) (meets-unmarked t (nullnessAt (insideOf n) 0) (l .required) o h))
+  meets-unmarked (carray w l t) n r e u =
+      let (o, h) = array-bare u in rw e (and-true (allowed-optional (topOf n)) (meets-unmarked t (nullnessAt (insideOf n) 0) (l .required) o h))
 
-  meet-unmarked : (cs : Columns) (ns : Nullnesses) → UnmarkedAll cs → meetsAll ns cs ≡ true
+  meet-unmarked : (cs : Columns) (ns : Nullnesses) → UnmarkedAll requiredOf cs → meetsAll ns cs ≡ true
   meet-unmarked cnil ns u = refl
   meet-unmarked (ccons l t cs) nnil u = refl
-  meet-unmarked (ccons l t cs) (ncons n ns) u = and-true (meets-unmarked t n (l .required) (u .0) (u .1 .0)) (meet-unmarked cs ns (u .1 .1))
+  meet-unmarked (ccons l t cs) (ncons n ns) u =
+      let (e, (h, hs)) = column-bare u in and-true (meets-unmarked t n (l .required) e h) (meet-unmarked cs ns hs)
 
-pub fills-unmarked : (l : Label) (u : ColumnType) (x : Value) → l .required ≡ false → Unmarked u → fillsRequired l u x ≡ true
+pub fills-unmarked : (l : Label) (u : ColumnType) (x : Value) → l .required ≡ false → Unmarked requiredOf u → fillsRequired l u x ≡ true
 unfolding fillsRequired
 fills-unmarked l u x e h = meets-unmarked u (ofValue x) (l .required) e h
 
@@ -70,7 +74,7 @@ passed : {A : Type 0} {b : Bool} (n : ℕ) (x : Result A) → b ≡ true → dem
 unfolding demand
 passed n x e = rw e
 
-pub missing-unmarked : (d : Defaults) (insert : Bool) (n : ℕ) (l : Label) (u : ColumnType) → l .required ≡ false → Unmarked u
+pub missing-unmarked : (d : Defaults) (insert : Bool) (n : ℕ) (l : Label) (u : ColumnType) → l .required ≡ false → Unmarked requiredOf u
     → missing d insert n l u ≡ demand insert n (missingValue d l u >>= λ x. gives (constant (l .name) (dtypeOf u) x))
 unfolding missing
 missing-unmarked d insert n l u e h =
@@ -125,53 +129,8 @@ module _ (v : Matching) (p : Policy) where
   column-unmarked d b u fs e =
       λ i. sought (counterpart v b fs) (missing d (inserts (p .«missing_columns»)) 11 b u) (λ k m t. found d b u m e k t i)
 
--- ---- the columns of version 1 and 2
-
-abbrev pub isOlder : Edition → Bool
-isOlder One = true
-isOlder Two = true
-isOlder Three = false
-
-ok-same : {A : Type 0} (P : A → Type 0) {a b : A} {m n : ℕ} → ok a m ≡ ok b n → P a → P b
-ok-same P {a} {b} e p = let q : a ≡ b = cc in rw (← q) p
-
-optional-mark : (v : Edition) (s : Bytes) (at : ℕ) {r : Bool} {m : ℕ} → isOlder v ≡ true → fieldMark v s at ≡ ok r m → r ≡ false
-unfolding fieldMark
-optional-mark One s at q e = ok-same (λ (r : Bool). r ≡ false) e refl
-optional-mark Two s at q e = ok-same (λ (r : Bool). r ≡ false) e refl
-optional-mark Three s at q e = clash (cc)
-
-module _ (v : Edition) (s : Bytes) (older : isOlder v ≡ true) where
-  label-unmarked : (at : ℕ) {l : Label} {m : ℕ} → label v s at ≡ ok l m → l .required ≡ false
-  unfolding label labelRest
-  label-unmarked at e =
-      let (n, i, a, e) = next-ok _ _ e in
-      let (k, j, b, e) = next-ok _ _ e in
-      let (r, m, c, e) = next-ok _ _ e in
-      ok-same (λ (l : Label). l .required ≡ false) e (optional-mark v s j older c)
-
-  element-unmarked : (w : Edition) (at : ℕ) {l : Label} {m : ℕ} → v ≡ w → elementLabel w s at ≡ ok l m → l .required ≡ false
-  unfolding elementLabel
-  element-unmarked One at q e = ok-same (λ (l : Label). l .required ≡ false) e refl
-  element-unmarked Two at q e = label-unmarked at (ap (λ (w : Edition). label w s at) q ∙ e)
-  element-unmarked Three at q e = label-unmarked at (ap (λ (w : Edition). label w s at) q ∙ e)
-
-  mutual
-    type-unmarked : {d at e : ℕ} {t : ColumnType} → TypeRead v s d at t e → Unmarked t
-    type-unmarked (tr-leaf h) = tt
-    type-unmarked (tr-struct h g) = columns-unmarked g
-    type-unmarked (tr-list {m = m} h l g) = (element-unmarked v m refl l, type-unmarked g)
-    type-unmarked (tr-array {m = m} h l g) = (element-unmarked v m refl l, type-unmarked g)
-
-    columns-unmarked : {d n at e : ℕ} {cs : Columns} → ColumnsRead v s d n at cs e → UnmarkedAll cs
-    columns-unmarked cr-none = tt
-    columns-unmarked {at = at} (cr-column f g k) = (label-unmarked at f, (type-unmarked g, columns-unmarked k))
-
-pub layout-unmarked : (s : Bytes) {l : Layout} {m : ℕ} → layout s ≡ ok l m → isOlder (l .edition) ≡ true → UnmarkedAll (l .columns)
-layout-unmarked s {l} e o = columns-unmarked (l .edition) s o (layout-columns s e .1)
-
--- a layout that is built by name is of version 1
-pub by-name-older : (v : Edition) → takes ByName v ≡ true → isOlder v ≡ true
-by-name-older One e = refl
-by-name-older Two e = clash (cc)
-by-name-older Three e = clash (cc)
+-- what is built by name has no mark (`layout-older`, crate values)
+pub by-name-older : (v : Edition) → takes ByName v ≡ true → v ≡ Three → ⊥
+by-name-older One e q = clash (cc)
+by-name-older Two e q = clash (cc)
+by-name-older Three e q = clash (cc)
