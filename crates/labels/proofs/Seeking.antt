@@ -1,5 +1,5 @@
 -- The loop that follows a chain: what holds at each of its columns, and what is answered on each way out. Assumes nothing.
-use Prim.Native.Nat.{ℕ, _+_, _-_, _*_, _/_, _≤_, _<_}
+use Prim.Native.Nat.{ℕ, _+_, _-_, _*_, _/_, _%_, _≤_, _<_}
 use mathlib.Core.Path.{_≡_, refl, sym, ap, _∙_, subst}
 use mathlib.Core.List.{List}
 use mathlib.Core.Bool.{Bool, true, false}
@@ -12,6 +12,7 @@ use Rattle.layout.specs.Parser.{refuse, ok}
 use Rattle.layout.specs.Tree.{Label, ColumnType, Columns, ccons, countColumns}
 use Rattle.layout.specs.Layout.{label, type, repeats}
 use Rattle.layout.specs.Answers.{labelRes, labelAt, labelIn}
+use Rattle.layout.specs.Seen.{labelHash}
 use Rattle.layout.specs.Stands.{ColumnsAt}
 use Rattle.layout.specs.Find.{Lookup, absent, at, findFrom, counterpart, matchRule, Finds}
 use Rattle.layout.specs.declared.columns.Position.{Position}
@@ -44,12 +45,13 @@ pub record Seeking (how : Matching) (heads : ℕ) (w : Label) (cs : Columns) (x 
   pub leads : Leads x (firstOf how heads (slotOf how heads w) i (after i cs))
   pub is : counterpart how w cs ≡ findFrom (λ j l. wants how w l) i (after i cs)
 
-pub seeking-start : {how : Matching} {heads n : ℕ} {cs : Columns} {table : List ℕ} → Chains how heads n 0 cs table → (w : Label) {q h k x : ℕ} → h ≡ slotOf how q w → h < q → q ≡ heads
+pub seeking-start : {how : Matching} {heads n : ℕ} {cs : Columns} {table : List ℕ} → Chains how heads n 0 cs table → (w : Label) (also : Matching) {q h k x : ℕ} → h ≡ slotOf also q w
+    → matchRule also ≡ matchRule how → h < q → q ≡ heads
     → x ≡ getD table k 0 → k ≡ node n + h → Seeking how heads w cs x
 unfolding after
-seeking-start {how} {heads} {n} {cs} {table} C w {q} {h} {k} {x} e lt f g z = record {
+seeking-start {how} {heads} {n} {cs} {table} C w also {q} {h} {k} {x} e y lt f g z = record {
   i = 0;
-  leads = leads-to {a = firstOf how heads h 0 cs} (sym (g ∙ ap (λ (b : ℕ). getD table b 0) z)) (ap (λ (b : ℕ). firstOf how heads b 0 cs) (e ∙ ap (λ (b : ℕ). slotOf how b w) f)) (C .first h (omega arith));
+  leads = leads-to {a = firstOf how heads h 0 cs} (sym (g ∙ ap (λ (b : ℕ). getD table b 0) z)) (ap (λ (b : ℕ). firstOf how heads b 0 cs) (e ∙ ap (λ (r : Siblings). labelHash r 0 w % q) y ∙ ap (λ (b : ℕ). slotOf how b w) f)) (C .first h (omega arith));
   is = counterpart-first how w cs;
 }
 

@@ -1,12 +1,14 @@
 -- `labels::counterpart_in` meets its contract. Assumes nothing.
 use Rattle.labels.proofs.Seeking.{behind}
 use Prim.Native.Nat.{ℕ, _+_, _-_}
-use mathlib.Core.Path.{_≡_, refl}
+use mathlib.Core.Path.{_≡_, refl, sym, _∙_}
 use native.Mathlib.Omega.{arith}
 use denote.Ref.{now}
 use lib.ListN.{length}
 use Rattle.layout.specs.Answers.{labelAt}
 use Rattle.layout.specs.Stands.{ColumnsAt}
+use Rattle.layout.specs.Find.{matchRule}
+use Rattle.layout.specs.declared.matching.Matching.{Matching}
 use Rattle.layout.proofs.Ways.{label-in}
 use Rattle.labels.specs.Table.{node, Table}
 use Rattle.labels.proofs.Seeking.{Seeking, seeking-start, seeking-none, inside, seeking-unlabelled, seeking-found, seeking-more, seeking-falls}
@@ -22,10 +24,10 @@ use Rattle.layout.proofs.cursor.Cursor.label.Reads as label-reads
 use Rattle.layout.proofs.matching.match_rule.Reads as match-rule-reads
 
 abbrev Inv-loop : tie.InvT-loop
-Inv-loop s v how depth n table t l rule from h x₀ x = (at : ℕ) → Table v how depth s n at table → (heads : ℕ) → node n + heads ≡ length table → (P : ColumnsAt v depth s n at) → Seeking how heads (labelAt t l) (P .columns) x
+Inv-loop s v depth n table t l rule from h x₀ x = (at : ℕ) (how : Matching) → rule ≡ matchRule how → Table v how depth s n at table → (heads : ℕ) → node n + heads ≡ length table → (P : ColumnsAt v depth s n at) → Seeking how heads (labelAt t l) (P .columns) x
 
 abbrev μ-loop : tie.MeasureT-loop
-μ-loop s v how depth n table t l rule from h x₀ x = 65535 - x
+μ-loop s v depth n table t l rule from h x₀ x = 65535 - x
 
 match-rule-requires : tie.Need-match-rule-requires Inv-loop μ-loop
 match-rule-requires c κs = search needs
@@ -53,8 +55,8 @@ shared-slice-read-x c = search needs
 
 loop-holds : tie.Need-loop-holds Inv-loop μ-loop
 loop-holds c =
-    λ at T heads e P.
-    seeking-start (T .chains P heads e) (labelAt (now (c .before .before .before .before .before .before .before .args .t)) (c .before .before .before .before .before .before .before .args .l)) (c .before .slot .ensures .0) (c .before .slot .ensures .1) (let a = c .before .before .wide .ensures in omega arith) refl (let a = c .before .before .wide .ensures in omega arith)
+    λ at how g T heads e P.
+    seeking-start (T .chains P heads e) (labelAt (now (c .before .before .before .before .before .before .before .args .t)) (c .before .before .before .before .before .before .before .args .l)) (c .before .before .before .before .before .before .before .args .how) (c .before .slot .ensures .0) (sym (c .before .before .before .match-rule .ensures) ∙ g) (c .before .slot .ensures .1) (let a = c .before .before .wide .ensures in omega arith) refl (let a = c .before .before .wide .ensures in omega arith)
 
 wide-requires-2 : tie.Need-wide-requires-2 Inv-loop μ-loop
 wide-requires-2 c κs = search needs
@@ -68,7 +70,7 @@ mul-wide c = search needs
 shared-slice-read-wide : tie.Need-shared-slice-read-wide Inv-loop μ-loop
 shared-slice-read-wide c =
     let T = c .before .before .before .before .before .before .before .before .before .before .before .pre .1 .0 in
-    let a = inside T (behind T) (c .before .before .before .before .before .before .before .before .before .before .before .pre .0) (c .before .before .before .loop .inv _ T _ (behind T) (c .before .before .before .before .before .before .before .before .before .before .before .pre .0)) (c .before .before .loop-test .taken) in
+    let a = inside T (behind T) (c .before .before .before .before .before .before .before .before .before .before .before .pre .0) (c .before .before .before .loop .inv _ _ (c .before .before .before .before .before .before .before .match-rule .ensures) T _ (behind T) (c .before .before .before .before .before .before .before .before .before .before .before .pre .0)) (c .before .before .loop-test .taken) in
     let b = c .before .wide2 .ensures in
     omega (arith, a .0)
 
@@ -87,7 +89,7 @@ same-label-requires c κs = (label-in _ (c .before .before .before .label .ensur
 returns : tie.Need-returns Inv-loop μ-loop
 returns c =
     let T = c .before .before .before .before .before .before .before .before .before .before .before .before .before .before .before .before .before .before .pre .1 .0 in
-    λ Q. seeking-found T (behind T) (c .before .before .before .before .before .before .before .before .before .before .before .before .before .before .before .before .before .before .pre .0) (c .before .before .before .before .before .before .before .before .before .before .loop .inv _ T _ (behind T) (c .before .before .before .before .before .before .before .before .before .before .before .before .before .before .before .before .before .before .pre .0)) (c .before .before .before .before .before .before .before .before .before .loop-test .taken) (c .before .before .before .before .before .label .ensures .0) (c .before .before .before .before .before .before .wide3 .ensures) (c .before .before .before .before .before .before .before .before .wide2 .ensures) (c .before .before .before .m .given .1) (c .before .before .before .before .before .label .ensures .1) (c .before .before .before .before .before .before .before .before .before .before .before .before .before .before .match-rule .ensures) (c .before .same-label .ensures) (c .if1 .taken) refl Q
+    λ Q. seeking-found T (behind T) (c .before .before .before .before .before .before .before .before .before .before .before .before .before .before .before .before .before .before .pre .0) (c .before .before .before .before .before .before .before .before .before .before .loop .inv _ _ (c .before .before .before .before .before .before .before .before .before .before .before .before .before .before .match-rule .ensures) T _ (behind T) (c .before .before .before .before .before .before .before .before .before .before .before .before .before .before .before .before .before .before .pre .0)) (c .before .before .before .before .before .before .before .before .before .loop-test .taken) (c .before .before .before .before .before .label .ensures .0) (c .before .before .before .before .before .before .wide3 .ensures) (c .before .before .before .before .before .before .before .before .wide2 .ensures) (c .before .before .before .m .given .1) (c .before .before .before .before .before .label .ensures .1) (c .before .before .before .before .before .before .before .before .before .before .before .before .before .before .match-rule .ensures) (c .before .same-label .ensures) (c .if1 .taken) refl Q
 
 enum-told : tie.Need-enum-told Inv-loop μ-loop
 enum-told c = search needs
@@ -95,7 +97,7 @@ enum-told c = search needs
 returns-2 : tie.Need-returns-2 Inv-loop μ-loop
 returns-2 c =
     let T = c .before .before .before .before .before .before .before .before .before .before .before .before .before .before .before .pre .1 .0 in
-    seeking-unlabelled T (behind T) (c .before .before .before .before .before .before .before .before .before .before .before .before .before .before .before .pre .0) (c .before .before .before .before .before .before .before .loop .inv _ T _ (behind T) (c .before .before .before .before .before .before .before .before .before .before .before .before .before .before .before .pre .0)) (c .before .before .before .before .before .before .loop-test .taken) (c .before .before .label .ensures .0) (c .before .before .before .wide3 .ensures) (c .before .before .before .before .before .wide2 .ensures) (c .enum-told .given .1)
+    seeking-unlabelled T (behind T) (c .before .before .before .before .before .before .before .before .before .before .before .before .before .before .before .pre .0) (c .before .before .before .before .before .before .before .loop .inv _ _ (c .before .before .before .before .before .before .before .before .before .before .before .match-rule .ensures) T _ (behind T) (c .before .before .before .before .before .before .before .before .before .before .before .before .before .before .before .pre .0)) (c .before .before .before .before .before .before .loop-test .taken) (c .before .before .label .ensures .0) (c .before .before .before .wide3 .ensures) (c .before .before .before .before .before .wide2 .ensures) (c .enum-told .given .1)
 
 mul-x-2 : tie.Need-mul-x-2 Inv-loop μ-loop
 mul-x-2 c = search needs
@@ -103,25 +105,25 @@ mul-x-2 c = search needs
 shared-slice-read-x-2 : tie.Need-shared-slice-read-x-2 Inv-loop μ-loop
 shared-slice-read-x-2 c =
     let T = c .before .before .before .before .before .before .before .before .before .before .before .before .before .before .before .before .before .before .before .pre .1 .0 in
-    let a = inside T (behind T) (c .before .before .before .before .before .before .before .before .before .before .before .before .before .before .before .before .before .before .before .pre .0) (c .before .before .before .before .before .before .before .before .before .before .before .loop .inv _ T _ (behind T) (c .before .before .before .before .before .before .before .before .before .before .before .before .before .before .before .before .before .before .before .pre .0)) (c .before .before .before .before .before .before .before .before .before .before .loop-test .taken) in
+    let a = inside T (behind T) (c .before .before .before .before .before .before .before .before .before .before .before .before .before .before .before .before .before .before .before .pre .0) (c .before .before .before .before .before .before .before .before .before .before .before .loop .inv _ _ (c .before .before .before .before .before .before .before .before .before .before .before .before .before .before .before .match-rule .ensures) T _ (behind T) (c .before .before .before .before .before .before .before .before .before .before .before .before .before .before .before .before .before .before .before .pre .0)) (c .before .before .before .before .before .before .before .before .before .before .loop-test .taken) in
     let b = c .before .before .before .before .before .before .before .before .before .wide2 .ensures in
     omega (arith, a .0)
 
 loop-less : tie.Need-loop-less Inv-loop μ-loop
 loop-less c =
     let T = c .before .before .before .before .before .before .before .before .before .before .before .before .before .before .before .before .before .before .before .pre .1 .0 in
-    let b = seeking-falls T (behind T) (c .before .before .before .before .before .before .before .before .before .before .before .before .before .before .before .before .before .before .before .pre .0) (c .before .before .before .before .before .before .before .before .before .before .before .loop .inv _ T _ (behind T) (c .before .before .before .before .before .before .before .before .before .before .before .before .before .before .before .before .before .before .before .pre .0)) (c .before .before .before .before .before .before .before .before .before .before .loop-test .taken) (c .before .before .before .before .before .before .label .ensures .0) (c .before .before .before .before .before .before .before .wide3 .ensures) (c .before .before .before .before .before .before .before .before .before .wide2 .ensures) (c .before .before .before .before .m .given .1) (c .before .before .before .before .before .before .before .before .before .before .before .before .before .before .before .match-rule .ensures) (c .before .before .same-label .ensures) (c .before .if1 .left) in
+    let b = seeking-falls T (behind T) (c .before .before .before .before .before .before .before .before .before .before .before .before .before .before .before .before .before .before .before .pre .0) (c .before .before .before .before .before .before .before .before .before .before .before .loop .inv _ _ (c .before .before .before .before .before .before .before .before .before .before .before .before .before .before .before .match-rule .ensures) T _ (behind T) (c .before .before .before .before .before .before .before .before .before .before .before .before .before .before .before .before .before .before .before .pre .0)) (c .before .before .before .before .before .before .before .before .before .before .loop-test .taken) (c .before .before .before .before .before .before .label .ensures .0) (c .before .before .before .before .before .before .before .wide3 .ensures) (c .before .before .before .before .before .before .before .before .before .wide2 .ensures) (c .before .before .before .before .m .given .1) (c .before .before .before .before .before .before .before .before .before .before .before .before .before .before .before .match-rule .ensures) (c .before .before .same-label .ensures) (c .before .if1 .left) in
     let e = c .before .before .before .before .before .before .before .before .before .before .loop-test .taken in
     omega arith
 
 loop-again : tie.Need-loop-again Inv-loop μ-loop
 loop-again c =
-    λ at T heads e P. seeking-more T e P (c .before .before .before .before .before .before .before .before .before .before .before .loop .inv _ T _ e P) (c .before .before .before .before .before .before .before .before .before .before .loop-test .taken) (c .before .before .before .before .before .before .label .ensures .0) (c .before .before .before .before .before .before .before .wide3 .ensures) (c .before .before .before .before .before .before .before .before .before .wide2 .ensures) (c .before .before .before .before .m .given .1) (c .before .before .before .before .before .before .before .before .before .before .before .before .before .before .before .match-rule .ensures) (c .before .before .same-label .ensures) (c .before .if1 .left)
+    λ at how g T heads e P. seeking-more T e P (c .before .before .before .before .before .before .before .before .before .before .before .loop .inv _ how g T _ e P) (c .before .before .before .before .before .before .before .before .before .before .loop-test .taken) (c .before .before .before .before .before .before .label .ensures .0) (c .before .before .before .before .before .before .before .wide3 .ensures) (c .before .before .before .before .before .before .before .before .before .wide2 .ensures) (c .before .before .before .before .m .given .1) g (c .before .before .same-label .ensures) (c .before .if1 .left)
 
 returns-3 : tie.Need-returns-3 Inv-loop μ-loop
 returns-3 c =
     let T = c .before .before .before .before .before .before .before .before .before .pre .1 .0 in
-    λ Q. seeking-none T (behind T) (c .before .before .before .before .before .before .before .before .before .pre .0) (c .before .loop .inv _ T _ (behind T) (c .before .before .before .before .before .before .before .before .before .pre .0)) (c .loop-test .left) Q
+    λ Q. seeking-none T (behind T) (c .before .before .before .before .before .before .before .before .before .pre .0) (c .before .loop .inv _ _ (c .before .before .before .before .before .match-rule .ensures) T _ (behind T) (c .before .before .before .before .before .before .before .before .before .pre .0)) (c .loop-test .left) Q
 
 pub counterpart-in-spec : {M : Type 1} → statement M
 counterpart-in-spec =
