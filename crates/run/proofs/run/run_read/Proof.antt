@@ -10,7 +10,7 @@ pub run-read-spec : {M : Type 1} → statement M
 run-read-spec =
     tie.close
     (tie.spec
-    (λ c κs. search needs)
+    (λ c κs. let (L, ss, T) = c .before .before .before .before .before .pre .0 in ((fieldsOf (L .columns), ss, T), c .before .before .before .before .before .pre .1 .0))
     (λ c. search needs)
     (λ c κs. let (L, ss, T) = c .before .before .before .before .before .before .before .before .before .pre .0 in let Q = c .before .before .before .before .before .before .before .before .before .pre .1 .0 in passed-at L T Q (c .before .before .before .before .before .before .before .before .before .pre .1 .1) (c .before .before .before .check-read .ensures (fieldsOf (L .columns)) ss Q T) (c .before .enum-told .given .1))
     (λ c. search needs)
