@@ -9,7 +9,7 @@ pub run-read-spec : {M : Type 1} → statement M
 run-read-spec =
     tie.close
     (tie.spec
-    (λ c κs. let (L, ss, T) = c .before .before .before .before .before .pre .0 in ((fieldsOf (L .columns), ss, T), c .before .before .before .before .before .pre .1 .0))
+    (λ c κs. let p = c .before .before .before .before .before .pre in (p .0, p .1 .0))
     (λ c. search needs)
     (λ c κs.
     let a = c .before .before .before .before .before .before .before .before .before in
