@@ -7,7 +7,7 @@ use lib.Dec.{eqb}
 use Rattle.layout.specs.Parser.{choose}
 use Rattle.layout.specs.Tree.{LeafType}
 use Rattle.layout.specs.declared.columns.FieldId.{FieldId}
-use Rattle.values.specs.Value.{Value, vnull, vnumber, vtext, voverflow, vstruct, vlist, varray, Values, vnil, vcons}
+use Rattle.values.specs.Value.{Value, Values, vnil, vcons, isNullValue}
 use Rattle.defaults.specs.Table.{Given, initial, partition, failed, Entry, isPartition}
 
 -- nothing, or a value that is not null, with its type; or a refusal's number
@@ -15,15 +15,6 @@ pub data Taken : Type 0 where
   refused : ℕ → Taken
   nothing : Taken
   taken : LeafType → Value → Taken
-
-abbrev pub isNullValue : Value → Bool
-isNullValue vnull = true
-isNullValue (vnumber k n) = false
-isNullValue (vtext b) = false
-isNullValue voverflow = false
-isNullValue (vstruct vs) = false
-isNullValue (vlist vs) = false
-isNullValue (varray vs) = false
 
 -- a null value is not taken
 unfoldable pub unlessNull : LeafType → Value → Taken

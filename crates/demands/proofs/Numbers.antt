@@ -25,14 +25,14 @@ use Rattle.rules.specs.Classes.{isNull, isInteger, isFloat, isDatetime, unit, i
 use Rattle.rules.specs.Promotion.{holds}
 use Rattle.rules.specs.Chain.{sameType, wider, unitAllowed, chain}
 use Rattle.rules.specs.Pairs.{pairRule}
-use Rattle.values.specs.Value.{Value, Values, vnil, vcons}
+use Rattle.values.specs.Value.{Value, Values, vnil, vcons, isNullValue}
 use Rattle.plan.specs.Result.{Result, gives, refuses, demand, Answer, accepted, refusedAt, placed}
 use Rattle.plan.specs.Selector.{Selector, Selectors}
 use Rattle.plan.specs.Encode.{encodePlan}
 use Rattle.plan.specs.Read.{longestPlan}
 use Rattle.plan.proofs.Results.{both}
 use Rattle.defaults.specs.Table.{Given, initial, partition, failed, Entry}
-use Rattle.defaults.specs.Lookup.{Taken, refused as refusedTaken, nothing, taken, isNullValue, unlessNull, ofSource, givenTo, firstEntry, isPartitionOf, isInitialOf, getDefaultValue}
+use Rattle.defaults.specs.Lookup.{Taken, refused as refusedTaken, nothing, taken, unlessNull, ofSource, givenTo, firstEntry, isPartitionOf, isInitialOf, getDefaultValue}
 use Rattle.matching.specs.Default.{Defaults, noDefaults, leafDefault, buildIcebergDefaultValue, defaultsOf, missingValue}
 use Rattle.matching.specs.Build.{leafPart, structPart, listPart, arrayPart, unlessNullType, sameElement, distinct, distinctNames, missing, ruled, sought, attachTransforms, attachFields, isAbsent, extraColumnErr, extraColumns, buildColumnSelector, buildFrom, build}
 use Rattle.matching.specs.Calls.{roomFor, writtenPlan}

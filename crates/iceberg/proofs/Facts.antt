@@ -6,10 +6,10 @@ use mathlib.Core.List.{List}
 use Rattle.layout.specs.Parser.{choose}
 use Rattle.layout.specs.Tree.{LeafType}
 use Rattle.layout.specs.declared.columns.FieldId.{FieldId}
-use Rattle.values.specs.Value.{Value, Values, vnil, vcons}
+use Rattle.values.specs.Value.{Value, Values, vnil, vcons, isNullValue}
 use Rattle.plan.proofs.Results.{true≠false}
 use Rattle.defaults.specs.Table.{initial, partition, failed, Entry}
-use Rattle.defaults.specs.Lookup.{Taken, refused, nothing, taken, isNullValue, unlessNull, ofSource, givenTo, isPartitionOf, isInitialOf, getDefaultValue}
+use Rattle.defaults.specs.Lookup.{Taken, refused, nothing, taken, unlessNull, ofSource, givenTo, isPartitionOf, isInitialOf, getDefaultValue}
 use Rattle.matching.specs.Default.{Defaults, noDefaults}
 use Rattle.matching.proofs.Entries.{Match, unmatched, matched, matchOf, ofMatch, first-match, partition-is, initial-is}
 use Rattle.iceberg.specs.Specification.{PartitionValue, noTransform, partitioned, InitialDefault, undefined, defined}

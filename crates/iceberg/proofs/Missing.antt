@@ -7,11 +7,11 @@ use Rattle.layout.specs.Parser.{choose}
 use Rattle.layout.specs.Tree.{LeafType, Label, ColumnType, cleaf, cstruct, clist, carray, Columns, cnil, ccons}
 use Rattle.layout.specs.declared.columns.FieldId.{FieldId}
 use Rattle.layout.proofs.Ways.{clash}
-use Rattle.values.specs.Value.{Value, vnull, vstruct, vlist, Values}
+use Rattle.values.specs.Value.{Value, vnull, vstruct, vlist, Values, isNullValue}
 use Rattle.plan.specs.Result.{gives}
 use Rattle.plan.proofs.Results.{true≠false, never-refused, gives-eq, bind-gives, demand-gives}
 use Rattle.defaults.specs.Table.{Entry}
-use Rattle.defaults.specs.Lookup.{Taken, isNullValue, getDefaultValue}
+use Rattle.defaults.specs.Lookup.{Taken, getDefaultValue}
 use Rattle.matching.specs.Default.{Default, none, some, orNull, isSome, leafDefault, FieldDefaults, withField, structDefault, buildIcebergDefaultValue}
 use Rattle.matching.specs.Default.{defaultsOf, missingValue, noDefaults}
 use Rattle.iceberg.specs.Specification.{PartitionValue, noTransform, notPresent, nullPresent, partitioned, InitialDefault, undefined, defined, empty}

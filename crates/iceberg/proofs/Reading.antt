@@ -12,7 +12,7 @@ use Rattle.layout.specs.declared.version.Version.the-variants.{ByNumber}
 use Rattle.layout.proofs.Ways.{clash}
 use Rattle.rules.specs.declared.policy.Policy.{Policy}
 use Rattle.rules.specs.declared.outcome.CastOption.{CastOption}
-use Rattle.values.specs.Value.{Value, vnull, Values}
+use Rattle.values.specs.Value.{Value, vnull, Values, isNullValue}
 use Rattle.values.specs.Fits.{Fits, fit-null, fit-struct, fit-list, fit-array, FitsAll, FitsEach, each-nil, each-cons}
 use Rattle.plan.specs.Result.{gives, accepted}
 use Rattle.plan.specs.Selector.{Selector, Selectors}
@@ -20,7 +20,7 @@ use Rattle.plan.specs.Check.{castFits}
 use Rattle.plan.specs.Run.{mapValues, onStruct, onList, onArray, evals}
 use Rattle.plan.proofs.Results.{true≠false}
 use Rattle.defaults.specs.Table.{Entry}
-use Rattle.defaults.specs.Lookup.{isNullValue, getDefaultValue}
+use Rattle.defaults.specs.Lookup.{getDefaultValue}
 use Rattle.matching.specs.Default.{Defaults, missingValue}
 use Rattle.matching.specs.Build.{sameElement, elementDefaultId, build}
 use Rattle.matching.specs.Due.{dueLeaf, orElseNull, fromCounterpart, due, dues}

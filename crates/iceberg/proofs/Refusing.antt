@@ -18,11 +18,11 @@ use Rattle.rules.specs.declared.policy.MissingColumnsPolicy.{MissingColumnsPoli
 use Rattle.rules.specs.declared.policy.ExtraColumnsPolicy.{ExtraColumnsPolicy}
 use Rattle.rules.specs.Outcomes.{Verdict, untouched}
 use Rattle.rules.specs.Pairs.{pairRule}
-use Rattle.values.specs.Value.{Value, Values, vnil, vcons}
+use Rattle.values.specs.Value.{Value, Values, vnil, vcons, isNullValue}
 use Rattle.plan.specs.Result.{Result, gives, refuses, _>>=_, demand, Answer, accepted, refusedAt, placed, answered}
 use Rattle.plan.proofs.Results.{gives-eq, true≠false, both, demand-gives}
 use Rattle.defaults.specs.Table.{Given, initial, partition, failed, Entry}
-use Rattle.defaults.specs.Lookup.{Taken, refused, nothing, taken, isNullValue, unlessNull, ofSource, givenTo, isPartitionOf, isInitialOf, firstEntry}
+use Rattle.defaults.specs.Lookup.{Taken, refused, nothing, taken, unlessNull, ofSource, givenTo, isPartitionOf, isInitialOf, firstEntry}
 use Rattle.defaults.specs.Lookup.{getDefaultValue}
 use Rattle.matching.specs.Default.{noDefaults, leafDefault, buildIcebergDefaultValue, defaultsOf, missingValue}
 use Rattle.matching.specs.Build.{Element, leafPart, structPart, listPart, arrayPart, unlessNullType, renamed, elementDefaultId, sameElement, isAbsent, distinct}

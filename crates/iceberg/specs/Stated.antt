@@ -4,9 +4,9 @@ use mathlib.Core.Bool.{Bool, true, false}
 use mathlib.Core.List.{List}
 use Rattle.layout.specs.Parser.{choose}
 use Rattle.layout.specs.declared.columns.FieldId.{FieldId}
-use Rattle.values.specs.Value.{Values, vnil, vcons}
+use Rattle.values.specs.Value.{Values, vnil, vcons, isNullValue}
 use Rattle.defaults.specs.Table.{Given, initial, partition, failed, Entry}
-use Rattle.defaults.specs.Lookup.{isNullValue, isPartitionOf, isInitialOf, firstEntry}
+use Rattle.defaults.specs.Lookup.{isPartitionOf, isInitialOf, firstEntry}
 use Rattle.iceberg.specs.Specification.{PartitionValue, noTransform, notPresent, nullPresent, partitioned, InitialDefault, undefined, defined, empty}
 use Rattle.iceberg.specs.Specification.{Metadata}
 

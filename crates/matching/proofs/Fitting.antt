@@ -11,7 +11,7 @@ use Rattle.layout.specs.declared.columns.FieldId.{FieldId}
 use Rattle.layout.proofs.Ways.{clash}
 use Rattle.layout.proofs.View.{next-ok}
 use Rattle.forms.proofs.Equal.{same-dtype-eq}
-use Rattle.values.specs.Value.{Value, Values}
+use Rattle.values.specs.Value.{Value, Values, isNullValue}
 use Rattle.values.specs.Reading.{value, times}
 use Rattle.values.specs.Fits.{Fits, fit-null, fit-struct, FitsAll, all-nil, all-cons, FitsEach, each-nil, each-cons}
 use Rattle.values.proofs.Round.{value-fits}
@@ -23,7 +23,7 @@ use Rattle.defaults.specs.Table.{partitionEntry, givenOf, tableNumber, entry, o
 use Rattle.defaults.specs.declared.read.EntryKind.{EntryKind}
 use Rattle.defaults.specs.declared.read.EntryKind.the-variants.{Initial, Partition}
 use Rattle.defaults.specs.declared.read.TableVersion.{TableVersion}
-use Rattle.defaults.specs.Lookup.{Taken, refused, nothing, taken, isNullValue, unlessNull, ofSource, givenTo, isPartitionOf, isInitialOf, firstEntry, getDefaultValue}
+use Rattle.defaults.specs.Lookup.{Taken, refused, nothing, taken, unlessNull, ofSource, givenTo, isPartitionOf, isInitialOf, firstEntry, getDefaultValue}
 use Rattle.matching.specs.Default.{Defaults, noDefaults, Default, none, some, orNull, leafDefault, FieldDefaults, structDefault, withField, buildIcebergDefaultValue, defaultsOf, missingValue}
 use Rattle.matching.proofs.Entries.{Match, unmatched, matched, matchOf, ofMatch, first-match}
 

@@ -8,7 +8,7 @@ use lib.ListN.{length, take, drop}
 use borrow.Author.Tests.{lt-ltb}
 use Rattle.layout.specs.Bytes.{Bytes}
 use Rattle.layout.specs.Parser.{ok, next, chunk, u16}
-use Rattle.layout.specs.Tree.{leafOf, DataType, leaf, list, clist, carray, dtypeOf}
+use Rattle.layout.specs.Tree.{leafOf, DataType, leaf, struct, list, array, clist, carray, dtypeOf}
 use Rattle.layout.specs.Layout.{Kind, kind, elementLabel, type, body, listType, arrayType}
 use Rattle.layout.specs.Answers.{headRes, leafAt, shortRes, labelRes}
 use Rattle.layout.specs.declared.cursor.Cursor.{Cursor}
@@ -25,9 +25,9 @@ use Rattle.layout.specs.declared.edition.Edition.{Edition}
 use Rattle.layout.proofs.Ways.{clash}
 use Rattle.layout.proofs.View.{next-ok, leaf-at, struct-at, array-at}
 use Rattle.layout.proofs.Leaves.{leaf-of-type}
-use Rattle.values.specs.Value.{Value, vnumber, vtext, vstruct, vlist, varray, Values, vnil, vcons, countValues}
+use Rattle.values.specs.Value.{Value, vnumber, vtext, vstruct, vlist, varray, Values, vnil, vcons, countValues, isNullValue}
 use Rattle.values.specs.Content.{contentOf}
-use Rattle.values.specs.Reading.{flag, little, longText, contentBy, leafContent, listContent, content as contentOfType, decimal}
+use Rattle.values.specs.Reading.{flag, little, longText, contentBy, leafContent, listContent, structContent, arrayContent, content as contentOfType, decimal}
 use Rattle.values.specs.Stands.{ContentAt}
 use Rattle.values.specs.declared.content.Content.{Content}
 use Rattle.values.specs.declared.content.Content.the-variants.{Nothing, Flag, Number, Decimal, Text}
@@ -55,15 +55,16 @@ filled-counted (vcons v vs) {n} e = lt-ltb 0 n (omega arith)
 pub record LeafValue (x : Value) : Type 0 where
   pub parts : isStruct x ≡ false
   pub elements : isFilled x ≡ false
+  pub present : isNullValue x ≡ false
   pub part : (k : ℕ) (f : Value → Bool) → somePart k f x ≡ false
 
 of-number : (x : Value) {k : Leaf} {n : ℕ} → vnumber k n ≡ x → LeafValue x
 unfolding isStruct isFilled somePart
-of-number x e = record { parts = ap isStruct (sym e); elements = ap isFilled (sym e); part = λ k f. ap (somePart k f) (sym e) }
+of-number x e = record { parts = ap isStruct (sym e); elements = ap isFilled (sym e); present = ap isNullValue (sym e); part = λ k f. ap (somePart k f) (sym e) }
 
 of-text : (x : Value) {b : Bytes} → vtext b ≡ x → LeafValue x
 unfolding isStruct isFilled somePart
-of-text x e = record { parts = ap isStruct (sym e); elements = ap isFilled (sym e); part = λ k f. ap (somePart k f) (sym e) }
+of-text x e = record { parts = ap isStruct (sym e); elements = ap isFilled (sym e); present = ap isNullValue (sym e); part = λ k f. ap (somePart k f) (sym e) }
 
 content-leaf : (c : Content) (k : Leaf) (s : Bytes) (at : ℕ) (x : Value) {m : ℕ} → contentBy c k s at ≡ ok x m → LeafValue x
 unfolding contentBy
@@ -72,6 +73,24 @@ content-leaf Flag k s at x e = let (b, i, h, g) = next-ok (flag s at) _ e in of-
 content-leaf (Decimal p) k s at x e = let (n, i, h, g) = next-ok (decimal p s at) _ e in of-number x {k = k} {n = n} (cc)
 content-leaf (Number w) k s at x e = let (b, i, h, g) = next-ok (chunk w s at) _ e in of-number x {k = k} {n = little b} (cc)
 content-leaf Text k s at x e = let (b, i, h, g) = next-ok (longText s at) _ e in of-text x {b = b} (cc)
+
+-- nothing that is present is null
+pub content-present : (t : DataType) (s : Bytes) (at : ℕ) (x : Value) {m : ℕ} → contentOfType t s at ≡ ok x m → false ≡ isNullValue x
+unfolding contentOfType leafContent structContent listContent arrayContent
+content-present (leaf l) s at x e = sym (content-leaf _ _ s at x e .present)
+content-present (struct fs) s at x e =
+    let (vs, i, h, g) = next-ok _ _ e in
+    let z : vstruct vs ≡ x = cc in
+    ap isNullValue z
+content-present (list t) s at x e =
+    let (n, i, h, g) = next-ok _ _ e in
+    let (vs, j, k, f) = next-ok _ _ g in
+    let z : vlist vs ≡ x = cc in
+    ap isNullValue z
+content-present (array w t) s at x e =
+    let (vs, i, h, g) = next-ok _ _ e in
+    let z : varray vs ≡ x = cc in
+    ap isNullValue z
 
 -- one that is no date-time is never beyond
 timeless-number : (d : Bounds) (u : TimeUnit) (x : Value) (k : Leaf) (n : ℕ) → timeOf k ≡ Never → vnumber k n ≡ x → isBeyond d u x ≡ false

@@ -25,10 +25,10 @@ use Rattle.values.specs.Stands.{EachAt}
 use Rattle.values.proofs.Inside.{list-in, first-each, no-each}
 use Rattle.plan.specs.Run.{valueAt}
 use Rattle.nodes.specs.Raw.{RawAt, ElementsAt, ListOf}
-use Rattle.overflow.specs.Want.{meets}
-use Rattle.overflow.specs.Some.{anyOf, somePart, some}
+use Rattle.overflow.specs.Some.{anyOf, somePart, some, isSought, someSought}
 use Rattle.overflow.specs.declared.want.Want.{Want}
-use Rattle.overflow.proofs.Clean.{some-null}
+use Rattle.overflow.specs.declared.scan.Sought.{Sought}
+use Rattle.overflow.proofs.Clean.{meets-null, some-null}
 use Rattle.overflow.proofs.Raw.{LeafValue}
 
 pub path-end : (from len : ℕ) (path : List ℕ) → from ≡ len → slice from len path ≡ []
@@ -42,34 +42,55 @@ path-cons d len path h k = rw add-one (slice-cons d len path 0 h k)
 pub null-none : (w : Want) (p : List ℕ) {x : Value} → x ≡ vnull → false ≡ some w p x
 null-none w p e = sym (ap (some w p) e ∙ some-null w p)
 
-pub at-end : (w : Want) {p : List ℕ} {x y : Value} {b : Bool} → p ≡ [] → x ≡ y → b ≡ meets w x → b ≡ some w p y
-unfolding some
-at-end w {x = x} {y = y} e f h = rw (e, ← f) h
+pub sought-present : (w : Want) (p : List ℕ) (x : Value) → someSought (Sought.Present w) p x ≡ some w p x
+unfolding some someSought
+sought-present w [] x = refl
+sought-present w (k ∷ p) x = λ i. somePart k (λ y. sought-present w p y i) x
 
-pub same-node : (w : Want) (p : List ℕ) {x y : Value} {b : Bool} → x ≡ y → b ≡ some w p x → b ≡ some w p y
-same-node w p e h = h ∙ ap (some w p) e
+pub at-end : (q : Sought) {p : List ℕ} {x y : Value} {b : Bool} → p ≡ [] → x ≡ y → b ≡ isSought q x → b ≡ someSought q p y
+unfolding someSought
+at-end q {x = x} {y = y} e f h = rw (e, ← f) h
+
+pub same-node : (q : Sought) (p : List ℕ) {x y : Value} {b : Bool} → x ≡ y → b ≡ someSought q p x → b ≡ someSought q p y
+same-node q p e h = h ∙ ap (someSought q p) e
+
+-- a null, where the path goes on and at its end
+module _ (q : Sought) {from len : ℕ} (path : List ℕ) (a : from ≤ len) (b : len ≤ length path) where
+  pub null-further : from < len → false ≡ someSought q (slice from len path) vnull
+  unfolding someSought somePart
+  null-further h = sym (ap (λ (p : List ℕ). someSought q p vnull) (path-cons from len path h b))
+
+  null-here : len ≤ from → isSought q vnull ≡ someSought q (slice from len path) vnull
+  unfolding someSought
+  null-here h = sym (ap (λ (p : List ℕ). someSought q p vnull) (path-end from len path (omega arith)))
+
+  pub null-found : len ≤ from → q ≡ Sought.Null → true ≡ someSought q (slice from len path) vnull
+  null-found h e = sym (ap (λ (x : Sought). isSought x vnull) e) ∙ null-here h
+
+  pub null-unwanted : len ≤ from → {w : Want} → q ≡ Sought.Present w → false ≡ someSought q (slice from len path) vnull
+  null-unwanted h {w} e = sym (meets-null w) ∙ sym (ap (λ (x : Sought). isSought x vnull) e) ∙ null-here h
 
 -- ---- a step of the path
 
-module _ (w : Want) {p : List ℕ} {k : ℕ} {q : List ℕ} (e : p ≡ k ∷ q) where
-  stepped : (x : Value) → some w p x ≡ somePart k (λ y. some w q y) x
-  unfolding some
-  stepped x = ap (λ (r : List ℕ). some w r x) e
+module _ (w : Sought) {p : List ℕ} {k : ℕ} {q : List ℕ} (e : p ≡ k ∷ q) where
+  stepped : (x : Value) → someSought w p x ≡ somePart k (λ y. someSought w q y) x
+  unfolding someSought
+  stepped x = ap (λ (r : List ℕ). someSought w r x) e
 
-  pub leaf-step : {x : Value} → LeafValue x → false ≡ some w p x
-  leaf-step {x} L = sym (stepped x ∙ L .part k (λ y. some w q y))
+  pub leaf-step : {x : Value} → LeafValue x → false ≡ someSought w p x
+  leaf-step {x} L = sym (stepped x ∙ L .part k (λ y. someSought w q y))
 
-  pub struct-step : {x : Value} {vs : Values} {b : Bool} → x ≡ vstruct vs → b ≡ some w q (valueAt vs k) → b ≡ some w p x
+  pub struct-step : {x : Value} {vs : Values} {b : Bool} → x ≡ vstruct vs → b ≡ someSought w q (valueAt vs k) → b ≡ someSought w p x
   unfolding somePart
-  struct-step {x} f h = h ∙ sym (stepped x ∙ ap (somePart k (λ y. some w q y)) f)
+  struct-step {x} f h = h ∙ sym (stepped x ∙ ap (somePart k (λ y. someSought w q y)) f)
 
-  pub list-step : {x y : Value} {vs : Values} {b : Bool} → x ≡ vlist vs → y ≡ x → b ≡ somePart 0 (λ z. some w q z) y → b ≡ some w p x
+  pub list-step : {x y : Value} {vs : Values} {b : Bool} → x ≡ vlist vs → y ≡ x → b ≡ somePart 0 (λ z. someSought w q z) y → b ≡ someSought w p x
   unfolding somePart
-  list-step {x} f g h = h ∙ ap (somePart 0 (λ z. some w q z)) (g ∙ f) ∙ sym (stepped x ∙ ap (somePart k (λ z. some w q z)) f)
+  list-step {x} f g h = h ∙ ap (somePart 0 (λ z. someSought w q z)) (g ∙ f) ∙ sym (stepped x ∙ ap (somePart k (λ z. someSought w q z)) f)
 
-  pub array-step : {x : Value} {vs : Values} {b : Bool} → x ≡ varray vs → b ≡ anyOf (λ y. some w q y) vs → b ≡ some w p x
+  pub array-step : {x : Value} {vs : Values} {b : Bool} → x ≡ varray vs → b ≡ anyOf (λ y. someSought w q y) vs → b ≡ someSought w p x
   unfolding somePart
-  array-step {x} f h = h ∙ sym (stepped x ∙ ap (somePart k (λ y. some w q y)) f)
+  array-step {x} f h = h ∙ sym (stepped x ∙ ap (somePart k (λ y. someSought w q y)) f)
 
 -- ---- a list's elements, after its count
 

@@ -3,11 +3,12 @@
 use Prim.Native.Nat.{ℕ}
 use mathlib.Core.Bool.{Bool, false, _||_}
 use mathlib.Core.List.{List, [], _∷_}
-use Rattle.values.specs.Value.{Value, vnull, vnumber, vtext, voverflow, vstruct, vlist, varray, Values, vnil, vcons}
+use Rattle.values.specs.Value.{Value, vnull, vnumber, vtext, voverflow, vstruct, vlist, varray, Values, vnil, vcons, isNullValue}
 use Rattle.plan.specs.Run.{valueAt, eval}
 use Rattle.walk.specs.State.{Frame, fields, element, State}
-use Rattle.overflow.specs.Want.{meets}
+use Rattle.overflow.specs.Want.{meets, SmallWant}
 use Rattle.overflow.specs.declared.want.Want.{Want}
+use Rattle.overflow.specs.declared.scan.Sought.{Sought}
 
 -- one of the values is such
 unfoldable pub anyOf : (Value → Bool) → Values → Bool
@@ -27,6 +28,20 @@ somePart k f (varray vs) = anyOf f vs
 unfoldable pub some : Want → List ℕ → Value → Bool
 some w [] v = meets w v
 some w (k ∷ p) v = somePart k (λ x. some w p x) v
+
+-- a null, or a value such as is wanted
+abbrev pub isSought : Sought → Value → Bool
+isSought Sought.Null v = isNullValue v
+isSought (Sought.Present w) v = meets w v
+
+abbrev pub SmallSought : Sought → Type 0
+SmallSought Sought.Null = Unit {0}
+SmallSought (Sought.Present w) = SmallWant w
+
+-- whether one of the nodes at a path is such as is sought
+unfoldable pub someSought : Sought → List ℕ → Value → Bool
+someSought q [] v = isSought q v
+someSought q (k ∷ p) v = somePart k (λ x. someSought q p x) v
 
 -- f of the fields of a struct
 unfoldable pub inStruct : (Values → Bool) → Value → Bool

@@ -1,12 +1,16 @@
-// What stands in a value at a path that takes every element of the lists and arrays it goes through. The value stands in a record, or in a plan as a constant.
+// What stands in a value at a path that takes every element of the lists and arrays it goes through. The value stands in a
+// record, or in a plan as a constant.
 ghost use mathlib.Core.Path.{_≡_};
 ghost use Prim.Native.Nat.{_<_, _≤_};
 ghost use lib.ListN.{length};
 ghost use lib.Seq.{slice};
 ghost use Rattle.ends.specs.Ends.{Ends};
 ghost use Rattle.nodes.specs.Raw.{RawAt, ElementsAt, ListOf, PresentAt};
+ghost use mathlib.Core.List.{List};
+ghost use Prim.Native.Nat.{ℕ};
+ghost use Rattle.values.specs.Value.{vnull};
 ghost use Rattle.overflow.specs.Want.{Small, SmallWant, isBeyond, isStruct, isFilled, meets};
-ghost use Rattle.overflow.specs.Some.{anyOf, somePart, some};
+ghost use Rattle.overflow.specs.Some.{anyOf, somePart, SmallSought, isSought, someSought};
 use crate::want::Bounds;
 use crate::want::Timed;
 use crate::want::Want;
@@ -25,6 +29,12 @@ use values::leaf::Presence;
 use values::leaf::number_at;
 use values::leaf::read_presence;
 use values::read::read_element;
+
+// A null; or a value that is present, such as is wanted.
+pub enum Sought {
+    Null,
+    Present(Want),
+}
 
 // ---- a value that is present, at the path's end
 
@@ -97,9 +107,34 @@ fn present_meets(lay: &[u8], v: Edition, t: Cursor, rec: &[u8], c: Cursor, want:
     }
 }
 
+fn present_sought(lay: &[u8], v: Edition, t: Cursor, rec: &[u8], c: Cursor, sought: Sought) -> bool
+    requires { ⌜ PresentAt v (now lay) (t .at) (now rec) (c .at) ⌝ }
+    requires { ⌜ SmallSought sought ⌝ }
+    ensures { λ r. ⌜ ((X : PresentAt v (now (lay .entry)) (t .at) (now (rec .entry)) (c .at)) → r ≡ isSought sought (X .content .tree)) ⌝ }
+{
+    match sought {
+        Sought::Null => false,
+        Sought::Present(want) => present_meets(lay, v, t, rec, c, want),
+    }
+}
+
+// ---- a null, with the path from `from` to `len` left
+
+fn null_sought(sought: Sought, from: usize, len: usize) -> bool
+    ensures { λ r. ⌜ ((path : List ℕ) → from ≤ len → len ≤ length path → r ≡ someSought sought (slice from len path) vnull) ⌝ }
+{
+    if from < len {
+        return false;
+    }
+    match sought {
+        Sought::Null => true,
+        Sought::Present(_) => false,
+    }
+}
+
 // ---- along the path
 
-// Whether one of the nodes at the rest of the path is such as is wanted.
+// Whether one of the nodes at the rest of the path is such as is sought.
 pub fn some_at(
     lay: &[u8],
     v: Edition,
@@ -109,21 +144,21 @@ pub fn some_at(
     path: [u16; 64],
     from: usize,
     len: usize,
-    want: Want,
+    sought: Sought,
     table: &[u16],
 ) -> bool
     requires { ⌜ Ends v (now lay) (now table) ⌝ }
     requires { ⌜ RawAt v (now lay) (t .at) (now rec) (c .at) ⌝ }
-    requires { ⌜ (from ≤ len) × (len ≤ length path) × SmallWant want ⌝ }
-    ensures { λ r. ⌜ ((X : RawAt v (now (lay .entry)) (t .at) (now (rec .entry)) (c .at)) → r ≡ some want (slice from len path) (X .value .tree)) ⌝ }
+    requires { ⌜ (from ≤ len) × (len ≤ length path) × SmallSought sought ⌝ }
+    ensures { λ r. ⌜ ((X : RawAt v (now (lay .entry)) (t .at) (now (rec .entry)) (c .at)) → r ≡ someSought sought (slice from len path) (X .value .tree)) ⌝ }
 {
     match read_presence(rec, c) {
-        Presence::Null(_) => false,
+        Presence::Null(_) => null_sought(sought, from, len),
         Presence::Present(d) => {
             if from == len {
-                present_meets(lay, v, t, rec, d, want)
+                present_sought(lay, v, t, rec, d, sought)
             } else {
-                some_part(lay, v, t, rec, d, path, from, len, want, table)
+                some_part(lay, v, t, rec, d, path, from, len, sought, table)
             }
         }
         Presence::Refused(_) => false,
@@ -140,22 +175,33 @@ fn some_part(
     path: [u16; 64],
     from: usize,
     len: usize,
-    want: Want,
+    sought: Sought,
     table: &[u16],
 ) -> bool
     requires { ⌜ Ends v (now lay) (now table) ⌝ }
     requires { ⌜ PresentAt v (now lay) (t .at) (now rec) (c .at) ⌝ }
-    requires { ⌜ (from < len) × (len ≤ length path) × SmallWant want ⌝ }
-    ensures { λ r. ⌜ ((X : PresentAt v (now (lay .entry)) (t .at) (now (rec .entry)) (c .at)) → r ≡ some want (slice from len path) (X .content .tree)) ⌝ }
+    requires { ⌜ (from < len) × (len ≤ length path) × SmallSought sought ⌝ }
+    ensures { λ r. ⌜ ((X : PresentAt v (now (lay .entry)) (t .at) (now (rec .entry)) (c .at)) → r ≡ someSought sought (slice from len path) (X .content .tree)) ⌝ }
 {
     match t.head(lay) {
         Head::Leaf(_, _) => false,
         Head::Struct(n, e) => match field_at(lay, v, n, e, rec, c, path[from], table) {
-            NodeAt::At(f, d) => some_at(lay, v, f, rec, d, path, from + 1, len, want, table),
-            NodeAt::Null => false,
+            NodeAt::At(f, d) => some_at(lay, v, f, rec, d, path, from + 1, len, sought, table),
+            NodeAt::Null => null_sought(sought, from + 1, len),
         },
         Head::List(e) => match e.element_label(lay, v) {
-            Labelled::Is(_, f) => some_listed(lay, v, f, rec, c, path, from + 1, len, want, table),
+            Labelled::Is(_, f) => some_listed(
+                lay,
+                v,
+                f,
+                rec,
+                c,
+                path,
+                from + 1,
+                len,
+                sought,
+                table,
+            ),
             Labelled::Refused(_) => false,
         },
         Head::Array(w, e) => match e.element_label(lay, v) {
@@ -169,7 +215,7 @@ fn some_part(
                 path,
                 from + 1,
                 len,
-                want,
+                sought,
                 table,
             ),
             Labelled::Refused(_) => false,
@@ -188,16 +234,28 @@ fn some_listed(
     path: [u16; 64],
     from: usize,
     len: usize,
-    want: Want,
+    sought: Sought,
     table: &[u16],
 ) -> bool
     requires { ⌜ Ends v (now lay) (now table) ⌝ }
     requires { ⌜ ListOf v (now lay) (t .at) (now rec) (c .at) ⌝ }
-    requires { ⌜ (from ≤ len) × (len ≤ length path) × SmallWant want ⌝ }
-    ensures { λ r. ⌜ ((X : ListOf v (now (lay .entry)) (t .at) (now (rec .entry)) (c .at)) → r ≡ somePart 0 (λ x. some want (slice from len path) x) (X .content .tree)) ⌝ }
+    requires { ⌜ (from ≤ len) × (len ≤ length path) × SmallSought sought ⌝ }
+    ensures { λ r. ⌜ ((X : ListOf v (now (lay .entry)) (t .at) (now (rec .entry)) (c .at)) → r ≡ somePart 0 (λ x. someSought sought (slice from len path) x) (X .content .tree)) ⌝ }
 {
     match c.short(rec) {
-        Short::Is(n, d) => some_element(lay, v, n as u32, t, rec, d, path, from, len, want, table),
+        Short::Is(n, d) => some_element(
+            lay,
+            v,
+            n as u32,
+            t,
+            rec,
+            d,
+            path,
+            from,
+            len,
+            sought,
+            table,
+        ),
         Short::Refused(_) => false,
     }
 }
@@ -213,19 +271,19 @@ fn some_element(
     path: [u16; 64],
     from: usize,
     len: usize,
-    want: Want,
+    sought: Sought,
     table: &[u16],
 ) -> bool
     requires { ⌜ Ends v (now lay) (now table) ⌝ }
     requires { ⌜ ElementsAt v (now lay) n (t .at) (now rec) (c .at) ⌝ }
-    requires { ⌜ (from ≤ len) × (len ≤ length path) × SmallWant want ⌝ }
-    ensures { λ r. ⌜ ((X : ElementsAt v (now (lay .entry)) n (t .at) (now (rec .entry)) (c .at)) → r ≡ anyOf (λ x. some want (slice from len path) x) (X .values .values)) ⌝ }
+    requires { ⌜ (from ≤ len) × (len ≤ length path) × SmallSought sought ⌝ }
+    ensures { λ r. ⌜ ((X : ElementsAt v (now (lay .entry)) n (t .at) (now (rec .entry)) (c .at)) → r ≡ anyOf (λ x. someSought sought (slice from len path) x) (X .values .values)) ⌝ }
 {
     let mut at = c.at;
     let mut i: u32 = 0;
     while i < n {
         let d = Cursor { at };
-        if some_at(lay, v, t, rec, d, path, from, len, want, table) {
+        if some_at(lay, v, t, rec, d, path, from, len, sought, table) {
             return true;
         }
         match read_element(lay, v, 16, t, rec, d, table) {

@@ -15,8 +15,9 @@ ghost use Rattle.nodes.specs.Raw.{RowAt};
 ghost use Rattle.walk.specs.State.{State};
 ghost use Rattle.walk.specs.Standing.{WalkAt};
 ghost use Rattle.overflow.specs.Want.{SmallWant};
-ghost use Rattle.overflow.specs.Some.{some};
+ghost use Rattle.overflow.specs.Some.{some, SmallSought, someSought};
 ghost use Rattle.overflow.specs.Seek.{RawIn, answered, ranStop, constantStop, timeStop, castStop, structStop, listStop, stopOf};
+use crate::scan::Sought;
 use crate::scan::some_at;
 use crate::want::Timed;
 use crate::want::Want;
@@ -67,16 +68,34 @@ fn in_column(
     ensures { λ r. ⌜ ((X : RowAt v (now (lay .entry)) n (columns .at) (now (rec .entry)) 0) → r ≡ some want (slice 0 len path) (valueAt (X .values .values) k)) ⌝ }
 {
     match column_value(lay, v, n, columns, rec, k, table) {
-        NodeAt::At(t, c) => some_at(lay, v, t, rec, c, path, 0, len, want, table),
+        NodeAt::At(t, c) => some_at(
+            lay,
+            v,
+            t,
+            rec,
+            c,
+            path,
+            0,
+            len,
+            Sought::Present(want),
+            table,
+        ),
         NodeAt::Null => false,
     }
 }
 
 // In a constant, whose type stands at `t`, at a path.
-fn in_constant(plan: &[u8], t: Cursor, path: [u16; 64], from: usize, len: usize, want: Want) -> bool
+pub fn in_constant(
+    plan: &[u8],
+    t: Cursor,
+    path: [u16; 64],
+    from: usize,
+    len: usize,
+    sought: Sought,
+) -> bool
     requires { ⌜ RawIn (now plan) (t .at) ⌝ }
-    requires { ⌜ (from ≤ len) × (len ≤ length path) × SmallWant want ⌝ }
-    ensures { λ r. ⌜ ((X : RawIn (now (plan .entry)) (t .at)) → r ≡ some want (slice from len path) (X .value .tree)) ⌝ }
+    requires { ⌜ (from ≤ len) × (len ≤ length path) × SmallSought sought ⌝ }
+    ensures { λ r. ⌜ ((X : RawIn (now (plan .entry)) (t .at)) → r ≡ someSought sought (slice from len path) (X .value .tree)) ⌝ }
 {
     let none: [u16; 1] = [0; 1];
     let c = skip_type(plan, Edition::One, 16, t);
@@ -89,7 +108,7 @@ fn in_constant(plan: &[u8], t: Cursor, path: [u16; 64], from: usize, len: usize,
         path,
         from,
         len,
-        want,
+        sought,
         &none[..0],
     )
 }
@@ -199,7 +218,7 @@ fn at_constant(plan: &[u8], t: Cursor, w: Walk, want: Want) -> Stop
     let path = w.path;
     let from = w.deep;
     let len = w.len;
-    if in_constant(plan, t, path, from, len, want) {
+    if in_constant(plan, t, path, from, len, Sought::Present(want)) {
         ran(plan, w)
     } else {
         Stop::No

@@ -13,3 +13,7 @@ pub mod Written
 pub mod ReadBack
 pub mod Theorems
 pub mod Moves
+pub mod Holds
+pub mod Sound
+pub mod Exact
+pub mod Paths

@@ -3,6 +3,9 @@ pub mod Selector
 pub mod Encode
 pub mod Read
 pub mod Check
+pub mod Nullness
+pub mod Marks
+pub mod Paths
 pub mod Convert
 pub mod Run
 pub mod Reach

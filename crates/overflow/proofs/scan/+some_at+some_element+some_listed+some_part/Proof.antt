@@ -1,5 +1,5 @@
 -- `overflow::scan::some_at`, `some_part`, `some_listed` and `some_element` meet their contracts: they call each other with the path getting shorter; the loop keeps `Scanning`. Assumes nothing.
-use Rattle.overflow.proofs.Scanning.{Scanning, path-end, path-cons, null-none, at-end, same-node, leaf-step, struct-step, list-step, array-step, list-elements, list-any, scanning-none, scanning-all, scanning-raw, scanning-found, scanning-stuck, scanning-more}
+use Rattle.overflow.proofs.Scanning.{Scanning, path-end, path-cons, at-end, same-node, leaf-step, struct-step, list-step, array-step, list-elements, list-any, scanning-none, scanning-all, scanning-raw, scanning-found, scanning-stuck, scanning-more}
 use Rattle.overflow.proofs.Raw.{leaf-value, struct-value, a-list, array-value}
 use Rattle.nodes.proofs.Node.{raw-present, raw-unread, list-is}
 use Rattle.values.proofs.Inside.{null-at, never-uncounted}
@@ -7,8 +7,9 @@ use Rattle.layout.proofs.View.{never-headless, list-labelled, array-labelled}
 use borrow.Author.Needs.{needs}
 use Prim.Native.Nat.{ℕ, _<_, _+_, _-_, _*_}
 use native.Mathlib.Omega.{arith}
+use mathlib.Core.Path.{sym}
 use lib.Seq.{slice}
-use Rattle.overflow.specs.Some.{some}
+use Rattle.overflow.specs.Some.{someSought}
 use borrow.Fn.Kinds.{In}
 use borrow.Fn.PlainCycle.{Measures, is, falls, and}
 use Rattle.overflow.proofs.scan.some_at.Reads as some-at
@@ -27,7 +28,8 @@ use Rattle.layout.proofs.cursor.Cursor.element_label.Reads as element-label-rea
 use Rattle.layout.proofs.cursor.Cursor.head.Reads as head-reads
 use Rattle.layout.proofs.cursor.Cursor.short.Reads as short-reads
 use Rattle.nodes.proofs.raw.field_at.Reads as field-at-reads
-use Rattle.overflow.proofs.scan.present_meets.Reads as present-meets-reads
+use Rattle.overflow.proofs.scan.null_sought.Reads as null-sought-reads
+use Rattle.overflow.proofs.scan.present_sought.Reads as present-sought-reads
 use Rattle.values.proofs.leaf.read_presence.Reads as read-presence-reads
 use Rattle.values.proofs.read.read_element.Reads as read-element-reads
 use Rattle.overflow.proofs.scan.+some_at+some_element+some_listed+some_part.{statement}
@@ -79,7 +81,7 @@ some-part-below t =
     and 3 some-part-kinds.ps (falls 3 some-part-kinds.ps _<_ μ-some-part t) some-part.Pre
 
 abbrev some-at-claims : ℕ → some-at-lts.Claims
-some-at-claims t = (read-presence-reads.Asked, read-presence-reads.Learnt, present-meets-reads.Asked, present-meets-reads.Learnt, some-part-below t, some-part.Post)
+some-at-claims t = (read-presence-reads.Asked, read-presence-reads.Learnt, null-sought-reads.Asked, null-sought-reads.Learnt, present-sought-reads.Asked, present-sought-reads.Learnt, some-part-below t, some-part.Post)
 
 abbrev some-element-claims : ℕ → some-element-lts.Claims
 some-element-claims t = (some-at-below t, some-at.Post, read-element-reads.Asked, read-element-reads.Learnt)
@@ -88,13 +90,13 @@ abbrev some-listed-claims : ℕ → some-listed-lts.Claims
 some-listed-claims t = (short-reads.Asked, short-reads.Learnt, some-element-below t, some-element.Post)
 
 abbrev some-part-claims : ℕ → some-part-lts.Claims
-some-part-claims t = (head-reads.Asked, head-reads.Learnt, field-at-reads.Asked, field-at-reads.Learnt, some-at-below t, some-at.Post, element-label-reads.Asked, element-label-reads.Learnt, some-listed-below t, some-listed.Post, some-element-below t, some-element.Post)
+some-part-claims t = (head-reads.Asked, head-reads.Learnt, field-at-reads.Asked, field-at-reads.Learnt, some-at-below t, some-at.Post, null-sought-reads.Asked, null-sought-reads.Learnt, element-label-reads.Asked, element-label-reads.Learnt, some-listed-below t, some-listed.Post, some-element-below t, some-element.Post)
 
 abbrev some-element-Inv-loop : some-element-lts.InvT-loop
-some-element-Inv-loop lay v n t rec path from len want table at₀ i₀ at i = Scanning v lay n (t .at) rec at₀ (λ x. some want (slice from len path) x) i at
+some-element-Inv-loop lay v n t rec path from len sought table at₀ i₀ at i = Scanning v lay n (t .at) rec at₀ (λ x. someSought sought (slice from len path) x) i at
 
 abbrev some-element-μ-loop : some-element-lts.MeasureT-loop
-some-element-μ-loop lay v n t rec path from len want table at₀ i₀ at i = n - i
+some-element-μ-loop lay v n t rec path from len sought table at₀ i₀ at i = n - i
 
 pub +some-at+some-element+some-listed+some-part-spec : {M : Type 1} → statement M
 +some-at+some-element+some-listed+some-part-spec =
@@ -103,12 +105,13 @@ pub +some-at+some-element+some-listed+some-part-spec : {M : Type 1} → statemen
     some-at.Post
     (λ c κs. search needs)
     (λ c. search needs)
+    (λ c κs. search needs)
     (λ c. search needs)
     (λ c κs. (raw-present (c .before .before .before .before .before .before .before .before .pre .1 .1 .0) (c .before .before .before .before .read-presence .ensures) (c .before .before .d .given .1) .inner, c .before .before .before .before .before .before .before .before .pre .1 .1 .1 .2))
     (λ c κs. (omega (arith, c .before .before .before .before .before .before .before .before .pre .0), (c .before .before .before .before .before .before .before .before .pre .1 .0, (raw-present (c .before .before .before .before .before .before .before .before .pre .1 .1 .0) (c .before .before .before .before .read-presence .ensures) (c .before .before .d .given .1) .inner, (omega (arith, c .before .before .before .before .before .before .before .before .pre .1 .1 .1 .0, c .if1 .left), c .before .before .before .before .before .before .before .before .pre .1 .1 .1 .1, c .before .before .before .before .before .before .before .before .pre .1 .1 .1 .2)))))
     (λ c. search needs)
-    (λ c. λ X. null-none _ _ (null-at (X .value) (c .before .before .read-presence .ensures) (c .enum-told .given .1) .0))
-    (λ c. λ X. let I = raw-present X (c .before .before .before .before .before .read-presence .ensures) (c .before .before .before .d .given .1) in at-end _ (path-end _ _ _ (c .before .if1 .taken)) (I .is) (c .present-meets .ensures (I .inner)))
+    (λ c. λ X. same-node _ _ (sym (null-at (X .value) (c .before .before .before .read-presence .ensures) (c .before .enum-told .given .1) .0)) (c .null-sought .ensures _ (c .before .before .before .before .before .before .before .pre .1 .1 .1 .0) (c .before .before .before .before .before .before .before .pre .1 .1 .1 .1)))
+    (λ c. λ X. let I = raw-present X (c .before .before .before .before .before .read-presence .ensures) (c .before .before .before .d .given .1) in at-end _ (path-end _ _ _ (c .before .if1 .taken)) (I .is) (c .present-sought .ensures (I .inner)))
     (λ c. λ X. let I = raw-present X (c .before .before .before .before .before .read-presence .ensures) (c .before .before .before .d .given .1) in same-node _ _ (I .is) (c .some-part .ensures (I .inner)))
     (λ c. λ X. raw-unread X (c .before .before .read-presence .ensures) (c .enum-told2 .given .1)))
     (λ t. some-element-lts.spec (some-element-claims t)
@@ -153,6 +156,8 @@ pub +some-at+some-element+some-listed+some-part-spec : {M : Type 1} → statemen
     (λ c. search needs)
     (λ c κs. search needs)
     (λ c. search needs)
+    (λ c κs. search needs)
+    (λ c. search needs)
     (λ c. search needs)
     (λ c κs. (omega (arith, c .before .before .before .before .before .before .before .before .before .before .before .pre .0, c .before .before .before .before .before .before .before .before .before .before .before .pre .1 .1 .1 .0), (c .before .before .before .before .before .before .before .before .before .before .before .pre .1 .0, (list-is (c .before .before .before .before .before .before .before .before .before .before .before .pre .1 .1 .0) (c .before .before .before .before .before .before .before .head .ensures .0) (c .before .before .before .element-label .ensures .0) (c .before .f2 .given .1) (c .before .before .before .before .before .e .given .1) .inner, (omega (arith, c .before .before .before .before .before .before .before .before .before .before .before .pre .1 .1 .1 .0), c .before .before .before .before .before .before .before .before .before .before .before .pre .1 .1 .1 .1, c .before .before .before .before .before .before .before .before .before .before .before .pre .1 .1 .1 .2)))))
     (λ c. search needs)
@@ -165,7 +170,7 @@ pub +some-at+some-element+some-listed+some-part-spec : {M : Type 1} → statemen
     (λ c. search needs)
     (λ c. λ X. leaf-step _ (path-cons _ _ _ (c .before .before .before .before .before .before .pre .1 .1 .1 .0) (c .before .before .before .before .before .before .pre .1 .1 .1 .1)) (leaf-value X (c .before .before .head .ensures .0) (c .enum-told .given .1)))
     (λ c. λ X. let S = struct-value X (c .before .before .before .before .before .before .before .before .head .ensures .0) (c .before .before .before .before .before .before .n .given .1) in let N = c .before .before .before .before .field-at .ensures (S .row) .here _ _ (c .before .before .f .given .1) in struct-step _ (path-cons _ _ _ (c .before .before .before .before .before .before .before .before .before .before .before .before .pre .1 .1 .1 .0) (c .before .before .before .before .before .before .before .before .before .before .before .before .pre .1 .1 .1 .1)) (S .is) (same-node _ _ (N .is) (c .some-at .ensures (N .raw))))
-    (λ c. λ X. let S = struct-value X (c .before .before .before .before .before .before .head .ensures .0) (c .before .before .before .before .n .given .1) in struct-step _ (path-cons _ _ _ (c .before .before .before .before .before .before .before .before .before .before .pre .1 .1 .1 .0) (c .before .before .before .before .before .before .before .before .before .before .pre .1 .1 .1 .1)) (S .is) (null-none _ _ (c .before .before .field-at .ensures (S .row) .none (c .enum-told2 .given .1))))
+    (λ c. λ X. let S = struct-value X (c .before .before .before .before .before .before .before .head .ensures .0) (c .before .before .before .before .before .n .given .1) in struct-step _ (path-cons _ _ _ (c .before .before .before .before .before .before .before .before .before .before .before .pre .1 .1 .1 .0) (c .before .before .before .before .before .before .before .before .before .before .before .pre .1 .1 .1 .1)) (S .is) (same-node _ _ (sym (c .before .before .before .field-at .ensures (S .row) .none (c .before .enum-told2 .given .1))) (c .null-sought .ensures _ (omega (arith, c .before .before .before .before .before .before .before .before .before .before .before .pre .1 .1 .1 .0)) (c .before .before .before .before .before .before .before .before .before .before .before .pre .1 .1 .1 .1))))
     (λ c. λ X. let L = list-is X (c .before .before .before .before .before .before .before .before .head .ensures .0) (c .before .before .before .before .element-label .ensures .0) (c .before .before .f2 .given .1) (c .before .before .before .before .before .before .e .given .1) in list-step _ (path-cons _ _ _ (c .before .before .before .before .before .before .before .before .before .before .before .before .pre .1 .1 .1 .0) (c .before .before .before .before .before .before .before .before .before .before .before .before .pre .1 .1 .1 .1)) (a-list X (c .before .before .before .before .before .before .before .before .head .ensures .0) (c .before .before .before .before .before .before .e .given .1) .is) (L .is) (c .some-listed .ensures (L .inner)))
     (λ c. λ X. list-labelled (X .type) (c .before .before .before .before .before .before .head .ensures .0) (c .before .before .element-label .ensures .0) (c .before .before .before .before .e .given .1) (c .enum-told3 .given .1))
     (λ c. λ X. let A = array-value X (c .before .before .before .before .before .before .before .before .head .ensures .0) (c .before .before .before .before .element-label2 .ensures .0) (c .before .before .f3 .given .1) (c .before .before .before .before .before .before .w .given .1) in array-step _ (path-cons _ _ _ (c .before .before .before .before .before .before .before .before .before .before .before .before .pre .1 .1 .1 .0) (c .before .before .before .before .before .before .before .before .before .before .before .before .pre .1 .1 .1 .1)) (A .is) (c .some-element .ensures (A .elements)))

@@ -1,6 +1,7 @@
 -- `overflow::stop::in_column` meets its contract: the column where it stands, or none. Assumes nothing.
-use Rattle.overflow.proofs.Scanning.{null-none, same-node}
+use Rattle.overflow.proofs.Scanning.{null-none, sought-present, same-node}
 use native.Mathlib.Omega.{arith}
+use mathlib.Core.Path.{_∙_}
 use borrow.Author.Needs.{needs}
 use Rattle.overflow.proofs.stop.in_column.Statement.{statement}
 use Rattle.overflow.proofs.stop.in_column.Tie as tie
@@ -8,4 +9,8 @@ use Rattle.overflow.proofs.stop.in_column.Tie as tie
 pub in-column-spec : {M : Type 1} → statement M
 in-column-spec =
     tie.close
-    (tie.spec (λ c κs. search needs) (λ c. search needs) (λ c κs. (c .before .before .before .before .before .before .before .pre .0, (c .before .before .before .column-value .ensures (c .before .before .before .before .before .before .before .pre .1 .0) .here _ _ (c .before .t .given .1) .raw, (omega arith, c .before .before .before .before .before .before .before .pre .1 .1 .0, c .before .before .before .before .before .before .before .pre .1 .1 .1)))) (λ c. search needs) (λ c. λ X. let N = c .before .before .before .before .column-value .ensures X .here _ _ (c .before .before .t .given .1) in same-node _ _ (N .is) (c .some-at .ensures (N .raw))) (λ c. λ X. null-none _ _ (c .before .before .column-value .ensures X .none (c .enum-told .given .1))))
+    (tie.spec (λ c κs. search needs) (λ c. search needs) (λ c κs. (c .before .before .before .before .before .before .before .pre .0, (c .before .before .before .column-value .ensures (c .before .before .before .before .before .before .before .pre .1 .0) .here _ _ (c .before .t .given .1) .raw, (omega arith, c .before .before .before .before .before .before .before .pre .1 .1 .0, c .before .before .before .before .before .before .before .pre .1 .1 .1)))) (λ c. search needs)
+    (λ c. λ X.
+    let N = c .before .before .before .before .column-value .ensures X .here _ _ (c .before .before .t .given .1) in
+    same-node _ _ (N .is) (c .some-at .ensures (N .raw)) ∙ sought-present _ _ _)
+    (λ c. λ X. null-none _ _ (c .before .before .column-value .ensures X .none (c .enum-told .given .1))))
