@@ -17,7 +17,7 @@ use Rattle.layout.specs.declared.leaf.Leaf.{Leaf}
 use Rattle.layout.specs.declared.types.LeafType.{LeafType as LeafSpan}
 use Rattle.layout.proofs.Ways.{clash, moved-to, moved-refused}
 use Rattle.layout.proofs.View.{next-ok}
-use Rattle.values.specs.Value.{Value, vnull, vnumber, vtext, Values, vnil, vcons, countValues}
+use Rattle.values.specs.Value.{Value, vnull, vnumber, vtext, Values, vnil, vcons, countValues, isNullValue}
 use Rattle.values.specs.Content.{contentOf}
 use Rattle.values.specs.Reading.{presence, nullable, little, contentBy, leafContent, content, value, times}
 use Rattle.values.specs.Answers.{presenceRes}
@@ -26,7 +26,7 @@ use Rattle.values.specs.declared.content.Content.{Content}
 use Rattle.values.specs.declared.content.Content.the-variants.{Nothing, Flag, Number, Decimal, Text}
 use Rattle.values.specs.declared.leaf.Presence.{Presence}
 use Rattle.defaults.specs.Table.{initial, partition, failed, defaultType, initialEntry, loadedEntry, partitionEntry, givenOf}
-use Rattle.defaults.specs.Lookup.{Taken, nothing, taken, isNullValue, unlessNull, ofSource, givenTo}
+use Rattle.defaults.specs.Lookup.{Taken, nothing, taken, unlessNull, ofSource, givenTo}
 use Rattle.defaults.specs.Answers.{leafRes, leafIn}
 use Rattle.defaults.specs.Stands.{GivenAt, LoadedAt, Answers}
 use Rattle.defaults.specs.declared.lookup.DefaultValue.{DefaultValue}

@@ -18,13 +18,13 @@ use Rattle.layout.specs.declared.types.LeafType.{LeafType as LeafSpan}
 use Rattle.layout.proofs.Ways.{clash}
 use Rattle.layout.proofs.View.{next-ok}
 use Rattle.layout.proofs.Whole.{byte-at, u16-at, tested}
-use Rattle.values.specs.Value.{Value, vnull, Values, vnil, vcons}
+use Rattle.values.specs.Value.{Value, vnull, Values, vnil, vcons, isNullValue}
 use Rattle.values.specs.Reading.{presence, nullable, content, value}
 use Rattle.values.specs.Fits.{Fits}
 use Rattle.values.proofs.Round.{value-fits}
 use Rattle.defaults.specs.Table.{Given, initial, partition, failed, Entry, entriesOf, entries, tableMark, tableVersion, TableTree}
 use Rattle.defaults.specs.Table.{countedTable, tableFrom, table}
-use Rattle.defaults.specs.Lookup.{Taken, refused, nothing, taken, isNullValue, unlessNull, ofSource, givenTo, isPartitionOf, isInitialOf, firstEntry, getDefaultValue}
+use Rattle.defaults.specs.Lookup.{Taken, refused, nothing, taken, unlessNull, ofSource, givenTo, isPartitionOf, isInitialOf, firstEntry, getDefaultValue}
 use Rattle.defaults.specs.Answers.{tableOf}
 use Rattle.defaults.specs.Stands.{TableAt, Answers}
 use Rattle.defaults.specs.declared.lookup.DefaultFieldValues.{DefaultFieldValues}

@@ -26,8 +26,8 @@ use Rattle.matching.specs.Due.{dues}
 use Rattle.defaults.specs.Table.{entriesOf, TableTree, table}
 use Rattle.defaults.specs.Lookup.{getDefaultValue}
 use Rattle.rules.specs.declared.policy.Policy.{Policy}
-use Rattle.layout.specs.declared.version.Version.{Version}
-use Rattle.layout.specs.declared.version.Version.the-variants.{ByName, ByNumber}
+use Rattle.layout.specs.declared.matching.Matching.{Matching}
+use Rattle.layout.specs.declared.matching.Matching.the-variants.{ByName, ByNumber}
 use Rattle.values.proofs.Round.{record-back}
 use Rattle.demands.specs.Refusals.{isIn, layoutRefusals, tableRefusals, extraRefusals, columnRefusals}
 use Rattle.demands.specs.Stated.{FitsLayout, LayoutOf, columnsOf, PlanTooLong, NumberTooLong}
@@ -36,11 +36,11 @@ use Rattle.demands.proofs.Refusing.{RefusesIn, refused-in, Answers, in-
 use Rattle.demands.proofs.Numbers.{DefaultsIn, none-in, lookup-in, build-in}
 use Rattle.demands.proofs.Passed.{ok-eq, number-eq}
 
-pub built-passes : {v : Version} {p : Policy} {d : Defaults} {incoming target bytes : Bytes} → Built v p d incoming target bytes → checkPlan incoming target bytes ≡ accepted tt
+pub built-passes : {v : Matching} {p : Policy} {d : Defaults} {incoming target bytes : Bytes} → Built v p d incoming target bytes → checkPlan incoming target bytes ≡ accepted tt
 unfolding checkPlan readPlan readAt
 built-passes B = rw (B .incomingRead, B .targetRead, B .reads, B .passes)
 
-module _ {v : Version} {p : Policy} {d : Defaults} {incoming target bytes rec : Bytes} (B : Built v p d incoming target bytes) (or : AllBytes rec)
+module _ {v : Matching} {p : Policy} {d : Defaults} {incoming target bytes rec : Bytes} (B : Built v p d incoming target bytes) (or : AllBytes rec)
     (F : FitsLayout incoming rec) where
   pub from-eq : columnsOf F ≡ B .from
   from-eq = ap (λ (l : Layout). l .columns) (ok-eq (F .layoutReads) (B .incomingRead))
@@ -83,16 +83,16 @@ no-extra : isIn 27 extraRefusals ≡ false
 unfolding isIn
 no-extra = refl
 
-no-column : (v : Version) → isIn 27 (columnRefusals v) ≡ false
+no-column : (v : Matching) → isIn 27 (columnRefusals v) ≡ false
 unfolding isIn
 no-column ByName = refl
 no-column ByNumber = refl
 
-not-long : {v : Version} {incoming columns n k : ℕ} → BuildRefusal v incoming columns n k → n ≡ 27 → ⊥
+not-long : {v : Matching} {incoming columns n k : ℕ} → BuildRefusal v incoming columns n k → n ≡ 27 → ⊥
 not-long (by-extra R) e = true≠false (ap (λ (m : ℕ). isIn m extraRefusals) (sym e) ∙ R .among) no-extra
 not-long {v = v} (by-column R) e = true≠false (ap (λ (m : ℕ). isIn m (columnRefusals v)) (sym e) ∙ R .among) (no-column v)
 
-built-long : (v : Version) (space : ℕ) {incoming columns : ℕ} {x : Answer Selectors} → Answers (λ ss. Unit {0}) (BuildRefusal v incoming columns) x
+built-long : (v : Matching) (space : ℕ) {incoming columns : ℕ} {x : Answer Selectors} → Answers (λ ss. Unit {0}) (BuildRefusal v incoming columns) x
     → answered x (λ ss. writtenPlan space ss) ≡ refusedAt 27 0 → (ss : Selectors) × (x ≡ accepted ss) × (roomFor space (encodePlan ss) ≡ false)
 unfolding answered
 built-long v space (in-accepted {a = ss} u) e = (ss, refl, written-long space ss e)
@@ -112,7 +112,7 @@ version-past true f h e = (refl, e)
 version-past false f h e = absurd (h (number-eq e))
 
 -- the layouts, where the answer is no refusal of reading them, nor 10
-pub layouts-past : (v : Version) (incoming target : Bytes) (f : Columns → Columns → Answer Bytes) {n k : ℕ} → isIn n layoutRefusals ≡ false → (10 ≡ n → ⊥)
+pub layouts-past : (v : Matching) (incoming target : Bytes) (f : Columns → Columns → Answer Bytes) {n k : ℕ} → isIn n layoutRefusals ≡ false → (10 ≡ n → ⊥)
     → bothLayouts v incoming target f ≡ refusedAt n k
     → (a : Columns) × (b : Columns) × (i : ℕ) × (j : ℕ) × (layout incoming ≡ ok (record { version = v; columns = a }) i) × (layout target ≡ ok (record { version = v; columns = b }) j) × (f a b ≡ refusedAt n k)
 unfolding bothLayouts ofVersion
@@ -127,7 +127,7 @@ pub table-past : (defaults : Bytes) (f : TableTree → Answer Bytes) {n k : ℕ}
     → (t : TableTree) × (m : ℕ) × (table defaults ≡ ok t m) × (f t ≡ refusedAt n k)
 table-past defaults f h e = read-past 3 (table defaults) f (table-in defaults) h e
 
-module _ (v : Version) (p : Policy) (incoming target : Bytes) (space : ℕ) where
+module _ (v : Matching) (p : Policy) (incoming target : Bytes) (space : ℕ) where
   built-past : (d : Defaults) → DefaultsIn (columnRefusals v) d → (a b : Columns) (m n : ℕ) → layout incoming ≡ ok (record { version = v; columns = a }) m → layout target ≡ ok (record { version = v; columns = b }) n
       → answered (build v p d a b) (λ ss. writtenPlan space ss) ≡ refusedAt 27 0 → PlanTooLong v p d incoming target space
   built-past d o a b m n q r e =

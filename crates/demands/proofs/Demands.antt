@@ -46,7 +46,7 @@ use Rattle.rules.specs.declared.policy.Policy.{Policy}
 use Rattle.rules.specs.declared.policy.ExtraColumnsPolicy.the-variants.{Ignore}
 use Rattle.layout.specs.Find.{at, columnAt}
 use Rattle.layout.specs.declared.columns.Position.{Position}
-use Rattle.layout.specs.declared.version.Version.the-variants.{ByName, ByNumber}
+use Rattle.layout.specs.declared.matching.Matching.the-variants.{ByName, ByNumber}
 use Rattle.demands.specs.Refusals.{isIn, tableRefusals, Call, readingLayout, building, checkingPlan, running, placeOf}
 use Rattle.demands.specs.Refusals.{refusalIn, Refusal, Placed, readLayout, layoutsRead, tableRead, columnCount, selectorCount}
 use Rattle.demands.specs.Stated.{FitsLayout, SelectorsOf, LayoutOf, columnsOf, output, Running, PlanTooLong, NumberTooLong, ExtraColumn, NumberExtraColumn}

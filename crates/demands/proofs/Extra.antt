@@ -5,8 +5,8 @@ use mathlib.Core.Bool.{Bool, true, false}
 use native.Mathlib.Omega.{arith}
 use Rattle.layout.specs.Bytes.{Bytes}
 use Rattle.layout.specs.Tree.{Columns, countColumns}
-use Rattle.layout.specs.declared.version.Version.{Version}
-use Rattle.layout.specs.declared.version.Version.the-variants.{ByName, ByNumber}
+use Rattle.layout.specs.declared.matching.Matching.{Matching}
+use Rattle.layout.specs.declared.matching.Matching.the-variants.{ByName, ByNumber}
 use Rattle.layout.proofs.Ways.{clash}
 use Rattle.rules.specs.declared.policy.Policy.{Policy}
 use Rattle.rules.specs.declared.policy.ExtraColumnsPolicy.the-variants.{Ignore, Raise}
@@ -39,18 +39,18 @@ written-length space ss {n} {k} e = go (roomFor space (encodePlan ss)) e
     go true e = clash (cc)
     go false e = sym (number-eq e)
 
-no-column : (v : Version) → isIn 53 (columnRefusals v) ≡ false
+no-column : (v : Matching) → isIn 53 (columnRefusals v) ≡ false
 unfolding isIn
 no-column ByName = refl
 no-column ByNumber = refl
 
-unextra : (v : Version) (space : ℕ) {columns k : ℕ} {x : Answer Selectors} → Answers (λ ss. Unit {0}) (ColumnRefusal (columnRefusals v) columns) x
+unextra : (v : Matching) (space : ℕ) {columns k : ℕ} {x : Answer Selectors} → Answers (λ ss. Unit {0}) (ColumnRefusal (columnRefusals v) columns) x
     → answered x (λ ss. writtenPlan space ss) ≡ refusedAt 53 k → ⊥
 unfolding answered
 unextra v space (in-accepted {a = ss} u) e = absurd (omega (arith, written-length space ss e))
 unextra v space (in-refusedAt R) e = true≠false (ap (λ (m : ℕ). isIn m (columnRefusals v)) (sym (number-eq e)) ∙ R .among) (no-column v)
 
-module _ (v : Version) (p : Policy) (space : ℕ) where
+module _ (v : Matching) (p : Policy) (space : ℕ) where
   raised : (d : Defaults) → DefaultsIn (columnRefusals v) d → (a b : Columns) {k : ℕ} → answered (build v p d a b) (λ ss. writtenPlan space ss) ≡ refusedAt 53 k
       → (p .«extra_columns» ≡ Raise) × FirstExtra v b a 0 k
   unfolding build answered

@@ -3,8 +3,8 @@ use Prim.Native.Nat.{ℕ}
 use mathlib.Core.Path.{_≡_}
 use Rattle.layout.specs.Bytes.{Bytes}
 use Rattle.layout.specs.Tree.{Columns}
-use Rattle.layout.specs.declared.version.Version.{Version}
-use Rattle.layout.specs.declared.version.Version.the-variants.{ByName, ByNumber}
+use Rattle.layout.specs.declared.matching.Matching.{Matching}
+use Rattle.layout.specs.declared.matching.Matching.the-variants.{ByName, ByNumber}
 use Rattle.rules.specs.declared.policy.Policy.{Policy}
 use Rattle.rules.specs.Policies.{policyOf}
 use Rattle.rules.specs.Allows.{Allows, BitsAmong}
@@ -18,13 +18,13 @@ use Rattle.matching.specs.Build.{build}
 use Rattle.matching.specs.Calls.{bothLayouts, writtenPlan, buildByName, buildByNumber}
 use Rattle.matching.proofs.Loosen.{build-kept}
 
-both-kept : (v : Version) (incoming target : Bytes) (f g : Columns → Columns → Answer Bytes) → ((a b : Columns) → KeptAnswer (f a b) (g a b))
+both-kept : (v : Matching) (incoming target : Bytes) (f g : Columns → Columns → Answer Bytes) → ((a b : Columns) → KeptAnswer (f a b) (g a b))
     → KeptAnswer (bothLayouts v incoming target f) (bothLayouts v incoming target g)
 unfolding bothLayouts
 both-kept v incoming target f g h =
     by-reading 1 _ _ _ (λ a. by-reading 2 _ _ _ (λ b. by-place 0 _ _ (same _) (λ x. h (a .columns) (b .columns))))
 
-written-kept : {p q : Policy} → Allows p q → (room : ℕ) (v : Version) (d : Defaults) (a b : Columns)
+written-kept : {p q : Policy} → Allows p q → (room : ℕ) (v : Matching) (d : Defaults) (a b : Columns)
     → KeptAnswer (answered (build v p d a b) (λ ss. writtenPlan room ss)) (answered (build v q d a b) (λ ss. writtenPlan room ss))
 written-kept A room v d a b = by-answer _ _ (build-kept v A d a b) (λ ss. same-answer (writtenPlan room ss))
 

@@ -12,8 +12,8 @@ use Rattle.layout.specs.Tree.{LeafType, leafOf, zoneOf, Label, ColumnType, clea
 use Rattle.layout.specs.Find.{Lookup, absent, at, counterpart}
 use Rattle.layout.specs.declared.columns.FieldId.{FieldId}
 use Rattle.layout.specs.declared.columns.Position.{Position}
-use Rattle.layout.specs.declared.version.Version.{Version}
-use Rattle.layout.specs.declared.version.Version.the-variants.{ByName, ByNumber}
+use Rattle.layout.specs.declared.matching.Matching.{Matching}
+use Rattle.layout.specs.declared.matching.Matching.the-variants.{ByName, ByNumber}
 use Rattle.rules.specs.declared.policy.Policy.{Policy}
 use Rattle.rules.specs.declared.policy.ExtraColumnsPolicy.{ExtraColumnsPolicy}
 use Rattle.rules.specs.declared.policy.ExtraColumnsPolicy.the-variants.{Ignore, Raise}
@@ -40,7 +40,7 @@ use Rattle.demands.specs.Refusals.{isIn, pairRefusals, extraRefusals, co
 use Rattle.demands.proofs.Refusing.{all, all-in, ResultIn, in-gives, in-refuses, bind-in, demand-in, result-choose-in, Answers, in-accepted, in-refusedAt, placed-in, answered-in, answers-as, ColumnRefusal, BuildRefusal, by-extra, by-column}
 
 -- a target column refuses with a number of its list
-abbrev ColumnIn : {A : Type 0} → Version → Result A → Type 0
+abbrev ColumnIn : {A : Type 0} → Matching → Result A → Type 0
 ColumnIn v r = ResultIn (columnRefusals v) r
 
 -- ---- leaf pairs
@@ -156,12 +156,12 @@ module _ {ns : List ℕ} {d : Defaults} (o : DefaultsIn ns d) where
 abbrev shared : List ℕ
 shared = 11 ∷ 13 ∷ 14 ∷ pairRefusals
 
-in-both : (v : Version) (n : ℕ) → isIn n shared ≡ true → isIn n (columnRefusals v) ≡ true
+in-both : (v : Matching) (n : ℕ) → isIn n shared ≡ true → isIn n (columnRefusals v) ≡ true
 unfolding all isIn
 in-both ByName n e = all-in (λ m. isIn m (columnRefusals ByName)) shared n refl e
 in-both ByNumber n e = all-in (λ m. isIn m (columnRefusals ByNumber)) shared n refl e
 
-module _ (v : Version) where
+module _ (v : Matching) where
   ruled-in : {x : Verdict} (k : Position) (u : LeafType) → VerdictIn pairRefusals x → ColumnIn v (ruled x k u)
   unfolding ruled all isIn
   ruled-in k u in-untouched = in-gives
@@ -211,19 +211,19 @@ module _ (v : Version) where
   sought-in (at k l t) o g = g k l t
 
 -- 12 is tested by name alone, 25 by number alone
-distinct-in : (v : Version) (cs : Columns) {A : Type 0} {r : Result A} → ColumnIn v r → ColumnIn v (demand (distinct v cs) 12 r)
+distinct-in : (v : Matching) (cs : Columns) {A : Type 0} {r : Result A} → ColumnIn v r → ColumnIn v (demand (distinct v cs) 12 r)
 unfolding distinct demand isIn
 distinct-in ByName cs o = demand-in (distinctNames cs) 12 refl o
 distinct-in ByNumber cs o = o
 
-element-in : (v : Version) (a b : Label) {A : Type 0} {r : Result A} → ColumnIn v r → ColumnIn v (demand (sameElement v a b) 25 r)
+element-in : (v : Matching) (a b : Label) {A : Type 0} {r : Result A} → ColumnIn v r → ColumnIn v (demand (sameElement v a b) 25 r)
 unfolding sameElement demand isIn
 element-in ByName a b o = o
 element-in ByNumber a b o = demand-in (sameElement ByNumber a b) 25 refl o
 
 -- ---- extra columns
 
-module _ (v : Version) where
+module _ (v : Matching) where
   extra-from : (fs gs : Columns) (i count : ℕ) → i + countColumns fs ≤ count
       → Answers (λ x. Unit {0}) (ColumnRefusal extraRefusals count) (extraColumnErr v fs gs i)
   unfolding extraColumnErr countColumns choose isIn
@@ -240,7 +240,7 @@ module _ (v : Version) where
   extra-in Ignore fs gs = in-accepted tt
   extra-in Raise fs gs = extra-from fs gs 0 (countColumns fs) (omega arith)
 
-module _ (v : Version) (p : Policy) where
+module _ (v : Matching) (p : Policy) where
   mutual
     unfolding attachTransforms attachFields isIn
 

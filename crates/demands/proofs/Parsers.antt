@@ -13,8 +13,8 @@ use Rattle.layout.specs.declared.leaf.Leaf.{Leaf}
 use Rattle.layout.specs.declared.types.PlainLeaf.{PlainLeaf}
 use Rattle.layout.specs.declared.types.PlainLeaf.the-variants.{Known, Unknown}
 use Rattle.layout.specs.declared.columns.Siblings.{Siblings}
-use Rattle.layout.specs.declared.version.Version.{Version}
-use Rattle.layout.specs.declared.version.Version.the-variants.{ByName, ByNumber}
+use Rattle.layout.specs.declared.matching.Matching.{Matching}
+use Rattle.layout.specs.declared.matching.Matching.the-variants.{ByName, ByNumber}
 use Rattle.values.specs.Value.{Value}
 use Rattle.values.specs.Content.{contentOf}
 use Rattle.values.specs.declared.content.Content.{Content}
@@ -116,21 +116,21 @@ module _ (s : Bytes) where
   unfolding kind isIn
   kind-in at = next-in (byte-in refl s at) (λ c i. kind-of-in c i)
 
-  field-id-in : (v : Version) (at : ℕ) → RefusesIn layoutRefusals (fieldId v s at)
+  field-id-in : (v : Matching) (at : ℕ) → RefusesIn layoutRefusals (fieldId v s at)
   unfolding fieldId isIn
   field-id-in ByName at = in-ok
   field-id-in ByNumber at = u32-in refl s at
 
-  label-in : (v : Version) (at : ℕ) → RefusesIn layoutRefusals (label v s at)
+  label-in : (v : Matching) (at : ℕ) → RefusesIn layoutRefusals (label v s at)
   unfolding label isIn all
   label-in v at = next-in (wider refl (text-in at)) (λ n i. next-in (field-id-in v i) (λ k j. in-ok))
 
-  element-label-in : (v : Version) (at : ℕ) → RefusesIn layoutRefusals (elementLabel v s at)
+  element-label-in : (v : Matching) (at : ℕ) → RefusesIn layoutRefusals (elementLabel v s at)
   unfolding elementLabel
   element-label-in ByName at = in-ok
   element-label-in ByNumber at = label-in ByNumber at
 
-  module _ (v : Version) (r : Siblings) (p : Parser ColumnType) (o : (at : ℕ) → RefusesIn layoutRefusals (p s at)) where
+  module _ (v : Matching) (r : Siblings) (p : Parser ColumnType) (o : (at : ℕ) → RefusesIn layoutRefusals (p s at)) where
     columns-in : (n : ℕ) (earlier : List Label) (at : ℕ) → RefusesIn layoutRefusals (columns v r p n earlier s at)
     unfolding columns isIn
     columns-in zero earlier at = in-ok
@@ -147,7 +147,7 @@ module _ (s : Bytes) where
     body-in aList at = next-in (element-label-in v at) (λ l i. next-in (o i) (λ t j. in-ok))
     body-in (anArray w) at = next-in (element-label-in v at) (λ l i. next-in (o i) (λ t j. in-ok))
 
-  type-in : (v : Version) (r : Siblings) (d at : ℕ) → RefusesIn layoutRefusals (type v r d s at)
+  type-in : (v : Matching) (r : Siblings) (d at : ℕ) → RefusesIn layoutRefusals (type v r d s at)
   unfolding type isIn
   type-in v r zero at = in-refuse refl
   type-in v r (suc d) at = next-in (kind-in at) (λ k i. body-in v r (type v r d) (type-in v r d) k i)
@@ -156,7 +156,7 @@ module _ (s : Bytes) where
   unfolding version isIn
   version-in at = choose-in _ in-ok (choose-in _ in-ok (in-refuse refl))
 
-  counted-in : (v : Version) (at : ℕ) → RefusesIn layoutRefusals (counted v s at)
+  counted-in : (v : Matching) (at : ℕ) → RefusesIn layoutRefusals (counted v s at)
   unfolding counted isIn all
   counted-in v at =
       next-in (u16-in refl s at) (λ n i.

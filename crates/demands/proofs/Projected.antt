@@ -12,7 +12,7 @@ use Rattle.layout.specs.Parser.{ok}
 use Rattle.layout.specs.Tree.{Layout, Columns, Fields, fieldsOf}
 use Rattle.layout.specs.Layout.{layout}
 use Rattle.layout.specs.declared.columns.FieldId.{FieldId}
-use Rattle.layout.specs.declared.version.Version.the-variants.{ByNumber}
+use Rattle.layout.specs.declared.matching.Matching.the-variants.{ByNumber}
 use Rattle.layout.proofs.Ways.{clash}
 use Rattle.rules.specs.declared.policy.Policy.{Policy}
 use Rattle.values.specs.Value.{Values}

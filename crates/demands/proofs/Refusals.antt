@@ -11,8 +11,8 @@ use Rattle.layout.specs.Bytes.{Bytes, AllBytes}
 use Rattle.layout.specs.Parser.{Res, refuse, ok, choose}
 use Rattle.layout.specs.Tree.{Layout, Columns, countColumns, Fields, fieldsOf}
 use Rattle.layout.specs.Layout.{layout}
-use Rattle.layout.specs.declared.version.Version.{Version}
-use Rattle.layout.specs.declared.version.Version.the-variants.{ByName, ByNumber}
+use Rattle.layout.specs.declared.matching.Matching.{Matching}
+use Rattle.layout.specs.declared.matching.Matching.the-variants.{ByName, ByNumber}
 use Rattle.rules.specs.declared.policy.Policy.{Policy}
 use Rattle.values.specs.Record.{longest}
 use Rattle.plan.specs.Result.{Answer, answered}
@@ -122,22 +122,22 @@ table-as : all (asThing (building ByNumber)) tableRefusals ≡ true
 unfolding all met has isIn
 table-as = refl
 
-version-as : (v : Version) → all (asOther (building v)) (10 ∷ []) ≡ true
+version-as : (v : Matching) → all (asOther (building v)) (10 ∷ []) ≡ true
 unfolding all met has isIn
 version-as ByName = refl
 version-as ByNumber = refl
 
-plan-length-as : (v : Version) → asOther (building v) 27 ≡ true
+plan-length-as : (v : Matching) → asOther (building v) 27 ≡ true
 unfolding met has isIn
 plan-length-as ByName = refl
 plan-length-as ByNumber = refl
 
-columns-as : (v : Version) → all (asColumn (building v)) (columnRefusals v) ≡ true
+columns-as : (v : Matching) → all (asColumn (building v)) (columnRefusals v) ≡ true
 unfolding all met has isIn
 columns-as ByName = refl
 columns-as ByNumber = refl
 
-extra-as : (v : Version) → all (asIncoming (building v)) extraRefusals ≡ true
+extra-as : (v : Matching) → all (asIncoming (building v)) extraRefusals ≡ true
 unfolding all met has isIn
 extra-as ByName = refl
 extra-as ByNumber = refl
@@ -196,7 +196,7 @@ Short b = length b ≤ longestPlan
 counted : (target : Bytes) {l : Layout} {m : ℕ} {k : ℕ} → layout target ≡ ok l m → k < countColumns (l .columns) → k < columnCount target
 counted target e h = rw e h
 
-module _ (v : Version) (p : Policy) (incoming target : Bytes) (ms : List ℕ) (space : ℕ) where
+module _ (v : Matching) (p : Policy) (incoming target : Bytes) (ms : List ℕ) (space : ℕ) where
   abbrev Refused : ℕ → ℕ → Type 0
   Refused = Refusal (building v) (layoutsRead incoming target ms) (columnCount incoming) (columnCount target)
 

@@ -11,7 +11,7 @@ use Rattle.values.specs.Record.{renumber}
 use Rattle.plan.specs.Result.{Result, gives, refuses, _>>=_, demand, Answer, accepted, refusedAt, placed, answered}
 use Rattle.plan.specs.Calls.{readAt}
 use Rattle.plan.proofs.Results.{both, true≠false}
-use Rattle.layout.specs.declared.version.Version.{Version}
+use Rattle.layout.specs.declared.matching.Matching.{Matching}
 use Rattle.demands.specs.Refusals.{isIn, extraRefusals, columnRefusals}
 
 -- ---- lists of numbers
@@ -131,6 +131,6 @@ pub record ColumnRefusal (ns : List ℕ) (count n k : ℕ) : Type 0 where
   pub place : k < count
 
 -- a build's refusal: of an extra column among the incoming ones, or of a target column
-pub data BuildRefusal (v : Version) (incoming columns n k : ℕ) : Type 0 where
+pub data BuildRefusal (v : Matching) (incoming columns n k : ℕ) : Type 0 where
   by-extra : ColumnRefusal extraRefusals incoming n k → BuildRefusal v incoming columns n k
   by-column : ColumnRefusal (columnRefusals v) columns n k → BuildRefusal v incoming columns n k

@@ -8,8 +8,8 @@ use Rattle.layout.specs.Bytes.{Bytes}
 use Rattle.layout.specs.Parser.{Res, refuse, ok, choose}
 use Rattle.layout.specs.Tree.{Layout, countColumns}
 use Rattle.layout.specs.Layout.{layout}
-use Rattle.layout.specs.declared.version.Version.{Version}
-use Rattle.layout.specs.declared.version.Version.the-variants.{ByName, ByNumber}
+use Rattle.layout.specs.declared.matching.Matching.{Matching}
+use Rattle.layout.specs.declared.matching.Matching.the-variants.{ByName, ByNumber}
 use Rattle.plan.specs.Result.{Answer, accepted}
 use Rattle.plan.specs.Selector.{Selectors, countSelectors}
 use Rattle.plan.specs.Read.{plan}
@@ -36,7 +36,7 @@ abbrev pub pairRefusals : List ℕ
 pairRefusals = 15 ∷ 16 ∷ 17 ∷ 18 ∷ 19 ∷ 20 ∷ 21 ∷ 22 ∷ 23 ∷ 24 ∷ 51 ∷ []
 
 -- a target column: by name "11 .. or 12 to 24", by number "11, 13 to 26, 28"
-abbrev pub columnRefusals : Version → List ℕ
+abbrev pub columnRefusals : Matching → List ℕ
 columnRefusals ByName = 11 ∷ 12 ∷ 13 ∷ 14 ∷ pairRefusals
 columnRefusals ByNumber = 11 ∷ 13 ∷ 14 ∷ (pairRefusals ++ (25 ∷ 26 ∷ 28 ∷ []))
 
@@ -54,7 +54,7 @@ recordRefusals = 43 ∷ 40 ∷ 41 ∷ 52 ∷ 42 ∷ []
 
 pub data Call : Type 0 where
   readingLayout : Call
-  building : Version → Call
+  building : Matching → Call
   checkingPlan : Call
   running : Call
 

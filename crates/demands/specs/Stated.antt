@@ -8,8 +8,8 @@ use Rattle.layout.specs.Bytes.{Bytes}
 use Rattle.layout.specs.Parser.{ok}
 use Rattle.layout.specs.Tree.{Layout, Columns, fieldsOf}
 use Rattle.layout.specs.Layout.{layout}
-use Rattle.layout.specs.declared.version.Version.{Version}
-use Rattle.layout.specs.declared.version.Version.the-variants.{ByNumber}
+use Rattle.layout.specs.declared.matching.Matching.{Matching}
+use Rattle.layout.specs.declared.matching.Matching.the-variants.{ByNumber}
 use Rattle.rules.specs.declared.policy.Policy.{Policy}
 use Rattle.rules.specs.declared.policy.ExtraColumnsPolicy.the-variants.{Raise}
 use Rattle.values.specs.Value.{Values}
@@ -74,7 +74,7 @@ pub record Running (incoming target bytes rec : Bytes) (F : FitsLayout incoming 
 -- ---- a plan that is too long
 
 -- the plan that the definitions give, before its length is looked at
-pub record Defined (v : Version) (p : Policy) (d : Defaults) (incoming target : Bytes) : Type 0 where
+pub record Defined (v : Matching) (p : Policy) (d : Defaults) (incoming target : Bytes) : Type 0 where
   pub from : Columns
   pub to : Columns
   pub fromEnd : ℕ
@@ -85,7 +85,7 @@ pub record Defined (v : Version) (p : Policy) (d : Defaults) (incoming target : 
   pub built : build v p d from to ≡ accepted selectors
 
 -- there is no room for the plan
-pub record PlanTooLong (v : Version) (p : Policy) (d : Defaults) (incoming target : Bytes) (space : ℕ) : Type 0 where
+pub record PlanTooLong (v : Matching) (p : Policy) (d : Defaults) (incoming target : Bytes) (space : ℕ) : Type 0 where
   pub defined : Defined v p d incoming target
   pub long : roomFor space (encodePlan (defined .selectors)) ≡ false
 
@@ -99,7 +99,7 @@ pub record NumberTooLong (p : Policy) (index owner : ℕ) (incoming target defau
 -- ---- an extra column (document 02, L3)
 
 -- under Raise; the first incoming column with no target counterpart has the position k
-pub record ExtraColumn (v : Version) (p : Policy) (incoming target : Bytes) (k : ℕ) : Type 0 where
+pub record ExtraColumn (v : Matching) (p : Policy) (incoming target : Bytes) (k : ℕ) : Type 0 where
   pub from : Columns
   pub to : Columns
   pub fromEnd : ℕ

@@ -31,7 +31,7 @@ module _ (converted : LeafType → LeafType → Value → Value) (M : Metadata) 
     none-met (reads-leaf′ p q) a d = refl
     none-met reads-null′ a d = refl
     none-met (reads-struct′ h) (agrees-struct a) d = all-none h a d
-    none-met (reads-list′ e h) (agrees-list f a) d = each-none h a d
+    none-met (reads-list′ e m h) (agrees-list f a) d = each-none h a d
     none-met (any-element n o h) (agrees-list f a) d = absurd (n f)
     none-met (array-read h) a d = never-arrays a
     none-met (leaf-converted p n q) (agrees-leaf r) d = true≠false r p
@@ -39,11 +39,11 @@ module _ (converted : LeafType → LeafType → Value → Value) (M : Metadata) 
     pub all-none : {p : Place} {ds : Differences} {gs fs : Columns} {xs ys : Values} → ReadsAll′ converted M p ds gs fs xs ys → AgreesAll M p gs fs
         → DistinctIdsAll fs → ds ≡ []
     all-none reads-nil′ agrees-nil d = refl
-    all-none (reads-selected′ h r rs e) (agrees-selected g a bs) d =
+    all-none (reads-selected′ h m r rs e) (agrees-selected g a bs) d =
         both-none (none-met r (of-type (one-place d g h .1) a) (distinct-at h d)) (all-none rs bs d) e
-    all-none (reads-selected′ h r rs e) (agrees-missing l m bs) d = never-both h l
-    all-none (reads-missing′ l r rs e) (agrees-selected g a bs) d = never-both g l
-    all-none (reads-missing′ l r rs e) (agrees-missing k m bs) d = both-none (missing′-one M r m .0) (all-none rs bs d) e
+    all-none (reads-selected′ h m r rs e) (agrees-missing l n bs) d = never-both h l
+    all-none (reads-missing′ l n r rs e) (agrees-selected g a bs) d = never-both g l
+    all-none (reads-missing′ l n r rs e) (agrees-missing k m bs) d = both-none (missing′-one M r m .0) (all-none rs bs d) e
 
     each-none : {ds : Differences} {u t : ColumnType} {xs ys : Values} → ReadsEach′ converted M ds u t xs ys → Agrees M inside u t → DistinctIds t → ds ≡ []
     each-none reads-none′ a d = refl
@@ -59,16 +59,16 @@ module _ (converted : LeafType → LeafType → Value → Value) (M : Metadata) 
     agreed (reads-leaf p q) a d = reads-leaf′ p q
     agreed reads-null a d = reads-null′
     agreed (reads-struct h) (agrees-struct a) d = reads-struct′ (all-agreed h a d)
-    agreed (reads-list e h) (agrees-list f a) d = reads-list′ e (each-agreed h a d)
+    agreed (reads-list e m h) (agrees-list f a) d = reads-list′ e m (each-agreed h a d)
 
     all-agreed : {p : Place} {gs fs : Columns} {xs ys : Values} → ReadsAll converted M gs fs xs ys → AgreesAll M p gs fs → DistinctIdsAll fs
         → ReadsAll′ converted M p [] gs fs xs ys
     all-agreed reads-nil agrees-nil d = reads-nil′
-    all-agreed (reads-selected h r rs) (agrees-selected g a bs) d =
-        reads-selected′ h (agreed r (of-type (one-place d g h .1) a) (distinct-at h d)) (all-agreed rs bs d) refl
-    all-agreed (reads-selected h r rs) (agrees-missing l m bs) d = never-both h l
-    all-agreed (reads-missing l m rs) (agrees-selected g a bs) d = never-both g l
-    all-agreed (reads-missing l m rs) (agrees-missing k n bs) d = reads-missing′ l (missing-agreed n m) (all-agreed rs bs d) refl
+    all-agreed (reads-selected h m r rs) (agrees-selected g a bs) d =
+        reads-selected′ h m (agreed r (of-type (one-place d g h .1) a) (distinct-at h d)) (all-agreed rs bs d) refl
+    all-agreed (reads-selected h m r rs) (agrees-missing l n bs) d = never-both h l
+    all-agreed (reads-missing l i m rs) (agrees-selected g a bs) d = never-both g l
+    all-agreed (reads-missing l i m rs) (agrees-missing k n bs) d = reads-missing′ l i (missing-agreed n m) (all-agreed rs bs d) refl
 
     each-agreed : {u t : ColumnType} {xs ys : Values} → ReadsEach converted M u t xs ys → Agrees M inside u t → DistinctIds t
         → ReadsEach′ converted M [] u t xs ys

@@ -1,4 +1,4 @@
--- The ids of siblings differ in every layout of version 2 that was read. Assumes nothing.
+-- The ids of siblings differ in every layout of version 2 or 3 that was read. Assumes nothing.
 use Prim.Native.Nat.{ℕ, zero, suc}
 use mathlib.Core.Path.{_≡_, refl, sym, ap, _∙_}
 use mathlib.Core.Bool.{Bool, true, false, not, _||_}
@@ -8,15 +8,17 @@ use borrow.Author.Tests.{eqb-false}
 use Rattle.layout.specs.Bytes.{Bytes}
 use Rattle.layout.specs.Parser.{ok, choose, Parser, test}
 use Rattle.layout.specs.Tree.{Label, ColumnType, cleaf, cstruct, clist, carray, Columns, cnil, ccons, Layout}
-use Rattle.layout.specs.Layout.{Kind, aLeaf, aStruct, aList, anArray, repeatsAny, columns, listType, arrayType, structType, body, type, deepest, counted}
+use Rattle.layout.specs.Layout.{Kind, aLeaf, aStruct, aList, anArray, repeatsAny, columns, listType, arrayType, structType, body, type, topRule, innerRule, deepest, counted}
 use Rattle.layout.specs.Layout.{layoutFrom, layout}
 use Rattle.layout.specs.declared.columns.FieldId.{FieldId}
 use Rattle.layout.specs.declared.columns.Siblings.the-variants.{Ids}
-use Rattle.layout.specs.declared.version.Version.{Version}
-use Rattle.layout.specs.declared.version.Version.the-variants.{ByName, ByNumber}
+use Rattle.layout.specs.declared.edition.Edition.{Edition}
+use Rattle.layout.specs.declared.edition.Edition.the-variants.{One, Two, Three}
+use Rattle.layout.specs.declared.matching.Matching.the-variants.{ByNumber}
 use Rattle.layout.proofs.Ways.{clash}
 use Rattle.layout.proofs.View.{next-ok}
 use Rattle.plan.proofs.Results.{true≠false}
+use Rattle.matching.specs.Calls.{takes}
 use Rattle.iceberg.specs.Specification.{Lacks, lacks-nil, lacks-cons}
 
 -- siblings have different ids, at all levels
@@ -65,9 +67,9 @@ unfolding choose
 passed true n s at e = refl
 passed false n s at e = clash (cc)
 
-module _ (s : Bytes) where
+module _ (s : Bytes) (v : Edition) where
   columns-distinct : (p : Parser ColumnType) → ((at : ℕ) (t : ColumnType) (m : ℕ) → p s at ≡ ok t m → DistinctIds t)
-      → (n : ℕ) (ms : List Label) (at : ℕ) {cs : Columns} {m : ℕ} → columns ByNumber Ids p n ms s at ≡ ok cs m → LackAll cs ms × DistinctIdsAll cs
+      → (n : ℕ) (ms : List Label) (at : ℕ) {cs : Columns} {m : ℕ} → columns v Ids p n ms s at ≡ ok cs m → LackAll cs ms × DistinctIdsAll cs
   unfolding columns
   columns-distinct p h zero ms at e = ok-same (λ cs. LackAll cs ms × DistinctIdsAll cs) e (lack-none ms, tt)
   columns-distinct p h (suc n) ms at e =
@@ -80,7 +82,7 @@ module _ (s : Bytes) where
       ok-same (λ cs. LackAll cs ms × DistinctIdsAll cs) e (lack-column cs ms l t (passed _ 5 s j c) x, (z, (h i t j b, y)))
 
   body-distinct : (p : Parser ColumnType) → ((at : ℕ) (t : ColumnType) (m : ℕ) → p s at ≡ ok t m → DistinctIds t) → (k : Kind) (at : ℕ) {t : ColumnType} {m : ℕ}
-      → body ByNumber Ids p k s at ≡ ok t m → DistinctIds t
+      → body v Ids p k s at ≡ ok t m → DistinctIds t
   unfolding body structType listType arrayType
   body-distinct p h (aLeaf l) at e = ok-same DistinctIds e tt
   body-distinct p h (aStruct n) at e = let (cs, i, a, e) = next-ok _ _ e in ok-same DistinctIds e (columns-distinct p h n [] at a .1)
@@ -93,34 +95,40 @@ module _ (s : Bytes) where
       let (t, j, b, e) = next-ok _ _ e in
       ok-same DistinctIds e (h i t j b)
 
-  type-distinct : (d at : ℕ) {t : ColumnType} {m : ℕ} → type ByNumber Ids d s at ≡ ok t m → DistinctIds t
+  type-distinct : (d at : ℕ) {t : ColumnType} {m : ℕ} → type v Ids d s at ≡ ok t m → DistinctIds t
   unfolding type
   type-distinct zero at e = clash (cc)
   type-distinct (suc d) at e =
       let (k, i, a, e) = next-ok _ _ e in
-      body-distinct (type ByNumber Ids d) (λ at t m e. type-distinct d at e) k i e
+      body-distinct (type v Ids d) (λ at t m e. type-distinct d at e) k i e
 
-  counted-distinct : (v : Version) (at : ℕ) {l : Layout} {m : ℕ} → v ≡ ByNumber → counted v s at ≡ ok l m → DistinctIdsAll (l .columns)
+  -- what building by number takes has no id twice among siblings
+  by-ids : (w : Edition) → takes ByNumber w ≡ true → (topRule w ≡ Ids) × (innerRule w ≡ Ids)
+  by-ids One e = clash (cc)
+  by-ids Two e = (refl, refl)
+  by-ids Three e = (refl, refl)
+
+  counted-distinct : (at : ℕ) {l : Layout} {m : ℕ} → takes ByNumber v ≡ true → counted v s at ≡ ok l m → DistinctIdsAll (l .columns)
   unfolding counted
-  counted-distinct ByName at q e = clash (cc)
-  counted-distinct ByNumber at q e =
+  counted-distinct at q e =
+      let (x, y) = by-ids v q in
       let (n, i, a, e) = next-ok _ _ e in
       let (cs, j, b, e) = next-ok _ _ e in
       let (u, k, c, e) = next-ok _ _ e in
       ok-same (λ (l : Layout). DistinctIdsAll (l .columns)) e
-      (columns-distinct (type ByNumber Ids deepest) (λ at t m e. type-distinct deepest at e) n [] i b .1)
+      (columns-distinct (type v Ids deepest) (λ at t m e. type-distinct deepest at e) n [] i (rw (x, y) at b) .1)
 
-  counted-version : (v : Version) (at : ℕ) {l : Layout} {m : ℕ} → counted v s at ≡ ok l m → l .version ≡ v
+  counted-edition : (at : ℕ) {l : Layout} {m : ℕ} → counted v s at ≡ ok l m → l .edition ≡ v
   unfolding counted
-  counted-version v at e =
+  counted-edition at e =
       let (n, i, a, e) = next-ok _ _ e in
       let (cs, j, b, e) = next-ok _ _ e in
       let (u, k, c, e) = next-ok _ _ e in
-      ok-same (λ (l : Layout). l .version ≡ v) e refl
+      ok-same (λ (l : Layout). l .edition ≡ v) e refl
 
-  pub layout-distinct : {l : Layout} {m : ℕ} → layout s ≡ ok l m → l .version ≡ ByNumber → DistinctIdsAll (l .columns)
-  unfolding layout layoutFrom
-  layout-distinct e q =
-      let (u, i, a, e) = next-ok _ _ e in
-      let (v, j, b, e) = next-ok _ _ e in
-      counted-distinct v j (sym (counted-version v j e) ∙ q) e
+pub layout-distinct : (s : Bytes) {l : Layout} {m : ℕ} → layout s ≡ ok l m → takes ByNumber (l .edition) ≡ true → DistinctIdsAll (l .columns)
+unfolding layout layoutFrom
+layout-distinct s e q =
+    let (u, i, a, e) = next-ok _ _ e in
+    let (v, j, b, e) = next-ok _ _ e in
+    counted-distinct s v j (rw (counted-edition s v j e) at q) e

@@ -1,5 +1,5 @@
 -- The rules with the differences give one reading, and name the same differences for it: the list is complete. The
--- rules alone give one, too. Where the ids of siblings differ, as in every layout of version 2 that was read. Assumes
+-- rules alone give one, too. Where the ids of siblings differ, as in every layout of version 2 or 3 that was read. Assumes
 -- nothing.
 use Prim.Native.Nat.{ℕ, suc}
 use mathlib.Core.Path.{_≡_, refl, sym, ap, ap₂, _∙_}
@@ -224,20 +224,20 @@ module _ (M : Metadata) where
 
 -- ---- a row
 
-pub never-both : {cs : Columns} {i : FieldId} {k : ℕ} {t : ColumnType} {X : Type 0} → HasId cs i k t → Lacks cs i → X
+pub never-both : {cs : Columns} {i : FieldId} {k : ℕ} {a : Label} {t : ColumnType} {X : Type 0} → HasId cs i k a t → Lacks cs i → X
 never-both (id-here e) (lacks-cons n l) = absurd (n e)
 never-both (id-there h) (lacks-cons n l) = never-both h l
 
 lacks-id : {cs : Columns} {i j : FieldId} → i ≡ j → Lacks cs i → Lacks cs j
 lacks-id e l = rw (← e) l
 
-pub one-place : {cs : Columns} {i : FieldId} {j k : ℕ} {t u : ColumnType} → DistinctIdsAll cs → HasId cs i j t → HasId cs i k u → (j ≡ k) × (t ≡ u)
+pub one-place : {cs : Columns} {i : FieldId} {j k : ℕ} {a b : Label} {t u : ColumnType} → DistinctIdsAll cs → HasId cs i j a t → HasId cs i k b u → (j ≡ k) × (t ≡ u)
 one-place d (id-here e) (id-here f) = (refl, refl)
 one-place d (id-here e) (id-there h) = never-both h (lacks-id e (d .0))
 one-place d (id-there h) (id-here e) = never-both h (lacks-id e (d .0))
 one-place d (id-there h) (id-there g) = let (p, q) = one-place (d .1 .1) h g in (ap suc p, q)
 
-pub distinct-at : {cs : Columns} {i : FieldId} {k : ℕ} {t : ColumnType} → HasId cs i k t → DistinctIdsAll cs → DistinctIds t
+pub distinct-at : {cs : Columns} {i : FieldId} {k : ℕ} {a : Label} {t : ColumnType} → HasId cs i k a t → DistinctIdsAll cs → DistinctIds t
 distinct-at (id-here e) d = d .1 .0
 distinct-at (id-there h) d = distinct-at h (d .1 .1)
 
@@ -258,16 +258,16 @@ module _ (converted : LeafType → LeafType → Value → Value) (M : Metadata) 
     reads-one d reads-null (reads-leaf {l} {m} p e) = sym (null l m) ∙ e
     reads-one d reads-null reads-null = refl
     reads-one d (reads-struct h) (reads-struct g) = ap vstruct (all-one d h g)
-    reads-one d (reads-list e h) (reads-list f g) = ap vlist (each-one d h g)
+    reads-one d (reads-list e m h) (reads-list f n g) = ap vlist (each-one d h g)
 
     pub all-one : {gs fs : Columns} {xs ys zs : Values} → DistinctIdsAll fs → ReadsAll converted M gs fs xs ys → ReadsAll converted M gs fs xs zs → ys ≡ zs
     all-one d reads-nil reads-nil = refl
-    all-one {xs = xs} d (reads-selected h r rs) (reads-selected g s ss) =
+    all-one {xs = xs} d (reads-selected h m r rs) (reads-selected g n s ss) =
         let (p, q) = one-place d h g in
         ap₂ vcons (reads-one (distinct-at h d) r (moved xs (sym p) (sym q) s)) (all-one d rs ss)
-    all-one d (reads-selected h r rs) (reads-missing l s ss) = never-both h l
-    all-one d (reads-missing l r rs) (reads-selected h s ss) = never-both h l
-    all-one d (reads-missing l r rs) (reads-missing m s ss) = ap₂ vcons (missing-one M r s) (all-one d rs ss)
+    all-one d (reads-selected h m r rs) (reads-missing l j s ss) = never-both h l
+    all-one d (reads-missing l i r rs) (reads-selected h n s ss) = never-both h l
+    all-one d (reads-missing l i r rs) (reads-missing m j s ss) = ap₂ vcons (missing-one M r s) (all-one d rs ss)
 
     each-one : {u t : ColumnType} {xs ys zs : Values} → DistinctIds t → ReadsEach converted M u t xs ys → ReadsEach converted M u t xs zs → ys ≡ zs
     each-one d reads-none reads-none = refl
@@ -283,9 +283,9 @@ module _ (converted : LeafType → LeafType → Value → Value) (M : Metadata) 
     reads′-one d reads-null′ reads-null′ = (refl, refl)
     reads′-one d reads-null′ (leaf-converted q n f) = null-present refl n
     reads′-one d (reads-struct′ h) (reads-struct′ g) = under vstruct (all′-one d h g)
-    reads′-one d (reads-list′ e h) (reads-list′ f g) = under vlist (each′-one d h g)
-    reads′-one d (reads-list′ e h) (any-element n a g) = absurd (n e)
-    reads′-one d (any-element n a h) (reads-list′ f g) = absurd (n f)
+    reads′-one d (reads-list′ e i h) (reads-list′ f j g) = under vlist (each′-one d h g)
+    reads′-one d (reads-list′ e i h) (any-element n a g) = absurd (n e)
+    reads′-one d (any-element n a h) (reads-list′ f j g) = absurd (n f)
     reads′-one d (any-element n a h) (any-element m b g) = more _ vlist (each′-one d h g)
     reads′-one d (array-read h) (array-read g) = more _ varray (each′-one d h g)
     reads′-one d (leaf-converted p n e) (reads-leaf′ q f) = true≠false q p
@@ -295,14 +295,14 @@ module _ (converted : LeafType → LeafType → Value → Value) (M : Metadata) 
     pub all′-one : {o : Place} {ds es : Differences} {gs fs : Columns} {xs ys zs : Values} → DistinctIdsAll fs → ReadsAll′ converted M o ds gs fs xs ys
         → ReadsAll′ converted M o es gs fs xs zs → Same ds es ys zs
     all′-one d reads-nil′ reads-nil′ = (refl, refl)
-    all′-one {xs = xs} d (reads-selected′ h r rs e) (reads-selected′ g s ss f) =
+    all′-one {xs = xs} d (reads-selected′ h m r rs e) (reads-selected′ g n s ss f) =
         let (p, q) = one-place d h g in
         let (a, x) = reads′-one (distinct-at h d) r (moved′ xs (sym p) (sym q) s) in
         let (b, y) = all′-one d rs ss in
         joined e f a b (ap₂ vcons x y)
-    all′-one d (reads-selected′ h r rs e) (reads-missing′ l s ss f) = never-both h l
-    all′-one d (reads-missing′ l r rs e) (reads-selected′ h s ss f) = never-both h l
-    all′-one d (reads-missing′ l r rs e) (reads-missing′ m s ss f) =
+    all′-one d (reads-selected′ h m r rs e) (reads-missing′ l j s ss f) = never-both h l
+    all′-one d (reads-missing′ l i r rs e) (reads-selected′ h n s ss f) = never-both h l
+    all′-one d (reads-missing′ l i r rs e) (reads-missing′ m j s ss f) =
         let (a, x) = missing′-one M r s in
         let (b, y) = all′-one d rs ss in
         joined e f a b (ap₂ vcons x y)

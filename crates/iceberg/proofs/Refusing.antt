@@ -6,16 +6,17 @@ use mathlib.Core.List.{List, [], _∷_}
 use lib.Dec.{eqb}
 use borrow.Author.Tests.{eqb-true, eqb-false}
 use Rattle.layout.specs.Parser.{choose}
-use Rattle.layout.specs.Tree.{LeafType, Label, ColumnType, cleaf, cstruct, clist, carray, Columns, cnil, ccons}
+use Rattle.layout.specs.Tree.{LeafType, leafOf, Label, ColumnType, cleaf, cstruct, clist, carray, Columns, cnil, ccons}
 use Rattle.layout.specs.Find.{Lookup, absent, at, counterpart}
 use Rattle.layout.specs.declared.columns.FieldId.{FieldId}
 use Rattle.layout.specs.declared.columns.Position.{Position}
-use Rattle.layout.specs.declared.version.Version.the-variants.{ByNumber}
+use Rattle.layout.specs.declared.matching.Matching.the-variants.{ByNumber}
 use Rattle.layout.proofs.Ways.{clash}
 use Rattle.forms.specs.Same.{sameDtype}
 use Rattle.rules.specs.declared.policy.Policy.{Policy}
 use Rattle.rules.specs.declared.policy.MissingColumnsPolicy.{MissingColumnsPolicy}
 use Rattle.rules.specs.declared.policy.ExtraColumnsPolicy.{ExtraColumnsPolicy}
+use Rattle.rules.specs.Classes.{isNull}
 use Rattle.rules.specs.Outcomes.{Verdict, untouched}
 use Rattle.rules.specs.Pairs.{pairRule}
 use Rattle.values.specs.Value.{Value, Values, vnil, vcons, isNullValue}
@@ -26,19 +27,22 @@ use Rattle.defaults.specs.Lookup.{Taken, refused, nothing, taken, unlessNull, o
 use Rattle.defaults.specs.Lookup.{getDefaultValue}
 use Rattle.matching.specs.Default.{noDefaults, leafDefault, buildIcebergDefaultValue, defaultsOf, missingValue}
 use Rattle.matching.specs.Build.{Element, leafPart, structPart, listPart, arrayPart, unlessNullType, renamed, elementDefaultId, sameElement, isAbsent, distinct}
-use Rattle.matching.specs.Build.{noExtra, ignores, inserts, missing, ruled, sought, first, arraySelector, attachTransforms, attachFields, buildColumnSelector}
+use Rattle.matching.specs.Build.{isNullType, keepsRequired, fillsRequired, noExtra, ignores, inserts, missing, ruled, sought, first, arraySelector, attachTransforms, attachFields, buildColumnSelector}
 use Rattle.matching.specs.Build.{extraColumns, buildFrom, build}
 use Rattle.matching.specs.Extra.{FirstExtra, first-here, first-later}
 use Rattle.matching.proofs.Extra.{columns-refused}
 use Rattle.matching.proofs.Entries.{Match, unmatched, matched, matchOf, ofMatch, partition-is, initial-is}
-use Rattle.iceberg.specs.Specification.{Lacks}
+use Rattle.iceberg.specs.Specification.{Metadata, Lacks, present}
 use Rattle.iceberg.specs.Differences.{nested-struct, nested-list, nested-array, Place, outside, inside, OneIsAny, incoming-is-any, target-is-any}
+use Rattle.iceberg.specs.Stated.{stated}
+use Rattle.iceberg.specs.Refusals.{Optional, not-required, of-null, list-optional, array-optional, optional-selected, missing-required}
 use Rattle.iceberg.specs.Refusals.{EntryOf, entry-here, entry-there, TypeGiven, of-initial, of-partition, nested-for-leaf, leaf-for-nested}
 use Rattle.iceberg.specs.Refusals.{list-for-struct, array-for-struct, struct-for-list, array-for-list, struct-for-array, list-for-array, Extra}
 use Rattle.iceberg.specs.Refusals.{extra-here, extra-there, NoDefaultFor, partition-failed, default-type, for-a-field, NoDefaultIn, for-first, for-later}
 use Rattle.iceberg.specs.Refusals.{Refuses, leaf-pair, other-kind, other-width, list-ids, array-ids, in-list, in-array, extra-field, in-struct}
 use Rattle.iceberg.specs.Refusals.{RefusesAny, at-selected, missing-raised, missing-default, at-later, RefusesBuild, extra-column, at-a-column}
 use Rattle.iceberg.proofs.Facts.{asked, found-first}
+use Rattle.iceberg.proofs.Reading.{value-at}
 use Rattle.iceberg.proofs.Selecting.{id-eq, counterpart-selected, counterpart-lacks}
 
 -- ---- what a result that was refused went through
@@ -119,6 +123,10 @@ raises-extra : (m : ExtraColumnsPolicy) → ignores m ≡ false → m ≡ ExtraC
 raises-extra ExtraColumnsPolicy.Ignore e = clash (cc)
 raises-extra ExtraColumnsPolicy.Raise e = refl
 
+not-false : (a : Bool) → not a ≡ false → a ≡ true
+not-false true e = refl
+not-false false e = clash (cc)
+
 neither : (a b : Bool) → (a || b) ≡ false → (a ≡ false) × (b ≡ false)
 neither true b e = clash (cc)
 neither false b e = (refl, e)
@@ -152,9 +160,28 @@ unpaired a b e =
     any q r (incoming-is-any s) = eqb-false _ _ q s
     any q r (target-is-any s) = eqb-false _ _ r s
 
+-- a required column that an optional one meets
+mark-lost : (a : Label) (t : ColumnType) (b : Label) → keepsRequired a t b ≡ false → (b .required ≡ true) × Optional a t
+unfolding keepsRequired isNullType
+mark-lost a t b e = go (b .required) refl (a .required) refl e
+  where
+    nulls : (t : ColumnType) → not (isNullType t) ≡ false → Optional a t
+    nulls (cleaf l) e = of-null (not-false (isNull (leafOf l)) e)
+    nulls (cstruct cs) e = clash (cc)
+    nulls (clist l u) e = clash (cc)
+    nulls (carray w l u) e = clash (cc)
+
+    go : (r : Bool) → b .required ≡ r → (x : Bool) → a .required ≡ x → (not r || (x && not (isNullType t))) ≡ false → (b .required ≡ true) × Optional a t
+    go true q true h e = (q, nulls t e)
+    go true q false h e = (q, not-required h)
+    go false q x h e = clash (cc)
+
 -- ---- the builder
 
-module _ (p : Policy) (es : List Entry) (k : ℕ) where
+module _ (p : Policy) (nulls : Bool) (es : List Entry) (k : ℕ) (empties : FieldId → Bool) where
+  abbrev M : Metadata
+  M = stated nulls es k empties
+
   leaf-default-refused : {i : FieldId} {t : Taken} {n : ℕ} (l : LeafType) → Origin es i t → leafDefault l t ≡ refuses n → NoDefaultFor es n i (cleaf l)
   unfolding leafDefault sameDtype
   leaf-default-refused l (from-failed h) e = rw (← refuses-eq e) (partition-failed h)
@@ -192,38 +219,42 @@ module _ (p : Policy) (es : List Entry) (k : ℕ) where
 
   module _ (m : MissingColumnsPolicy) (r : ℕ) where
     default-missing : (q : Place) {n : ℕ} (b : Label) (u : ColumnType) {gs fs : Columns} → Lacks fs (b .id) → missingValue (asked es k q) b u ≡ refuses n
-        → RefusesAny p es q m r n (ccons b u gs) fs
+        → RefusesAny p es M q m r n (ccons b u gs) fs
     unfolding missingValue
     default-missing outside b u l e = bind-refused _ _ e (λ s. missing-default l (default-refused u (b .id) s)) (λ x q s. never-given s)
     default-missing inside b u l e = bind-refused _ _ e (λ s. absurd (none-refused u (b .id) s)) (λ x q s. never-given s)
 
     -- a column that was found, or else is missing
     column-refused : (q : Place) {n : ℕ} (b : Label) (u : ColumnType) {gs : Columns} (fs : Columns)
-        → ((j : Position) (t : ColumnType) → attachTransforms ByNumber p (asked es k q) u j t ≡ refuses n → Refuses p es q n u t)
+        → ((j : Position) (t : ColumnType) → attachTransforms ByNumber p (asked es k q) u j t ≡ refuses n → Refuses p es M q n u t)
         → sought (counterpart ByNumber b fs) (missing (asked es k q) (inserts m) r b u)
-        (λ j a t. attachTransforms ByNumber p (asked es k q) u j t >>= λ s. gives (renamed ByNumber b a s)) ≡ refuses n
-        → RefusesAny p es q m r n (ccons b u gs) fs
-    unfolding sought missing
+        (λ j a t. demand (keepsRequired a t b) 55 (attachTransforms ByNumber p (asked es k q) u j t >>= λ s. gives (renamed ByNumber b a s))) ≡ refuses n
+        → RefusesAny p es M q m r n (ccons b u gs) fs
+    unfolding sought missing fillsRequired present
     column-refused q {n} b u {gs} fs step e = go (counterpart ByNumber b fs) refl e
       where
         go : (x : Lookup) → counterpart ByNumber b fs ≡ x
             → sought x (missing (asked es k q) (inserts m) r b u)
-            (λ j a t. attachTransforms ByNumber p (asked es k q) u j t >>= λ s. gives (renamed ByNumber b a s)) ≡ refuses n
-            → RefusesAny p es q m r n (ccons b u gs) fs
+            (λ j a t. demand (keepsRequired a t b) 55 (attachTransforms ByNumber p (asked es k q) u j t >>= λ s. gives (renamed ByNumber b a s))) ≡ refuses n
+            → RefusesAny p es M q m r n (ccons b u gs) fs
         go absent h e =
             let l = counterpart-lacks b fs h in
             demand-refused _ _ _ e (λ i s. rw (← s) (missing-raised l (raises m i)))
-            (λ i e. bind-refused _ _ e (λ s. default-missing q b u l s) (λ x q s. never-given s))
-        go (at j a t) h e = bind-refused _ _ e (λ s. at-selected (counterpart-selected b fs h) (step j t s)) (λ x q s. never-given s)
+            (λ i e. bind-refused _ _ e (λ s. default-missing q b u l s)
+            (λ y g e. demand-refused _ _ _ e (λ f s. rw (← s) (missing-required l (value-at nulls es k empties q b u refl g .reads) f)) (λ f s. never-given s)))
+        go (at j a t) h e =
+            let x = counterpart-selected b fs h in
+            demand-refused _ _ _ e (λ f s. let (r, o) = mark-lost a t b f in rw (← s) (optional-selected x r o))
+            (λ f e. bind-refused _ _ e (λ s. at-selected x (step j t s)) (λ y q s. never-given s))
 
   -- ---- types
 
   leaf-refused : (q : Place) (m : LeafType) (j : Position) (t : ColumnType) {n : ℕ} → (leafPart t >>= λ l. ruled (pairRule p l m) j m) ≡ refuses n
-      → Refuses p es q n (cleaf m) t
+      → Refuses p es M q n (cleaf m) t
   unfolding leafPart ruled _>>=_
   leaf-refused q m j (cleaf l) {n} e = go (pairRule p l m) refl e
     where
-      go : (v : Verdict) → pairRule p l m ≡ v → ruled v j m ≡ refuses n → Refuses p es q n (cleaf m) (cleaf l)
+      go : (v : Verdict) → pairRule p l m ≡ v → ruled v j m ≡ refuses n → Refuses p es M q n (cleaf m) (cleaf l)
       go untouched h e = never-given e
       go (Verdict.refused i) h e = rw (← refuses-eq e) (leaf-pair h)
       go (Verdict.cast o) h e = never-given e
@@ -232,8 +263,8 @@ module _ (p : Policy) (es : List Entry) (k : ℕ) where
   leaf-refused q m j (carray w a t) e = rw (← refuses-eq e) (other-kind (nested-for-leaf nested-array))
 
   struct-refused : (q : Place) (gs : Columns) (j : Position) (t : ColumnType) {n : ℕ}
-      → ((fs : Columns) → attachFields ByNumber p (asked es k q) gs fs ≡ refuses n → Refuses p es q n (cstruct gs) (cstruct fs))
-      → attachTransforms ByNumber p (asked es k q) (cstruct gs) j t ≡ refuses n → Refuses p es q n (cstruct gs) t
+      → ((fs : Columns) → attachFields ByNumber p (asked es k q) gs fs ≡ refuses n → Refuses p es M q n (cstruct gs) (cstruct fs))
+      → attachTransforms ByNumber p (asked es k q) (cstruct gs) j t ≡ refuses n → Refuses p es M q n (cstruct gs) t
   unfolding attachTransforms unlessNullType choose structPart distinct _>>=_
   struct-refused q gs j (cleaf l) ih e = rw (← refuses-eq e) (other-kind (leaf-for-nested nested-struct))
   struct-refused q gs j (clist a t) ih e = rw (← refuses-eq e) (other-kind list-for-struct)
@@ -246,29 +277,33 @@ module _ (p : Policy) (es : List Entry) (k : ℕ) where
       (λ h e. bind-refused (attachFields ByNumber p (asked es k q) gs fs) _ e (λ s. ih fs s) (λ x y s. never-given s))))
 
   list-refused : (q : Place) (b : Label) (u : ColumnType) (j : Position) (t : ColumnType) {n : ℕ}
-      → ((t : ColumnType) → attachTransforms ByNumber p noDefaults u first t ≡ refuses n → Refuses p es inside n u t)
-      → attachTransforms ByNumber p (asked es k q) (clist b u) j t ≡ refuses n → Refuses p es q n (clist b u) t
+      → ((t : ColumnType) → attachTransforms ByNumber p noDefaults u first t ≡ refuses n → Refuses p es M inside n u t)
+      → attachTransforms ByNumber p (asked es k q) (clist b u) j t ≡ refuses n → Refuses p es M q n (clist b u) t
   unfolding attachTransforms unlessNullType choose listPart _>>=_
   list-refused q b u j (cleaf l) ih e = rw (← refuses-eq e) (other-kind (leaf-for-nested nested-list))
   list-refused q b u j (cstruct fs) ih e = rw (← refuses-eq e) (other-kind struct-for-list)
   list-refused q b u j (carray w a t) ih e = rw (← refuses-eq e) (other-kind array-for-list)
   list-refused q b u j (clist a t) ih e =
       demand-refused (sameElement ByNumber a b) 25 _ e (λ h i. let (x, y) = unpaired a b h in rw (← i) (list-ids x y))
-      (λ h e. bind-refused (attachTransforms ByNumber p noDefaults u first t) _ e (λ s. in-list (ih t s)) (λ x y s. never-given s))
+      (λ h e. demand-refused (keepsRequired a t b) 55 _ e (λ f s. let (r, o) = mark-lost a t b f in rw (← s) (list-optional r o))
+      (λ f e. bind-refused (attachTransforms ByNumber p noDefaults u first t) _ e (λ s. in-list (ih t s)) (λ x y s. never-given s)))
 
   -- the element of an array of the same width
   array-element : (q : Place) (w : ℕ) (b : Label) (u : ColumnType) (j : Position) (v : Element) {n : ℕ}
-      → ((t : ColumnType) → attachTransforms ByNumber p noDefaults u first t ≡ refuses n → Refuses p es inside n u t)
+      → ((t : ColumnType) → attachTransforms ByNumber p noDefaults u first t ≡ refuses n → Refuses p es M inside n u t)
       → demand (sameElement ByNumber (v .label) b) 25
-      (attachTransforms ByNumber p noDefaults u first (v .type) >>= λ s. gives (arraySelector j (renamed ByNumber b (v .label) s))) ≡ refuses n
-      → Refuses p es q n (carray w b u) (carray w (v .label) (v .type))
+      (demand (keepsRequired (v .label) (v .type) b) 55
+      (attachTransforms ByNumber p noDefaults u first (v .type) >>= λ s. gives (arraySelector j (renamed ByNumber b (v .label) s)))) ≡ refuses n
+      → Refuses p es M q n (carray w b u) (carray w (v .label) (v .type))
   array-element q w b u j v ih e =
       demand-refused (sameElement ByNumber (v .label) b) 25 _ e (λ h i. let (x, y) = unpaired (v .label) b h in rw (← i) (array-ids x y))
-      (λ h e. bind-refused (attachTransforms ByNumber p noDefaults u first (v .type)) _ e (λ s. in-array (ih (v .type) s)) (λ x y s. never-given s))
+      (λ h e. demand-refused (keepsRequired (v .label) (v .type) b) 55 _ e
+      (λ f s. let (r, o) = mark-lost (v .label) (v .type) b f in rw (← s) (array-optional r o))
+      (λ f e. bind-refused (attachTransforms ByNumber p noDefaults u first (v .type)) _ e (λ s. in-array (ih (v .type) s)) (λ x y s. never-given s)))
 
   array-refused : (q : Place) (w : ℕ) (b : Label) (u : ColumnType) (j : Position) (t : ColumnType) {n : ℕ}
-      → ((t : ColumnType) → attachTransforms ByNumber p noDefaults u first t ≡ refuses n → Refuses p es inside n u t)
-      → attachTransforms ByNumber p (asked es k q) (carray w b u) j t ≡ refuses n → Refuses p es q n (carray w b u) t
+      → ((t : ColumnType) → attachTransforms ByNumber p noDefaults u first t ≡ refuses n → Refuses p es M inside n u t)
+      → attachTransforms ByNumber p (asked es k q) (carray w b u) j t ≡ refuses n → Refuses p es M q n (carray w b u) t
   unfolding attachTransforms unlessNullType choose arrayPart
   array-refused q w b u j (cleaf l) ih e =
       bind-refused _ _ e (λ s. rw (← refuses-eq s) (other-kind (leaf-for-nested nested-array))) (λ v h s. never-given (sym h))
@@ -286,14 +321,14 @@ module _ (p : Policy) (es : List Entry) (k : ℕ) where
     unfolding attachTransforms attachFields
 
     type-refused : (u : ColumnType) (q : Place) (j : Position) (t : ColumnType) {n : ℕ} → attachTransforms ByNumber p (asked es k q) u j t ≡ refuses n
-        → Refuses p es q n u t
+        → Refuses p es M q n u t
     type-refused (cleaf m) q j t e = leaf-refused q m j t e
     type-refused (cstruct gs) q j t e = struct-refused q gs j t (λ fs s. in-struct (fields-refused gs q fs s)) e
     type-refused (clist b u) q j t e = list-refused q b u j t (λ t s. type-refused u inside first t s) e
     type-refused (carray w b u) q j t e = array-refused q w b u j t (λ t s. type-refused u inside first t s) e
 
     fields-refused : (gs : Columns) (q : Place) (fs : Columns) {n : ℕ} → attachFields ByNumber p (asked es k q) gs fs ≡ refuses n
-        → RefusesAny p es q (p .«missing_struct_fields») 14 n gs fs
+        → RefusesAny p es M q (p .«missing_struct_fields») 14 n gs fs
     fields-refused cnil q fs e = never-given e
     fields-refused (ccons b u gs) q fs e =
         bind-refused _ _ e (λ s. column-refused (p .«missing_struct_fields») 14 q b u fs (λ j t s. type-refused u q j t s) s)
@@ -311,7 +346,7 @@ module _ (p : Policy) (es : List Entry) (k : ℕ) where
   answered-refused (refusedAt m i) f {n} {j} e = let q : m ≡ n = cc in let r : i ≡ j = cc in rw (q, r)
 
   tops-refused : (gs fs : Columns) (i : ℕ) {n j : ℕ} → buildFrom ByNumber p (getDefaultValue es k) gs fs i ≡ refusedAt n j
-      → RefusesAny p es outside (p .«missing_columns») 11 n gs fs
+      → RefusesAny p es M outside (p .«missing_columns») 11 n gs fs
   unfolding buildFrom buildColumnSelector
   tops-refused cnil fs i e = clash (cc)
   tops-refused (ccons b u gs) fs i e =
@@ -320,12 +355,12 @@ module _ (p : Policy) (es : List Entry) (k : ℕ) where
 
   -- a build that is refused with n is refused for a listed reason
   pub build-refused : (Γ Δ : Columns) {n j : ℕ} → build ByNumber p (getDefaultValue es k) Γ Δ ≡ refusedAt n j
-      → RefusesBuild p es n Δ Γ
+      → RefusesBuild p es M n Δ Γ
   unfolding build answered
   build-refused Γ Δ {n} {j} e = go (extraColumns (p .«extra_columns») ByNumber Γ Δ) refl e
     where
       go : (x : Answer (Unit {0})) → extraColumns (p .«extra_columns») ByNumber Γ Δ ≡ x
-          → answered x (λ u. buildFrom ByNumber p (getDefaultValue es k) Δ Γ 0) ≡ refusedAt n j → RefusesBuild p es n Δ Γ
+          → answered x (λ u. buildFrom ByNumber p (getDefaultValue es k) Δ Γ 0) ≡ refusedAt n j → RefusesBuild p es M n Δ Γ
       go (accepted u) q e = at-a-column (tops-refused Δ Γ 0 e)
       go (refusedAt m i) q e =
           let (r, (s, f)) = columns-refused (p .«extra_columns») ByNumber Γ Δ q in

@@ -17,7 +17,8 @@ use Rattle.layout.specs.declared.leaf.Decimal.{Decimal}
 use Rattle.layout.specs.declared.leaf.Leaf.{Leaf}
 use Rattle.layout.specs.declared.leaf.Leaf.the-variants.{Date}
 use Rattle.layout.specs.declared.leaf.TimeUnit.the-variants.{Microseconds}
-use Rattle.layout.specs.declared.version.Version.the-variants.{ByNumber}
+use Rattle.layout.specs.declared.edition.Edition.the-variants.{Two}
+use Rattle.layout.specs.declared.matching.Matching.the-variants.{ByNumber}
 use Rattle.layout.proofs.Ways.{clash}
 use Rattle.forms.specs.Form.{leafForm, carried, textBytes}
 use Rattle.forms.specs.Same.{sameLeaf, sameDtype}
@@ -34,15 +35,17 @@ use Rattle.numeric.specs.Integers.{signed, unsigned, numberOf, pattern, widened
 use Rattle.plan.specs.Convert.{counted, rescaled, convertAs, convert}
 use Rattle.plan.specs.Result.{Answer, accepted, refusedAt, _>>=_, demand, placed, answered}
 use Rattle.plan.specs.Selector.{countSelectors}
+use Rattle.plan.specs.Nullness.{nullnessAt, ofValue, ofFields, ofElements}
+use Rattle.plan.specs.Marks.{allowed, meets, meetsAll}
 use Rattle.plan.specs.Run.{valueAt, mapValues, onStruct, onList, onArray, castLeaf, castValue, eval, evals}
 use Rattle.plan.proofs.Results.{true≠false}
 use Rattle.matching.specs.Default.{leafDefault, withField, structDefault, buildIcebergDefaultValue, defaultsOf, missingValue}
 use Rattle.matching.specs.Build.{leafPart, structPart, listPart, arrayPart, isNullType, unlessNullType, renamed, sameElement, distinct, noExtra, extraColumnErr, extraColumns, missing, ruled}
 use Rattle.matching.specs.Build.{isPosition, inPlace, structSelector, listSelector, arraySelector, sought, attachTransforms, attachFields, buildColumnSelector}
-use Rattle.matching.specs.Build.{buildFrom, build}
+use Rattle.matching.specs.Build.{keepsRequired, fillsRequired, buildFrom, build}
 use Rattle.matching.specs.Due.{dueLeaf}
 use Rattle.matching.proofs.Samples.{laidOut}
-use Rattle.iceberg.specs.Specification.{HasId, id-here, id-there, lacks-nil, lacks-cons, Metadata, no-transform, not-present, nothing-defined, promotes}
+use Rattle.iceberg.specs.Specification.{HasId, id-here, id-there, lacks-nil, lacks-cons, Metadata, no-transform, not-present, nothing-defined, present, mayBecome, promotes}
 use Rattle.iceberg.specs.Specification.{by-default, by-empty-struct, by-empty-list, by-null, initial-nil, initial-cons, by-partition, by-null-partition}
 use Rattle.iceberg.specs.Specification.{by-initial, Reads, reads-leaf, reads-null, reads-struct, reads-list, ReadsAll, reads-nil, reads-selected}
 use Rattle.iceberg.specs.Specification.{reads-missing, reads-none, reads-more}
@@ -62,7 +65,8 @@ use Rattle.numeric.specs.declared.integers.Integer.the-variants.{Int8, Int16, I
 
 -- what a build by number and its run over the values ρ give at source 0
 computed : Policy → List Entry → Columns → Columns → Values → Answer Values
-unfolding build buildFrom buildColumnSelector attachTransforms attachFields sought missing missingValue buildIcebergDefaultValue defaultsOf leafDefault
+unfolding keepsRequired fillsRequired present mayBecome allowed meets meetsAll ofValue ofFields ofElements nullnessAt
+    build buildFrom buildColumnSelector attachTransforms attachFields sought missing missingValue buildIcebergDefaultValue defaultsOf leafDefault
     withField structDefault getDefaultValue firstEntry givenTo ofSource unlessNull leafPart structPart listPart arrayPart isNullType unlessNullType renamed
     sameElement distinct noExtra extraColumnErr extraColumns ruled isPosition inPlace structSelector listSelector arraySelector findFrom sameBytes sameDtype sameLeaf leafForm carried
     dtypeOf fieldsOf countColumns countSelectors choose _>>=_ demand placed answered eval evals valueAt mapValues onStruct onList onArray castLeaf castValue
@@ -72,7 +76,7 @@ computed p es Γ Δ ρ = answered (build ByNumber p (getDefaultValue es 0) Γ Δ
 -- ---- the parts of the samples
 
 abbrev label : ℕ → ℕ → Label
-label c i = record { name = c ∷ []; id = record { 0 = i } }
+label c i = record { name = c ∷ []; id = record { 0 = i }; required = false }
 
 -- nothing; t#1 struct{}; a#2:int8; t#1 struct{a#2:int8}; t#1 struct{a#2:int8,b#3:int8}; t#1 list<e#i t>
 abbrev none : Columns
@@ -150,9 +154,9 @@ added =
     record {
       ours = refl;
       reads =
-          reads-selected′ (id-here refl)
-          (reads-struct′ (reads-missing′ lacks-nil (by-initial′ refl no-transform (by-default′ refl refl)) reads-nil′ refl)) reads-nil′ refl;
-      theirs = reads-selected (id-here refl) (reads-struct (reads-missing lacks-nil (by-initial refl no-transform (by-default refl)) reads-nil)) reads-nil;
+          reads-selected′ (id-here refl) refl
+          (reads-struct′ (reads-missing′ lacks-nil refl (by-initial′ refl no-transform (by-default′ refl refl)) reads-nil′ refl)) reads-nil′ refl;
+      theirs = reads-selected (id-here refl) refl (reads-struct (reads-missing lacks-nil refl (by-initial refl no-transform (by-default refl)) reads-nil)) reads-nil;
     }
 
 -- whatever the record holds
@@ -167,7 +171,7 @@ abbrev repeated : Columns
 repeated = ccons (label 0x74 1) (cstruct (ccons (label 0x61 1) (cleaf (integer Int8)) cnil)) cnil
 
 repeated-read : layout (0x4C ∷ 0x41 ∷ 0x59 ∷ 2 ∷ 0 ∷ 1 ∷ 0 ∷ 1 ∷ 0x74 ∷ 1 ∷ 0 ∷ 0 ∷ 0 ∷ 18 ∷ 1 ∷ 0 ∷ 1 ∷ 0x61 ∷ 1 ∷ 0 ∷ 0 ∷ 0 ∷ 2 ∷ [])
-    ≡ ok (record { version = ByNumber; columns = repeated }) 23
+    ≡ ok (record { edition = Two; columns = repeated }) 23
 unfolding laidOut
 repeated-read = refl
 
@@ -177,8 +181,8 @@ repeated-reads =
     record {
       ours = refl;
       reads =
-          reads-selected′ (id-here refl) (reads-struct′ (reads-selected′ (id-here refl) (reads-leaf′ refl refl) reads-nil′ refl)) reads-nil′ refl;
-      theirs = reads-selected (id-here refl) (reads-struct (reads-selected (id-here refl) (reads-leaf refl refl) reads-nil)) reads-nil;
+          reads-selected′ (id-here refl) refl (reads-struct′ (reads-selected′ (id-here refl) refl (reads-leaf′ refl refl) reads-nil′ refl)) reads-nil′ refl;
+      theirs = reads-selected (id-here refl) refl (reads-struct (reads-selected (id-here refl) refl (reads-leaf refl refl) reads-nil)) reads-nil;
     }
 
 -- ---- the differences
@@ -190,10 +194,10 @@ hidden =
     record {
       ours = refl;
       reads =
-          reads-selected′ (id-here refl)
-          (reads-struct′ (reads-missing′ lacks-nil (by-initial′ refl not-present (hidden-default refl hides-not-present refl)) reads-nil′ refl))
+          reads-selected′ (id-here refl) refl
+          (reads-struct′ (reads-missing′ lacks-nil refl (by-initial′ refl not-present (hidden-default refl hides-not-present refl)) reads-nil′ refl))
           reads-nil′ refl;
-      theirs = reads-selected (id-here refl) (reads-struct (reads-missing lacks-nil (by-initial refl not-present (by-default refl)) reads-nil)) reads-nil;
+      theirs = reads-selected (id-here refl) refl (reads-struct (reads-missing lacks-nil refl (by-initial refl not-present (by-default refl)) reads-nil)) reads-nil;
     }
 
 -- and one that is null, where a null is not present;
@@ -203,10 +207,10 @@ hidden-null =
     record {
       ours = refl;
       reads =
-          reads-selected′ (id-here refl)
-          (reads-struct′ (reads-missing′ lacks-nil (by-initial′ refl not-present (hidden-default refl hides-not-present refl)) reads-nil′ refl))
+          reads-selected′ (id-here refl) refl
+          (reads-struct′ (reads-missing′ lacks-nil refl (by-initial′ refl not-present (hidden-default refl hides-not-present refl)) reads-nil′ refl))
           reads-nil′ refl;
-      theirs = reads-selected (id-here refl) (reads-struct (reads-missing lacks-nil (by-initial refl not-present (by-default refl)) reads-nil)) reads-nil;
+      theirs = reads-selected (id-here refl) refl (reads-struct (reads-missing lacks-nil refl (by-initial refl not-present (by-default refl)) reads-nil)) reads-nil;
     }
 
 -- where it is, both read null.
@@ -216,8 +220,8 @@ null-is-present =
     record {
       ours = refl;
       reads =
-          reads-selected′ (id-here refl) (reads-struct′ (reads-missing′ lacks-nil (by-null-partition′ refl refl) reads-nil′ refl)) reads-nil′ refl;
-      theirs = reads-selected (id-here refl) (reads-struct (reads-missing lacks-nil (by-null-partition refl) reads-nil)) reads-nil;
+          reads-selected′ (id-here refl) refl (reads-struct′ (reads-missing′ lacks-nil refl (by-null-partition′ refl refl) reads-nil′ refl)) reads-nil′ refl;
+      theirs = reads-selected (id-here refl) refl (reads-struct (reads-missing lacks-nil refl (by-null-partition refl) reads-nil)) reads-nil;
     }
 
 -- Inside `{}` the specification looks at initial defaults alone: there a null partition value hides one either way.
@@ -229,13 +233,13 @@ hidden-in-struct nulls =
     record {
       ours = refl;
       reads =
-          reads-missing′ lacks-nil
+          reads-missing′ lacks-nil refl
           (by-initial′ refl no-transform
           (by-empty-struct′ refl refl
           (initial-cons′ (by-default′ refl refl) (initial-cons′ (hidden-default refl (hiding-null nulls) refl) initial-nil′ refl) refl)))
           reads-nil′ refl;
       theirs =
-          reads-missing lacks-nil
+          reads-missing lacks-nil refl
           (by-initial refl no-transform (by-empty-struct refl (initial-cons (by-default refl) (initial-cons (by-default refl) initial-nil)))) reads-nil;
     }
 
@@ -246,11 +250,11 @@ together =
     record {
       ours = refl;
       reads =
-          reads-missing′ lacks-nil
+          reads-missing′ lacks-nil refl
           (by-initial′ refl no-transform
           (by-none′ refl nothing-defined (struct-together refl (missing-cons′ (by-initial′ refl no-transform (by-default′ refl refl)) missing-nil′ refl))))
           reads-nil′ refl;
-      theirs = reads-missing lacks-nil (by-initial refl no-transform (by-null refl nothing-defined)) reads-nil;
+      theirs = reads-missing lacks-nil refl (by-initial refl no-transform (by-null refl nothing-defined)) reads-nil;
     }
 
 -- .. and is null where all are none
@@ -259,9 +263,9 @@ unfolding computed stated partitionOf initialOf firstEntry choose valueAt valued
 of-none =
     record {
       ours = refl;
-      reads = reads-missing′ lacks-nil (by-initial′ refl no-transform (struct-of-none refl refl)) reads-nil′ refl;
+      reads = reads-missing′ lacks-nil refl (by-initial′ refl no-transform (struct-of-none refl refl)) reads-nil′ refl;
       theirs =
-          reads-missing lacks-nil (by-initial refl no-transform (by-empty-struct refl (initial-cons (by-null refl nothing-defined) initial-nil))) reads-nil;
+          reads-missing lacks-nil refl (by-initial refl no-transform (by-empty-struct refl (initial-cons (by-null refl nothing-defined) initial-nil))) reads-nil;
     }
 
 -- .. and holds partition values
@@ -271,9 +275,9 @@ partition-inside =
     record {
       ours = refl;
       reads =
-          reads-missing′ lacks-nil (by-initial′ refl no-transform (by-empty-struct′ refl refl (initial-cons′ (partition-in-struct refl) initial-nil′ refl)))
+          reads-missing′ lacks-nil refl (by-initial′ refl no-transform (by-empty-struct′ refl refl (initial-cons′ (partition-in-struct refl) initial-nil′ refl)))
           reads-nil′ refl;
-      theirs = reads-missing lacks-nil (by-initial refl no-transform (by-empty-struct refl (initial-cons (by-default refl) initial-nil))) reads-nil;
+      theirs = reads-missing lacks-nil refl (by-initial refl no-transform (by-empty-struct refl (initial-cons (by-default refl) initial-nil))) reads-nil;
     }
 
 -- a list's own default `[]` is not looked at
@@ -282,8 +286,8 @@ unfolding computed stated partitionOf initialOf firstEntry choose valueAt valued
 empty-list =
     record {
       ours = refl;
-      reads = reads-missing′ lacks-nil (by-initial′ refl no-transform (list-default refl)) reads-nil′ refl;
-      theirs = reads-missing lacks-nil (by-initial refl no-transform (by-empty-list refl)) reads-nil;
+      reads = reads-missing′ lacks-nil refl (by-initial′ refl no-transform (list-default refl)) reads-nil′ refl;
+      theirs = reads-missing lacks-nil refl (by-initial refl no-transform (by-empty-list refl)) reads-nil;
     }
 
 -- a partition value under a struct's, list's or array's own id is not looked at
@@ -293,8 +297,8 @@ partition-of-struct =
     record {
       ours = refl;
       reads =
-          reads-missing′ lacks-nil (own-partition nested-struct refl refl unseen-value (by-none′ refl nothing-defined (by-null′ refl))) reads-nil′ refl;
-      theirs = reads-missing lacks-nil (by-partition refl) reads-nil;
+          reads-missing′ lacks-nil refl (own-partition nested-struct refl refl unseen-value (by-none′ refl nothing-defined (by-null′ refl))) reads-nil′ refl;
+      theirs = reads-missing lacks-nil refl (by-partition refl) reads-nil;
     }
 
 -- nor is an initial default there
@@ -303,8 +307,8 @@ unfolding computed stated partitionOf initialOf firstEntry choose valueAt valued
 default-of-struct =
     record {
       ours = refl;
-      reads = reads-missing′ lacks-nil (by-initial′ refl no-transform (own-default nested-struct refl (by-null′ refl))) reads-nil′ refl;
-      theirs = reads-missing lacks-nil (by-initial refl no-transform (by-default refl)) reads-nil;
+      reads = reads-missing′ lacks-nil refl (by-initial′ refl no-transform (own-default nested-struct refl (by-null′ refl))) reads-nil′ refl;
+      theirs = reads-missing lacks-nil refl (by-initial refl no-transform (by-default refl)) reads-nil;
     }
 
 -- no default inside elements
@@ -315,24 +319,24 @@ in-elements =
     record {
       ours = refl;
       reads =
-          reads-selected′ (id-here refl)
-          (reads-list′ refl
+          reads-selected′ (id-here refl) refl
+          (reads-list′ refl refl
           (reads-more′
-          (reads-struct′ (reads-missing′ lacks-nil (in-element (by-initial refl no-transform (by-default {y = seven} refl)) (λ e. not-null e)) reads-nil′ refl))
+          (reads-struct′ (reads-missing′ lacks-nil refl (in-element (by-initial refl no-transform (by-default {y = seven} refl)) (λ e. not-null e)) reads-nil′ refl))
           reads-none′ refl))
           reads-nil′ refl;
       theirs =
-          reads-selected (id-here refl)
-          (reads-list refl (reads-more (reads-struct (reads-missing lacks-nil (by-initial refl no-transform (by-default refl)) reads-nil)) reads-none))
+          reads-selected (id-here refl) refl
+          (reads-list refl refl (reads-more (reads-struct (reads-missing lacks-nil refl (by-initial refl no-transform (by-default refl)) reads-nil)) reads-none))
           reads-nil;
     }
 
 -- ---- where the specification has no reading
 
-has-none : {i : FieldId} {k : ℕ} {t : ColumnType} {X : Type 0} → HasId cnil i k t → X
+has-none : {i : FieldId} {k : ℕ} {a : Label} {t : ColumnType} {X : Type 0} → HasId cnil i k a t → X
 has-none h = elim h [ ]
 
-only-column : {l : Label} {i : FieldId} {k : ℕ} {t u : ColumnType} → HasId (ccons l t cnil) i k u → (0 ≡ k) × (t ≡ u)
+only-column : {a l : Label} {i : FieldId} {k : ℕ} {t u : ColumnType} → HasId (ccons l t cnil) i k a u → (0 ≡ k) × (t ≡ u)
 only-column (id-here e) = (refl, refl)
 only-column (id-there h) = has-none h
 
@@ -341,15 +345,15 @@ module _ (M : Metadata) where
   first-reads : {a b : Label} {t u : ColumnType} {x : Value} {zs : Values} → a .id ≡ b .id
       → ReadsAll dueLeaf M (ccons b u cnil) (ccons a t cnil) (vcons x vnil) zs → (y : Value) × Reads dueLeaf M u t x y
   unfolding valueAt
-  first-reads {x = x} e (reads-selected {y = y} h r rs) = let (p, q) = only-column h in (y, moved p q r)
+  first-reads {x = x} e (reads-selected {y = y} h m r rs) = let (p, q) = only-column h in (y, moved p q r)
     where
       moved : {u t s : ColumnType} {j k : ℕ} {y : Value} → j ≡ k → t ≡ s → Reads dueLeaf M u s (valueAt (vcons x vnil) k) y
           → Reads dueLeaf M u t (valueAt (vcons x vnil) j) y
       moved p q r = rw (p, q) r
-  first-reads e (reads-missing (lacks-cons n l) m rs) = absurd (n e)
+  first-reads e (reads-missing (lacks-cons n l) i m rs) = absurd (n e)
 
   equal-ids : {a b : Label} {t u : ColumnType} {xs : Values} {y : Value} → Reads dueLeaf M (clist b u) (clist a t) (vlist xs) y → a .id ≡ b .id
-  equal-ids (reads-list e h) = e
+  equal-ids (reads-list e m h) = e
 
   no-array : {w : ℕ} {a b : Label} {t u : ColumnType} {xs : Values} {y : Value} → Reads dueLeaf M (carray w b u) (carray w a t) (varray xs) y → ⊥
   no-array r = elim r [ ]
@@ -365,7 +369,7 @@ any-paired =
     record {
       ours = refl;
       reads =
-          reads-selected′ (id-here refl) (any-element (λ e. differ e) (target-is-any refl) (reads-more′ (reads-leaf′ refl refl) reads-none′ refl))
+          reads-selected′ (id-here refl) refl (any-element (λ e. differ e) (target-is-any refl) (reads-more′ (reads-leaf′ refl refl) reads-none′ refl))
           reads-nil′ refl;
       theirs = λ zs r. differ (equal-ids _ (first-reads _ refl r .1));
     }
@@ -382,7 +386,7 @@ unfolding computed stated choose valueAt promotes dueLeaf sameLeaf sameDtype lea
 array-of-one =
     record {
       ours = refl;
-      reads = reads-selected′ (id-here refl) (array-read (reads-more′ (reads-leaf′ refl refl) reads-none′ refl)) reads-nil′ refl;
+      reads = reads-selected′ (id-here refl) refl (array-read (reads-more′ (reads-leaf′ refl refl) reads-none′ refl)) reads-nil′ refl;
       theirs = λ zs r. no-array _ (first-reads _ refl r .1);
     }
 
@@ -396,7 +400,7 @@ unfolding computed stated choose valueAt promotes dueLeaf sameLeaf sameDtype lea
 int8-to-int16 =
     record {
       ours = refl;
-      reads = reads-selected′ (id-here refl) (leaf-converted refl (λ e. not-null e) refl) reads-nil′ refl;
+      reads = reads-selected′ (id-here refl) refl (leaf-converted refl (λ e. not-null e) refl) reads-nil′ refl;
       theirs = λ zs r. true≠false (number-promotes _ (first-reads _ refl r .1)) refl;
     }
 
@@ -404,7 +408,7 @@ int8-to-int16 =
 
 record Refusal (p : Policy) (es : List Entry) (Γ Δ : Columns) (ρ : Values) (n : ℕ) (zs : Values) : Type 0 where
   ours : computed p es Γ Δ ρ ≡ refusedAt n 0
-  why : RefusesAny p es outside (p .«missing_columns») 11 n Δ Γ
+  why : RefusesAny p es (stated false es 0 noneEmpty) outside (p .«missing_columns») 11 n Δ Γ
   theirs : ReadsAll dueLeaf (stated false es 0 noneEmpty) Δ Γ ρ zs
 
 -- a partition that failed to load is an error
@@ -414,7 +418,7 @@ unloaded =
     record {
       ours = refl;
       why = at-selected (id-here refl) (in-struct (missing-default lacks-nil (partition-failed (entry-there (entry-here refl refl)))));
-      theirs = reads-selected (id-here refl) (reads-struct (reads-missing lacks-nil (by-initial refl not-present (by-default refl)) reads-nil)) reads-nil;
+      theirs = reads-selected (id-here refl) refl (reads-struct (reads-missing lacks-nil refl (by-initial refl not-present (by-default refl)) reads-nil)) reads-nil;
     }
 
 -- a default of another type
@@ -425,7 +429,7 @@ unlike =
     record {
       ours = refl;
       why = at-selected (id-here refl) (in-struct (missing-default lacks-nil (default-type (entry-here refl refl) of-initial refl)));
-      theirs = reads-selected (id-here refl) (reads-struct (reads-missing lacks-nil (by-initial refl no-transform (by-default refl)) reads-nil)) reads-nil;
+      theirs = reads-selected (id-here refl) refl (reads-struct (reads-missing lacks-nil refl (by-initial refl no-transform (by-default refl)) reads-nil)) reads-nil;
     }
 
 -- Raise: a missing column, a missing field, an extra field
@@ -435,7 +439,7 @@ raised-column =
     record {
       ours = refl;
       why = missing-raised lacks-nil refl;
-      theirs = reads-missing lacks-nil (by-initial refl no-transform (by-null refl nothing-defined)) reads-nil;
+      theirs = reads-missing lacks-nil refl (by-initial refl no-transform (by-null refl nothing-defined)) reads-nil;
     }
 
 raised-field : Refusal (policyOf 63487) [] bare whole emptyRow 14 (row vnull)
@@ -445,7 +449,7 @@ raised-field =
       ours = refl;
       why = at-selected (id-here refl) (in-struct (missing-raised lacks-nil refl));
       theirs =
-          reads-selected (id-here refl) (reads-struct (reads-missing lacks-nil (by-initial refl no-transform (by-null refl nothing-defined)) reads-nil))
+          reads-selected (id-here refl) refl (reads-struct (reads-missing lacks-nil refl (by-initial refl no-transform (by-null refl nothing-defined)) reads-nil))
           reads-nil;
     }
 
@@ -455,11 +459,11 @@ raised-extra =
     record {
       ours = refl;
       why = at-selected (id-here refl) (extra-field refl (extra-here lacks-nil));
-      theirs = reads-selected (id-here refl) (reads-struct reads-nil) reads-nil;
+      theirs = reads-selected (id-here refl) refl (reads-struct reads-nil) reads-nil;
     }
 
 -- and an extra column
-raised-extra-column : (computed (policyOf 32767) [] whole none (row five) ≡ refusedAt 53 0) × RefusesBuild (policyOf 32767) [] 53 none whole
+raised-extra-column : (computed (policyOf 32767) [] whole none (row five) ≡ refusedAt 53 0) × RefusesBuild (policyOf 32767) [] (stated false [] 0 noneEmpty) 53 none whole
     × ReadsAll dueLeaf (stated false [] 0 noneEmpty) none whole (row five) vnil
 unfolding computed
 raised-extra-column = (refl, extra-column refl (extra-here lacks-nil), reads-nil)
@@ -471,7 +475,7 @@ unknown-nested =
     record {
       ours = refl;
       why = at-selected (id-here refl) (other-kind (leaf-for-nested nested-struct));
-      theirs = reads-selected (id-here refl) reads-null reads-nil;
+      theirs = reads-selected (id-here refl) refl reads-null reads-nil;
     }
 
 -- a promotion that the policy refuses
@@ -479,11 +483,11 @@ not-upcast : Refusal (policyOf 65533) [] (typed (integer Int32)) (typed (integer
     (one (vnumber (Leaf.Integer Int64) 5))
 unfolding computed stated choose valueAt promotes dueLeaf sameLeaf sameDtype leafForm carried sameBytes castLeaf convert convertAs counted rescaled widened
     numberOf signed unsigned pattern pairRule chain paramsOf zonesOf readZone isUtc
-not-upcast = record { ours = refl; why = at-selected (id-here refl) (leaf-pair refl); theirs = reads-selected (id-here refl) (reads-leaf refl refl) reads-nil }
+not-upcast = record { ours = refl; why = at-selected (id-here refl) (leaf-pair refl); theirs = reads-selected (id-here refl) refl (reads-leaf refl refl) reads-nil }
 
 -- element ids are compared; the specification has no reading of them as one field
 unpaired : (computed allOn [] (listed 2 (cleaf (integer Int8))) (listed 3 (cleaf (integer Int8))) (one (vlist (one five))) ≡ refusedAt 25 0)
-    × RefusesAny allOn [] outside (allOn .«missing_columns») 11 25 (listed 3 (cleaf (integer Int8))) (listed 2 (cleaf (integer Int8)))
+    × RefusesAny allOn [] (stated false [] 0 noneEmpty) outside (allOn .«missing_columns») 11 25 (listed 3 (cleaf (integer Int8))) (listed 2 (cleaf (integer Int8)))
     × ((zs : Values)
     → ReadsAll dueLeaf (stated false [] 0 noneEmpty) (listed 3 (cleaf (integer Int8))) (listed 2 (cleaf (integer Int8))) (one (vlist (one five))) zs → ⊥)
 unfolding computed
@@ -506,11 +510,11 @@ abbrev timestamp : LeafType
 timestamp = datetime Microseconds []
 
 date-to-timestamp : (computed allOn [] (typed date) (typed timestamp) (one (vnumber Date 5)) ≡ refusedAt 24 0)
-    × RefusesAny allOn [] outside (allOn .«missing_columns») 11 24 (typed timestamp) (typed date)
+    × RefusesAny allOn [] (stated false [] 0 noneEmpty) outside (allOn .«missing_columns») 11 24 (typed timestamp) (typed date)
     × ((f : LeafType → LeafType → Value → Value)
     → ReadsAll f (stated false [] 0 noneEmpty) (typed timestamp) (typed date) (one (vnumber Date 5)) (one (f date timestamp (vnumber Date 5))))
 unfolding computed valueAt promotes sameLeaf leafForm carried sameBytes pairRule chain paramsOf zonesOf readZone isUtc textBytes
-date-to-timestamp = (refl, at-selected (id-here refl) (leaf-pair refl), λ f. reads-selected (id-here refl) (reads-leaf refl refl) reads-nil)
+date-to-timestamp = (refl, at-selected (id-here refl) (leaf-pair refl), λ f. reads-selected (id-here refl) refl (reads-leaf refl refl) reads-nil)
 
 -- ---- decimals (document 02, L1)
 
@@ -530,8 +534,8 @@ unfolding computed stated choose valueAt promotes dueLeaf sameLeaf sameDtype lea
 widening =
     record {
       ours = refl;
-      reads = reads-selected′ (id-here refl) (reads-leaf′ refl refl) reads-nil′ refl;
-      theirs = reads-selected (id-here refl) (reads-leaf refl refl) reads-nil;
+      reads = reads-selected′ (id-here refl) refl (reads-leaf′ refl refl) reads-nil′ refl;
+      theirs = reads-selected (id-here refl) refl (reads-leaf refl refl) reads-nil;
     }
 
 -- whatever the record holds
@@ -543,12 +547,12 @@ widening-agrees = agrees-selected (id-here refl) (agrees-leaf refl) agrees-nil
 not-widened : Refusal (policyOf 49151) [] (decimals 9 2) (decimals 18 2) (fixed 9 2 999999999) 51 (fixed 18 2 999999999)
 unfolding computed stated choose valueAt promotes dueLeaf sameLeaf sameDtype leafForm carried sameBytes castLeaf convert convertAs pairRule chain paramsOf
     decimalsOf
-not-widened = record { ours = refl; why = at-selected (id-here refl) (leaf-pair refl); theirs = reads-selected (id-here refl) (reads-leaf refl refl) reads-nil }
+not-widened = record { ours = refl; why = at-selected (id-here refl) (leaf-pair refl); theirs = reads-selected (id-here refl) refl (reads-leaf refl refl) reads-nil }
 
 -- refused with n, and the specification has no reading, either
 record Neither (Γ Δ : Columns) (ρ : Values) (n : ℕ) : Type 0 where
   ours : computed allOn [] Γ Δ ρ ≡ refusedAt n 0
-  why : RefusesAny allOn [] outside (allOn .«missing_columns») 11 n Δ Γ
+  why : RefusesAny allOn [] (stated false [] 0 noneEmpty) outside (allOn .«missing_columns») 11 n Δ Γ
   theirs : (zs : Values) → ReadsAll dueLeaf (stated false [] 0 noneEmpty) Δ Γ ρ zs → ⊥
 
 -- a smaller precision

@@ -10,7 +10,7 @@ use Rattle.layout.specs.Tree.{LeafType, Label, ColumnType, Columns, cnil, ccons
 use Rattle.layout.specs.Find.{absent, at, findFrom, counterpart}
 use Rattle.layout.specs.declared.columns.FieldId.{FieldId}
 use Rattle.layout.specs.declared.columns.Position.{Position}
-use Rattle.layout.specs.declared.version.Version.the-variants.{ByNumber}
+use Rattle.layout.specs.declared.matching.Matching.the-variants.{ByNumber}
 use Rattle.layout.proofs.Ways.{clash}
 use Rattle.forms.specs.Same.{sameDtype}
 use Rattle.values.specs.Value.{vnull}
@@ -25,34 +25,35 @@ id-eq e = ap (λ (n : ℕ). record { 0 = n }) e
 abbrev isId : FieldId → ℕ → Label → Bool
 isId j i l = eqb (l .id .0) (j .0)
 
-record Selected (j : FieldId) (i : ℕ) (cs : Columns) (k : Position) (t : ColumnType) : Type 0 where
+record Selected (j : FieldId) (i : ℕ) (cs : Columns) (k : Position) (a : Label) (t : ColumnType) : Type 0 where
   index : ℕ
   counted : i + index ≡ k .0
-  has : HasId cs j index t
+  has : HasId cs j index a t
 
-selected : (j : FieldId) (i : ℕ) (cs : Columns) {k : Position} {a : Label} {t : ColumnType} → findFrom (isId j) i cs ≡ at k a t → Selected j i cs k t
+selected : (j : FieldId) (i : ℕ) (cs : Columns) {k : Position} {a : Label} {t : ColumnType} → findFrom (isId j) i cs ≡ at k a t
+    → Selected j i cs k a t
 unfolding findFrom choose
 selected j i cnil e = never-absent e
 selected j i (ccons l u cs) {k} {a} {t} e = go (eqb (l .id .0) (j .0)) refl e (λ h. selected j (i + 1) cs h)
   where
     go : (x : Bool) → eqb (l .id .0) (j .0) ≡ x → choose x (at (record { 0 = i }) l u) (findFrom (isId j) (i + 1) cs) ≡ at k a t
-        → (findFrom (isId j) (i + 1) cs ≡ at k a t → Selected j (i + 1) cs k t) → Selected j i (ccons l u cs) k t
+        → (findFrom (isId j) (i + 1) cs ≡ at k a t → Selected j (i + 1) cs k a t) → Selected j i (ccons l u cs) k a t
     go true q e ih =
         let (p, (r, z)) = at-eq e in
         let w : i ≡ k .0 = ap (λ (k : Position). k .0) p in
-        record { index = 0; counted = omega arith; has = rw (← z) (id-here (id-eq (eqb-true _ _ q))) }
+        record { index = 0; counted = omega arith; has = rw (← r, ← z) (id-here (id-eq (eqb-true _ _ q))) }
     go false q e ih = let S = ih e in record { index = suc (S .index); counted = let c = S .counted in omega arith; has = id-there (S .has) }
 
 -- what document 01 finds by number is what the specification selects,
 pub counterpart-selected : (b : Label) (fs : Columns) {k : Position} {a : Label} {t : ColumnType} → counterpart ByNumber b fs ≡ at k a t
-    → HasId fs (b .id) (k .0) t
+    → HasId fs (b .id) (k .0) a t
 counterpart-selected b fs {k} {a} {t} e =
     let S = selected (b .id) 0 fs e in
     let c = S .counted in
     let z : S .index ≡ k .0 = omega arith in
     moved z (S .has)
   where
-    moved : {i j : ℕ} → i ≡ j → HasId fs (b .id) i t → HasId fs (b .id) j t
+    moved : {i j : ℕ} → i ≡ j → HasId fs (b .id) i a t → HasId fs (b .id) j a t
     moved z h = rw (← z) h
 
 lacking : (j : FieldId) (i : ℕ) (cs : Columns) → findFrom (isId j) i cs ≡ absent → Lacks cs j

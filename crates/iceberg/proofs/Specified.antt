@@ -56,7 +56,7 @@ module _ (converted : LeafType → LeafType → Value → Value) (M : Metadata) 
     reads-specified (reads-leaf′ p q) e = reads-leaf p q
     reads-specified reads-null′ e = reads-null
     reads-specified (reads-struct′ h) e = reads-struct (all-specified h e)
-    reads-specified (reads-list′ p h) e = reads-list p (each-specified h e)
+    reads-specified (reads-list′ p m h) e = reads-list p m (each-specified h e)
     reads-specified (any-element n o h) e = never-empty e
     reads-specified (array-read h) e = never-empty e
     reads-specified (leaf-converted p n q) e = never-empty e
@@ -64,8 +64,9 @@ module _ (converted : LeafType → LeafType → Value → Value) (M : Metadata) 
     pub all-specified : {p : Place} {ds : Differences} {gs fs : Columns} {xs ys : Values} → ReadsAll′ converted M p ds gs fs xs ys → ds ≡ []
         → ReadsAll converted M gs fs xs ys
     all-specified reads-nil′ e = reads-nil
-    all-specified (reads-selected′ {ds = ds} h r rs q) e = let (a, b) = both-empty ds q e in reads-selected h (reads-specified r a) (all-specified rs b)
-    all-specified (reads-missing′ {ds = ds} h r rs q) e = let (a, b) = both-empty ds q e in reads-missing h (missing-specified M r a) (all-specified rs b)
+    all-specified (reads-selected′ {ds = ds} h m r rs q) e = let (a, b) = both-empty ds q e in reads-selected h m (reads-specified r a) (all-specified rs b)
+    all-specified (reads-missing′ {ds = ds} h m r rs q) e =
+        let (a, b) = both-empty ds q e in reads-missing h m (missing-specified M r a) (all-specified rs b)
 
     each-specified : {ds : Differences} {u t : ColumnType} {xs ys : Values} → ReadsEach′ converted M ds u t xs ys → ds ≡ [] → ReadsEach converted M u t xs ys
     each-specified reads-none′ e = reads-none

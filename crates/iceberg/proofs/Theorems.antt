@@ -6,7 +6,7 @@ use mathlib.Core.Bool.{Bool}
 use mathlib.Core.List.{List, []}
 use Rattle.layout.specs.Tree.{Columns, fieldsOf}
 use Rattle.layout.specs.declared.columns.FieldId.{FieldId}
-use Rattle.layout.specs.declared.version.Version.the-variants.{ByNumber}
+use Rattle.layout.specs.declared.matching.Matching.the-variants.{ByNumber}
 use Rattle.rules.specs.declared.policy.Policy.{Policy}
 use Rattle.values.specs.Value.{Values}
 use Rattle.values.specs.Fits.{FitsAll}
@@ -41,7 +41,7 @@ module _ (p : Policy) (nulls : Bool) (es : List Entry) (k : ℕ) (empties : Fiel
   build-projects e = all-specified dueLeaf (stated nulls es k empties) (build-reads .reads) e
 
   -- (c) and there is no other reading, with these or other differences; `DistinctIdsAll` holds of the columns of every
-  -- layout of version 2 that was read (`layout-distinct`).
+  -- layout of version 2 or 3 that was read (`layout-distinct`).
   pub build-reads-only : DistinctIdsAll Γ → {ds : Differences} {ys : Values} → ReadsAll′ dueLeaf (stated nulls es k empties) outside ds Δ Γ ρ ys
       → (ds ≡ build-reads .differences) × (ys ≡ evals ρ ss)
   build-reads-only d r = all′-one dueLeaf (stated nulls es k empties) null-due d r (build-reads .reads)

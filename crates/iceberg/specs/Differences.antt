@@ -10,7 +10,7 @@ use Rattle.layout.specs.declared.columns.FieldId.{FieldId}
 use Rattle.values.specs.Value.{Value, vnull, vstruct, vlist, varray, Values, vnil, vcons}
 use Rattle.plan.specs.Run.{valueAt}
 use Rattle.iceberg.specs.Specification.{PartitionValue, noTransform, notPresent, nullPresent, partitioned, InitialDefault, undefined, defined, empty}
-use Rattle.iceberg.specs.Specification.{Metadata, HasId, Lacks, Lacking, Valueless, Missing, promotes}
+use Rattle.iceberg.specs.Specification.{Metadata, HasId, Lacks, Lacking, Valueless, Missing, present, mayBecome, promotes}
 
 pub data Difference : Type 0 where
   -- a partition value that is null or past the end hides the initial default
@@ -157,8 +157,8 @@ module _ (converted : LeafType → LeafType → Value → Value) (M : Metadata) 
       reads-null′ : {p : Place} {u t : ColumnType} → Reads′ p [] u t vnull vnull
       reads-struct′ : {p : Place} {ds : Differences} {gs fs : Columns} {xs ys : Values} → ReadsAll′ p ds gs fs xs ys
           → Reads′ p ds (cstruct gs) (cstruct fs) (vstruct xs) (vstruct ys)
-      reads-list′ : {p : Place} {ds : Differences} {a b : Label} {u t : ColumnType} {xs ys : Values} → a .id ≡ b .id → ReadsEach′ ds u t xs ys
-          → Reads′ p ds (clist b u) (clist a t) (vlist xs) (vlist ys)
+      reads-list′ : {p : Place} {ds : Differences} {a b : Label} {u t : ColumnType} {xs ys : Values} → a .id ≡ b .id → mayBecome a b ≡ true
+          → ReadsEach′ ds u t xs ys → Reads′ p ds (clist b u) (clist a t) (vlist xs) (vlist ys)
       -- an element of the id 4,294,967,295 pairs with any
       any-element : {p : Place} {ds : Differences} {a b : Label} {u t : ColumnType} {xs ys : Values} → (a .id ≡ b .id → ⊥) → OneIsAny a b
           → ReadsEach′ ds u t xs ys → Reads′ p (anyElement ∷ ds) (clist b u) (clist a t) (vlist xs) (vlist ys)
@@ -171,11 +171,12 @@ module _ (converted : LeafType → LeafType → Value → Value) (M : Metadata) 
 
     pub data ReadsAll′ : Place → Differences → Columns → Columns → Values → Values → Type 0 where
       reads-nil′ : {p : Place} {fs : Columns} {xs : Values} → ReadsAll′ p [] cnil fs xs vnil
-      reads-selected′ : {p : Place} {ds es ns : Differences} {b : Label} {u t : ColumnType} {gs fs : Columns} {k : ℕ} {xs ys : Values} {y : Value}
-          → HasId fs (b .id) k t → Reads′ p ds u t (valueAt xs k) y → ReadsAll′ p es gs fs xs ys → ds ++ es ≡ ns
+      reads-selected′ : {p : Place} {ds es ns : Differences} {a b : Label} {u t : ColumnType} {gs fs : Columns} {k : ℕ} {xs ys : Values} {y : Value}
+          → HasId fs (b .id) k a t → mayBecome a b ≡ true → Reads′ p ds u t (valueAt xs k) y → ReadsAll′ p es gs fs xs ys → ds ++ es ≡ ns
           → ReadsAll′ p ns (ccons b u gs) fs xs (vcons y ys)
       reads-missing′ : {p : Place} {ds es ns : Differences} {b : Label} {u : ColumnType} {gs fs : Columns} {xs ys : Values} {y : Value} → Lacks fs (b .id)
-          → Missing′ M p ds (b .id) u y → ReadsAll′ p es gs fs xs ys → ds ++ es ≡ ns → ReadsAll′ p ns (ccons b u gs) fs xs (vcons y ys)
+          → present b u y ≡ true → Missing′ M p ds (b .id) u y → ReadsAll′ p es gs fs xs ys → ds ++ es ≡ ns
+          → ReadsAll′ p ns (ccons b u gs) fs xs (vcons y ys)
 
     pub data ReadsEach′ : Differences → ColumnType → ColumnType → Values → Values → Type 0 where
       reads-none′ : {u t : ColumnType} → ReadsEach′ [] u t vnil vnil
@@ -200,7 +201,7 @@ module _ (M : Metadata) where
     -- only missing fields are asked what the metadata state of them
     pub data AgreesAll : Place → Columns → Columns → Type 0 where
       agrees-nil : {p : Place} {fs : Columns} → AgreesAll p cnil fs
-      agrees-selected : {p : Place} {b : Label} {u t : ColumnType} {gs fs : Columns} {k : ℕ} → HasId fs (b .id) k t → Agrees p u t → AgreesAll p gs fs
+      agrees-selected : {p : Place} {a b : Label} {u t : ColumnType} {gs fs : Columns} {k : ℕ} → HasId fs (b .id) k a t → Agrees p u t → AgreesAll p gs fs
           → AgreesAll p (ccons b u gs) fs
       agrees-missing : {p : Place} {b : Label} {u : ColumnType} {gs fs : Columns} {y : Value} → Lacks fs (b .id) → Missing′ M p [] (b .id) u y
           → AgreesAll p gs fs → AgreesAll p (ccons b u gs) fs

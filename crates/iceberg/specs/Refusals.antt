@@ -1,23 +1,24 @@
 -- Where a reader of the specification reads on and documents 01 and 02 refuse to build: one rule for each reason, at the
--- column where it is met, along matched paths. 11 to 28 are document 01's numbers, 51 and 53 are document 02's. A refused build
+-- column where it is met, along matched paths. 11 to 28 are document 01's numbers, 51 and 53 to 55 are document 02's. A refused build
 -- is no reading; the list of reasons is complete (proofs/Refusing.antt). Nothing here rests on the builder; `pairRule`
 -- is the documents' table of leaf pairs.
 use Prim.Native.Nat.{ℕ}
 use mathlib.Core.Path.{_≡_}
-use mathlib.Core.Bool.{false}
+use mathlib.Core.Bool.{true, false}
 use mathlib.Core.List.{List, _∷_}
-use Rattle.layout.specs.Tree.{LeafType, Label, ColumnType, cleaf, cstruct, clist, carray, Columns, ccons}
+use Rattle.layout.specs.Tree.{LeafType, leafOf, Label, ColumnType, cleaf, cstruct, clist, carray, Columns, ccons}
 use Rattle.layout.specs.declared.columns.FieldId.{FieldId}
 use Rattle.forms.specs.Same.{sameLeaf}
 use Rattle.rules.specs.declared.policy.Policy.{Policy}
 use Rattle.rules.specs.declared.policy.MissingColumnsPolicy.{MissingColumnsPolicy}
 use Rattle.rules.specs.declared.policy.ExtraColumnsPolicy.{ExtraColumnsPolicy}
 use Rattle.rules.specs.Outcomes.{refused}
+use Rattle.rules.specs.Classes.{isNull}
 use Rattle.rules.specs.Pairs.{pairRule}
 use Rattle.values.specs.Value.{Value, Values}
 use Rattle.defaults.specs.Table.{Given, initial, partition, failed, Entry}
-use Rattle.iceberg.specs.Specification.{HasId, Lacks}
-use Rattle.iceberg.specs.Differences.{Nested, Place, outside, inside, OneIsAny}
+use Rattle.iceberg.specs.Specification.{Metadata, HasId, Lacks, present}
+use Rattle.iceberg.specs.Differences.{Differences, Nested, Place, outside, inside, Missing′, OneIsAny}
 
 -- ---- a table's entries
 
@@ -49,6 +50,11 @@ pub data Extra : Columns → Columns → Type 0 where
   extra-here : {l : Label} {t : ColumnType} {fs gs : Columns} → Lacks gs (l .id) → Extra (ccons l t fs) gs
   extra-there : {l : Label} {t : ColumnType} {fs gs : Columns} → Extra fs gs → Extra (ccons l t fs) gs
 
+-- an optional column, or one of null (unknown)
+pub data Optional : Label → ColumnType → Type 0 where
+  not-required : {a : Label} {t : ColumnType} → a .required ≡ false → Optional a t
+  of-null : {a : Label} {l : LeafType} → isNull (leafOf l) ≡ true → Optional a (cleaf l)
+
 -- ---- the reasons
 
 module _ (es : List Entry) where
@@ -65,7 +71,7 @@ module _ (es : List Entry) where
       for-first : {n : ℕ} {l : Label} {t : ColumnType} {cs : Columns} → NoDefaultFor n (l .id) t → NoDefaultIn n (ccons l t cs)
       for-later : {n : ℕ} {l : Label} {t : ColumnType} {cs : Columns} → NoDefaultIn n cs → NoDefaultIn n (ccons l t cs)
 
-module _ (p : Policy) (es : List Entry) where
+module _ (p : Policy) (es : List Entry) (M : Metadata) where
   mutual
     -- `Refuses q n u t`: the file's type t is not read as the table's type u, n says why
     pub data Refuses : Place → ℕ → ColumnType → ColumnType → Type 0 where
@@ -78,6 +84,9 @@ module _ (p : Policy) (es : List Entry) where
       -- element ids are compared
       list-ids : {q : Place} {a b : Label} {u t : ColumnType} → (a .id ≡ b .id → ⊥) → (OneIsAny a b → ⊥) → Refuses q 25 (clist b u) (clist a t)
       array-ids : {q : Place} {w : ℕ} {a b : Label} {u t : ColumnType} → (a .id ≡ b .id → ⊥) → (OneIsAny a b → ⊥) → Refuses q 25 (carray w b u) (carray w a t)
+      -- an optional element for a required one
+      list-optional : {q : Place} {a b : Label} {u t : ColumnType} → b .required ≡ true → Optional a t → Refuses q 55 (clist b u) (clist a t)
+      array-optional : {q : Place} {w : ℕ} {a b : Label} {u t : ColumnType} → b .required ≡ true → Optional a t → Refuses q 55 (carray w b u) (carray w a t)
       in-list : {q : Place} {n : ℕ} {a b : Label} {u t : ColumnType} → Refuses inside n u t → Refuses q n (clist b u) (clist a t)
       in-array : {q : Place} {n w : ℕ} {a b : Label} {u t : ColumnType} → Refuses inside n u t → Refuses q n (carray w b u) (carray w a t)
       -- Raise: an extra field
@@ -87,13 +96,19 @@ module _ (p : Policy) (es : List Entry) where
     -- `RefusesAny q m r n gs fs`: one of the table's columns gs is not read from the file's fs; r is the number of a
     -- missing one under Raise
     pub data RefusesAny : Place → MissingColumnsPolicy → ℕ → ℕ → Columns → Columns → Type 0 where
-      at-selected : {q : Place} {m : MissingColumnsPolicy} {r n k : ℕ} {b : Label} {u t : ColumnType} {gs fs : Columns} → HasId fs (b .id) k t → Refuses q n u t
-          → RefusesAny q m r n (ccons b u gs) fs
+      at-selected : {q : Place} {m : MissingColumnsPolicy} {r n k : ℕ} {a b : Label} {u t : ColumnType} {gs fs : Columns} → HasId fs (b .id) k a t
+          → Refuses q n u t → RefusesAny q m r n (ccons b u gs) fs
+      -- an optional column for a required one
+      optional-selected : {q : Place} {m : MissingColumnsPolicy} {r k : ℕ} {a b : Label} {u t : ColumnType} {gs fs : Columns} → HasId fs (b .id) k a t
+          → b .required ≡ true → Optional a t → RefusesAny q m r 55 (ccons b u gs) fs
       -- Raise: a missing field
       missing-raised : {q : Place} {m : MissingColumnsPolicy} {r : ℕ} {b : Label} {u : ColumnType} {gs fs : Columns} → Lacks fs (b .id)
           → m ≡ MissingColumnsPolicy.Raise → RefusesAny q m r r (ccons b u gs) fs
       missing-default : {m : MissingColumnsPolicy} {r n : ℕ} {b : Label} {u : ColumnType} {gs fs : Columns} → Lacks fs (b .id) → NoDefaultFor es n (b .id) u
           → RefusesAny outside m r n (ccons b u gs) fs
+      -- a required field would be null; where no difference is named, it is an error there, too
+      missing-required : {q : Place} {m : MissingColumnsPolicy} {r : ℕ} {ds : Differences} {b : Label} {u : ColumnType} {gs fs : Columns} {y : Value}
+          → Lacks fs (b .id) → Missing′ M q ds (b .id) u y → present b u y ≡ false → RefusesAny q m r 54 (ccons b u gs) fs
       at-later : {q : Place} {m : MissingColumnsPolicy} {r n : ℕ} {b : Label} {u : ColumnType} {gs fs : Columns} → RefusesAny q m r n gs fs
           → RefusesAny q m r n (ccons b u gs) fs
 

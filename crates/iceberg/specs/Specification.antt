@@ -3,7 +3,7 @@
 -- rest on notes of it (docs/DIFFERENCES.md). Nothing here rests on the builder.
 use Prim.Native.Nat.{ℕ, suc}
 use mathlib.Core.Path.{_≡_}
-use mathlib.Core.Bool.{Bool, true, _&&_, _||_}
+use mathlib.Core.Bool.{Bool, true, _&&_, _||_, not}
 use mathlib.Core.List.{[]}
 use Rattle.layout.specs.Tree.{LeafType, leafOf, null, date, datetime, Label, ColumnType, cleaf, cstruct, clist, carray, Columns, cnil, float, integer}
 use Rattle.layout.specs.Tree.{ccons}
@@ -14,6 +14,8 @@ use Rattle.forms.specs.Same.{sameLeaf}
 use Rattle.rules.specs.Classes.{isDecimal}
 use Rattle.rules.specs.Params.{widens, decimalOf}
 use Rattle.values.specs.Value.{Value, vnull, vstruct, vlist, Values, vnil, vcons}
+use Rattle.plan.specs.Nullness.{ofValue}
+use Rattle.plan.specs.Marks.{meets}
 use Rattle.plan.specs.Run.{valueAt}
 use Rattle.numeric.specs.declared.integers.Integer.the-variants.{Int32, Int64}
 use Rattle.numeric.specs.declared.floats.Format.the-variants.{Binary32, Binary64}
@@ -57,10 +59,10 @@ pub data Valueless : ColumnType → InitialDefault → Type 0 where
 
 -- ---- "Columns of a data file are selected by field id; names and order may differ."
 
--- the column at position k has the id i and the type t
-pub data HasId : Columns → FieldId → ℕ → ColumnType → Type 0 where
-  id-here : {l : Label} {i : FieldId} {t : ColumnType} {cs : Columns} → l .id ≡ i → HasId (ccons l t cs) i 0 t
-  id-there : {l : Label} {i : FieldId} {t u : ColumnType} {cs : Columns} {k : ℕ} → HasId cs i k t → HasId (ccons l u cs) i (suc k) t
+-- the column at position k has the id i, the label a and the type t
+pub data HasId : Columns → FieldId → ℕ → Label → ColumnType → Type 0 where
+  id-here : {a : Label} {i : FieldId} {t : ColumnType} {cs : Columns} → a .id ≡ i → HasId (ccons a t cs) i 0 a t
+  id-there : {a l : Label} {i : FieldId} {t u : ColumnType} {cs : Columns} {k : ℕ} → HasId cs i k a t → HasId (ccons l u cs) i (suc k) a t
 
 -- no column has the id i
 pub data Lacks : Columns → FieldId → Type 0 where
@@ -97,6 +99,17 @@ module _ (M : Metadata) where
     -- 3 and 4
     by-initial : {i : FieldId} {u : ColumnType} {p : PartitionValue} {y : Value} → M .partition i ≡ p → Lacking p → Initial i u y → Missing i u y
 
+-- ---- required fields
+
+-- "reading a required field that is missing and has no default is an error": what is read for the missing field b has no
+-- null in a required field, where `meets` looks for one (plan, specs/Marks.antt)
+unfoldable pub present : Label → ColumnType → Value → Bool
+present b u y = meets (ofValue y) (b .required) u
+
+-- "Widening from optional to required is not allowed, from required to optional is."
+unfoldable pub mayBecome : Label → Label → Bool
+mayBecome a b = not (b .required) || a .required
+
 -- ---- a row
 
 -- "decimal(P,S) to decimal(P',S) with P' above P"
@@ -124,16 +137,17 @@ module _ (converted : LeafType → LeafType → Value → Value) (M : Metadata) 
       -- "projection inside a struct goes by the fields' ids in the same way"
       reads-struct : {gs fs : Columns} {xs ys : Values} → ReadsAll gs fs xs ys → Reads (cstruct gs) (cstruct fs) (vstruct xs) (vstruct ys)
       -- an element has an id of its own; nothing is said of elements whose ids differ
-      reads-list : {a b : Label} {u t : ColumnType} {xs ys : Values} → a .id ≡ b .id → ReadsEach u t xs ys → Reads (clist b u) (clist a t) (vlist xs) (vlist ys)
+      reads-list : {a b : Label} {u t : ColumnType} {xs ys : Values} → a .id ≡ b .id → mayBecome a b ≡ true → ReadsEach u t xs ys
+          → Reads (clist b u) (clist a t) (vlist xs) (vlist ys)
 
     -- `ReadsAll gs fs xs ys`: the values xs of the file's columns fs read as ys in the table's columns gs
     pub data ReadsAll : Columns → Columns → Values → Values → Type 0 where
       reads-nil : {fs : Columns} {xs : Values} → ReadsAll cnil fs xs vnil
       -- "Columns of a data file are selected by field id; names and order may differ."
-      reads-selected : {b : Label} {u t : ColumnType} {gs fs : Columns} {k : ℕ} {xs ys : Values} {y : Value} → HasId fs (b .id) k t → Reads u t (valueAt xs k) y
-          → ReadsAll gs fs xs ys → ReadsAll (ccons b u gs) fs xs (vcons y ys)
-      reads-missing : {b : Label} {u : ColumnType} {gs fs : Columns} {xs ys : Values} {y : Value} → Lacks fs (b .id) → Missing M (b .id) u y
-          → ReadsAll gs fs xs ys → ReadsAll (ccons b u gs) fs xs (vcons y ys)
+      reads-selected : {a b : Label} {u t : ColumnType} {gs fs : Columns} {k : ℕ} {xs ys : Values} {y : Value} → HasId fs (b .id) k a t → mayBecome a b ≡ true
+          → Reads u t (valueAt xs k) y → ReadsAll gs fs xs ys → ReadsAll (ccons b u gs) fs xs (vcons y ys)
+      reads-missing : {b : Label} {u : ColumnType} {gs fs : Columns} {xs ys : Values} {y : Value} → Lacks fs (b .id) → present b u y ≡ true
+          → Missing M (b .id) u y → ReadsAll gs fs xs ys → ReadsAll (ccons b u gs) fs xs (vcons y ys)
 
     pub data ReadsEach : ColumnType → ColumnType → Values → Values → Type 0 where
       reads-none : {u t : ColumnType} → ReadsEach u t vnil vnil

@@ -7,7 +7,7 @@ use Rattle.layout.specs.Parser.{choose}
 use Rattle.layout.specs.Tree.{LeafType, leafOf, Label, ColumnType, cleaf, cstruct, clist, carray, Columns, cnil, ccons, DataType, leaf, dtypeOf}
 use Rattle.layout.specs.Find.{Lookup, absent, at, counterpart}
 use Rattle.layout.specs.declared.columns.Position.{Position}
-use Rattle.layout.specs.declared.version.Version.{Version}
+use Rattle.layout.specs.declared.matching.Matching.{Matching}
 use Rattle.layout.proofs.Ways.{clash}
 use Rattle.rules.specs.declared.policy.Policy.{Policy}
 use Rattle.rules.specs.declared.outcome.CastOption.{CastOption}
@@ -23,9 +23,9 @@ use Rattle.plan.specs.Selector.{Selector, position, constant, cast, Selectors, 
 use Rattle.plan.specs.Check.{castFits, fromNull}
 use Rattle.plan.proofs.Results.{never-refused, gives-eq, accepted-eq, both, bind-gives, demand-gives, placed-accepted, answered-accepted}
 use Rattle.matching.specs.Default.{Defaults, noDefaults, missingValue}
-use Rattle.matching.specs.Build.{leafPart, structPart, Element, listPart, arrayPart, isNullType, isByName, unlessNullType, renamed, sameElement, distinct, extraColumns, inserts, missing, ruled, structSelector, listSelector, arraySelector, first, sought, attachTransforms, attachFields, buildColumnSelector, buildFrom, build}
+use Rattle.matching.specs.Build.{leafPart, structPart, Element, listPart, arrayPart, isNullType, isByName, unlessNullType, renamed, sameElement, distinct, extraColumns, inserts, keepsRequired, fillsRequired, missing, ruled, structSelector, listSelector, arraySelector, first, sought, attachTransforms, attachFields, buildColumnSelector, buildFrom, build}
 
-module _ (v : Version) where
+module _ (v : Matching) where
   mutual
     -- `Attach d u k t s`: s takes position k, of type t, to type u
     pub data Attach : Defaults → ColumnType → Position → ColumnType → Selector → Type 0 where
@@ -33,18 +33,18 @@ module _ (v : Version) where
       a-cast : {d : Defaults} {k : Position} {t u : ColumnType} {x : DataType} {o : CastOption} → castFits (dtypeOf t) x o ≡ true → dtypeOf u ≡ x → Attach d u k t (cast (position k) x o)
       a-struct : {d : Defaults} {k : Position} {fs gs : Columns} {ss : Selectors} {s : Selector} → distinct v fs ≡ true → AttachAll d gs fs ss → structSelector k fs ss ≡ s
           → Attach d (cstruct gs) k (cstruct fs) s
-      a-list : {d : Defaults} {k : Position} {a b : Label} {t u : ColumnType} {e s : Selector} → sameElement v a b ≡ true → Attach noDefaults u first t e → listSelector k (renamed v b a e) ≡ s
-          → Attach d (clist b u) k (clist a t) s
-      a-array : {d : Defaults} {k : Position} {w : ℕ} {a b : Label} {t u : ColumnType} {e s : Selector} → sameElement v a b ≡ true → Attach noDefaults u first t e → arraySelector k (renamed v b a e) ≡ s
-          → Attach d (carray w b u) k (carray w a t) s
+      a-list : {d : Defaults} {k : Position} {a b : Label} {t u : ColumnType} {e s : Selector} → sameElement v a b ≡ true → keepsRequired a t b ≡ true
+          → Attach noDefaults u first t e → listSelector k (renamed v b a e) ≡ s → Attach d (clist b u) k (clist a t) s
+      a-array : {d : Defaults} {k : Position} {w : ℕ} {a b : Label} {t u : ColumnType} {e s : Selector} → sameElement v a b ≡ true → keepsRequired a t b ≡ true
+          → Attach noDefaults u first t e → arraySelector k (renamed v b a e) ≡ s → Attach d (carray w b u) k (carray w a t) s
 
     -- `AttachAll d gs fs ss`: ss takes the columns fs to the columns gs
     pub data AttachAll : Defaults → Columns → Columns → Selectors → Type 0 where
       a-nil : {d : Defaults} {fs : Columns} → AttachAll d cnil fs snil
-      a-found : {d : Defaults} {a b : Label} {k : Position} {t u : ColumnType} {gs fs : Columns} {s x : Selector} {ss : Selectors} → counterpart v b fs ≡ at k a t → Attach d u k t s → renamed v b a s ≡ x
-          → AttachAll d gs fs ss → AttachAll d (ccons b u gs) fs (scons x ss)
+      a-found : {d : Defaults} {a b : Label} {k : Position} {t u : ColumnType} {gs fs : Columns} {s x : Selector} {ss : Selectors} → counterpart v b fs ≡ at k a t
+          → keepsRequired a t b ≡ true → Attach d u k t s → renamed v b a s ≡ x → AttachAll d gs fs ss → AttachAll d (ccons b u gs) fs (scons x ss)
       a-missing : {d : Defaults} {b : Label} {u : ColumnType} {gs fs : Columns} {y : Value} {x : Selector} {ss : Selectors} → counterpart v b fs ≡ absent → missingValue d b u ≡ gives y
-          → constant (b .name) (dtypeOf u) y ≡ x → AttachAll d gs fs ss → AttachAll d (ccons b u gs) fs (scons x ss)
+          → fillsRequired b u y ≡ true → constant (b .name) (dtypeOf u) y ≡ x → AttachAll d gs fs ss → AttachAll d (ccons b u gs) fs (scons x ss)
 
 -- ---- the parts of an incoming type
 
@@ -105,7 +105,7 @@ null-cast u (carray w l t) c q = clash (cc)
 
 -- ---- the builders keep to the relation
 
-module _ (v : Version) (p : Policy) where
+module _ (v : Matching) (p : Policy) where
   leaf-attached : (d : Defaults) (k : Position) (b a : LeafType) {s : Selector} → ruled (pairRule p a b) k b ≡ gives s → Attach v d (cleaf b) k (cleaf a) s
   unfolding ruled castFits dtypeOf
   leaf-attached d k b a {s} e = go (pairRule p a b) refl e
@@ -129,15 +129,18 @@ module _ (v : Version) (p : Policy) where
   module _ (d : Defaults) (insert : Bool) (n : ℕ) (b : Label) (u : ColumnType) (f : Position → ColumnType → Result Selector)
       (step : (k : Position) (t : ColumnType) (s : Selector) → f k t ≡ gives s → Attach v d u k t s) where
     column-attached : {gs fs : Columns} {s : Selector} {ss : Selectors} (x : Lookup) → counterpart v b fs ≡ x
-        → sought x (missing d insert n b u) (λ k a t. f k t >>= λ s. gives (renamed v b a s)) ≡ gives s → AttachAll v d gs fs ss → AttachAll v d (ccons b u gs) fs (scons s ss)
+        → sought x (missing d insert n b u) (λ k a t. demand (keepsRequired a t b) 55 (f k t >>= λ s. gives (renamed v b a s))) ≡ gives s
+        → AttachAll v d gs fs ss → AttachAll v d (ccons b u gs) fs (scons s ss)
     unfolding sought missing
     column-attached absent q e rest =
         let (i, e) = demand-gives _ _ _ e in
         let (y, p, e) = bind-gives _ _ e in
-        a-missing q p (gives-eq e) rest
+        let (m, e) = demand-gives _ _ _ e in
+        a-missing q p m (gives-eq e) rest
     column-attached (at k a t) q e rest =
+        let (m, e) = demand-gives _ _ _ e in
         let (s, p, e) = bind-gives (f k t) _ e in
-        a-found q (step k t s p) (gives-eq e) rest
+        a-found q m (step k t s p) (gives-eq e) rest
 
   mutual
     unfolding attachTransforms attachFields
@@ -156,13 +159,15 @@ module _ (v : Version) (p : Policy) where
     attachTransforms→ (clist b u) d k t e = unless-null d k (clist b u) t _ e (null-list b u) (λ e.
         let (x, q, e) = bind-gives (listPart t) _ e in
         let (c, e) = demand-gives _ _ _ e in
+        let (m, e) = demand-gives _ _ _ e in
         let (s, r, e) = bind-gives (attachTransforms v p noDefaults u first (x .type)) _ e in
-        rw (list-is t q) (a-list c (attachTransforms→ u noDefaults first (x .type) r) (gives-eq e)))
+        rw (list-is t q) (a-list c m (attachTransforms→ u noDefaults first (x .type) r) (gives-eq e)))
     attachTransforms→ (carray w b u) d k t e = unless-null d k (carray w b u) t _ e (null-array w b u) (λ e.
         let (x, q, e) = bind-gives (arrayPart w t) _ e in
         let (c, e) = demand-gives _ _ _ e in
+        let (m, e) = demand-gives _ _ _ e in
         let (s, r, e) = bind-gives (attachTransforms v p noDefaults u first (x .type)) _ e in
-        rw (array-is w t q) (a-array c (attachTransforms→ u noDefaults first (x .type) r) (gives-eq e)))
+        rw (array-is w t q) (a-array c m (attachTransforms→ u noDefaults first (x .type) r) (gives-eq e)))
 
     pub attachFields→ : (gs : Columns) (d : Defaults) (fs : Columns) {ss : Selectors} → attachFields v p d gs fs ≡ gives ss → AttachAll v d gs fs ss
     attachFields→ cnil d fs e = rw (← gives-eq e) a-nil

@@ -1,7 +1,7 @@
 -- By name a column with no counterpart is null: no default is found. Assumes nothing.
 use Prim.Native.Nat.{ℕ}
 use mathlib.Core.Path.{_≡_, refl}
-use mathlib.Core.Bool.{Bool, false}
+use mathlib.Core.Bool.{Bool, false, not}
 use Rattle.layout.specs.Parser.{choose}
 use Rattle.layout.specs.Tree.{Label, ColumnType, cleaf, cstruct, clist, carray, Columns, cnil, ccons, dtypeOf}
 use Rattle.layout.specs.declared.columns.FieldId.{FieldId}
@@ -10,6 +10,7 @@ use Rattle.plan.specs.Result.{gives, _>>=_, demand}
 use Rattle.plan.specs.Selector.{constant}
 use Rattle.matching.specs.Default.{noDefaults, none, leafDefault, FieldDefaults, withField, structDefault, buildIcebergDefaultValue, defaultsOf, missingValue}
 use Rattle.matching.specs.Build.{missing}
+use Rattle.matching.proofs.Required.{fills-null}
 
 -- a struct's fields have none
 record NoneOf (cs : Columns) : Type 0 where
@@ -36,6 +37,8 @@ pub missing-null : (l : Label) (t : ColumnType) → missingValue noDefaults l t 
 unfolding missingValue _>>=_
 missing-null l t = rw (default-none t (l .id))
 
-pub missing-constant : (insert : Bool) (n : ℕ) (l : Label) (t : ColumnType) → missing noDefaults insert n l t ≡ demand insert n (gives (constant (l .name) (dtypeOf t) vnull))
+-- 54 where it is required
+pub missing-constant : (insert : Bool) (n : ℕ) (l : Label) (t : ColumnType)
+    → missing noDefaults insert n l t ≡ demand insert n (demand (not (l .required)) 54 (gives (constant (l .name) (dtypeOf t) vnull)))
 unfolding missing _>>=_
-missing-constant insert n l t = rw (missing-null l t)
+missing-constant insert n l t = rw (missing-null l t, fills-null l t)

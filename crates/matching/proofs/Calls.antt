@@ -7,10 +7,10 @@ use lib.Dec.{leb}
 use borrow.Author.Tests.{leb-true}
 use Rattle.layout.specs.Bytes.{Bytes, AllBytes}
 use Rattle.layout.specs.Parser.{Res, refuse, ok}
-use Rattle.layout.specs.Tree.{Columns, Layout, fieldsOf}
+use Rattle.layout.specs.Tree.{Columns, fieldsOf}
 use Rattle.layout.specs.Layout.{layout}
-use Rattle.layout.specs.declared.version.Version.{Version}
-use Rattle.layout.specs.declared.version.Version.the-variants.{ByName, ByNumber}
+use Rattle.layout.specs.declared.matching.Matching.{Matching}
+use Rattle.layout.specs.declared.matching.Matching.the-variants.{ByName, ByNumber}
 use Rattle.layout.proofs.Ways.{clash}
 use Rattle.rules.specs.declared.policy.Policy.{Policy}
 use Rattle.values.specs.Value.{Values}
@@ -22,6 +22,7 @@ use Rattle.plan.specs.Selector.{Selectors}
 use Rattle.plan.specs.Encode.{encodePlan}
 use Rattle.plan.specs.Read.{plan, longestPlan}
 use Rattle.plan.specs.Check.{check}
+use Rattle.plan.specs.Marks.{checkMarked}
 use Rattle.plan.specs.Run.{evals, spacious, run}
 use Rattle.plan.specs.Reach.{ReachesOverflow}
 use Rattle.plan.specs.Formed.{FormedAll}
@@ -32,26 +33,24 @@ use Rattle.plan.proofs.Theorems.{Runs, plan-runs}
 use Rattle.matching.specs.Default.{Defaults, noDefaults}
 use Rattle.matching.specs.Build.{build}
 use Rattle.plan.specs.Calls.{readAt}
-use Rattle.matching.specs.Calls.{sameVersion, ofVersion, bothLayouts, roomFor, writtenPlan, buildByName, buildByNumber}
+use Rattle.matching.specs.Calls.{takes, ofEdition, ReadFor, bothLayouts, roomFor, writtenPlan, buildByName, buildByNumber}
 use Rattle.matching.specs.Due.{dues}
 use Rattle.matching.proofs.Limits.{layout-limits}
 use Rattle.matching.proofs.Fitting.{Good, good-none, table-good}
 use Rattle.matching.proofs.Theorems.{build-passes, build-due, build-formed, build-reads}
 
 -- what a build that was accepted wrote
-pub record Built (v : Version) (p : Policy) (d : Defaults) (incoming target bytes : Bytes) : Type 0 where
+pub record Built (v : Matching) (p : Policy) (d : Defaults) (incoming target bytes : Bytes) : Type 0 where
   pub from : Columns
   pub to : Columns
-  pub fromEnd : ℕ
-  pub toEnd : ℕ
-  pub incomingRead : layout incoming ≡ ok (record { version = v; columns = from }) fromEnd
-  pub targetRead : layout target ≡ ok (record { version = v; columns = to }) toEnd
+  pub incomingRead : ReadFor v incoming from
+  pub targetRead : ReadFor v target to
   pub selectors : Selectors
   pub built : build v p d from to ≡ accepted selectors
   pub is : bytes ≡ encodePlan selectors
   pub reads : plan bytes ≡ ok selectors (length bytes)
   pub formed : FormedAll selectors
-  pub passes : check (fieldsOf from) (fieldsOf to) selectors ≡ accepted tt
+  pub passes : checkMarked from to selectors ≡ accepted tt
   pub due : (ρ : Values) → FitsAll (fieldsOf from) ρ → evals ρ selectors ≡ dues v d to from ρ
 
 pub read-at : {A B : Type 0} (k : ℕ) (r : Res A) (f : A → Answer B) {b : B} → readAt k r f ≡ accepted b → (a : A) × (m : ℕ) × (r ≡ ok a m) × (f a ≡ accepted b)
@@ -59,34 +58,30 @@ unfolding readAt
 read-at k (refuse n) f e = clash (cc)
 read-at k (ok a m) f e = (a, m, refl, e)
 
-version-eq : (v w : Version) → sameVersion v w ≡ true → w ≡ v
-version-eq ByName ByName e = refl
-version-eq ByName ByNumber e = clash (cc)
-version-eq ByNumber ByName e = clash (cc)
-version-eq ByNumber ByNumber e = refl
-
-pub of-version : (v : Version) (s : Bytes) (l : Layout) {m : ℕ} → layout s ≡ ok l m → sameVersion v (l .version) ≡ true → layout s ≡ ok (record { version = v; columns = l .columns }) m
-of-version v s l {m} e q = e ∙ ap (λ (w : Version). ok (record { version = w; columns = l .columns }) m) (version-eq v (l .version) q)
-
 -- the two layouts that were read
-record Both {A : Type 0} (v : Version) (incoming target : Bytes) (f : Columns → Columns → Answer A) (a : A) : Type 0 where
+record Both {A : Type 0} (v : Matching) (incoming target : Bytes) (f : Columns → Columns → Answer A) (a : A) : Type 0 where
   from : Columns
   to : Columns
-  fromEnd : ℕ
-  toEnd : ℕ
-  incomingRead : layout incoming ≡ ok (record { version = v; columns = from }) fromEnd
-  targetRead : layout target ≡ ok (record { version = v; columns = to }) toEnd
+  incomingRead : ReadFor v incoming from
+  targetRead : ReadFor v target to
   next : f from to ≡ accepted a
 
-both-read : {A : Type 0} (v : Version) (incoming target : Bytes) (f : Columns → Columns → Answer A) {a : A} → bothLayouts v incoming target f ≡ accepted a → Both v incoming target f a
-unfolding bothLayouts ofVersion
+both-read : {A : Type 0} (v : Matching) (incoming target : Bytes) (f : Columns → Columns → Answer A) {a : A} → bothLayouts v incoming target f ≡ accepted a
+    → Both v incoming target f a
+unfolding bothLayouts ofEdition
 both-read v incoming target f e =
     let (x, m, p, e) = read-at 1 (layout incoming) _ e in
     let (y, n, q, e) = read-at 2 (layout target) _ e in
     let (u, c, e) = placed-accepted _ _ _ e in
     let (c, h) = demand-gives _ _ _ c in
-    let (c, h) = both (sameVersion v (x .version)) c in
-    record { from = x .columns; to = y .columns; fromEnd = m; toEnd = n; incomingRead = of-version v incoming x p c; targetRead = of-version v target y q h; next = e }
+    let (c, h) = both (takes v (x .edition)) c in
+    record {
+      from = x .columns;
+      to = y .columns;
+      incomingRead = record { edition = x .edition; end = m; reads = p; taken = c };
+      targetRead = record { edition = y .edition; end = n; reads = q; taken = h };
+      next = e;
+    }
 
 written-plan : (room : ℕ) (ss : Selectors) {b : Bytes} → writtenPlan room ss ≡ accepted b → (b ≡ encodePlan ss) × (length (encodePlan ss) ≤ longestPlan)
 unfolding writtenPlan roomFor
@@ -95,19 +90,17 @@ written-plan room ss e =
     let (c, g) = demand-gives _ _ _ c in
     (sym (accepted-eq e) ∙ sym (gives-eq g), leb-true _ _ (both (leb (length (encodePlan ss)) room) c .1))
 
-built-of : (v : Version) (p : Policy) (d : Defaults) (incoming target : Bytes) (room : ℕ) {b : Bytes} {from to : Columns} {m n : ℕ} → AllBytes incoming → AllBytes target → Good d
-    → layout incoming ≡ ok (record { version = v; columns = from }) m → layout target ≡ ok (record { version = v; columns = to }) n
-    → answered (build v p d from to) (λ ss. writtenPlan room ss) ≡ accepted b → Built v p d incoming target b
-built-of v p d incoming target room {from = from} {to = to} {m} {n} oi ot g i t e =
+built-of : (v : Matching) (p : Policy) (d : Defaults) (incoming target : Bytes) (room : ℕ) {b : Bytes} {from to : Columns} → AllBytes incoming → AllBytes target
+    → Good d → ReadFor v incoming from → ReadFor v target to → answered (build v p d from to) (λ ss. writtenPlan room ss) ≡ accepted b
+    → Built v p d incoming target b
+built-of v p d incoming target room {from = from} {to = to} oi ot g i t e =
     let (ss, q, e) = answered-accepted (build v p d from to) _ e in
     let (w, l) = written-plan room ss e in
-    let y = layout-limits incoming oi i in
-    let z = layout-limits target ot t in
+    let y = layout-limits incoming oi (i .reads) in
+    let z = layout-limits target ot (t .reads) in
     record {
       from = from;
       to = to;
-      fromEnd = m;
-      toEnd = n;
       incomingRead = i;
       targetRead = t;
       selectors = ss;
@@ -148,10 +141,14 @@ by-number-built p index owner incoming target defaults room oi ot od e =
 
 -- ---- the run of a plan that was built, between its own two layouts
 
-module _ {v : Version} {p : Policy} {d : Defaults} {incoming target bytes : Bytes} (B : Built v p d incoming target bytes) {ρ : Values} (h : FitsAll (fieldsOf (B .from)) ρ) (room : ℕ) where
+checked : {Γ Δ : Columns} {ss : Selectors} → checkMarked Γ Δ ss ≡ accepted tt → check (fieldsOf Γ) (fieldsOf Δ) ss ≡ accepted tt
+unfolding checkMarked
+checked e = answered-accepted _ _ e .1 .0
+
+module _ {v : Matching} {p : Policy} {d : Defaults} {incoming target bytes : Bytes} (B : Built v p d incoming target bytes) {ρ : Values} (h : FitsAll (fieldsOf (B .from)) ρ) (room : ℕ) where
   -- it is the run of a plan that passes the check: what is left is 44, 45 or a record that fits the target
   pub built-runs : Runs (fieldsOf (B .to)) ρ (B .selectors) room
-  built-runs = plan-runs (fieldsOf (B .from)) (fieldsOf (B .to)) (B .formed) (B .passes) h room
+  built-runs = plan-runs (fieldsOf (B .from)) (fieldsOf (B .to)) (B .formed) (checked (B .passes)) h room
 
   -- "unless it refuses as just said, writes exactly the record that document 01 calls due"
   pub built-writes : (ReachesOverflow ρ (B .selectors) → ⊥) → spacious room (encodeValues (dues v d (B .to) (B .from) ρ)) ≡ true

@@ -7,7 +7,7 @@ use native.Mathlib.Omega.{arith}
 use Rattle.layout.specs.Parser.{choose}
 use Rattle.layout.specs.Tree.{Columns, cnil, ccons, countColumns}
 use Rattle.layout.specs.Find.{counterpart}
-use Rattle.layout.specs.declared.version.Version.{Version}
+use Rattle.layout.specs.declared.matching.Matching.{Matching}
 use Rattle.layout.proofs.Ways.{clash}
 use Rattle.rules.specs.declared.policy.Policy.{Policy}
 use Rattle.rules.specs.declared.policy.ExtraColumnsPolicy.{ExtraColumnsPolicy}
@@ -19,7 +19,7 @@ use Rattle.matching.specs.Extra.{FirstExtra, first-here, first-later}
 
 -- ---- the first extra column
 
-module _ (v : Version) (gs : Columns) where
+module _ (v : Matching) (gs : Columns) where
   -- a refusal has the number 53, and is about the first extra column
   pub extra-refused : (fs : Columns) (i : ℕ) {n k : ℕ} → extraColumnErr v fs gs i ≡ refusedAt n k → (n ≡ 53) × FirstExtra v gs fs i k
   unfolding extraColumnErr choose
@@ -45,7 +45,7 @@ module _ (v : Version) (gs : Columns) where
 
 -- ---- the policy
 
-pub columns-refused : (e : ExtraColumnsPolicy) (v : Version) (fs gs : Columns) {n k : ℕ} → extraColumns e v fs gs ≡ refusedAt n k
+pub columns-refused : (e : ExtraColumnsPolicy) (v : Matching) (fs gs : Columns) {n k : ℕ} → extraColumns e v fs gs ≡ refusedAt n k
     → (e ≡ Raise) × ((n ≡ 53) × FirstExtra v gs fs 0 k)
 unfolding extraColumns
 columns-refused Ignore v fs gs e = clash (cc)
@@ -53,7 +53,7 @@ columns-refused Raise v fs gs e = (refl, extra-refused v gs fs 0 e)
 
 -- ---- a build
 
-module _ (v : Version) (p : Policy) (d : Defaults) (Γ Δ : Columns) where
+module _ (v : Matching) (p : Policy) (d : Defaults) (Γ Δ : Columns) where
   -- 53 where a column is extra under Raise
   pub build-raised : {k : ℕ} → p .«extra_columns» ≡ Raise → FirstExtra v Δ Γ 0 k → build v p d Γ Δ ≡ refusedAt 53 k
   unfolding build extraColumns answered

@@ -8,8 +8,8 @@ use Rattle.layout.specs.Bytes.{sameBytes}
 use Rattle.layout.specs.Parser.{choose}
 use Rattle.layout.specs.Tree.{Label, Columns, cnil, ccons, countColumns, Fields, fnil, fcons, fieldsOf}
 use Rattle.layout.specs.declared.columns.Position.{Position}
-use Rattle.layout.specs.declared.version.Version.{Version}
-use Rattle.layout.specs.declared.version.Version.the-variants.{ByName, ByNumber}
+use Rattle.layout.specs.declared.matching.Matching.{Matching}
+use Rattle.layout.specs.declared.matching.Matching.the-variants.{ByName, ByNumber}
 use Rattle.layout.proofs.OfBytes.{same-bytes-eq}
 use Rattle.layout.proofs.Ways.{clash}
 use Rattle.plan.specs.Selector.{Selector, position, constant, cast, rename, structMapping, listMapping, arrayMapping, Selectors, snil, scons, countSelectors}
@@ -72,7 +72,7 @@ left-out false x {j} h e = true≠false (bare-is j x e) h
 
 -- ---- renames
 
-pub renamed-bare : (v : Version) (b a : Label) (s : Selector) {j : Position} → renamed v b a s ≡ position j → s ≡ position j
+pub renamed-bare : (v : Matching) (b a : Label) (s : Selector) {j : Position} → renamed v b a s ≡ position j → s ≡ position j
 unfolding renamed choose
 renamed-bare ByName b a s e = e
 renamed-bare ByNumber b a s {j} e = go (sameBytes (a .name) (b .name)) e
@@ -82,7 +82,7 @@ renamed-bare ByNumber b a s {j} e = go (sameBytes (a .name) (b .name)) e
     go false e = clash (cc)
 
 -- a field that is taken bare keeps its name
-pub renamed-name : (v : Version) (b a : Label) (s : Selector) {j : Position} → matches v b a ≡ true → renamed v b a s ≡ position j → a .name ≡ b .name
+pub renamed-name : (v : Matching) (b a : Label) (s : Selector) {j : Position} → matches v b a ≡ true → renamed v b a s ≡ position j → a .name ≡ b .name
 unfolding renamed choose
 renamed-name ByName b a s h e = same-bytes-eq (a .name) (b .name) h
 renamed-name ByNumber b a s {j} h e = go (sameBytes (a .name) (b .name)) refl e

@@ -1,5 +1,6 @@
 pub mod Lookup
 pub mod Extra
+pub mod Required
 pub mod Attach
 pub mod InPlace
 pub mod Untouched
@@ -10,6 +11,8 @@ pub mod Passes
 pub mod Right
 pub mod Nesting
 pub mod ByName
+pub mod Marked
+pub mod Unmarked
 pub mod Theorems
 pub mod Calls
 pub mod Loosen

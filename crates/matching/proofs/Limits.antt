@@ -10,11 +10,11 @@ use borrow.Author.Tests.{leb-true, le-leb}
 use Rattle.layout.specs.Bytes.{Bytes, sameBytes, AllBytes}
 use Rattle.layout.specs.Parser.{Res, refuse, ok, choose}
 use Rattle.layout.specs.Tree.{Label, ColumnType, cleaf, cstruct, clist, carray, Layout, Columns, cnil, ccons, countColumns, DataType, struct, list, array, Fields, fnil, fcons, countFields, fieldsOf}
-use Rattle.layout.specs.Layout.{elementLabel, mark, version, counted, layoutFrom, layout, deepest, aStruct, aList, anArray}
+use Rattle.layout.specs.Layout.{elementLabel, mark, edition, counted, layoutFrom, layout, deepest, aStruct, aList, anArray}
 use Rattle.layout.specs.Answers.{layoutOf}
 use Rattle.layout.specs.declared.read.LayoutRead.{LayoutRead}
-use Rattle.layout.specs.declared.version.Version.{Version}
-use Rattle.layout.specs.declared.version.Version.the-variants.{ByName, ByNumber}
+use Rattle.layout.specs.declared.edition.Edition.{Edition}
+use Rattle.layout.specs.declared.edition.Edition.the-variants.{One, Two, Three}
 use Rattle.layout.specs.declared.columns.Siblings.the-variants.{Free}
 use Rattle.layout.proofs.Ways.{clash}
 use Rattle.layout.proofs.View.{next-ok}
@@ -99,12 +99,14 @@ abbrev labelIn : Label → Res Label → Label
 labelIn d (refuse n) = d
 labelIn d (ok l m) = l
 
-element-short : (s : Bytes) (v : Version) (at : ℕ) {l : Label} {i : ℕ} → AllBytes s → elementLabel v s at ≡ ok l i → ShortText (l .name)
+element-short : (s : Bytes) (v : Edition) (at : ℕ) {l : Label} {i : ℕ} → AllBytes s → elementLabel v s at ≡ ok l i → ShortText (l .name)
 unfolding elementLabel
-element-short s ByName at {l} o e = let p : record { name = []; id = record { 0 = 0 } } ≡ l = ap (labelIn l) e in rw (← p) (omega arith, λ i. omega arith)
-element-short s ByNumber at o e = let (a, (b, (c, d))) = label-ends s ByNumber at e in (c, d o)
+element-short s One at {l} o e =
+    let p : record { name = []; id = record { 0 = 0 }; required = false } ≡ l = ap (labelIn l) e in rw (← p) (omega arith, λ i. omega arith)
+element-short s Two at o e = let (a, (b, (c, d))) = label-ends s Two at e in (c, d o)
+element-short s Three at o e = let (a, (b, (c, d))) = label-ends s Three at e in (c, d o)
 
-module _ {v : Version} {s : Bytes} (o : AllBytes s) where
+module _ {v : Edition} {s : Bytes} (o : AllBytes s) where
   mutual
     type-short : {d at e : ℕ} {c : ColumnType} → TypeRead v s d at c e → ShortNames c
     type-short (tr-leaf h) = tt
@@ -122,21 +124,22 @@ pub record LayoutLimits (cs : Columns) : Type 0 where
   pub readable : ReadableFields (fieldsOf cs)
   pub names : ShortNamesAll cs
 
-layout-read : (r : Res Layout) {l : Layout} {m : ℕ} → r ≡ ok l m → layoutOf r ≡ LayoutRead.Read (l .version) (countColumns (l .columns)) (record { at = 7 })
+layout-read : (r : Res Layout) {l : Layout} {m : ℕ} → r ≡ ok l m → layoutOf r ≡ LayoutRead.Read (l .edition) (countColumns (l .columns)) (record { at = 7 })
 unfolding layoutOf
 layout-read r e = rw e
 
 columns-eq : {a b : Layout} {m n : ℕ} → ok a m ≡ ok b n → a .columns ≡ b .columns
 columns-eq {a} {b} e = let p : a ≡ b = cc in ap (λ (l : Layout). l .columns) p
 
-version-ends : (s : Bytes) (i : ℕ) {v : Version} {j : ℕ} → version s i ≡ ok v j → j ≡ 5
-unfolding version choose
-version-ends s i {v} {j} e = go (sameBytes (take 5 s) (mark 1)) (sameBytes (take 5 s) (mark 2)) e
+edition-ends : (s : Bytes) (i : ℕ) {v : Edition} {j : ℕ} → edition s i ≡ ok v j → j ≡ 5
+unfolding edition choose
+edition-ends s i {v} {j} e = go (sameBytes (take 5 s) (mark 1)) (sameBytes (take 5 s) (mark 2)) (sameBytes (take 5 s) (mark 3)) e
   where
-    go : (x y : Bool) → choose x (ok ByName 5) (choose y (ok ByNumber 5) (refuse 1)) ≡ ok v j → j ≡ 5
-    go true y e = cc
-    go false true e = cc
-    go false false e = clash (cc)
+    go : (x y z : Bool) → choose x (ok One 5) (choose y (ok Two 5) (choose z (ok Three 5) (refuse 1))) ≡ ok v j → j ≡ 5
+    go true y z e = cc
+    go false true z e = cc
+    go false false true e = cc
+    go false false false e = clash (cc)
 
 -- the mark, the version and the count are there
 pub header : (s : Bytes) {l : Layout} {m : ℕ} → layout s ≡ ok l m → 7 ≤ length s
@@ -145,7 +148,7 @@ header s e =
     let (u, i, a, e) = next-ok _ _ e in
     let (v, j, b, e) = next-ok _ _ e in
     let (k, o, c, e) = next-ok _ _ e in
-    let p = version-ends s i b in
+    let p = edition-ends s i b in
     let (q, r) = u16-ends s j c in
     omega arith
 
@@ -159,7 +162,7 @@ count-below (fcons n t fs) =
     let b = length-append (form t) (formFields fs) in
     omega arith
 
-limits-of : {v : Version} {n e : ℕ} {cs : Columns} (s : Bytes) → AllBytes s → 7 ≤ length s → length s ≤ 16384 → ColumnsRead v s deepest n 7 cs e → LayoutLimits cs
+limits-of : {v : Edition} {n e : ℕ} {cs : Columns} (s : Bytes) → AllBytes s → 7 ≤ length s → length s ≤ 16384 → ColumnsRead v s deepest n 7 cs e → LayoutLimits cs
 limits-of {cs = cs} s o h k R =
     let (E, c) = columns-extent R h in
     let p = E .long in
@@ -172,5 +175,5 @@ layout-limits s {l} {m} o e =
     let (L, z) = layout-at s refl (layout-read (layout s) e) in
     let C = L .columns in
     let q : l .columns ≡ C .columns = columns-eq (sym e ∙ L .reads) in
-    let R = columns→ (l .version) Free s deepest (λ at t e h. type→ (l .version) Free s deepest at h) (countColumns (l .columns)) [] 7 (C .reads) in
+    let R = columns→ (l .edition) Free s deepest (λ at t e h. type→ (l .edition) Free s deepest at h) (countColumns (l .columns)) [] 7 (C .reads) in
     rw q (limits-of s o (header s e) (layout-small L) R)

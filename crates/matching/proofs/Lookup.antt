@@ -6,10 +6,10 @@ use native.Mathlib.Omega.{arith}
 use Rattle.layout.specs.Bytes.{Bytes, sameBytes}
 use Rattle.layout.specs.Parser.{choose}
 use Rattle.layout.specs.Tree.{Label, ColumnType, Columns, cnil, ccons, DataType, Fields, fnil, fcons, dtypeOf, fieldsOf}
-use Rattle.layout.specs.Layout.{repeats, topRule}
-use Rattle.layout.specs.Find.{Lookup, absent, at, findFrom, columnNamed, counterpart}
+use Rattle.layout.specs.Layout.{repeats}
+use Rattle.layout.specs.Find.{Lookup, absent, at, findFrom, columnNamed, counterpart, matchRule}
 use Rattle.layout.specs.declared.columns.Position.{Position}
-use Rattle.layout.specs.declared.version.Version.{Version}
+use Rattle.layout.specs.declared.matching.Matching.{Matching}
 use Rattle.layout.proofs.OfBytes.{same-bytes-refl, same-bytes-eq}
 use Rattle.layout.proofs.Ways.{clash}
 use Rattle.layout.proofs.Finding.{counterpart-first}
@@ -50,15 +50,15 @@ found-stands f i (ccons a u cs) {k} {l} {t} e = go (f i a) refl e (λ h. found-s
 -- ---- counterparts
 
 -- an incoming label a is of the same field as the target's b
-abbrev pub matches : Version → Label → Label → Bool
-matches v b a = repeats (topRule v) a b
+abbrev pub matches : Matching → Label → Label → Bool
+matches v b a = repeats (matchRule v) a b
 
 -- the counterpart of the label b has the position k, the label a and the type t
-pub record Counterpart (v : Version) (b : Label) (cs : Columns) (k : Position) (a : Label) (t : ColumnType) : Type 0 where
+pub record Counterpart (v : Matching) (b : Label) (cs : Columns) (k : Position) (a : Label) (t : ColumnType) : Type 0 where
   pub place : At (fieldsOf cs) (k .0) (a .name) (dtypeOf t)
   pub match : matches v b a ≡ true
 
-pub counterpart-at : (v : Version) (b : Label) (cs : Columns) {k : Position} {a : Label} {t : ColumnType} → counterpart v b cs ≡ at k a t → Counterpart v b cs k a t
+pub counterpart-at : (v : Matching) (b : Label) (cs : Columns) {k : Position} {a : Label} {t : ColumnType} → counterpart v b cs ≡ at k a t → Counterpart v b cs k a t
 counterpart-at v b cs {k} {a} {t} e =
     let S = found-stands (λ i a. matches v b a) 0 cs (sym (counterpart-first v b cs) ∙ e) in
     let c = S .counted in

@@ -5,7 +5,7 @@ use mathlib.Core.Bool.{Bool, _&&_}
 use Rattle.layout.specs.Tree.{LeafType, Label, ColumnType, cleaf, cstruct, clist, carray, Columns, cnil, ccons}
 use Rattle.layout.specs.Find.{Lookup, absent, at, counterpart}
 use Rattle.layout.specs.declared.columns.Position.{Position}
-use Rattle.layout.specs.declared.version.Version.{Version}
+use Rattle.layout.specs.declared.matching.Matching.{Matching}
 use Rattle.layout.proofs.Ways.{clash}
 use Rattle.rules.specs.declared.policy.Policy.{Policy}
 use Rattle.rules.specs.declared.policy.MissingColumnsPolicy.{MissingColumnsPolicy}
@@ -19,7 +19,7 @@ use Rattle.plan.specs.Result.{Result}
 use Rattle.plan.specs.Selector.{Selector}
 use Rattle.plan.proofs.Kept.{Kept, KeptAnswer, same, refusing, by-bind, by-test, by-demand, by-choice, same-answer, passing, by-place, by-answer}
 use Rattle.matching.specs.Default.{Defaults, noDefaults}
-use Rattle.matching.specs.Build.{isNullType, isByName, unlessNullType, sameElement, distinct, noExtra, ignores, inserts, missing, ruled, first, sought, extraColumnErr, extraColumns}
+use Rattle.matching.specs.Build.{isNullType, isByName, unlessNullType, sameElement, distinct, noExtra, ignores, inserts, keepsRequired, missing, ruled, first, sought, extraColumnErr, extraColumns}
 use Rattle.matching.specs.Build.{attachTransforms, attachFields, buildColumnSelector, buildFrom, build}
 
 -- a lookup
@@ -47,7 +47,7 @@ still-ignores ExtraColumnsPolicy.Ignore b h e = rw (h refl)
 still-ignores ExtraColumnsPolicy.Raise b h e = clash (cc)
 
 -- 53
-extra-kept : (a b : ExtraColumnsPolicy) (v : Version) (fs gs : Columns) → (a ≡ Ignore → b ≡ Ignore) → KeptAnswer (extraColumns a v fs gs) (extraColumns b v fs gs)
+extra-kept : (a b : ExtraColumnsPolicy) (v : Matching) (fs gs : Columns) → (a ≡ Ignore → b ≡ Ignore) → KeptAnswer (extraColumns a v fs gs) (extraColumns b v fs gs)
 unfolding extraColumns
 extra-kept ExtraColumnsPolicy.Ignore b v fs gs h = rw (h refl) (same-answer _)
 extra-kept ExtraColumnsPolicy.Raise ExtraColumnsPolicy.Ignore v fs gs h = passing (extraColumnErr v fs gs 0)
@@ -55,7 +55,7 @@ extra-kept ExtraColumnsPolicy.Raise ExtraColumnsPolicy.Raise v fs gs h = same-an
 
 -- ---- the builders
 
-module _ (v : Version) {p q : Policy} (A : Allows p q) where
+module _ (v : Matching) {p q : Policy} (A : Allows p q) where
   unless-null : (k : Position) (u t : ColumnType) {x y : Result Selector} → Kept x y
       → Kept (unlessNullType v p k u t x) (unlessNullType v q k u t y)
   unfolding unlessNullType
@@ -83,19 +83,21 @@ module _ (v : Version) {p q : Policy} (A : Allows p q) where
         unless-null k (clist l u) t
         (by-bind _ _ (same _) (λ e.
         by-demand (sameElement v (e .label) l) 25
-        (by-bind _ _ (attach-kept u noDefaults first (e .type)) (λ s. same _))))
+        (by-demand (keepsRequired (e .label) (e .type) l) 55
+        (by-bind _ _ (attach-kept u noDefaults first (e .type)) (λ s. same _)))))
     attach-kept (carray w l u) d k t =
         unless-null k (carray w l u) t
         (by-bind _ _ (same _) (λ e.
         by-demand (sameElement v (e .label) l) 25
-        (by-bind _ _ (attach-kept u noDefaults first (e .type)) (λ s. same _))))
+        (by-demand (keepsRequired (e .label) (e .type) l) 55
+        (by-bind _ _ (attach-kept u noDefaults first (e .type)) (λ s. same _)))))
 
     fields-kept : (gs : Columns) (d : Defaults) (fs : Columns) → Kept (attachFields v p d gs fs) (attachFields v q d gs fs)
     fields-kept cnil d fs = same _
     fields-kept (ccons l u gs) d fs =
         by-bind _ _
         (by-sought (counterpart v l fs) _ _ (missing-kept d _ _ 14 l u (A .missing-struct-fields))
-        (λ k m t. by-bind _ _ (attach-kept u d k t) (λ s. same _)))
+        (λ k m t. by-demand (keepsRequired m t l) 55 (by-bind _ _ (attach-kept u d k t) (λ s. same _))))
         (λ s. by-bind _ _ (fields-kept gs d fs) (λ ss. same _))
 
   column-kept : (d : Defaults) (l : Label) (u : ColumnType) (fs : Columns)
@@ -103,7 +105,7 @@ module _ (v : Version) {p q : Policy} (A : Allows p q) where
   unfolding buildColumnSelector
   column-kept d l u fs =
       by-sought (counterpart v l fs) _ _ (missing-kept d _ _ 11 l u (A .missing-columns))
-      (λ k m t. by-bind _ _ (attach-kept u d k t) (λ s. same _))
+      (λ k m t. by-demand (keepsRequired m t l) 55 (by-bind _ _ (attach-kept u d k t) (λ s. same _)))
 
   from-kept : (gs : Columns) (d : Defaults) (fs : Columns) (i : ℕ) → KeptAnswer (buildFrom v p d gs fs i) (buildFrom v q d gs fs i)
   unfolding buildFrom

@@ -7,8 +7,8 @@ use Rattle.layout.specs.Bytes.{Bytes, sameBytes}
 use Rattle.layout.specs.Parser.{choose}
 use Rattle.layout.specs.Tree.{Label, ColumnType, Columns, DataType, struct, list, array, Fields, dtypeOf, fieldsOf}
 use Rattle.layout.specs.declared.columns.Position.{Position}
-use Rattle.layout.specs.declared.version.Version.{Version}
-use Rattle.layout.specs.declared.version.Version.the-variants.{ByName, ByNumber}
+use Rattle.layout.specs.declared.matching.Matching.{Matching}
+use Rattle.layout.specs.declared.matching.Matching.the-variants.{ByName, ByNumber}
 use Rattle.layout.proofs.OfBytes.{same-bytes-eq}
 use Rattle.plan.specs.Selector.{Selector, position, rename, structMapping, listMapping, arrayMapping, Selectors}
 use Rattle.plan.specs.Check.{elementOf, withinLimits}
@@ -47,7 +47,7 @@ at-element = here
 
 -- ---- renames
 
-renamed-typed : {Γ : Fields} (v : Version) (b a : Label) {s : Selector} {t : DataType} → matches v b a ≡ true → Typed Γ s (a .name) t → withinLimits t ≡ true → Typed Γ (renamed v b a s) (b .name) t
+renamed-typed : {Γ : Fields} (v : Matching) (b a : Label) {s : Selector} {t : DataType} → matches v b a ≡ true → Typed Γ s (a .name) t → withinLimits t ≡ true → Typed Γ (renamed v b a s) (b .name) t
 unfolding renamed choose
 renamed-typed ByName b a h d z = rw (← same-bytes-eq (a .name) (b .name) h) d
 renamed-typed {Γ} ByNumber b a {s} {t} h d z = go (sameBytes (a .name) (b .name)) refl
@@ -57,7 +57,7 @@ renamed-typed {Γ} ByNumber b a {s} {t} h d z = go (sameBytes (a .name) (b .name
     go false q = t-rename d z
 
 -- in an element, where names have no effect
-renamed-element : {Γ : Fields} (v : Version) (b a : Label) {s : Selector} {n : Bytes} {t : DataType} → Typed Γ s n t → withinLimits t ≡ true → (m : Bytes) × Typed Γ (renamed v b a s) m t
+renamed-element : {Γ : Fields} (v : Matching) (b a : Label) {s : Selector} {n : Bytes} {t : DataType} → Typed Γ s n t → withinLimits t ≡ true → (m : Bytes) × Typed Γ (renamed v b a s) m t
 unfolding renamed choose
 renamed-element ByName b a {n = n} d z = (n, d)
 renamed-element {Γ} ByNumber b a {s} {n} {t} d z = go (sameBytes (a .name) (b .name))
@@ -66,7 +66,7 @@ renamed-element {Γ} ByNumber b a {s} {n} {t} d z = go (sameBytes (a .name) (b .
     go true = (n, d)
     go false = (b .name, t-rename d z)
 
-module _ (v : Version) where
+module _ (v : Matching) where
   mutual
     unfolding listSelector arraySelector dtypeOf fieldsOf
 
@@ -77,22 +77,22 @@ module _ (v : Version) where
     attach-typed (a-struct {k = k} {fs} {gs} {ss} c h r) g a z =
         rw (← r, struct-selector k fs ss)
         (struct-typed ss (straight 0 (fieldsOf fs) ss) (straight→equal v h (fieldsOf fs) all) a (attachAll-typed h g (struct-within (fieldsOf gs) z)) z)
-    attach-typed (a-list {a = x} {b} {u = u} {e = e} y h r) g a z =
+    attach-typed (a-list {a = x} {b} {u = u} {e = e} y m h r) g a z =
         let y = list-within (dtypeOf u) z in
         let (m, d) = renamed-element v b x (attach-typed h good-none at-element y) y in
         rw (← r) (list-typed (renamed v b x e) (isPosition 0 (renamed v b x e)) (λ c. bare→equal v h (renamed-bare v b x e (is-bare 0 _ c)) .1) a d z)
-    attach-typed (a-array {w = w} {a = x} {b} {u = u} {e = e} y h r) g a z =
+    attach-typed (a-array {w = w} {a = x} {b} {u = u} {e = e} y m h r) g a z =
         let y = array-within w (dtypeOf u) z in
         let (m, d) = renamed-element v b x (attach-typed h good-none at-element y) y in
         rw (← r) (array-typed (renamed v b x e) (isPosition 0 (renamed v b x e)) (λ c. bare→equal v h (renamed-bare v b x e (is-bare 0 _ c)) .1) a d z)
 
     pub attachAll-typed : {d : Defaults} {gs fs : Columns} {ss : Selectors} → AttachAll v d gs fs ss → Good d → WithinLimits (fieldsOf gs) → TypedAll (fieldsOf fs) ss (fieldsOf gs)
     attachAll-typed a-nil g z = t-nil
-    attachAll-typed (a-found {a = a} {b} {u = u} {fs = fs} {x = x} q h r hs) g z =
+    attachAll-typed (a-found {a = a} {b} {u = u} {fs = fs} {x = x} q m h r hs) g z =
         let f = counterpart-at v b fs q in
         let y = first-within z in
         let e : Typed (fieldsOf fs) x (b .name) (dtypeOf u) = rw (← r) (renamed-typed v b a (f .match) (attach-typed h g (f .place) y) y) in
         t-cons e (attachAll-typed hs g (rest-within z))
-    attachAll-typed (a-missing {d} {b} {u} {fs = fs} {x = x} q y r hs) g z =
+    attachAll-typed (a-missing {d} {b} {u} {fs = fs} {x = x} q y m r hs) g z =
         let e : Typed (fieldsOf fs) x (b .name) (dtypeOf u) = rw (← r) (t-constant (missing-fits d g b u y)) in
         t-cons e (attachAll-typed hs g (rest-within z))

@@ -7,8 +7,8 @@ use Rattle.layout.specs.Bytes.{Bytes, sameBytes}
 use Rattle.layout.specs.Parser.{choose}
 use Rattle.layout.specs.Tree.{LeafType, null, Label, ColumnType, cleaf, cstruct, clist, carray, Columns, DataType, leaf, struct, list, array, Fields, dtypeOf, fieldsOf}
 use Rattle.layout.specs.declared.columns.Position.{Position}
-use Rattle.layout.specs.declared.version.Version.{Version}
-use Rattle.layout.specs.declared.version.Version.the-variants.{ByName, ByNumber}
+use Rattle.layout.specs.declared.matching.Matching.{Matching}
+use Rattle.layout.specs.declared.matching.Matching.the-variants.{ByName, ByNumber}
 use Rattle.layout.proofs.Ways.{clash}
 use Rattle.forms.specs.Same.{sameDtype}
 use Rattle.forms.proofs.Equal.{same-dtype-refl, same-dtype-eq}
@@ -122,7 +122,7 @@ cast-differs a b o e = go (sameDtype (leaf a) (leaf b)) refl
     go true q = absurd (cast-unequal _ a b o (casts-allowed a b o (passes-casts a b o e)) (leaf-eq (same-dtype-eq (leaf a) (leaf b) q)))
     go false q = refl
 
-cast-due : (v : Version) (d : Defaults) (t u : ColumnType) {x : Value} (o : CastOption) → castFits (dtypeOf t) (dtypeOf u) o ≡ true → Fits (dtypeOf t) x → castValue (dtypeOf u) x ≡ due v d u t x
+cast-due : (v : Matching) (d : Defaults) (t u : ColumnType) {x : Value} (o : CastOption) → castFits (dtypeOf t) (dtypeOf u) o ≡ true → Fits (dtypeOf t) x → castValue (dtypeOf u) x ≡ due v d u t x
 unfolding castFits dtypeOf due dueLeaf castValue onStruct onList onArray choose
 cast-due v d (cleaf a) (cleaf b) o r h = rw (cast-differs a b o r)
 cast-due v d (cleaf a) (cstruct gs) o r h = rw (from-null-value a o r h)
@@ -186,7 +186,7 @@ module _ {Γ : Fields} {ρ : Values} {n : Bytes} (h : FitsAll Γ ρ) (k : Positi
   array-due g x false e a ih = array-agree _ _ ih (at-fits a h)
 
 -- a rename has no effect on values
-renamed-eval : (ρ : Values) (v : Version) (b a : Label) (s : Selector) → eval ρ (renamed v b a s) ≡ eval ρ s
+renamed-eval : (ρ : Values) (v : Matching) (b a : Label) (s : Selector) → eval ρ (renamed v b a s) ≡ eval ρ s
 unfolding renamed choose eval
 renamed-eval ρ ByName b a s = refl
 renamed-eval ρ ByNumber b a s = go (sameBytes (a .name) (b .name))
@@ -195,7 +195,7 @@ renamed-eval ρ ByNumber b a s = go (sameBytes (a .name) (b .name))
     go true = refl
     go false = refl
 
-module _ (v : Version) where
+module _ (v : Matching) where
   mutual
     unfolding listSelector arraySelector due dues dueLeaf choose eval evals dtypeOf fieldsOf fromCounterpart orElseNull valueAt
 
@@ -204,10 +204,10 @@ module _ (v : Version) where
     attach-due (a-same {l = l}) a h = rw (same-dtype-refl (leaf l))
     attach-due (a-cast {d} {k} {t} {u} {o = o} r p) a h = rw (← p) (cast-due v d t u o (rw (← p) at r) (at-fits a h))
     attach-due (a-struct {k = k} {fs} {ss = ss} c g r) a h = rw (← r, struct-selector k fs ss) (struct-due h k _ ss _ refl a (λ xs f. attachAll-due g f))
-    attach-due (a-list {k = k} {a = x} {b} {e = e} y g r) a h = rw (← r) (list-due h k _ (renamed v b x e) _ refl a (λ y f. renamed-eval _ v b x e ∙ attach-due g at-element (only f)))
-    attach-due (a-array {k = k} {a = x} {b} {e = e} y g r) a h = rw (← r) (array-due h k _ (renamed v b x e) _ refl a (λ y f. renamed-eval _ v b x e ∙ attach-due g at-element (only f)))
+    attach-due (a-list {k = k} {a = x} {b} {e = e} y m g r) a h = rw (← r) (list-due h k _ (renamed v b x e) _ refl a (λ y f. renamed-eval _ v b x e ∙ attach-due g at-element (only f)))
+    attach-due (a-array {k = k} {a = x} {b} {e = e} y m g r) a h = rw (← r) (array-due h k _ (renamed v b x e) _ refl a (λ y f. renamed-eval _ v b x e ∙ attach-due g at-element (only f)))
 
     pub attachAll-due : {d : Defaults} {gs fs : Columns} {ss : Selectors} {ρ : Values} → AttachAll v d gs fs ss → FitsAll (fieldsOf fs) ρ → evals ρ ss ≡ dues v d gs fs ρ
     attachAll-due a-nil h = refl
-    attachAll-due (a-found {a = a} {b} {fs = fs} {s = s} q g r gs) h = ap₂ vcons (rw (← r, q) (renamed-eval _ v b a s ∙ attach-due g (counterpart-at v b fs q .place) h)) (attachAll-due gs h)
-    attachAll-due (a-missing q y r gs) h = ap₂ vcons (rw (← r, q, y)) (attachAll-due gs h)
+    attachAll-due (a-found {a = a} {b} {fs = fs} {s = s} q m g r gs) h = ap₂ vcons (rw (← r, q) (renamed-eval _ v b a s ∙ attach-due g (counterpart-at v b fs q .place) h)) (attachAll-due gs h)
+    attachAll-due (a-missing q y m r gs) h = ap₂ vcons (rw (← r, q, y)) (attachAll-due gs h)

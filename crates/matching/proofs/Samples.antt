@@ -6,7 +6,7 @@ use lib.ListN.{length}
 use Rattle.layout.specs.Bytes.{Bytes, sameBytes}
 use Rattle.layout.specs.Parser.{Res, refuse, ok, next, choose, byte, chunk, u16, u32}
 use Rattle.layout.specs.Tree.{Layout, dtypeOf, fieldsOf, countColumns, countFields, integer}
-use Rattle.layout.specs.Layout.{layout, layoutFrom, sized, version, counted, ended, columns, label, text, fieldId, type, kind, kindOf, leafKind, datetimeKind, structKind, arrayKind, unit, body, structType, listType, arrayType, elementLabel, repeatsAny}
+use Rattle.layout.specs.Layout.{layout, layoutFrom, sized, edition, counted, ended, columns, label, labelRest, fieldMark, requiredMark, text, fieldId, type, kind, kindOf, leafKind, datetimeKind, structKind, arrayKind, unit, body, structType, listType, arrayType, elementLabel, repeatsAny}
 use Rattle.layout.specs.Find.{findFrom}
 use Rattle.layout.specs.declared.leaf.Leaf.{Leaf}
 use Rattle.layout.specs.Layout.{unitCode}
@@ -24,6 +24,8 @@ use Rattle.values.specs.Encode.{encodeValue, encodeValues}
 use Rattle.values.specs.Reading.{presence, nullable, flag, little, longText, contentBy, leafContent, times, content, value}
 use Rattle.plan.specs.Result.{Answer, accepted, refusedAt, _>>=_, demand, placed, answered}
 use Rattle.plan.specs.Selector.{countSelectors}
+use Rattle.plan.specs.Nullness.{nullnessAt, ofValue, ofFields, ofElements}
+use Rattle.plan.specs.Marks.{allowed, meets, meetsAll}
 use Rattle.plan.specs.Encode.{encodeSelector, encodeSelectors, encodePlan}
 use Rattle.values.specs.Record.{renumber}
 use Rattle.defaults.specs.declared.read.Owner.{Owner}
@@ -33,14 +35,14 @@ use Rattle.defaults.specs.Table.{countsFor, entriesOf, sameKind, sameOwner, rep
 use Rattle.defaults.specs.Table.{entryKind, givenOf, tableNumber, entry, ownerOf, ownedEntry, entries, tableVersion, TableTree, countedTable, tableFrom, table}
 use Rattle.defaults.specs.Lookup.{unlessNull, ofSource, givenTo, firstEntry, getDefaultValue}
 use Rattle.matching.specs.Default.{leafDefault, withField, structDefault, buildIcebergDefaultValue, defaultsOf, missingValue}
-use Rattle.matching.specs.Build.{leafPart, structPart, listPart, arrayPart, isNullType, unlessNullType, renamed, sameElement, distinctNames, distinct, noExtra, extraColumnErr, extraColumns, missing, ruled, isPosition, inPlace, structSelector, listSelector, arraySelector, sought, attachTransforms, attachFields, buildColumnSelector, buildFrom, build}
+use Rattle.matching.specs.Build.{leafPart, structPart, listPart, arrayPart, isNullType, unlessNullType, renamed, sameElement, distinctNames, distinct, noExtra, extraColumnErr, extraColumns, keepsRequired, fillsRequired, missing, ruled, isPosition, inPlace, structSelector, listSelector, arraySelector, sought, attachTransforms, attachFields, buildColumnSelector, buildFrom, build}
 use Rattle.plan.specs.Calls.{readAt}
-use Rattle.matching.specs.Calls.{ofVersion, bothLayouts, roomFor, writtenPlan, buildByName, buildByNumber}
+use Rattle.matching.specs.Calls.{ofEdition, bothLayouts, roomFor, writtenPlan, buildByName, buildByNumber}
 use Rattle.numeric.specs.declared.integers.Integer.the-variants.{Int8}
 
 -- opens every definition that a sample computes through
 unfoldable pub laidOut : Bytes → Res Layout
-unfolding layout layoutFrom sized version sameBytes counted ended columns label text byte chunk u16 u32 fieldId type kind kindOf leafKind datetimeKind structKind arrayKind unit body structType listType arrayType elementLabel repeatsAny next choose
+unfolding layout layoutFrom sized edition sameBytes counted ended columns label labelRest fieldMark requiredMark text byte chunk u16 u32 fieldId type kind kindOf leafKind datetimeKind structKind arrayKind unit body structType listType arrayType elementLabel repeatsAny next choose
 laidOut s = layout s
 
 unfoldable pub tabled : Bytes → Res TableTree
@@ -48,7 +50,7 @@ unfolding laidOut table tableFrom countedTable tableVersion entries ownedEntry o
 tabled s = table s
 
 unfoldable pub built : Policy → ℕ → ℕ → Bytes → Bytes → Bytes → ℕ → Answer Bytes
-unfolding tabled buildByName buildByNumber bothLayouts readAt ofVersion roomFor writtenPlan build buildFrom buildColumnSelector attachTransforms attachFields sought missing missingValue buildIcebergDefaultValue defaultsOf structDefault withField leafDefault entriesOf getDefaultValue firstEntry givenTo ofSource unlessNull leafPart structPart listPart arrayPart isNullType unlessNullType renamed sameElement distinctNames distinct noExtra extraColumnErr extraColumns ruled isPosition inPlace structSelector listSelector arraySelector findFrom pairRule chain paramsOf zonesOf readZone isUtc sameDtype sameLeaf dtypeOf fieldsOf countColumns countFields countSelectors encodePlan encodeSelector encodeSelectors u16Bytes u32Bytes textBytes leafForm carried kindForm form formFields encodeValue encodeValues littleBytes _>>=_ demand placed answered
+unfolding tabled keepsRequired fillsRequired allowed meets meetsAll ofValue ofFields ofElements nullnessAt buildByName buildByNumber bothLayouts readAt ofEdition roomFor writtenPlan build buildFrom buildColumnSelector attachTransforms attachFields sought missing missingValue buildIcebergDefaultValue defaultsOf structDefault withField leafDefault entriesOf getDefaultValue firstEntry givenTo ofSource unlessNull leafPart structPart listPart arrayPart isNullType unlessNullType renamed sameElement distinctNames distinct noExtra extraColumnErr extraColumns ruled isPosition inPlace structSelector listSelector arraySelector findFrom pairRule chain paramsOf zonesOf readZone isUtc sameDtype sameLeaf dtypeOf fieldsOf countColumns countFields countSelectors encodePlan encodeSelector encodeSelectors u16Bytes u32Bytes textBytes leafForm carried kindForm form formFields encodeValue encodeValues littleBytes _>>=_ demand placed answered
 built p k o a b d room = buildByNumber p k o a b d room
 
 -- ---- layouts, tables and plans

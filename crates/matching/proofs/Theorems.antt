@@ -8,16 +8,17 @@ use Rattle.layout.specs.Parser.{ok}
 use Rattle.layout.specs.Tree.{Label, ColumnType, Columns, fieldsOf}
 use Rattle.layout.specs.Find.{at, columnAt}
 use Rattle.layout.specs.declared.columns.Position.{Position}
-use Rattle.layout.specs.declared.version.Version.{Version}
-use Rattle.layout.specs.declared.version.Version.the-variants.{ByName}
+use Rattle.layout.specs.declared.matching.Matching.{Matching}
+use Rattle.layout.specs.declared.matching.Matching.the-variants.{ByName}
 use Rattle.rules.specs.declared.policy.Policy.{Policy}
 use Rattle.values.specs.Value.{Values}
 use Rattle.values.specs.Fits.{FitsAll}
-use Rattle.plan.specs.Result.{accepted}
+use Rattle.plan.specs.Result.{demand, accepted, placed, answered}
 use Rattle.plan.specs.Selector.{Selector, Selectors, nestingAll}
 use Rattle.plan.specs.Encode.{encodePlan}
 use Rattle.plan.specs.Read.{plan, longestPlan}
 use Rattle.plan.specs.Check.{check}
+use Rattle.plan.specs.Marks.{checkMarked}
 use Rattle.plan.specs.Run.{evals, written, run}
 use Rattle.plan.specs.Reach.{SelectorAt}
 use Rattle.plan.specs.Formed.{FormedAll}
@@ -32,15 +33,21 @@ use Rattle.matching.proofs.Untouched.{column-untouched}
 use Rattle.matching.proofs.Limits.{LayoutLimits}
 use Rattle.matching.proofs.Fitting.{Good}
 use Rattle.matching.proofs.Passes.{attachAll-typed}
+use Rattle.matching.proofs.Marked.{attachAll-meets}
 use Rattle.matching.proofs.Right.{attachAll-due}
 use Rattle.matching.proofs.Nesting.{attachAll-nests, attached-count, attachAll-formed}
 
 -- `LayoutLimits` holds of the columns of every layout that was read (`layout-limits`); `Good` of every table that was read (`table-good`) and of none
 -- (`good-none`). Calls.antt has the same for the calls over bytes, where neither is left.
-module _ (v : Version) (p : Policy) (d : Defaults) (Γ Δ : Columns) {ss : Selectors} (built : build v p d Γ Δ ≡ accepted ss) where
-  -- "Every plan that either builder writes passes this check between its own two layouts."
-  pub build-passes : Good d → LayoutLimits Δ → check (fieldsOf Γ) (fieldsOf Δ) ss ≡ accepted tt
-  build-passes g z = typed→passed (attachAll-typed v (build→ v p d Γ Δ built) g (z .within))
+module _ (v : Matching) (p : Policy) (d : Defaults) (Γ Δ : Columns) {ss : Selectors} (built : build v p d Γ Δ ≡ accepted ss) where
+  -- its types pass the check, up to 33
+  build-types : Good d → LayoutLimits Δ → check (fieldsOf Γ) (fieldsOf Δ) ss ≡ accepted tt
+  build-types g z = typed→passed (attachAll-typed v (build→ v p d Γ Δ built) g (z .within))
+
+  -- "Every plan that either builder writes passes this check between its own two layouts", with 55 (document 02, L5)
+  pub build-passes : Good d → LayoutLimits Δ → checkMarked Γ Δ ss ≡ accepted tt
+  unfolding checkMarked answered placed demand
+  build-passes g z = rw (build-types g z, attachAll-meets v (build→ v p d Γ Δ built))
 
   -- "For every record that fits the incoming one, the run of such a plan between these same two .. writes exactly the record that document 01 calls due":
   -- its values are those due,

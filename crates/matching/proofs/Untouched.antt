@@ -11,8 +11,8 @@ use Rattle.layout.specs.Parser.{choose}
 use Rattle.layout.specs.Tree.{Label, ColumnType, Columns, ccons, DataType, leaf, struct, list, array, Fields, fnil, fcons, dtypeOf, fieldsOf}
 use Rattle.layout.specs.Find.{absent, at, findFrom, columnNamed}
 use Rattle.layout.specs.declared.columns.Position.{Position}
-use Rattle.layout.specs.declared.version.Version.{Version}
-use Rattle.layout.specs.declared.version.Version.the-variants.{ByName}
+use Rattle.layout.specs.declared.matching.Matching.{Matching}
+use Rattle.layout.specs.declared.matching.Matching.the-variants.{ByName}
 use Rattle.layout.proofs.Ways.{clash}
 use Rattle.forms.specs.Form.{form}
 use Rattle.forms.proofs.Theorems.{forms-equal}
@@ -36,7 +36,7 @@ fcons-eq p q r = cc
 next-suffix : {i : ℕ} {n : Bytes} {t : DataType} {fs gs : Fields} → Suffix i fs (fcons n t gs) → Suffix (i + 1) fs gs
 next-suffix {i} {fs = fs} {gs = gs} s = let e : suc i ≡ i + 1 = omega arith in rw e at (suffix-next s)
 
-module _ (v : Version) where
+module _ (v : Matching) where
   mutual
     unfolding listSelector arraySelector straight isPosition dtypeOf fieldsOf
 
@@ -46,18 +46,18 @@ module _ (v : Version) where
     bare→equal (a-struct {k = k} {fs} {ss = ss} c h r) e =
         let (b, q) = left-out (straight 0 (fieldsOf fs) ss) (structMapping (position k) ss) refl (sym (struct-selector k fs ss) ∙ (r ∙ e)) in
         (q, ap struct (straight→equal h (fieldsOf fs) all b))
-    bare→equal (a-list {a = a} {b} {e = x} y h r) e =
+    bare→equal (a-list {a = a} {b} {e = x} y m h r) e =
         let (c, q) = left-out (isPosition 0 (renamed v b a x)) _ refl (r ∙ e) in
         (q, ap list (bare→equal h (renamed-bare v b a x (is-bare 0 _ c)) .1))
-    bare→equal (a-array {w = w} {a} {b} {e = x} y h r) e =
+    bare→equal (a-array {w = w} {a} {b} {e = x} y m h r) e =
         let (c, q) = left-out (isPosition 0 (renamed v b a x)) _ refl (r ∙ e) in
         (q, ap (array w) (bare→equal h (renamed-bare v b a x (is-bare 0 _ c)) .1))
 
     pub straight→equal : {d : Defaults} {gs G : Columns} {ss : Selectors} {i : ℕ} → AttachAll v d gs G ss → (fs : Fields) → Suffix i (fieldsOf G) fs → straight i fs ss ≡ true → fs ≡ fieldsOf gs
     straight→equal a-nil fnil s e = refl
     straight→equal a-nil (fcons n t fs) s e = clash (cc)
-    straight→equal (a-found q h r hs) fnil s e = clash (cc)
-    straight→equal {G = G} {i = i} (a-found {a = a} {b} {k} {s = y} {x = x} q h r hs) (fcons n t fs) s e =
+    straight→equal (a-found q m h r hs) fnil s e = clash (cc)
+    straight→equal {G = G} {i = i} (a-found {a = a} {b} {k} {s = y} {x = x} q m h r hs) (fcons n t fs) s e =
         let (c, e) = both (isPosition i x) e in
         let p = r ∙ is-bare i x c in
         let f = counterpart-at v b G q in
@@ -65,8 +65,8 @@ module _ (v : Version) where
         let w : k .0 ≡ i = ap (λ (k : Position). k .0) (sym j) in
         let (p₁, p₂) = at-unique (suffix-at s) (rw w at (f .place)) in
         fcons-eq (p₁ ∙ renamed-name v b a y (f .match) p) (p₂ ∙ z) (straight→equal hs fs (next-suffix s) e)
-    straight→equal (a-missing q y r hs) fnil s e = clash (cc)
-    straight→equal {i = i} (a-missing {x = x} q y r hs) (fcons n t fs) s e =
+    straight→equal (a-missing q y m r hs) fnil s e = clash (cc)
+    straight→equal {i = i} (a-missing {x = x} q y m r hs) (fcons n t fs) s e =
         let z = r ∙ is-bare i x (both (isPosition i x) e .0) in clash (cc)
 
 -- ---- by name
@@ -92,17 +92,17 @@ mutual
   equal→bare (a-struct {k = k} {fs} {gs} {ss} c h r) e =
       let p : fieldsOf fs ≡ fieldsOf gs = cc in
       sym r ∙ straight-bare k fs ss p (equal→straight h c (suffix-equal p))
-  equal→bare (a-list {e = x} y h r) e = sym r ∙ rw (bare-is first x (equal→bare h (cc)))
-  equal→bare (a-array {e = x} y h r) e = sym r ∙ rw (bare-is first x (equal→bare h (cc)))
+  equal→bare (a-list {e = x} y m h r) e = sym r ∙ rw (bare-is first x (equal→bare h (cc)))
+  equal→bare (a-array {e = x} y m h r) e = sym r ∙ rw (bare-is first x (equal→bare h (cc)))
 
   pub equal→straight : {d : Defaults} {gs G : Columns} {ss : Selectors} {i : ℕ} → AttachAll ByName d gs G ss → distinct ByName G ≡ true → Suffix i (fieldsOf G) (fieldsOf gs) → straight i (fieldsOf gs) ss ≡ true
   equal→straight a-nil c s = refl
-  equal→straight {G = G} {i = i} (a-found {b = b} {k} {t} {x = x} q h r hs) c s =
+  equal→straight {G = G} {i = i} (a-found {b = b} {k} {t} {x = x} q m h r hs) c s =
       let f = first-named (b .name) 0 G c (suffix-at s) in
       let (j, (m, w)) = at-eq (sym q ∙ f .found) in
       let z : k .0 ≡ i = ap (λ (k : Position). k .0) j ∙ omega arith in
       and-true (ap (λ (i : ℕ). isPosition i x) (sym z) ∙ bare-is k x (sym r ∙ equal→bare h (ap dtypeOf w ∙ f .equal))) (equal→straight hs c (next-suffix s))
-  equal→straight {G = G} (a-missing {b = b} q y r hs) c s =
+  equal→straight {G = G} (a-missing {b = b} q y m r hs) c s =
       let f = first-named (b .name) 0 G c (suffix-at s) in never-absent (sym q ∙ f .found)
 
 -- ---- by name, a target column of a plan
@@ -137,7 +137,7 @@ at-later b u gs i n h = rw (ne-eqb i n (λ e. omega arith))
 
 pub column-untouched : {d : Defaults} {Γ gs : Columns} {ss : Selectors} {b : Label} {u : ColumnType} {x : Selector} {k : Position} {m : ℕ} (i n : ℕ) → i + m ≡ n → AttachAll ByName d gs Γ ss → SelectorAt ss m x
     → findFrom (λ i l. eqb i n) i gs ≡ at k b u → Same.Untouched Γ b x ↔ Same.EqualType Γ b u
-column-untouched i n z (a-found {gs = gs} q h r hs) s-here e = let (p, w) = at-here gs i n (omega arith) e in rw (← p, ← w) (found-untouched q h r)
-column-untouched i n z (a-found {b = b} {u = u} {gs = gs} q h r hs) (s-there y) e = column-untouched (i + 1) n (omega arith) hs y (sym (at-later b u gs i n (omega arith)) ∙ e)
-column-untouched i n z (a-missing {gs = gs} q v r hs) s-here e = let (p, w) = at-here gs i n (omega arith) e in rw (← p, ← w) (missing-untouched q)
-column-untouched i n z (a-missing {b = b} {u = u} {gs = gs} q v r hs) (s-there y) e = column-untouched (i + 1) n (omega arith) hs y (sym (at-later b u gs i n (omega arith)) ∙ e)
+column-untouched i n z (a-found {gs = gs} q m h r hs) s-here e = let (p, w) = at-here gs i n (omega arith) e in rw (← p, ← w) (found-untouched q h r)
+column-untouched i n z (a-found {b = b} {u = u} {gs = gs} q m h r hs) (s-there y) e = column-untouched (i + 1) n (omega arith) hs y (sym (at-later b u gs i n (omega arith)) ∙ e)
+column-untouched i n z (a-missing {gs = gs} q v m r hs) s-here e = let (p, w) = at-here gs i n (omega arith) e in rw (← p, ← w) (missing-untouched q)
+column-untouched i n z (a-missing {b = b} {u = u} {gs = gs} q v m r hs) (s-there y) e = column-untouched (i + 1) n (omega arith) hs y (sym (at-later b u gs i n (omega arith)) ∙ e)

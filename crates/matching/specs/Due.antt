@@ -3,7 +3,7 @@
 use Rattle.layout.specs.Parser.{choose}
 use Rattle.layout.specs.Tree.{LeafType, null, leafOf, ColumnType, cleaf, cstruct, clist, carray, Columns, cnil, ccons, leaf}
 use Rattle.layout.specs.Find.{Lookup, absent, at, counterpart}
-use Rattle.layout.specs.declared.version.Version.{Version}
+use Rattle.layout.specs.declared.matching.Matching.{Matching}
 use Rattle.forms.specs.Same.{sameDtype}
 use Rattle.values.specs.Value.{Value, vnull, Values, vnil, vcons}
 use Rattle.plan.specs.Result.{Result, gives, refuses}
@@ -49,14 +49,14 @@ fromCounterpart (at k l t) x f vs = f t (valueAt vs (k .0))
 -- `due v d u t x`: what the value x of the incoming type t becomes in the target type u. "By rule, null stays null; .. a struct takes each target field
 -- in this same way and drops the rest; a list or array converts each element in order."
 unfoldable mutual
-  pub due : Version → Defaults → ColumnType → ColumnType → Value → Value
+  pub due : Matching → Defaults → ColumnType → ColumnType → Value → Value
   due v d (cleaf u) t x = dueLeaf (leafIn t) u x
   due v d (cstruct gs) t x = onStruct (λ vs. dues v d gs (fieldsIn t) vs) x
   due v d (clist l u) t x = onList (λ y. due v noDefaults u (elementIn t) y) x
   due v d (carray w l u) t x = onArray (λ y. due v noDefaults u (elementIn t) y) x
 
   -- "Each target column in order takes its counterpart's value, converted by rule; with no counterpart, by number its default if it has one, else null."
-  pub dues : Version → Defaults → Columns → Columns → Values → Values
+  pub dues : Matching → Defaults → Columns → Columns → Values → Values
   dues v d cnil fs vs = vnil
   dues v d (ccons l u gs) fs vs =
       vcons (fromCounterpart (counterpart v l fs) (orElseNull (missingValue d l u)) (λ t x. due v d u t x) vs) (dues v d gs fs vs)
