@@ -4,6 +4,7 @@ pub mod Repeated
 pub mod Matching
 pub mod Whole
 pub mod Rows
+pub mod Present
 pub mod Defaults
 pub mod Missing
 pub mod Taking

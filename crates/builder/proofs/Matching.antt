@@ -19,8 +19,10 @@ use Rattle.layout.specs.declared.columns.Labelled.{Labelled}
 use Rattle.layout.specs.declared.cursor.Cursor.{Cursor}
 use Rattle.layout.specs.declared.types.Head.{Head}
 use Rattle.layout.specs.declared.types.LeafType.{LeafType as LeafSpan}
-use Rattle.layout.specs.declared.version.Version.{Version}
-use Rattle.layout.specs.declared.version.Version.the-variants.{ByName, ByNumber}
+use Rattle.layout.specs.declared.edition.Edition.{Edition}
+use Rattle.layout.specs.declared.edition.Edition.the-variants.{One, Two, Three}
+use Rattle.layout.specs.declared.matching.Matching.{Matching}
+use Rattle.layout.specs.declared.matching.Matching.the-variants.{ByName, ByNumber}
 use Rattle.layout.proofs.Ways.{clash, head-in, label-in}
 use Rattle.layout.proofs.View.{label-got, leaf-at, StructAt, struct-at, ListAt, list-at, ArrayAt, array-at}
 use Rattle.forms.specs.Form.{u16Bytes, u32Bytes, textBytes, kindForm, headOf}
@@ -37,6 +39,7 @@ use Rattle.plan.specs.Result.{Result, gives, refuses, _>>=_}
 use Rattle.plan.specs.Selector.{Selector}
 use Rattle.matching.specs.Default.{Defaults, noDefaults}
 use Rattle.matching.specs.Build.{leafPart, structPart, isNullType, ruled, attachTransforms}
+use Rattle.matching.specs.Calls.{takes}
 use Rattle.builder.specs.Answers.{LeafIs, LeafPartIs, StructIs, StructPartIs, Inner, noElement, listElement, arrayElement, elementOf, ElementIs, ElementPartIs, needsRename, madeOf, Wrote, Makes, byRule}
 use Rattle.builder.specs.declared.answer.Made.{Made}
 use Rattle.builder.specs.declared.parts.LeafPart.{LeafPart}
@@ -87,22 +90,28 @@ no-element (cstruct cs) e f = refl
 no-element (clist l t) e f = differ refl f (ap hasElement (sym e))
 no-element (carray w l t) e f = differ refl f (ap hasElement (sym e))
 
+named-ends : (at : ℕ) (l : Label) {i m : ℕ} {X : Type 0} → (i ≤ m) × ((at + length (textBytes (l .name)) ≤ i) × ((length (l .name) ≤ 63) × X))
+    → (at + length (l .name) ≤ i) × (length (l .name) ≤ 63)
+unfolding textBytes
+named-ends at l (a, (b, (c, d))) = (omega arith, c)
+
 -- an element's label
-element-label-ends : (s : Bytes) (v : Version) (at : ℕ) {l : Label} {i : ℕ} → elementLabel v s at ≡ ok l i → (at + length (l .name) ≤ i) × (length (l .name) ≤ 63)
+element-label-ends : (s : Bytes) (v : Edition) (at : ℕ) {l : Label} {i : ℕ} → elementLabel v s at ≡ ok l i → (at + length (l .name) ≤ i) × (length (l .name) ≤ 63)
 unfolding elementLabel textBytes
-element-label-ends s ByName at e = let (p, q) = ok-eq e in let h = ap (λ (x : Label). length (x .name)) p in (omega arith, omega arith)
-element-label-ends s ByNumber at {l} e = named (label-ends s ByNumber at e)
-  where
-    named : {i m : ℕ} {X : Type 0} → (i ≤ m) × ((at + length (textBytes (l .name)) ≤ i) × ((length (l .name) ≤ 63) × X)) → (at + length (l .name) ≤ i) × (length (l .name) ≤ 63)
-    named (a, (b, (c, d))) = (omega arith, c)
+element-label-ends s One at e = let (p, q) = ok-eq e in let h = ap (λ (x : Label). length (x .name)) p in (omega arith, omega arith)
+element-label-ends s Two at {l} e = named-ends at l (label-ends s Two at e)
+element-label-ends s Three at {l} e = named-ends at l (label-ends s Three at e)
 
--- by number it has a byte at least
-element-label-later : (s : Bytes) (v : Version) (at : ℕ) {l : Label} {i : ℕ} → elementLabel v s at ≡ ok l i → (x y : Label) → needsRename v x y ≡ true → at < i
+-- where a column is labelled it has a byte at least
+element-label-later : (s : Bytes) (v : Edition) (at : ℕ) {l : Label} {i : ℕ} → elementLabel v s at ≡ ok l i
+    → (how : Matching) (x y : Label) → takes how v ≡ true → needsRename how x y ≡ true → at < i
 unfolding elementLabel textBytes
-element-label-later s ByName at e x y h = clash (cc)
-element-label-later s ByNumber at e x y h = let (a, (b, c)) = label-ends s ByNumber at e in omega (arith, b)
+element-label-later s One at e ByName x y t h = clash (cc)
+element-label-later s One at e ByNumber x y t h = clash (cc)
+element-label-later s Two at e how x y t h = let (a, (b, c)) = label-ends s Two at e in omega (arith, b)
+element-label-later s Three at e how x y t h = let (a, (b, c)) = label-ends s Three at e in omega (arith, b)
 
-module _ {v : Version} {d : ℕ} {s : Bytes} {at : ℕ} (P : TypeAt v d s at) where
+module _ {v : Edition} {d : ℕ} {s : Bytes} {at : ℕ} (P : TypeAt v d s at) where
   -- the head, by the parser's answer
   pub head-is : (k : Kind) {m : ℕ} → kind s at ≡ ok k m → (k ≡ headOf (dtypeOf (P .tree))) × (at + length (kindForm k) ≡ m) × (m ≤ length s)
   head-is k {m} h =
@@ -123,15 +132,15 @@ module _ {v : Version} {d : ℕ} {s : Bytes} {at : ℕ} (P : TypeAt v d s at) wh
   element-mismatch k h f = subst (λ (x : Inner). ElementPartIs v d s at x (P .end) ElementPart.Mismatch) (sym (no-element (P .tree) (head-is k h .0) f)) refl
 
 -- where an element's label stands
-label-bounds : (s : Bytes) (v : Version) (c : Cursor) {q : Labelled} {l : LabelSpan} {b : Cursor} → labelRes s q ≡ elementLabel v s (c .at) → labelIn s q → q ≡ Labelled.Is l b
-    → (spanIn s (l .name)) × (c .at ≤ b .at) × (l .name .len ≤ 63) × ((x y : Label) → needsRename v x y ≡ true → c .at < b .at)
+label-bounds : (s : Bytes) (v : Edition) (c : Cursor) {q : Labelled} {l : LabelSpan} {b : Cursor} → labelRes s q ≡ elementLabel v s (c .at) → labelIn s q → q ≡ Labelled.Is l b
+    → (spanIn s (l .name)) × (c .at ≤ b .at) × (l .name .len ≤ 63) × ((how : Matching) (x y : Label) → takes how v ≡ true → needsRename how x y ≡ true → c .at < b .at)
 label-bounds s v c {q} {l} g i k =
     let h = label-in s i k in
     let (x, y) = element-label-ends s v (c .at) (label-got s g k) in
     let z = span-long s (l .name) h in
     (h, omega arith, omega arith, element-label-later s v (c .at) (label-got s g k))
 
-module _ {v : Version} {d : ℕ} {s : Bytes} {at : ℕ} (P : TypeAt v d s at) {p : Head} (e : headRes s p ≡ kind s at) where
+module _ {v : Edition} {d : ℕ} {s : Bytes} {at : ℕ} (P : TypeAt v d s at) {p : Head} (e : headRes s p ≡ kind s at) where
   pub leaf-taken : {l : LeafSpan} {c : Cursor} → headIn s p → p ≡ Head.Leaf l c → LeafPartIs s (leafPart (P .tree)) (LeafPart.Is l)
   unfolding leafPart
   leaf-taken {l} i f =
@@ -153,7 +162,7 @@ module _ {v : Version} {d : ℕ} {s : Bytes} {at : ℕ} (P : TypeAt v d s at) {p
         let (h, x, y, n) = label-bounds s v c g i k in
         let z = head-is P aList (sym e ∙ ap (headRes s) f) .1 in
         subst (λ (t : ColumnType). ElementPartIs v d s at (elementOf t) (P .end) (ElementPart.List l b)) (sym (L .is))
-        (record { span = l; start = b; is = refl; label = refl; inside = h; short = y; inner = L .inner; tree = refl; ends = L .ends; after = omega arith; named = λ x y p. let q = n x y p in omega arith })
+        (record { span = l; start = b; is = refl; label = refl; inside = h; short = y; inner = L .inner; tree = refl; ends = L .ends; after = omega arith; named = λ how x y t p. let q = n how x y t p in omega arith })
 
     pub array-taken : {w : ℕ} → p ≡ Head.Array w c → ElementPartIs v d s at (elementOf (P .tree)) (P .end) (ElementPart.Array w l b)
     unfolding elementOf kindForm u32Bytes u16Bytes
@@ -162,7 +171,7 @@ module _ {v : Version} {d : ℕ} {s : Bytes} {at : ℕ} (P : TypeAt v d s at) {p
         let (h, x, y, n) = label-bounds s v c g i k in
         let z = head-is P (anArray w) (sym e ∙ ap (headRes s) f) .1 in
         subst (λ (t : ColumnType). ElementPartIs v d s at (elementOf t) (P .end) (ElementPart.Array w l b)) (sym (L .is))
-        (record { span = l; start = b; is = refl; label = refl; inside = h; short = y; inner = L .inner; tree = refl; ends = L .ends; after = omega arith; named = λ x y p. let q = n x y p in omega arith })
+        (record { span = l; start = b; is = refl; label = refl; inside = h; short = y; inner = L .inner; tree = refl; ends = L .ends; after = omega arith; named = λ how x y t p. let q = n how x y t p in omega arith })
 
 -- ---- what a taken part says
 
@@ -215,7 +224,7 @@ by-rule untouched k u = refl
 by-rule (refused n) k u = refl
 by-rule (casts o) k u = refl
 
-module _ (v : Version) (p : Policy) (d : Defaults) (k : Position) (t : ColumnType) {u : ColumnType} {m : LeafType} (is : u ≡ cleaf m) where
+module _ (v : Matching) (p : Policy) (d : Defaults) (k : Position) (t : ColumnType) {u : ColumnType} {m : LeafType} (is : u ≡ cleaf m) where
   pub leaf-ruled : {l : LeafType} {x : Verdict} → leafPart t ≡ gives l → x ≡ pairRule p l m → attachTransforms v p d u k t ≡ byRule x k u
   unfolding attachTransforms _>>=_
   leaf-ruled {l} {x} h e =

@@ -16,15 +16,16 @@ use Rattle.layout.specs.declared.columns.Label.{Label as LabelSpan}
 use Rattle.layout.specs.declared.columns.Labelled.{Labelled}
 use Rattle.layout.specs.declared.cursor.Cursor.{Cursor}
 use Rattle.layout.specs.declared.find.Found.{Found}
-use Rattle.layout.specs.declared.version.Version.{Version}
-use Rattle.layout.specs.declared.version.Version.the-variants.{ByName, ByNumber}
+use Rattle.layout.specs.declared.edition.Edition.{Edition}
+use Rattle.layout.specs.declared.matching.Matching.{Matching}
+use Rattle.layout.specs.declared.matching.Matching.the-variants.{ByName, ByNumber}
 use Rattle.layout.proofs.Ways.{clash}
 use Rattle.layout.proofs.View.{FirstAt, first-at, first-labelled, no-column, same-columns, columns-moved}
 use Rattle.matching.specs.Build.{isAbsent, distinctNames, distinct, noExtra}
 
 -- ---- lookups
 
-module _ (v : Version) (d : ℕ) (s : Bytes) where
+module _ (v : Edition) (d : ℕ) (s : Bytes) where
   pub found-some : (x : Lookup) {r : Found} {k : Position} {l : LabelSpan} {c : Cursor} → Finds v d s x r → r ≡ Found.At k l c → true ≡ not (isAbsent x)
   found-some absent {r} {k} {l} {c} f e = let z : Found.Absent ≡ Found.At k l c = sym f ∙ e in clash (cc)
   found-some (at k l t) f e = refl
@@ -35,22 +36,22 @@ module _ (v : Version) (d : ℕ) (s : Bytes) where
 
 -- ---- 12
 
-pub distinct-name : {v : Version} {b : Bool} (cs : Columns) → v ≡ ByName → b ≡ distinctNames cs → b ≡ distinct v cs
+pub distinct-name : {v : Matching} {b : Bool} (cs : Columns) → v ≡ ByName → b ≡ distinctNames cs → b ≡ distinct v cs
 unfolding distinct
 distinct-name cs h e = rw h e
 
-pub distinct-number : {v : Version} (cs : Columns) → v ≡ ByNumber → true ≡ distinct v cs
+pub distinct-number : {v : Matching} (cs : Columns) → v ≡ ByNumber → true ≡ distinct v cs
 unfolding distinct
 distinct-number cs h = rw h
 
 -- ---- the loops: a test of the columns that are left is the test of all
 
-pub record Passing (v : Version) (d : ℕ) (s : Bytes) (f : Columns → Bool) (n from left here : ℕ) : Type 0 where
+pub record Passing (v : Edition) (d : ℕ) (s : Bytes) (f : Columns → Bool) (n from left here : ℕ) : Type 0 where
   pub whole : ColumnsAt v d s n from
   pub rest : ColumnsAt v d s left here
   pub is : f (whole .columns) ≡ f (rest .columns)
 
-module _ {v : Version} {d : ℕ} {s : Bytes} (f : Columns → Bool) {n from : ℕ} where
+module _ {v : Edition} {d : ℕ} {s : Bytes} (f : Columns → Bool) {n from : ℕ} where
   pub passing-start : ColumnsAt v d s n from → Passing v d s f n from n from
   passing-start P = record { whole = P; rest = P; is = refl }
 
@@ -119,7 +120,7 @@ pub not-false : (b : Bool) → not b ≡ false → b ≡ true
 not-false true h = refl
 not-false false h = clash (cc)
 
-module _ (v : Version) (l : Label) (t : ColumnType) (fs gs : Columns) {b : Bool} (e : b ≡ not (isAbsent (counterpart v l gs))) where
+module _ (v : Matching) (l : Label) (t : ColumnType) (fs gs : Columns) {b : Bool} (e : b ≡ not (isAbsent (counterpart v l gs))) where
   extra-stop : b ≡ false → noExtra v (ccons l t fs) gs ≡ false
   unfolding noExtra
   extra-stop h = let z : not (isAbsent (counterpart v l gs)) ≡ false = sym e ∙ h in rw z
@@ -128,7 +129,7 @@ module _ (v : Version) (l : Label) (t : ColumnType) (fs gs : Columns) {b : Bool}
   unfolding noExtra
   extra-more h = let z : not (isAbsent (counterpart v l gs)) ≡ true = sym e ∙ h in rw z
 
-module _ {v : Version} {d : ℕ} {s : Bytes} {n from left here : ℕ} (a : Passing v d s distinctNames n from left here) (lt : 0 < left)
+module _ {v : Edition} {d : ℕ} {s : Bytes} {n from left here : ℕ} (a : Passing v d s distinctNames n from left here) (lt : 0 < left)
     {p : Labelled} (g : labelRes s p ≡ label v s here) {l : LabelSpan} {c : Cursor} (h : p ≡ Labelled.Is l c)
     {e : ℕ} (q : e ≡ column distinctNames a lt g h .head .end) (T : ColumnsAt v d s (left - 1) e)
     {b : Bool} (t : b ≡ not (isAbsent (columnNamed (spanAt s (l .name)) (T .columns)))) where
@@ -138,18 +139,19 @@ module _ {v : Version} {d : ℕ} {s : Bytes} {n from left here : ℕ} (a : Passi
   pub names-more : b ≡ false → Passing v d s distinctNames n from (left - 1) e
   names-more z = passing-more distinctNames a lt g h q T (distinct-more (labelAt s l) _ (T .columns) t z)
 
-module _ {v : Version} {d : ℕ} {s : Bytes} (gs : Columns) {n from left here : ℕ} (a : Passing v d s (λ cs. noExtra v cs gs) n from left here) (lt : 0 < left)
+module _ (how : Matching) {v : Edition} {d : ℕ} {s : Bytes} (gs : Columns) {n from left here : ℕ}
+    (a : Passing v d s (λ cs. noExtra how cs gs) n from left here) (lt : 0 < left)
     {p : Labelled} (g : labelRes s p ≡ label v s here) {l : LabelSpan} {c : Cursor} (h : p ≡ Labelled.Is l c)
-    {b : Bool} (t : b ≡ not (isAbsent (counterpart v (labelAt s l) gs))) where
+    {b : Bool} (t : b ≡ not (isAbsent (counterpart how (labelAt s l) gs))) where
   extra-column : FirstAt v d s left here (a .rest) (labelAt s l) (c .at)
-  extra-column = column (λ cs. noExtra v cs gs) a lt g h
+  extra-column = column (λ cs. noExtra how cs gs) a lt g h
 
-  pub fields-stop : not b ≡ true → (P : ColumnsAt v d s n from) → false ≡ noExtra v (P .columns) gs
+  pub fields-stop : not b ≡ true → (P : ColumnsAt v d s n from) → false ≡ noExtra how (P .columns) gs
   unfolding extra-column
-  fields-stop z = passing-stop (λ cs. noExtra v cs gs) a lt g h refl (extra-column .tail) (extra-stop v (labelAt s l) _ (extra-column .tail .columns) gs t (not-true b z))
+  fields-stop z = passing-stop (λ cs. noExtra how cs gs) a lt g h refl (extra-column .tail) (extra-stop how (labelAt s l) _ (extra-column .tail .columns) gs t (not-true b z))
 
-  pub fields-more : not b ≡ false → {e : ℕ} → ((P : TypeAt v d s (c .at)) → e ≡ P .end) → Passing v d s (λ cs. noExtra v cs gs) n from (left - 1) e
+  pub fields-more : not b ≡ false → {e : ℕ} → ((P : TypeAt v d s (c .at)) → e ≡ P .end) → Passing v d s (λ cs. noExtra how cs gs) n from (left - 1) e
   unfolding extra-column
   fields-more z k =
-      let T = tail-at (λ cs. noExtra v cs gs) a lt g h (k (extra-column .head)) in
-      passing-more (λ cs. noExtra v cs gs) a lt g h (k (extra-column .head)) T (extra-more v (labelAt s l) _ (T .columns) gs t (not-false b z))
+      let T = tail-at (λ cs. noExtra how cs gs) a lt g h (k (extra-column .head)) in
+      passing-more (λ cs. noExtra how cs gs) a lt g h (k (extra-column .head)) T (extra-more how (labelAt s l) _ (T .columns) gs t (not-false b z))

@@ -11,7 +11,7 @@ use Rattle.layout.specs.Bytes.{Bytes}
 use Rattle.layout.specs.Tree.{LeafType, DataType, leaf, struct, list, array, dtypeOf}
 use Rattle.layout.specs.Stands.{TypeAt}
 use Rattle.layout.specs.declared.columns.Position.{Position}
-use Rattle.layout.specs.declared.version.Version.{Version}
+use Rattle.layout.specs.declared.edition.Edition.{Edition}
 use Rattle.forms.specs.Form.{u16Bytes, textBytes, leafForm, kindForm, form}
 use Rattle.forms.proofs.Writing.{extent}
 use Rattle.rules.specs.Outcomes.{optionCode, numberOf, verdictOf}
@@ -68,12 +68,12 @@ form-some (struct fs) = omega arith
 form-some (list t) = omega arith
 form-some (array w t) = omega arith
 
-pub type-after : {v : Version} {d : ℕ} {s : Bytes} {at : ℕ} (P : TypeAt v d s at) → at < P .end
+pub type-after : {v : Edition} {d : ℕ} {s : Bytes} {at : ℕ} (P : TypeAt v d s at) → at < P .end
 type-after P = let (a, b) = extent P in let h = form-some (dtypeOf (P .tree)) in omega arith
 
 -- ---- what an outcome comes to
 
-module _ {v : Version} {d : ℕ} {s : Bytes} {at : ℕ} (Q : TypeAt v d s at) (p : Position) (out : Bytes) (k : ℕ) {x : Outcome} where
+module _ {v : Edition} {d : ℕ} {s : Bytes} {at : ℕ} (Q : TypeAt v d s at) (p : Position) (out : Bytes) (k : ℕ) {x : Outcome} where
   pub ruled-bare : {o : Bytes} → x ≡ Outcome.Untouched → o ≡ overlay out k (encodeSelector (position p)) → Makes at (Q .end) out k (byRule (verdictOf x) p (Q .tree)) (Made.Bare p) o
   unfolding madeOf Wrote
   ruled-bare h e = let l = position-long p in let a = type-after Q in rw h (record { answer = refl; wrote = (holds-exact out k (encodeSelector (position p)) e, omega arith) })

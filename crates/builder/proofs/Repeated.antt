@@ -14,7 +14,7 @@ use Rattle.layout.specs.declared.columns.Position.{Position}
 use Rattle.layout.specs.declared.columns.Siblings.the-variants.{Names, Free}
 use Rattle.layout.specs.declared.cursor.Cursor.{Cursor}
 use Rattle.layout.specs.declared.cursor.Moved.{Moved}
-use Rattle.layout.specs.declared.version.Version.{Version}
+use Rattle.layout.specs.declared.edition.Edition.{Edition}
 use Rattle.layout.proofs.Ways.{clash}
 use Rattle.layout.proofs.FreeRule.{repeats-free}
 use Rattle.layout.proofs.Reading.{repeatsAny-snoc}
@@ -75,7 +75,7 @@ named-as x ms cs ds e m h y =
     let o : e ≡ m = cc in
     rw (q, o) y
 
-named-more : (v : Version) (p : Parser ColumnType) (s : Bytes) (n : ℕ) (ms : List Label) (at : ℕ) (l : Label) (i : ℕ) (t : ColumnType) (j : ℕ) (cs : Columns) (e : ℕ) → label v s at ≡ ok l i
+named-more : (v : Edition) (p : Parser ColumnType) (s : Bytes) (n : ℕ) (ms : List Label) (at : ℕ) (l : Label) (i : ℕ) (t : ColumnType) (j : ℕ) (cs : Columns) (e : ℕ) → label v s at ≡ ok l i
     → p s i ≡ ok t j → columns v Names p n (ms ++ (l ∷ [])) s j ≡ named (ms ++ (l ∷ [])) cs e → columns v Names p (suc n) ms s at ≡ named ms (ccons l t cs) e
 unfolding columns next choose fresh distinctNames
 named-more v p s n ms at l i t j cs e h g y =
@@ -84,7 +84,7 @@ named-more v p s n ms at l i t j cs e h g y =
     (y ∙ ap (λ (b : Bool). choose (b && distinctNames cs) (ok cs e) (refuse 5)) (fresh-snoc ms l 0 cs)))
 
 -- what is read under no rule, under the rule of names
-by-names : (v : Version) (p : Parser ColumnType) (s : Bytes) (n : ℕ) (ms : List Label) (at : ℕ) (cs : Columns) (e : ℕ) → columns v Free p n ms s at ≡ ok cs e
+by-names : (v : Edition) (p : Parser ColumnType) (s : Bytes) (n : ℕ) (ms : List Label) (at : ℕ) (cs : Columns) (e : ℕ) → columns v Free p n ms s at ≡ ok cs e
     → columns v Names p n ms s at ≡ named ms cs e
 unfolding columns next choose fresh distinctNames
 by-names v p s zero ms at cs e h = named-as (ok cnil at) ms cs cnil e at h refl
@@ -95,7 +95,7 @@ by-names v p s (suc n) ms at cs e h =
     let (ds, m, h₃, g₃) = next-ok (columns v Free p n (ms ++ (l ∷ [])) s j) _ (sym (no-test (repeatsAny Free l ms) (repeats-free l ms) s j X) ∙ g₂) in
     named-as (columns v Names p (suc n) ms s at) ms cs (ccons l t ds) e m g₃ (named-more v p s n ms at l i t j ds m h₁ h₂ (by-names v p s n (ms ++ (l ∷ [])) j ds m h₃))
 
-module _ {v : Version} {d : ℕ} {s : Bytes} {n from : ℕ} {r : Moved} (e : r ≡ movedOf (columns v Names (type v Free d) n [] s from)) (P : ColumnsAt v d s n from) where
+module _ {v : Edition} {d : ℕ} {s : Bytes} {n from : ℕ} {r : Moved} (e : r ≡ movedOf (columns v Names (type v Free d) n [] s from)) (P : ColumnsAt v d s n from) where
   tested : r ≡ movedOf (choose (distinctNames (P .columns)) (ok (P .columns) (P .end)) (refuse 5))
   tested =
       e ∙ ap movedOf (by-names v (type v Free d) s n [] from (P .columns) (P .end) (P .reads))

@@ -25,7 +25,7 @@ use Rattle.builder.specs.declared.answer.Made.the-variants.{Refused, Bar
 use Rattle.builder.specs.declared.answer.Row.{Row}
 use Rattle.builder.specs.declared.answer.Row.the-variants.{Failed, Done}
 use Rattle.layout.specs.Tree.{Label, ColumnType, Columns, cnil, ccons, countColumns}
-use Rattle.layout.specs.declared.version.Version.{Version}
+use Rattle.layout.specs.declared.matching.Matching.{Matching}
 use Rattle.rules.specs.declared.policy.Policy.{Policy}
 use Rattle.matching.specs.Default.{Defaults}
 use Rattle.builder.proofs.Putting.{position-long}
@@ -160,7 +160,7 @@ row-count (refuses k) Y ss n f h = clash (cc)
 row-count (gives s) (refuses k) ss n f h = clash (cc)
 row-count (gives s) (gives rs) ss n f h = let q : ss ≡ scons s rs = cc in rw q (ap suc (f rs refl))
 
-pub count-is : (v : Version) (p : Policy) (d : Defaults) (gs fs : Columns) (ss : Selectors) → attachFields v p d gs fs ≡ gives ss → countSelectors ss ≡ countColumns gs
+pub count-is : (v : Matching) (p : Policy) (d : Defaults) (gs fs : Columns) (ss : Selectors) → attachFields v p d gs fs ≡ gives ss → countSelectors ss ≡ countColumns gs
 unfolding attachFields countColumns countSelectors
 count-is v p d cnil fs ss h = let q : ss ≡ snil = cc in rw q
 count-is v p d (ccons l u gs) fs ss h = row-count _ (attachFields v p d gs fs) ss (countColumns gs) (count-is v p d gs fs) h

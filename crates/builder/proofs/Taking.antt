@@ -16,10 +16,12 @@ use Rattle.layout.specs.declared.columns.Label.{Label as LabelSpan}
 use Rattle.layout.specs.declared.columns.Siblings.the-variants.{Free}
 use Rattle.layout.specs.declared.cursor.Cursor.{Cursor}
 use Rattle.layout.specs.declared.find.Found.{Found}
-use Rattle.layout.specs.declared.version.Version.{Version}
+use Rattle.layout.specs.declared.edition.Edition.{Edition}
+use Rattle.layout.specs.declared.matching.Matching.{Matching}
 use Rattle.layout.proofs.Ways.{clash}
 use Rattle.plan.specs.Result.{Result, gives, refuses, demand}
 use Rattle.matching.specs.Build.{Element, listPart, arrayPart}
+use Rattle.matching.specs.Calls.{takes}
 use Rattle.builder.specs.Answers.{StructPartIs, Inner, noElement, listElement, arrayElement, elementOf, ElementIs, ElementPartIs, InnerPartIs, needsRename}
 use Rattle.builder.specs.declared.parts.StructPart.{StructPart}
 use Rattle.builder.specs.declared.parts.ElementPart.{ElementPart}
@@ -27,14 +29,14 @@ use Rattle.builder.specs.declared.parts.InnerPart.{InnerPart}
 
 -- ---- a struct's columns
 
-pub record StructTaken (v : Version) (d : ℕ) (s : Bytes) (at : ℕ) (X : Result Columns) (e n : ℕ) (c : Cursor) : Type 0 where
+pub record StructTaken (v : Edition) (d : ℕ) (s : Bytes) (at : ℕ) (X : Result Columns) (e n : ℕ) (c : Cursor) : Type 0 where
   pub inner : ColumnsAt v (d - 1) s n (c .at)
   pub is : X ≡ gives (inner .columns)
   pub ends : inner .end ≡ e
   pub after : at < c .at
   pub within : c .at ≤ length s
 
-module _ (v : Version) (d : ℕ) (s : Bytes) (at : ℕ) {r : StructPart} where
+module _ (v : Edition) (d : ℕ) (s : Bytes) (at : ℕ) {r : StructPart} where
   pub part-struct : (X : Result Columns) (e : ℕ) {n : ℕ} {c : Cursor} → StructPartIs v d s at X e r → r ≡ StructPart.Is n c → StructTaken v d s at X e n c
   part-struct (refuses k) e {n} {c} h q = let z : StructPart.Mismatch ≡ StructPart.Is n c = sym (h .1) ∙ q in clash (cc)
   part-struct (gives cs) e {n} {c} h q =
@@ -60,7 +62,7 @@ module _ (v : Version) (d : ℕ) (s : Bytes) (at : ℕ) {r : StructPart} where
 
 -- ---- an element: its label stands at l and its type at c
 
-pub record ElementTaken (v : Version) (d : ℕ) (s : Bytes) (at : ℕ) (a : Label) (t : ColumnType) (e : ℕ) (l : LabelSpan) (c : Cursor) : Type 0 where
+pub record ElementTaken (v : Edition) (d : ℕ) (s : Bytes) (at : ℕ) (a : Label) (t : ColumnType) (e : ℕ) (l : LabelSpan) (c : Cursor) : Type 0 where
   pub inside : spanIn s (l .name)
   pub short : l .name .len ≤ 63
   pub label : a ≡ labelAt s l
@@ -68,9 +70,9 @@ pub record ElementTaken (v : Version) (d : ℕ) (s : Bytes) (at : ℕ) (a : Labe
   pub tree : t ≡ inner .tree
   pub ends : inner .end ≡ e
   pub after : at < c .at
-  pub named : (x y : Label) → needsRename v x y ≡ true → at + 1 < c .at
+  pub named : (how : Matching) (x y : Label) → takes how v ≡ true → needsRename how x y ≡ true → at + 1 < c .at
 
-taken : {R : Type 0} {v : Version} {d : ℕ} {s : Bytes} {at : ℕ} {a : Label} {t : ColumnType} {e : ℕ} {f : LabelSpan → Cursor → R} {r : R} {l : LabelSpan} {c : Cursor}
+taken : {R : Type 0} {v : Edition} {d : ℕ} {s : Bytes} {at : ℕ} {a : Label} {t : ColumnType} {e : ℕ} {f : LabelSpan → Cursor → R} {r : R} {l : LabelSpan} {c : Cursor}
     (E : ElementIs v d s at a t e f r) → E .span ≡ l → E .start ≡ c → ElementTaken v d s at a t e l c
 taken {v = v} {d} {s} {at} {c = c} E y x = record {
   inside = subst (λ (b : LabelSpan). spanIn s (b .name)) y (E .inside);
@@ -80,11 +82,11 @@ taken {v = v} {d} {s} {at} {c = c} E y x = record {
   tree = sym (E .tree);
   ends = E .ends;
   after = subst (λ (b : Cursor). at < b .at) x (E .after);
-  named = λ p q h. subst (λ (b : Cursor). at + 1 < b .at) x (E .named p q h);
+  named = λ how p q t h. subst (λ (b : Cursor). at + 1 < b .at) x (E .named how p q t h);
 }
 
 -- the same under the names of the answer
-renewed : {R S : Type 0} {v : Version} {d : ℕ} {s : Bytes} {at : ℕ} {a : Label} {t : ColumnType} {e : ℕ} {f : LabelSpan → Cursor → R} {r : R} (g : LabelSpan → Cursor → S) {l : LabelSpan} {c : Cursor}
+renewed : {R S : Type 0} {v : Edition} {d : ℕ} {s : Bytes} {at : ℕ} {a : Label} {t : ColumnType} {e : ℕ} {f : LabelSpan → Cursor → R} {r : R} (g : LabelSpan → Cursor → S) {l : LabelSpan} {c : Cursor}
     (E : ElementIs v d s at a t e f r) → E .span ≡ l → E .start ≡ c → ElementIs v d s at a t e g (g l c)
 renewed g {l} {c} E y x = record {
   span = E .span;
@@ -101,13 +103,13 @@ renewed g {l} {c} E y x = record {
 }
 
 -- the target's
-pub record InnerTaken (v : Version) (d : ℕ) (s : Bytes) (at : ℕ) (X : Inner) (g : Label → ColumnType → Inner) (e : ℕ) (l : LabelSpan) (c : Cursor) : Type 0 where
+pub record InnerTaken (v : Edition) (d : ℕ) (s : Bytes) (at : ℕ) (X : Inner) (g : Label → ColumnType → Inner) (e : ℕ) (l : LabelSpan) (c : Cursor) : Type 0 where
   pub label : Label
   pub type : ColumnType
   pub is : X ≡ g label type
   pub element : ElementTaken v d s at label type e l c
 
-module _ (v : Version) (d : ℕ) (s : Bytes) (at : ℕ) {r : ElementPart} where
+module _ (v : Edition) (d : ℕ) (s : Bytes) (at : ℕ) {r : ElementPart} where
   pub part-list : (X : Inner) (e : ℕ) {l : LabelSpan} {c : Cursor} → ElementPartIs v d s at X e r → r ≡ ElementPart.List l c → InnerTaken v d s at X (λ a t. listElement a t) e l c
   part-list noElement e {l} {c} h q = let z : ElementPart.Mismatch ≡ ElementPart.List l c = sym h ∙ q in clash (cc)
   part-list (listElement a t) e {l} {c} h q =
@@ -196,12 +198,12 @@ module _ (v : Version) (d : ℕ) (s : Bytes) (at : ℕ) {r : ElementPart} where
           let u : y ≡ x = cc in
           rw (ne-eqb y w (λ j. i (sym u ∙ j))) (refl, refl)
 
-pub record PartTaken (v : Version) (d : ℕ) (s : Bytes) (at : ℕ) (X : Result Element) (e : ℕ) (l : LabelSpan) (c : Cursor) : Type 0 where
+pub record PartTaken (v : Edition) (d : ℕ) (s : Bytes) (at : ℕ) (X : Result Element) (e : ℕ) (l : LabelSpan) (c : Cursor) : Type 0 where
   pub part : Element
   pub is : X ≡ gives part
   pub element : ElementTaken v d s at (part .label) (part .type) e l c
 
-module _ (v : Version) (d : ℕ) (s : Bytes) (at : ℕ) {r : InnerPart} where
+module _ (v : Edition) (d : ℕ) (s : Bytes) (at : ℕ) {r : InnerPart} where
   pub part-inner : (X : Result Element) (e : ℕ) {l : LabelSpan} {c : Cursor} → InnerPartIs v d s at X e r → r ≡ InnerPart.Is l c → PartTaken v d s at X e l c
   part-inner (refuses n) e {l} {c} h q = let z : InnerPart.Mismatch ≡ InnerPart.Is l c = sym (h .1) ∙ q in clash (cc)
   part-inner (gives x) e {l} {c} h q =
@@ -216,12 +218,12 @@ module _ (v : Version) (d : ℕ) (s : Bytes) (at : ℕ) {r : InnerPart} where
 
 -- ---- a counterpart
 
-pub record FoundHere (v : Version) (d : ℕ) (s : Bytes) (X : Lookup) (k : Position) (m : LabelSpan) (c : Cursor) : Type 0 where
+pub record FoundHere (v : Edition) (d : ℕ) (s : Bytes) (X : Lookup) (k : Position) (m : LabelSpan) (c : Cursor) : Type 0 where
   pub inner : TypeAt v d s (c .at)
   pub is : X ≡ at k (labelAt s m) (inner .tree)
   pub inside : spanIn s (m .name)
 
-module _ (v : Version) (d : ℕ) (s : Bytes) {r : Found} where
+module _ (v : Edition) (d : ℕ) (s : Bytes) {r : Found} where
   pub found-here : (X : Lookup) {k : Position} {m : LabelSpan} {c : Cursor} → Finds v d s X r → r ≡ Found.At k m c → FoundHere v d s X k m c
   found-here absent {k} {m} {c} h q = let z : Found.Absent ≡ Found.At k m c = sym h ∙ q in clash (cc)
   found-here (at i l t) {k} {m} {c} h q =

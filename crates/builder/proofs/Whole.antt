@@ -14,8 +14,9 @@ use Rattle.layout.specs.Tree.{Label, ColumnType, Columns, dtypeOf}
 use Rattle.layout.specs.Stands.{TypeAt}
 use Rattle.layout.specs.declared.columns.FieldId.{FieldId}
 use Rattle.layout.specs.declared.columns.Position.{Position}
-use Rattle.layout.specs.declared.version.Version.{Version}
-use Rattle.layout.specs.declared.version.Version.the-variants.{ByName, ByNumber}
+use Rattle.layout.specs.declared.edition.Edition.{Edition}
+use Rattle.layout.specs.declared.matching.Matching.{Matching}
+use Rattle.layout.specs.declared.matching.Matching.the-variants.{ByName, ByNumber}
 use Rattle.layout.proofs.Ways.{clash}
 use Rattle.forms.proofs.Writing.{extent}
 use Rattle.rules.specs.declared.policy.Policy.{Policy}
@@ -23,20 +24,21 @@ use Rattle.rules.specs.declared.outcome.CastOption.the-variants.{NonStrict}
 use Rattle.plan.specs.Result.{demand}
 use Rattle.plan.specs.Selector.{Selector, position, cast, rename}
 use Rattle.plan.specs.Encode.{encodeSelector}
-use Rattle.matching.specs.Build.{isByName, isNullType, sameElement, renamed, distinct, noExtra, ignores}
+use Rattle.matching.specs.Build.{isByName, isNullType, sameElement, renamed, distinct, noExtra, ignores, keepsRequired}
+use Rattle.builder.proofs.Names.{not-true, not-false}
 use Rattle.builder.specs.Answers.{madeOf, Wrote, Makes, needsRename, faultOf, nullCast}
 use Rattle.builder.specs.declared.answer.Made.{Made}
 use Rattle.builder.proofs.Putting.{cast-long, form-some}
 
-pub null-by-name : {v : Version} (t : ColumnType) {b : Bool} → v ≡ ByName → b ≡ isNullType t → b ≡ (isByName v && isNullType t)
+pub null-by-name : {v : Matching} (t : ColumnType) {b : Bool} → v ≡ ByName → b ≡ isNullType t → b ≡ (isByName v && isNullType t)
 null-by-name t h e = rw h e
 
-pub null-by-number : {v : Version} (t : ColumnType) → v ≡ ByNumber → false ≡ (isByName v && isNullType t)
+pub null-by-number : {v : Matching} (t : ColumnType) → v ≡ ByNumber → false ≡ (isByName v && isNullType t)
 null-by-number t h = rw h
 
 -- ---- 25
 
-module _ {v : Version} {a b : FieldId} (x y : Label) (p : x .id ≡ a) (q : y .id ≡ b) where
+module _ {v : Matching} {a b : FieldId} (x y : Label) (p : x .id ≡ a) (q : y .id ≡ b) where
   pub elements-named : v ≡ ByName → true ≡ sameElement v x y
   unfolding sameElement
   elements-named h = rw h
@@ -57,7 +59,7 @@ module _ {v : Version} {a b : FieldId} (x y : Label) (p : x .id ≡ a) (q : y .i
 
 -- ---- renames
 
-pub rename-never : {v : Version} (l m : Label) → v ≡ ByName → false ≡ needsRename v l m
+pub rename-never : {v : Matching} (l m : Label) → v ≡ ByName → false ≡ needsRename v l m
 rename-never l m h = rw h
 
 choose-not : {A : Type 0} (b : Bool) (x y : A) → choose b x y ≡ choose (not b) y x
@@ -65,7 +67,7 @@ unfolding choose
 choose-not true x y = refl
 choose-not false x y = refl
 
-pub renamed-is : (v : Version) (l m : Label) (s : Selector) → renamed v l m s ≡ choose (needsRename v l m) (rename s (l .name)) s
+pub renamed-is : (v : Matching) (l m : Label) (s : Selector) → renamed v l m s ≡ choose (needsRename v l m) (rename s (l .name)) s
 unfolding renamed choose
 renamed-is ByName l m s = refl
 renamed-is ByNumber l m s = choose-not (sameBytes (m .name) (l .name)) s (rename s (l .name))
@@ -82,7 +84,7 @@ unfolding choose
 passed true y e = refl
 passed false y e = clash (cc)
 
-module _ (p : Policy) (v : Version) (gs fs : Columns) {a : Bool} (ea : a ≡ distinct v gs) where
+module _ (p : Policy) (v : Matching) (gs fs : Columns) {a : Bool} (ea : a ≡ distinct v gs) where
   pub fault-target : not a ≡ true → 12 ≡ faultOf p v gs fs
   unfolding choose
   fault-target h = stopped (distinct v gs) _ (ap not (sym ea) ∙ h)
@@ -116,7 +118,7 @@ module _ (p : Policy) (v : Version) (gs fs : Columns) {a : Bool} (ea : a ≡ dis
 
 -- ---- a null incoming type
 
-module _ (p : Policy) (k : Position) {v : Version} {d : ℕ} {s : Bytes} {at : ℕ} (Q : TypeAt v d s at) (out : Bytes) (to : ℕ) where
+module _ (p : Policy) (k : Position) {v : Edition} {d : ℕ} {s : Bytes} {at : ℕ} (Q : TypeAt v d s at) (out : Bytes) (to : ℕ) where
   pub null-cast : {n : ℕ} {o : Bytes} → p .«null_upcast» ≡ true → n ≡ length (encodeSelector (cast (position k) (dtypeOf (Q .tree)) NonStrict))
       → o ≡ overlay out to (encodeSelector (cast (position k) (dtypeOf (Q .tree)) NonStrict)) → Makes at (Q .end) out to (nullCast p k (Q .tree)) (Made.Built n) o
   unfolding demand madeOf Wrote
@@ -129,3 +131,21 @@ module _ (p : Policy) (k : Position) {v : Version} {d : ℕ} {s : Bytes} {at : �
   pub null-refused : (o : Bytes) → p .«null_upcast» ≡ false → Makes at (Q .end) out to (nullCast p k (Q .tree)) (Made.Refused 15) o
   unfolding demand madeOf Wrote
   null-refused o h = rw h (record { answer = refl; wrote = tt })
+
+-- ---- 55
+
+module _ (a l : Label) (t : ColumnType) {q : Bool} (e : l .required ≡ q) where
+  pub keeps-optional : not q ≡ true → true ≡ keepsRequired a t l
+  unfolding keepsRequired
+  keeps-optional h = let z : l .required ≡ false = e ∙ not-true q h in rw z
+
+  pub keeps-unmarked : not q ≡ false → not (a .required) ≡ true → false ≡ keepsRequired a t l
+  unfolding keepsRequired
+  keeps-unmarked h g = let z : l .required ≡ true = e ∙ not-false q h in let y : a .required ≡ false = not-true (a .required) g in rw (z, y)
+
+  pub keeps-typed : not q ≡ false → not (a .required) ≡ false → {b : Bool} → b ≡ isNullType t → not b ≡ keepsRequired a t l
+  unfolding keepsRequired
+  keeps-typed h g b =
+      let z : l .required ≡ true = e ∙ not-false q h in
+      let y : a .required ≡ true = not-false (a .required) g in
+      rw (z, y) (ap not b)

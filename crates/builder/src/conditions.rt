@@ -5,10 +5,15 @@ ghost use Prim.Native.Nat.{ℕ, _+_, _*_, _^_, _≤_, _<_};
 ghost use lib.ListN.{length};
 ghost use Rattle.layout.specs.Tree.{Label as LabelOf};
 ghost use Rattle.layout.specs.Answers.{labelAt, spanIn};
-ghost use Rattle.layout.specs.Stands.{TypeAt, ColumnsAt};
+ghost use Rattle.layout.specs.Stands.{TypeAt};
+ghost use Rattle.layout.specs.declared.edition.Edition.{Edition as EditionOf};
 ghost use Rattle.matching.specs.Build.{isByName, isNullType, sameElement, ignores as ignoresExtra, inserts as insertsMissing};
-ghost use Rattle.builder.specs.Answers.{Makes, needsRename, faultOf, nullCast};
+ghost use Rattle.builder.specs.Answers.{Makes, needsRename, nullCast};
+ghost use Rattle.builder.specs.Bundles.{RowsAt, Faulty, KeepsRequired};
 use crate::answer::Made;
+use crate::build::Build;
+use crate::build::Column;
+use crate::build::Rows;
 use crate::fields::distinct;
 use crate::fields::no_extra;
 use crate::parts::is_null_type;
@@ -18,29 +23,30 @@ use layout::columns::FieldId;
 use layout::columns::Label;
 use layout::columns::Position;
 use layout::cursor::Cursor;
-use layout::version::Version;
+use layout::edition::Edition;
+use layout::matching::Matching;
 use rules::outcome::CastOption;
 use rules::policy::ExtraColumnsPolicy;
 use rules::policy::MissingColumnsPolicy;
 use rules::policy::Policy;
 
 // By name a null incoming type goes before every other test.
-pub fn is_null_incoming(v: Version, incoming: &[u8], c: Cursor) -> bool
-    ensures { λ r. ⌜ ((d : ℕ) (P : TypeAt v d (now (incoming .entry)) (c .at)) → r ≡ (isByName v && isNullType (P .tree))) ⌝ }
+pub fn is_null_incoming(how: Matching, incoming: &[u8], c: Cursor) -> bool
+    ensures { λ r. ⌜ ((v : EditionOf) (d : ℕ) (P : TypeAt v d (now (incoming .entry)) (c .at)) → r ≡ (isByName how && isNullType (P .tree))) ⌝ }
 {
-    match v {
-        Version::ByName => is_null_type(incoming, c),
-        Version::ByNumber => false,
+    match how {
+        Matching::ByName => is_null_type(incoming, c),
+        Matching::ByNumber => false,
     }
 }
 
 // Test 25: by number the ids of elements agree, or one stands for `LIST_ELEMENT_DEFAULT_ID`.
-pub fn same_element(v: Version, a: FieldId, b: FieldId) -> bool
-    ensures { λ r. ⌜ ((x y : LabelOf) → x .id ≡ a → y .id ≡ b → r ≡ sameElement v x y) ⌝ }
+pub fn same_element(how: Matching, a: FieldId, b: FieldId) -> bool
+    ensures { λ r. ⌜ ((x y : LabelOf) → x .id ≡ a → y .id ≡ b → r ≡ sameElement how x y) ⌝ }
 {
-    match v {
-        Version::ByName => true,
-        Version::ByNumber => {
+    match how {
+        Matching::ByName => true,
+        Matching::ByNumber => {
             if a.0 == b.0 {
                 return true;
             }
@@ -53,19 +59,34 @@ pub fn same_element(v: Version, a: FieldId, b: FieldId) -> bool
 }
 
 // By number unequal names add a rename.
-pub fn needs_rename(v: Version, incoming: &[u8], l: Label, target: &[u8], m: Label) -> bool
+pub fn needs_rename(how: Matching, incoming: &[u8], l: Label, target: &[u8], m: Label) -> bool
     requires { ⌜ spanIn (now incoming) (l .name) ⌝ }
     requires { ⌜ spanIn (now target) (m .name) ⌝ }
-    ensures { λ r. ⌜ r ≡ needsRename v (labelAt (now (target .entry)) m) (labelAt (now (incoming .entry)) l) ⌝ }
+    ensures { λ r. ⌜ r ≡ needsRename how (labelAt (now (target .entry)) m) (labelAt (now (incoming .entry)) l) ⌝ }
 {
-    match v {
-        Version::ByName => false,
-        Version::ByNumber => {
+    match how {
+        Matching::ByName => false,
+        Matching::ByNumber => {
             let p = l.name;
             let q = m.name;
             !same_text(incoming, p, target, q)
         }
     }
+}
+
+// Test 55 (document 02, L5): a required target column takes a required incoming one, whose type is not null. Of the target column this is the mark.
+pub fn keeps_required(incoming: &[u8], column: Column, required: bool) -> bool
+    ensures { λ r. ⌜ KeepsRequired column required (now (incoming .entry)) r ⌝ }
+{
+    if !required {
+        return true;
+    }
+    let l = column.label;
+    if !l.required {
+        return false;
+    }
+    let c = column.cursor;
+    !is_null_type(incoming, c)
 }
 
 pub fn ignores(p: ExtraColumnsPolicy) -> bool
@@ -88,32 +109,32 @@ pub fn inserts(p: MissingColumnsPolicy) -> bool
 
 // Tests 12 and 13 of two structs, the target's names first; 0 where both pass. The arena is lent for tables.
 pub fn struct_fault(
-    policy: Policy,
-    v: Version,
-    depth: u8,
+    build: Build,
     incoming: &[u8],
-    n: u16,
-    c: Cursor,
     target: &[u8],
-    m: u16,
-    b: Cursor,
+    rows: Rows,
     arena: &mut [u16],
 ) -> u8
-    requires { ⌜ ColumnsAt v depth (now incoming) n (c .at) ⌝ }
-    requires { ⌜ ColumnsAt v depth (now target) m (b .at) ⌝ }
-    ensures { λ r. ⌜ ((P : ColumnsAt v depth (now (incoming .entry)) n (c .at)) (Q : ColumnsAt v depth (now (target .entry)) m (b .at)) → r ≡ faultOf policy v (Q .columns) (P .columns)) ⌝ }
+    requires { ⌜ RowsAt build rows (now incoming) (now target) ⌝ }
+    ensures { λ r. ⌜ Faulty build rows (now (incoming .entry)) (now (target .entry)) r ⌝ }
 {
-    if !distinct(target, v, depth, m, b) {
+    let how = build.matching;
+    let v = build.incoming;
+    let w = build.target;
+    let c = rows.incoming.first;
+    let b = rows.target.first;
+    if !distinct(how, target, w, rows.depth, rows.target.count, b) {
         return 12;
     }
-    if !distinct(incoming, v, depth, n, c) {
+    if !distinct(how, incoming, v, rows.depth, rows.incoming.count, c) {
         return 12;
     }
+    let policy = build.policy;
     let extra = policy.extra_struct_fields;
     if ignores(extra) {
         return 0;
     }
-    if no_extra(v, depth, incoming, n, c, target, m, b, arena) {
+    if no_extra(build, incoming, target, rows, arena) {
         return 0;
     }
     13
@@ -122,7 +143,7 @@ pub fn struct_fault(
 // A null incoming type by name: a cast to the target type.
 pub fn put_null_cast(
     policy: Policy,
-    v: Version,
+    v: Edition,
     depth: u8,
     target: &[u8],
     b: Cursor,

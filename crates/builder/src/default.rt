@@ -5,7 +5,7 @@ ghost use Prim.Native.Nat.{ℕ, _+_, _*_, _^_, _≤_, _<_};
 ghost use lib.ListN.{length};
 ghost use Rattle.store.specs.Overlay.{overlay};
 ghost use Rattle.layout.specs.Tree.{leaf};
-ghost use Rattle.layout.specs.Answers.{leafAt, labelAt, spanIn};
+ghost use Rattle.layout.specs.Answers.{leafAt, spanIn};
 ghost use Rattle.layout.specs.Stands.{TypeAt, ColumnsAt};
 ghost use Rattle.forms.specs.Same.{sameDtype};
 ghost use Rattle.values.specs.Value.{vnull};
@@ -14,10 +14,15 @@ ghost use Rattle.values.specs.Stands.{ValueAt};
 ghost use Rattle.defaults.specs.Lookup.{getDefaultValue};
 ghost use Rattle.defaults.specs.Stands.{TableAt};
 ghost use Rattle.plan.specs.Result.{gives, demand};
-ghost use Rattle.matching.specs.Default.{some, leafDefault, buildIcebergDefaultValue, defaultsOf};
-ghost use Rattle.matching.specs.Build.{missing};
-ghost use Rattle.builder.specs.Answers.{Makes, MakesDefault, MakesDefaults, isDefaultRefused, isSomeMade, valueLen, failedDefault, constantMade};
+ghost use Rattle.matching.specs.Default.{some, leafDefault};
+ghost use Rattle.builder.specs.Answers.{MakesDefault, anyFilled, isDefaultRefused, isSomeMade, valueLen, fillsMade, failedDefault, constantMade};
+ghost use Rattle.builder.specs.Bundles.{FieldDefault, FieldsDefaults, PutMissing};
 use crate::answer::Made;
+use crate::answer::both;
+use crate::build::Build;
+use crate::build::Column;
+use crate::build::Fields;
+use crate::build::Missing;
 use crate::leaf::leaf_rule;
 use crate::write::put_constant_head;
 use defaults::lookup::DefaultFieldValues;
@@ -25,30 +30,28 @@ use defaults::lookup::DefaultValue;
 use defaults::lookup::get_default_value;
 use defaults::types::read_leaf_value;
 use layout::columns::FieldId;
-use layout::columns::Label;
 use layout::columns::Labelled;
 use layout::cursor::Cursor;
 use layout::cursor::Moved;
 use layout::types::Head;
 use layout::types::LeafType;
-use layout::version::Version;
 use layout::walk::skip_type;
 use rules::outcome::Outcome;
 use rules::policy::Policy;
 use store::copy;
 use store::put;
 
-// A refusal's number; no default, and a null was written; or the length of the value that was written.
+// A refusal's number; no default, and a null was written; or the length of the value that was written, and whether no required field inside it is null.
 pub enum DefaultMade {
     Refused(u8),
     None,
-    Some(usize),
+    Some(usize, bool),
 }
 
-// The same for the values of a struct's fields: whether one has a default, and their length.
+// The same for the values of a struct's fields: whether one has a default, whether no required one is null, and their length.
 pub enum DefaultsMade {
     Failed(u8),
-    Done(bool, usize),
+    Done(bool, bool, usize),
 }
 
 fn is_default_refused(made: DefaultMade) -> bool
@@ -57,7 +60,7 @@ fn is_default_refused(made: DefaultMade) -> bool
     match made {
         DefaultMade::Refused(_) => true,
         DefaultMade::None => false,
-        DefaultMade::Some(_) => false,
+        DefaultMade::Some(_, _) => false,
     }
 }
 
@@ -67,7 +70,7 @@ fn is_some(made: DefaultMade) -> bool
     match made {
         DefaultMade::Refused(_) => false,
         DefaultMade::None => false,
-        DefaultMade::Some(_) => true,
+        DefaultMade::Some(_, _) => true,
     }
 }
 
@@ -78,7 +81,18 @@ fn value_len(made: DefaultMade) -> usize
     match made {
         DefaultMade::Refused(_) => 0,
         DefaultMade::None => 1,
-        DefaultMade::Some(n) => n,
+        DefaultMade::Some(n, _) => n,
+    }
+}
+
+// No required field is null: neither this one, of which this is the mark, nor one inside its default.
+fn fills_required(made: DefaultMade, required: bool) -> bool
+    ensures { λ r. ⌜ r ≡ fillsMade required made ⌝ }
+{
+    match made {
+        DefaultMade::Refused(_) => true,
+        DefaultMade::None => !required,
+        DefaultMade::Some(_, filled) => filled,
     }
 }
 
@@ -88,7 +102,7 @@ fn failed_default(made: DefaultMade) -> DefaultsMade
     match made {
         DefaultMade::Refused(n) => DefaultsMade::Failed(n),
         DefaultMade::None => DefaultsMade::Failed(0),
-        DefaultMade::Some(_) => DefaultsMade::Failed(0),
+        DefaultMade::Some(_, _) => DefaultsMade::Failed(0),
     }
 }
 
@@ -131,7 +145,7 @@ fn put_taken(
     requires { ⌜ spanIn (now table) (m .zone) × spanIn (now target) (u .zone) ⌝ }
     requires { ⌜ ValueAt (leaf (leafAt (now table) m)) (now table) (c .at) ⌝ }
     requires { ⌜ (length (now table) ≤ 16384) × (k + 16384 < 2 ^ 64) ⌝ }
-    ensures { λ r. ⌜ ((b e : ℕ) (P : ValueAt (leaf (leafAt (now (table .entry)) m)) (now (table .entry)) (c .at)) → b < e → MakesDefault b e (now (out .entry)) k (demand (sameDtype (leaf (leafAt (now (table .entry)) m)) (leaf (leafAt (now (target .entry)) u))) 28 (gives (some (P .tree)))) r (now (out .exit))) ⌝ }
+    ensures { λ r. ⌜ ((b e : ℕ) (P : ValueAt (leaf (leafAt (now (table .entry)) m)) (now (table .entry)) (c .at)) → b < e → MakesDefault anyFilled b e (now (out .entry)) k (demand (sameDtype (leaf (leafAt (now (table .entry)) m)) (leaf (leafAt (now (target .entry)) u))) 28 (gives (some (P .tree)))) r (now (out .exit))) ⌝ }
 {
     if !same_leaf_type(table, m, target, u) {
         return DefaultMade::Refused(28);
@@ -139,7 +153,7 @@ fn put_taken(
     match read_leaf_value(table, m, c) {
         Moved::To(d) => {
             copy(table, c.at, d.at, out, k);
-            DefaultMade::Some(d.at - c.at)
+            DefaultMade::Some(d.at - c.at, true)
         }
         Moved::Refused(n) => DefaultMade::Refused(n),
     }
@@ -158,7 +172,7 @@ fn put_leaf_default(
     requires { ⌜ TableAt (now table) defaults ⌝ }
     requires { ⌜ spanIn (now target) (u .zone) ⌝ }
     requires { ⌜ (length (now table) ≤ 16384) × (k + 16384 < 2 ^ 64) ⌝ }
-    ensures { λ r. ⌜ ((b e : ℕ) (T : TableAt (now (table .entry)) defaults) → b < e → MakesDefault b e (now (out .entry)) k (leafDefault (leafAt (now (target .entry)) u) (getDefaultValue (T .entries) (defaults .«source_index») id)) r (now (out .exit))) ⌝ }
+    ensures { λ r. ⌜ ((b e : ℕ) (T : TableAt (now (table .entry)) defaults) → b < e → MakesDefault anyFilled b e (now (out .entry)) k (leafDefault (leafAt (now (target .entry)) u) (getDefaultValue (T .entries) (defaults .«source_index») id)) r (now (out .exit))) ⌝ }
 {
     match get_default_value(table, defaults, id) {
         DefaultValue::Failed => DefaultMade::Refused(26),
@@ -169,30 +183,31 @@ fn put_leaf_default(
 
 // The default of a field of this id, whose type stands at `b`; where there is none, a null.
 pub fn build_iceberg_default_value(
-    v: Version,
+    build: Build,
     depth: u8,
     table: &[u8],
-    defaults: DefaultFieldValues,
     target: &[u8],
     id: FieldId,
     b: Cursor,
     out: &mut [u8],
     k: usize,
 ) -> DefaultMade
-    requires { ⌜ TypeAt v depth (now target) (b .at) ⌝ }
-    requires { ⌜ TableAt (now table) defaults ⌝ }
+    requires { ⌜ TypeAt (build .target) depth (now target) (b .at) ⌝ }
+    requires { ⌜ TableAt (now table) (build .defaults) ⌝ }
     requires { ⌜ (length (now table) ≤ 16384) × (k + 16384 * length (now target) < 2 ^ 64 + 16384 * b .at) ⌝ }
-    ensures { λ r. ⌜ ((T : TableAt (now (table .entry)) defaults) (Q : TypeAt v depth (now (target .entry)) (b .at)) → MakesDefault (b .at) (Q .end) (now (out .entry)) k (buildIcebergDefaultValue (getDefaultValue (T .entries) (defaults .«source_index»)) id (Q .tree)) r (now (out .exit))) ⌝ }
+    ensures { λ r. ⌜ FieldDefault build depth (now (table .entry)) (now (target .entry)) id b (now (out .entry)) k r (now (out .exit)) ⌝ }
 {
+    let defaults = build.defaults;
     match b.head(target) {
         Head::Leaf(u, _) => put_leaf_default(table, defaults, id, target, u, out, k),
-        Head::Struct(n, c) => {
+        Head::Struct(count, first) => {
             put(out, k, 1);
-            match put_defaults(v, depth - 1, table, defaults, target, n, c, out, k + 1) {
+            let fields = Fields { count, first };
+            match put_defaults(build, depth - 1, table, target, fields, out, k + 1) {
                 DefaultsMade::Failed(m) => DefaultMade::Refused(m),
-                DefaultsMade::Done(any, len) => {
+                DefaultsMade::Done(any, filled, len) => {
                     if any {
-                        return DefaultMade::Some(1 + len);
+                        return DefaultMade::Some(1 + len, filled);
                     }
                     put_none(out, k)
                 }
@@ -204,43 +219,34 @@ pub fn build_iceberg_default_value(
     }
 }
 
-// The defaults of `n` fields, one after the other.
+// The defaults of these fields, one after the other.
 fn put_defaults(
-    v: Version,
+    build: Build,
     depth: u8,
     table: &[u8],
-    defaults: DefaultFieldValues,
     target: &[u8],
-    n: u16,
-    c: Cursor,
+    fields: Fields,
     out: &mut [u8],
     k: usize,
 ) -> DefaultsMade
-    requires { ⌜ ColumnsAt v depth (now target) n (c .at) ⌝ }
-    requires { ⌜ TableAt (now table) defaults ⌝ }
-    requires { ⌜ (length (now table) ≤ 16384) × (k + 16384 * length (now target) < 2 ^ 64 + 16384 * c .at) ⌝ }
-    ensures { λ r. ⌜ ((T : TableAt (now (table .entry)) defaults) (Q : ColumnsAt v depth (now (target .entry)) n (c .at)) → MakesDefaults (c .at) (Q .end) (now (out .entry)) k (defaultsOf (getDefaultValue (T .entries) (defaults .«source_index»)) (Q .columns)) r (now (out .exit))) ⌝ }
+    requires { ⌜ ColumnsAt (build .target) depth (now target) (fields .count) (fields .first .at) ⌝ }
+    requires { ⌜ TableAt (now table) (build .defaults) ⌝ }
+    requires { ⌜ (length (now table) ≤ 16384) × (k + 16384 * length (now target) < 2 ^ 64 + 16384 * fields .first .at) ⌝ }
+    ensures { λ r. ⌜ FieldsDefaults build depth (now (table .entry)) (now (target .entry)) fields (now (out .entry)) k r (now (out .exit)) ⌝ }
 {
-    let mut at = c.at;
+    let v = build.target;
+    let n = fields.count;
+    let mut at = fields.first.at;
     let mut to = k;
     let mut any = false;
+    let mut filled = true;
     let mut i: u16 = 0;
     while i < n {
         let d = Cursor { at };
         match d.label(target, v) {
             Labelled::Is(l, b) => {
                 let id = l.id;
-                let made = build_iceberg_default_value(
-                    v,
-                    depth,
-                    table,
-                    defaults,
-                    target,
-                    id,
-                    b,
-                    out,
-                    to,
-                );
+                let made = build_iceberg_default_value(build, depth, table, target, id, b, out, to);
                 if is_default_refused(made) {
                     return failed_default(made);
                 }
@@ -248,12 +254,13 @@ fn put_defaults(
                 at = e.at;
                 to += value_len(made);
                 any = either(any, is_some(made));
+                filled = both(filled, fills_required(made, l.required));
             }
             Labelled::Refused(m) => return DefaultsMade::Failed(m),
         }
         i += 1;
     }
-    DefaultsMade::Done(any, to - k)
+    DefaultsMade::Done(any, filled, to - k)
 }
 
 // What a constant comes to whose value was made behind `head` bytes.
@@ -264,36 +271,39 @@ fn constant_made(head: usize, made: DefaultMade) -> Made
     match made {
         DefaultMade::Refused(n) => Made::Refused(n),
         DefaultMade::None => Made::Built(head + 1),
-        DefaultMade::Some(n) => Made::Built(head + n),
+        DefaultMade::Some(n, _) => Made::Built(head + n),
     }
 }
 
-// A target column with no counterpart, whose label is `l` and whose type stands at `b`: under Insert a constant of its default, or else of null; otherwise the refusal.
+// A target column with no counterpart: under Insert a constant of its default, or else of null; otherwise the refusal. 54 is tested once that default
+// is worked out.
 pub fn put_missing(
-    insert: bool,
-    number: u8,
-    v: Version,
+    missing: Missing,
+    build: Build,
     depth: u8,
     table: &[u8],
-    defaults: DefaultFieldValues,
     target: &[u8],
-    l: Label,
-    b: Cursor,
+    column: Column,
     out: &mut [u8],
     k: usize,
 ) -> Made
-    requires { ⌜ spanIn (now target) (l .name) × (l .name .len ≤ 63) ⌝ }
-    requires { ⌜ TypeAt v depth (now target) (b .at) ⌝ }
-    requires { ⌜ TableAt (now table) defaults ⌝ }
-    requires { ⌜ (length (now target) ≤ 16384) × (length (now table) ≤ 16384) × (k ≤ 65536 * b .at) ⌝ }
-    ensures { λ r. ⌜ ((from : ℕ) (T : TableAt (now (table .entry)) defaults) (Q : TypeAt v depth (now (target .entry)) (b .at)) → from < b .at → Makes from (Q .end) (now (out .entry)) k (missing (getDefaultValue (T .entries) (defaults .«source_index»)) insert number (labelAt (now (target .entry)) l) (Q .tree)) r (now (out .exit))) ⌝ }
+    requires { ⌜ spanIn (now target) (column .label .name) × (column .label .name .len ≤ 63) ⌝ }
+    requires { ⌜ TypeAt (build .target) depth (now target) (column .cursor .at) ⌝ }
+    requires { ⌜ TableAt (now table) (build .defaults) ⌝ }
+    requires { ⌜ (length (now target) ≤ 16384) × (length (now table) ≤ 16384) × (k ≤ 65536 * column .cursor .at) ⌝ }
+    ensures { λ r. ⌜ PutMissing missing build depth (now (table .entry)) (now (target .entry)) column (now (out .entry)) k r (now (out .exit)) ⌝ }
 {
-    if !insert {
-        return Made::Refused(number);
+    if !missing.insert {
+        return Made::Refused(missing.number);
     }
-    let name = l.name;
-    let id = l.id;
+    let v = build.target;
+    let name = column.label.name;
+    let id = column.label.id;
+    let b = column.cursor;
     let head = put_constant_head(target, v, depth, name, b, out, k);
-    let made = build_iceberg_default_value(v, depth, table, defaults, target, id, b, out, k + head);
+    let made = build_iceberg_default_value(build, depth, table, target, id, b, out, k + head);
+    if !fills_required(made, column.label.required) {
+        return Made::Refused(54);
+    }
     constant_made(head, made)
 }

@@ -4,10 +4,13 @@ ghost use mathlib.Core.Bool.{not};
 ghost use Prim.Native.Nat.{_<_};
 ghost use lib.ListN.{length};
 ghost use Rattle.layout.specs.Answers.{spanAt, spanIn, labelAt};
-ghost use Rattle.layout.specs.Find.{columnNamed, counterpart};
+ghost use Rattle.layout.specs.Find.{columnNamed};
 ghost use Rattle.layout.specs.Stands.{ColumnsAt};
-ghost use Rattle.labels.specs.Table.{Table};
-ghost use Rattle.matching.specs.Build.{isAbsent, distinctNames, distinct as distinctBy, noExtra};
+ghost use Rattle.matching.specs.Build.{isAbsent, distinctNames, distinct as distinctBy};
+ghost use Rattle.builder.specs.Bundles.{TableOf, RowsAt, HasCounterpart, NoExtra};
+use crate::build::Build;
+use crate::build::Fields;
+use crate::build::Rows;
 use labels::fill_in;
 use labels::find_in;
 use layout::bytes::Span;
@@ -16,14 +19,15 @@ use layout::columns::Labelled;
 use layout::columns::Siblings;
 use layout::cursor::Cursor;
 use layout::cursor::Moved;
+use layout::edition::Edition;
 use layout::find::Found;
 use layout::find::column_named;
+use layout::matching::Matching;
 use layout::read::read_columns;
-use layout::version::Version;
 use layout::walk::skip_type;
 
 // Whether one of `n` columns has a name, which stands in `t`.
-fn name_among(s: &[u8], v: Version, depth: u8, n: u16, c: Cursor, t: &[u8], name: Span) -> bool
+fn name_among(s: &[u8], v: Edition, depth: u8, n: u16, c: Cursor, t: &[u8], name: Span) -> bool
     requires { ⌜ ColumnsAt v depth (now s) n (c .at) ⌝ }
     requires { ⌜ spanIn (now t) name ⌝ }
     ensures { λ r. ⌜ ((P : ColumnsAt v depth (now (s .entry)) n (c .at)) → r ≡ not (isAbsent (columnNamed (spanAt (now (t .entry)) name) (P .columns)))) ⌝ }
@@ -36,7 +40,7 @@ fn name_among(s: &[u8], v: Version, depth: u8, n: u16, c: Cursor, t: &[u8], name
 }
 
 // No name is repeated among a few columns: each is looked for among those after it.
-fn distinct_few(s: &[u8], v: Version, depth: u8, n: u16, c: Cursor) -> bool
+fn distinct_few(s: &[u8], v: Edition, depth: u8, n: u16, c: Cursor) -> bool
     requires { ⌜ ColumnsAt v depth (now s) n (c .at) ⌝ }
     ensures { λ r. ⌜ ((P : ColumnsAt v depth (now (s .entry)) n (c .at)) → r ≡ distinctNames (P .columns)) ⌝ }
 {
@@ -61,7 +65,7 @@ fn distinct_few(s: &[u8], v: Version, depth: u8, n: u16, c: Cursor) -> bool
 }
 
 // No name is repeated among `n` columns. Many are read again under the rule of names, which is the reader's own test of siblings.
-pub fn distinct_names(s: &[u8], v: Version, depth: u8, n: u16, c: Cursor) -> bool
+pub fn distinct_names(s: &[u8], v: Edition, depth: u8, n: u16, c: Cursor) -> bool
     requires { ⌜ ColumnsAt v depth (now s) n (c .at) ⌝ }
     ensures { λ r. ⌜ ((P : ColumnsAt v depth (now (s .entry)) n (c .at)) → r ≡ distinctNames (P .columns)) ⌝ }
 {
@@ -85,65 +89,58 @@ pub fn distinct_names(s: &[u8], v: Version, depth: u8, n: u16, c: Cursor) -> boo
 }
 
 // Test 12: by number a struct has none.
-pub fn distinct(s: &[u8], v: Version, depth: u8, n: u16, c: Cursor) -> bool
+pub fn distinct(how: Matching, s: &[u8], v: Edition, depth: u8, n: u16, c: Cursor) -> bool
     requires { ⌜ ColumnsAt v depth (now s) n (c .at) ⌝ }
-    ensures { λ r. ⌜ ((P : ColumnsAt v depth (now (s .entry)) n (c .at)) → r ≡ distinctBy v (P .columns)) ⌝ }
+    ensures { λ r. ⌜ ((P : ColumnsAt v depth (now (s .entry)) n (c .at)) → r ≡ distinctBy how (P .columns)) ⌝ }
 {
-    match v {
-        Version::ByName => distinct_names(s, v, depth, n, c),
-        Version::ByNumber => true,
+    match how {
+        Matching::ByName => distinct_names(s, v, depth, n, c),
+        Matching::ByNumber => true,
     }
 }
 
-// Whether the label `l`, which stands in `t`, has a counterpart among `n` columns. `chains` is their table, or empty.
+// Whether the incoming label `l` has a counterpart among these target fields. `chains` is their table, or empty.
 fn has_counterpart(
-    s: &[u8],
-    v: Version,
+    build: Build,
     depth: u8,
-    n: u16,
-    c: Cursor,
+    target: &[u8],
+    fields: Fields,
     chains: &[u16],
-    t: &[u8],
+    incoming: &[u8],
     l: Label,
 ) -> bool
-    requires { ⌜ ColumnsAt v depth (now s) n (c .at) ⌝ }
-    requires { ⌜ (0 < length (now chains) → Table v depth (now s) n (c .at) (now chains)) ⌝ }
-    requires { ⌜ spanIn (now t) (l .name) ⌝ }
-    ensures { λ r. ⌜ ((P : ColumnsAt v depth (now (s .entry)) n (c .at)) → r ≡ not (isAbsent (counterpart v (labelAt (now (t .entry)) l) (P .columns)))) ⌝ }
+    requires { ⌜ ColumnsAt (build .target) depth (now target) (fields .count) (fields .first .at) ⌝ }
+    requires { ⌜ (0 < length (now chains) → TableOf build (build .target) depth (now target) fields (now chains)) ⌝ }
+    requires { ⌜ spanIn (now incoming) (l .name) ⌝ }
+    ensures { λ r. ⌜ HasCounterpart build depth (now (target .entry)) fields (labelAt (now (incoming .entry)) l) r ⌝ }
 {
-    match find_in(s, v, depth, n, c, chains, t, l) {
+    let how = build.matching;
+    let w = build.target;
+    let c = fields.first;
+    match find_in(target, w, how, depth, fields.count, c, chains, incoming, l) {
         Found::At(_, _, _) => true,
         Found::Absent => false,
     }
 }
 
-// Each of `n` incoming fields has a counterpart among `m` target fields. `chains` is a table of these, or empty.
-fn no_extra_in(
-    v: Version,
-    depth: u8,
-    incoming: &[u8],
-    n: u16,
-    c: Cursor,
-    target: &[u8],
-    m: u16,
-    b: Cursor,
-    chains: &[u16],
-) -> bool
-    requires { ⌜ ColumnsAt v depth (now incoming) n (c .at) ⌝ }
-    requires { ⌜ ColumnsAt v depth (now target) m (b .at) ⌝ }
-    requires { ⌜ (0 < length (now chains) → Table v depth (now target) m (b .at) (now chains)) ⌝ }
-    ensures { λ r. ⌜ ((P : ColumnsAt v depth (now (incoming .entry)) n (c .at)) (Q : ColumnsAt v depth (now (target .entry)) m (b .at)) → r ≡ noExtra v (P .columns) (Q .columns)) ⌝ }
+// Each incoming field has a counterpart among the target's. `chains` is a table of these, or empty.
+fn no_extra_in(build: Build, incoming: &[u8], target: &[u8], rows: Rows, chains: &[u16]) -> bool
+    requires { ⌜ RowsAt build rows (now incoming) (now target) ⌝ }
+    requires { ⌜ (0 < length (now chains) → TableOf build (build .target) (rows .depth) (now target) (rows .target) (now chains)) ⌝ }
+    ensures { λ r. ⌜ NoExtra build rows (now (incoming .entry)) (now (target .entry)) r ⌝ }
 {
-    let mut at = c.at;
-    let mut left = n;
+    let v = build.incoming;
+    let fields = rows.target;
+    let mut at = rows.incoming.first.at;
+    let mut left = rows.incoming.count;
     while 0 < left {
         let d = Cursor { at };
         match d.label(incoming, v) {
             Labelled::Is(l, next) => {
-                if !has_counterpart(target, v, depth, m, b, chains, incoming, l) {
+                if !has_counterpart(build, rows.depth, target, fields, chains, incoming, l) {
                     return false;
                 }
-                let e = skip_type(incoming, v, depth, next);
+                let e = skip_type(incoming, v, rows.depth, next);
                 at = e.at;
             }
             Labelled::Refused(_) => return false,
@@ -153,22 +150,23 @@ fn no_extra_in(
     true
 }
 
-// Test 13: each of `n` incoming fields has a counterpart among `m` target fields. A table of these stands in the arena while it runs.
-pub fn no_extra(
-    v: Version,
-    depth: u8,
-    incoming: &[u8],
-    n: u16,
-    c: Cursor,
-    target: &[u8],
-    m: u16,
-    b: Cursor,
-    arena: &mut [u16],
-) -> bool
-    requires { ⌜ ColumnsAt v depth (now incoming) n (c .at) ⌝ }
-    requires { ⌜ ColumnsAt v depth (now target) m (b .at) ⌝ }
-    ensures { λ r. ⌜ ((P : ColumnsAt v depth (now (incoming .entry)) n (c .at)) (Q : ColumnsAt v depth (now (target .entry)) m (b .at)) → r ≡ noExtra v (P .columns) (Q .columns)) ⌝ }
+// Test 13: each incoming field has a counterpart among the target's. A table of these stands in the arena while it runs.
+pub fn no_extra(build: Build, incoming: &[u8], target: &[u8], rows: Rows, arena: &mut [u16]) -> bool
+    requires { ⌜ RowsAt build rows (now incoming) (now target) ⌝ }
+    ensures { λ r. ⌜ NoExtra build rows (now (incoming .entry)) (now (target .entry)) r ⌝ }
 {
-    let used = fill_in(n, target, v, depth, m, b, arena);
-    no_extra_in(v, depth, incoming, n, c, target, m, b, &arena[..used])
+    let how = build.matching;
+    let w = build.target;
+    let b = rows.target.first;
+    let used = fill_in(
+        rows.incoming.count,
+        target,
+        w,
+        how,
+        rows.depth,
+        rows.target.count,
+        b,
+        arena,
+    );
+    no_extra_in(build, incoming, target, rows, &arena[..used])
 }

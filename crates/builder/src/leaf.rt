@@ -2,23 +2,24 @@
 ghost use mathlib.Core.Path.{_≡_};
 ghost use Prim.Native.Nat.{_+_, _*_, _^_, _≤_, _<_};
 ghost use lib.ListN.{length};
-ghost use Rattle.layout.specs.Tree.{cleaf};
 ghost use Rattle.layout.specs.Answers.{leafAt, spanIn};
 ghost use Rattle.layout.specs.Stands.{TypeAt};
 ghost use Rattle.rules.specs.Outcomes.{verdictOf};
 ghost use Rattle.rules.specs.Pairs.{pairRule};
-ghost use Rattle.matching.specs.Default.{Defaults};
-ghost use Rattle.matching.specs.Build.{attachTransforms};
-ghost use Rattle.builder.specs.Answers.{Makes, Ruled};
+ghost use Rattle.builder.specs.Answers.{Ruled};
+ghost use Rattle.builder.specs.Bundles.{TypesAt, LeafStands, AttachedLeaf};
 use crate::answer::Made;
+use crate::build::Build;
+use crate::build::Place;
+use crate::build::Types;
 use crate::parts::LeafPart;
 use crate::parts::leaf_part;
 use crate::write::put_cast;
 use crate::write::put_position;
 use layout::columns::Position;
 use layout::cursor::Cursor;
+use layout::edition::Edition;
 use layout::types::LeafType;
-use layout::version::Version;
 use rules::outcome::Outcome;
 use rules::outcome::mismatch_number;
 use rules::pair::leaf_type_pair;
@@ -51,7 +52,7 @@ pub fn leaf_rule(
 // What an outcome comes to: the bare position, a refusal, or a cast to the target type.
 fn apply_outcome(
     outcome: Outcome,
-    v: Version,
+    v: Edition,
     depth: u8,
     target: &[u8],
     b: Cursor,
@@ -74,26 +75,32 @@ fn apply_outcome(
 }
 
 pub fn attach_leaf(
-    policy: Policy,
-    v: Version,
-    depth: u8,
+    build: Build,
     incoming: &[u8],
-    c: Cursor,
     target: &[u8],
-    b: Cursor,
+    types: Types,
     u: LeafType,
-    position: Position,
     out: &mut [u8],
-    k: usize,
+    place: Place,
 ) -> Made
-    requires { ⌜ TypeAt v depth (now incoming) (c .at) × TypeAt v depth (now target) (b .at) ⌝ }
-    requires { ⌜ (length (now target) ≤ 16384) × (k ≤ 65536 * b .at + 1) ⌝ }
-    requires { ⌜ spanIn (now target) (u .zone) × ((Q : TypeAt v depth (now target) (b .at)) → Q .tree ≡ cleaf (leafAt (now target) u)) ⌝ }
-    ensures { λ r. ⌜ ((d : Defaults) (P : TypeAt v depth (now (incoming .entry)) (c .at)) (Q : TypeAt v depth (now (target .entry)) (b .at)) → Makes (b .at) (Q .end) (now (out .entry)) k (attachTransforms v policy d (Q .tree) position (P .tree)) r (now (out .exit))) ⌝ }
+    requires { ⌜ TypesAt build types (now incoming) (now target) ⌝ }
+    requires { ⌜ (length (now target) ≤ 16384) × (place .k ≤ 65536 * types .target .at + 1) ⌝ }
+    requires { ⌜ spanIn (now target) (u .zone) × LeafStands build types (now target) u ⌝ }
+    ensures { λ r. ⌜ AttachedLeaf build types place (now (incoming .entry)) (now (target .entry)) (now (out .entry)) r (now (out .exit)) ⌝ }
 {
-    let LeafPart::Is(l) = leaf_part(incoming, c) else {
+    let LeafPart::Is(l) = leaf_part(incoming, types.incoming) else {
         return Made::Refused(24);
     };
-    let outcome = leaf_rule(policy, incoming, l, target, u);
-    apply_outcome(outcome, v, depth, target, b, position, out, k)
+    let outcome = leaf_rule(build.policy, incoming, l, target, u);
+    let v = build.target;
+    apply_outcome(
+        outcome,
+        v,
+        types.depth,
+        target,
+        types.target,
+        place.position,
+        out,
+        place.k,
+    )
 }

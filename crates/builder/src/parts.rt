@@ -2,15 +2,15 @@
 ghost use mathlib.Core.Path.{_≡_};
 ghost use Prim.Native.Nat.{ℕ};
 ghost use Rattle.layout.specs.Stands.{TypeAt};
-ghost use Rattle.layout.specs.declared.version.Version.{Version as VersionOf};
+ghost use Rattle.layout.specs.declared.edition.Edition.{Edition as EditionOf};
 ghost use Rattle.matching.specs.Build.{leafPart, structPart, listPart, arrayPart, isNullType};
 ghost use Rattle.builder.specs.Answers.{LeafPartIs, StructPartIs, ElementPartIs, elementOf, InnerPartIs};
 use layout::columns::Label;
 use layout::columns::Labelled;
 use layout::cursor::Cursor;
+use layout::edition::Edition;
 use layout::types::Head;
 use layout::types::LeafType;
-use layout::version::Version;
 use rules::kinds::kind;
 
 pub enum LeafPart {
@@ -38,7 +38,7 @@ pub enum InnerPart {
 }
 
 pub fn leaf_part(s: &[u8], c: Cursor) -> LeafPart
-    ensures { λ r. ⌜ ((v : VersionOf) (d : ℕ) (P : TypeAt v d (now (s .entry)) (c .at)) → LeafPartIs (now (s .entry)) (leafPart (P .tree)) r) ⌝ }
+    ensures { λ r. ⌜ ((v : EditionOf) (d : ℕ) (P : TypeAt v d (now (s .entry)) (c .at)) → LeafPartIs (now (s .entry)) (leafPart (P .tree)) r) ⌝ }
 {
     match c.head(s) {
         Head::Leaf(l, _) => LeafPart::Is(l),
@@ -50,7 +50,7 @@ pub fn leaf_part(s: &[u8], c: Cursor) -> LeafPart
 }
 
 pub fn struct_part(s: &[u8], c: Cursor) -> StructPart
-    ensures { λ r. ⌜ ((v : VersionOf) (d : ℕ) (P : TypeAt v d (now (s .entry)) (c .at)) → StructPartIs v d (now (s .entry)) (c .at) (structPart (P .tree)) (P .end) r) ⌝ }
+    ensures { λ r. ⌜ ((v : EditionOf) (d : ℕ) (P : TypeAt v d (now (s .entry)) (c .at)) → StructPartIs v d (now (s .entry)) (c .at) (structPart (P .tree)) (P .end) r) ⌝ }
 {
     match c.head(s) {
         Head::Leaf(_, _) => StructPart::Mismatch,
@@ -61,7 +61,7 @@ pub fn struct_part(s: &[u8], c: Cursor) -> StructPart
     }
 }
 
-pub fn element_part(s: &[u8], v: Version, c: Cursor) -> ElementPart
+pub fn element_part(s: &[u8], v: Edition, c: Cursor) -> ElementPart
     ensures { λ r. ⌜ ((d : ℕ) (P : TypeAt v d (now (s .entry)) (c .at)) → ElementPartIs v d (now (s .entry)) (c .at) (elementOf (P .tree)) (P .end) r) ⌝ }
 {
     match c.head(s) {
@@ -79,7 +79,7 @@ pub fn element_part(s: &[u8], v: Version, c: Cursor) -> ElementPart
     }
 }
 
-pub fn list_part(s: &[u8], v: Version, c: Cursor) -> InnerPart
+pub fn list_part(s: &[u8], v: Edition, c: Cursor) -> InnerPart
     ensures { λ r. ⌜ ((d : ℕ) (P : TypeAt v d (now (s .entry)) (c .at)) → InnerPartIs v d (now (s .entry)) (c .at) (listPart (P .tree)) (P .end) r) ⌝ }
 {
     match element_part(s, v, c) {
@@ -90,7 +90,7 @@ pub fn list_part(s: &[u8], v: Version, c: Cursor) -> InnerPart
 }
 
 // The array has the width `w`.
-pub fn array_part(s: &[u8], v: Version, w: u32, c: Cursor) -> InnerPart
+pub fn array_part(s: &[u8], v: Edition, w: u32, c: Cursor) -> InnerPart
     ensures { λ r. ⌜ ((d : ℕ) (P : TypeAt v d (now (s .entry)) (c .at)) → InnerPartIs v d (now (s .entry)) (c .at) (arrayPart w (P .tree)) (P .end) r) ⌝ }
 {
     match element_part(s, v, c) {
@@ -106,7 +106,7 @@ pub fn array_part(s: &[u8], v: Version, w: u32, c: Cursor) -> InnerPart
 }
 
 pub fn is_null_type(s: &[u8], c: Cursor) -> bool
-    ensures { λ r. ⌜ ((v : VersionOf) (d : ℕ) (P : TypeAt v d (now (s .entry)) (c .at)) → r ≡ isNullType (P .tree)) ⌝ }
+    ensures { λ r. ⌜ ((v : EditionOf) (d : ℕ) (P : TypeAt v d (now (s .entry)) (c .at)) → r ≡ isNullType (P .tree)) ⌝ }
 {
     match leaf_part(s, c) {
         LeafPart::Is(l) => {

@@ -16,7 +16,7 @@ use forms::write::write_text;
 use layout::bytes::Span;
 use layout::columns::Position;
 use layout::cursor::Cursor;
-use layout::version::Version;
+use layout::edition::Edition;
 use rules::outcome::CastOption;
 use rules::outcome::option_code;
 use store::put;
@@ -50,7 +50,7 @@ pub fn put_head(out: &mut [u8], k: usize, code: u8, p: Position)
 // A position cast to a target type; its length.
 pub fn put_cast(
     target: &[u8],
-    v: Version,
+    v: Edition,
     depth: u8,
     b: Cursor,
     p: Position,
@@ -72,7 +72,7 @@ pub fn put_cast(
 // A constant's code, name and type; their length.
 pub fn put_constant_head(
     target: &[u8],
-    v: Version,
+    v: Edition,
     depth: u8,
     name: Span,
     b: Cursor,

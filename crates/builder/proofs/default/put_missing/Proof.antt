@@ -1,5 +1,5 @@
 -- `builder::default::put_missing` meets its contract. Assumes nothing.
-use Rattle.builder.proofs.Missing.{head-short, value-short, constant-makes, missing-inserted, missing-refused}
+use Rattle.builder.proofs.Missing.{missing-unfilled, missing-filled, head-short, value-short, constant-makes, missing-inserted, missing-refused}
 use Rattle.builder.proofs.Matching.{makes-as, makes-refused}
 use Rattle.matching.specs.Default.{buildIcebergDefaultValue}
 use Rattle.defaults.specs.Lookup.{getDefaultValue}
@@ -7,6 +7,8 @@ use Rattle.forms.proofs.Writing.{extent}
 use Rattle.layout.specs.Answers.{labelAt}
 use native.Mathlib.Omega.{arith}
 use denote.Ref.{now}
+use mathlib.Core.Path.{_∙_}
+use Rattle.builder.proofs.Present.{table-present, default-top}
 use borrow.Author.Needs.{needs}
 use Rattle.builder.proofs.default.put_missing.Statement.{statement}
 use Rattle.builder.proofs.default.put_missing.Tie as tie
@@ -15,15 +17,74 @@ pub put-missing-spec : {M : Type 1} → statement M
 put-missing-spec =
     tie.close
     (tie.spec
-    (λ c. λ from T Q lt. makes-refused _ _ _ _ _ (missing-refused (getDefaultValue (T .entries) (c .before .before .before .before .args .defaults .«source_index»)) (c .before .before .before .before .args .insert) (c .before .before .before .before .args .number) (labelAt (now (c .before .before .before .before .args .target)) (c .before .before .before .before .args .l)) (Q .tree) (c .if1 .taken)))
-    (λ c κs. (c .before .before .before .before .before .before .before .pre .0, (c .before .before .before .before .before .before .before .pre .1 .0, omega (arith, extent (c .before .before .before .before .before .before .before .pre .1 .0), c .before .before .before .before .before .before .before .pre .1 .1 .1))))
-    (λ c. omega (arith, head-short (c .before .before .before .before .before .before .before .before .before .before .before .pre .1 .0) (c .before .before .before .before .before .before .before .before .before .before .before .args .l .name) (c .before .before .before .before .before .before .before .before .before .before .before .pre .0 .0) (c .before .before .before .before .before .before .before .before .before .before .before .pre .0 .1) (c .before .before .before .put-constant-head .ensures .0 (c .before .before .before .before .before .before .before .before .before .before .before .pre .1 .0)), extent (c .before .before .before .before .before .before .before .before .before .before .before .pre .1 .0), c .before .before .before .before .before .before .before .before .before .before .before .pre .1 .1 .1))
-    (λ c κs. (c .before .before .before .before .before .before .before .before .before .before .before .pre .1 .0, (c .before .before .before .before .before .before .before .before .before .before .before .pre .1 .1 .0, (c .before .before .before .before .before .before .before .before .before .before .before .pre .1 .1 .1 .1, omega (arith, head-short (c .before .before .before .before .before .before .before .before .before .before .before .pre .1 .0) (c .before .before .before .before .before .before .before .before .before .before .before .args .l .name) (c .before .before .before .before .before .before .before .before .before .before .before .pre .0 .0) (c .before .before .before .before .before .before .before .before .before .before .before .pre .0 .1) (c .before .before .before .put-constant-head .ensures .0 (c .before .before .before .before .before .before .before .before .before .before .before .pre .1 .0)), extent (c .before .before .before .before .before .before .before .before .before .before .before .pre .1 .0), c .before .before .before .before .before .before .before .before .before .before .before .pre .1 .1 .1)))))
-    (λ c κs. let Q = c .before .before .before .before .before .before .before .before .before .before .before .before .before .before .pre .1 .0 in
-    let T = c .before .before .before .before .before .before .before .before .before .before .before .before .before .before .pre .1 .1 .0 in
-    omega (arith, value-short (buildIcebergDefaultValue (getDefaultValue (T .entries) (c .before .before .before .before .before .before .before .before .before .before .before .before .before .before .args .defaults .«source_index»)) (c .before .before .before .before .before .before .before .before .before .before .before .before .before .before .args .l .id) (Q .tree)) (c .before .before .build-iceberg-default-value .ensures T Q), head-short (c .before .before .before .before .before .before .before .before .before .before .before .before .before .before .pre .1 .0) (c .before .before .before .before .before .before .before .before .before .before .before .before .before .before .args .l .name) (c .before .before .before .before .before .before .before .before .before .before .before .before .before .before .pre .0 .0) (c .before .before .before .before .before .before .before .before .before .before .before .before .before .before .pre .0 .1) (c .before .before .before .before .before .before .put-constant-head .ensures .0 (c .before .before .before .before .before .before .before .before .before .before .before .before .before .before .pre .1 .0)), extent Q, c .before .before .before .before .before .before .before .before .before .before .before .before .before .before .pre .1 .1 .1))
+    (λ c.
+    let c5 = c .before .before .before .before .before in
+    λ from T Q lt. makes-refused _ _ _ _ _ (missing-refused (getDefaultValue (T .entries) (c5 .args .build .defaults .«source_index»))
+    (c5 .args .missing .insert) (c5 .args .missing .number) (labelAt (now (c5 .args .target)) (c5 .args .column .label)) (Q .tree) (c .if1 .taken)))
+    (λ c κs.
+    let c9 = c .before .before .before .before .before .before .before .before .before in
+    (c9 .pre .0, (c9 .pre .1 .0, omega (arith, extent (c9 .pre .1 .0), c9 .pre .1 .1 .1))))
+    (λ c.
+    let c3 = c .before .before .before in let c13 = c3 .before .before .before .before .before .before .before .before .before .before in
+    omega (
+      arith,
+      head-short (c13 .pre .1 .0) (c13 .args .column .label .name) (c13 .pre .0 .0) (c13 .pre .0 .1) (c3 .put-constant-head .ensures .0
+          (c13 .pre .1 .0)),
+      extent (c13 .pre .1 .0),
+      c13 .pre .1 .1 .1,
+    ))
+    (λ c κs.
+    let c3 = c .before .before .before in let c13 = c3 .before .before .before .before .before .before .before .before .before .before in (
+      c13 .pre .1 .0,
+      (
+        c13 .pre .1 .1 .0,
+        (
+          c13 .pre .1 .1 .1 .1,
+          omega (
+            arith,
+            head-short (c13 .pre .1 .0) (c13 .args .column .label .name) (c13 .pre .0 .0)
+                (c13 .pre .0 .1) (c3 .put-constant-head .ensures .0 (c13 .pre .1 .0)),
+            extent (c13 .pre .1 .0),
+            c13 .pre .1 .1 .1,
+          ),
+        ),
+      ),
+    ))
+    (λ c κs. search needs)
     (λ c. search needs)
-    (λ c. λ from T Q lt.
-    makes-as _ _ _ _ _ _ (missing-inserted (getDefaultValue (T .entries) (c .before .before .before .before .before .before .before .before .before .before .before .before .before .before .before .args .defaults .«source_index»)) (c .before .before .before .before .before .before .before .before .before .before .before .before .before .before .before .args .insert) (c .before .before .before .before .before .before .before .before .before .before .before .before .before .before .before .args .number) (labelAt (now (c .before .before .before .before .before .before .before .before .before .before .before .before .before .before .before .args .target)) (c .before .before .before .before .before .before .before .before .before .before .before .before .before .before .before .args .l)) (Q .tree) (c .before .before .before .before .before .before .before .before .before .before .before .if1 .left))
-    (constant-makes _ _ (c .before .before .before .before .before .before .before .put-constant-head .ensures .0 Q) _ from _ _ (c .before .before .before .before .before .before .before .put-constant-head .ensures .1 Q) (c .before .before .before .before .before .before .before .put-constant-head .kept .1 .1 .1 .1 .1 .0) (c .before .before .before .build-iceberg-default-value .ensures T Q) (c .constant-made .ensures)
-    (head-short Q (c .before .before .before .before .before .before .before .before .before .before .before .before .before .before .before .args .l .name) (c .before .before .before .before .before .before .before .before .before .before .before .before .before .before .before .pre .0 .0) (c .before .before .before .before .before .before .before .before .before .before .before .before .before .before .before .pre .0 .1) (c .before .before .before .before .before .before .before .put-constant-head .ensures .0 Q)) lt)))
+    (λ c.
+    let c1 = c .before in let c4 = c1 .before .before .before in let c13 = c4 .before .before .before .before .before .before .before .before .before in let
+    c18 = c13 .before .before .before .before .before in
+    λ from T Q lt. makes-refused _ _ _ _ _ ((missing-inserted (getDefaultValue (T .entries) (c18 .args .build .defaults .«source_index»))
+    (c18 .args .missing .insert) (c18 .args .missing .number) (labelAt (now (c18 .args .target)) (c18 .args .column .label)) (Q .tree) (c13 .if1 .left))
+    ∙ missing-unfilled (labelAt (now (c18 .args .target)) (c18 .args .column .label)) (Q .tree) (buildIcebergDefaultValue (getDefaultValue (T .entries)
+    (c18 .args .build .defaults .«source_index»)) (c18 .args .column .label .id) (Q .tree)) (c4 .build-iceberg-default-value .ensures T Q) (λ v e.
+    default-top (getDefaultValue (T .entries) (c18 .args .build .defaults .«source_index»)) (table-present (T .entries)
+    (c18 .args .build .defaults .«source_index»)) (c18 .args .column .label .id) (Q .tree) v e) (c1 .fills-required .ensures) (c .if2 .taken)))
+    (λ c κs.
+    let c4 = c .before .before .before .before in let c8 = c4 .before .before .before .before in let c18 =
+    c8 .before .before .before .before .before .before .before .before .before .before in
+    let Q = c18 .pre .1 .0 in
+    let T = c18 .pre .1 .1 .0 in
+    omega (
+      arith,
+      value-short (buildIcebergDefaultValue (getDefaultValue (T .entries) (c18 .args .build .defaults .«source_index»))
+          (c18 .args .column .label .id) (Q .tree)) (c4 .build-iceberg-default-value .ensures T Q),
+      head-short (c18 .pre .1 .0)
+          (c18 .args .column .label .name) (c18 .pre .0 .0) (c18 .pre .0 .1) (c8 .put-constant-head .ensures .0 (c18 .pre .1 .0)),
+      extent Q,
+      c18 .pre .1 .1 .1,
+    ))
+    (λ c. search needs)
+    (λ c.
+    let c1 = c .before in let c2 = c1 .before in let c5 = c2 .before .before .before in let c9 = c5 .before .before .before .before in let c14 =
+    c9 .before .before .before .before .before in let c19 = c14 .before .before .before .before .before in
+    λ from T Q lt. makes-as _ _ _ _ _ _ ((missing-inserted (getDefaultValue (T .entries) (c19 .args .build .defaults .«source_index»))
+    (c19 .args .missing .insert) (c19 .args .missing .number) (labelAt (now (c19 .args .target)) (c19 .args .column .label)) (Q .tree) (c14 .if1 .left))
+    ∙ missing-filled (labelAt (now (c19 .args .target)) (c19 .args .column .label)) (Q .tree) (buildIcebergDefaultValue (getDefaultValue (T .entries)
+    (c19 .args .build .defaults .«source_index»)) (c19 .args .column .label .id) (Q .tree)) (c5 .build-iceberg-default-value .ensures T Q) (λ v e.
+    default-top (getDefaultValue (T .entries) (c19 .args .build .defaults .«source_index»)) (table-present (T .entries)
+    (c19 .args .build .defaults .«source_index»)) (c19 .args .column .label .id) (Q .tree) v e) (c2 .fills-required .ensures) (c1 .if2 .left))
+    (constant-makes _ _ (c9 .put-constant-head .ensures .0 Q) _ from _ _ (c9 .put-constant-head .ensures .1 Q)
+    (c9 .put-constant-head .kept .1 .1 .1 .1 .1 .0) (c5 .build-iceberg-default-value .ensures T Q) (c .constant-made .ensures)
+    (head-short Q (c19 .args .column .label .name) (c19 .pre .0 .0) (c19 .pre .0 .1) (c9 .put-constant-head .ensures .0 Q)) lt)))
