@@ -49,10 +49,10 @@ module _ {incoming : Bytes} {v : Edition} {n : ℕ} {plan : Bytes} {count : ℕ}
       go (refusedAt a b) f = sym f
 
   module _ (p : r ≡ PlanChecked.Passed) where
-    passes : check (fieldsOf (L .columns)) (fieldsOf (Q .columns)) ss ≡ accepted tt
+    pub passes : check (fieldsOf (L .columns)) (fieldsOf (Q .columns)) ss ≡ accepted tt
     passes = passed-accepted (check (fieldsOf (L .columns)) (fieldsOf (Q .columns)) ss) (sym e ∙ p) .1
 
-    pub plan-passed : PlanAt plan 7 (fieldsOf (L .columns)) (fieldsOf (Q .columns))
+    abbrev pub plan-passed : PlanAt plan 7 (fieldsOf (L .columns)) (fieldsOf (Q .columns))
     plan-passed = record {
       count = count;
       selectors = T .selectors;
