@@ -6,7 +6,7 @@ use mathlib.Core.List.{[]}
 use native.Mathlib.Omega.{arith}
 use lib.ListN.{length}
 use Rattle.layout.specs.Bytes.{Bytes, AllBytes}
-use Rattle.layout.specs.Tree.{DataType, Fields, fnil, fcons, dtypeOf, fieldsOf}
+use Rattle.layout.specs.Tree.{DataType, Fields, fnil, fcons, cnil, dtypeOf, fieldsOf}
 use Rattle.layout.specs.Layout.{label, columns as columnsOf, type}
 use Rattle.layout.specs.Answers.{labelRes, labelAt}
 use Rattle.layout.specs.Stands.{TypeAt, ColumnsAt}
@@ -53,40 +53,26 @@ counted : (ss : Selectors) {s : Selector} {rs : Selectors} {n : ℕ} → ss ≡ 
 unfolding countSelectors
 counted ss e h = let k = sym (ap countSelectors e) ∙ h in omega arith
 
--- the columns from i on are left; b is whether there is an overflow
-pub record Columning (plan : Bytes) (Γ : Fields) (ρ : Values) (y : Edition) (tgt : Bytes) (m : ℕ) (b : Bool) (at to i : ℕ) : Type 0 where
+-- a plan's selectors beside the target's columns, of which those from i on are left
+pub record Pairing (plan : Bytes) (Γ : Fields) (y : Edition) (tgt : Bytes) (m at to i : ℕ) : Type 0 where
   pub within : i ≤ m
-  pub fits : FitsAllOver Γ ρ
   pub small : length plan ≤ longestPlan
   pub bytes : AllBytes plan
   pub count : ℕ
   pub selectors : SelectorsAt plan count at
   pub columns : ColumnsAt y 16 tgt (m - i) to
   pub typed : TypedAll Γ (selectors .trees) (fieldsOf (columns .columns))
-  pub is : not (cleanAll (evals ρ (selectors .trees))) ≡ b
 
-not-clean : (ρ : Values) (ss : Selectors) {s : Selector} {rs : Selectors} {c : Bool} → ss ≡ scons s rs → not (clean (eval ρ s)) ≡ c → not (cleanAll (evals ρ ss)) ≡ not (not c && cleanAll (evals ρ rs))
-unfolding evals cleanAll
-not-clean ρ ss {s} {rs} e h = rw e (ap (λ (x : Bool). not (x && cleanAll (evals ρ rs))) (turned (clean (eval ρ s)) h))
-  where
-    turned : (a : Bool) {c : Bool} → not a ≡ c → a ≡ not c
-    turned true k = ap not k
-    turned false k = ap not k
-
-none-left : (ρ : Values) (ss : Selectors) → ss ≡ snil → not (cleanAll (evals ρ ss)) ≡ false
-unfolding evals cleanAll
-none-left ρ ss e = rw e
-
-module _ {plan : Bytes} {Γ : Fields} {ρ : Values} {y : Edition} {tgt : Bytes} {m : ℕ} {b : Bool} {at to i : ℕ} (C : Columning plan Γ ρ y tgt m b at to i) where
-  pub columning-all : m ≤ i → false ≡ b
+module _ {plan : Bytes} {Γ : Fields} {y : Edition} {tgt : Bytes} {m at to i : ℕ} (C : Pairing plan Γ y tgt m at to i) where
+  pub no-pair : m ≤ i → (C .selectors .trees ≡ snil) × (C .columns .columns ≡ cnil)
   unfolding fieldsOf
-  columning-all h =
+  no-pair h =
       let z = no-column (C .columns) (omega arith) .0 in
-      sym (none-left ρ (C .selectors .trees) (typed-none (ap fieldsOf z) (C .typed))) ∙ C .is
+      (typed-none (ap fieldsOf z) (C .typed), z)
 
   module _ (lt : i < m) {q : Labelled} (g : labelRes tgt q ≡ label y tgt to) where
-    pub columning-labelled : {B : Type 0} {k : ℕ} → q ≡ Labelled.Refused k → B
-    columning-labelled h = first-labelled (C .columns) (λ z. absurd (omega arith)) g h
+    pub pair-labelled : {B : Type 0} {k : ℕ} → q ≡ Labelled.Refused k → B
+    pair-labelled h = first-labelled (C .columns) (λ z. absurd (omega arith)) g h
 
     module _ {l : LabelSpan} {e : Cursor} (h : q ≡ Labelled.Is l e) where
       -- the first column that is left, and its selector
@@ -107,7 +93,7 @@ module _ {plan : Bytes} {Γ : Fields} {ρ : Values} {y : Edition} {tgt : Bytes} 
           let b : rs ≡ F .tail .trees = cc in
           record { field = A; selector = F; typed = subst (λ (x : Selector). Typed Γ x (labelAt tgt l .name) (dtypeOf (A .head .tree))) a d; rest = subst (λ (x : Selectors). TypedAll Γ x (fieldsOf (A .tail .columns))) b ds }
 
-      pub column-top : TopAt plan at Γ
+      unfoldable pub column-top : TopAt plan at Γ
       column-top =
           let N = next in
           let P = N .selector .head in
@@ -122,35 +108,80 @@ module _ {plan : Bytes} {Γ : Fields} {ρ : Values} {y : Edition} {tgt : Bytes} 
       pub column-type : TypeAt y 16 tgt (e .at)
       column-type = next .field .head
 
-      module _ {r : Bool} (x : (T : TopAt plan at Γ) (Q : TypeAt y 16 tgt (e .at)) → r ≡ leaves (dtypeOf (Q .tree)) (λ p u. some (overflowing u) p (eval ρ (T .here .tree)))) where
-        column-clean : not (clean (eval ρ (next .selector .head .tree))) ≡ r
-        unfolding column-top
-        column-clean = let N = next in sym (x column-top (N .field .head) ∙ unclean (eval-over (N .typed) (C .fits)))
+      -- the others
+      unfoldable pub pair-more : {o u : ℕ} → ((P : SelectorAt plan at) → o ≡ P .end) → ((P : TypeAt y 16 tgt (e .at)) → u ≡ P .end) → Pairing plan Γ y tgt m o u (i + 1)
+      pair-more {o} {u} f w =
+          let N = next in
+          let A = N .field in
+          let F = N .selector in
+          let j : m - (i + 1) ≡ m - i - 1 = omega arith in
+          record {
+            within = omega arith;
+            small = C .small;
+            bytes = C .bytes;
+            count = C .count - 1;
+            selectors = record { trees = F .tail .trees; end = F .tail .end; reads = ap (λ (z : ℕ). selectorsOf (selector deepestSelector) (C .count - 1) plan z) (f (F .head)) ∙ F .tail .reads };
+            columns = record {
+              columns = A .tail .columns;
+              end = A .tail .end;
+              reads = ap (λ (n : ℕ). columnsOf y Free (type y Free 16) n [] tgt u) j ∙ ap (λ (z : ℕ). columnsOf y Free (type y Free 16) (m - i - 1) [] tgt z) (w (A .head)) ∙ A .tail .reads;
+            };
+            typed = N .rest;
+          }
 
-        pub columning-found : r ≡ true → true ≡ b
-        columning-found k = sym (not-clean ρ (C .selectors .trees) (next .selector .is) (column-clean ∙ k)) ∙ C .is
+unfoldable pub pair-start : {plan : Bytes} {first : ℕ} {Γ : Fields} {y : Edition} {tgt : Bytes} {m target : ℕ} → AllBytes plan → (D : ColumnsAt y 16 tgt m target)
+    → PlanAt plan first Γ (fieldsOf (D .columns)) → Pairing plan Γ y tgt m first target 0
+pair-start {plan} {first} {y = y} {tgt} {m} {target} p D P = record {
+  within = omega arith;
+  small = P .small;
+  bytes = p;
+  count = P .count;
+  selectors = P .selectors;
+  columns = record { columns = D .columns; end = D .end; reads = ap (λ (k : ℕ). columnsOf y Free (type y Free 16) k [] tgt target) (let e : m - 0 ≡ m = omega arith in e) ∙ D .reads };
+  typed = passed→typed (selectors-read plan p deepestSelector (P .count) first (P .starts) (P .selectors .reads) .formed) (P .passes);
+}
 
-        pub columning-more : r ≡ false → {o u : ℕ} → ((P : SelectorAt plan at) → o ≡ P .end) → ((P : TypeAt y 16 tgt (e .at)) → u ≡ P .end) → Columning plan Γ ρ y tgt m b o u (i + 1)
-        columning-more k {o} {u} f w =
-            let N = next in
-            let A = N .field in
-            let F = N .selector in
-            let j : m - (i + 1) ≡ m - i - 1 = omega arith in
-            record {
-              within = omega arith;
-              fits = C .fits;
-              small = C .small;
-              bytes = C .bytes;
-              count = C .count - 1;
-              selectors = record { trees = F .tail .trees; end = F .tail .end; reads = ap (λ (z : ℕ). selectorsOf (selector deepestSelector) (C .count - 1) plan z) (f (F .head)) ∙ F .tail .reads };
-              columns = record {
-                columns = A .tail .columns;
-                end = A .tail .end;
-                reads = ap (λ (n : ℕ). columnsOf y Free (type y Free 16) n [] tgt u) j ∙ ap (λ (z : ℕ). columnsOf y Free (type y Free 16) (m - i - 1) [] tgt z) (w (A .head)) ∙ A .tail .reads;
-              };
-              typed = N .rest;
-              is = sym (not-clean ρ (C .selectors .trees) (F .is) (column-clean ∙ k)) ∙ C .is;
-            }
+-- ---- b is whether there is an overflow in what is left
+
+pub record Columning (plan : Bytes) (Γ : Fields) (ρ : Values) (y : Edition) (tgt : Bytes) (m : ℕ) (b : Bool) (at to i : ℕ) : Type 0 where
+  pub pairing : Pairing plan Γ y tgt m at to i
+  pub fits : FitsAllOver Γ ρ
+  pub is : not (cleanAll (evals ρ (pairing .selectors .trees))) ≡ b
+
+not-clean : (ρ : Values) (ss : Selectors) {s : Selector} {rs : Selectors} {c : Bool} → ss ≡ scons s rs → not (clean (eval ρ s)) ≡ c → not (cleanAll (evals ρ ss)) ≡ not (not c && cleanAll (evals ρ rs))
+unfolding evals cleanAll
+not-clean ρ ss {s} {rs} e h = rw e (ap (λ (x : Bool). not (x && cleanAll (evals ρ rs))) (turned (clean (eval ρ s)) h))
+  where
+    turned : (a : Bool) {c : Bool} → not a ≡ c → a ≡ not c
+    turned true k = ap not k
+    turned false k = ap not k
+
+none-left : (ρ : Values) (ss : Selectors) → ss ≡ snil → not (cleanAll (evals ρ ss)) ≡ false
+unfolding evals cleanAll
+none-left ρ ss e = rw e
+
+module _ {plan : Bytes} {Γ : Fields} {ρ : Values} {y : Edition} {tgt : Bytes} {m : ℕ} {b : Bool} {at to i : ℕ} (C : Columning plan Γ ρ y tgt m b at to i) where
+  pub columning-all : m ≤ i → false ≡ b
+  columning-all h = sym (none-left ρ (C .pairing .selectors .trees) (no-pair (C .pairing) h .0)) ∙ C .is
+
+  module _ (lt : i < m) {q : Labelled} (g : labelRes tgt q ≡ label y tgt to) {l : LabelSpan} {e : Cursor} (h : q ≡ Labelled.Is l e) {r : Bool}
+      (x : (T : TopAt plan at Γ) (Q : TypeAt y 16 tgt (e .at)) → r ≡ leaves (dtypeOf (Q .tree)) (λ p u. some (overflowing u) p (eval ρ (T .here .tree)))) where
+    column-clean : not (clean (eval ρ (next (C .pairing) lt g h .selector .head .tree))) ≡ r
+    unfolding column-top
+    column-clean =
+        let N = next (C .pairing) lt g h in
+        sym (x (column-top (C .pairing) lt g h) (N .field .head) ∙ unclean (eval-over (N .typed) (C .fits)))
+
+    pub columning-found : r ≡ true → true ≡ b
+    columning-found k = sym (not-clean ρ (C .pairing .selectors .trees) (next (C .pairing) lt g h .selector .is) (column-clean ∙ k)) ∙ C .is
+
+    pub columning-more : r ≡ false → {o u : ℕ} → ((P : SelectorAt plan at) → o ≡ P .end) → ((P : TypeAt y 16 tgt (e .at)) → u ≡ P .end) → Columning plan Γ ρ y tgt m b o u (i + 1)
+    unfolding pair-more
+    columning-more k f w = record {
+      pairing = pair-more (C .pairing) lt g h f w;
+      fits = C .fits;
+      is = sym (not-clean ρ (C .pairing .selectors .trees) (next (C .pairing) lt g h .selector .is) (column-clean ∙ k)) ∙ C .is;
+    }
 
 -- of all that stand there
 abbrev pub Columnings : Edition → Bytes → ℕ → ℕ → Bytes → Bytes → ℕ → Edition → Bytes → ℕ → ℕ → ℕ → ℕ → ℕ → Type 0
@@ -160,14 +191,5 @@ Columnings v lay n columns rec plan first y tgt m target at to i =
 
 pub columning-start : (v : Edition) (lay : Bytes) (n columns : ℕ) (rec plan : Bytes) (first : ℕ) (y : Edition) (tgt : Bytes) (m target : ℕ) → AllBytes rec → AllBytes plan
     → Columnings v lay n columns rec plan first y tgt m target first target 0
-columning-start v lay n columns rec plan first y tgt m target o p X D P = record {
-  within = omega arith;
-  fits = row-over o X;
-  small = P .small;
-  bytes = p;
-  count = P .count;
-  selectors = P .selectors;
-  columns = record { columns = D .columns; end = D .end; reads = ap (λ (k : ℕ). columnsOf y Free (type y Free 16) k [] tgt target) (let e : m - 0 ≡ m = omega arith in e) ∙ D .reads };
-  typed = passed→typed (selectors-read plan p deepestSelector (P .count) first (P .starts) (P .selectors .reads) .formed) (P .passes);
-  is = refl;
-}
+unfolding pair-start
+columning-start v lay n columns rec plan first y tgt m target o p X D P = record { pairing = pair-start p D P; fits = row-over o X; is = refl }

@@ -56,7 +56,7 @@ pub widest-small : Small widest
 widest-small = record { above = omega arith; below = omega arith }
 
 module _ {plan : Bytes} {top : ℕ} {Γ : Fields} (T : TopAt plan top Γ) {path : List ℕ} {len : ℕ} (room : length path ≡ 64) (short : len ≤ 64) where
-  standing : WalkAt plan (started top (length plan) path len) (state (T .here .tree) [] (slice 0 len path))
+  pub standing : WalkAt plan (started top (length plan) path len) (state (T .here .tree) [] (slice 0 len path))
   standing = record {
     here = T .here;
     selector = refl;

@@ -29,7 +29,7 @@ use walk::walk::Walk;
 const HALF: u64 = 9223372036854775808;
 
 // A path with the number k put at `len`.
-fn stepped(path: [u16; 64], len: usize, k: u16) -> [u16; 64]
+pub fn stepped(path: [u16; 64], len: usize, k: u16) -> [u16; 64]
     requires { ⌜ len < length path ⌝ }
     ensures { λ r. ⌜ r ≡ set path len k ⌝ }
 {
@@ -39,7 +39,7 @@ fn stepped(path: [u16; 64], len: usize, k: u16) -> [u16; 64]
 }
 
 // At a column's selector, with a path.
-fn start(at: usize, lim: usize, path: [u16; 64], len: usize) -> Walk
+pub fn start(at: usize, lim: usize, path: [u16; 64], len: usize) -> Walk
     ensures { λ r. ⌜ r ≡ started at lim path len ⌝ }
 {
     Walk {
