@@ -1,0 +1,9 @@
+pub mod Placing
+pub mod Constants
+pub mod Tracing
+pub mod Meaning
+pub mod Marking
+pub mod Stopping
+pub mod Following
+pub mod Meeting
+pub mod Samples

@@ -1,0 +1,33 @@
+-- `nullness::column::place_filled` meets its contract: the loop keeps `Marking`. Assumes nothing.
+use Rattle.nullness.proofs.Marking.{Marking, marking-start, marking-none, marking-more, marking-end}
+use Prim.Native.Nat.{_-_}
+use Rattle.layout.specs.Stands.{TypeAt}
+use Rattle.plan.specs.Marks.{given}
+use borrow.Author.Needs.{needs}
+use Rattle.nullness.proofs.column.place_filled.Statement.{statement}
+use Rattle.nullness.proofs.column.place_filled.Tie as tie
+
+abbrev Inv-loop : tie.InvT-loop
+Inv-loop s v required len path at₀ marked₀ i₀ at marked i = (P : TypeAt v 16 s at₀) → Marking v s (given required (P .tree)) path len at marked i
+
+abbrev μ-loop : tie.MeasureT-loop
+μ-loop s v required len path at₀ marked₀ i₀ at marked i = len - i
+
+pub place-filled-spec : {M : Type 1} → statement M
+place-filled-spec =
+    tie.close
+    (tie.spec
+    Inv-loop
+    μ-loop
+    (λ c. λ P. marking-start P _ _ _)
+    (λ c. search needs)
+    (λ c. search needs)
+    (λ c κs. c .before .loop .inv (c .before .before .before .pre .0) .type)
+    (λ c. search needs)
+    (λ c. search needs)
+    (λ c. λ P. marking-none (c .before .before .before .before .loop .inv P) (c .before .before .before .loop-test .taken) (c .before .before .before .before .before .before .pre .1) (c .before .before .part-mark .ensures) (c .enum-told .given .1))
+    (λ c. search needs)
+    (λ c. search needs)
+    (λ c. λ P. marking-more (c .before .before .before .before .before .loop .inv P) (c .before .before .before .before .loop-test .taken) (c .before .before .before .before .before .before .before .pre .1) (c .before .before .before .part-mark .ensures) (c .before .e .given .1))
+    (λ c κs. c .before .loop .inv (c .before .before .before .pre .0) .type)
+    (λ c. λ P. marking-end (c .before .before .loop .inv P) (c .before .loop-test .left) (c .column-filled .ensures)))

@@ -1,0 +1,13 @@
+-- `nullness::stop::at_constant` meets its contract: by the scan of the constant. Assumes nothing.
+use Rattle.nullness.proofs.Stopping.{constant-null, constant-filled}
+use borrow.Author.Needs.{needs}
+use Rattle.nullness.proofs.stop.at_constant.Statement.{statement}
+use Rattle.nullness.proofs.stop.at_constant.Tie as tie
+
+pub at-constant-spec : {M : Type 1} → statement M
+at-constant-spec =
+    tie.close
+    (tie.spec
+    (λ c κs. search needs)
+    (λ c. λ X x M. constant-null M _ (c .before .in-constant .ensures X) (c .if1 .taken))
+    (λ c. λ X x M. constant-filled M _ (c .before .in-constant .ensures X) (c .if1 .left)))

@@ -1,0 +1,36 @@
+-- `nullness::stop::at_stop` meets its contract: each selector has its law in `Stopping`. Assumes nothing.
+use Rattle.nullness.proofs.Stopping.{constant-stop, cast-stop, rename-stop, struct-stop, list-stop, array-stop}
+use Rattle.overflow.proofs.Stops.{position-stop, constant-raw, path-room}
+use Rattle.walk.proofs.Heads.{never-refused}
+use borrow.Author.Needs.{needs}
+use Rattle.nullness.proofs.stop.at_stop.Statement.{statement}
+use Rattle.nullness.proofs.stop.at_stop.Tie as tie
+
+pub at-stop-spec : {M : Type 1} → statement M
+at-stop-spec =
+    tie.close
+    (tie.spec
+    (λ c κs. search needs)
+    (λ c. search needs)
+    (λ c κs. (c .before .before .before .before .before .before .before .pre .0, (c .before .before .before .before .before .before .before .pre .1 .0, path-room (c .before .before .before .before .before .before .before .pre .1 .1 .1))))
+    (λ c. search needs)
+    (λ c κs. (constant-raw (c .before .before .before .before .before .before .before .pre .1 .1 .1) (c .before .before .before .head .ensures (c .before .before .before .before .before .before .before .pre .1 .1 .1 .here)) (c .before .t .given .1), c .before .before .before .before .before .before .before .pre .1 .1))
+    (λ c. search needs)
+    (λ c κs. search needs)
+    (λ c. search needs)
+    (λ c κs. search needs)
+    (λ c. search needs)
+    (λ c κs. search needs)
+    (λ c. search needs)
+    (λ c κs. search needs)
+    (λ c. search needs)
+    (λ c κs. search needs)
+    (λ c. search needs)
+    (λ c. λ P x M. c .at-position .ensures P _ x M (position-stop M (c .before .before .before .before .head .ensures (M .here)) (c .before .before .k .given .1)))
+    (λ c. λ P x M. constant-stop M _ (c .before .before .before .before .head .ensures (M .here)) (c .before .before .t .given .1) (λ R. c .at-constant .ensures R x M))
+    (λ c. λ P x M. cast-stop M _ (c .before .before .before .head .ensures (M .here)) (c .at-transform .ensures _ x M) (c .before .enum-told .given .1))
+    (λ c. λ P x M. rename-stop M _ (c .before .before .before .head .ensures (M .here)) (c .at-transform2 .ensures _ x M) (c .before .enum-told2 .given .1))
+    (λ c. λ P x M. struct-stop M _ (c .before .before .before .head .ensures (M .here)) (c .at-transform3 .ensures _ x M) (c .before .enum-told3 .given .1))
+    (λ c. λ P x M. list-stop M _ (c .before .before .before .head .ensures (M .here)) (c .at-transform4 .ensures _ x M) (c .before .enum-told4 .given .1))
+    (λ c. λ P x M. array-stop M _ (c .before .before .before .head .ensures (M .here)) (c .at-transform5 .ensures _ x M) (c .before .enum-told5 .given .1))
+    (λ c. λ P x M. never-refused (c .before .before .head .ensures (M .here)) (c .enum-told6 .given .1)))

@@ -1,0 +1,134 @@
+// Whether a place of an incoming column is required.
+ghost use mathlib.Core.Bool.{true};
+ghost use mathlib.Core.Path.{_≡_};
+ghost use Prim.Native.Nat.{_≤_};
+ghost use lib.ListN.{length};
+ghost use lib.Seq.{slice};
+ghost use Rattle.layout.specs.Stands.{TypeAt, ColumnsAt};
+ghost use Rattle.plan.specs.Nullness.{topOf, nullnessAt};
+ghost use Rattle.plan.specs.Marks.{allowed, given, givens};
+ghost use Rattle.index.specs.Indexed.{strideOf, Indexed};
+ghost use Rattle.nullness.specs.Places.{fillsAt};
+ghost use Rattle.nullness.specs.Marked.{partsOf, elementMark, PartIs};
+use index::columns::indexed_column;
+use index::columns::stride_of;
+use layout::columns::Labelled;
+use layout::columns::Position;
+use layout::cursor::Cursor;
+use layout::edition::Edition;
+use layout::find::Found;
+use layout::find::column_at;
+use layout::types::Head;
+use rules::kinds::kind;
+
+// Where the type of a place stands, and whether the place is marked required.
+pub enum PartMark {
+    At(Cursor, bool),
+    None,
+}
+
+// Of an element, whose type stands at `c`: there is one place for all, of the number 0.
+fn element_mark(k: u16, c: Cursor, required: bool) -> PartMark
+    ensures { λ r. ⌜ r ≡ elementMark k c required ⌝ }
+{
+    if k == 0 {
+        PartMark::At(c, required)
+    } else {
+        PartMark::None
+    }
+}
+
+// Of field `k` or element `k` of the type at `c`.
+fn part_mark(s: &[u8], v: Edition, c: Cursor, k: u16) -> PartMark
+    requires { ⌜ TypeAt v 16 (now s) (c .at) ⌝ }
+    ensures { λ r. ⌜ ((P : TypeAt v 16 (now (s .entry)) (c .at)) → PartIs v (now (s .entry)) (nullnessAt (partsOf (P .tree)) k) r) ⌝ }
+{
+    match c.head(s) {
+        Head::Leaf(_, _) => PartMark::None,
+        Head::Struct(n, d) => match column_at(s, v, 15, n, d, Position(k)) {
+            Found::At(_, l, e) => PartMark::At(e, l.required),
+            Found::Absent => PartMark::None,
+        },
+        Head::List(d) => match d.element_label(s, v) {
+            Labelled::Is(l, e) => element_mark(k, e, l.required),
+            Labelled::Refused(_) => PartMark::None,
+        },
+        Head::Array(_, d) => match d.element_label(s, v) {
+            Labelled::Is(l, e) => element_mark(k, e, l.required),
+            Labelled::Refused(_) => PartMark::None,
+        },
+        Head::Refused(_) => PartMark::None,
+    }
+}
+
+// A column of the type at `c`: one of the null type is optional even where it is marked.
+fn column_filled(s: &[u8], v: Edition, c: Cursor, required: bool) -> bool
+    requires { ⌜ TypeAt v 16 (now s) (c .at) ⌝ }
+    ensures { λ r. ⌜ ((P : TypeAt v 16 (now (s .entry)) (c .at)) → r ≡ allowed (topOf (given required (P .tree))) true) ⌝ }
+{
+    if !required {
+        return false;
+    }
+    match c.head(s) {
+        Head::Leaf(l, _) => {
+            let leaf = l.leaf;
+            0 < kind(leaf)
+        }
+        Head::Struct(_, _) => true,
+        Head::List(_) => true,
+        Head::Array(_, _) => true,
+        Head::Refused(_) => true,
+    }
+}
+
+// At a path into a column of the type at `c`.
+fn place_filled(
+    s: &[u8],
+    v: Edition,
+    c: Cursor,
+    required: bool,
+    path: [u16; 64],
+    len: usize,
+) -> bool
+    requires { ⌜ TypeAt v 16 (now s) (c .at) ⌝ }
+    requires { ⌜ len ≤ length path ⌝ }
+    ensures { λ r. ⌜ ((P : TypeAt v 16 (now (s .entry)) (c .at)) → r ≡ fillsAt (given required (P .tree)) (slice 0 len path)) ⌝ }
+{
+    let mut at = c.at;
+    let mut marked = required;
+    let mut i = 0;
+    while i < len {
+        let d = Cursor { at };
+        match part_mark(s, v, d, path[i]) {
+            PartMark::At(e, m) => {
+                at = e.at;
+                marked = m;
+            }
+            PartMark::None => return true,
+        }
+        i += 1;
+    }
+    column_filled(s, v, Cursor { at }, marked)
+}
+
+// At a path into column `k` of the `n` of an incoming layout, with a table of where they stand.
+pub fn incoming_filled(
+    incoming: &[u8],
+    v: Edition,
+    n: u16,
+    index: &[u16],
+    k: Position,
+    path: [u16; 64],
+    len: usize,
+) -> bool
+    requires { ⌜ ColumnsAt v 16 (now incoming) n 7 ⌝ }
+    requires { ⌜ Indexed v (now incoming) n 7 (strideOf n) (now index) ⌝ }
+    requires { ⌜ len ≤ length path ⌝ }
+    ensures { λ r. ⌜ ((P : ColumnsAt v 16 (now (incoming .entry)) n 7) → r ≡ fillsAt (nullnessAt (givens (P .columns)) (k .0)) (slice 0 len path)) ⌝ }
+{
+    let first = Cursor { at: 7 };
+    match indexed_column(incoming, v, n, first, index, stride_of(n), k) {
+        Found::At(_, l, e) => place_filled(incoming, v, e, l.required, path, len),
+        Found::Absent => true,
+    }
+}
