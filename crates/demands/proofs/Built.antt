@@ -10,18 +10,22 @@ use Rattle.layout.specs.Tree.{Layout, Columns, fieldsOf}
 use Rattle.layout.specs.Layout.{layout}
 use Rattle.layout.proofs.Ways.{clash}
 use Rattle.values.specs.Fits.{FitsAll}
-use Rattle.values.specs.Record.{recordOf}
+use Rattle.values.specs.Filled.{requiredOf}
+use Rattle.values.specs.Record.{recordMarked}
 use Rattle.plan.specs.Result.{gives, demand, Answer, accepted, refusedAt, placed, answered}
 use Rattle.plan.specs.Encode.{encodePlan}
 use Rattle.plan.specs.Selector.{Selectors}
 use Rattle.plan.specs.Read.{plan}
 use Rattle.plan.specs.Run.{written, run}
 use Rattle.plan.specs.Calls.{readAt, readPlan, checkPlan, runPlan}
-use Rattle.matching.proofs.Calls.{of-version, Built}
+use Rattle.matching.proofs.Calls.{Built}
+use Rattle.values.proofs.Unmarked.{UnmarkedAll}
+use Rattle.values.proofs.Older.{layout-older}
+use Rattle.matching.proofs.Unmarked.{by-name-older}
 use Rattle.plan.proofs.Results.{both, true≠false}
 use Rattle.matching.specs.Default.{Defaults, noDefaults}
 use Rattle.matching.specs.Build.{build}
-use Rattle.matching.specs.Calls.{sameVersion, ofVersion, bothLayouts, roomFor, writtenPlan, buildByName, buildByNumber}
+use Rattle.matching.specs.Calls.{takes, ofEdition, ReadFor, bothLayouts, roomFor, writtenPlan, buildByName, buildByNumber}
 use Rattle.matching.specs.Due.{dues}
 use Rattle.defaults.specs.Table.{entriesOf, TableTree, table}
 use Rattle.defaults.specs.Lookup.{getDefaultValue}
@@ -29,6 +33,7 @@ use Rattle.rules.specs.declared.policy.Policy.{Policy}
 use Rattle.layout.specs.declared.matching.Matching.{Matching}
 use Rattle.layout.specs.declared.matching.Matching.the-variants.{ByName, ByNumber}
 use Rattle.values.proofs.Round.{record-back}
+use Rattle.values.proofs.Kept.{record-kept}
 use Rattle.demands.specs.Refusals.{isIn, layoutRefusals, tableRefusals, extraRefusals, columnRefusals}
 use Rattle.demands.specs.Stated.{FitsLayout, LayoutOf, columnsOf, PlanTooLong, NumberTooLong}
 use Rattle.demands.proofs.Parsers.{layout-in, table-in}
@@ -38,26 +43,26 @@ use Rattle.demands.proofs.Passed.{ok-eq, number-eq}
 
 pub built-passes : {v : Matching} {p : Policy} {d : Defaults} {incoming target bytes : Bytes} → Built v p d incoming target bytes → checkPlan incoming target bytes ≡ accepted tt
 unfolding checkPlan readPlan readAt
-built-passes B = rw (B .incomingRead, B .targetRead, B .reads, B .passes)
+built-passes B = rw (B .incomingRead .reads, B .targetRead .reads, B .reads, B .passes)
 
 module _ {v : Matching} {p : Policy} {d : Defaults} {incoming target bytes rec : Bytes} (B : Built v p d incoming target bytes) (or : AllBytes rec)
     (F : FitsLayout incoming rec) where
   pub from-eq : columnsOf F ≡ B .from
-  from-eq = ap (λ (l : Layout). l .columns) (ok-eq (F .layoutReads) (B .incomingRead))
+  from-eq = ap (λ (l : Layout). l .columns) (ok-eq (F .layoutReads) (B .incomingRead .reads))
 
-  record-reads : recordOf (fieldsOf (B .from)) rec ≡ ok (F .values) (F .end)
-  record-reads = ap (λ (cs : Columns). recordOf (fieldsOf cs) rec) (sym from-eq) ∙ F .reads
+  record-reads : recordMarked requiredOf (B .from) rec ≡ ok (F .values) (F .end)
+  record-reads = ap (λ (cs : Columns). recordMarked requiredOf cs rec) (sym from-eq) ∙ F .reads
 
   pub record-fits : FitsAll (fieldsOf (B .from)) (F .values)
-  record-fits = record-back (fieldsOf (B .from)) rec or (F .values) (F .end) record-reads .fits
+  record-fits = record-back (fieldsOf (B .from)) rec or (F .values) (F .end) (record-kept requiredOf rec (B .from) .forth (F .values) (F .end) record-reads .0) .fits
 
   pub run-is : (room : ℕ) → runPlan incoming target bytes rec room ≡ run (F .values) (B .selectors) room
   unfolding runPlan readPlan readAt answered
-  run-is room = rw (B .incomingRead, B .targetRead, B .reads, B .passes, record-reads)
+  run-is room = rw (B .incomingRead .reads, B .targetRead .reads, B .reads, B .passes, record-reads)
 
   module _ (T : LayoutOf target) (room : ℕ) where
     to-eq : T .read .columns ≡ B .to
-    to-eq = ap (λ (l : Layout). l .columns) (ok-eq (T .reads) (B .targetRead))
+    to-eq = ap (λ (l : Layout). l .columns) (ok-eq (T .reads) (B .targetRead .reads))
 
     pub built-due : runPlan incoming target bytes rec room ≡ written (dues v d (T .read .columns) (columnsOf F) (F .values)) room
     unfolding run
@@ -105,57 +110,67 @@ unfolding readAt
 read-past i (refuse m) f o h e = true≠false (refused-in o (ap refuse (number-eq e))) h
 read-past i (ok a m) f o h e = (a, m, refl, e)
 
-version-past : {A : Type 0} (b : Bool) (f : Answer A) {n k : ℕ} → (10 ≡ n → ⊥) → placed 0 (demand b 10 (gives tt)) (λ (x : Unit {0}). f) ≡ refusedAt n k
+edition-past : {A : Type 0} (b : Bool) (f : Answer A) {n k : ℕ} → (10 ≡ n → ⊥) → placed 0 (demand b 10 (gives tt)) (λ (x : Unit {0}). f) ≡ refusedAt n k
     → (b ≡ true) × (f ≡ refusedAt n k)
 unfolding placed demand
-version-past true f h e = (refl, e)
-version-past false f h e = absurd (h (number-eq e))
+edition-past true f h e = (refl, e)
+edition-past false f h e = absurd (h (number-eq e))
 
 -- the layouts, where the answer is no refusal of reading them, nor 10
 pub layouts-past : (v : Matching) (incoming target : Bytes) (f : Columns → Columns → Answer Bytes) {n k : ℕ} → isIn n layoutRefusals ≡ false → (10 ≡ n → ⊥)
     → bothLayouts v incoming target f ≡ refusedAt n k
-    → (a : Columns) × (b : Columns) × (i : ℕ) × (j : ℕ) × (layout incoming ≡ ok (record { version = v; columns = a }) i) × (layout target ≡ ok (record { version = v; columns = b }) j) × (f a b ≡ refusedAt n k)
-unfolding bothLayouts ofVersion
+    → (a : Columns) × (b : Columns) × ReadFor v incoming a × ReadFor v target b × (f a b ≡ refusedAt n k)
+unfolding bothLayouts ofEdition
 layouts-past v incoming target f h g e =
     let (x, m, q, e) = read-past 1 (layout incoming) _ (layout-in incoming) h e in
     let (y, n, r, e) = read-past 2 (layout target) _ (layout-in target) h e in
-    let (c, e) = version-past (sameVersion v (x .version) && sameVersion v (y .version)) (f (x .columns) (y .columns)) g e in
-    let (c, d) = both (sameVersion v (x .version)) c in
-    (x .columns, y .columns, m, n, of-version v incoming x q c, of-version v target y r d, e)
+    let (c, e) = edition-past (takes v (x .edition) && takes v (y .edition)) (f (x .columns) (y .columns)) g e in
+    let (c, d) = both (takes v (x .edition)) c in
+    (x .columns, y .columns, record { edition = x .edition; end = m; reads = q; taken = c }, record { edition = y .edition; end = n; reads = r; taken = d }, e)
+
+-- by name the target has no required column
+pub named-unmarked : (v : Matching) {target : Bytes} {cs : Columns} → ReadFor v target cs → v ≡ ByName → UnmarkedAll requiredOf cs
+named-unmarked ByName {target} R e = layout-older target _ _ (R .reads) (by-name-older (R .edition) (R .taken))
+named-unmarked ByNumber R e = clash (cc)
 
 pub table-past : (defaults : Bytes) (f : TableTree → Answer Bytes) {n k : ℕ} → isIn n tableRefusals ≡ false → readAt 3 (table defaults) f ≡ refusedAt n k
     → (t : TableTree) × (m : ℕ) × (table defaults ≡ ok t m) × (f t ≡ refusedAt n k)
 table-past defaults f h e = read-past 3 (table defaults) f (table-in defaults) h e
 
 module _ (v : Matching) (p : Policy) (incoming target : Bytes) (space : ℕ) where
-  built-past : (d : Defaults) → DefaultsIn (columnRefusals v) d → (a b : Columns) (m n : ℕ) → layout incoming ≡ ok (record { version = v; columns = a }) m → layout target ≡ ok (record { version = v; columns = b }) n
+  built-past : (d : Defaults) → DefaultsIn (columnRefusals v) d → (a b : Columns) → ReadFor v incoming a → ReadFor v target b
       → answered (build v p d a b) (λ ss. writtenPlan space ss) ≡ refusedAt 27 0 → PlanTooLong v p d incoming target space
-  built-past d o a b m n q r e =
-      let (ss, h, l) = built-long v space (build-in v p d o a b) e in
-      record { defined = record { from = a; to = b; fromEnd = m; toEnd = n; incomingRead = q; targetRead = r; selectors = ss; built = h }; long = l }
+  built-past d o a b q r e =
+      let (ss, h, l) = built-long v space (build-in v p d o a b (named-unmarked v r)) e in
+      record { defined = record { from = a; to = b; incomingRead = q; targetRead = r; selectors = ss; built = h }; long = l }
 
 pub by-name-past : (p : Policy) (incoming target : Bytes) (space : ℕ) → buildByName p incoming target space ≡ refusedAt 27 0 → PlanTooLong ByName p noDefaults incoming target space
 unfolding buildByName isIn
 by-name-past p incoming target space e =
-    let (a, b, m, n, q, r, e) = layouts-past ByName incoming target _ refl (λ h. omega (arith, h)) e in
-    built-past ByName p incoming target space noDefaults (none-in (columnRefusals ByName)) a b m n q r e
+    let (a, b, q, r, e) = layouts-past ByName incoming target _ refl (λ h. omega (arith, h)) e in
+    built-past ByName p incoming target space noDefaults (none-in (columnRefusals ByName)) a b q r e
 
 pub by-name-back : (p : Policy) (incoming target : Bytes) (space : ℕ) → PlanTooLong ByName p noDefaults incoming target space → buildByName p incoming target space ≡ refusedAt 27 0
-unfolding buildByName bothLayouts ofVersion readAt placed demand answered
-by-name-back p incoming target space L = rw (L .defined .incomingRead, L .defined .targetRead, L .defined .built, written-exceeds space (L .defined .selectors) (L .long))
+unfolding buildByName bothLayouts ofEdition readAt placed demand answered
+by-name-back p incoming target space L =
+    let I = L .defined .incomingRead in
+    let T = L .defined .targetRead in
+    rw (I .reads, T .reads, I .taken, T .taken, L .defined .built, written-exceeds space (L .defined .selectors) (L .long))
 
 pub by-number-past : (p : Policy) (index owner : ℕ) (incoming target defaults : Bytes) (space : ℕ)
     → buildByNumber p index owner incoming target defaults space ≡ refusedAt 27 0 → NumberTooLong p index owner incoming target defaults space
 unfolding buildByNumber isIn
 by-number-past p index owner incoming target defaults space e =
-    let (a, b, m, n, q, r, e) = layouts-past ByNumber incoming target _ refl (λ h. omega (arith, h)) e in
+    let (a, b, q, r, e) = layouts-past ByNumber incoming target _ refl (λ h. omega (arith, h)) e in
     let (x, k, t, e) = table-past defaults _ refl e in
     let es = entriesOf owner (x .entries) in
-    record { tree = x; end = k; reads = t; plan = built-past ByNumber p incoming target space (getDefaultValue es index) (lookup-in es index) a b m n q r e }
+    record { tree = x; end = k; reads = t; plan = built-past ByNumber p incoming target space (getDefaultValue es index) (lookup-in es index) a b q r e }
 
 pub by-number-back : (p : Policy) (index owner : ℕ) (incoming target defaults : Bytes) (space : ℕ) → NumberTooLong p index owner incoming target defaults space
     → buildByNumber p index owner incoming target defaults space ≡ refusedAt 27 0
-unfolding buildByNumber bothLayouts ofVersion readAt placed demand answered
+unfolding buildByNumber bothLayouts ofEdition readAt placed demand answered
 by-number-back p index owner incoming target defaults space N =
     let L = N .plan in
-    rw (L .defined .incomingRead, L .defined .targetRead, N .reads, L .defined .built, written-exceeds space (L .defined .selectors) (L .long))
+    let I = L .defined .incomingRead in
+    let T = L .defined .targetRead in
+    rw (I .reads, T .reads, I .taken, T .taken, N .reads, L .defined .built, written-exceeds space (L .defined .selectors) (L .long))

@@ -17,7 +17,7 @@ use Rattle.plan.proofs.Samples.{read, checked, ran, recorded}
 use Rattle.matching.specs.Calls.{buildByName, buildByNumber}
 use Rattle.matching.proofs.Samples.{built}
 use Rattle.demands.specs.Refusals.{isIn, placeOf}
-use Rattle.demands.proofs.Table.{on, lay, pln, casting, build, run, int64}
+use Rattle.demands.proofs.Table.{marking, on, lay, pln, casting, build, run, int64}
 
 -- every flag on but decimal_widening
 abbrev off : Policy
@@ -28,7 +28,7 @@ abbrev digits : ℕ → ℕ → Bytes
 digits p s = 21 ∷ p ∷ s ∷ []
 
 -- an answer with the place of its refusal
-abbrev shown : {A : Type 0} → Answer A → Answer A
+abbrev pub shown : {A : Type 0} → Answer A → Answer A
 shown (accepted a) = accepted a
 shown (refusedAt n k) = refusedAt n (placeOf n k)
 
@@ -109,7 +109,7 @@ pub record Decimals : Type 0 where
   pub plan-large : checkPlan (lay (digits 9 2)) (lay (digits 9 2)) (pln (1 ∷ 1 ∷ 0x74 ∷ (digits 9 2 ++ large-9))) ≡ refusedAt 30 0
 
 pub decimals : Decimals
-unfolding built read checked ran recorded checkPlan runPlan readPlan decimalParams decimalKind decimalsOf decimal withinPrecision recordNumber placeOf isIn
+unfolding built read checked ran recorded marking checkPlan runPlan readPlan decimalParams decimalKind decimalsOf decimal withinPrecision recordNumber placeOf isIn
 decimals =
     record {
       smallest = refl;

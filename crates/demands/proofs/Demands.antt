@@ -25,7 +25,9 @@ use Rattle.rules.specs.Chain.{chain}
 use Rattle.rules.specs.Pairs.{pairRule}
 use Rattle.values.specs.Value.{vnumber}
 use Rattle.values.specs.Fits.{Fits, fit-number, FitsAll}
+use Rattle.values.specs.Filled.{requiredOf, FilledAll}
 use Rattle.values.proofs.Round.{record-back}
+use Rattle.values.proofs.Kept.{record-kept}
 use Rattle.plan.specs.Read.{plan}
 use Rattle.plan.specs.Convert.{convertAs, convert}
 use Rattle.plan.specs.Result.{Answer, accepted, refusedAt, answered}
@@ -68,7 +70,7 @@ pub accepted-written : (result buffer : Bytes) → bufferAfter (accepted result)
 accepted-written result buffer = refl
 
 -- "It returns its number from document 01": a refused call's number is in the call's list (`refusalsOf`) and never 0, and it is met at k: of 1 to 6 and 50
--- the first layout or table that is refused, which is refused with this number; of 11 to 26, 28 and 51 a position below the number of the target's columns, of
+-- the first layout or table that is refused, which is refused with this number; of 11 to 26, 28, 51, 54 and 55 a position below the number of the target's columns, of
 -- 31 and 32 below that of the plan's top selectors; of 53 below the number of the incoming columns; of all others 0 (`Refusal`, specs/Refusals.antt).
 
 pub read-layout-refused : (s : Bytes) {n k : ℕ} → readLayout s ≡ refusedAt n k → Refusal readingLayout (refusalIn (layout s) ∷ []) 0 0 n k
@@ -93,8 +95,8 @@ module _ (incoming target bytes : Bytes) where
       → Refusal running (layoutsRead incoming target []) 0 (selectorCount bytes) n k
   run-refused rec room e = refused-as (run-plan-in incoming target bytes rec room) e
 
--- The place of a refusal is the one that goes with its number: `placeOf n k` is k where the number has a place, and of all others, 50, 51 and 52 among them,
--- 0 (`Placed`). How number and place are read out of the word that a call returns stands in crate selector, proofs/Decoded.antt.
+-- The place of a refusal is the one that goes with its number: `placeOf n k` is k where the number has a place, and of all others, 50 to 52 and 54 to 56
+-- among them, 0 (`Placed`). How number and place are read out of the word that a call returns stands in crate selector, proofs/Decoded.antt.
 pub refused-placed : {c : Call} {things : List ℕ} {incoming columns n k : ℕ} → Refusal c things incoming columns n k → Placed things incoming columns n (placeOf n k)
 refused-placed R = refusal-placed R
 
@@ -155,8 +157,8 @@ module _ (p : Policy) (incoming target : Bytes) (oi : AllBytes incoming) (ot : A
       → Untouched (I .read .columns) b s ↔ EqualType (I .read .columns) b u
   by-name-untouched j {k} {b} {u} {s} e x =
       let B = by-name-built p incoming target space oi ot built in
-      let f : I .read .columns ≡ B .from = ap (λ (l : Layout). l .columns) (ok-eq (I .reads) (B .incomingRead)) in
-      let t : T .read .columns ≡ B .to = ap (λ (l : Layout). l .columns) (ok-eq (T .reads) (B .targetRead)) in
+      let f : I .read .columns ≡ B .from = ap (λ (l : Layout). l .columns) (ok-eq (I .reads) (B .incomingRead .reads)) in
+      let t : T .read .columns ≡ B .to = ap (λ (l : Layout). l .columns) (ok-eq (T .reads) (B .targetRead .reads)) in
       let g : S .selectors ≡ B .selectors = ok-eq (S .reads) (B .reads) in
       rw f (build-untouched p noDefaults (B .from) (B .to) (B .built) j (ap (columnAt j) (sym t) ∙ e) (subst (λ (ss : Selectors). SelectorAt ss (j .0) s) g x))
 
@@ -176,7 +178,7 @@ module _ (p : Policy) (index owner : ℕ) (incoming target defaults : Bytes) (sp
 -- "value an i64 of magnitude below ten to the precision": so is every decimal of a record that fits, at whatever level
 module _ {lay rec : Bytes} (or : AllBytes rec) (F : FitsLayout lay rec) where
   pub values-fit : FitsAll (fieldsOf (columnsOf F)) (F .values)
-  values-fit = record-back (fieldsOf (columnsOf F)) rec or (F .values) (F .end) (F .reads) .fits
+  values-fit = record-back (fieldsOf (columnsOf F)) rec or (F .values) (F .end) (record-kept requiredOf rec (columnsOf F) .forth (F .values) (F .end) (F .reads) .0) .fits
 
 pub decimal-within : {d : Decimal} {k : Leaf} {n : ℕ} → Fits (leaf (decimal d)) (vnumber k n) → natAbs (signed 64 n) < 10 ^ (d .precision)
 unfolding withinPrecision
@@ -185,17 +187,24 @@ decimal-within {d} {k} {n} (fit-number e h w) = ltb-true (natAbs (signed 64 n)) 
 same-number : {A : Type 0} {m n j k : ℕ} → _≡_ {A = Answer A} (refusedAt m j) (refusedAt n k) → m ≡ n
 same-number e = cc
 
--- "to fit, a record must now meet no 52 either": where it fits and the plan passed the check, the run does not refuse with 52
 module _ {incoming target bytes rec : Bytes} {F : FitsLayout incoming rec} {room : ℕ} (R : Running incoming target bytes rec F room) where
-  pub no-large-decimal : {k : ℕ} → runPlan incoming target bytes rec room ≡ refusedAt 52 k → ⊥
-  no-large-decimal e = go (R .only)
+  no-other : {n k : ℕ} → (n ≡ 44 → ⊥) → (n ≡ 45 → ⊥) → runPlan incoming target bytes rec room ≡ refusedAt n k → ⊥
+  no-other {n} a b e = go (R .only)
     where
       go : (runPlan incoming target bytes rec room ≡ refusedAt 44 0)
           ⊎ ((runPlan incoming target bytes rec room ≡ refusedAt 45 0)
           ⊎ ((b : Bytes) × (runPlan incoming target bytes rec room ≡ accepted b) × FitsLayout target b)) → ⊥
-      go (inl q) = let z : _≡_ {A = ℕ} 52 44 = same-number (sym e ∙ q) in absurd (omega arith)
-      go (inr (inl q)) = let z : _≡_ {A = ℕ} 52 45 = same-number (sym e ∙ q) in absurd (omega arith)
+      go (inl q) = a (same-number (sym e ∙ q))
+      go (inr (inl q)) = b (same-number (sym e ∙ q))
       go (inr (inr (b, q, G))) = clash (cc)
+
+  -- "to fit, a record must now meet no 52 either": where it fits and the plan passed the check, the run does not refuse with 52
+  pub no-large-decimal : {k : ℕ} → runPlan incoming target bytes rec room ≡ refusedAt 52 k → ⊥
+  no-large-decimal e = no-other (λ z. omega (arith, z)) (λ z. omega (arith, z)) e
+
+  -- L5: "To fit, a record must now also meet no 56"
+  pub no-null-required : {k : ℕ} → runPlan incoming target bytes rec room ≡ refusedAt 56 k → ⊥
+  no-null-required e = no-other (λ z. omega (arith, z)) (λ z. omega (arith, z)) e
 
 -- "A new policy flag allows a larger precision at the same scale ..; the cast is NonStrict"; "51 when the widening flag is off, in place of the cast"
 pub widening-rule : (p : Policy) (d e : Decimal) → widens d e ≡ true → pairRule p (decimal d) (decimal e) ≡ need (p .«decimal_widening») 51 (cast NonStrict)
@@ -220,7 +229,7 @@ pub plan-refused : (bytes : Bytes) {n : ℕ} → plan bytes ≡ refuse n → isI
 plan-refused bytes e = refused-in (plan-in bytes) e
 
 -- ---- Document 02, L3, "Strict top columns": "the first incoming column with no target counterpart refuses the build", "53 for such a column, tested after the
--- defaults are read and before the first target column, its place being the incoming position". 53 holds exactly where the layouts are read and of the build's version,
+-- defaults are read and before the first target column, its place being the incoming position". 53 holds exactly where the layouts are read and of an edition that is taken,
 -- by number the table too, a column is extra under Raise, and the place is the first one's position (`ExtraColumn`, specs/Stated.antt).
 
 module _ (p : Policy) (incoming target : Bytes) (space : ℕ) where
@@ -241,3 +250,12 @@ module _ (p : Policy) (index owner : ℕ) (incoming target defaults : Bytes) (sp
       ≡ bothLayouts ByNumber incoming target (λ a b. readAt 3 (table defaults) (λ t.
       answered (buildFrom ByNumber p (getDefaultValue (entriesOf owner (t .entries)) index) b a 0) (λ ss. writtenPlan space ss)))
   by-number-ignoring h = number-ignoring p index owner incoming target defaults space h
+
+-- ---- Document 02, L5, "Required fields". 54, 55 and 56 are in the lists above, 54 and 55 for a build by number alone; what passes the check, 55 included, and what
+-- fits, 56 included, is what demand 3 is said of; so is that both builders' plans pass the check.
+
+-- "An accepted plan must never give null to a required field": what the run of a plan that passed writes fits the target (`run-passed`), and no null of what fits stands
+-- in a required field, at whatever level (`FilledAll`, crate values)
+module _ {lay rec : Bytes} (F : FitsLayout lay rec) where
+  pub required-filled : FilledAll requiredOf (columnsOf F) (F .values)
+  required-filled = record-kept requiredOf rec (columnsOf F) .forth (F .values) (F .end) (F .reads) .1

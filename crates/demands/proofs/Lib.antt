@@ -9,6 +9,7 @@ pub mod Extra
 pub mod Demands
 pub mod Table
 pub mod Decimals
+pub mod Marks
 pub mod Loosened
 pub mod Owners
 pub mod Loosenings

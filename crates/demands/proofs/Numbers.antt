@@ -8,7 +8,7 @@ use lib.ListN.{length}
 use lib.Dec.{leb}
 use borrow.Author.Tests.{leb-true}
 use Rattle.layout.specs.Parser.{choose}
-use Rattle.layout.specs.Tree.{LeafType, leafOf, zoneOf, Label, ColumnType, cleaf, cstruct, clist, carray, Columns, cnil, ccons, countColumns}
+use Rattle.layout.specs.Tree.{LeafType, leafOf, zoneOf, Label, ColumnType, cleaf, cstruct, clist, carray, Columns, cnil, ccons, countColumns, dtypeOf}
 use Rattle.layout.specs.Find.{Lookup, absent, at, counterpart}
 use Rattle.layout.specs.declared.columns.FieldId.{FieldId}
 use Rattle.layout.specs.declared.columns.Position.{Position}
@@ -26,8 +26,10 @@ use Rattle.rules.specs.Promotion.{holds}
 use Rattle.rules.specs.Chain.{sameType, wider, unitAllowed, chain}
 use Rattle.rules.specs.Pairs.{pairRule}
 use Rattle.values.specs.Value.{Value, Values, vnil, vcons, isNullValue}
+use Rattle.values.specs.Filled.{requiredOf}
+use Rattle.values.proofs.Unmarked.{Unmarked, UnmarkedAll}
 use Rattle.plan.specs.Result.{Result, gives, refuses, demand, Answer, accepted, refusedAt, placed}
-use Rattle.plan.specs.Selector.{Selector, Selectors}
+use Rattle.plan.specs.Selector.{Selector, constant, Selectors}
 use Rattle.plan.specs.Encode.{encodePlan}
 use Rattle.plan.specs.Read.{longestPlan}
 use Rattle.plan.proofs.Results.{both}
@@ -35,7 +37,10 @@ use Rattle.defaults.specs.Table.{Given, initial, partition, failed, Entry}
 use Rattle.defaults.specs.Lookup.{Taken, refused as refusedTaken, nothing, taken, unlessNull, ofSource, givenTo, firstEntry, isPartitionOf, isInitialOf, getDefaultValue}
 use Rattle.matching.specs.Default.{Defaults, noDefaults, leafDefault, buildIcebergDefaultValue, defaultsOf, missingValue}
 use Rattle.matching.specs.Build.{leafPart, structPart, listPart, arrayPart, unlessNullType, sameElement, distinct, distinctNames, missing, ruled, sought, attachTransforms, attachFields, isAbsent, extraColumnErr, extraColumns, buildColumnSelector, buildFrom, build}
+use Rattle.matching.specs.Build.{keepsRequired, fillsRequired}
 use Rattle.matching.specs.Calls.{roomFor, writtenPlan}
+use Rattle.matching.proofs.Required.{keeps-optional}
+use Rattle.matching.proofs.Unmarked.{struct-bare, list-bare, array-bare, column-bare, fills-unmarked}
 use Rattle.demands.specs.Refusals.{isIn, pairRefusals, extraRefusals, columnRefusals}
 use Rattle.demands.proofs.Refusing.{all, all-in, ResultIn, in-gives, in-refuses, bind-in, demand-in, result-choose-in, Answers, in-accepted, in-refusedAt, placed-in, answered-in, answers-as, ColumnRefusal, BuildRefusal, by-extra, by-column}
 
@@ -146,9 +151,10 @@ module _ {ns : List ℕ} {d : Defaults} (o : DefaultsIn ns d) where
     defaults-in cnil = in-gives
     defaults-in (ccons l t cs) = bind-in (default-in t (l .id)) (λ x. bind-in (defaults-in cs) (λ g. in-gives))
 
-  missing-in : (insert : Bool) (n : ℕ) (l : Label) (u : ColumnType) → isIn n ns ≡ true → ResultIn ns (missing d insert n l u)
+  missing-in : (insert : Bool) (n : ℕ) (l : Label) (u : ColumnType) → isIn n ns ≡ true
+      → ((x : Value) → ResultIn {A = Selector} ns (demand (fillsRequired l u x) 54 (gives (constant (l .name) (dtypeOf u) x)))) → ResultIn ns (missing d insert n l u)
   unfolding missing missingValue
-  missing-in insert n l u e = demand-in insert n e (bind-in (bind-in (default-in u (l .id)) (λ x. in-gives)) (λ x. in-gives))
+  missing-in insert n l u e f = demand-in insert n e (bind-in (bind-in (default-in u (l .id)) (λ x. in-gives)) f)
 
 -- ---- a target column
 
@@ -221,6 +227,19 @@ unfolding sameElement demand isIn
 element-in ByName a b o = o
 element-in ByNumber a b o = demand-in (sameElement ByNumber a b) 25 refl o
 
+-- 54 and 55 are met by number alone: by name no column of the target is required
+kept-in : (v : Matching) (a : Label) (t : ColumnType) (b : Label) {A : Type 0} {r : Result A} → (v ≡ ByName → b .required ≡ false) → ColumnIn v r
+    → ColumnIn v (demand (keepsRequired a t b) 55 r)
+unfolding demand isIn
+kept-in ByName a t b m o = rw (keeps-optional a t b (m refl)) o
+kept-in ByNumber a t b m o = demand-in (keepsRequired a t b) 55 refl o
+
+filled-in : (v : Matching) (b : Label) (u : ColumnType) → (v ≡ ByName → (b .required ≡ false) × Unmarked requiredOf u) → (x : Value) {A : Type 0} {r : Result A} → ColumnIn v r
+    → ColumnIn v (demand (fillsRequired b u x) 54 r)
+unfolding demand isIn
+filled-in ByName b u m x o = let (e, h) = m refl in rw (fills-unmarked b u x e h) o
+filled-in ByNumber b u m x o = demand-in (fillsRequired b u x) 54 refl o
+
 -- ---- extra columns
 
 module _ (v : Matching) where
@@ -244,47 +263,56 @@ module _ (v : Matching) (p : Policy) where
   mutual
     unfolding attachTransforms attachFields isIn
 
-    attach-in : (u : ColumnType) (d : Defaults) (k : Position) (t : ColumnType) → DefaultsIn (columnRefusals v) d → ColumnIn v (attachTransforms v p d u k t)
-    attach-in (cleaf u) d k t o = bind-in (leaf-part-in v t) (λ l. ruled-in v k u (pair-in p l u))
-    attach-in (cstruct gs) d k t o =
+    attach-in : (u : ColumnType) (d : Defaults) (k : Position) (t : ColumnType) → DefaultsIn (columnRefusals v) d → (v ≡ ByName → Unmarked requiredOf u)
+        → ColumnIn v (attachTransforms v p d u k t)
+    attach-in (cleaf u) d k t o m = bind-in (leaf-part-in v t) (λ l. ruled-in v k u (pair-in p l u))
+    attach-in (cstruct gs) d k t o m =
         unless-null-in v p k (cstruct gs) t
         (bind-in (struct-part-in v t) (λ fs.
-        distinct-in v gs (distinct-in v fs (demand-in _ 13 (in-both v 13 refl) (bind-in (fields-in gs d fs o) (λ ss. in-gives))))))
-    attach-in (clist l u) d k t o =
+        distinct-in v gs (distinct-in v fs (demand-in _ 13 (in-both v 13 refl) (bind-in (fields-in gs d fs o (λ q. struct-bare (m q))) (λ ss. in-gives))))))
+    attach-in (clist l u) d k t o m =
         unless-null-in v p k (clist l u) t
         (bind-in (list-part-in v t) (λ e.
-        element-in v (e .label) l (bind-in (attach-in u noDefaults _ (e .type) (none-in (columnRefusals v))) (λ s. in-gives))))
-    attach-in (carray w l u) d k t o =
+        element-in v (e .label) l (kept-in v (e .label) (e .type) l (λ q. list-bare (m q) .0)
+        (bind-in (attach-in u noDefaults _ (e .type) (none-in (columnRefusals v)) (λ q. list-bare (m q) .1)) (λ s. in-gives)))))
+    attach-in (carray w l u) d k t o m =
         unless-null-in v p k (carray w l u) t
         (bind-in (array-part-in v w t) (λ e.
-        element-in v (e .label) l (bind-in (attach-in u noDefaults _ (e .type) (none-in (columnRefusals v))) (λ s. in-gives))))
+        element-in v (e .label) l (kept-in v (e .label) (e .type) l (λ q. array-bare (m q) .0)
+        (bind-in (attach-in u noDefaults _ (e .type) (none-in (columnRefusals v)) (λ q. array-bare (m q) .1)) (λ s. in-gives)))))
 
-    fields-in : (gs : Columns) (d : Defaults) (fs : Columns) → DefaultsIn (columnRefusals v) d → ColumnIn v (attachFields v p d gs fs)
-    fields-in cnil d fs o = in-gives
-    fields-in (ccons l u gs) d fs o =
-        bind-in (sought-in v _ (missing-in o _ 14 l u (in-both v 14 refl)) (λ k m t. bind-in (attach-in u d k t o) (λ s. in-gives))) (λ s.
-        bind-in (fields-in gs d fs o) (λ ss. in-gives))
+    fields-in : (gs : Columns) (d : Defaults) (fs : Columns) → DefaultsIn (columnRefusals v) d → (v ≡ ByName → UnmarkedAll requiredOf gs)
+        → ColumnIn v (attachFields v p d gs fs)
+    fields-in cnil d fs o m = in-gives
+    fields-in (ccons l u gs) d fs o m =
+        bind-in
+        (sought-in v _ (missing-in o _ 14 l u (in-both v 14 refl) (λ x. filled-in v l u (λ q. (column-bare (m q) .0, column-bare (m q) .1 .0)) x in-gives))
+        (λ k a t. kept-in v a t l (λ q. column-bare (m q) .0) (bind-in (attach-in u d k t o (λ q. column-bare (m q) .1 .0)) (λ s. in-gives)))) (λ s.
+        bind-in (fields-in gs d fs o (λ q. column-bare (m q) .1 .1)) (λ ss. in-gives))
 
   -- ---- the build
 
   module _ (d : Defaults) (o : DefaultsIn (columnRefusals v) d) (fs : Columns) where
-    column-in : (l : Label) (u : ColumnType) → ColumnIn v (buildColumnSelector v p d l u fs)
+    column-in : (l : Label) (u : ColumnType) → (v ≡ ByName → (l .required ≡ false) × Unmarked requiredOf u) → ColumnIn v (buildColumnSelector v p d l u fs)
     unfolding buildColumnSelector isIn
-    column-in l u = sought-in v _ (missing-in o _ 11 l u (in-both v 11 refl)) (λ k m t. bind-in (attach-in u d k t o) (λ s. in-gives))
+    column-in l u m =
+        sought-in v _ (missing-in o _ 11 l u (in-both v 11 refl) (λ x. filled-in v l u m x in-gives))
+        (λ k a t. kept-in v a t l (λ q. m q .0) (bind-in (attach-in u d k t o (λ q. m q .1)) (λ s. in-gives)))
 
-    pub from-in : (gs : Columns) (i count : ℕ) → i + countColumns gs ≤ count
+    pub from-in : (gs : Columns) (i count : ℕ) → i + countColumns gs ≤ count → (v ≡ ByName → UnmarkedAll requiredOf gs)
         → Answers (λ ss. Unit {0}) (ColumnRefusal (columnRefusals v) count) (buildFrom v p d gs fs i)
     unfolding buildFrom countColumns
-    from-in cnil i count h = in-accepted tt
-    from-in (ccons l u gs) i count h =
-        placed-in i (column-in l u) (λ n e. record { among = e; place = omega (arith, h) })
-        (λ s. answered-in (from-in gs (i + 1) count (omega (arith, h))) (λ n k r. r) (λ ss x. in-accepted tt))
+    from-in cnil i count h m = in-accepted tt
+    from-in (ccons l u gs) i count h m =
+        placed-in i (column-in l u (λ q. (column-bare (m q) .0, column-bare (m q) .1 .0))) (λ n e. record { among = e; place = omega (arith, h) })
+        (λ s. answered-in (from-in gs (i + 1) count (omega (arith, h)) (λ q. column-bare (m q) .1 .1)) (λ n k r. r) (λ ss x. in-accepted tt))
 
-    pub build-in : (to : Columns) → Answers (λ ss. Unit {0}) (BuildRefusal v (countColumns fs) (countColumns to)) (build v p d fs to)
+    pub build-in : (to : Columns) → (v ≡ ByName → UnmarkedAll requiredOf to)
+        → Answers (λ ss. Unit {0}) (BuildRefusal v (countColumns fs) (countColumns to)) (build v p d fs to)
     unfolding build
-    build-in to =
+    build-in to m =
         answered-in (extra-in v (p .«extra_columns») fs to) (λ n k r. by-extra r) (λ x u.
-        answers-as (from-in to 0 (countColumns to) (omega arith)) (λ n k r. by-column r))
+        answers-as (from-in to 0 (countColumns to) (omega arith) m) (λ n k r. by-column r))
 
 -- 27, and what is written is no longer than a plan may be
 pub plan-written-in : (space : ℕ) (ss : Selectors) {P : ℕ → ℕ → Type 0} → P 27 0 → Answers (λ b. length b ≤ longestPlan) P (writtenPlan space ss)

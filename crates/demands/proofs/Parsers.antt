@@ -1,27 +1,29 @@
 -- With which numbers each parser can refuse: those of layouts, tables of defaults, values and records. Assumes nothing.
 use Prim.Native.Nat.{ℕ, zero, suc}
 use mathlib.Core.Path.{_≡_, refl}
-use mathlib.Core.Bool.{true}
+use mathlib.Core.Bool.{Bool, true}
 use mathlib.Core.List.{List, [], _∷_, _++_}
 use Rattle.layout.specs.Bytes.{Bytes}
 use Rattle.layout.specs.Parser.{Res, refuse, ok, Parser, choose, byte, chunk, u16, u32}
-use Rattle.layout.specs.Tree.{leafOf, Label, ColumnType, DataType, leaf, struct, list, array, Fields, fnil, fcons}
+use Rattle.layout.specs.Tree.{LeafType, leafOf, Label, ColumnType, cleaf, cstruct, clist, carray, Columns, cnil, ccons, leaf}
 use Rattle.layout.specs.Layout.{Kind, aLeaf, aStruct, aList, anArray, plainLeaf, text, unit, leafKind, datetimeKind, decimalParams, decimalKind}
-use Rattle.layout.specs.Layout.{structKind, arrayKind, kindOf, kind, fieldId, label, elementLabel, columns, listType, arrayType, structType, body}
-use Rattle.layout.specs.Layout.{type, topRule, innerRule, deepest, version, sized, ended, counted, layoutFrom, layout}
+use Rattle.layout.specs.Layout.{structKind, arrayKind, kindOf, kind, fieldId, requiredMark, fieldMark, labelRest, label, elementLabel, columns, listType, arrayType, structType, body}
+use Rattle.layout.specs.Layout.{type, topRule, innerRule, deepest, edition, sized, ended, counted, layoutFrom, layout}
 use Rattle.layout.specs.declared.leaf.Leaf.{Leaf}
 use Rattle.layout.specs.declared.types.PlainLeaf.{PlainLeaf}
 use Rattle.layout.specs.declared.types.PlainLeaf.the-variants.{Known, Unknown}
 use Rattle.layout.specs.declared.columns.Siblings.{Siblings}
-use Rattle.layout.specs.declared.matching.Matching.{Matching}
-use Rattle.layout.specs.declared.matching.Matching.the-variants.{ByName, ByNumber}
+use Rattle.layout.specs.declared.edition.Edition.{Edition}
+use Rattle.layout.specs.declared.edition.Edition.the-variants.{One, Two, Three}
 use Rattle.values.specs.Value.{Value}
 use Rattle.values.specs.Content.{contentOf}
 use Rattle.values.specs.declared.content.Content.{Content}
 use Rattle.values.specs.declared.content.Content.the-variants.{Nothing, Flag, Number, Decimal, Text}
 use Rattle.values.specs.Reading.{presence, nullable, flag, decimal, longText, contentBy, leafContent}
-use Rattle.values.specs.Reading.{times, listContent, arrayContent, structContent, content, values, value}
-use Rattle.values.specs.Record.{recordNumber, renumber, shortEnough, ended as recordEnded, recordFrom, recordOf}
+use Rattle.values.specs.Reading.{times, listContent, arrayContent, structContent, content, value}
+use Rattle.values.specs.Filled.{requiredOf}
+use Rattle.values.specs.Marked.{presenceMarked, nullableMarked, contentMarked, valuesMarked}
+use Rattle.values.specs.Record.{recordNumber, renumber, shortEnough, ended as recordEnded, recordMarkedFrom, recordMarked}
 use Rattle.defaults.specs.Table.{OwnedEntry, onlyLeaf, defaultType, initialEntry, loadedEntry, partitionEntry, entryKind, givenOf}
 use Rattle.defaults.specs.Table.{tableNumber, entry, ownerOf, ownedEntry, entries, tableVersion, countedTable, tableFrom, table}
 use Rattle.defaults.specs.declared.read.EntryKind.{EntryKind}
@@ -36,6 +38,10 @@ use Rattle.demands.proofs.Refusing.{all, RefusesIn, in-ok, in-refuse, n
 -- a value's numbers, which a record has in its own (`recordNumber`)
 abbrev pub valueRefusals : List ℕ
 valueRefusals = 2 ∷ 3 ∷ 52 ∷ []
+
+-- and where required marks count (document 02, L5)
+abbrev markedRefusals : List ℕ
+markedRefusals = 56 ∷ valueRefusals
 
 -- an entry's numbers, before 50 and 52 are 3 (`tableNumber`)
 abbrev entryRefusals : List ℕ
@@ -116,21 +122,29 @@ module _ (s : Bytes) where
   unfolding kind isIn
   kind-in at = next-in (byte-in refl s at) (λ c i. kind-of-in c i)
 
-  field-id-in : (v : Matching) (at : ℕ) → RefusesIn layoutRefusals (fieldId v s at)
+  field-id-in : (v : Edition) (at : ℕ) → RefusesIn layoutRefusals (fieldId v s at)
   unfolding fieldId isIn
-  field-id-in ByName at = in-ok
-  field-id-in ByNumber at = u32-in refl s at
+  field-id-in One at = in-ok
+  field-id-in Two at = u32-in refl s at
+  field-id-in Three at = u32-in refl s at
 
-  label-in : (v : Matching) (at : ℕ) → RefusesIn layoutRefusals (label v s at)
-  unfolding label isIn all
-  label-in v at = next-in (wider refl (text-in at)) (λ n i. next-in (field-id-in v i) (λ k j. in-ok))
+  mark-in : (v : Edition) (at : ℕ) → RefusesIn layoutRefusals (fieldMark v s at)
+  unfolding fieldMark requiredMark isIn
+  mark-in One at = in-ok
+  mark-in Two at = in-ok
+  mark-in Three at = next-in (byte-in refl s at) (λ b i. choose-in _ in-ok (choose-in _ in-ok (in-refuse refl)))
 
-  element-label-in : (v : Matching) (at : ℕ) → RefusesIn layoutRefusals (elementLabel v s at)
+  label-in : (v : Edition) (at : ℕ) → RefusesIn layoutRefusals (label v s at)
+  unfolding label labelRest isIn all
+  label-in v at = next-in (wider refl (text-in at)) (λ n i. next-in (field-id-in v i) (λ k j. next-in (mark-in v j) (λ r m. in-ok)))
+
+  element-label-in : (v : Edition) (at : ℕ) → RefusesIn layoutRefusals (elementLabel v s at)
   unfolding elementLabel
-  element-label-in ByName at = in-ok
-  element-label-in ByNumber at = label-in ByNumber at
+  element-label-in One at = in-ok
+  element-label-in Two at = label-in Two at
+  element-label-in Three at = label-in Three at
 
-  module _ (v : Matching) (r : Siblings) (p : Parser ColumnType) (o : (at : ℕ) → RefusesIn layoutRefusals (p s at)) where
+  module _ (v : Edition) (r : Siblings) (p : Parser ColumnType) (o : (at : ℕ) → RefusesIn layoutRefusals (p s at)) where
     columns-in : (n : ℕ) (earlier : List Label) (at : ℕ) → RefusesIn layoutRefusals (columns v r p n earlier s at)
     unfolding columns isIn
     columns-in zero earlier at = in-ok
@@ -147,16 +161,16 @@ module _ (s : Bytes) where
     body-in aList at = next-in (element-label-in v at) (λ l i. next-in (o i) (λ t j. in-ok))
     body-in (anArray w) at = next-in (element-label-in v at) (λ l i. next-in (o i) (λ t j. in-ok))
 
-  type-in : (v : Matching) (r : Siblings) (d at : ℕ) → RefusesIn layoutRefusals (type v r d s at)
+  type-in : (v : Edition) (r : Siblings) (d at : ℕ) → RefusesIn layoutRefusals (type v r d s at)
   unfolding type isIn
   type-in v r zero at = in-refuse refl
   type-in v r (suc d) at = next-in (kind-in at) (λ k i. body-in v r (type v r d) (type-in v r d) k i)
 
-  version-in : (at : ℕ) → RefusesIn layoutRefusals (version s at)
-  unfolding version isIn
-  version-in at = choose-in _ in-ok (choose-in _ in-ok (in-refuse refl))
+  edition-in : (at : ℕ) → RefusesIn layoutRefusals (edition s at)
+  unfolding edition isIn
+  edition-in at = choose-in _ in-ok (choose-in _ in-ok (choose-in _ in-ok (in-refuse refl)))
 
-  counted-in : (v : Matching) (at : ℕ) → RefusesIn layoutRefusals (counted v s at)
+  counted-in : (v : Edition) (at : ℕ) → RefusesIn layoutRefusals (counted v s at)
   unfolding counted isIn all
   counted-in v at =
       next-in (u16-in refl s at) (λ n i.
@@ -165,7 +179,7 @@ module _ (s : Bytes) where
 
   pub layout-in : RefusesIn layoutRefusals (layout s)
   unfolding layout layoutFrom isIn all
-  layout-in = next-in (wider refl (sized-in 0)) (λ u i. next-in (version-in i) (λ v j. counted-in v j))
+  layout-in = next-in (wider refl (sized-in 0)) (λ u i. next-in (edition-in i) (λ v j. counted-in v j))
 
   -- ---- a value
 
@@ -185,32 +199,38 @@ module _ (s : Bytes) where
   content-by-in (Decimal p) k at = next-in (next-in (chunk-in refl s 8 at) (λ b i. choose-in _ in-ok (in-refuse refl))) (λ n i. in-ok)
   content-by-in Text k at = next-in (next-in (u16-in refl s at) (λ n i. chunk-in refl s n i)) (λ b i. in-ok)
 
-  module _ (p : Parser Value) (o : (at : ℕ) → RefusesIn valueRefusals (p s at)) where
-    nullable-in : (at : ℕ) → RefusesIn valueRefusals (nullable p s at)
-    unfolding nullable
-    nullable-in at = next-in (presence-in at) (λ b i. choose-in b (o i) in-ok)
-
-    times-in : (n at : ℕ) → RefusesIn valueRefusals (times n p s at)
+  module _ {ns : List ℕ} (p : Parser Value) (o : (at : ℕ) → RefusesIn ns (p s at)) where
+    times-in : (n at : ℕ) → RefusesIn ns (times n p s at)
     unfolding times
     times-in zero at = in-ok
     times-in (suc n) at = next-in (o at) (λ v i. next-in (times-in n i) (λ vs j. in-ok))
 
-  mutual
-    unfolding content values leafContent structContent listContent arrayContent isIn
+  -- a leaf of a table of defaults
+  value-in : (l : LeafType) (at : ℕ) → RefusesIn valueRefusals (value (leaf l) s at)
+  unfolding value nullable content leafContent
+  value-in l at = next-in (presence-in at) (λ b i. choose-in b (content-by-in (contentOf (leafOf l)) (leafOf l) i) in-ok)
 
-    content-in : (t : DataType) (at : ℕ) → RefusesIn valueRefusals (content t s at)
-    content-in (leaf l) at = content-by-in (contentOf (leafOf l)) (leafOf l) at
-    content-in (struct fs) at = next-in (values-in fs at) (λ vs i. in-ok)
-    content-in (list t) at = next-in (u16-in refl s at) (λ n i. next-in (times-in _ (nullable-in _ (λ j. content-in t j)) n i) (λ vs j. in-ok))
-    content-in (array w t) at = next-in (times-in _ (nullable-in _ (λ j. content-in t j)) w at) (λ vs i. in-ok)
+  -- 56 at the presence byte of a required column
+  module _ (r : Bool) (p : Parser Value) (o : (at : ℕ) → RefusesIn markedRefusals (p s at)) where
+    nullable-in : (at : ℕ) → RefusesIn markedRefusals (nullableMarked r p s at)
+    unfolding nullableMarked presenceMarked isIn all
+    nullable-in at =
+        next-in (next-in (wider refl (presence-in at)) (λ b i. choose-in b in-ok (choose-in r (in-refuse refl) in-ok))) (λ b i. choose-in b (o i) in-ok)
 
-    values-in : (fs : Fields) (at : ℕ) → RefusesIn valueRefusals (values fs s at)
-    values-in fnil at = in-ok
-    values-in (fcons n t fs) at = next-in (nullable-in _ (λ j. content-in t j) at) (λ v i. next-in (values-in fs i) (λ vs j. in-ok))
+  module _ (mark : Label → Bool) where
+    mutual
+      unfolding contentMarked valuesMarked leafContent structContent listContent arrayContent isIn all
 
-  value-in : (t : DataType) (at : ℕ) → RefusesIn valueRefusals (value t s at)
-  unfolding value
-  value-in t at = nullable-in _ (λ j. content-in t j) at
+      content-in : (t : ColumnType) (at : ℕ) → RefusesIn markedRefusals (contentMarked mark t s at)
+      content-in (cleaf l) at = wider refl (content-by-in (contentOf (leafOf l)) (leafOf l) at)
+      content-in (cstruct cs) at = next-in (values-in cs at) (λ vs i. in-ok)
+      content-in (clist l t) at =
+          next-in (u16-in refl s at) (λ n i. next-in (times-in _ (nullable-in (mark l) _ (λ j. content-in t j)) n i) (λ vs j. in-ok))
+      content-in (carray w l t) at = next-in (times-in _ (nullable-in (mark l) _ (λ j. content-in t j)) w at) (λ vs i. in-ok)
+
+      values-in : (cs : Columns) (at : ℕ) → RefusesIn markedRefusals (valuesMarked mark cs s at)
+      values-in cnil at = in-ok
+      values-in (ccons l t cs) at = next-in (nullable-in (mark l) _ (λ j. content-in t j) at) (λ v i. next-in (values-in cs i) (λ vs j. in-ok))
 
   -- ---- a table of defaults
 
@@ -231,11 +251,11 @@ module _ (s : Bytes) where
 
   given-of-in : (k : EntryKind) (at : ℕ) → RefusesIn entryRefusals (givenOf k s at)
   unfolding givenOf initialEntry partitionEntry loadedEntry isIn all
-  given-of-in Initial at = next-in (default-type-in at) (λ l i. next-in (wider refl (value-in (leaf l) i)) (λ v j. in-ok))
+  given-of-in Initial at = next-in (default-type-in at) (λ l i. next-in (wider refl (value-in l i)) (λ v j. in-ok))
   given-of-in Partition at =
       next-in (byte-in refl s at) (λ b i.
       choose-in _
-      (next-in (default-type-in i) (λ l j. next-in (u16-in refl s j) (λ n m. next-in (wider refl (times-in _ (value-in (leaf l)) n m)) (λ vs o. in-ok))))
+      (next-in (default-type-in i) (λ l j. next-in (u16-in refl s j) (λ n m. next-in (wider refl (times-in _ (value-in l) n m)) (λ vs o. in-ok))))
       (choose-in _ in-ok (in-refuse refl)))
 
   entry-kind-in : (at : ℕ) → RefusesIn tableRefusals (entryKind s at)
@@ -272,15 +292,15 @@ module _ (s : Bytes) where
 
   -- ---- a record, and a plan
 
-  record-values-in : (fs : Fields) (at : ℕ) → RefusesIn recordRefusals (renumber recordNumber (values fs s at))
+  record-values-in : (cs : Columns) (at : ℕ) → RefusesIn recordRefusals (renumber recordNumber (valuesMarked requiredOf cs s at))
   unfolding recordNumber choose isIn all
-  record-values-in fs at = renumber-in recordNumber refl (values-in fs at)
+  record-values-in cs at = renumber-in recordNumber refl (values-in requiredOf cs at)
 
-  pub record-in : (fs : Fields) → RefusesIn recordRefusals (recordOf fs s)
-  unfolding recordOf recordFrom shortEnough recordEnded isIn
-  record-in fs =
+  pub record-in : (cs : Columns) → RefusesIn recordRefusals (recordMarked requiredOf cs s)
+  unfolding recordMarked recordMarkedFrom shortEnough recordEnded isIn
+  record-in cs =
       next-in (choose-in _ in-ok (in-refuse refl)) (λ u i.
-      next-in (record-values-in fs i) (λ vs j.
+      next-in (record-values-in cs i) (λ vs j.
       next-in (choose-in _ in-ok (in-refuse refl)) (λ x k. in-ok)))
 
   -- "30 plan malformed", whatever the fault

@@ -4,19 +4,30 @@ use mathlib.Core.Path.{_≡_, refl, sym, ap, _∙_}
 use mathlib.Core.Bool.{Bool, true, false}
 use mathlib.Core.Logic.{_↔_, _⊎_, inl, inr}
 use native.Mathlib.Omega.{arith}
+use lib.ListN.{length}
+use lib.Dec.{leb}
+use borrow.Author.Tests.{leb-true}
 use Rattle.layout.specs.Bytes.{Bytes, AllBytes}
 use Rattle.layout.specs.Parser.{Res, ok}
-use Rattle.layout.specs.Tree.{Layout, fieldsOf}
+use Rattle.layout.specs.Tree.{Layout, Columns, fieldsOf}
 use Rattle.layout.specs.Layout.{layout}
 use Rattle.layout.proofs.Ways.{clash}
 use Rattle.values.specs.Value.{Values}
-use Rattle.values.specs.Record.{recordOf, RecordFits}
+use Rattle.values.specs.Filled.{requiredOf, FilledAll}
+use Rattle.values.specs.Record.{recordOf, recordMarked}
+use Rattle.values.proofs.Round.{record-back, record-forth}
+use Rattle.values.proofs.Kept.{record-kept}
 use Rattle.plan.specs.Result.{Answer, accepted, refusedAt, answered}
 use Rattle.plan.specs.Read.{plan}
+use Rattle.plan.specs.Selector.{Selectors}
 use Rattle.plan.specs.Check.{check}
-use Rattle.plan.specs.Run.{spacious, run}
+use Rattle.plan.specs.Marks.{checkMarked}
+use Rattle.plan.specs.Run.{evals, spacious, run}
 use Rattle.plan.specs.Reach.{ReachesOverflow}
 use Rattle.plan.specs.Calls.{readAt, readPlan, checkPlan, runPlan}
+use Rattle.plan.proofs.Results.{both, answered-accepted}
+use Rattle.plan.proofs.ReadBack.{plan-back}
+use Rattle.plan.proofs.Sound.{passed-filled}
 use Rattle.plan.proofs.Theorems.{Runs, bytes-run}
 use Rattle.matching.proofs.Calls.{read-at}
 use Rattle.demands.specs.Stated.{FitsLayout, SelectorsOf, output, Running}
@@ -30,7 +41,7 @@ pub record Passed (incoming target bytes : Bytes) : Type 0 where
   pub fromReads : layout incoming ≡ ok from fromEnd
   pub toReads : layout target ≡ ok to toEnd
   pub plan : SelectorsOf bytes
-  pub passes : check (fieldsOf (from .columns)) (fieldsOf (to .columns)) (plan .selectors) ≡ accepted tt
+  pub passes : checkMarked (from .columns) (to .columns) (plan .selectors) ≡ accepted tt
 
 pub passed : (incoming target bytes : Bytes) → checkPlan incoming target bytes ≡ accepted tt → Passed incoming target bytes
 unfolding checkPlan readPlan
@@ -40,8 +51,13 @@ passed incoming target bytes e =
     let (ss, k, r, e) = read-at 0 (plan bytes) _ e in
     record { from = a; to = b; fromEnd = m; toEnd = n; fromReads = p; toReads = q; plan = record { selectors = ss; end = k; reads = r }; passes = e }
 
+-- the types pass, up to 33
+types-pass : (Γ Δ : Columns) (ss : Selectors) → checkMarked Γ Δ ss ≡ accepted tt → check (fieldsOf Γ) (fieldsOf Δ) ss ≡ accepted tt
+unfolding checkMarked
+types-pass Γ Δ ss e = answered-accepted _ _ e .1
+
 -- the run of what passed, over a record that was read
-run-is : {incoming target bytes : Bytes} (P : Passed incoming target bytes) (rec : Bytes) {ρ : Values} {k : ℕ} → recordOf (fieldsOf (P .from .columns)) rec ≡ ok ρ k → (room : ℕ)
+run-is : {incoming target bytes : Bytes} (P : Passed incoming target bytes) (rec : Bytes) {ρ : Values} {k : ℕ} → recordMarked requiredOf (P .from .columns) rec ≡ ok ρ k → (room : ℕ)
     → runPlan incoming target bytes rec room ≡ run ρ (P .plan .selectors) room
 unfolding runPlan readPlan readAt answered
 run-is P rec r room = rw (P .fromReads, P .toReads, P .plan .reads, P .passes, r)
@@ -50,25 +66,44 @@ pub ok-eq : {A : Type 0} {x : Res A} {a b : A} {m n : ℕ} → x ≡ ok a m → 
 ok-eq p q = cc
 
 -- a layout reads as one
-same-read : {incoming target bytes rec : Bytes} (P : Passed incoming target bytes) (F : FitsLayout incoming rec) → recordOf (fieldsOf (P .from .columns)) rec ≡ ok (F .values) (F .end)
-same-read {rec = rec} P F = ap (λ (l : Layout). recordOf (fieldsOf (l .columns)) rec) (ok-eq (P .fromReads) (F .layoutReads)) ∙ F .reads
+same-read : {incoming target bytes rec : Bytes} (P : Passed incoming target bytes) (F : FitsLayout incoming rec) → recordMarked requiredOf (P .from .columns) rec ≡ ok (F .values) (F .end)
+same-read {rec = rec} P F = ap (λ (l : Layout). recordMarked requiredOf (l .columns) rec) (ok-eq (P .fromReads) (F .layoutReads)) ∙ F .reads
 
 module _ (incoming target bytes rec : Bytes) (ob : AllBytes bytes) (or : AllBytes rec) (passes : checkPlan incoming target bytes ≡ accepted tt) (F : FitsLayout incoming rec) (room : ℕ) where
   P : Passed incoming target bytes
   P = passed incoming target bytes passes
 
+  -- without the marks, and that there is no null in a required field
+  unmarked-read : (recordOf (fieldsOf (P .from .columns)) rec ≡ ok (F .values) (F .end)) × FilledAll requiredOf (P .from .columns) (F .values)
+  unmarked-read = record-kept requiredOf rec (P .from .columns) .forth (F .values) (F .end) (same-read P F)
+
   runs : Runs (fieldsOf (P .to .columns)) (F .values) (P .plan .selectors) room
-  runs = bytes-run (fieldsOf (P .from .columns)) (fieldsOf (P .to .columns)) bytes rec ob or (P .plan .reads) (same-read P F) (P .passes) room
+  runs = bytes-run (fieldsOf (P .from .columns)) (fieldsOf (P .to .columns)) bytes rec ob or (P .plan .reads) (unmarked-read .0) (types-pass _ _ _ (P .passes)) room
+
+  -- "An accepted plan must never give null to a required field" (document 02, L5)
+  output-filled : FilledAll requiredOf (P .to .columns) (evals (F .values) (P .plan .selectors))
+  output-filled =
+      passed-filled (P .to .columns) (plan-back bytes ob (P .plan .reads) .formed) (P .passes)
+      (record-back (fieldsOf (P .from .columns)) rec or (F .values) (F .end) (unmarked-read .0) .fits) (unmarked-read .1)
 
   is : runPlan incoming target bytes rec room ≡ run (F .values) (P .plan .selectors) room
   is = run-is P rec (same-read P F) room
 
-  fits-target : {b : Bytes} → RecordFits (fieldsOf (P .to .columns)) b → FitsLayout target b
-  fits-target r = record { read = P .to; layoutEnd = P .toEnd; layoutReads = P .toReads; values = r .values; end = r .end; reads = r .reads }
+  -- the output's bytes are read as its values, 56 tested
+  output-reads : (ReachesOverflow (F .values) (P .plan .selectors) → ⊥) → spacious room (output (F .values) (P .plan .selectors)) ≡ true
+      → recordMarked requiredOf (P .to .columns) (output (F .values) (P .plan .selectors)) ≡ ok (evals (F .values) (P .plan .selectors)) (length (output (F .values) (P .plan .selectors)))
+  unfolding spacious
+  output-reads n s =
+      let (w, (f, r)) = runs .writes n s in
+      let l = leb-true _ _ (both (leb (length (output (F .values) (P .plan .selectors))) room) s .1) in
+      record-kept requiredOf (output (F .values) (P .plan .selectors)) (P .to .columns) .back _ _ (record-forth f l) output-filled
 
   writes : (ReachesOverflow (F .values) (P .plan .selectors) → ⊥) → spacious room (output (F .values) (P .plan .selectors)) ≡ true
       → (runPlan incoming target bytes rec room ≡ accepted (output (F .values) (P .plan .selectors))) × FitsLayout target (output (F .values) (P .plan .selectors))
-  writes n s = let (w, (f, r)) = runs .writes n s in (is ∙ w, fits-target r)
+  writes n s = (
+    is ∙ runs .writes n s .0,
+    record { read = P .to; layoutEnd = P .toEnd; layoutReads = P .toReads; values = _; end = _; reads = output-reads n s },
+  )
 
   exceeds : (ReachesOverflow (F .values) (P .plan .selectors) → ⊥) → spacious room (output (F .values) (P .plan .selectors)) ≡ false
       → runPlan incoming target bytes rec room ≡ refusedAt 45 0

@@ -10,7 +10,6 @@ use borrow.Author.Tests.{leb-true}
 use Rattle.layout.specs.Bytes.{Bytes, AllBytes}
 use Rattle.layout.specs.Parser.{ok}
 use Rattle.layout.specs.Tree.{Layout, Columns, Fields, fieldsOf}
-use Rattle.layout.specs.Layout.{layout}
 use Rattle.layout.specs.declared.columns.FieldId.{FieldId}
 use Rattle.layout.specs.declared.matching.Matching.the-variants.{ByNumber}
 use Rattle.layout.proofs.Ways.{clash}
@@ -18,7 +17,9 @@ use Rattle.rules.specs.declared.policy.Policy.{Policy}
 use Rattle.values.specs.Value.{Values}
 use Rattle.values.specs.Encode.{encodeValues}
 use Rattle.values.specs.Record.{recordOf}
+use Rattle.values.specs.Filled.{requiredOf}
 use Rattle.values.proofs.Round.{record-forth}
+use Rattle.values.proofs.Kept.{record-kept}
 use Rattle.plan.specs.Result.{gives, demand, Answer, accepted, refusedAt, placed, answered}
 use Rattle.plan.specs.Encode.{encodePlan}
 use Rattle.plan.specs.Selector.{Selectors}
@@ -31,7 +32,7 @@ use Rattle.defaults.specs.Table.{Entry, entriesOf, TableTree, table}
 use Rattle.defaults.specs.Lookup.{getDefaultValue}
 use Rattle.matching.specs.Default.{Defaults}
 use Rattle.matching.specs.Build.{build}
-use Rattle.matching.specs.Calls.{ofVersion, bothLayouts, roomFor, writtenPlan, buildByNumber}
+use Rattle.matching.specs.Calls.{takes, ofEdition, ReadFor, bothLayouts, roomFor, writtenPlan, buildByNumber}
 use Rattle.matching.specs.Due.{dueLeaf}
 use Rattle.matching.proofs.Calls.{Built, by-number-built, built-runs}
 use Rattle.iceberg.specs.Specification.{ReadsAll}
@@ -69,15 +70,17 @@ module _ {Δ : Fields} {ρ : Values} {ss : Selectors} {room : ℕ} (R : Runs Δ 
 module _ {p : Policy} {d : Defaults} {incoming target bytes rec : Bytes} (B : Built ByNumber p d incoming target bytes) (or : AllBytes rec)
     (F : FitsLayout incoming rec) where
   incoming-distinct : DistinctIdsAll (columnsOf F)
-  incoming-distinct = layout-distinct incoming (F .layoutReads) (ap (λ (l : Layout). l .version) (ok-eq (F .layoutReads) (B .incomingRead)))
+  incoming-distinct =
+      let I = B .incomingRead in
+      layout-distinct incoming (F .layoutReads) (ap (λ (l : Layout). takes ByNumber (l .edition)) (ok-eq (F .layoutReads) (I .reads)) ∙ I .taken)
 
   module _ (room : ℕ) {out : Bytes} (ran : runPlan incoming target bytes rec room ≡ accepted out) (G : FitsLayout target out) where
     to-eq : columnsOf G ≡ B .to
-    to-eq = ap (λ (l : Layout). l .columns) (ok-eq (G .layoutReads) (B .targetRead))
+    to-eq = ap (λ (l : Layout). l .columns) (ok-eq (G .layoutReads) (B .targetRead .reads))
 
     output-is : G .values ≡ evals (F .values) (B .selectors)
     output-is =
-        ok-eq (ap (λ (cs : Columns). recordOf (fieldsOf cs) out) (sym to-eq) ∙ G .reads)
+        ok-eq (ap (λ (cs : Columns). recordOf (fieldsOf cs) out) (sym to-eq) ∙ record-kept requiredOf out (columnsOf G) .forth (G .values) (G .end) (G .reads) .0)
         (output-reads (built-runs B (record-fits B or F) room) (sym (run-is B or F room) ∙ ran))
 
 -- For every plan that `buildByNumber` writes, with the owner's entries of the defaults table that was read, and every record that fits the
@@ -123,10 +126,10 @@ module _ (p : Policy) (index owner : ℕ) (incoming target defaults rec : Bytes)
 
 -- Where the layouts and the table are read and the build is refused, other than for the plan's length (27), it is for a
 -- listed reason.
-module _ (p : Policy) (index owner : ℕ) (incoming target defaults : Bytes) (space : ℕ) where
+module _ (p : Policy) (index owner : ℕ) (incoming target defaults : Bytes) (space : ℕ) (nulls : Bool) (empties : FieldId → Bool) where
   long-or-listed : {es : List Entry} {Γ Δ : Columns} {n j : ℕ}
       → answered (build ByNumber p (getDefaultValue es index) Γ Δ) (λ ss. writtenPlan space ss) ≡ refusedAt n j
-      → (n ≡ 27) ⊎ RefusesBuild p es n Δ Γ
+      → (n ≡ 27) ⊎ RefusesBuild p es (stated nulls es index empties) n Δ Γ
   unfolding answered writtenPlan placed demand
   long-or-listed {es} {Γ} {Δ} {n} {j} e = go (build ByNumber p (getDefaultValue es index) Γ Δ) refl e
     where
@@ -135,13 +138,12 @@ module _ (p : Policy) (index owner : ℕ) (incoming target defaults : Bytes) (sp
       long false ss e = sym (number-eq e)
 
       go : (x : Answer Selectors) → build ByNumber p (getDefaultValue es index) Γ Δ ≡ x → answered x (λ ss. writtenPlan space ss) ≡ refusedAt n j
-          → (n ≡ 27) ⊎ RefusesBuild p es n Δ Γ
+          → (n ≡ 27) ⊎ RefusesBuild p es (stated nulls es index empties) n Δ Γ
       go (accepted ss) h e = inl (long (roomFor space (encodePlan ss)) ss e)
-      go (refusedAt m k) h e = inr (rw (← number-eq e) (build-refused p es index Γ Δ h))
+      go (refusedAt m k) h e = inr (rw (← number-eq e) (build-refused p nulls es index empties Γ Δ h))
 
-  pub by-number-refused : {t : TableTree} {Γ Δ : Columns} {a b e n j : ℕ} → layout incoming ≡ ok (record { version = ByNumber; columns = Γ }) a
-      → layout target ≡ ok (record { version = ByNumber; columns = Δ }) b → table defaults ≡ ok t e
+  pub by-number-refused : {t : TableTree} {Γ Δ : Columns} {e n j : ℕ} → ReadFor ByNumber incoming Γ → ReadFor ByNumber target Δ → table defaults ≡ ok t e
       → buildByNumber p index owner incoming target defaults space ≡ refusedAt n j
-      → (n ≡ 27) ⊎ RefusesBuild p (entriesOf owner (t .entries)) n Δ Γ
-  unfolding buildByNumber bothLayouts ofVersion readAt placed demand
-  by-number-refused x y z e = long-or-listed (rw (x, y, z) at e)
+      → (n ≡ 27) ⊎ RefusesBuild p (entriesOf owner (t .entries)) (stated nulls (entriesOf owner (t .entries)) index empties) n Δ Γ
+  unfolding buildByNumber bothLayouts ofEdition readAt placed demand
+  by-number-refused x y z e = long-or-listed (rw (x .reads, y .reads, x .taken, y .taken, z) at e)

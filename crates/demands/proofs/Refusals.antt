@@ -9,16 +9,16 @@ use lib.Dec.{ltb}
 use borrow.Author.Tests.{ltb-true}
 use Rattle.layout.specs.Bytes.{Bytes, AllBytes}
 use Rattle.layout.specs.Parser.{Res, refuse, ok, choose}
-use Rattle.layout.specs.Tree.{Layout, Columns, countColumns, Fields, fieldsOf}
+use Rattle.layout.specs.Tree.{Layout, Columns, countColumns}
 use Rattle.layout.specs.Layout.{layout}
 use Rattle.layout.specs.declared.matching.Matching.{Matching}
 use Rattle.layout.specs.declared.matching.Matching.the-variants.{ByName, ByNumber}
 use Rattle.rules.specs.declared.policy.Policy.{Policy}
 use Rattle.values.specs.Record.{longest}
-use Rattle.plan.specs.Result.{Answer, answered}
+use Rattle.plan.specs.Result.{gives, demand, Answer, placed, answered}
 use Rattle.plan.specs.Selector.{Selectors, countSelectors}
 use Rattle.plan.specs.Read.{plan, longestPlan}
-use Rattle.plan.specs.Check.{check}
+use Rattle.plan.specs.Marks.{checkMarked}
 use Rattle.plan.specs.Calls.{readAt, readPlan, checkPlan, runPlan}
 use Rattle.plan.proofs.Results.{both, true≠false}
 use Rattle.plan.proofs.ReadBack.{plan-back}
@@ -28,14 +28,15 @@ use Rattle.defaults.specs.Table.{entriesOf}
 use Rattle.defaults.specs.Lookup.{getDefaultValue}
 use Rattle.matching.specs.Default.{Defaults, noDefaults}
 use Rattle.matching.specs.Build.{build}
-use Rattle.matching.specs.Calls.{ofVersion, bothLayouts, writtenPlan, buildByName, buildByNumber}
+use Rattle.matching.specs.Calls.{takes, ofEdition, ReadFor, bothLayouts, writtenPlan, buildByName, buildByNumber}
 use Rattle.demands.specs.Refusals.{isIn, layoutRefusals, tableRefusals, extraRefusals, columnRefusals, recordRefusals, Call, readingLayout, building, checkingPlan}
 use Rattle.demands.specs.Refusals.{refusalsOf, layoutPlaced, columnPlaced, incomingPlaced, placeOf, layoutMet, columnMet, refusalIn, FirstRefused, Refusal, Placed}
 use Rattle.demands.specs.Refusals.{running, readLayout, layoutsRead, tableRead, columnsIn, columnCount, selectorsIn, selectorCount}
-use Rattle.demands.proofs.Refusing.{all, all-in, RefusesIn, refused-in, demand-in, in-gives, Answers, in-accepted, read-in, placed-in, answered-in, BuildRefusal, by-extra, by-column}
+use Rattle.demands.proofs.Refusing.{all, all-in, RefusesIn, refused-in, Answers, in-accepted, in-refusedAt, read-in, answered-in, BuildRefusal, by-extra, by-column}
 use Rattle.demands.proofs.Parsers.{layout-in, table-in, record-in, plan-in}
+use Rattle.demands.proofs.Built.{named-unmarked}
 use Rattle.demands.proofs.Numbers.{DefaultsIn, none-in, lookup-in, build-in, plan-written-in}
-use Rattle.demands.proofs.Selectors.{selectorRefusals, check-in, run-in}
+use Rattle.demands.proofs.Selectors.{selectorRefusals, check-marked-in, run-in}
 
 -- ---- a number, and where it is met
 
@@ -122,10 +123,10 @@ table-as : all (asThing (building ByNumber)) tableRefusals ≡ true
 unfolding all met has isIn
 table-as = refl
 
-version-as : (v : Matching) → all (asOther (building v)) (10 ∷ []) ≡ true
+edition-as : (v : Matching) → all (asOther (building v)) (10 ∷ []) ≡ true
 unfolding all met has isIn
-version-as ByName = refl
-version-as ByNumber = refl
+edition-as ByName = refl
+edition-as ByNumber = refl
 
 plan-length-as : (v : Matching) → asOther (building v) 27 ≡ true
 unfolding met has isIn
@@ -200,14 +201,20 @@ module _ (v : Matching) (p : Policy) (incoming target : Bytes) (ms : List ℕ) (
   abbrev Refused : ℕ → ℕ → Type 0
   Refused = Refusal (building v) (layoutsRead incoming target ms) (columnCount incoming) (columnCount target)
 
+  -- 10, and what follows where both editions are taken
+  taken-in : (x y : Bool) {z : Answer Bytes} → ((x ≡ true) → (y ≡ true) → Answers Short Refused z)
+      → Answers Short Refused (placed 0 (demand (x && y) 10 (gives tt)) (λ (u : Unit {0}). z))
+  unfolding placed demand isIn
+  taken-in true true h = h refl refl
+  taken-in true false h = in-refusedAt (at-zero (all-in (asOther (building v)) (10 ∷ []) 10 (edition-as v) refl) refl)
+  taken-in false y h = in-refusedAt (at-zero (all-in (asOther (building v)) (10 ∷ []) 10 (edition-as v) refl) refl)
+
   build-layouts-in : (f : Columns → Columns → Answer Bytes)
-      → ((a b : Layout) (i j : ℕ) → layout incoming ≡ ok a i → layout target ≡ ok b j → Answers Short Refused (f (a .columns) (b .columns)))
+      → ((a b : Layout) (i j : ℕ) → layout incoming ≡ ok a i → layout target ≡ ok b j → takes v (b .edition) ≡ true → Answers Short Refused (f (a .columns) (b .columns)))
       → Answers Short Refused (bothLayouts v incoming target f)
-  unfolding bothLayouts ofVersion isIn
+  unfolding bothLayouts ofEdition
   build-layouts-in f h =
-      layouts-in (building v) incoming target ms (λ a b i j p q.
-      placed-in {ns = 10 ∷ []} 0 (demand-in _ 10 refl in-gives) (λ n e. at-zero (all-in (asOther (building v)) (10 ∷ []) n (version-as v) e) refl) (λ x.
-      h a b i j p q))
+      layouts-in (building v) incoming target ms (λ a b i j p q. taken-in (takes v (a .edition)) (takes v (b .edition)) (λ x y. h a b i j p q y))
 
   -- 53 has its place among the incoming columns, a column's refusal among the target's
   built-in : {a b : Layout} {i j : ℕ} → layout incoming ≡ ok a i → layout target ≡ ok b j → (n k : ℕ)
@@ -216,17 +223,18 @@ module _ (v : Matching) (p : Policy) (incoming target : Bytes) (ms : List ℕ) (
   built-in e q n k (by-column r) = at-column (all-in (asColumn (building v)) (columnRefusals v) n (columns-as v) (r .among)) (counted target q (r .place))
 
   columns-in : (d : Defaults) → DefaultsIn (columnRefusals v) d → {a b : Layout} {i j : ℕ} → layout incoming ≡ ok a i → layout target ≡ ok b j
-      → Answers Short Refused (answered (build v p d (a .columns) (b .columns)) (λ ss. writtenPlan space ss))
-  columns-in d o {a} {b} e q =
-      answered-in (build-in v p d o (a .columns) (b .columns)) (built-in e q) (λ ss x. plan-written-in space ss (at-zero (plan-length-as v) refl))
+      → takes v (b .edition) ≡ true → Answers Short Refused (answered (build v p d (a .columns) (b .columns)) (λ ss. writtenPlan space ss))
+  columns-in d o {a} {b} {j = j} e q y =
+      let R : ReadFor v target (b .columns) = record { edition = b .edition; end = j; reads = q; taken = y } in
+      answered-in (build-in v p d o (a .columns) (b .columns) (named-unmarked v R)) (built-in e q) (λ ss x. plan-written-in space ss (at-zero (plan-length-as v) refl))
 
 pub by-name-in : (p : Policy) (incoming target : Bytes) (space : ℕ)
     → Answers (λ b. length b ≤ longestPlan) (Refusal (building ByName) (layoutsRead incoming target []) (columnCount incoming) (columnCount target))
     (buildByName p incoming target space)
 unfolding buildByName
 by-name-in p incoming target space =
-    build-layouts-in ByName p incoming target [] space _ (λ a b i j r q.
-    columns-in ByName p incoming target [] space noDefaults (none-in (columnRefusals ByName)) r q)
+    build-layouts-in ByName p incoming target [] space _ (λ a b i j r q y.
+    columns-in ByName p incoming target [] space noDefaults (none-in (columnRefusals ByName)) r q y)
 
 pub by-number-in : (p : Policy) (index owner : ℕ) (incoming target defaults : Bytes) (space : ℕ)
     → Answers (λ b. length b ≤ longestPlan) (Refusal (building ByNumber) (layoutsRead incoming target (tableRead defaults)) (columnCount incoming) (columnCount target))
@@ -234,10 +242,10 @@ pub by-number-in : (p : Policy) (index owner : ℕ) (incoming target defaults : 
 unfolding buildByNumber
 by-number-in p index owner incoming target defaults space =
     let more = tableRead defaults in
-    build-layouts-in ByNumber p incoming target more space _ (λ a b i j r q.
+    build-layouts-in ByNumber p incoming target more space _ (λ a b i j r q y.
     thing-in 3 [] (table-in defaults) table-as (λ n f. past 1 (refusalIn (layout target) ∷ more) n 3 r (past 2 more n 3 q f)) (λ x m t.
     let es = entriesOf owner (x .entries) in
-    columns-in ByNumber p incoming target more space (getDefaultValue es index) (lookup-in es index) r q))
+    columns-in ByNumber p incoming target more space (getDefaultValue es index) (lookup-in es index) r q y))
 
 -- ---- the check and the run
 
@@ -261,6 +269,11 @@ unfolding met has isIn
 differs-as by-check = refl
 differs-as by-run = refl
 
+required-as : {c : Call} → Checks c → asColumn c 55 ≡ true
+unfolding met has isIn
+required-as by-check = refl
+required-as by-run = refl
+
 record-as : all (asOther running) recordRefusals ≡ true
 unfolding all met has isIn
 record-as = refl
@@ -280,17 +293,18 @@ module _ {c : Call} (h : Checks c) (incoming target bytes : Bytes) where
   abbrev Unfit : ℕ → ℕ → Type 0
   Unfit = Refusal c (layoutsRead incoming target []) 0 (selectorCount bytes)
 
-  plan-read-in : {B : Type 0} {Q : B → Type 0} (g : Fields → Fields → Selectors → Answer B)
-      → ((Γ Δ : Fields) (ss : Selectors) (m : ℕ) → plan bytes ≡ ok ss m → Answers Q Unfit (g Γ Δ ss)) → Answers Q Unfit (readPlan incoming target bytes g)
+  plan-read-in : {B : Type 0} {Q : B → Type 0} (g : Columns → Columns → Selectors → Answer B)
+      → ((Γ Δ : Columns) (ss : Selectors) (m : ℕ) → plan bytes ≡ ok ss m → Answers Q Unfit (g Γ Δ ss)) → Answers Q Unfit (readPlan incoming target bytes g)
   unfolding readPlan
   plan-read-in g o =
       layouts-in c incoming target [] (λ a b i j p q.
-      other-in (plan-in bytes) (malformed-as h) (λ ss m e. o (fieldsOf (a .columns)) (fieldsOf (b .columns)) ss m e))
+      other-in (plan-in bytes) (malformed-as h) (λ ss m e. o (a .columns) (b .columns) ss m e))
 
-  checked-in : (Γ Δ : Fields) (ss : Selectors) (m : ℕ) → plan bytes ≡ ok ss m → Answers (λ x. Unit {0}) Unfit (check Γ Δ ss)
+  -- 55 is met at no selector of its own; there is one where it is met
+  checked-in : (Γ Δ : Columns) (ss : Selectors) (m : ℕ) → plan bytes ≡ ok ss m → Answers (λ x. Unit {0}) Unfit (checkMarked Γ Δ ss)
   checked-in Γ Δ ss m e =
-      check-in Γ Δ ss (λ n k r. at-column (all-in (asColumn c) selectorRefusals n (selectors-as h) (r .among)) (selected bytes e (r .place)))
-      (at-zero (differs-as h) refl)
+      check-marked-in Γ Δ ss (λ n k r. at-column (all-in (asColumn c) selectorRefusals n (selectors-as h) (r .among)) (selected bytes e (r .place)))
+      (at-zero (differs-as h) refl) (λ p. at-column (required-as h) (selected bytes e p))
 
 pub check-plan-in : (incoming target bytes : Bytes)
     → Answers (λ x. Unit {0}) (Refusal checkingPlan (layoutsRead incoming target []) 0 (selectorCount bytes)) (checkPlan incoming target bytes)

@@ -1,5 +1,5 @@
 -- With which numbers the check of a plan and the run of one that passed can refuse, over trees; a top selector's refusal has its position. Assumes nothing.
-use Prim.Native.Nat.{ℕ, zero, suc, _+_, _≤_}
+use Prim.Native.Nat.{ℕ, zero, suc, _+_, _≤_, _<_}
 use mathlib.Core.Path.{_≡_, refl}
 use mathlib.Core.Bool.{Bool, true, false}
 use mathlib.Core.List.{List, [], _∷_}
@@ -8,7 +8,7 @@ use lib.ListN.{length}
 use lib.Dec.{leb}
 use borrow.Author.Tests.{leb-true}
 use Rattle.layout.specs.Bytes.{Bytes}
-use Rattle.layout.specs.Tree.{DataType, leaf, struct, list, array, Fields, fnil, fcons}
+use Rattle.layout.specs.Tree.{Columns, cnil, ccons, DataType, leaf, struct, list, array, Fields, fnil, fcons, fieldsOf}
 use Rattle.values.specs.Value.{Values}
 use Rattle.values.specs.Encode.{encodeValues}
 use Rattle.values.specs.Record.{longest}
@@ -16,8 +16,10 @@ use Rattle.plan.specs.Result.{gives, refuses, demand, accepted, placed}
 use Rattle.plan.specs.Selector.{Selector, position, constant, cast, rename, structMapping, listMapping, arrayMapping, Selectors, snil, scons, countSelectors}
 use Rattle.forms.specs.Same.{sameFields}
 use Rattle.plan.specs.Check.{columnAt, elementOf, structOf, listOf, arrayOf, resulting, checkCast, checkRename, checkStruct, checkList, checkArray, typeOf, typesOf, topTypes, against, check}
+use Rattle.plan.specs.Nullness.{nnil, nullnessesOf}
+use Rattle.plan.specs.Marks.{givens, meetsAll, checkMarked}
 use Rattle.plan.specs.Run.{evals, cleanAll, spacious, written, run}
-use Rattle.plan.proofs.Results.{both}
+use Rattle.plan.proofs.Results.{both, true≠false}
 use Rattle.demands.specs.Refusals.{isIn}
 use Rattle.demands.proofs.Refusing.{ResultIn, in-gives, in-refuses, bind-in, demand-in, Answers, in-accepted, in-refusedAt, placed-in, answered-in, ColumnRefusal}
 
@@ -93,6 +95,17 @@ top-in Γ (scons s ss) i count h =
     placed-in i (type-of-in s Γ) (λ n e. record { among = e; place = omega (arith, h) })
     (λ c. answered-in (top-in Γ ss (i + 1) count (omega (arith, h))) (λ n k r. r) (λ fs x. in-accepted tt))
 
+-- 55 asks for a selector
+nothing-meets : (cs : Columns) → meetsAll nnil cs ≡ true
+unfolding meetsAll
+nothing-meets cnil = refl
+nothing-meets (ccons l t cs) = refl
+
+some-selector : (Γ Δ : Columns) (ss : Selectors) → meetsAll (nullnessesOf (givens Γ) ss) Δ ≡ false → 0 < countSelectors ss
+unfolding nullnessesOf countSelectors
+some-selector Γ Δ snil e = true≠false (nothing-meets Δ) e
+some-selector Γ Δ (scons s ss) e = omega arith
+
 pub check-in : (Γ Δ : Fields) (ss : Selectors) {P : ℕ → ℕ → Type 0} → ((n k : ℕ) → ColumnRefusal selectorRefusals (countSelectors ss) n k → P n k) → P 33 0
     → Answers (λ x. Unit {0}) P (check Γ Δ ss)
 unfolding check against placed demand
@@ -101,6 +114,16 @@ check-in Γ Δ ss {P} c p = answered-in (top-in Γ ss 0 (countSelectors ss) (ome
     go : (b : Bool) → Answers (λ (x : Unit {0}). Unit {0}) P (placed 0 (demand b 33 (gives tt)) accepted)
     go true = in-accepted tt
     go false = in-refusedAt p
+
+-- 55, last: there is a selector where it is met
+pub check-marked-in : (Γ Δ : Columns) (ss : Selectors) {P : ℕ → ℕ → Type 0} → ((n k : ℕ) → ColumnRefusal selectorRefusals (countSelectors ss) n k → P n k) → P 33 0
+    → (0 < countSelectors ss → P 55 0) → Answers (λ x. Unit {0}) P (checkMarked Γ Δ ss)
+unfolding checkMarked placed demand
+check-marked-in Γ Δ ss {P} c p q = answered-in (check-in (fieldsOf Γ) (fieldsOf Δ) ss c p) (λ n k r. r) (λ u x. go (meetsAll (nullnessesOf (givens Γ) ss) Δ) refl)
+  where
+    go : (b : Bool) → meetsAll (nullnessesOf (givens Γ) ss) Δ ≡ b → Answers (λ (x : Unit {0}). Unit {0}) P (placed 0 (demand b 55 (gives tt)) accepted)
+    go true e = in-accepted tt
+    go false e = in-refusedAt (q (some-selector Γ Δ ss e))
 
 -- ---- the run of what passed: 44, 45, and what is written is no longer than a record may be
 

@@ -7,11 +7,25 @@ use Rattle.rules.specs.declared.policy.Policy.{Policy}
 use Rattle.rules.specs.Policies.{policyOf}
 use Rattle.numeric.specs.Rounding.{rounded}
 use Rattle.numeric.specs.Floats.{fromInteger, integerToFloat}
-use Rattle.plan.specs.Result.{Answer, accepted, refusedAt}
+use Rattle.layout.specs.Tree.{Columns}
+use Rattle.values.specs.Value.{Values}
+use Rattle.values.specs.Filled.{requiredOf}
+use Rattle.values.specs.Marked.{presenceMarked, nullableMarked, contentMarked, valuesMarked}
+use Rattle.values.specs.Record.{recordMarkedFrom, recordMarked}
+use Rattle.plan.specs.Result.{Answer, accepted, refusedAt, answered}
+use Rattle.plan.specs.Selector.{Selectors}
+use Rattle.plan.specs.Nullness.{nullnessAt, joinPlace, join, joinAll, ofValue, ofFields, ofElements, nullnessOf, nullnessesOf}
+use Rattle.plan.specs.Marks.{allowed, given, givens, meets, meetsAll, checkMarked}
 use Rattle.plan.specs.Calls.{readAt, readPlan, checkPlan, runPlan}
 use Rattle.plan.proofs.Samples.{read, checked, ran, recorded}
 use Rattle.matching.specs.Calls.{buildByName}
 use Rattle.matching.proofs.Samples.{built}
+
+-- opens the definitions of required marks (document 02, L5)
+unfoldable pub marking : Columns → Columns → Selectors → Bytes → Answer Values
+unfolding checkMarked allowed given givens meets meetsAll nullnessOf nullnessesOf nullnessAt ofValue ofFields ofElements joinPlace join joinAll recordMarked
+    recordMarkedFrom valuesMarked contentMarked nullableMarked presenceMarked
+marking Γ Δ ss rec = answered (checkMarked Γ Δ ss) (λ u. readAt 0 (recordMarked requiredOf Γ rec) (λ ρ. accepted ρ))
 
 -- every flag on, Insert and Ignore
 abbrev pub on : Policy
@@ -104,7 +118,7 @@ s1-built-is = refl
 
 s1-run-is : runPlan (0x4C ∷ 0x41 ∷ 0x59 ∷ 0x01 ∷ 0x00 ∷ 0x01 ∷ 0x00 ∷ 0x01 ∷ 0x74 ∷ 0x03 ∷ []) (0x4C ∷ 0x41 ∷ 0x59 ∷ 0x01 ∷ 0x00 ∷ 0x02 ∷ 0x00 ∷ 0x01 ∷ 0x74 ∷ 0x04 ∷ 0x01 ∷ 0x73 ∷ 0x0F ∷ []) (0x50 ∷ 0x4C ∷ 0x4E ∷ 0x01 ∷ 0x00 ∷ 0x02 ∷ 0x00 ∷ 0x02 ∷ 0x00 ∷ 0x00 ∷ 0x00 ∷ 0x04 ∷ 0x02 ∷ 0x01 ∷ 0x01 ∷ 0x73 ∷ 0x0F ∷ 0x00 ∷ []) (0x01 ∷ 0xFE ∷ 0xFF ∷ []) 6
     ≡ accepted (0x01 ∷ 0xFE ∷ 0xFF ∷ 0xFF ∷ 0xFF ∷ 0x00 ∷ [])
-unfolding built read checked ran recorded checkPlan runPlan readPlan
+unfolding built read checked ran recorded marking checkPlan runPlan readPlan
 s1-run-is = refl
 
 s2-is : build uint32 int32 ≡ refusedAt 17 0
@@ -120,32 +134,32 @@ unfolding built
 s4-is = refl
 
 s5-is : run ms ns 1 (0x01 ∷ 0xF6 ∷ 0x5A ∷ 0xD0 ∷ 0x7B ∷ 0x63 ∷ 0x08 ∷ 0x00 ∷ 0x00 ∷ []) ≡ accepted (0x01 ∷ 0x80 ∷ 0x29 ∷ 0xF4 ∷ 0xFF ∷ 0xFF ∷ 0xFF ∷ 0xFF ∷ 0x7F ∷ [])
-unfolding built read checked ran recorded checkPlan runPlan readPlan
+unfolding built read checked ran recorded marking checkPlan runPlan readPlan
 s5-is = refl
 
 s6-is : run ms ns 1 (0x01 ∷ 0xF7 ∷ 0x5A ∷ 0xD0 ∷ 0x7B ∷ 0x63 ∷ 0x08 ∷ 0x00 ∷ 0x00 ∷ []) ≡ refusedAt 44 0
-unfolding built read checked ran recorded checkPlan runPlan readPlan
+unfolding built read checked ran recorded marking checkPlan runPlan readPlan
 s6-is = refl
 
 s7-is : run ns µs 0 (0x01 ∷ 0xFF ∷ 0xFF ∷ 0xFF ∷ 0xFF ∷ 0xFF ∷ 0xFF ∷ 0xFF ∷ 0xFF ∷ []) ≡ accepted (0x01 ∷ 0xFF ∷ 0xFF ∷ 0xFF ∷ 0xFF ∷ 0xFF ∷ 0xFF ∷ 0xFF ∷ 0xFF ∷ [])
-unfolding built read checked ran recorded checkPlan runPlan readPlan
+unfolding built read checked ran recorded marking checkPlan runPlan readPlan
 s7-is = refl
 
 s8-is : run int32 float32 2 (0x01 ∷ 0x01 ∷ 0x00 ∷ 0x00 ∷ 0x01 ∷ []) ≡ accepted (0x01 ∷ 0x00 ∷ 0x00 ∷ 0x80 ∷ 0x4B ∷ [])
-unfolding built read checked ran recorded checkPlan runPlan readPlan integerToFloat fromInteger rounded
+unfolding built read checked ran recorded marking checkPlan runPlan readPlan integerToFloat fromInteger rounded
 s8-is = refl
 
 s9-is : run uint16 float16 2 (0x01 ∷ 0xEF ∷ 0xFF ∷ []) ≡ accepted (0x01 ∷ 0xFF ∷ 0x7B ∷ [])
-unfolding built read checked ran recorded checkPlan runPlan readPlan integerToFloat fromInteger rounded
+unfolding built read checked ran recorded marking checkPlan runPlan readPlan integerToFloat fromInteger rounded
 s9-is = refl
 
 s10-is : run uint16 float16 2 (0x01 ∷ 0xF0 ∷ 0xFF ∷ []) ≡ accepted (0x01 ∷ 0x00 ∷ 0x7C ∷ [])
-unfolding built read checked ran recorded checkPlan runPlan readPlan integerToFloat fromInteger rounded
+unfolding built read checked ran recorded marking checkPlan runPlan readPlan integerToFloat fromInteger rounded
 s10-is = refl
 
 s11-is : runPlan (lay (0x12 ∷ 0x01 ∷ 0x00 ∷ 0x01 ∷ 0x61 ∷ 0x0E ∷ 0x02 ∷ 0x00 ∷ [])) (lay (0x12 ∷ 0x01 ∷ 0x00 ∷ 0x01 ∷ 0x61 ∷ 0x0E ∷ 0x02 ∷ 0x00 ∷ [])) (pln (0x04 ∷ 0x04 ∷ 0x00 ∷ 0x00 ∷ 0x00 ∷ 0x02 ∷ 0x00 ∷ 0x02 ∷ 0x00 ∷ 0x00 ∷ 0x00 ∷ 0x0E ∷ 0x00 ∷ 0x00 ∷ 0x01 ∷ 0x00 ∷ 0x00 ∷ 0x00 ∷ 0x01 ∷ 0x00 ∷ 0x00 ∷ 0x01 ∷ 0x00 ∷ [])) (0x01 ∷ 0x01 ∷ 0xF7 ∷ 0x5A ∷ 0xD0 ∷ 0x7B ∷ 0x63 ∷ 0x08 ∷ 0x00 ∷ 0x00 ∷ []) 100
     ≡ accepted (0x01 ∷ 0x01 ∷ 0xF7 ∷ 0x5A ∷ 0xD0 ∷ 0x7B ∷ 0x63 ∷ 0x08 ∷ 0x00 ∷ 0x00 ∷ [])
-unfolding built read checked ran recorded checkPlan runPlan readPlan
+unfolding built read checked ran recorded marking checkPlan runPlan readPlan
 s11-is = refl
 
 s12-is : build (20 ∷ 2 ∷ 0 ∷ 0 ∷ 0 ∷ 3 ∷ []) (20 ∷ 3 ∷ 0 ∷ 0 ∷ 0 ∷ 3 ∷ []) ≡ refusedAt 24 0

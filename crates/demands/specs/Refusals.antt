@@ -35,22 +35,22 @@ tableRefusals = 1 ∷ 2 ∷ 3 ∷ 4 ∷ 5 ∷ 6 ∷ []
 abbrev pub pairRefusals : List ℕ
 pairRefusals = 15 ∷ 16 ∷ 17 ∷ 18 ∷ 19 ∷ 20 ∷ 21 ∷ 22 ∷ 23 ∷ 24 ∷ 51 ∷ []
 
--- a target column: by name "11 .. or 12 to 24", by number "11, 13 to 26, 28"
+-- a target column: by name "11 .. or 12 to 24", by number "11, 13 to 26, 28"; 54 and 55 (L5) by number alone, since version 1 has no required field
 abbrev pub columnRefusals : Matching → List ℕ
 columnRefusals ByName = 11 ∷ 12 ∷ 13 ∷ 14 ∷ pairRefusals
-columnRefusals ByNumber = 11 ∷ 13 ∷ 14 ∷ (pairRefusals ++ (25 ∷ 26 ∷ 28 ∷ []))
+columnRefusals ByNumber = 11 ∷ 13 ∷ 14 ∷ (pairRefusals ++ (25 ∷ 26 ∷ 28 ∷ 54 ∷ 55 ∷ []))
 
 -- L3: "53 for such a column, tested after the defaults are read and before the first target column"
 abbrev pub extraRefusals : List ℕ
 extraRefusals = 53 ∷ []
 
--- "Checking a plan", after the layouts
+-- "Checking a plan", after the layouts; L5: 55 "as the last test, after 33"
 abbrev pub checkRefusals : List ℕ
-checkRefusals = 30 ∷ 31 ∷ 32 ∷ 33 ∷ []
+checkRefusals = 30 ∷ 31 ∷ 32 ∷ 33 ∷ 55 ∷ []
 
--- "Running": the record; L1: "52 when a record's decimal is too large"
+-- "Running": the record; L1: "52 when a record's decimal is too large"; L5: "56 when a record has null in a required field"
 abbrev pub recordRefusals : List ℕ
-recordRefusals = 43 ∷ 40 ∷ 41 ∷ 52 ∷ 42 ∷ []
+recordRefusals = 43 ∷ 40 ∷ 41 ∷ 52 ∷ 56 ∷ 42 ∷ []
 
 pub data Call : Type 0 where
   readingLayout : Call
@@ -86,12 +86,13 @@ hasPlace n = isIn n layoutPlaced || (isIn n columnPlaced || isIn n incomingPlace
 unfoldable pub placeOf : ℕ → ℕ → ℕ
 placeOf n k = choose (hasPlace n) k 0
 
--- what is met at a layout or table, or at a column: the numbers that have its place, and 50 and 51, which have none; 53 alone is met at an incoming column
+-- what is met at a layout or table, or at a column: the numbers that have its place, and 50, 51, 54 and 55, which have none; 53 alone is met at an incoming
+-- column
 abbrev pub layoutMet : List ℕ
 layoutMet = 50 ∷ layoutPlaced
 
 abbrev pub columnMet : List ℕ
-columnMet = 51 ∷ columnPlaced
+columnMet = 51 ∷ 54 ∷ 55 ∷ columnPlaced
 
 -- the number with which reading is refused; 0 where it is not
 abbrev pub refusalIn : {A : Type 0} → Res A → ℕ
@@ -116,8 +117,8 @@ pub record Refusal (c : Call) (things : List ℕ) (incoming columns n k : ℕ) :
   pub atIncoming : isIn n incomingPlaced ≡ true → k < incoming
   pub atNone : isIn n layoutMet ≡ false → isIn n columnMet ≡ false → isIn n incomingPlaced ≡ false → k ≡ 0
 
--- Its place: of 1 to 6 the layout or table; of 11 to 26, 28, 31, 32 the column; of 53 the incoming column; of all others, 50,
--- 51 and 52 among them, 0.
+-- Its place: of 1 to 6 the layout or table; of 11 to 26, 28, 31, 32 the column; of 53 the incoming column; of all others, 50 to
+-- 52 and 54 to 56 among them, 0.
 pub record Placed (things : List ℕ) (incoming columns n place : ℕ) : Type 0 where
   pub ofThing : isIn n layoutPlaced ≡ true → FirstRefused 1 things n place
   pub ofColumn : isIn n columnPlaced ≡ true → place < columns

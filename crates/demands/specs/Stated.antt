@@ -6,7 +6,7 @@ use mathlib.Core.List.{List, [], _∷_}
 use mathlib.Core.Logic.{_↔_, _⊎_}
 use Rattle.layout.specs.Bytes.{Bytes}
 use Rattle.layout.specs.Parser.{ok}
-use Rattle.layout.specs.Tree.{Layout, Columns, fieldsOf}
+use Rattle.layout.specs.Tree.{Layout, Columns}
 use Rattle.layout.specs.Layout.{layout}
 use Rattle.layout.specs.declared.matching.Matching.{Matching}
 use Rattle.layout.specs.declared.matching.Matching.the-variants.{ByNumber}
@@ -14,7 +14,8 @@ use Rattle.rules.specs.declared.policy.Policy.{Policy}
 use Rattle.rules.specs.declared.policy.ExtraColumnsPolicy.the-variants.{Raise}
 use Rattle.values.specs.Value.{Values}
 use Rattle.values.specs.Encode.{encodeValues}
-use Rattle.values.specs.Record.{recordOf}
+use Rattle.values.specs.Filled.{requiredOf}
+use Rattle.values.specs.Record.{recordMarked}
 use Rattle.plan.specs.Result.{accepted, refusedAt}
 use Rattle.plan.specs.Selector.{Selectors}
 use Rattle.plan.specs.Encode.{encodePlan}
@@ -27,16 +28,16 @@ use Rattle.defaults.specs.Lookup.{getDefaultValue}
 use Rattle.matching.specs.Default.{Defaults}
 use Rattle.matching.specs.Build.{build}
 use Rattle.matching.specs.Extra.{FirstExtra}
-use Rattle.matching.specs.Calls.{roomFor}
+use Rattle.matching.specs.Calls.{ReadFor, roomFor}
 
--- `FitsLayout lay rec`: rec is "a record that fits" the layout lay: reading it meets none of 40 to 43, and no 52 (L1)
+-- `FitsLayout lay rec`: rec is "a record that fits" the layout lay: reading it meets none of 40 to 43, no 52 (L1) and no 56 (L5)
 pub record FitsLayout (lay rec : Bytes) : Type 0 where
   pub read : Layout
   pub layoutEnd : ℕ
   pub layoutReads : layout lay ≡ ok read layoutEnd
   pub values : Values
   pub end : ℕ
-  pub reads : recordOf (fieldsOf (read .columns)) rec ≡ ok values end
+  pub reads : recordMarked requiredOf (read .columns) rec ≡ ok values end
 
 -- the selectors that a plan's bytes are
 pub record SelectorsOf (bytes : Bytes) : Type 0 where
@@ -77,10 +78,8 @@ pub record Running (incoming target bytes rec : Bytes) (F : FitsLayout incoming 
 pub record Defined (v : Matching) (p : Policy) (d : Defaults) (incoming target : Bytes) : Type 0 where
   pub from : Columns
   pub to : Columns
-  pub fromEnd : ℕ
-  pub toEnd : ℕ
-  pub incomingRead : layout incoming ≡ ok (record { version = v; columns = from }) fromEnd
-  pub targetRead : layout target ≡ ok (record { version = v; columns = to }) toEnd
+  pub incomingRead : ReadFor v incoming from
+  pub targetRead : ReadFor v target to
   pub selectors : Selectors
   pub built : build v p d from to ≡ accepted selectors
 
@@ -102,10 +101,8 @@ pub record NumberTooLong (p : Policy) (index owner : ℕ) (incoming target defau
 pub record ExtraColumn (v : Matching) (p : Policy) (incoming target : Bytes) (k : ℕ) : Type 0 where
   pub from : Columns
   pub to : Columns
-  pub fromEnd : ℕ
-  pub toEnd : ℕ
-  pub incomingRead : layout incoming ≡ ok (record { version = v; columns = from }) fromEnd
-  pub targetRead : layout target ≡ ok (record { version = v; columns = to }) toEnd
+  pub incomingRead : ReadFor v incoming from
+  pub targetRead : ReadFor v target to
   pub raises : p .«extra_columns» ≡ Raise
   pub first : FirstExtra v to from 0 k
 

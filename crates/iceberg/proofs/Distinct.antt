@@ -1,6 +1,6 @@
 -- The ids of siblings differ in every layout of version 2 or 3 that was read. Assumes nothing.
 use Prim.Native.Nat.{ℕ, zero, suc}
-use mathlib.Core.Path.{_≡_, refl, sym, ap, _∙_}
+use mathlib.Core.Path.{_≡_, refl, sym, ap, ap₂, _∙_}
 use mathlib.Core.Bool.{Bool, true, false, not, _||_}
 use mathlib.Core.List.{List, [], _∷_, _++_}
 use lib.Dec.{eqb}
@@ -11,6 +11,7 @@ use Rattle.layout.specs.Tree.{Label, ColumnType, cleaf, cstruct, clist, carray,
 use Rattle.layout.specs.Layout.{Kind, aLeaf, aStruct, aList, anArray, repeatsAny, columns, listType, arrayType, structType, body, type, topRule, innerRule, deepest, counted}
 use Rattle.layout.specs.Layout.{layoutFrom, layout}
 use Rattle.layout.specs.declared.columns.FieldId.{FieldId}
+use Rattle.layout.specs.declared.columns.Siblings.{Siblings}
 use Rattle.layout.specs.declared.columns.Siblings.the-variants.{Ids}
 use Rattle.layout.specs.declared.edition.Edition.{Edition}
 use Rattle.layout.specs.declared.edition.Edition.the-variants.{One, Two, Three}
@@ -116,7 +117,7 @@ module _ (s : Bytes) (v : Edition) where
       let (cs, j, b, e) = next-ok _ _ e in
       let (u, k, c, e) = next-ok _ _ e in
       ok-same (λ (l : Layout). DistinctIdsAll (l .columns)) e
-      (columns-distinct (type v Ids deepest) (λ at t m e. type-distinct deepest at e) n [] i (rw (x, y) at b) .1)
+      (columns-distinct (type v Ids deepest) (λ at t m e. type-distinct deepest at e) n [] i (sym (ap₂ (λ (p q : Siblings). columns v p (type v q deepest) n [] s i) x y) ∙ b) .1)
 
   counted-edition : (at : ℕ) {l : Layout} {m : ℕ} → counted v s at ≡ ok l m → l .edition ≡ v
   unfolding counted

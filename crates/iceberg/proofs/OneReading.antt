@@ -228,7 +228,7 @@ pub never-both : {cs : Columns} {i : FieldId} {k : ℕ} {a : Label} {t : ColumnT
 never-both (id-here e) (lacks-cons n l) = absurd (n e)
 never-both (id-there h) (lacks-cons n l) = never-both h l
 
-lacks-id : {cs : Columns} {i j : FieldId} → i ≡ j → Lacks cs i → Lacks cs j
+pub lacks-id : {cs : Columns} {i j : FieldId} → i ≡ j → Lacks cs i → Lacks cs j
 lacks-id e l = rw (← e) l
 
 pub one-place : {cs : Columns} {i : FieldId} {j k : ℕ} {a b : Label} {t u : ColumnType} → DistinctIdsAll cs → HasId cs i j a t → HasId cs i k b u → (j ≡ k) × (t ≡ u)

@@ -22,7 +22,7 @@ use Rattle.plan.proofs.Results.{true≠false}
 use Rattle.defaults.specs.Table.{Entry}
 use Rattle.defaults.specs.Lookup.{getDefaultValue}
 use Rattle.matching.specs.Default.{Defaults, missingValue}
-use Rattle.matching.specs.Build.{sameElement, elementDefaultId, keepsRequired, fillsRequired, build}
+use Rattle.matching.specs.Build.{isNullType, sameElement, elementDefaultId, keepsRequired, fillsRequired, build}
 use Rattle.matching.specs.Due.{dueLeaf, orElseNull, fromCounterpart, due, dues}
 use Rattle.matching.proofs.Lookup.{counterpart-at}
 use Rattle.matching.proofs.Attach.{Attach, a-same, a-cast, a-struct, a-list, a-array, AttachAll, a-nil, a-found, a-missing, build→}
@@ -119,12 +119,12 @@ module _ (M : Metadata) where
 
 kept-mark : (a : Label) (t : ColumnType) (b : Label) → keepsRequired a t b ≡ true → mayBecome a b ≡ true
 unfolding keepsRequired mayBecome
-kept-mark a t b e = go (b .required) (a .required) e
+kept-mark a t b e = go (b .required) (a .required) (not (isNullType t)) e
   where
-    go : (r x : Bool) {n : Bool} → (not r || (x && n)) ≡ true → (not r || x) ≡ true
-    go true true e = refl
-    go true false e = e
-    go false x e = refl
+    go : (r x n : Bool) → (not r || (x && n)) ≡ true → (not r || x) ≡ true
+    go true true n e = refl
+    go true false n e = e
+    go false x n e = refl
 
 module _ (nulls : Bool) (es : List Entry) (k : ℕ) (empties : FieldId → Bool) where
   pub value-at : (p : Place) {d : Defaults} (b : Label) (u : ColumnType) {y : Value} → d ≡ asked es k p → missingValue d b u ≡ gives y

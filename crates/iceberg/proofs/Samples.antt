@@ -51,16 +51,18 @@ use Rattle.iceberg.specs.Specification.{by-initial, Reads, reads-leaf, r
 use Rattle.iceberg.specs.Specification.{reads-missing, reads-none, reads-more}
 use Rattle.iceberg.specs.Differences.{Differences, hiddenDefault, structTogether, structOfNone, partitionInStruct, listDefault, ownPartition, ownDefault}
 use Rattle.iceberg.specs.Differences.{inElement, anyElement, arrayRead, leafConverted, hides-not-present, unseen-value, nested-struct, OneIsAny}
-use Rattle.iceberg.specs.Differences.{incoming-is-any, valued, outside, by-default′, by-none′, hidden-default, struct-of-none, partition-in-struct}
+use Rattle.iceberg.specs.Differences.{incoming-is-any, valued, outside, Missing′, by-default′, by-none′, hidden-default, struct-of-none, partition-in-struct}
 use Rattle.iceberg.specs.Differences.{list-default, own-default, by-empty-struct′, initial-nil′, initial-cons′, by-null′, struct-together}
 use Rattle.iceberg.specs.Differences.{by-null-partition′, by-initial′, own-partition, in-element, missing-nil′, missing-cons′, target-is-any, reads-leaf′}
 use Rattle.iceberg.specs.Differences.{reads-struct′, reads-list′, any-element, array-read, leaf-converted, ReadsAll′, reads-nil′, reads-selected′}
 use Rattle.iceberg.specs.Differences.{reads-missing′, reads-none′, reads-more′, AgreesAll, agrees-nil, agrees-selected, agrees-missing}
 use Rattle.iceberg.specs.Differences.{agrees-leaf, agrees-struct}
 use Rattle.iceberg.specs.Refusals.{entry-here, entry-there, of-initial, leaf-for-nested, extra-here, partition-failed, default-type, leaf-pair}
+use Rattle.iceberg.specs.Refusals.{not-required, optional-selected, missing-required}
 use Rattle.iceberg.specs.Refusals.{other-kind, list-ids, extra-field, in-struct, RefusesAny, at-selected, missing-raised, missing-default, RefusesBuild, extra-column}
 use Rattle.iceberg.specs.Stated.{tupleAt, partitionOf, initialOf, stated}
 use Rattle.iceberg.proofs.Facts.{hiding-null}
+use Rattle.iceberg.proofs.Required.{required-errs, optional-errs}
 use Rattle.numeric.specs.declared.integers.Integer.the-variants.{Int8, Int16, Int32, Int64, UInt8}
 
 -- what a build by number and its run over the values ρ give at source 0
@@ -574,3 +576,57 @@ other-scale =
       why = at-selected (id-here refl) (leaf-pair refl);
       theirs = λ zs r. true≠false (number-promotes _ (first-reads _ refl r .1)) refl;
     }
+
+-- ---- required fields (document 02, L5)
+
+-- t#1 struct{a#2:int8}, a required
+abbrev needed : Columns
+needed = ccons (label 0x74 1) (cstruct (ccons (record { name = 0x61 ∷ []; id = record { 0 = 2 }; required = true }) (cleaf (integer Int8)) cnil)) cnil
+
+-- a default fills it, as there
+required-added : Sample false (initially 2 ∷ []) noneEmpty bare needed emptyRow [] (row seven) (row seven)
+unfolding computed stated partitionOf initialOf firstEntry choose valueAt
+required-added =
+    record {
+      ours = refl;
+      reads =
+          reads-selected′ (id-here refl) refl
+          (reads-struct′ (reads-missing′ lacks-nil refl (by-initial′ refl no-transform (by-default′ refl refl)) reads-nil′ refl)) reads-nil′ refl;
+      theirs = reads-selected (id-here refl) refl (reads-struct (reads-missing lacks-nil refl (by-initial refl no-transform (by-default refl)) reads-nil)) reads-nil;
+    }
+
+-- where it has none, both refuse
+required-missing : (computed allOn [] bare needed emptyRow ≡ refusedAt 54 0) × RefusesAny allOn [] (stated false [] 0 noneEmpty) outside (allOn .«missing_columns») 11 54 needed bare
+    × ((ys : Values) → ReadsAll dueLeaf (stated false [] 0 noneEmpty) needed bare emptyRow ys → ⊥)
+unfolding computed stated firstEntry valueAt valued
+required-missing =
+    (refl, at-selected (id-here refl) (in-struct (missing-required lacks-nil none refl)), λ ys r. inside-errs (first-reads _ refl r .1))
+  where
+    none : Missing′ (stated false [] 0 noneEmpty) outside [] (record { 0 = 2 }) (cleaf (integer Int8)) vnull
+    none = by-initial′ refl no-transform (by-none′ refl nothing-defined (by-null′ refl))
+
+    inside-errs : {y : Value}
+        → Reads dueLeaf (stated false [] 0 noneEmpty) (cstruct (ccons (record { name = 0x61 ∷ []; id = record { 0 = 2 }; required = true }) (cleaf (integer Int8)) cnil)) (cstruct cnil)
+        (vstruct vnil) y → ⊥
+    inside-errs (reads-struct h) = required-errs dueLeaf (stated false [] 0 noneEmpty) lacks-nil none refl h
+
+-- where a difference leaves it null, the specification reads on
+required-hidden : Refusal allOn (initially 2 ∷ partitions 2 vnil ∷ []) bare needed emptyRow 54 (row seven)
+unfolding computed stated partitionOf tupleAt initialOf firstEntry choose valueAt
+required-hidden =
+    record {
+      ours = refl;
+      why = at-selected (id-here refl) (in-struct (missing-required lacks-nil (by-initial′ refl not-present (hidden-default refl hides-not-present refl)) refl));
+      theirs = reads-selected (id-here refl) refl (reads-struct (reads-missing lacks-nil refl (by-initial refl not-present (by-default refl)) reads-nil)) reads-nil;
+    }
+
+-- an optional column for a required one; there "not allowed"
+optional-required : (computed allOn [] whole needed (row five) ≡ refusedAt 55 0) × RefusesAny allOn [] (stated false [] 0 noneEmpty) outside (allOn .«missing_columns») 11 55 needed whole
+    × ((ys : Values) → ReadsAll dueLeaf (stated false [] 0 noneEmpty) needed whole (row five) ys → ⊥)
+unfolding computed stated firstEntry valueAt
+optional-required = (refl, at-selected (id-here refl) (in-struct (optional-selected (id-here refl) refl (not-required refl))), λ ys r. inside-errs (first-reads _ refl r .1))
+  where
+    inside-errs : {y : Value}
+        → Reads dueLeaf (stated false [] 0 noneEmpty) (cstruct (ccons (record { name = 0x61 ∷ []; id = record { 0 = 2 }; required = true }) (cleaf (integer Int8)) cnil)) (cstruct field)
+        (vstruct (one five)) y → ⊥
+    inside-errs (reads-struct h) = optional-errs dueLeaf (stated false [] 0 noneEmpty) (lacks-nil, (tt, tt)) (id-here refl) refl refl h

@@ -141,14 +141,14 @@ by-number-built p index owner incoming target defaults room oi ot od e =
 
 -- ---- the run of a plan that was built, between its own two layouts
 
-checked : {Γ Δ : Columns} {ss : Selectors} → checkMarked Γ Δ ss ≡ accepted tt → check (fieldsOf Γ) (fieldsOf Δ) ss ≡ accepted tt
+checked : (Γ Δ : Columns) (ss : Selectors) → checkMarked Γ Δ ss ≡ accepted tt → check (fieldsOf Γ) (fieldsOf Δ) ss ≡ accepted tt
 unfolding checkMarked
-checked e = answered-accepted _ _ e .1 .0
+checked Γ Δ ss e = answered-accepted _ _ e .1
 
 module _ {v : Matching} {p : Policy} {d : Defaults} {incoming target bytes : Bytes} (B : Built v p d incoming target bytes) {ρ : Values} (h : FitsAll (fieldsOf (B .from)) ρ) (room : ℕ) where
   -- it is the run of a plan that passes the check: what is left is 44, 45 or a record that fits the target
   pub built-runs : Runs (fieldsOf (B .to)) ρ (B .selectors) room
-  built-runs = plan-runs (fieldsOf (B .from)) (fieldsOf (B .to)) (B .formed) (checked (B .passes)) h room
+  built-runs = plan-runs (fieldsOf (B .from)) (fieldsOf (B .to)) (B .formed) (checked (B .from) (B .to) (B .selectors) (B .passes)) h room
 
   -- "unless it refuses as just said, writes exactly the record that document 01 calls due"
   pub built-writes : (ReachesOverflow ρ (B .selectors) → ⊥) → spacious room (encodeValues (dues v d (B .to) (B .from) ρ)) ≡ true

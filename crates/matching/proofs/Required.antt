@@ -6,7 +6,7 @@ use Rattle.layout.specs.Tree.{LeafType, leafOf, Label, ColumnType, cleaf, cstru
 use Rattle.rules.specs.Classes.{isNull}
 use Rattle.values.specs.Value.{Value, vnull, vnumber, vtext, voverflow, vstruct, vlist, varray, Values, vcons, isNullValue}
 use Rattle.values.specs.Fits.{Fits}
-use Rattle.values.specs.Filled.{Filled}
+use Rattle.values.specs.Filled.{requiredOf, Filled}
 use Rattle.plan.specs.Nullness.{nnil, topOf, nullnessAt, ofValue, ofFields}
 use Rattle.plan.specs.Marks.{placeOf, allowed, given, meets, meetsAll}
 use Rattle.plan.proofs.Results.{true≠false}
@@ -82,6 +82,6 @@ unfolding fillsRequired meetsAll ofFields
 fills-fields l t cs x xs = refl
 
 -- no null of the default stands at a required place
-pub fills-exact : (l : Label) (u : ColumnType) (x : Value) → Fits (dtypeOf u) x → (fillsRequired l u x ≡ true) ↔ Filled (l .required) u x
+pub fills-exact : (l : Label) (u : ColumnType) (x : Value) → Fits (dtypeOf u) x → (fillsRequired l u x ≡ true) ↔ Filled requiredOf (l .required) u x
 unfolding fillsRequired
 fills-exact l u x f = constant-exact (l .required) u x f

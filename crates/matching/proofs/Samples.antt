@@ -421,3 +421,182 @@ neither = refl
 every : missingOf 3 (defaults 1 initialSeven) ≡ constantOf (1 ∷ 7 ∷ [])
 unfolding built
 every = refl
+
+-- ---- required fields (document 02, L5). 54 and 55 are met at their column; the place that a call gives them is 0 (`placeOf`, crate demands).
+
+-- a column of version 3 with the mark r: 0 optional, 1 required
+abbrev marked : ℕ → ℕ → ℕ → Bytes → Bytes
+marked c i r t = 1 ∷ c ∷ i ∷ 0 ∷ 0 ∷ 0 ∷ r ∷ t
+
+-- one column t of the id 1, of version 3, with the marks a and b
+abbrev byMarks : Policy → Bytes → ℕ → Bytes → ℕ → Bytes → Answer Bytes
+byMarks p d a t b u = buildByNumber p 0 0 (laid 3 1 (marked 0x74 1 a t)) (laid 3 1 (marked 0x74 1 b u)) d 1000
+
+-- no column, and one column t
+abbrev addMarked : Policy → Bytes → ℕ → Bytes → Answer Bytes
+addMarked p d b u = buildByNumber p 0 0 (laid 3 0 []) (laid 3 1 (marked 0x74 1 b u)) d 1000
+
+-- "55 when an optional .. field meets a required one"
+optional-meets-required : byMarks on none 0 (3 ∷ []) 1 (3 ∷ []) ≡ refusedAt 55 0
+unfolding built
+optional-meets-required = refl
+
+-- "or null-type", also where it is marked
+null-type-meets-required : byMarks on none 1 (0 ∷ []) 1 (3 ∷ []) ≡ refusedAt 55 0
+unfolding built
+null-type-meets-required = refl
+
+-- "Older columns count as optional; building by number takes 2 or 3", one of each
+second-meets-required : buildByNumber on 0 0 (laid 2 1 (numbered 0x74 1 (3 ∷ []))) (laid 3 1 (marked 0x74 1 1 (3 ∷ []))) none 1000 ≡ refusedAt 55 0
+unfolding built
+second-meets-required = refl
+
+second-meets-optional : buildByNumber on 0 0 (laid 2 1 (numbered 0x74 1 (3 ∷ []))) (laid 3 1 (marked 0x74 1 0 (3 ∷ []))) none 1000
+    ≡ accepted (planned 1 (0 ∷ 0 ∷ 0 ∷ []))
+unfolding built
+second-meets-optional = refl
+
+third-by-name : buildByName on (laid 3 0 []) (laid 1 0 []) 1000 ≡ refusedAt 10 0
+unfolding built
+third-by-name = refl
+
+first-by-number : buildByNumber on 0 0 (laid 3 0 []) (laid 1 0 []) none 1000 ≡ refusedAt 10 0
+unfolding built
+first-by-number = refl
+
+-- required meets required; an optional target column takes any
+required-meets-required : byMarks on none 1 (3 ∷ []) 1 (4 ∷ []) ≡ accepted (planned 1 (2 ∷ 0 ∷ 0 ∷ 0 ∷ 4 ∷ 2 ∷ []))
+unfolding built
+required-meets-required = refl
+
+required-meets-optional : byMarks on none 1 (3 ∷ []) 0 (3 ∷ []) ≡ accepted (planned 1 (0 ∷ 0 ∷ 0 ∷ []))
+unfolding built
+required-meets-optional = refl
+
+null-type-meets-optional : byMarks on none 1 (0 ∷ []) 0 (3 ∷ []) ≡ accepted (planned 1 (2 ∷ 0 ∷ 0 ∷ 0 ∷ 3 ∷ 0 ∷ []))
+unfolding built
+null-type-meets-optional = refl
+
+-- "tested before their types": before 24
+optional-and-mismatch : byMarks on none 0 (15 ∷ []) 1 (3 ∷ []) ≡ refusedAt 55 0
+unfolding built
+optional-and-mismatch = refl
+
+required-and-mismatch : byMarks on none 1 (15 ∷ []) 1 (3 ∷ []) ≡ refusedAt 24 0
+unfolding built
+required-and-mismatch = refl
+
+-- "(elements: after 25)", and before their types
+element-optional : byMarks on none 0 (19 ∷ marked 0x65 2 0 (3 ∷ [])) 0 (19 ∷ marked 0x65 2 1 (15 ∷ [])) ≡ refusedAt 55 0
+unfolding built
+element-optional = refl
+
+element-optional-ids : byMarks on none 0 (19 ∷ marked 0x65 2 0 (3 ∷ [])) 0 (19 ∷ marked 0x65 3 1 (3 ∷ [])) ≡ refusedAt 25 0
+unfolding built
+element-optional-ids = refl
+
+-- .. so after kind and width
+element-optional-width : byMarks on none 0 (20 ∷ 2 ∷ 0 ∷ 0 ∷ 0 ∷ marked 0x65 2 0 (3 ∷ [])) 0 (20 ∷ 3 ∷ 0 ∷ 0 ∷ 0 ∷ marked 0x65 2 1 (3 ∷ [])) ≡ refusedAt 24 0
+unfolding built
+element-optional-width = refl
+
+array-element-optional : byMarks on none 0 (20 ∷ 2 ∷ 0 ∷ 0 ∷ 0 ∷ marked 0x65 2 0 (3 ∷ [])) 0 (20 ∷ 2 ∷ 0 ∷ 0 ∷ 0 ∷ marked 0x65 2 1 (3 ∷ [])) ≡ refusedAt 55 0
+unfolding built
+array-element-optional = refl
+
+-- a field in a struct; the struct's 13 comes first
+abbrev fieldAndExtra : Policy → Answer Bytes
+fieldAndExtra p = byMarks p none 0 (structOf 2 (marked 0x61 2 0 (3 ∷ marked 0x78 5 0 (3 ∷ [])))) 0 (structOf 1 (marked 0x61 2 1 (3 ∷ [])))
+
+field-optional : fieldAndExtra on ≡ refusedAt 55 0
+unfolding built
+field-optional = refl
+
+field-optional-extra : fieldAndExtra noExtras ≡ refusedAt 13 0
+unfolding built
+field-optional-extra = refl
+
+-- "54 when a missing required field .. would be null", after 11
+missing-required : addMarked on none 1 (2 ∷ []) ≡ refusedAt 54 0
+unfolding built
+missing-required = refl
+
+missing-required-raises : addMarked noMissingColumns none 1 (2 ∷ []) ≡ refusedAt 11 0
+unfolding built
+missing-required-raises = refl
+
+missing-optional : addMarked on none 0 (2 ∷ []) ≡ accepted (planned 1 (1 ∷ 1 ∷ 0x74 ∷ 2 ∷ 0 ∷ []))
+unfolding built
+missing-optional = refl
+
+-- a default fills it; in a struct, after 14
+abbrev missingMarked : Policy → Bytes → Answer Bytes
+missingMarked p d = byMarks p d 0 (structOf 0 []) 0 (structOf 1 (marked 0x61 2 1 (2 ∷ [])))
+
+required-default : missingMarked on (defaults 1 initialSeven) ≡ inserted (1 ∷ 7 ∷ [])
+unfolding built
+required-default = refl
+
+required-none : missingMarked on none ≡ refusedAt 54 0
+unfolding built
+required-none = refl
+
+required-raises : missingMarked noMissing none ≡ refusedAt 14 0
+unfolding built
+required-raises = refl
+
+-- a null partition value is none; 26 and 28 come first
+required-null-partition : missingMarked on (defaults 2 (initialSeven ++ entryOf 2 1 (0 ∷ 2 ∷ 1 ∷ 0 ∷ 0 ∷ []))) ≡ refusedAt 54 0
+unfolding built
+required-null-partition = refl
+
+required-failed : missingMarked on (defaults 2 (initialSeven ++ entryOf 2 1 (1 ∷ []))) ≡ refusedAt 26 0
+unfolding built
+required-failed = refl
+
+required-unlike : missingMarked on (defaults 1 (entryOf 2 0 (6 ∷ 1 ∷ 7 ∷ []))) ≡ refusedAt 28 0
+unfolding built
+required-unlike = refl
+
+-- "or a required field in the default put in for a missing one": t has the fields b#2, which has the default 7, and a#3 with the mark r
+abbrev structAdded : Bytes → ℕ → ℕ → Bytes → Answer Bytes
+structAdded d b r u = addMarked on d b (structOf 2 (marked 0x62 2 0 (2 ∷ marked 0x61 3 r u)))
+
+required-in-default : structAdded (defaults 1 initialSeven) 0 1 (2 ∷ []) ≡ refusedAt 54 0
+unfolding built
+required-in-default = refl
+
+optional-in-default : structAdded (defaults 1 initialSeven) 1 0 (2 ∷ [])
+    ≡ accepted (planned 1 (1 ∷ 1 ∷ 0x74 ∷ structOf 2 (1 ∷ 0x62 ∷ 2 ∷ 1 ∷ 0x61 ∷ 2 ∷ 1 ∷ 1 ∷ 7 ∷ 0 ∷ [])))
+unfolding built
+optional-in-default = refl
+
+-- a required struct that is null in it, and a required field in an optional one: "below a null there is no value"
+struct-in-default : structAdded (defaults 1 initialSeven) 0 1 (structOf 1 (marked 0x63 4 0 (2 ∷ []))) ≡ refusedAt 54 0
+unfolding built
+struct-in-default = refl
+
+below-null-in-default : structAdded (defaults 1 initialSeven) 0 0 (structOf 1 (marked 0x63 4 1 (2 ∷ [])))
+    ≡ accepted (planned 1 (1 ∷ 1 ∷ 0x74 ∷ structOf 2 (1 ∷ 0x62 ∷ 2 ∷ 1 ∷ 0x61 ∷ structOf 1 (1 ∷ 0x63 ∷ 2 ∷ 1 ∷ 1 ∷ 7 ∷ 0 ∷ []))))
+unfolding built
+below-null-in-default = refl
+
+-- so with no default at all: the struct is null
+below-null : structAdded none 0 1 (2 ∷ []) ≡ accepted (planned 1 (1 ∷ 1 ∷ 0x74 ∷ structOf 2 (1 ∷ 0x62 ∷ 2 ∷ 1 ∷ 0x61 ∷ 2 ∷ 0 ∷ [])))
+unfolding built
+below-null = refl
+
+required-struct-null : structAdded none 1 1 (2 ∷ []) ≡ refusedAt 54 0
+unfolding built
+required-struct-null = refl
+
+-- inside an element there is no default
+required-in-element : byMarks on (defaults 1 initialSeven) 0 (19 ∷ marked 0x65 9 0 (structOf 0 [])) 0 (19 ∷ marked 0x65 9 0 (structOf 1 (marked 0x61 2 1 (2 ∷ []))))
+    ≡ refusedAt 54 0
+unfolding built
+required-in-element = refl
+
+-- met at the second column
+required-second : buildByNumber on 0 0 (laid 3 1 (marked 0x73 1 1 (2 ∷ []))) (laid 3 2 (marked 0x73 1 1 (2 ∷ marked 0x74 2 1 (2 ∷ [])))) none 1000 ≡ refusedAt 54 1
+unfolding built
+required-second = refl

@@ -1,16 +1,17 @@
--- Document 01, "Checking a plan" and "Running", over any bytes: the refusals in their order, with their places.
+-- Document 01, "Checking a plan" and "Running", and document 02, L5, over any bytes: the refusals in their order, with their places.
 use Prim.Native.Nat.{ℕ}
 use mathlib.Core.List.{_++_}
 use lib.ListN.{length, drop}
 use Rattle.layout.specs.Bytes.{Bytes}
 use Rattle.layout.specs.Parser.{Res, refuse, ok}
-use Rattle.layout.specs.Tree.{Fields, fieldsOf}
+use Rattle.layout.specs.Tree.{Columns}
 use Rattle.layout.specs.Layout.{layout}
-use Rattle.values.specs.Record.{recordOf}
+use Rattle.values.specs.Filled.{requiredOf}
+use Rattle.values.specs.Record.{recordMarked}
 use Rattle.plan.specs.Result.{Answer, accepted, refusedAt, answered}
 use Rattle.plan.specs.Selector.{Selectors}
 use Rattle.plan.specs.Read.{plan}
-use Rattle.plan.specs.Check.{check}
+use Rattle.plan.specs.Marks.{checkMarked}
 use Rattle.plan.specs.Run.{run}
 use Rattle.plan.specs.declared.answer.WriteResult.{WriteResult}
 
@@ -19,18 +20,17 @@ unfoldable pub readAt : {A B : Type 0} → ℕ → Res A → (A → Answer B) �
 readAt k (refuse n) f = refusedAt n k
 readAt k (ok a m) f = f a
 
--- "Incoming, target (any versions), 30": g of the columns of both, ids dropped, and of the selectors
-unfoldable pub readPlan : {A : Type 0} → Bytes → Bytes → Bytes → (Fields → Fields → Selectors → Answer A) → Answer A
-readPlan incoming target bytes g =
-    readAt 1 (layout incoming) (λ a. readAt 2 (layout target) (λ b. readAt 0 (plan bytes) (λ ss. g (fieldsOf (a .columns)) (fieldsOf (b .columns)) ss)))
+-- "Incoming, target (any versions), 30": g of the columns of both and of the selectors
+unfoldable pub readPlan : {A : Type 0} → Bytes → Bytes → Bytes → (Columns → Columns → Selectors → Answer A) → Answer A
+readPlan incoming target bytes g = readAt 1 (layout incoming) (λ a. readAt 2 (layout target) (λ b. readAt 0 (plan bytes) (λ ss. g (a .columns) (b .columns) ss)))
 
 unfoldable pub checkPlan : Bytes → Bytes → Bytes → Answer (Unit {0})
-checkPlan incoming target bytes = readPlan incoming target bytes (λ Γ Δ ss. check Γ Δ ss)
+checkPlan incoming target bytes = readPlan incoming target bytes (λ Γ Δ ss. checkMarked Γ Δ ss)
 
--- "All of the check", then the record (43, 40, 41, 42), then 44 and 45; the buffer has that many bytes
+-- "All of the check", then the record (43, 40, 41, 52, 56, 42), then 44 and 45; the buffer has that many bytes
 unfoldable pub runPlan : Bytes → Bytes → Bytes → Bytes → ℕ → Answer Bytes
 runPlan incoming target bytes rec room =
-    readPlan incoming target bytes (λ Γ Δ ss. answered (check Γ Δ ss) (λ x. readAt 0 (recordOf Γ rec) (λ ρ. run ρ ss room)))
+    readPlan incoming target bytes (λ Γ Δ ss. answered (checkMarked Γ Δ ss) (λ x. readAt 0 (recordMarked requiredOf Γ rec) (λ ρ. run ρ ss room)))
 
 -- what a call answers that writes: the result's length; or, since "a refusal is a number and a place", these two
 abbrev pub writeResult : Answer Bytes → WriteResult

@@ -8,11 +8,12 @@ use lib.ListN.{length}
 use lib.Seq.{slice}
 use Rattle.layout.specs.Bytes.{Bytes}
 use Rattle.layout.specs.Parser.{Res, refuse, ok}
-use Rattle.layout.specs.Tree.{Layout, Fields, fieldsOf}
+use Rattle.layout.specs.Tree.{Layout, Columns, Fields, fieldsOf}
 use Rattle.layout.specs.Layout.{layout, deepest}
 use Rattle.layout.specs.Stands.{ColumnsAt, LayoutAt}
 use Rattle.layout.specs.declared.columns.Siblings.the-variants.{Free}
 use Rattle.layout.specs.declared.edition.Edition.{Edition}
+use Rattle.layout.proofs.View.{same-columns}
 use Rattle.layout.proofs.Ways.{clash}
 use Rattle.forms.specs.Readable.{depthOfFields}
 use Rattle.forms.proofs.Read.{type→, columns→}
@@ -20,10 +21,11 @@ use Rattle.forms.proofs.ReadBack.{columns-extent}
 use Rattle.store.specs.Overlay.{overlay}
 use Rattle.values.specs.Value.{Values}
 use Rattle.values.specs.Encode.{encodeValues}
-use Rattle.values.specs.Record.{recordOf, RecordFits}
+use Rattle.values.specs.Filled.{requiredOf}
+use Rattle.values.specs.Record.{recordMarked, RecordFilled}
 use Rattle.values.specs.Answers.{recordRead}
 use Rattle.values.specs.declared.record.RecordRead.{RecordRead}
-use Rattle.values.proofs.Inside.{record-at, record-fitting}
+use Rattle.values.proofs.Inside.{record-at, record-unfilled}
 use Rattle.plan.specs.Result.{Answer, accepted, refusedAt, answered}
 use Rattle.plan.specs.Selector.{Selectors}
 use Rattle.plan.specs.Check.{check}
@@ -62,16 +64,16 @@ ran-as e R = rw e R
 
 -- ---- the record
 
-module _ (Γ : Fields) (ss : Selectors) (rec : Bytes) (room : ℕ) where
-  pub record-refused : {r : RecordRead} {k : ℕ} → r ≡ recordRead (recordOf Γ rec) → r ≡ RecordRead.Refused k → recordRun Γ ss rec room ≡ refusedAt k 0
+module _ (Γ : Columns) (ss : Selectors) (rec : Bytes) (room : ℕ) where
+  pub record-refused : {r : RecordRead} {k : ℕ} → r ≡ recordRead (recordMarked requiredOf Γ rec) → r ≡ RecordRead.Refused k → recordRun Γ ss rec room ≡ refusedAt k 0
   unfolding recordRead readAt
-  record-refused {r} {k} e f = go (recordOf Γ rec) refl e
+  record-refused {r} {k} e f = go (recordMarked requiredOf Γ rec) refl e
     where
-      go : (x : Res Values) → recordOf Γ rec ≡ x → r ≡ recordRead x → readAt 0 (recordOf Γ rec) (λ ρ. run ρ ss room) ≡ refusedAt k 0
+      go : (x : Res Values) → recordMarked requiredOf Γ rec ≡ x → r ≡ recordRead x → readAt 0 (recordMarked requiredOf Γ rec) (λ ρ. run ρ ss room) ≡ refusedAt k 0
       go (refuse n) p e = let q : n ≡ k = cc in rw (p, q)
       go (ok vs m) p e = clash (cc)
 
-  module _ {ρ : Values} {e : ℕ} (reads : recordOf Γ rec ≡ ok ρ e) where
+  module _ {ρ : Values} {e : ℕ} (reads : recordMarked requiredOf Γ rec ≡ ok ρ e) where
     pub record-run : recordRun Γ ss rec room ≡ run ρ ss room
     unfolding readAt
     record-run = rw reads
@@ -112,7 +114,7 @@ module _ {ρ : Values} {ss : Selectors} {out : Bytes} {r : Direct} {out′ : Byt
   direct-unknown e = direct-as e
 
 -- a run over the same buffer
-pub same-buffer : (Γ : Fields) (ss : Selectors) (rec : Bytes) {out out′ : Bytes} {o : WriteResult} {exit : Bytes} → out′ ≡ out
+pub same-buffer : (Γ : Columns) (ss : Selectors) (rec : Bytes) {out out′ : Bytes} {o : WriteResult} {exit : Bytes} → out′ ≡ out
     → (o ≡ writeResult (recordRun Γ ss rec (length out′))) × (exit ≡ bufferAfter (recordRun Γ ss rec (length out′)) out′) → (o ≡ writeResult (recordRun Γ ss rec (length out))) × (exit ≡ bufferAfter (recordRun Γ ss rec (length out)) out)
 same-buffer Γ ss rec {o = o} {exit} e R =
     subst (λ (b : Bytes). (o ≡ writeResult (recordRun Γ ss rec (length b))) × (exit ≡ bufferAfter (recordRun Γ ss rec (length b)) b)) e R
@@ -137,12 +139,12 @@ module _ (ρ : Values) (ss : Selectors) {aside₀ : Bytes} (size : 16384 ≡ len
 -- ---- what a plan that passed gives to the parts
 
 module _ {incoming : Bytes} {v : Edition} {n : ℕ} {plan : Bytes} {count : ℕ} {target : Bytes} {vt : Edition} {m : ℕ} (P : PassedAt incoming v n plan count target vt m) {rec : Bytes}
-    (F : RecordFits (fieldsOf (P .columns .columns)) rec) where
+    (F : RecordFilled (P .columns .columns) rec) where
   abbrev pub row-of : RowAt v incoming n 7 rec 0
-  row-of = record { columns = P .columns; values = record-at F .inner }
+  row-of = record { columns = P .columns; values = record-at (record-unfilled F) .inner }
 
-  pub record-reads : recordOf (fieldsOf (P .columns .columns)) rec ≡ ok (row-of .values .values) (F .end)
-  record-reads = F .reads ∙ ap (λ (vs : Values). ok vs (F .end)) (record-at F .is)
+  pub record-reads : recordMarked requiredOf (P .columns .columns) rec ≡ ok (row-of .values .values) (F .end)
+  record-reads = F .reads ∙ ap (λ (vs : Values). ok vs (F .end)) (record-at (record-unfilled F) .is)
 
   abbrev pub output-of : cleanAll (evals (row-of .values .values) (P .selectors .trees)) ≡ true → OutputAt v incoming n 7 rec plan count 7
   output-of c = record {
@@ -152,7 +154,7 @@ module _ {incoming : Bytes} {v : Edition} {n : ℕ} {plan : Bytes} {count : ℕ}
     passes = P .passes;
     deep = columns-extent (columns→ vt Free target deepest (λ at t e h. type→ vt Free target deepest at h) m [] 7 (P .targets .reads)) (P .wide) .0 .deep;
     clean = c;
-    short = record-at F .short;
+    short = record-at (record-unfilled F) .short;
     small = P .small;
     within = P .starts;
   }
@@ -163,47 +165,48 @@ plan-of {count = count} P = record { count = count; selectors = P .selectors; st
 
 -- ---- the check
 
-module _ {incoming : Bytes} {v : Edition} {n : ℕ} {plan : Bytes} {count : ℕ} {target : Bytes} {vt : Edition} {m : ℕ} {Γ : Fields} {ss : Selectors}
-    (T : TopsAt incoming v n plan count 7 Γ ss) (Q : ColumnsAt vt deepest target m 7) where
+module _ {incoming : Bytes} {v : Edition} {n : ℕ} {plan : Bytes} {count : ℕ} {target : Bytes} {vt : Edition} {m : ℕ} {ss : Selectors}
+    (L : ColumnsAt v deepest incoming n 7) (T : TopsAt incoming v n plan count 7 (fieldsOf (L .columns)) ss) (Q : ColumnsAt vt deepest target m 7) where
   pub check-passed : (x : Answer (Unit {0})) → planChecked x ≡ PlanChecked.Passed → x ≡ accepted tt
   check-passed (accepted u) e = refl
   check-passed (refusedAt a b) e = clash (cc)
 
-  over-record : (rec : Bytes) (room : ℕ) → planChecked (check Γ (fieldsOf (Q .columns)) ss) ≡ PlanChecked.Passed
-      → checkedRun Γ (fieldsOf (Q .columns)) ss rec room ≡ recordRun (fieldsOf (T .columns .columns)) (T .selectors .trees) rec room
+  over-record : (rec : Bytes) (room : ℕ) → planChecked (check (fieldsOf (L .columns)) (fieldsOf (Q .columns)) ss) ≡ PlanChecked.Passed
+      → checkedRun (L .columns) (Q .columns) ss rec room ≡ recordRun (T .columns .columns) (T .selectors .trees) rec room
   unfolding answered
-  over-record rec room e = rw (check-passed (check Γ (fieldsOf (Q .columns)) ss) e) (sym (ap (λ (x : Fields). recordRun x (T .selectors .trees) rec room) (T .are) ∙ ap (λ (x : Selectors). recordRun Γ x rec room) (T .is)))
+  over-record rec room e = rw (check-passed (check (fieldsOf (L .columns)) (fieldsOf (Q .columns)) ss) e)
+      (sym (ap (λ (x : Columns). recordRun x (T .selectors .trees) rec room) (same-columns (T .columns) L .0) ∙ ap (λ (x : Selectors). recordRun (L .columns) x rec room) (T .is)))
 
-  unfoldable pub passed-at : {r : PlanChecked} → 7 ≤ length target → r ≡ planChecked (check Γ (fieldsOf (Q .columns)) ss) → r ≡ PlanChecked.Passed → PassedAt incoming v n plan count target vt m
+  unfoldable pub passed-at : {r : PlanChecked} → 7 ≤ length target → r ≡ planChecked (check (fieldsOf (L .columns)) (fieldsOf (Q .columns)) ss) → r ≡ PlanChecked.Passed → PassedAt incoming v n plan count target vt m
   passed-at w h f = record {
     columns = T .columns;
     targets = Q;
     selectors = T .selectors;
-    passes = ap (λ (x : Fields). check x (fieldsOf (Q .columns)) (T .selectors .trees)) (T .are) ∙ ap (check Γ (fieldsOf (Q .columns))) (T .is) ∙ check-passed (check Γ (fieldsOf (Q .columns)) ss) (sym h ∙ f);
+    passes = ap (λ (x : Fields). check x (fieldsOf (Q .columns)) (T .selectors .trees)) (T .are) ∙ ap (check (fieldsOf (L .columns)) (fieldsOf (Q .columns))) (T .is) ∙ check-passed (check (fieldsOf (L .columns)) (fieldsOf (Q .columns)) ss) (sym h ∙ f);
     starts = omega (arith, T .ends, selectors-longer (T .selectors));
     small = T .small;
     wide = w;
   }
 
   -- the run of what passed
-  pub run-passed : {r : PlanChecked} (w : 7 ≤ length target) (rec : Bytes) (room : ℕ) {entry : Bytes} {o : WriteResult} {exit : Bytes} (h : r ≡ planChecked (check Γ (fieldsOf (Q .columns)) ss)) (f : r ≡ PlanChecked.Passed)
-      → (o ≡ writeResult (recordRun (fieldsOf (passed-at w h f .columns .columns)) (passed-at w h f .selectors .trees) rec room))
-      × (exit ≡ bufferAfter (recordRun (fieldsOf (passed-at w h f .columns .columns)) (passed-at w h f .selectors .trees) rec room) entry)
-      → Ran (checkedRun Γ (fieldsOf (Q .columns)) ss rec room) entry o exit
+  pub run-passed : {r : PlanChecked} (w : 7 ≤ length target) (rec : Bytes) (room : ℕ) {entry : Bytes} {o : WriteResult} {exit : Bytes} (h : r ≡ planChecked (check (fieldsOf (L .columns)) (fieldsOf (Q .columns)) ss)) (f : r ≡ PlanChecked.Passed)
+      → (o ≡ writeResult (recordRun (passed-at w h f .columns .columns) (passed-at w h f .selectors .trees) rec room))
+      × (exit ≡ bufferAfter (recordRun (passed-at w h f .columns .columns) (passed-at w h f .selectors .trees) rec room) entry)
+      → Ran (checkedRun (L .columns) (Q .columns) ss rec room) entry o exit
   unfolding answered passed-at
   run-passed w rec room {entry} {o} {exit} h f (a, b) =
-      let y : checkedRun Γ (fieldsOf (Q .columns)) ss rec room ≡ recordRun (fieldsOf (T .columns .columns)) (T .selectors .trees) rec room = over-record rec room (sym h ∙ f) in
+      let y : checkedRun (L .columns) (Q .columns) ss rec room ≡ recordRun (T .columns .columns) (T .selectors .trees) rec room = over-record rec room (sym h ∙ f) in
       record { answer = a ∙ sym (ap writeResult y); buffer = b ∙ sym (ap (λ (x : Answer Bytes). bufferAfter x entry) y) }
 
-  pub check-refused : {r : PlanChecked} {j k : ℕ} (rec : Bytes) (room : ℕ) → r ≡ planChecked (check Γ (fieldsOf (Q .columns)) ss) → r ≡ PlanChecked.Refused j k
-      → checkedRun Γ (fieldsOf (Q .columns)) ss rec room ≡ refusedAt j k
+  pub check-refused : {r : PlanChecked} {j k : ℕ} (rec : Bytes) (room : ℕ) → r ≡ planChecked (check (fieldsOf (L .columns)) (fieldsOf (Q .columns)) ss) → r ≡ PlanChecked.Refused j k
+      → checkedRun (L .columns) (Q .columns) ss rec room ≡ refusedAt j k
   unfolding answered
-  check-refused {j = j} {k} rec room h f = go (check Γ (fieldsOf (Q .columns)) ss) (sym h ∙ f)
+  check-refused {j = j} {k} rec room h f = go (check (fieldsOf (L .columns)) (fieldsOf (Q .columns)) ss) (sym h ∙ f)
     where
       refused-eq : {a b : ℕ} → PlanChecked.Refused a b ≡ PlanChecked.Refused j k → _≡_ {A = Answer Bytes} (refusedAt a b) (refusedAt j k)
       refused-eq e = cc
 
-      go : (x : Answer (Unit {0})) → planChecked x ≡ PlanChecked.Refused j k → answered x (λ y. recordRun Γ ss rec room) ≡ refusedAt j k
+      go : (x : Answer (Unit {0})) → planChecked x ≡ PlanChecked.Refused j k → answered x (λ y. recordRun (L .columns) ss rec room) ≡ refusedAt j k
       go (accepted u) e = clash (cc)
       go (refusedAt a b) e = refused-eq e
 
@@ -224,7 +227,7 @@ module _ (incoming target bytes rec : Bytes) (room : ℕ) where
       unfolding runPlan readPlan readAt
       run-third e = rw (L .reads, M .reads, e)
 
-      pub run-checked : {ss : Selectors} {k : ℕ} → plan bytes ≡ ok ss k → runPlan incoming target bytes rec room ≡ checkedRun (fieldsOf (L .columns .columns)) (fieldsOf (M .columns .columns)) ss rec room
+      pub run-checked : {ss : Selectors} {k : ℕ} → plan bytes ≡ ok ss k → runPlan incoming target bytes rec room ≡ checkedRun (L .columns .columns) (M .columns .columns) ss rec room
       unfolding runPlan readPlan readAt
       run-checked e = rw (L .reads, M .reads, e)
 

@@ -4,12 +4,13 @@ use mathlib.Core.Path.{_≡_}
 use mathlib.Core.Bool.{true}
 use lib.ListN.{length}
 use Rattle.layout.specs.Bytes.{Bytes}
-use Rattle.layout.specs.Tree.{Fields, fieldsOf}
+use Rattle.layout.specs.Tree.{Columns, fieldsOf}
 use Rattle.layout.specs.Layout.{deepest}
 use Rattle.layout.specs.Stands.{ColumnsAt}
 use Rattle.layout.specs.declared.edition.Edition.{Edition}
 use Rattle.values.specs.Value.{Values}
-use Rattle.values.specs.Record.{recordOf}
+use Rattle.values.specs.Filled.{requiredOf}
+use Rattle.values.specs.Record.{recordMarked}
 use Rattle.plan.specs.Result.{Answer, accepted, refusedAt, answered}
 use Rattle.plan.specs.Selector.{Selectors}
 use Rattle.plan.specs.Read.{longestPlan}
@@ -28,12 +29,12 @@ finished (Written.Written len) = WriteResult.Written len
 finished Written.TooLong = WriteResult.Refused 45 0
 
 -- the record, then the run
-abbrev pub recordRun : Fields → Selectors → Bytes → ℕ → Answer Bytes
-recordRun Γ ss rec room = readAt 0 (recordOf Γ rec) (λ ρ. run ρ ss room)
+abbrev pub recordRun : Columns → Selectors → Bytes → ℕ → Answer Bytes
+recordRun Γ ss rec room = readAt 0 (recordMarked requiredOf Γ rec) (λ ρ. run ρ ss room)
 
 -- the check before them
-abbrev pub checkedRun : Fields → Fields → Selectors → Bytes → ℕ → Answer Bytes
-checkedRun Γ Δ ss rec room = answered (check Γ Δ ss) (λ x. recordRun Γ ss rec room)
+abbrev pub checkedRun : Columns → Columns → Selectors → Bytes → ℕ → Answer Bytes
+checkedRun Γ Δ ss rec room = answered (check (fieldsOf Γ) (fieldsOf Δ) ss) (λ x. recordRun Γ ss rec room)
 
 -- a plan that passed the check between two layouts, where all three stand
 pub record PassedAt (incoming : Bytes) (v : Edition) (n : ℕ) (plan : Bytes) (count : ℕ) (target : Bytes) (vt : Edition) (m : ℕ) : Type 0 where

@@ -1,11 +1,11 @@
-// Each call is total: all of the check, then 43, 40, 41, 42, then 44 anywhere in the output, then 45.
+// Each call is total: all of the check, then 43, 40, 41, 52, 56, 42, then 44 anywhere in the output, then 45.
 ghost use mathlib.Core.Path.{_≡_};
 ghost use Prim.Native.Nat.{_≤_};
 ghost use lib.ListN.{length};
 ghost use Rattle.ends.specs.Ends.{Ends};
-ghost use Rattle.layout.specs.Tree.{Fields, fieldsOf};
+ghost use Rattle.layout.specs.Tree.{fieldsOf};
 ghost use Rattle.layout.specs.Stands.{ColumnsAt};
-ghost use Rattle.values.specs.Record.{RecordFits};
+ghost use Rattle.values.specs.Record.{RecordFilled};
 ghost use Rattle.plan.specs.Selector.{Selectors};
 ghost use Rattle.plan.specs.Calls.{runPlan, bufferAfter, writeResult};
 ghost use Rattle.checker.specs.Tops.{TopsAt};
@@ -54,8 +54,8 @@ fn run_general(
     ends: &[u16],
 ) -> WriteResult
     requires { ⌜ Ends v (now incoming) (now ends) ⌝ }
-    requires { ⌜ ((P : PassedAt (now incoming) v n (now plan) count (now target) vt m) × RecordFits (fieldsOf (P .columns .columns)) (now rec)) ⌝ }
-    ensures { λ r. ⌜ ((P : PassedAt (now (incoming .entry)) v n (now (plan .entry)) count (now (target .entry)) vt m) → RecordFits (fieldsOf (P .columns .columns)) (now (rec .entry)) → (r ≡ writeResult (recordRun (fieldsOf (P .columns .columns)) (P .selectors .trees) (now (rec .entry)) (length (now (output .entry))))) × (now (output .exit) ≡ bufferAfter (recordRun (fieldsOf (P .columns .columns)) (P .selectors .trees) (now (rec .entry)) (length (now (output .entry)))) (now (output .entry)))) ⌝ }
+    requires { ⌜ ((P : PassedAt (now incoming) v n (now plan) count (now target) vt m) × RecordFilled (P .columns .columns) (now rec)) ⌝ }
+    ensures { λ r. ⌜ ((P : PassedAt (now (incoming .entry)) v n (now (plan .entry)) count (now (target .entry)) vt m) → RecordFilled (P .columns .columns) (now (rec .entry)) → (r ≡ writeResult (recordRun (P .columns .columns) (P .selectors .trees) (now (rec .entry)) (length (now (output .entry))))) × (now (output .exit) ≡ bufferAfter (recordRun (P .columns .columns) (P .selectors .trees) (now (rec .entry)) (length (now (output .entry)))) (now (output .entry)))) ⌝ }
 {
     let first = Cursor { at: 7 };
     if overflows(
@@ -90,8 +90,8 @@ fn run_filled(
     rec: &[u8],
     output: &mut [u8],
 ) -> WriteResult
-    requires { ⌜ ((P : PassedAt (now incoming) v n (now plan) count (now target) vt m) × RecordFits (fieldsOf (P .columns .columns)) (now rec)) ⌝ }
-    ensures { λ r. ⌜ ((P : PassedAt (now (incoming .entry)) v n (now (plan .entry)) count (now (target .entry)) vt m) → RecordFits (fieldsOf (P .columns .columns)) (now (rec .entry)) → (r ≡ writeResult (recordRun (fieldsOf (P .columns .columns)) (P .selectors .trees) (now (rec .entry)) (length (now (output .entry))))) × (now (output .exit) ≡ bufferAfter (recordRun (fieldsOf (P .columns .columns)) (P .selectors .trees) (now (rec .entry)) (length (now (output .entry)))) (now (output .entry)))) ⌝ }
+    requires { ⌜ ((P : PassedAt (now incoming) v n (now plan) count (now target) vt m) × RecordFilled (P .columns .columns) (now rec)) ⌝ }
+    ensures { λ r. ⌜ ((P : PassedAt (now (incoming .entry)) v n (now (plan .entry)) count (now (target .entry)) vt m) → RecordFilled (P .columns .columns) (now (rec .entry)) → (r ≡ writeResult (recordRun (P .columns .columns) (P .selectors .trees) (now (rec .entry)) (length (now (output .entry))))) × (now (output .exit) ≡ bufferAfter (recordRun (P .columns .columns) (P .selectors .trees) (now (rec .entry)) (length (now (output .entry)))) (now (output .entry)))) ⌝ }
 {
     let mut ends = [0u16; 4096];
     fill_columns(incoming, v, 16, n, Cursor { at: 7 }, &mut ends);
@@ -125,8 +125,8 @@ fn run_unsettled(
     ends: &[u16],
 ) -> WriteResult
     requires { ⌜ Ends v (now incoming) (now ends) ⌝ }
-    requires { ⌜ ((P : PassedAt (now incoming) v n (now plan) count (now target) vt m) × RecordFits (fieldsOf (P .columns .columns)) (now rec)) ⌝ }
-    ensures { λ r. ⌜ ((P : PassedAt (now (incoming .entry)) v n (now (plan .entry)) count (now (target .entry)) vt m) → RecordFits (fieldsOf (P .columns .columns)) (now (rec .entry)) → (r ≡ writeResult (recordRun (fieldsOf (P .columns .columns)) (P .selectors .trees) (now (rec .entry)) (length (now (output .entry))))) × (now (output .exit) ≡ bufferAfter (recordRun (fieldsOf (P .columns .columns)) (P .selectors .trees) (now (rec .entry)) (length (now (output .entry)))) (now (output .entry)))) ⌝ }
+    requires { ⌜ ((P : PassedAt (now incoming) v n (now plan) count (now target) vt m) × RecordFilled (P .columns .columns) (now rec)) ⌝ }
+    ensures { λ r. ⌜ ((P : PassedAt (now (incoming .entry)) v n (now (plan .entry)) count (now (target .entry)) vt m) → RecordFilled (P .columns .columns) (now (rec .entry)) → (r ≡ writeResult (recordRun (P .columns .columns) (P .selectors .trees) (now (rec .entry)) (length (now (output .entry))))) × (now (output .exit) ≡ bufferAfter (recordRun (P .columns .columns) (P .selectors .trees) (now (rec .entry)) (length (now (output .entry)))) (now (output .entry)))) ⌝ }
 {
     if ends.len() == 0 {
         return run_filled(incoming, v, n, plan, count, target, vt, m, rec, output);
@@ -162,7 +162,7 @@ fn run_record(
 ) -> WriteResult
     requires { ⌜ Ends v (now incoming) (now ends) ⌝ }
     requires { ⌜ PassedAt (now incoming) v n (now plan) count (now target) vt m ⌝ }
-    ensures { λ r. ⌜ ((P : PassedAt (now (incoming .entry)) v n (now (plan .entry)) count (now (target .entry)) vt m) → (r ≡ writeResult (recordRun (fieldsOf (P .columns .columns)) (P .selectors .trees) (now (rec .entry)) (length (now (output .entry))))) × (now (output .exit) ≡ bufferAfter (recordRun (fieldsOf (P .columns .columns)) (P .selectors .trees) (now (rec .entry)) (length (now (output .entry)))) (now (output .entry)))) ⌝ }
+    ensures { λ r. ⌜ ((P : PassedAt (now (incoming .entry)) v n (now (plan .entry)) count (now (target .entry)) vt m) → (r ≡ writeResult (recordRun (P .columns .columns) (P .selectors .trees) (now (rec .entry)) (length (now (output .entry))))) × (now (output .exit) ≡ bufferAfter (recordRun (P .columns .columns) (P .selectors .trees) (now (rec .entry)) (length (now (output .entry)))) (now (output .entry)))) ⌝ }
 {
     match read_record(incoming, v, n, Cursor { at: 7 }, rec, ends) {
         RecordRead::Fits => match write_direct(incoming, v, n, rec, plan, count, output, ends) {
@@ -210,7 +210,7 @@ fn run_tabled(
     output: &mut [u8],
 ) -> WriteResult
     requires { ⌜ PassedAt (now incoming) v n (now plan) count (now target) vt m ⌝ }
-    ensures { λ r. ⌜ ((P : PassedAt (now (incoming .entry)) v n (now (plan .entry)) count (now (target .entry)) vt m) → (r ≡ writeResult (recordRun (fieldsOf (P .columns .columns)) (P .selectors .trees) (now (rec .entry)) (length (now (output .entry))))) × (now (output .exit) ≡ bufferAfter (recordRun (fieldsOf (P .columns .columns)) (P .selectors .trees) (now (rec .entry)) (length (now (output .entry)))) (now (output .entry)))) ⌝ }
+    ensures { λ r. ⌜ ((P : PassedAt (now (incoming .entry)) v n (now (plan .entry)) count (now (target .entry)) vt m) → (r ≡ writeResult (recordRun (P .columns .columns) (P .selectors .trees) (now (rec .entry)) (length (now (output .entry))))) × (now (output .exit) ≡ bufferAfter (recordRun (P .columns .columns) (P .selectors .trees) (now (rec .entry)) (length (now (output .entry)))) (now (output .entry)))) ⌝ }
 {
     let mut ends = [0u16; 4096];
     fill_columns(incoming, v, 16, n, Cursor { at: 7 }, &mut ends);
@@ -243,7 +243,7 @@ fn run_passed(
     output: &mut [u8],
 ) -> WriteResult
     requires { ⌜ PassedAt (now incoming) v n (now plan) count (now target) vt m ⌝ }
-    ensures { λ r. ⌜ ((P : PassedAt (now (incoming .entry)) v n (now (plan .entry)) count (now (target .entry)) vt m) → (r ≡ writeResult (recordRun (fieldsOf (P .columns .columns)) (P .selectors .trees) (now (rec .entry)) (length (now (output .entry))))) × (now (output .exit) ≡ bufferAfter (recordRun (fieldsOf (P .columns .columns)) (P .selectors .trees) (now (rec .entry)) (length (now (output .entry)))) (now (output .entry)))) ⌝ }
+    ensures { λ r. ⌜ ((P : PassedAt (now (incoming .entry)) v n (now (plan .entry)) count (now (target .entry)) vt m) → (r ≡ writeResult (recordRun (P .columns .columns) (P .selectors .trees) (now (rec .entry)) (length (now (output .entry))))) × (now (output .exit) ≡ bufferAfter (recordRun (P .columns .columns) (P .selectors .trees) (now (rec .entry)) (length (now (output .entry)))) (now (output .entry)))) ⌝ }
 {
     if is_short(incoming.len(), rec.len()) {
         let none: [u16; 1] = [0; 1];
@@ -277,9 +277,9 @@ fn run_read(
     rec: &[u8],
     output: &mut [u8],
 ) -> WriteResult
-    requires { ⌜ ((Γ : Fields) × (ss : Selectors) × TopsAt (now incoming) v n (now plan) count 7 Γ ss) ⌝ }
+    requires { ⌜ ((L : ColumnsAt v 16 (now incoming) n 7) × (ss : Selectors) × TopsAt (now incoming) v n (now plan) count 7 (fieldsOf (L .columns)) ss) ⌝ }
     requires { ⌜ ColumnsAt vt 16 (now target) m 7 × (7 ≤ length (now target)) ⌝ }
-    ensures { λ r. ⌜ ((Γ : Fields) (ss : Selectors) (Q : ColumnsAt vt 16 (now (target .entry)) m 7) → TopsAt (now (incoming .entry)) v n (now (plan .entry)) count 7 Γ ss → (r ≡ writeResult (checkedRun Γ (fieldsOf (Q .columns)) ss (now (rec .entry)) (length (now (output .entry))))) × (now (output .exit) ≡ bufferAfter (checkedRun Γ (fieldsOf (Q .columns)) ss (now (rec .entry)) (length (now (output .entry)))) (now (output .entry)))) ⌝ }
+    ensures { λ r. ⌜ ((L : ColumnsAt v 16 (now (incoming .entry)) n 7) (ss : Selectors) (Q : ColumnsAt vt 16 (now (target .entry)) m 7) → TopsAt (now (incoming .entry)) v n (now (plan .entry)) count 7 (fieldsOf (L .columns)) ss → (r ≡ writeResult (checkedRun (L .columns) (Q .columns) ss (now (rec .entry)) (length (now (output .entry))))) × (now (output .exit) ≡ bufferAfter (checkedRun (L .columns) (Q .columns) ss (now (rec .entry)) (length (now (output .entry)))) (now (output .entry)))) ⌝ }
 {
     match check_read(incoming, v, n, plan, count, target, vt, m) {
         PlanChecked::Passed => run_passed(incoming, v, n, plan, count, target, vt, m, rec, output),

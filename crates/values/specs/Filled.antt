@@ -6,7 +6,11 @@ use Rattle.layout.specs.Tree.{LeafType, Label, ColumnType, cleaf, cstruct, clis
 use Rattle.layout.specs.declared.leaf.Leaf.{Leaf}
 use Rattle.values.specs.Value.{Value, vnull, vnumber, vtext, voverflow, vstruct, vlist, varray, Values, vnil, vcons}
 
--- `mark` says which columns are required: a layout's own marks, or none
+-- a layout's own marks
+abbrev pub requiredOf : Label → Bool
+requiredOf l = l .required
+
+-- `mark` says which columns are required: those of a layout, or none
 module _ (mark : Label → Bool) where
   -- `Filled r t v`: no null stands at a required place of v, a value of a column of the mark r and the type t. Below a null there is no place.
   mutual

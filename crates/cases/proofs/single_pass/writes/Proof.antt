@@ -1,7 +1,6 @@
 use native.Mathlib.Omega.{arith}
 use denote.Ref.{now}
-use Rattle.values.proofs.Inside.{record-at, record-fitting}
-use Rattle.layout.specs.Tree.{fieldsOf}
+use Rattle.values.proofs.Inside.{record-at, record-fitting, record-unfilled}
 use Rattle.layout.proofs.Whole.{layout-at}
 use Rattle.checker.proofs.Topping.{plan-at}
 use Rattle.ends.proofs.Entries.{ends-none}
@@ -26,7 +25,7 @@ writes-spec =
     (λ c. search needs)
     (λ c κs. let L = layout-at (now (c .before .before .before .before .before .before .before .before .before .before .before .before .before .before .before .before .before .before .args .incoming)) (c .before .before .before .before .before .before .before .before .before .before .before .before .before .read-layout .ensures) (c .before .before .before .before .before .before .before .before .before .before .before .v .given .1) .0 in
     let P = plan-at (now (c .before .before .before .before .before .before .before .before .before .before .before .before .before .before .before .before .before .before .args .plan)) (λ i. c .before .before .before .before .before .before .before .before .before .before .before .before .before .before .before .before .shared-slice-known2 .given i .fits) (c .before .before .before .before .before .before .before .before .before .read-plan .ensures) (c .before .before .before .before .before .before .before .count .given .1) in
-    let F = record-fitting (fieldsOf (L .columns .columns)) (now (c .before .before .before .before .before .before .before .before .before .before .before .before .before .before .before .before .before .before .args .rec)) (c .before .before .before .before .read-record .ensures (L .columns)) (c .before .before .enum-told .given .1) in
+    let F = record-unfilled (record-fitting (L .columns .columns) (now (c .before .before .before .before .before .before .before .before .before .before .before .before .before .before .before .before .before .before .args .rec)) (c .before .before .before .before .read-record .ensures (L .columns)) (c .before .before .enum-told .given .1)) in
     (ends-none refl, (record { columns = L .columns; values = record-at F .inner }, (P .selectors, (omega (arith, record-at F .short), P .small)))))
     (λ c. search needs)
     (λ c. search needs)
