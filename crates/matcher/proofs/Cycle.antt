@@ -15,7 +15,8 @@ use Rattle.layout.specs.Stands.{ColumnsAt}
 use Rattle.layout.specs.Find.{Lookup, absent, at}
 use Rattle.layout.specs.declared.columns.Position.{Position}
 use Rattle.layout.specs.declared.columns.Siblings.the-variants.{Free}
-use Rattle.layout.specs.declared.version.Version.{Version}
+use Rattle.layout.specs.declared.edition.Edition.{Edition}
+use Rattle.layout.specs.declared.matching.Matching.{Matching}
 use Rattle.layout.proofs.Ways.{clash}
 use Rattle.layout.proofs.Top.{columns-count}
 use Rattle.layout.specs.Layout.{type}
@@ -31,7 +32,7 @@ use Rattle.plan.specs.Result.{Result, gives, refuses, _>>=_, demand}
 use Rattle.plan.specs.Selector.{Selector, position, rename, Selectors}
 use Rattle.plan.specs.Encode.{encodeSelector, encodeSelectors}
 use Rattle.matching.specs.Default.{Defaults, noDefaults}
-use Rattle.matching.specs.Build.{leafPart, structPart, Element, listPart, arrayPart, isByName, isNullType, unlessNullType, renamed, sameElement, distinct, noExtra, ignores, missing, inPlace, structSelector, listSelector, arraySelector, first, sought, attachTransforms, attachFields}
+use Rattle.matching.specs.Build.{leafPart, structPart, Element, listPart, arrayPart, isByName, isNullType, unlessNullType, renamed, sameElement, distinct, noExtra, ignores, keepsRequired, missing, inPlace, structSelector, listSelector, arraySelector, first, sought, attachTransforms, attachFields}
 use Rattle.builder.specs.Answers.{rowOf, isRefused, isBare, lenOf, refusedRow, Wrote, WroteRow, Makes, MakesRow, Maps, Inner, noElement, listElement, arrayElement, elementOf, needsRename, faultOf, nullCast, attachRenamed, attachStruct, attachElement, attachInner, attachNested}
 use Rattle.builder.specs.declared.answer.Made.{Made}
 use Rattle.builder.specs.declared.answer.Made.the-variants.{Bare, Built}
@@ -71,11 +72,21 @@ makes-to {b} out k r o {X} h g m = makes-as b _ r out k o g (subst (λ (i : ℕ)
 
 -- ---- a target that is no leaf
 
-inner-is : (v : Version) (p : Policy) (f : Selector → Selector) (l : Label) (u : ColumnType) (x : Element)
-    → demand (sameElement v (x .label) l) 25 (attachTransforms v p noDefaults u first (x .type) >>= λ s. gives (f (renamed v l (x .label) s))) ≡ attachElement v p f l u (x .label) (x .type)
-inner-is v p f l u x = ap (demand (sameElement v (x .label) l) 25) (bind-bind (attachTransforms v p noDefaults u first (x .type)) (renamed v l (x .label)) f)
+demand-bind : {A : Type 0} (c : Bool) (n : ℕ) (X : Result A) (f g : A → A)
+    → demand c n (X >>= λ a. gives (g (f a))) ≡ (demand c n (X >>= λ a. gives (f a)) >>= λ a. gives (g a))
+unfolding demand _>>=_
+demand-bind true n X f g = bind-bind X f g
+demand-bind false n X f g = refl
 
-pub nested-is : (v : Version) (p : Policy) (d : Defaults) (u : ColumnType) (k : Position) (t : ColumnType) → leafPart u ≡ refuses 24
+inner-is : (v : Matching) (p : Policy) (f : Selector → Selector) (l : Label) (u : ColumnType) (x : Element)
+    → demand (sameElement v (x .label) l) 25
+    (demand (keepsRequired (x .label) (x .type) l) 55 (attachTransforms v p noDefaults u first (x .type) >>= λ s. gives (f (renamed v l (x .label) s))))
+    ≡ attachElement v p f l u (x .label) (x .type)
+inner-is v p f l u x =
+    ap (demand (sameElement v (x .label) l) 25)
+    (demand-bind (keepsRequired (x .label) (x .type) l) 55 (attachTransforms v p noDefaults u first (x .type)) (renamed v l (x .label)) f)
+
+pub nested-is : (v : Matching) (p : Policy) (d : Defaults) (u : ColumnType) (k : Position) (t : ColumnType) → leafPart u ≡ refuses 24
     → attachTransforms v p d u k t ≡ unlessNullType v p k u t (attachNested v p d u k t)
 unfolding attachTransforms leafPart attachNested
 nested-is v p d (cleaf l) k t h = clash (cc)
@@ -83,7 +94,7 @@ nested-is v p d (cstruct gs) k t h = refl
 nested-is v p d (clist l u) k t h = ap (unlessNullType v p k (clist l u) t) (bind-each (listPart t) _ _ (inner-is v p (listSelector k) l u))
 nested-is v p d (carray w l u) k t h = ap (unlessNullType v p k (carray w l u) t) (bind-each (arrayPart w t) _ _ (inner-is v p (arraySelector k) l u))
 
-module _ (v : Version) (p : Policy) (k : Position) (u t : ColumnType) (X : Result Selector) {b : Bool} (e : b ≡ (isByName v && isNullType t)) where
+module _ (v : Matching) (p : Policy) (k : Position) (u t : ColumnType) (X : Result Selector) {b : Bool} (e : b ≡ (isByName v && isNullType t)) where
   pub nested-null : b ≡ true → unlessNullType v p k u t X ≡ nullCast p k u
   unfolding unlessNullType choose
   nested-null h = ap (λ (c : Bool). choose c (nullCast p k u) X) (sym e ∙ h)
@@ -92,7 +103,7 @@ module _ (v : Version) (p : Policy) (k : Position) (u t : ColumnType) (X : Resul
   unfolding unlessNullType choose
   nested-other h = ap (λ (c : Bool). choose c (nullCast p k u) X) (sym e ∙ h)
 
-module _ (v : Version) (p : Policy) (d : Defaults) (k : Position) (t : ColumnType) where
+module _ (v : Matching) (p : Policy) (d : Defaults) (k : Position) (t : ColumnType) where
   pub nested-struct : (u : ColumnType) {gs : Columns} → structPart u ≡ gives gs → attachNested v p d u k t ≡ attachStruct v p d gs k t
   unfolding structPart attachNested
   nested-struct (cleaf l) h = clash (cc)
@@ -124,10 +135,10 @@ faultless true false c X h z = let y : _≡_ {A = ℕ} 12 0 = sym h ∙ z in cla
 faultless false b c X h z = let y : _≡_ {A = ℕ} 12 0 = sym h ∙ z in clash (cc)
 
 -- its fields, once the tests have passed
-abbrev pub structFields : Version → Policy → Defaults → Columns → Columns → Position → Result Selector
+abbrev pub structFields : Matching → Policy → Defaults → Columns → Columns → Position → Result Selector
 structFields v p d gs fs k = attachFields v p d gs fs >>= λ ss. gives (structSelector k fs ss)
 
-module _ (v : Version) (p : Policy) (d : Defaults) (gs : Columns) (k : Position) (t : ColumnType) where
+module _ (v : Matching) (p : Policy) (d : Defaults) (gs : Columns) (k : Position) (t : ColumnType) where
   pub struct-other : structPart t ≡ refuses 24 → attachStruct v p d gs k t ≡ refuses 24
   unfolding _>>=_
   struct-other h = rw h
@@ -142,18 +153,18 @@ module _ (v : Version) (p : Policy) (d : Defaults) (gs : Columns) (k : Position)
     struct-faultless z = rw h (faultless (distinct v gs) (distinct v fs) (ignores (p .«extra_struct_fields») || noExtra v fs gs) (structFields v p d gs fs k) e z)
 
 -- as many columns as were read
-pub count-at : {v : Version} {d : ℕ} {s : Bytes} {n at : ℕ} (P : ColumnsAt v d s n at) → countColumns (P .columns) ≡ n
+pub count-at : {v : Edition} {d : ℕ} {s : Bytes} {n at : ℕ} (P : ColumnsAt v d s n at) → countColumns (P .columns) ≡ n
 count-at {v} {d} {s} {n} {at} P = columns-count v Free (type v Free d) n [] s at (P .columns) (P .end) (P .reads)
 
 -- where columns end
-pub columns-within : {v : Version} {d : ℕ} {s : Bytes} {n at : ℕ} (P : ColumnsAt v d s n at) → at ≤ length s → (at ≤ P .end) × (P .end ≤ length s)
+pub columns-within : {v : Edition} {d : ℕ} {s : Bytes} {n at : ℕ} (P : ColumnsAt v d s n at) → at ≤ length s → (at ≤ P .end) × (P .end ≤ length s)
 columns-within {v} {d} {s} {n} {at} P h = let (E, c) = columns-extent (columns→ v Free s d (λ at t e h. type→ v Free s d at h) n [] at (P .reads)) h in (E .from, E .to)
 
 -- what stood before a mapping stands there still
 front : (out : Bytes) (k : ℕ) (xs ys : Bytes) (o₁ : Bytes) {o₂ : Bytes} → o₁ ≡ overlay out k xs → o₂ ≡ overlay o₁ (k + 4) ys → Agree k o₂ out
 front out k xs ys o₁ {o₂} h g = agree-less k (k + 4) o₂ o₁ out (omega arith) (holds-before o₁ (k + 4) ys o₂ (holds-exact o₁ (k + 4) ys g)) (holds-before out k xs o₁ (holds-exact out k xs h))
 
-module _ (v : Version) (p : Policy) (d : Defaults) (gs : Columns) (k : Position) (t : ColumnType) (fs : Columns) {i : ℕ} (h : structPart t ≡ gives fs) (z : i ≡ faultOf p v gs fs) (y : i ≡ 0)
+module _ (v : Matching) (p : Policy) (d : Defaults) (gs : Columns) (k : Position) (t : ColumnType) (fs : Columns) {i : ℕ} (h : structPart t ≡ gives fs) (z : i ≡ faultOf p v gs fs) (y : i ≡ 0)
     {b e : ℕ} (out : Bytes) (to b₀ : ℕ) where
   pub struct-stops : (o₁ o₂ : Bytes) {j n : ℕ} {r : Row} {w : Made} → w ≡ refusedRow r → MakesRow b e o₁ j (attachFields v p d gs fs) r o₂ → r ≡ Failed n → Makes b₀ e out to (attachStruct v p d gs k t) w o₂
   struct-stops o₁ o₂ {w = w} g A q =
@@ -182,33 +193,49 @@ row-room (gives ss) {same = same} {len} A q =
     let w = A .wrote .1 in
     omega arith
 
--- ---- a rename
+-- ---- 55 and a rename
 
-module _ (v : Version) (p : Policy) (d : Defaults) (l : Label) (u : ColumnType) (k : Position) (m : Label) (t : ColumnType) {b : Bool} (e : b ≡ needsRename v l m) where
-  pub rename-none : not b ≡ true → attachRenamed v p d l u k m t ≡ attachTransforms v p d u k t
-  unfolding choose
-  rename-none h = bind-each (attachTransforms v p d u k t) _ _ (λ s. ap gives (renamed-is v l m s ∙ ap (λ (c : Bool). choose c (rename s (l .name)) s) (sym e ∙ not-true b h))) ∙ bind-gives (attachTransforms v p d u k t)
+module _ (v : Matching) (p : Policy) (d : Defaults) (l : Label) (u : ColumnType) (k : Position) (m : Label) (t : ColumnType) {c : Bool} (q : c ≡ keepsRequired m t l) where
+  pub required-unkept : not c ≡ true → attachRenamed v p d l u k m t ≡ refuses 55
+  unfolding demand
+  required-unkept h = ap (λ (x : Bool). demand x 55 (attachTransforms v p d u k t >>= λ s. gives (renamed v l m s))) (sym q ∙ not-true c h)
 
-  pub rename-some : not b ≡ false → attachRenamed v p d l u k m t ≡ (attachTransforms v p d u k t >>= λ s. gives (rename s (l .name)))
-  unfolding choose
-  rename-some h = bind-each (attachTransforms v p d u k t) _ _ (λ s. ap gives (renamed-is v l m s ∙ ap (λ (c : Bool). choose c (rename s (l .name)) s) (sym e ∙ not-false b h)))
+  required-kept : not c ≡ false → attachRenamed v p d l u k m t ≡ (attachTransforms v p d u k t >>= λ s. gives (renamed v l m s))
+  unfolding demand
+  required-kept h = ap (λ (x : Bool). demand x 55 (attachTransforms v p d u k t >>= λ s. gives (renamed v l m s))) (sym q ∙ not-false c h)
 
-pub rename-on : (v : Version) (l m : Label) {b : Bool} → b ≡ needsRename v l m → not b ≡ false → needsRename v l m ≡ true
+  module _ (j : not c ≡ false) {b : Bool} (e : b ≡ needsRename v l m) where
+    rename-none : not b ≡ true → attachRenamed v p d l u k m t ≡ attachTransforms v p d u k t
+    unfolding choose
+    rename-none h =
+        required-kept j
+        ∙ bind-each (attachTransforms v p d u k t) _ _ (λ s. ap gives (renamed-is v l m s ∙ ap (λ (c : Bool). choose c (rename s (l .name)) s) (sym e ∙ not-true b h)))
+        ∙ bind-gives (attachTransforms v p d u k t)
+
+    rename-some : not b ≡ false → attachRenamed v p d l u k m t ≡ (attachTransforms v p d u k t >>= λ s. gives (rename s (l .name)))
+    unfolding choose
+    rename-some h =
+        required-kept j
+        ∙ bind-each (attachTransforms v p d u k t) _ _ (λ s. ap gives (renamed-is v l m s ∙ ap (λ (c : Bool). choose c (rename s (l .name)) s) (sym e ∙ not-false b h)))
+
+pub rename-on : (v : Matching) (l m : Label) {b : Bool} → b ≡ needsRename v l m → not b ≡ false → needsRename v l m ≡ true
 rename-on v l m {b} e h = sym e ∙ not-false b h
 
-module _ (v : Version) (p : Policy) (d : Defaults) (l : Label) (u : ColumnType) (k : Position) (m : Label) (t : ColumnType) {b : Bool} (z : b ≡ needsRename v l m)
-    {at e : ℕ} (out : Bytes) (to from : ℕ) where
+module _ (v : Matching) (p : Policy) (d : Defaults) (l : Label) (u : ColumnType) (k : Position) (m : Label) (t : ColumnType)
+    {c : Bool} (q : c ≡ keepsRequired m t l) (j : not c ≡ false) {b : Bool} (z : b ≡ needsRename v l m) {at e : ℕ} (out : Bytes) (to from : ℕ) where
   pub renamed-plain : {r : Made} {o : Bytes} → not b ≡ true → from ≤ at → Makes at e out to (attachTransforms v p d u k t) r o → Makes from e out to (attachRenamed v p d l u k m t) r o
-  renamed-plain {r} {o} h le A = makes-as from e r out to o (rename-none v p d l u k m t z h) (makes-from out to r o (attachTransforms v p d u k t) le A)
+  renamed-plain {r} {o} h le A = makes-as from e r out to o (rename-none v p d l u k m t q j z h) (makes-from out to r o (attachTransforms v p d u k t) le A)
 
-  pub renamed-stopped : {r : Made} {o₁ o₂ : Bytes} {j : ℕ} → Makes at e o₁ j (attachTransforms v p d u k t) r o₂ → isRefused r ≡ true → Makes from e out to (attachRenamed v p d l u k m t) r o₂
-  renamed-stopped {r} {o₁} {o₂} A h = makes-stopped (attachTransforms v p d u k t) (λ s. gives (renamed v l m s)) from e out to o₂ A h
+  pub renamed-stopped : {r : Made} {o₁ o₂ : Bytes} {i : ℕ} → Makes at e o₁ i (attachTransforms v p d u k t) r o₂ → isRefused r ≡ true → Makes from e out to (attachRenamed v p d l u k m t) r o₂
+  renamed-stopped {r} {o₁} {o₂} A h =
+      makes-as from e r out to o₂ (required-kept v p d l u k m t q j)
+      (makes-stopped (attachTransforms v p d u k t) (λ s. gives (renamed v l m s)) from e out to o₂ A h)
 
   pub renamed-made : {r : Made} (o₁ o₂ : Bytes) {o₃ : Bytes} {len n : ℕ} → not b ≡ false → length o₁ ≡ length out → length o₂ ≡ length out → o₁ ≡ set out to 3
-      → Makes at e o₁ (to + 1) (attachTransforms v p d u k t) r o₂ → isRefused r ≡ false → len ≡ lenOf r → n ≡ length (textBytes (l .name)) → o₃ ≡ overlay o₂ (to + 1 + len) (textBytes (l .name)) → n ≤ 64
-      → from < at → Makes from e out to (attachRenamed v p d l u k m t) (Built (1 + len + n)) o₃
+      → Makes at e o₁ (to + 1) (attachTransforms v p d u k t) r o₂ → isRefused r ≡ false → len ≡ lenOf r → n ≡ length (textBytes (l .name))
+      → o₃ ≡ overlay o₂ (to + 1 + len) (textBytes (l .name)) → n ≤ 64 → from < at → Makes from e out to (attachRenamed v p d l u k m t) (Built (1 + len + n)) o₃
   renamed-made {r} o₁ o₂ {o₃} {len} {n} h l₁ l₂ g A a y en w short lt =
-      makes-as from e _ out to o₃ (rename-some v p d l u k m t z h)
+      makes-as from e _ out to o₃ (rename-some v p d l u k m t q j z h)
       (subst (λ (x : ℕ). Makes from e out to (attachTransforms v p d u k t >>= λ s. gives (rename s (l .name))) (Built (1 + x + n)) o₃) (sym y)
       (renamed-around out to (attachTransforms v p d u k t) (l .name) from o₁ o₂ l₁ l₂ g A a en (w ∙ ap (λ (x : ℕ). overlay o₂ (to + 1 + x) (textBytes (l .name))) y) short lt))
 
@@ -223,7 +250,7 @@ pub none-is : (table : Bytes) (n : ℕ) → getDefaultValue (none-at table .entr
 unfolding getDefaultValue firstEntry none-at
 none-is table n = λ i j. nothing
 
-module _ (v : Version) (p : Policy) (f : Selector → Selector) (l : Label) (u : ColumnType) (m : Label) (t : ColumnType) {b : Bool} (e : b ≡ sameElement v m l) where
+module _ (v : Matching) (p : Policy) (f : Selector → Selector) (l : Label) (u : ColumnType) (m : Label) (t : ColumnType) {b : Bool} (e : b ≡ sameElement v m l) where
   pub element-unlike : not b ≡ true → attachElement v p f l u m t ≡ refuses 25
   unfolding demand
   element-unlike h = ap (λ (c : Bool). demand c 25 (attachRenamed v p noDefaults l u first m t >>= λ s. gives (f s))) (sym e ∙ not-true b h)
@@ -232,7 +259,7 @@ module _ (v : Version) (p : Policy) (f : Selector → Selector) (l : Label) (u :
   unfolding demand
   element-alike h = ap (λ (c : Bool). demand c 25 (attachRenamed v p noDefaults l u first m t >>= λ s. gives (f s))) (sym e ∙ not-false b h)
 
-module _ (v : Version) (p : Policy) (f g : Selector → Selector) (l : Label) (u : ColumnType) (m : Label) (t : ColumnType) {k : Position} {c : ℕ} (M : Maps k c f g) {b : Bool} (z : b ≡ sameElement v m l) (h : not b ≡ false)
+module _ (v : Matching) (p : Policy) (f g : Selector → Selector) (l : Label) (u : ColumnType) (m : Label) (t : ColumnType) {k : Position} {c : ℕ} (M : Maps k c f g) {b : Bool} (z : b ≡ sameElement v m l) (h : not b ≡ false)
     {i e : ℕ} (out : Bytes) (to from : ℕ) (o₁ : Bytes) (h₁ : o₁ ≡ overlay out to (c ∷ encodeSelector (position k))) {d : Defaults} (none : d ≡ noDefaults) {r : Made} (o₂ : Bytes)
     (A : Makes i e o₁ (to + 4) (attachRenamed v p d l u first m t) r o₂) where
   inside : Makes i e o₁ (to + 4) (attachRenamed v p noDefaults l u first m t) r o₂
@@ -253,7 +280,7 @@ module _ (v : Version) (p : Policy) (f g : Selector → Selector) (l : Label) (u
       (mapped M out to (attachRenamed v p noDefaults l u first m t) from o₁ o₂ l₁ h₁ inside a q lt))
 
 -- a list or an array, by the incoming type's element
-module _ (v : Version) (p : Policy) (l : Label) (u : ColumnType) (k : Position) (t : ColumnType) where
+module _ (v : Matching) (p : Policy) (l : Label) (u : ColumnType) (k : Position) (t : ColumnType) where
   pub inner-list : {X : Inner} {x : Element} → X ≡ listElement l u → listPart t ≡ gives x → attachInner v p X k t ≡ attachElement v p (listSelector k) l u (x .label) (x .type)
   unfolding _>>=_
   inner-list h g = rw (h, g)
@@ -271,17 +298,17 @@ module _ (v : Version) (p : Policy) (l : Label) (u : ColumnType) (k : Position) 
   inner-array-other w h g = rw (h, g)
 
 -- the same under the names of what was taken
-pub element-names : (v : Version) (p : Policy) (f : Selector → Selector) {l l′ : Label} {u u′ : ColumnType} {m m′ : Label} {t t′ : ColumnType} → l ≡ l′ → u ≡ u′ → m ≡ m′ → t ≡ t′
+pub element-names : (v : Matching) (p : Policy) (f : Selector → Selector) {l l′ : Label} {u u′ : ColumnType} {m m′ : Label} {t t′ : ColumnType} → l ≡ l′ → u ≡ u′ → m ≡ m′ → t ≡ t′
     → attachElement v p f l u m t ≡ attachElement v p f l′ u′ m′ t′
 element-names v p f {l} {l′} {u} {u′} {m} {m′} {t} {t′} a b c d =
     ap (λ (x : Label). attachElement v p f x u m t) a ∙ ap (λ (x : ColumnType). attachElement v p f l′ x m t) b ∙ ap (λ (x : Label). attachElement v p f l′ u′ x t) c ∙ ap (λ (x : ColumnType). attachElement v p f l′ u′ m′ x) d
 
-pub inner-none : (v : Version) (p : Policy) (k : Position) (t : ColumnType) {X : Inner} → X ≡ noElement → attachInner v p X k t ≡ refuses 24
+pub inner-none : (v : Matching) (p : Policy) (k : Position) (t : ColumnType) {X : Inner} → X ≡ noElement → attachInner v p X k t ≡ refuses 24
 inner-none v p k t h = rw h
 
 -- ---- a column
 
-module _ (v : Version) (p : Policy) (d : Defaults) (i : Bool) (n : ℕ) (l : Label) (u : ColumnType) (X : Lookup) where
+module _ (v : Matching) (p : Policy) (d : Defaults) (i : Bool) (n : ℕ) (l : Label) (u : ColumnType) (X : Lookup) where
   pub sought-at : {k : Position} {m : Label} {t : ColumnType} → X ≡ at k m t
       → sought X (missing d i n l u) (λ k m t. attachRenamed v p d l u k m t) ≡ attachRenamed v p d l u k m t
   unfolding sought

@@ -1,18 +1,13 @@
 // The type matcher and the field matcher call each other, the remaining depth falling. They write into a scratch buffer from an index on: a
 // mapping that turns out to be left out is written over, and after a refusal nothing is said of the buffer.
-ghost use mathlib.Core.Path.{_≡_};
-ghost use mathlib.Core.Bool.{true};
-ghost use Prim.Native.Nat.{ℕ, _+_, _-_, _*_, _≤_, _<_};
+ghost use Prim.Native.Nat.{_+_, _*_, _≤_, _<_};
 ghost use lib.ListN.{length, take};
-ghost use Rattle.layout.specs.Answers.{labelAt, spanIn};
-ghost use Rattle.layout.specs.Find.{counterpart, Finds};
-ghost use Rattle.layout.specs.Stands.{TypeAt, ColumnsAt};
-ghost use Rattle.layout.specs.Tree.{Columns};
+ghost use Rattle.layout.specs.Answers.{spanIn};
 ghost use Rattle.defaults.specs.Stands.{TableAt};
-ghost use Rattle.labels.specs.Table.{Table};
-ghost use Rattle.plan.specs.Selector.{Selector};
-ghost use Rattle.matching.specs.Build.{unlessNullType};
-ghost use Rattle.builder.specs.Answers.{Makes, Maps, elementOf, needsRename, DefaultsAt, defaultsAt, Attached, AttachedFields, attachRenamed, attachField, attachStruct, attachElement, attachInner, attachNested};
+ghost use Rattle.builder.specs.Bundles.{TableOf, TypesAt, RowsAt};
+ghost use Rattle.matcher.specs.Contracts.{FieldsOverAt, PairAt, PairNamed, SoughtAt, StructRoom};
+ghost use Rattle.matcher.specs.Contracts.{AttachedTypes, AttachedNested, AttachedStruct, AttachedRows, AttachedField};
+ghost use Rattle.matcher.specs.Contracts.{AttachedPair, AttachedElement, AttachedInner};
 use builder::answer::Made;
 use builder::answer::Row;
 use builder::answer::both;
@@ -22,8 +17,19 @@ use builder::answer::is_refused;
 use builder::answer::len_of;
 use builder::answer::refused_row;
 use builder::answer::unchanged;
+use builder::build::Build;
+use builder::build::Column;
+use builder::build::Fields;
+use builder::build::FieldsOver;
+use builder::build::Missing;
+use builder::build::Pair;
+use builder::build::Place;
+use builder::build::Rows;
+use builder::build::Sought;
+use builder::build::Types;
 use builder::conditions::inserts;
 use builder::conditions::is_null_incoming;
+use builder::conditions::keeps_required;
 use builder::conditions::needs_rename;
 use builder::conditions::put_null_cast;
 use builder::conditions::same_element;
@@ -45,95 +51,52 @@ use defaults::read::TableVersion;
 use forms::write::write_text;
 use labels::fill_in;
 use labels::find_in;
-use layout::columns::Label;
 use layout::columns::Labelled;
 use layout::columns::Position;
 use layout::cursor::Cursor;
 use layout::find::Found;
 use layout::types::Head;
-use layout::version::Version;
 use layout::walk::skip_type;
-use rules::policy::Policy;
 use store::put;
 
-// The type matcher: the target type at `b` over the incoming type at `c`, which has that position.
+// The type matcher: the target type over the incoming type, which has the place's position.
 pub fn attach_transforms(
-    policy: Policy,
-    v: Version,
-    depth: u8,
+    build: Build,
     incoming: &[u8],
-    c: Cursor,
     table: &[u8],
-    defaults: DefaultFieldValues,
     target: &[u8],
-    b: Cursor,
-    position: Position,
+    types: Types,
     out: &mut [u8],
-    k: usize,
+    place: Place,
     arena: &mut [u16],
 ) -> Made
-    requires { ⌜ TypeAt v depth (now incoming) (c .at) × TypeAt v depth (now target) (b .at) ⌝ }
-    requires { ⌜ TableAt (now table) defaults ⌝ }
-    requires { ⌜ (length (now target) ≤ 16384) × (length (now table) ≤ 16384) × (k ≤ 65536 * b .at + 1) ⌝ }
-    ensures { λ r. ⌜ Attached policy v depth (now (table .entry)) defaults (now (incoming .entry)) (c .at) (now (target .entry)) (b .at) position (now (out .entry)) k r (now (out .exit)) ⌝ }
+    requires { ⌜ TypesAt build types (now incoming) (now target) ⌝ }
+    requires { ⌜ TableAt (now table) (build .defaults) ⌝ }
+    requires { ⌜ (length (now target) ≤ 16384) × (length (now table) ≤ 16384) × (place .k ≤ 65536 * types .target .at + 1) ⌝ }
+    ensures { λ r. ⌜ AttachedTypes build (now (incoming .entry)) (now (table .entry)) (now (target .entry)) types place (now (out .entry)) r (now (out .exit)) ⌝ }
 {
+    let b = types.target;
     match b.head(target) {
-        Head::Leaf(u, _) => attach_leaf(
-            policy,
-            v,
-            depth,
-            incoming,
-            c,
-            target,
-            b,
-            u,
-            position,
-            out,
-            k,
-        ),
+        Head::Leaf(u, _) => attach_leaf(build, incoming, target, types, u, out, place),
         Head::Struct(_, _) => attach_nested(
-            policy,
-            v,
-            depth,
+            build,
             incoming,
-            c,
             table,
-            defaults,
             target,
-            b,
-            position,
+            types,
             out,
-            k,
+            place,
             arena,
         ),
-        Head::List(_) => attach_nested(
-            policy,
-            v,
-            depth,
-            incoming,
-            c,
-            table,
-            defaults,
-            target,
-            b,
-            position,
-            out,
-            k,
-            arena,
-        ),
+        Head::List(_) => attach_nested(build, incoming, table, target, types, out, place, arena),
         Head::Array(_, _) => attach_nested(
-            policy,
-            v,
-            depth,
+            build,
             incoming,
-            c,
             table,
-            defaults,
             target,
-            b,
-            position,
+            types,
             out,
-            k,
+            place,
             arena,
         ),
         Head::Refused(_) => Made::Refused(24),
@@ -142,211 +105,204 @@ pub fn attach_transforms(
 
 // The same for a target that is no leaf.
 fn attach_nested(
-    policy: Policy,
-    v: Version,
-    depth: u8,
+    build: Build,
     incoming: &[u8],
-    c: Cursor,
     table: &[u8],
-    defaults: DefaultFieldValues,
     target: &[u8],
-    b: Cursor,
-    position: Position,
+    types: Types,
     out: &mut [u8],
-    k: usize,
+    place: Place,
     arena: &mut [u16],
 ) -> Made
-    requires { ⌜ TypeAt v depth (now incoming) (c .at) × TypeAt v depth (now target) (b .at) ⌝ }
-    requires { ⌜ TableAt (now table) defaults ⌝ }
-    requires { ⌜ (length (now target) ≤ 16384) × (length (now table) ≤ 16384) × (k ≤ 65536 * b .at + 1) ⌝ }
-    ensures { λ r. ⌜ ((T : DefaultsAt (now (table .entry)) defaults) (P : TypeAt v depth (now (incoming .entry)) (c .at)) (Q : TypeAt v depth (now (target .entry)) (b .at)) → Makes (b .at) (Q .end) (now (out .entry)) k (unlessNullType v policy position (Q .tree) (P .tree) (attachNested v policy (defaultsAt defaults T) (Q .tree) position (P .tree))) r (now (out .exit))) ⌝ }
+    requires { ⌜ TypesAt build types (now incoming) (now target) ⌝ }
+    requires { ⌜ TableAt (now table) (build .defaults) ⌝ }
+    requires { ⌜ (length (now target) ≤ 16384) × (length (now table) ≤ 16384) × (place .k ≤ 65536 * types .target .at + 1) ⌝ }
+    ensures { λ r. ⌜ AttachedNested build (now (incoming .entry)) (now (table .entry)) (now (target .entry)) types place (now (out .entry)) r (now (out .exit)) ⌝ }
 {
-    if is_null_incoming(v, incoming, c) {
-        return put_null_cast(policy, v, depth, target, b, position, out, k);
-    }
-    match struct_part(target, b) {
-        StructPart::Is(m, e) => attach_struct(
-            policy,
-            v,
-            depth,
-            incoming,
-            c,
-            table,
-            defaults,
-            target,
-            m,
-            e,
-            position,
-            out,
-            k,
-            arena,
-        ),
-        StructPart::Mismatch => attach_inner(
-            policy,
-            v,
-            depth,
-            incoming,
-            c,
-            table,
+    let how = build.matching;
+    let w = build.target;
+    let c = types.incoming;
+    let b = types.target;
+    if is_null_incoming(how, incoming, c) {
+        return put_null_cast(
+            build.policy,
+            w,
+            types.depth,
             target,
             b,
-            position,
+            place.position,
             out,
-            k,
+            place.k,
+        );
+    }
+    match struct_part(target, b) {
+        StructPart::Is(count, first) => {
+            let over = FieldsOver {
+                depth: types.depth,
+                incoming: c,
+                target: Fields { count, first },
+            };
+            attach_struct(build, incoming, table, target, over, out, place, arena)
+        }
+        StructPart::Mismatch => attach_inner(
+            build,
+            incoming,
+            table,
+            target,
+            types,
+            out,
+            place,
             arena,
         ),
     }
 }
 
-// A struct target, whose `m` fields stand at `b`.
+// A struct target, whose fields are these.
 fn attach_struct(
-    policy: Policy,
-    v: Version,
-    depth: u8,
+    build: Build,
     incoming: &[u8],
-    c: Cursor,
     table: &[u8],
-    defaults: DefaultFieldValues,
     target: &[u8],
-    m: u16,
-    b: Cursor,
-    position: Position,
+    over: FieldsOver,
     out: &mut [u8],
-    k: usize,
+    place: Place,
     arena: &mut [u16],
 ) -> Made
-    requires { ⌜ TypeAt v depth (now incoming) (c .at) × ColumnsAt v (depth - 1) (now target) m (b .at) ⌝ }
-    requires { ⌜ TableAt (now table) defaults ⌝ }
-    requires { ⌜ (length (now target) ≤ 16384) × (length (now table) ≤ 16384) × (b .at ≤ length (now target)) × (k + 6 ≤ 65536 * b .at) ⌝ }
-    ensures { λ r. ⌜ ((from : ℕ) (T : DefaultsAt (now (table .entry)) defaults) (P : TypeAt v depth (now (incoming .entry)) (c .at)) (Q : ColumnsAt v (depth - 1) (now (target .entry)) m (b .at)) → from < b .at → Makes from (Q .end) (now (out .entry)) k (attachStruct v policy (defaultsAt defaults T) (Q .columns) position (P .tree)) r (now (out .exit))) ⌝ }
+    requires { ⌜ FieldsOverAt build over (now incoming) (now target) ⌝ }
+    requires { ⌜ TableAt (now table) (build .defaults) ⌝ }
+    requires { ⌜ StructRoom over place (now table) (now target) ⌝ }
+    ensures { λ r. ⌜ AttachedStruct build (now (incoming .entry)) (now (table .entry)) (now (target .entry)) over place (now (out .entry)) r (now (out .exit)) ⌝ }
 {
-    let StructPart::Is(n, d) = struct_part(incoming, c) else {
+    let StructPart::Is(n, d) = struct_part(incoming, over.incoming) else {
         return Made::Refused(24);
     };
-    let fault = struct_fault(policy, v, depth - 1, incoming, n, d, target, m, b, arena);
+    let fields = over.target;
+    let rows = Rows {
+        depth: over.depth - 1,
+        incoming: Fields { count: n, first: d },
+        target: fields,
+    };
+    let fault = struct_fault(build, incoming, target, rows, arena);
     if fault != 0 {
         return Made::Refused(fault);
     }
-    put_head(out, k, 4, position);
-    put_short(out, k + 4, m);
+    let position = place.position;
+    put_head(out, place.k, 4, position);
+    put_short(out, place.k + 4, over.target.count);
     let row = attach_row(
-        policy,
-        v,
-        depth - 1,
+        build,
         incoming,
-        n,
-        d,
         table,
-        defaults,
         target,
-        m,
-        b,
+        rows,
         out,
-        k + 6,
+        place.k + 6,
         arena,
     );
     let Row::Done(same, len) = row else {
         return refused_row(row);
     };
-    if unchanged(n, m, same) {
-        put_position(out, k, position);
+    if unchanged(n, over.target.count, same) {
+        put_position(out, place.k, position);
         return Made::Bare(position);
     }
     Made::Built(6 + len)
 }
 
-// The field matcher: `m` target fields from `b` on over `n` incoming fields from `c` on. A table of the incoming fields stands at the start of the
-// arena, and what is behind it is lent to the types of the fields.
+// The field matcher: the target's fields over the incoming fields. A table of the incoming fields stands at the start of the arena, and what is behind
+// it is lent to the types of the fields.
 fn attach_row(
-    policy: Policy,
-    v: Version,
-    depth: u8,
+    build: Build,
     incoming: &[u8],
-    n: u16,
-    c: Cursor,
     table: &[u8],
-    defaults: DefaultFieldValues,
     target: &[u8],
-    m: u16,
-    b: Cursor,
+    rows: Rows,
     out: &mut [u8],
     k: usize,
     arena: &mut [u16],
 ) -> Row
-    requires { ⌜ ColumnsAt v depth (now incoming) n (c .at) × ColumnsAt v depth (now target) m (b .at) ⌝ }
-    requires { ⌜ TableAt (now table) defaults ⌝ }
-    requires { ⌜ (length (now target) ≤ 16384) × (length (now table) ≤ 16384) × (k ≤ 65536 * b .at) ⌝ }
-    ensures { λ r. ⌜ AttachedFields policy v depth (now (table .entry)) defaults (now (incoming .entry)) n (c .at) (now (target .entry)) m (b .at) (now (out .entry)) k r (now (out .exit)) ⌝ }
+    requires { ⌜ RowsAt build rows (now incoming) (now target) ⌝ }
+    requires { ⌜ TableAt (now table) (build .defaults) ⌝ }
+    requires { ⌜ (length (now target) ≤ 16384) × (length (now table) ≤ 16384) × (k ≤ 65536 * rows .target .first .at) ⌝ }
+    ensures { λ r. ⌜ AttachedRows build (now (incoming .entry)) (now (table .entry)) (now (target .entry)) rows k (now (out .entry)) r (now (out .exit)) ⌝ }
 {
-    let used = fill_in(m, incoming, v, depth, n, c, arena);
-    attach_fields(
-        policy,
-        v,
-        depth,
+    let how = build.matching;
+    let v = build.incoming;
+    let c = rows.incoming.first;
+    let used = fill_in(
+        rows.target.count,
         incoming,
-        n,
+        v,
+        how,
+        rows.depth,
+        rows.incoming.count,
         c,
-        used,
-        table,
-        defaults,
-        target,
-        m,
-        b,
-        out,
-        k,
         arena,
-    )
+    );
+    attach_fields(build, incoming, used, table, target, rows, out, k, arena)
 }
 
 // The same, counterparts found through the table, the first `used` numbers of the arena, where there is one. A loop, so that 65,535 fields take no
 // stack.
 fn attach_fields(
-    policy: Policy,
-    v: Version,
-    depth: u8,
+    build: Build,
     incoming: &[u8],
-    n: u16,
-    c: Cursor,
     used: usize,
     table: &[u8],
-    defaults: DefaultFieldValues,
     target: &[u8],
-    m: u16,
-    b: Cursor,
+    rows: Rows,
     out: &mut [u8],
     k: usize,
     arena: &mut [u16],
 ) -> Row
-    requires { ⌜ ColumnsAt v depth (now incoming) n (c .at) × ColumnsAt v depth (now target) m (b .at) ⌝ }
-    requires { ⌜ TableAt (now table) defaults ⌝ }
-    requires { ⌜ (length (now target) ≤ 16384) × (length (now table) ≤ 16384) × (k ≤ 65536 * b .at) ⌝ }
-    requires { ⌜ (used ≤ length (now arena)) × (0 < used → Table v depth (now incoming) n (c .at) (take used (now arena))) ⌝ }
-    ensures { λ r. ⌜ AttachedFields policy v depth (now (table .entry)) defaults (now (incoming .entry)) n (c .at) (now (target .entry)) m (b .at) (now (out .entry)) k r (now (out .exit)) ⌝ }
+    requires { ⌜ RowsAt build rows (now incoming) (now target) ⌝ }
+    requires { ⌜ TableAt (now table) (build .defaults) ⌝ }
+    requires { ⌜ (length (now target) ≤ 16384) × (length (now table) ≤ 16384) × (k ≤ 65536 * rows .target .first .at) ⌝ }
+    requires { ⌜ (used ≤ length (now arena)) × (0 < used → TableOf build (build .incoming) (rows .depth) (now incoming) (rows .incoming) (take used (now arena))) ⌝ }
+    ensures { λ r. ⌜ AttachedRows build (now (incoming .entry)) (now (table .entry)) (now (target .entry)) rows k (now (out .entry)) r (now (out .exit)) ⌝ }
 {
+    let how = build.matching;
+    let v = build.incoming;
+    let w = build.target;
+    let c = rows.incoming.first;
+    let policy = build.policy;
     let missing = policy.missing_struct_fields;
     let insert = inserts(missing);
-    let mut from = b.at;
+    let count = rows.target.count;
+    let mut from = rows.target.first.at;
     let mut index: u16 = 0;
     let mut to = k;
     let mut same = true;
-    while index < m {
+    while index < count {
         let f = Cursor { at: from };
-        match f.label(target, v) {
+        match f.label(target, w) {
             Labelled::Is(l, next) => {
-                let found = find_in(incoming, v, depth, n, c, &arena[..used], target, l);
-                let first = attach_field(
-                    policy,
-                    v,
-                    depth,
+                let found = find_in(
                     incoming,
-                    found,
-                    table,
-                    defaults,
+                    v,
+                    how,
+                    rows.depth,
+                    rows.incoming.count,
+                    c,
+                    &arena[..used],
                     target,
                     l,
-                    next,
-                    insert,
-                    14,
+                );
+                let sought = Sought {
+                    depth: rows.depth,
+                    column: Column {
+                        label: l,
+                        cursor: next,
+                    },
+                    found,
+                    missing: Missing { insert, number: 14 },
+                };
+                let first = attach_field(
+                    build,
+                    incoming,
+                    table,
+                    target,
+                    sought,
                     out,
                     to,
                     &mut arena[used..],
@@ -356,7 +312,7 @@ fn attach_fields(
                 }
                 same = both(same, is_bare(first, index));
                 to += len_of(first);
-                let e = skip_type(target, v, depth, next);
+                let e = skip_type(target, w, rows.depth, next);
                 from = e.at;
             }
             Labelled::Refused(_) => return Row::Failed(0),
@@ -366,160 +322,116 @@ fn attach_fields(
     Row::Done(same, to - k)
 }
 
-// One target column, whose label is `l` and whose type stands at `b`, over its counterpart among the incoming columns, which the caller has looked up, or
-// the column that is missing (`number`: 14 in a struct, 11 at the top). `build_column_selector` is this with 11.
+// One target column over its counterpart among the incoming columns, which the caller has looked up, or the column that is missing.
+// `build_column_selector` is this with 11.
 pub fn attach_field(
-    policy: Policy,
-    v: Version,
-    depth: u8,
+    build: Build,
     incoming: &[u8],
-    found: Found,
     table: &[u8],
-    defaults: DefaultFieldValues,
     target: &[u8],
-    l: Label,
-    b: Cursor,
-    insert: bool,
-    number: u8,
+    sought: Sought,
     out: &mut [u8],
     k: usize,
     arena: &mut [u16],
 ) -> Made
-    requires { ⌜ ((fs : Columns) × Finds v depth (now incoming) (counterpart v (labelAt (now target) l) fs) found) × TypeAt v depth (now target) (b .at) ⌝ }
-    requires { ⌜ TableAt (now table) defaults ⌝ }
-    requires { ⌜ spanIn (now target) (l .name) × (l .name .len ≤ 63) ⌝ }
-    requires { ⌜ (length (now target) ≤ 16384) × (length (now table) ≤ 16384) × (k ≤ 65536 * b .at) ⌝ }
-    ensures { λ r. ⌜ ((from : ℕ) (T : DefaultsAt (now (table .entry)) defaults) (fs : Columns) (Q : TypeAt v depth (now (target .entry)) (b .at)) → Finds v depth (now (incoming .entry)) (counterpart v (labelAt (now (target .entry)) l) fs) found → from < b .at → Makes from (Q .end) (now (out .entry)) k (attachField v policy (defaultsAt defaults T) insert number (labelAt (now (target .entry)) l) (Q .tree) fs) r (now (out .exit))) ⌝ }
+    requires { ⌜ SoughtAt build sought (now incoming) (now target) ⌝ }
+    requires { ⌜ TableAt (now table) (build .defaults) ⌝ }
+    requires { ⌜ spanIn (now target) (sought .column .label .name) × (sought .column .label .name .len ≤ 63) ⌝ }
+    requires { ⌜ (length (now target) ≤ 16384) × (length (now table) ≤ 16384) × (k ≤ 65536 * sought .column .cursor .at) ⌝ }
+    ensures { λ r. ⌜ AttachedField build (now (incoming .entry)) (now (table .entry)) (now (target .entry)) sought k (now (out .entry)) r (now (out .exit)) ⌝ }
 {
+    let column = sought.column;
+    let missing = sought.missing;
+    let found = sought.found;
     match found {
-        Found::At(position, m, d) => attach_renamed(
-            policy,
-            v,
-            depth,
-            incoming,
-            m,
-            d,
-            table,
-            defaults,
-            target,
-            l,
-            b,
-            position,
-            out,
-            k,
-            arena,
-        ),
-        Found::Absent => put_missing(
-            insert,
-            number,
-            v,
-            depth,
-            table,
-            defaults,
-            target,
-            l,
-            b,
-            out,
-            k,
-        ),
+        Found::At(position, label, cursor) => {
+            let pair = Pair {
+                depth: sought.depth,
+                incoming: Column { label, cursor },
+                target: column,
+            };
+            let place = Place { position, k };
+            attach_renamed(build, incoming, table, target, pair, out, place, arena)
+        }
+        Found::Absent => put_missing(missing, build, sought.depth, table, target, column, out, k),
     }
 }
 
-// The type matcher with a rename outside, where the labels ask for one.
+// The type matcher with a rename outside, where the labels ask for one. 55 is tested before the types.
 fn attach_renamed(
-    policy: Policy,
-    v: Version,
-    depth: u8,
+    build: Build,
     incoming: &[u8],
-    m: Label,
-    c: Cursor,
     table: &[u8],
-    defaults: DefaultFieldValues,
     target: &[u8],
-    l: Label,
-    b: Cursor,
-    position: Position,
+    pair: Pair,
     out: &mut [u8],
-    k: usize,
+    place: Place,
     arena: &mut [u16],
 ) -> Made
-    requires { ⌜ TypeAt v depth (now incoming) (c .at) × TypeAt v depth (now target) (b .at) ⌝ }
-    requires { ⌜ TableAt (now table) defaults ⌝ }
-    requires { ⌜ spanIn (now incoming) (m .name) × spanIn (now target) (l .name) × (l .name .len ≤ 63) ⌝ }
-    requires { ⌜ (length (now target) ≤ 16384) × (length (now table) ≤ 16384) × (k ≤ 65536 * b .at) ⌝ }
-    ensures { λ r. ⌜ ((from : ℕ) (T : DefaultsAt (now (table .entry)) defaults) (P : TypeAt v depth (now (incoming .entry)) (c .at)) (Q : TypeAt v depth (now (target .entry)) (b .at)) → from ≤ b .at → (needsRename v (labelAt (now (target .entry)) l) (labelAt (now (incoming .entry)) m) ≡ true → from < b .at) → Makes from (Q .end) (now (out .entry)) k (attachRenamed v policy (defaultsAt defaults T) (labelAt (now (target .entry)) l) (Q .tree) position (labelAt (now (incoming .entry)) m) (P .tree)) r (now (out .exit))) ⌝ }
+    requires { ⌜ PairAt build pair (now incoming) (now target) ⌝ }
+    requires { ⌜ TableAt (now table) (build .defaults) ⌝ }
+    requires { ⌜ PairNamed pair (now incoming) (now target) ⌝ }
+    requires { ⌜ (length (now target) ≤ 16384) × (length (now table) ≤ 16384) × (place .k ≤ 65536 * pair .target .cursor .at) ⌝ }
+    ensures { λ r. ⌜ AttachedPair build (now (incoming .entry)) (now (table .entry)) (now (target .entry)) pair place (now (out .entry)) r (now (out .exit)) ⌝ }
 {
-    if !needs_rename(v, incoming, m, target, l) {
-        return attach_transforms(
-            policy,
-            v,
-            depth,
-            incoming,
-            c,
-            table,
-            defaults,
-            target,
-            b,
-            position,
-            out,
-            k,
-            arena,
-        );
+    let column = pair.incoming;
+    if !keeps_required(incoming, column, pair.target.label.required) {
+        return Made::Refused(55);
     }
-    put(out, k, 3);
-    let made = attach_transforms(
-        policy,
-        v,
-        depth,
-        incoming,
-        c,
-        table,
-        defaults,
-        target,
-        b,
+    let how = build.matching;
+    let c = pair.incoming.cursor;
+    let b = pair.target.cursor;
+    let types = Types {
+        depth: pair.depth,
+        incoming: c,
+        target: b,
+    };
+    let m = pair.incoming.label;
+    let l = pair.target.label;
+    if !needs_rename(how, incoming, m, target, l) {
+        return attach_transforms(build, incoming, table, target, types, out, place, arena);
+    }
+    put(out, place.k, 3);
+    let position = place.position;
+    let inner = Place {
         position,
-        out,
-        k + 1,
-        arena,
-    );
+        k: place.k + 1,
+    };
+    let made = attach_transforms(build, incoming, table, target, types, out, inner, arena);
     if is_refused(made) {
         return made;
     }
     let len = len_of(made);
     let name = l.name;
-    let n = write_text(target, name, out, k + 1 + len);
+    let n = write_text(target, name, out, place.k + 1 + len);
     Made::Built(1 + len + n)
 }
 
-// Two lists or two arrays of one width: the elements' labels are `m` and `l`, their types stand at `c` and `b`, and the mapping has this code.
+// Two lists or two arrays of one width, of which these are the elements; the mapping has this code.
 fn attach_element(
-    policy: Policy,
-    v: Version,
-    depth: u8,
+    mut build: Build,
     code: u8,
     incoming: &[u8],
-    m: Label,
-    c: Cursor,
     table: &[u8],
     target: &[u8],
-    l: Label,
-    b: Cursor,
-    position: Position,
+    pair: Pair,
     out: &mut [u8],
-    k: usize,
+    place: Place,
     arena: &mut [u16],
 ) -> Made
-    requires { ⌜ TypeAt v depth (now incoming) (c .at) × TypeAt v depth (now target) (b .at) ⌝ }
-    requires { ⌜ spanIn (now incoming) (m .name) × spanIn (now target) (l .name) × (l .name .len ≤ 63) ⌝ }
-    requires { ⌜ (length (now target) ≤ 16384) × (length (now table) ≤ 16384) × (k + 4 ≤ 65536 * b .at) ⌝ }
-    ensures { λ r. ⌜ ((from : ℕ) (f g : Selector → Selector) (M : Maps position code f g) (P : TypeAt v depth (now (incoming .entry)) (c .at)) (Q : TypeAt v depth (now (target .entry)) (b .at)) → from < b .at → (needsRename v (labelAt (now (target .entry)) l) (labelAt (now (incoming .entry)) m) ≡ true → from + 1 < b .at) → Makes from (Q .end) (now (out .entry)) k (attachElement v policy f (labelAt (now (target .entry)) l) (Q .tree) (labelAt (now (incoming .entry)) m) (P .tree)) r (now (out .exit))) ⌝ }
+    requires { ⌜ PairAt build pair (now incoming) (now target) ⌝ }
+    requires { ⌜ PairNamed pair (now incoming) (now target) ⌝ }
+    requires { ⌜ (length (now target) ≤ 16384) × (length (now table) ≤ 16384) × (place .k + 4 ≤ 65536 * pair .target .cursor .at) ⌝ }
+    ensures { λ r. ⌜ AttachedElement build code (now (incoming .entry)) (now (target .entry)) pair place (now (out .entry)) r (now (out .exit)) ⌝ }
 {
-    let i = m.id;
-    let j = l.id;
-    if !same_element(v, i, j) {
+    let how = build.matching;
+    let i = pair.incoming.label.id;
+    let j = pair.target.label.id;
+    if !same_element(how, i, j) {
         return Made::Refused(25);
     }
-    put_head(out, k, code, position);
+    let position = place.position;
+    put_head(out, place.k, code, position);
     let none = DefaultFieldValues {
         version: TableVersion::Shared,
         count: 0,
@@ -527,28 +439,17 @@ fn attach_element(
         owner: 0,
         source_index: 0,
     };
-    let made = attach_renamed(
-        policy,
-        v,
-        depth,
-        incoming,
-        m,
-        c,
-        table,
-        none,
-        target,
-        l,
-        b,
-        Position(0),
-        out,
-        k + 4,
-        arena,
-    );
+    build.defaults = none;
+    let first = Place {
+        position: Position(0),
+        k: place.k + 4,
+    };
+    let made = attach_renamed(build, incoming, table, target, pair, out, first, arena);
     if is_refused(made) {
         return made;
     }
     if is_bare(made, 0) {
-        put_position(out, k, position);
+        put_position(out, place.k, position);
         return Made::Bare(position);
     }
     Made::Built(4 + len_of(made))
@@ -556,67 +457,55 @@ fn attach_element(
 
 // A target that is a list or an array.
 fn attach_inner(
-    policy: Policy,
-    v: Version,
-    depth: u8,
+    build: Build,
     incoming: &[u8],
-    c: Cursor,
     table: &[u8],
     target: &[u8],
-    b: Cursor,
-    position: Position,
+    types: Types,
     out: &mut [u8],
-    k: usize,
+    place: Place,
     arena: &mut [u16],
 ) -> Made
-    requires { ⌜ TypeAt v depth (now incoming) (c .at) × TypeAt v depth (now target) (b .at) ⌝ }
-    requires { ⌜ (length (now target) ≤ 16384) × (length (now table) ≤ 16384) × (k ≤ 65536 * b .at + 1) ⌝ }
-    ensures { λ r. ⌜ ((P : TypeAt v depth (now (incoming .entry)) (c .at)) (Q : TypeAt v depth (now (target .entry)) (b .at)) → Makes (b .at) (Q .end) (now (out .entry)) k (attachInner v policy (elementOf (Q .tree)) position (P .tree)) r (now (out .exit))) ⌝ }
+    requires { ⌜ TypesAt build types (now incoming) (now target) ⌝ }
+    requires { ⌜ (length (now target) ≤ 16384) × (length (now table) ≤ 16384) × (place .k ≤ 65536 * types .target .at + 1) ⌝ }
+    ensures { λ r. ⌜ AttachedInner build (now (incoming .entry)) (now (target .entry)) types place (now (out .entry)) r (now (out .exit)) ⌝ }
 {
-    match element_part(target, v, b) {
+    let v = build.incoming;
+    let w = build.target;
+    match element_part(target, w, types.target) {
         ElementPart::List(l, e) => {
-            let InnerPart::Is(m, d) = list_part(incoming, v, c) else {
+            let InnerPart::Is(m, d) = list_part(incoming, v, types.incoming) else {
                 return Made::Refused(24);
             };
-            attach_element(
-                policy,
-                v,
-                depth - 1,
-                5,
-                incoming,
-                m,
-                d,
-                table,
-                target,
-                l,
-                e,
-                position,
-                out,
-                k,
-                arena,
-            )
+            let pair = Pair {
+                depth: types.depth - 1,
+                incoming: Column {
+                    label: m,
+                    cursor: d,
+                },
+                target: Column {
+                    label: l,
+                    cursor: e,
+                },
+            };
+            attach_element(build, 5, incoming, table, target, pair, out, place, arena)
         }
-        ElementPart::Array(w, l, e) => {
-            let InnerPart::Is(m, d) = array_part(incoming, v, w, c) else {
+        ElementPart::Array(width, l, e) => {
+            let InnerPart::Is(m, d) = array_part(incoming, v, width, types.incoming) else {
                 return Made::Refused(24);
             };
-            attach_element(
-                policy,
-                v,
-                depth - 1,
-                6,
-                incoming,
-                m,
-                d,
-                table,
-                target,
-                l,
-                e,
-                position,
-                out,
-                k,
-                arena,
-            )
+            let pair = Pair {
+                depth: types.depth - 1,
+                incoming: Column {
+                    label: m,
+                    cursor: d,
+                },
+                target: Column {
+                    label: l,
+                    cursor: e,
+                },
+            };
+            attach_element(build, 6, incoming, table, target, pair, out, place, arena)
         }
         ElementPart::Mismatch => Made::Refused(24),
     }

@@ -12,7 +12,7 @@ use Rattle.layout.specs.Tree.{Layout}
 use Rattle.layout.specs.Answers.{layoutOf}
 use Rattle.layout.specs.declared.cursor.Cursor.{Cursor}
 use Rattle.layout.specs.declared.read.LayoutRead.{LayoutRead}
-use Rattle.layout.specs.declared.version.Version.{Version}
+use Rattle.layout.specs.declared.edition.Edition.{Edition}
 use Rattle.layout.proofs.Ways.{clash}
 use Rattle.layout.specs.Bytes.{Bytes}
 use Rattle.rules.specs.declared.policy.Policy.{Policy}
@@ -63,7 +63,7 @@ module _ (n : ℕ) where
   unfolding placeOf choose
   refusal-unplaced k e f = rw (← e, f) (let z : n * 4294967296 ≡ n * 4294967296 + 0 = omega arith in z)
 
-pub layout-accepted : (x : Res Layout) {r : LayoutRead} {v : Version} {n : ℕ} {c : Cursor} → r ≡ layoutOf x → r ≡ LayoutRead.Read v n c → 0 ≡ readAnswer x
+pub layout-accepted : (x : Res Layout) {r : LayoutRead} {v : Edition} {n : ℕ} {c : Cursor} → r ≡ layoutOf x → r ≡ LayoutRead.Read v n c → 0 ≡ readAnswer x
 unfolding layoutOf
 layout-accepted (refuse k) e f = clash (cc)
 layout-accepted (ok l m) e f = refl

@@ -10,7 +10,7 @@ use Rattle.layout.specs.Bytes.{Bytes, AllBytes}
 use Rattle.layout.specs.Parser.{Res, refuse, ok, choose}
 use Rattle.layout.specs.Tree.{Layout}
 use Rattle.layout.specs.Layout.{layout}
-use Rattle.layout.specs.declared.version.Version.the-variants.{ByName, ByNumber}
+use Rattle.layout.specs.declared.matching.Matching.the-variants.{ByName, ByNumber}
 use Rattle.rules.specs.Policies.{policyOf}
 use Rattle.plan.specs.Result.{Answer, accepted, refusedAt}
 use Rattle.plan.specs.Calls.{readAt, checkPlan, runPlan}

@@ -59,7 +59,7 @@ pub extern "C" fn selector_read_layout(bytes: &[u8]) -> u64
 {
     match read_layout(bytes) {
         LayoutRead::Read {
-            version: _,
+            edition: _,
             count: _,
             columns: _,
         } => 0,

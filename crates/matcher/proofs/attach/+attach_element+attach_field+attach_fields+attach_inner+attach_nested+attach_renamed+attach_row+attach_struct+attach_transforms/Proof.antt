@@ -6,7 +6,6 @@ use lib.Seq.{length-take-le}
 use lib.ListN.{length, take}
 use native.Mathlib.Omega.{arith}
 use Rattle.matcher.proofs.Remaining.{Remaining, remaining-all, remaining-none, remaining-unlabelled, field, field-name, field-after, remaining-stop, remaining-room, remaining-more}
-use Prim.Native.Nat.{ℕ, _+_, _-_, _*_, _<_}
 use denote.Ref.{now}
 use mathlib.Core.Path.{_≡_, refl, sym, ap, _∙_}
 use Rattle.builder.proofs.Names.{not-false}
@@ -21,9 +20,10 @@ use Rattle.builder.specs.Answers.{elementOf, defaultsAt}
 use Rattle.builder.proofs.Matching.{leaf-none, makes-refused, makes-as}
 use Rattle.builder.proofs.Rows.{makes-room, list-maps, array-maps}
 use Rattle.builder.proofs.Taking.{part-struct, part-no-struct, part-list, part-array, part-no-element, part-inner, part-no-inner, found-here, found-absent}
-use Rattle.matcher.proofs.Cycle.{makes-to, nested-is, nested-null, nested-other, nested-struct, nested-inner, struct-other, struct-faulted, struct-stops, struct-left-out, struct-kept, row-room, count-at, columns-within, rename-on, renamed-plain, renamed-stopped, renamed-made, none-at, none-is, element-unlike, element-stopped, element-left-out, element-kept, element-names, inner-list, inner-list-other, inner-array, inner-array-other, inner-none, sought-at, sought-absent}
+use Rattle.matcher.proofs.Cycle.{makes-to, required-unkept, nested-is, nested-null, nested-other, nested-struct, nested-inner, struct-other, struct-faulted, struct-stops, struct-left-out, struct-kept, row-room, count-at, columns-within, rename-on, renamed-plain, renamed-stopped, renamed-made, none-at, none-is, element-unlike, element-stopped, element-left-out, element-kept, element-names, inner-list, inner-list-other, inner-array, inner-array-other, inner-none, sought-at, sought-absent}
 use mathlib.Core.Bool.{Bool, _&&_}
 use borrow.Author.Needs.{needs}
+use Prim.Native.Nat.{ℕ, _<_, _+_, _-_, _*_}
 use borrow.Fn.Kinds.{In}
 use borrow.Fn.PlainCycle.{Measures, is, falls, and}
 use Rattle.matcher.proofs.attach.attach_element.Reads as attach-element
@@ -62,6 +62,7 @@ use Rattle.builder.proofs.answer.refused_row.Reads as refused-row-reads
 use Rattle.builder.proofs.answer.unchanged.Reads as unchanged-reads
 use Rattle.builder.proofs.conditions.inserts.Reads as inserts-reads
 use Rattle.builder.proofs.conditions.is_null_incoming.Reads as is-null-incoming-reads
+use Rattle.builder.proofs.conditions.keeps_required.Reads as keeps-required-reads
 use Rattle.builder.proofs.conditions.needs_rename.Reads as needs-rename-reads
 use Rattle.builder.proofs.conditions.put_null_cast.Reads as put-null-cast-reads
 use Rattle.builder.proofs.conditions.same_element.Reads as same-element-reads
@@ -90,31 +91,31 @@ use Rattle.matcher.proofs.attach.+attach_element+attach_field+attach_fi
 }
 
 abbrev μ-attach-element : Measures 5 attach-element-kinds.ps ℕ
-μ-attach-element κs a = 7 * (a .1 .1 .0) + 4
+μ-attach-element κs a = 7 * (a .1 .1 .1 .1 .1 .0 .depth) + 4
 
 abbrev μ-attach-field : Measures 5 attach-field-kinds.ps ℕ
-μ-attach-field κs a = 7 * (a .1 .1 .0) + 4
+μ-attach-field κs a = 7 * (a .1 .1 .1 .1 .0 .depth) + 4
 
 abbrev μ-attach-fields : Measures 5 attach-fields-kinds.ps ℕ
-μ-attach-fields κs a = 7 * (a .1 .1 .0) + 5
+μ-attach-fields κs a = 7 * (a .1 .1 .1 .1 .1 .0 .depth) + 5
 
 abbrev μ-attach-inner : Measures 5 attach-inner-kinds.ps ℕ
-μ-attach-inner κs a = 7 * (a .1 .1 .0)
+μ-attach-inner κs a = 7 * (a .1 .1 .1 .1 .0 .depth)
 
 abbrev μ-attach-nested : Measures 5 attach-nested-kinds.ps ℕ
-μ-attach-nested κs a = 7 * (a .1 .1 .0) + 1
+μ-attach-nested κs a = 7 * (a .1 .1 .1 .1 .0 .depth) + 1
 
 abbrev μ-attach-renamed : Measures 5 attach-renamed-kinds.ps ℕ
-μ-attach-renamed κs a = 7 * (a .1 .1 .0) + 3
+μ-attach-renamed κs a = 7 * (a .1 .1 .1 .1 .0 .depth) + 3
 
 abbrev μ-attach-row : Measures 5 attach-row-kinds.ps ℕ
-μ-attach-row κs a = 7 * (a .1 .1 .0) + 6
+μ-attach-row κs a = 7 * (a .1 .1 .1 .1 .0 .depth) + 6
 
 abbrev μ-attach-struct : Measures 5 attach-struct-kinds.ps ℕ
-μ-attach-struct κs a = 7 * (a .1 .1 .0)
+μ-attach-struct κs a = 7 * (a .1 .1 .1 .1 .0 .depth)
 
 abbrev μ-attach-transforms : Measures 5 attach-transforms-kinds.ps ℕ
-μ-attach-transforms κs a = 7 * (a .1 .1 .0) + 2
+μ-attach-transforms κs a = 7 * (a .1 .1 .1 .1 .0 .depth) + 2
 
 abbrev attach-element-at : ℕ → In 5 attach-element-kinds.ps
 attach-element-at t =
@@ -232,751 +233,1278 @@ attach-transforms-below t =
     (falls 5 attach-transforms-kinds.ps _<_ μ-attach-transforms t)
     attach-transforms.Pre
 
-attach-element-same-element-requires : (t : ℕ) → attach-element-lts.Need-same-element-requires (same-element-reads.Asked, same-element-reads.Learnt, put-head-reads.Asked, put-head-reads.Learnt, attach-renamed-below t, attach-renamed.Post, is-refused-reads.Asked, is-refused-reads.Learnt, is-bare-reads.Asked, is-bare-reads.Learnt, put-position-reads.Asked, put-position-reads.Learnt, len-of-reads.Asked, len-of-reads.Learnt) (attach-element-at t) attach-element.Post
+abbrev attach-element-claims : ℕ → attach-element-lts.Claims
+attach-element-claims t = (
+  same-element-reads.Asked,
+  same-element-reads.Learnt,
+  put-head-reads.Asked,
+  put-head-reads.Learnt,
+  attach-renamed-below t,
+  attach-renamed.Post,
+  is-refused-reads.Asked,
+  is-refused-reads.Learnt,
+  is-bare-reads.Asked,
+  is-bare-reads.Learnt,
+  put-position-reads.Asked,
+  put-position-reads.Learnt,
+  len-of-reads.Asked,
+  len-of-reads.Learnt,
+)
+
+abbrev attach-field-claims : ℕ → attach-field-lts.Claims
+attach-field-claims t = (attach-renamed-below t, attach-renamed.Post, put-missing-reads.Asked, put-missing-reads.Learnt)
+
+abbrev attach-fields-claims : ℕ → attach-fields-lts.Claims
+attach-fields-claims t = (
+  inserts-reads.Asked,
+  inserts-reads.Learnt,
+  label-reads.Asked,
+  label-reads.Learnt,
+  find-in-reads.Asked,
+  find-in-reads.Learnt,
+  attach-field-below t,
+  attach-field.Post,
+  is-refused-reads.Asked,
+  is-refused-reads.Learnt,
+  failed-reads.Asked,
+  failed-reads.Learnt,
+  is-bare-reads.Asked,
+  is-bare-reads.Learnt,
+  both-reads.Asked,
+  both-reads.Learnt,
+  len-of-reads.Asked,
+  len-of-reads.Learnt,
+  skip-type-reads.Asked,
+  skip-type-reads.Learnt,
+)
+
+abbrev attach-inner-claims : ℕ → attach-inner-lts.Claims
+attach-inner-claims t = (
+  element-part-reads.Asked,
+  element-part-reads.Learnt,
+  list-part-reads.Asked,
+  list-part-reads.Learnt,
+  attach-element-below t,
+  attach-element.Post,
+  array-part-reads.Asked,
+  array-part-reads.Learnt,
+)
+
+abbrev attach-nested-claims : ℕ → attach-nested-lts.Claims
+attach-nested-claims t = (
+  is-null-incoming-reads.Asked,
+  is-null-incoming-reads.Learnt,
+  put-null-cast-reads.Asked,
+  put-null-cast-reads.Learnt,
+  struct-part-reads.Asked,
+  struct-part-reads.Learnt,
+  attach-struct-below t,
+  attach-struct.Post,
+  attach-inner-below t,
+  attach-inner.Post,
+)
+
+abbrev attach-renamed-claims : ℕ → attach-renamed-lts.Claims
+attach-renamed-claims t = (
+  keeps-required-reads.Asked,
+  keeps-required-reads.Learnt,
+  needs-rename-reads.Asked,
+  needs-rename-reads.Learnt,
+  attach-transforms-below t,
+  attach-transforms.Post,
+  put-reads.Asked,
+  put-reads.Learnt,
+  is-refused-reads.Asked,
+  is-refused-reads.Learnt,
+  len-of-reads.Asked,
+  len-of-reads.Learnt,
+  write-text-reads.Asked,
+  write-text-reads.Learnt,
+)
+
+abbrev attach-row-claims : ℕ → attach-row-lts.Claims
+attach-row-claims t = (fill-in-reads.Asked, fill-in-reads.Learnt, attach-fields-below t, attach-fields.Post)
+
+abbrev attach-struct-claims : ℕ → attach-struct-lts.Claims
+attach-struct-claims t = (
+  struct-part-reads.Asked,
+  struct-part-reads.Learnt,
+  struct-fault-reads.Asked,
+  struct-fault-reads.Learnt,
+  put-head-reads.Asked,
+  put-head-reads.Learnt,
+  put-short-reads.Asked,
+  put-short-reads.Learnt,
+  attach-row-below t,
+  attach-row.Post,
+  refused-row-reads.Asked,
+  refused-row-reads.Learnt,
+  unchanged-reads.Asked,
+  unchanged-reads.Learnt,
+  put-position-reads.Asked,
+  put-position-reads.Learnt,
+)
+
+abbrev attach-transforms-claims : ℕ → attach-transforms-lts.Claims
+attach-transforms-claims t = (
+  head-reads.Asked,
+  head-reads.Learnt,
+  attach-leaf-reads.Asked,
+  attach-leaf-reads.Learnt,
+  attach-nested-below t,
+  attach-nested.Post,
+)
+
+attach-element-same-element-requires : (t : ℕ) → attach-element-lts.Need-same-element-requires (attach-element-claims t) (attach-element-at t)
+    attach-element.Post
 attach-element-same-element-requires t c κs = search needs
 
-attach-element-returns : (t : ℕ) → attach-element-lts.Need-returns (same-element-reads.Asked, same-element-reads.Learnt, put-head-reads.Asked, put-head-reads.Learnt, attach-renamed-below t, attach-renamed.Post, is-refused-reads.Asked, is-refused-reads.Learnt, is-bare-reads.Asked, is-bare-reads.Learnt, put-position-reads.Asked, put-position-reads.Learnt, len-of-reads.Asked, len-of-reads.Learnt) (attach-element-at t) attach-element.Post
-attach-element-returns t c = λ from f g M P Q lt nm.
-    let a = c .before .before .before .before .before .before .before .before .before .args in
-    makes-refused _ _ _ _ _ (element-unlike (a .v) (a .policy) f (labelAt (now (a .target)) (a .l)) (Q .tree) (labelAt (now (a .incoming)) (a .m)) (P .tree) (c .before .same-element .ensures (labelAt (now (a .incoming)) (a .m)) (labelAt (now (a .target)) (a .l)) refl refl) (c .if1 .taken))
+attach-element-returns : (t : ℕ) → attach-element-lts.Need-returns (attach-element-claims t) (attach-element-at t) attach-element.Post
+attach-element-returns t c =
+    let c1 = c .before in let c9 = c1 .before .before .before .before .before .before .before .before in
+    λ from f g M P Q lt nm.
+    let a = c9 .args in
+    makes-refused _ _ _ _ _ (element-unlike (a .build .matching) (a .build .policy) f (labelAt (now (a .target)) (a .pair .target .label)) (Q .tree) (labelAt
+    (now (a .incoming)) (a .pair .incoming .label)) (P .tree) (c1 .same-element .ensures (labelAt (now (a .incoming)) (a .pair .incoming .label))
+    (labelAt (now (a .target)) (a .pair .target .label)) refl refl) (c .if1 .taken))
 
-attach-element-put-head-requires : (t : ℕ) → attach-element-lts.Need-put-head-requires (same-element-reads.Asked, same-element-reads.Learnt, put-head-reads.Asked, put-head-reads.Learnt, attach-renamed-below t, attach-renamed.Post, is-refused-reads.Asked, is-refused-reads.Learnt, is-bare-reads.Asked, is-bare-reads.Learnt, put-position-reads.Asked, put-position-reads.Learnt, len-of-reads.Asked, len-of-reads.Learnt) (attach-element-at t) attach-element.Post
-attach-element-put-head-requires t c κs = omega (arith, extent (c .before .before .before .before .before .before .before .before .before .before .pre .1 .0 .1), c .before .before .before .before .before .before .before .before .before .before .pre .1 .1 .1)
+attach-element-put-head-requires : (t : ℕ) → attach-element-lts.Need-put-head-requires (attach-element-claims t) (attach-element-at t) attach-element.Post
+attach-element-put-head-requires t c κs =
+    let c11 = c .before .before .before .before .before .before .before .before .before .before .before in
+    omega (arith, extent (c11 .pre .1 .0 .1 .0), c11 .pre .1 .1 .1)
 
-attach-element-add-attach-renamed : (t : ℕ) → attach-element-lts.Need-add-attach-renamed (same-element-reads.Asked, same-element-reads.Learnt, put-head-reads.Asked, put-head-reads.Learnt, attach-renamed-below t, attach-renamed.Post, is-refused-reads.Asked, is-refused-reads.Learnt, is-bare-reads.Asked, is-bare-reads.Learnt, put-position-reads.Asked, put-position-reads.Learnt, len-of-reads.Asked, len-of-reads.Learnt) (attach-element-at t) attach-element.Post
-attach-element-add-attach-renamed t c = omega (arith, extent (c .before .before .before .before .before .before .before .before .before .before .before .before .before .before .pre .1 .0 .1), c .before .before .before .before .before .before .before .before .before .before .before .before .before .before .pre .1 .1 .1)
+attach-element-add-t25 : (t : ℕ) → attach-element-lts.Need-add-t25 (attach-element-claims t) (attach-element-at t) attach-element.Post
+attach-element-add-t25 t c =
+    let c15 = c .before .before .before .before .before .before .before .before .before .before .before .before .before .before .before in
+    omega (arith, extent (c15 .pre .1 .0 .1 .0), c15 .pre .1 .1 .1)
 
-attach-element-attach-renamed-requires : (t : ℕ) → attach-element-lts.Need-attach-renamed-requires (same-element-reads.Asked, same-element-reads.Learnt, put-head-reads.Asked, put-head-reads.Learnt, attach-renamed-below t, attach-renamed.Post, is-refused-reads.Asked, is-refused-reads.Learnt, is-bare-reads.Asked, is-bare-reads.Learnt, put-position-reads.Asked, put-position-reads.Learnt, len-of-reads.Asked, len-of-reads.Learnt) (attach-element-at t) attach-element.Post
-attach-element-attach-renamed-requires t c κs = let w = c .before .before .before .before .before .before .before .before .before .before .before .before .before .before .before .pre .1 in
-    (omega (arith, c .before .before .before .before .before .before .before .before .before .before .before .before .before .before .before .pre .0), (w .0, (none-at (now (c .before .before .before .before .before .before .before .before .before .before .before .before .before .before .before .args .table)), (w .1 .0, w .1 .1))))
+attach-element-attach-renamed-requires : (t : ℕ) → attach-element-lts.Need-attach-renamed-requires (attach-element-claims t) (attach-element-at t)
+    attach-element.Post
+attach-element-attach-renamed-requires t c κs =
+    let c17 = c .before .before .before .before .before .before .before .before .before .before .before .before .before .before .before .before .before in
+    let w = c17 .pre .1 in
+    (omega (arith, c17 .pre .0), (w .0, (none-at (now (c17 .args .table)), (w .1 .0, w .1 .1))))
 
-attach-element-is-refused-requires : (t : ℕ) → attach-element-lts.Need-is-refused-requires (same-element-reads.Asked, same-element-reads.Learnt, put-head-reads.Asked, put-head-reads.Learnt, attach-renamed-below t, attach-renamed.Post, is-refused-reads.Asked, is-refused-reads.Learnt, is-bare-reads.Asked, is-bare-reads.Learnt, put-position-reads.Asked, put-position-reads.Learnt, len-of-reads.Asked, len-of-reads.Learnt) (attach-element-at t) attach-element.Post
+attach-element-is-refused-requires : (t : ℕ) → attach-element-lts.Need-is-refused-requires (attach-element-claims t) (attach-element-at t) attach-element.Post
 attach-element-is-refused-requires t c κs = search needs
 
-attach-element-same-length : (t : ℕ) → attach-element-lts.Need-same-length (same-element-reads.Asked, same-element-reads.Learnt, put-head-reads.Asked, put-head-reads.Learnt, attach-renamed-below t, attach-renamed.Post, is-refused-reads.Asked, is-refused-reads.Learnt, is-bare-reads.Asked, is-bare-reads.Learnt, put-position-reads.Asked, put-position-reads.Learnt, len-of-reads.Asked, len-of-reads.Learnt) (attach-element-at t) attach-element.Post
+attach-element-same-length : (t : ℕ) → attach-element-lts.Need-same-length (attach-element-claims t) (attach-element-at t) attach-element.Post
 attach-element-same-length t c = search needs
 
-attach-element-same-length-2 : (t : ℕ) → attach-element-lts.Need-same-length-2 (same-element-reads.Asked, same-element-reads.Learnt, put-head-reads.Asked, put-head-reads.Learnt, attach-renamed-below t, attach-renamed.Post, is-refused-reads.Asked, is-refused-reads.Learnt, is-bare-reads.Asked, is-bare-reads.Learnt, put-position-reads.Asked, put-position-reads.Learnt, len-of-reads.Asked, len-of-reads.Learnt) (attach-element-at t) attach-element.Post
+attach-element-same-length-2 : (t : ℕ) → attach-element-lts.Need-same-length-2 (attach-element-claims t) (attach-element-at t) attach-element.Post
 attach-element-same-length-2 t c = search needs
 
-attach-element-returns-2 : (t : ℕ) → attach-element-lts.Need-returns-2 (same-element-reads.Asked, same-element-reads.Learnt, put-head-reads.Asked, put-head-reads.Learnt, attach-renamed-below t, attach-renamed.Post, is-refused-reads.Asked, is-refused-reads.Learnt, is-bare-reads.Asked, is-bare-reads.Learnt, put-position-reads.Asked, put-position-reads.Learnt, len-of-reads.Asked, len-of-reads.Learnt) (attach-element-at t) attach-element.Post
-attach-element-returns-2 t c = λ from f g M P Q lt nm.
-    let a = c .before .before .before .before .before .before .before .before .before .before .before .before .before .before .before .before .before .before .before .before .before .before .args in
-    element-stopped (a .v) (a .policy) f g (labelAt (now (a .target)) (a .l)) (Q .tree) (labelAt (now (a .incoming)) (a .m)) (P .tree) M (c .before .before .before .before .before .before .before .before .before .before .before .before .before .before .same-element .ensures (labelAt (now (a .incoming)) (a .m)) (labelAt (now (a .target)) (a .l)) refl refl) (c .before .before .before .before .before .before .before .before .before .before .before .before .before .if1 .left) _ _ from _ (c .before .before .before .before .before .before .before .before .before .before .before .put-head .ensures) (none-is (now (a .table)) 0) _ (c .before .before .before .before .before .before .attach-renamed .ensures (from + 1) (none-at (now (a .table))) P Q (omega (arith, lt)) nm) (sym (c .before .is-refused .ensures) ∙ c .if2 .taken)
+attach-element-returns-2 : (t : ℕ) → attach-element-lts.Need-returns-2 (attach-element-claims t) (attach-element-at t) attach-element.Post
+attach-element-returns-2 t c =
+    let c1 = c .before in let c6 = c1 .before .before .before .before .before in let c12 = c6 .before .before .before .before .before .before in let c15 =
+    c12 .before .before .before in let c16 = c15 .before in let c24 = c16 .before .before .before .before .before .before .before .before in
+    λ from f g M P Q lt nm.
+    let a = c24 .args in
+    element-stopped (a .build .matching) (a .build .policy) f g (labelAt (now (a .target)) (a .pair .target .label)) (Q .tree) (labelAt (now (a .incoming))
+    (a .pair .incoming .label)) (P .tree) M (c16 .same-element .ensures (labelAt (now (a .incoming)) (a .pair .incoming .label)) (labelAt (now
+    (a .target)) (a .pair .target .label)) refl refl) (c15 .if1 .left) _ _ from _ (c12 .put-head .ensures) (none-is (now (a .table)) 0) _
+    (c6 .attach-renamed .ensures (from + 1) (none-at (now (a .table))) P Q (omega (arith, lt)) nm) (sym (c1 .is-refused .ensures) ∙ c .if2 .taken)
 
-attach-element-is-bare-requires : (t : ℕ) → attach-element-lts.Need-is-bare-requires (same-element-reads.Asked, same-element-reads.Learnt, put-head-reads.Asked, put-head-reads.Learnt, attach-renamed-below t, attach-renamed.Post, is-refused-reads.Asked, is-refused-reads.Learnt, is-bare-reads.Asked, is-bare-reads.Learnt, put-position-reads.Asked, put-position-reads.Learnt, len-of-reads.Asked, len-of-reads.Learnt) (attach-element-at t) attach-element.Post
+attach-element-is-bare-requires : (t : ℕ) → attach-element-lts.Need-is-bare-requires (attach-element-claims t) (attach-element-at t) attach-element.Post
 attach-element-is-bare-requires t c κs = search needs
 
-attach-element-put-position-requires : (t : ℕ) → attach-element-lts.Need-put-position-requires (same-element-reads.Asked, same-element-reads.Learnt, put-head-reads.Asked, put-head-reads.Learnt, attach-renamed-below t, attach-renamed.Post, is-refused-reads.Asked, is-refused-reads.Learnt, is-bare-reads.Asked, is-bare-reads.Learnt, put-position-reads.Asked, put-position-reads.Learnt, len-of-reads.Asked, len-of-reads.Learnt) (attach-element-at t) attach-element.Post
-attach-element-put-position-requires t c κs = omega (arith, extent (c .before .before .before .before .before .before .before .before .before .before .before .before .before .before .before .before .before .before .before .before .before .before .before .before .before .pre .1 .0 .1), c .before .before .before .before .before .before .before .before .before .before .before .before .before .before .before .before .before .before .before .before .before .before .before .before .before .pre .1 .1 .1)
+attach-element-put-position-requires : (t : ℕ) → attach-element-lts.Need-put-position-requires (attach-element-claims t) (attach-element-at t)
+    attach-element.Post
+attach-element-put-position-requires t c κs =
+    let c27 = c .before .before .before .before .before .before .before .before .before .before .before .before .before .before .before .before .before
+    .before .before .before .before .before .before .before .before .before .before in
+    omega (arith, extent (c27 .pre .1 .0 .1 .0), c27 .pre .1 .1 .1)
 
-attach-element-same-length-3 : (t : ℕ) → attach-element-lts.Need-same-length-3 (same-element-reads.Asked, same-element-reads.Learnt, put-head-reads.Asked, put-head-reads.Learnt, attach-renamed-below t, attach-renamed.Post, is-refused-reads.Asked, is-refused-reads.Learnt, is-bare-reads.Asked, is-bare-reads.Learnt, put-position-reads.Asked, put-position-reads.Learnt, len-of-reads.Asked, len-of-reads.Learnt) (attach-element-at t) attach-element.Post
+attach-element-same-length-3 : (t : ℕ) → attach-element-lts.Need-same-length-3 (attach-element-claims t) (attach-element-at t) attach-element.Post
 attach-element-same-length-3 t c = search needs
 
-attach-element-same-length-4 : (t : ℕ) → attach-element-lts.Need-same-length-4 (same-element-reads.Asked, same-element-reads.Learnt, put-head-reads.Asked, put-head-reads.Learnt, attach-renamed-below t, attach-renamed.Post, is-refused-reads.Asked, is-refused-reads.Learnt, is-bare-reads.Asked, is-bare-reads.Learnt, put-position-reads.Asked, put-position-reads.Learnt, len-of-reads.Asked, len-of-reads.Learnt) (attach-element-at t) attach-element.Post
+attach-element-same-length-4 : (t : ℕ) → attach-element-lts.Need-same-length-4 (attach-element-claims t) (attach-element-at t) attach-element.Post
 attach-element-same-length-4 t c = search needs
 
-attach-element-returns-3 : (t : ℕ) → attach-element-lts.Need-returns-3 (same-element-reads.Asked, same-element-reads.Learnt, put-head-reads.Asked, put-head-reads.Learnt, attach-renamed-below t, attach-renamed.Post, is-refused-reads.Asked, is-refused-reads.Learnt, is-bare-reads.Asked, is-bare-reads.Learnt, put-position-reads.Asked, put-position-reads.Learnt, len-of-reads.Asked, len-of-reads.Learnt) (attach-element-at t) attach-element.Post
-attach-element-returns-3 t c = λ from f g M P Q lt nm.
-    let a = c .before .before .before .before .before .before .before .before .before .before .before .before .before .before .before .before .before .before .before .before .before .before .before .before .before .before .before .before .args in
-    element-left-out (a .v) (a .policy) f g (labelAt (now (a .target)) (a .l)) (Q .tree) (labelAt (now (a .incoming)) (a .m)) (P .tree) M (c .before .before .before .before .before .before .before .before .before .before .before .before .before .before .before .before .before .before .before .before .same-element .ensures (labelAt (now (a .incoming)) (a .m)) (labelAt (now (a .target)) (a .l)) refl refl) (c .before .before .before .before .before .before .before .before .before .before .before .before .before .before .before .before .before .before .before .if1 .left) _ _ from _ (c .before .before .before .before .before .before .before .before .before .before .before .before .before .before .before .before .before .put-head .ensures) (none-is (now (a .table)) 0) _ (c .before .before .before .before .before .before .before .before .before .before .before .before .attach-renamed .ensures (from + 1) (none-at (now (a .table))) P Q (omega (arith, lt)) nm) (sym (c .before .before .before .before .before .before .before .is-refused .ensures) ∙ c .before .before .before .before .before .before .if2 .left) (sym (c .before .before .before .before .before .is-bare .ensures) ∙ c .before .before .before .before .if3 .taken) (c .before .before .before .before .before .before .before .before .before .before .before .before .attach-renamed .kept .1 .1 .1 .1 .1 .1 .1 .1 .1 .1 .1 .1 .0 ∙ c .before .before .before .before .before .before .before .before .before .before .before .before .before .before .before .before .before .put-head .kept .0) (c .before .before .put-position .ensures) (omega (arith, lt, extent Q))
+attach-element-returns-3 : (t : ℕ) → attach-element-lts.Need-returns-3 (attach-element-claims t) (attach-element-at t) attach-element.Post
+attach-element-returns-3 t c =
+    let c2 = c .before .before in let c4 = c2 .before .before in let c5 = c4 .before in let c6 = c5 .before in let c7 = c6 .before in let c12 =
+    c7 .before .before .before .before .before in let c18 = c12 .before .before .before .before .before .before in let c21 = c18 .before .before .before
+    in let c22 = c21 .before in let c30 = c22 .before .before .before .before .before .before .before .before in
+    λ from f g M P Q lt nm.
+    let a = c30 .args in
+    element-left-out (a .build .matching) (a .build .policy) f g (labelAt (now (a .target)) (a .pair .target .label)) (Q .tree) (labelAt (now (a .incoming))
+    (a .pair .incoming .label)) (P .tree) M (c22 .same-element .ensures (labelAt (now (a .incoming)) (a .pair .incoming .label)) (labelAt (now
+    (a .target)) (a .pair .target .label)) refl refl) (c21 .if1 .left) _ _ from _ (c18 .put-head .ensures) (none-is (now (a .table)) 0) _
+    (c12 .attach-renamed .ensures (from + 1) (none-at (now (a .table))) P Q (omega (arith, lt)) nm) (sym (c7 .is-refused .ensures) ∙ c6 .if2 .left) (sym
+    (c5 .is-bare .ensures) ∙ c4 .if3 .taken) (c12 .attach-renamed .kept .1 .1 .1 .1 .1 .0 ∙ c18 .put-head .kept .0) (c2 .put-position .ensures) (omega
+    (arith, lt, extent Q))
 
-attach-element-len-of-requires : (t : ℕ) → attach-element-lts.Need-len-of-requires (same-element-reads.Asked, same-element-reads.Learnt, put-head-reads.Asked, put-head-reads.Learnt, attach-renamed-below t, attach-renamed.Post, is-refused-reads.Asked, is-refused-reads.Learnt, is-bare-reads.Asked, is-bare-reads.Learnt, put-position-reads.Asked, put-position-reads.Learnt, len-of-reads.Asked, len-of-reads.Learnt) (attach-element-at t) attach-element.Post
+attach-element-len-of-requires : (t : ℕ) → attach-element-lts.Need-len-of-requires (attach-element-claims t) (attach-element-at t) attach-element.Post
 attach-element-len-of-requires t c κs = search needs
 
-attach-element-add-t38 : (t : ℕ) → attach-element-lts.Need-add-t38 (same-element-reads.Asked, same-element-reads.Learnt, put-head-reads.Asked, put-head-reads.Learnt, attach-renamed-below t, attach-renamed.Post, is-refused-reads.Asked, is-refused-reads.Learnt, is-bare-reads.Asked, is-bare-reads.Learnt, put-position-reads.Asked, put-position-reads.Learnt, len-of-reads.Asked, len-of-reads.Learnt) (attach-element-at t) attach-element.Post
-attach-element-add-t38 t c = let w = c .before .before .before .before .before .before .before .before .before .before .before .before .before .before .before .before .before .before .before .before .before .before .before .before .before .pre .1 in
-    omega (arith, makes-room _ (c .before .before .before .before .before .before .before .before .before .attach-renamed .ensures 0 (none-at (now (c .before .before .before .before .before .before .before .before .before .before .before .before .before .before .before .before .before .before .before .before .before .before .before .before .before .args .table))) (w .0 .0) (w .0 .1) (omega (arith, w .1 .1)) (λ n. omega (arith, w .1 .1))) (sym (c .before .before .before .before .is-refused .ensures) ∙ c .before .before .before .if2 .left), c .len-of .ensures, extent (w .0 .1), w .1 .1)
+attach-element-add-t35 : (t : ℕ) → attach-element-lts.Need-add-t35 (attach-element-claims t) (attach-element-at t) attach-element.Post
+attach-element-add-t35 t c =
+    let c3 = c .before .before .before in let c4 = c3 .before in let c9 = c4 .before .before .before .before .before in let c27 =
+    c9 .before .before .before .before .before .before .before .before .before .before .before .before .before .before .before .before .before .before in
+    let w = c27 .pre .1 in
+    omega (
+      arith,
+      makes-room _ (c9 .attach-renamed .ensures 0 (none-at (now (c27 .args .table))) (w .0 .0) (w .0 .1 .0) (omega (arith, w .1 .1)) (λ n. omega
+          (arith, w .1 .1))) (sym (c4 .is-refused .ensures) ∙ c3 .if2 .left),
+      c .len-of .ensures,
+      extent (w .0 .1 .0),
+      w .1 .1,
+    )
 
-attach-element-same-length-5 : (t : ℕ) → attach-element-lts.Need-same-length-5 (same-element-reads.Asked, same-element-reads.Learnt, put-head-reads.Asked, put-head-reads.Learnt, attach-renamed-below t, attach-renamed.Post, is-refused-reads.Asked, is-refused-reads.Learnt, is-bare-reads.Asked, is-bare-reads.Learnt, put-position-reads.Asked, put-position-reads.Learnt, len-of-reads.Asked, len-of-reads.Learnt) (attach-element-at t) attach-element.Post
+attach-element-same-length-5 : (t : ℕ) → attach-element-lts.Need-same-length-5 (attach-element-claims t) (attach-element-at t) attach-element.Post
 attach-element-same-length-5 t c = search needs
 
-attach-element-same-length-6 : (t : ℕ) → attach-element-lts.Need-same-length-6 (same-element-reads.Asked, same-element-reads.Learnt, put-head-reads.Asked, put-head-reads.Learnt, attach-renamed-below t, attach-renamed.Post, is-refused-reads.Asked, is-refused-reads.Learnt, is-bare-reads.Asked, is-bare-reads.Learnt, put-position-reads.Asked, put-position-reads.Learnt, len-of-reads.Asked, len-of-reads.Learnt) (attach-element-at t) attach-element.Post
+attach-element-same-length-6 : (t : ℕ) → attach-element-lts.Need-same-length-6 (attach-element-claims t) (attach-element-at t) attach-element.Post
 attach-element-same-length-6 t c = search needs
 
-attach-element-returns-4 : (t : ℕ) → attach-element-lts.Need-returns-4 (same-element-reads.Asked, same-element-reads.Learnt, put-head-reads.Asked, put-head-reads.Learnt, attach-renamed-below t, attach-renamed.Post, is-refused-reads.Asked, is-refused-reads.Learnt, is-bare-reads.Asked, is-bare-reads.Learnt, put-position-reads.Asked, put-position-reads.Learnt, len-of-reads.Asked, len-of-reads.Learnt) (attach-element-at t) attach-element.Post
-attach-element-returns-4 t c = λ from f g M P Q lt nm.
-    let a = c .before .before .before .before .before .before .before .before .before .before .before .before .before .before .before .before .before .before .before .before .before .before .before .before .before .args in
-    element-kept (a .v) (a .policy) f g (labelAt (now (a .target)) (a .l)) (Q .tree) (labelAt (now (a .incoming)) (a .m)) (P .tree) M (c .before .before .before .before .before .before .before .before .before .before .before .before .before .before .before .before .before .same-element .ensures (labelAt (now (a .incoming)) (a .m)) (labelAt (now (a .target)) (a .l)) refl refl) (c .before .before .before .before .before .before .before .before .before .before .before .before .before .before .before .before .if1 .left) _ _ from _ (c .before .before .before .before .before .before .before .before .before .before .before .before .before .before .put-head .ensures) (none-is (now (a .table)) 0) _ (c .before .before .before .before .before .before .before .before .before .attach-renamed .ensures (from + 1) (none-at (now (a .table))) P Q (omega (arith, lt)) nm) (sym (c .before .before .before .before .is-refused .ensures) ∙ c .before .before .before .if2 .left) (sym (c .before .before .is-bare .ensures) ∙ c .before .if3 .left) (c .before .before .before .before .before .before .before .before .before .before .before .before .before .before .put-head .kept .0) (c .len-of .ensures) (omega arith)
+attach-element-returns-4 : (t : ℕ) → attach-element-lts.Need-returns-4 (attach-element-claims t) (attach-element-at t) attach-element.Post
+attach-element-returns-4 t c =
+    let c1 = c .before in let c2 = c1 .before in let c3 = c2 .before in let c4 = c3 .before in let c9 = c4 .before .before .before .before .before in let c15
+    = c9 .before .before .before .before .before .before in let c18 = c15 .before .before .before in let c19 = c18 .before in let c27 =
+    c19 .before .before .before .before .before .before .before .before in
+    λ from f g M P Q lt nm.
+    let a = c27 .args in
+    element-kept (a .build .matching) (a .build .policy) f g (labelAt (now (a .target)) (a .pair .target .label)) (Q .tree) (labelAt (now (a .incoming))
+    (a .pair .incoming .label)) (P .tree) M (c19 .same-element .ensures (labelAt (now (a .incoming)) (a .pair .incoming .label)) (labelAt (now
+    (a .target)) (a .pair .target .label)) refl refl) (c18 .if1 .left) _ _ from _ (c15 .put-head .ensures) (none-is (now (a .table)) 0) _
+    (c9 .attach-renamed .ensures (from + 1) (none-at (now (a .table))) P Q (omega (arith, lt)) nm) (sym (c4 .is-refused .ensures) ∙ c3 .if2 .left) (sym
+    (c2 .is-bare .ensures) ∙ c1 .if3 .left) (c15 .put-head .kept .0) (c .len-of .ensures) (omega arith)
 
-attach-field-enum-known-found : (t : ℕ) → attach-field-lts.Need-enum-known-found (attach-renamed-below t, attach-renamed.Post, put-missing-reads.Asked, put-missing-reads.Learnt) (attach-field-at t) attach-field.Post
+attach-field-enum-known-found : (t : ℕ) → attach-field-lts.Need-enum-known-found (attach-field-claims t) (attach-field-at t) attach-field.Post
 attach-field-enum-known-found t c = search needs
 
-attach-field-attach-renamed-requires : (t : ℕ) → attach-field-lts.Need-attach-renamed-requires (attach-renamed-below t, attach-renamed.Post, put-missing-reads.Asked, put-missing-reads.Learnt) (attach-field-at t) attach-field.Post
-attach-field-attach-renamed-requires t c κs = let a = c .before .before .before .before .before .before .before .before .before .before .args in
-    let w = c .before .before .before .before .before .before .before .before .before .before .pre .1 in
+attach-field-attach-renamed-requires : (t : ℕ) → attach-field-lts.Need-attach-renamed-requires (attach-field-claims t) (attach-field-at t) attach-field.Post
+attach-field-attach-renamed-requires t c κs =
+    let c3 = c .before .before .before in let c12 = c3 .before .before .before .before .before .before .before .before .before in
+    let a = c12 .args in
+    let w = c12 .pre .1 in
     let fs = w .0 .0 .0 in
-    let H = found-here (a .v) (a .depth) (now (a .incoming)) (counterpart (a .v) (labelAt (now (a .target)) (a .l)) fs) (w .0 .0 .1) (c .before .before .before .found .given .1) in
-    (omega (arith, c .before .before .before .before .before .before .before .before .before .before .pre .0), ((H .inner, w .0 .1), (w .1 .0, ((H .inside, w .1 .1 .0 .0, w .1 .1 .0 .1), w .1 .1 .1))))
+    let H = found-here (a .build .incoming) (a .sought .depth) (now (a .incoming)) (counterpart (a .build .matching) (labelAt (now (a .target))
+    (a .sought .column .label)) fs) (w .0 .0 .1) (c3 .found .given .1) in
+    (omega (arith, c12 .pre .0), ((H .inner, w .0 .1), (w .1 .0, ((H .inside, w .1 .1 .0 .0, w .1 .1 .0 .1), w .1 .1 .1))))
 
-attach-field-enum-told : (t : ℕ) → attach-field-lts.Need-enum-told (attach-renamed-below t, attach-renamed.Post, put-missing-reads.Asked, put-missing-reads.Learnt) (attach-field-at t) attach-field.Post
+attach-field-enum-told : (t : ℕ) → attach-field-lts.Need-enum-told (attach-field-claims t) (attach-field-at t) attach-field.Post
 attach-field-enum-told t c = search needs
 
-attach-field-put-missing-requires : (t : ℕ) → attach-field-lts.Need-put-missing-requires (attach-renamed-below t, attach-renamed.Post, put-missing-reads.Asked, put-missing-reads.Learnt) (attach-field-at t) attach-field.Post
-attach-field-put-missing-requires t c κs = let w = c .before .before .before .before .before .before .before .before .pre .1 in
-    (w .1 .1 .0, (w .0 .1, (w .1 .0, w .1 .1 .1)))
+attach-field-put-missing-requires : (t : ℕ) → attach-field-lts.Need-put-missing-requires (attach-field-claims t) (attach-field-at t) attach-field.Post
+attach-field-put-missing-requires t c κs =
+    let c10 = c .before .before .before .before .before .before .before .before .before .before in
+    let w = c10 .pre .1 in
+    (w .1 .1 .0, (w .0 .1 .0, (w .1 .0, w .1 .1 .1)))
 
-attach-field-same-length : (t : ℕ) → attach-field-lts.Need-same-length (attach-renamed-below t, attach-renamed.Post, put-missing-reads.Asked, put-missing-reads.Learnt) (attach-field-at t) attach-field.Post
+attach-field-same-length : (t : ℕ) → attach-field-lts.Need-same-length (attach-field-claims t) (attach-field-at t) attach-field.Post
 attach-field-same-length t c = search needs
 
-attach-field-same-length-2 : (t : ℕ) → attach-field-lts.Need-same-length-2 (attach-renamed-below t, attach-renamed.Post, put-missing-reads.Asked, put-missing-reads.Learnt) (attach-field-at t) attach-field.Post
+attach-field-same-length-2 : (t : ℕ) → attach-field-lts.Need-same-length-2 (attach-field-claims t) (attach-field-at t) attach-field.Post
 attach-field-same-length-2 t c = search needs
 
-attach-field-returns : (t : ℕ) → attach-field-lts.Need-returns (attach-renamed-below t, attach-renamed.Post, put-missing-reads.Asked, put-missing-reads.Learnt) (attach-field-at t) attach-field.Post
-attach-field-returns t c = λ from T fs Q F lt.
-    let a = c .before .before .before .before .before .before .before .before .before .before .before .before .before .before .before .args in
-    let H = found-here (a .v) (a .depth) (now (a .incoming)) (counterpart (a .v) (labelAt (now (a .target)) (a .l)) fs) F (c .before .before .before .before .before .before .before .before .found .given .1) in
-    makes-as _ _ _ _ _ _ (sought-at (a .v) (a .policy) (defaultsAt (a .defaults) T) (a .insert) (a .number) (labelAt (now (a .target)) (a .l)) (Q .tree) (counterpart (a .v) (labelAt (now (a .target)) (a .l)) fs) (H .is)) (c .before .before .before .before .attach-renamed .ensures from T (H .inner) Q (omega (arith, lt)) (λ n. lt))
+attach-field-returns : (t : ℕ) → attach-field-lts.Need-returns (attach-field-claims t) (attach-field-at t) attach-field.Post
+attach-field-returns t c =
+    let c4 = c .before .before .before .before in let c8 = c4 .before .before .before .before in let c17 =
+    c8 .before .before .before .before .before .before .before .before .before in
+    λ from T fs Q F lt.
+    let a = c17 .args in
+    let H = found-here (a .build .incoming) (a .sought .depth) (now (a .incoming)) (counterpart (a .build .matching) (labelAt (now (a .target))
+    (a .sought .column .label)) fs) F (c8 .found .given .1) in
+    makes-as _ _ _ _ _ _ (sought-at (a .build .matching) (a .build .policy) (defaultsAt (a .build .defaults) T) (a .sought .missing .insert)
+    (a .sought .missing .number) (labelAt (now (a .target)) (a .sought .column .label)) (Q .tree) (counterpart (a .build .matching) (labelAt (now
+    (a .target)) (a .sought .column .label)) fs) (H .is)) (c4 .attach-renamed .ensures from T (H .inner) Q (omega (arith, lt)) (λ n. lt))
 
-attach-field-same-length-3 : (t : ℕ) → attach-field-lts.Need-same-length-3 (attach-renamed-below t, attach-renamed.Post, put-missing-reads.Asked, put-missing-reads.Learnt) (attach-field-at t) attach-field.Post
+attach-field-same-length-3 : (t : ℕ) → attach-field-lts.Need-same-length-3 (attach-field-claims t) (attach-field-at t) attach-field.Post
 attach-field-same-length-3 t c = search needs
 
-attach-field-returns-2 : (t : ℕ) → attach-field-lts.Need-returns-2 (attach-renamed-below t, attach-renamed.Post, put-missing-reads.Asked, put-missing-reads.Learnt) (attach-field-at t) attach-field.Post
-attach-field-returns-2 t c = λ from T fs Q F lt.
-    let a = c .before .before .before .before .before .before .before .before .before .before .before .args in
-    let X = counterpart (a .v) (labelAt (now (a .target)) (a .l)) fs in
-    makes-as _ _ _ _ _ _ (sought-absent (a .v) (a .policy) (defaultsAt (a .defaults) T) (a .insert) (a .number) (labelAt (now (a .target)) (a .l)) (Q .tree) X (found-absent (a .v) (a .depth) (now (a .incoming)) X F (c .before .before .before .before .enum-told .given .1))) (c .before .before .put-missing .ensures from T Q lt)
+attach-field-returns-2 : (t : ℕ) → attach-field-lts.Need-returns-2 (attach-field-claims t) (attach-field-at t) attach-field.Post
+attach-field-returns-2 t c =
+    let c2 = c .before .before in let c4 = c2 .before .before in let c13 = c4 .before .before .before .before .before .before .before .before .before in
+    λ from T fs Q F lt.
+    let a = c13 .args in
+    let X = counterpart (a .build .matching) (labelAt (now (a .target)) (a .sought .column .label)) fs in
+    makes-as _ _ _ _ _ _ (sought-absent (a .build .matching) (a .build .policy) (defaultsAt (a .build .defaults) T) (a .sought .missing .insert)
+    (a .sought .missing .number) (labelAt (now (a .target)) (a .sought .column .label)) (Q .tree) X (found-absent (a .build .incoming) (a .sought .depth)
+    (now (a .incoming)) X F (c4 .enum-told .given .1))) (c2 .put-missing .ensures from T Q lt)
 
 abbrev attach-fields-Inv-loop : attach-fields-lts.InvT-loop
-attach-fields-Inv-loop policy v depth incoming n c used table defaults target m out₀ k arena₀ insert from₀ index₀ to₀ same₀ out arena from index to same =
-    Remaining policy v depth incoming n (c .at) table defaults target m from₀ out₀ k out from index to same × (take used arena ≡ take used arena₀) × (length arena ≡ length arena₀)
+attach-fields-Inv-loop build incoming used table target rows out₀ k arena₀ how v w c insert count from₀ index₀ to₀ same₀ out arena from index to same =
+    Remaining (build .policy) (build .matching) (build .incoming) (build .target) (rows .depth) incoming (rows .incoming .count) (rows .incoming .first .at)
+    table (build .defaults) target (rows .target .count) from₀ out₀ k out from index to same
+    × (take used arena ≡ take used arena₀) × (length arena ≡ length arena₀)
 
 abbrev attach-fields-μ-loop : attach-fields-lts.MeasureT-loop
-attach-fields-μ-loop policy v depth incoming n c used table defaults target m out₀ k arena₀ insert from₀ index₀ to₀ same₀ out arena from index to same =
-    m - index
+attach-fields-μ-loop build incoming used table target rows out₀ k arena₀ how v w c insert count from₀ index₀ to₀ same₀ out arena from index to same =
+    rows .target .count - index
 
-attach-fields-inserts-requires : (t : ℕ) → attach-fields-lts.Need-inserts-requires (inserts-reads.Asked, inserts-reads.Learnt, label-reads.Asked, label-reads.Learnt, find-in-reads.Asked, find-in-reads.Learnt, attach-field-below t, attach-field.Post, is-refused-reads.Asked, is-refused-reads.Learnt, failed-reads.Asked, failed-reads.Learnt, is-bare-reads.Asked, is-bare-reads.Learnt, both-reads.Asked, both-reads.Learnt, len-of-reads.Asked, len-of-reads.Learnt, skip-type-reads.Asked, skip-type-reads.Learnt) (attach-fields-at t) attach-fields.Post attach-fields-Inv-loop attach-fields-μ-loop
+attach-fields-inserts-requires : (t : ℕ) → attach-fields-lts.Need-inserts-requires (attach-fields-claims t) (attach-fields-at t) attach-fields.Post
+    attach-fields-Inv-loop attach-fields-μ-loop
 attach-fields-inserts-requires t c κs = search needs
 
-attach-fields-loop-holds : (t : ℕ) → attach-fields-lts.Need-loop-holds (inserts-reads.Asked, inserts-reads.Learnt, label-reads.Asked, label-reads.Learnt, find-in-reads.Asked, find-in-reads.Learnt, attach-field-below t, attach-field.Post, is-refused-reads.Asked, is-refused-reads.Learnt, failed-reads.Asked, failed-reads.Learnt, is-bare-reads.Asked, is-bare-reads.Learnt, both-reads.Asked, both-reads.Learnt, len-of-reads.Asked, len-of-reads.Learnt, skip-type-reads.Asked, skip-type-reads.Learnt) (attach-fields-at t) attach-fields.Post attach-fields-Inv-loop attach-fields-μ-loop
-attach-fields-loop-holds t c = (remaining-all (c .before .before .before .before .before .before .pre .1 .0 .1) (c .before .before .before .before .before .before .pre .1 .1 .1 .0 .2), refl, refl)
+attach-fields-loop-holds : (t : ℕ) → attach-fields-lts.Need-loop-holds (attach-fields-claims t) (attach-fields-at t) attach-fields.Post
+    attach-fields-Inv-loop attach-fields-μ-loop
+attach-fields-loop-holds t c =
+    let c8 = c .before .before .before .before .before .before .before .before in
+    (remaining-all (c8 .pre .1 .0 .1 .0) (c8 .pre .1 .1 .1 .0 .2), refl, refl)
 
-attach-fields-label-requires : (t : ℕ) → attach-fields-lts.Need-label-requires (inserts-reads.Asked, inserts-reads.Learnt, label-reads.Asked, label-reads.Learnt, find-in-reads.Asked, find-in-reads.Learnt, attach-field-below t, attach-field.Post, is-refused-reads.Asked, is-refused-reads.Learnt, failed-reads.Asked, failed-reads.Learnt, is-bare-reads.Asked, is-bare-reads.Learnt, both-reads.Asked, both-reads.Learnt, len-of-reads.Asked, len-of-reads.Learnt, skip-type-reads.Asked, skip-type-reads.Learnt) (attach-fields-at t) attach-fields.Post attach-fields-Inv-loop attach-fields-μ-loop
+attach-fields-label-requires : (t : ℕ) → attach-fields-lts.Need-label-requires (attach-fields-claims t) (attach-fields-at t) attach-fields.Post
+    attach-fields-Inv-loop attach-fields-μ-loop
 attach-fields-label-requires t c κs = search needs
 
-attach-fields-enum-known-l : (t : ℕ) → attach-fields-lts.Need-enum-known-l (inserts-reads.Asked, inserts-reads.Learnt, label-reads.Asked, label-reads.Learnt, find-in-reads.Asked, find-in-reads.Learnt, attach-field-below t, attach-field.Post, is-refused-reads.Asked, is-refused-reads.Learnt, failed-reads.Asked, failed-reads.Learnt, is-bare-reads.Asked, is-bare-reads.Learnt, both-reads.Asked, both-reads.Learnt, len-of-reads.Asked, len-of-reads.Learnt, skip-type-reads.Asked, skip-type-reads.Learnt) (attach-fields-at t) attach-fields.Post attach-fields-Inv-loop attach-fields-μ-loop
+attach-fields-enum-known-l : (t : ℕ) → attach-fields-lts.Need-enum-known-l (attach-fields-claims t) (attach-fields-at t) attach-fields.Post
+    attach-fields-Inv-loop attach-fields-μ-loop
 attach-fields-enum-known-l t c = search needs
 
 attach-fields-slice-reshare-prefix-find-in :
-    (t : ℕ) → attach-fields-lts.Need-slice-reshare-prefix-find-in (
-      inserts-reads.Asked,
-      inserts-reads.Learnt,
-      label-reads.Asked,
-      label-reads.Learnt,
-      find-in-reads.Asked,
-      find-in-reads.Learnt,
-      attach-field-below t,
-      attach-field.Post,
-      is-refused-reads.Asked,
-      is-refused-reads.Learnt,
-      failed-reads.Asked,
-      failed-reads.Learnt,
-      is-bare-reads.Asked,
-      is-bare-reads.Learnt,
-      both-reads.Asked,
-      both-reads.Learnt,
-      len-of-reads.Asked,
-      len-of-reads.Learnt,
-      skip-type-reads.Asked,
-      skip-type-reads.Learnt,
-    ) (attach-fields-at t) attach-fields.Post attach-fields-Inv-loop attach-fields-μ-loop
-attach-fields-slice-reshare-prefix-find-in t c = let a = c .before .before .before .before .before .loop .inv .2 in let b = c .before .before .before .before .before .before .before .before .before .before .before .before .pre .1 .1 .1 .1 .0 in omega arith
+    (t : ℕ) → attach-fields-lts.Need-slice-reshare-prefix-find-in (attach-fields-claims t) (attach-fields-at t) attach-fields.Post attach-fields-Inv-loop
+    attach-fields-μ-loop
+attach-fields-slice-reshare-prefix-find-in t c =
+    let c5 = c .before .before .before .before .before in let c14 = c5 .before .before .before .before .before .before .before .before .before in
+    let a = c5 .loop .inv .2 in let b = c14 .pre .1 .1 .1 .1 .0 in omega arith
 
-attach-fields-slice-aggregate-find-in : (t : ℕ) → attach-fields-lts.Need-slice-aggregate-find-in (inserts-reads.Asked, inserts-reads.Learnt, label-reads.Asked, label-reads.Learnt, find-in-reads.Asked, find-in-reads.Learnt, attach-field-below t, attach-field.Post, is-refused-reads.Asked, is-refused-reads.Learnt, failed-reads.Asked, failed-reads.Learnt, is-bare-reads.Asked, is-bare-reads.Learnt, both-reads.Asked, both-reads.Learnt, len-of-reads.Asked, len-of-reads.Learnt, skip-type-reads.Asked, skip-type-reads.Learnt) (attach-fields-at t) attach-fields.Post attach-fields-Inv-loop attach-fields-μ-loop
-attach-fields-slice-aggregate-find-in t c = sym (length-take-le (c .before .before .before .before .before .before .before .before .before .before .before .before .before .args .used) (c .before .before .before .before .before .before .loop .arena) (let a = c .before .before .before .before .before .before .loop .inv .2 in let b = c .before .before .before .before .before .before .before .before .before .before .before .before .before .pre .1 .1 .1 .1 .0 in omega arith))
+attach-fields-slice-aggregate-find-in : (t : ℕ) → attach-fields-lts.Need-slice-aggregate-find-in (attach-fields-claims t) (attach-fields-at t)
+    attach-fields.Post attach-fields-Inv-loop attach-fields-μ-loop
+attach-fields-slice-aggregate-find-in t c =
+    let c6 = c .before .before .before .before .before .before in let c15 = c6 .before .before .before .before .before .before .before .before .before in
+    sym (length-take-le (c15 .args .used) (c6 .loop .arena) (let a = c6 .loop .inv .2 in let b = c15 .pre .1 .1 .1 .1 .0 in omega arith))
 
-attach-fields-find-in-requires : (t : ℕ) → attach-fields-lts.Need-find-in-requires (inserts-reads.Asked, inserts-reads.Learnt, label-reads.Asked, label-reads.Learnt, find-in-reads.Asked, find-in-reads.Learnt, attach-field-below t, attach-field.Post, is-refused-reads.Asked, is-refused-reads.Learnt, failed-reads.Asked, failed-reads.Learnt, is-bare-reads.Asked, is-bare-reads.Learnt, both-reads.Asked, both-reads.Learnt, len-of-reads.Asked, len-of-reads.Learnt, skip-type-reads.Asked, skip-type-reads.Learnt) (attach-fields-at t) attach-fields.Post attach-fields-Inv-loop attach-fields-μ-loop
-attach-fields-find-in-requires t c κs = (c .before .before .before .before .before .before .before .before .before .before .before .before .before .pre .1 .0 .0, (table-kept (c .before .before .before .before .before .before .before .before .before .before .before .before .before .args .arena .now) (c .before .before .before .before .before .before .loop .arena) (c .before .before .before .before .before .before .before .before .before .before .before .before .before .pre .1 .1 .1 .1 .0) (c .before .before .before .before .before .before .loop .inv .1) (c .before .before .before .before .before .before .before .before .before .before .before .before .before .pre .1 .1 .1 .1 .1), field-name (c .before .before .before .before .before .before .loop .inv .0) (c .before .before .before .before .before .loop-test .taken) (c .before .before .before .before .label .ensures .0) (c .before .before .l .given .1) (c .before .before .before .before .label .ensures .1) .0))
+attach-fields-find-in-requires : (t : ℕ) → attach-fields-lts.Need-find-in-requires (attach-fields-claims t) (attach-fields-at t) attach-fields.Post
+    attach-fields-Inv-loop attach-fields-μ-loop
+attach-fields-find-in-requires t c κs =
+    let c2 = c .before .before in let c4 = c2 .before .before in let c5 = c4 .before in let c6 = c5 .before in let c15 =
+    c6 .before .before .before .before .before .before .before .before .before in (
+      c15 .pre .1 .0 .0,
+      (
+        table-kept (c15 .args .arena .now) (c6 .loop .arena) (c15 .pre .1 .1 .1 .1 .0) (c6 .loop .inv .1) (c15 .pre .1 .1 .1 .1 .1),
+        field-name (c6 .loop .inv .0) (c5 .loop-test .taken) (c4 .label .ensures .0) (c2 .l .given .1) (c4 .label .ensures .1) .0,
+      ),
+    )
 
-attach-fields-mul-attach-field : (t : ℕ) → attach-fields-lts.Need-mul-attach-field (inserts-reads.Asked, inserts-reads.Learnt, label-reads.Asked, label-reads.Learnt, find-in-reads.Asked, find-in-reads.Learnt, attach-field-below t, attach-field.Post, is-refused-reads.Asked, is-refused-reads.Learnt, failed-reads.Asked, failed-reads.Learnt, is-bare-reads.Asked, is-bare-reads.Learnt, both-reads.Asked, both-reads.Learnt, len-of-reads.Asked, len-of-reads.Learnt, skip-type-reads.Asked, skip-type-reads.Learnt) (attach-fields-at t) attach-fields.Post attach-fields-Inv-loop attach-fields-μ-loop
-attach-fields-mul-attach-field t c = omega (arith, c .before .before .before .before .before .before .before .before .before .before .before .before .before .before .before .pre .1 .1 .1 .1 .0, c .before .before .before .before .before .before .before .before .before .before .before .before .before .before .before .good .1 .1 .1 .1 .1 .1 .1 .1 .1 .1 .1 .1 .1 .1 .0 .1)
+attach-fields-mul-attach-field : (t : ℕ) → attach-fields-lts.Need-mul-attach-field (attach-fields-claims t) (attach-fields-at t) attach-fields.Post
+    attach-fields-Inv-loop attach-fields-μ-loop
+attach-fields-mul-attach-field t c =
+    let c17 = c .before .before .before .before .before .before .before .before .before .before .before .before .before .before .before .before .before in
+    omega (arith, c17 .pre .1 .1 .1 .1 .0, c17 .good .1 .1 .1 .1 .1 .1 .1 .1 .0 .1)
 
-attach-fields-sub-attach-field : (t : ℕ) → attach-fields-lts.Need-sub-attach-field (inserts-reads.Asked, inserts-reads.Learnt, label-reads.Asked, label-reads.Learnt, find-in-reads.Asked, find-in-reads.Learnt, attach-field-below t, attach-field.Post, is-refused-reads.Asked, is-refused-reads.Learnt, failed-reads.Asked, failed-reads.Learnt, is-bare-reads.Asked, is-bare-reads.Learnt, both-reads.Asked, both-reads.Learnt, len-of-reads.Asked, len-of-reads.Learnt, skip-type-reads.Asked, skip-type-reads.Learnt) (attach-fields-at t) attach-fields.Post attach-fields-Inv-loop attach-fields-μ-loop
-attach-fields-sub-attach-field t c = let a = c .before .before .before .before .before .before .before .before .loop .inv .2 in let b = c .before .before .before .before .before .before .before .before .before .before .before .before .before .before .before .pre .1 .1 .1 .1 .0 in omega arith
+attach-fields-sub-attach-field : (t : ℕ) → attach-fields-lts.Need-sub-attach-field (attach-fields-claims t) (attach-fields-at t) attach-fields.Post
+    attach-fields-Inv-loop attach-fields-μ-loop
+attach-fields-sub-attach-field t c =
+    let c8 = c .before .before .before .before .before .before .before .before in let c17 =
+    c8 .before .before .before .before .before .before .before .before .before in
+    let a = c8 .loop .inv .2 in let b = c17 .pre .1 .1 .1 .1 .0 in omega arith
 
-attach-fields-part-attach-field-start : (t : ℕ) → attach-fields-lts.Need-part-attach-field-start (inserts-reads.Asked, inserts-reads.Learnt, label-reads.Asked, label-reads.Learnt, find-in-reads.Asked, find-in-reads.Learnt, attach-field-below t, attach-field.Post, is-refused-reads.Asked, is-refused-reads.Learnt, failed-reads.Asked, failed-reads.Learnt, is-bare-reads.Asked, is-bare-reads.Learnt, both-reads.Asked, both-reads.Learnt, len-of-reads.Asked, len-of-reads.Learnt, skip-type-reads.Asked, skip-type-reads.Learnt) (attach-fields-at t) attach-fields.Post attach-fields-Inv-loop attach-fields-μ-loop
-attach-fields-part-attach-field-start t c = let a = c .before .before .before .before .before .before .before .before .loop .inv .2 in let b = c .before .before .before .before .before .before .before .before .before .before .before .before .before .before .before .pre .1 .1 .1 .1 .0 in omega arith
+attach-fields-part-attach-field-start : (t : ℕ) → attach-fields-lts.Need-part-attach-field-start (attach-fields-claims t) (attach-fields-at t)
+    attach-fields.Post attach-fields-Inv-loop attach-fields-μ-loop
+attach-fields-part-attach-field-start t c =
+    let c8 = c .before .before .before .before .before .before .before .before in let c17 =
+    c8 .before .before .before .before .before .before .before .before .before in
+    let a = c8 .loop .inv .2 in let b = c17 .pre .1 .1 .1 .1 .0 in omega arith
 
-attach-fields-part-attach-field-end : (t : ℕ) → attach-fields-lts.Need-part-attach-field-end (inserts-reads.Asked, inserts-reads.Learnt, label-reads.Asked, label-reads.Learnt, find-in-reads.Asked, find-in-reads.Learnt, attach-field-below t, attach-field.Post, is-refused-reads.Asked, is-refused-reads.Learnt, failed-reads.Asked, failed-reads.Learnt, is-bare-reads.Asked, is-bare-reads.Learnt, both-reads.Asked, both-reads.Learnt, len-of-reads.Asked, len-of-reads.Learnt, skip-type-reads.Asked, skip-type-reads.Learnt) (attach-fields-at t) attach-fields.Post attach-fields-Inv-loop attach-fields-μ-loop
+attach-fields-part-attach-field-end : (t : ℕ) → attach-fields-lts.Need-part-attach-field-end (attach-fields-claims t) (attach-fields-at t) attach-fields.Post
+    attach-fields-Inv-loop attach-fields-μ-loop
 attach-fields-part-attach-field-end t c = omega arith
 
-attach-fields-attach-field-requires : (t : ℕ) → attach-fields-lts.Need-attach-field-requires (inserts-reads.Asked, inserts-reads.Learnt, label-reads.Asked, label-reads.Learnt, find-in-reads.Asked, find-in-reads.Learnt, attach-field-below t, attach-field.Post, is-refused-reads.Asked, is-refused-reads.Learnt, failed-reads.Asked, failed-reads.Learnt, is-bare-reads.Asked, is-bare-reads.Learnt, both-reads.Asked, both-reads.Learnt, len-of-reads.Asked, len-of-reads.Learnt, skip-type-reads.Asked, skip-type-reads.Learnt) (attach-fields-at t) attach-fields.Post attach-fields-Inv-loop attach-fields-μ-loop
-attach-fields-attach-field-requires t c κs = let w = c .before .before .before .before .before .before .before .before .before .before .before .before .before .before .before .before .pre .1 in
-    (omega (arith, c .before .before .before .before .before .before .before .before .before .before .before .before .before .before .before .before .pre .0), (((w .0 .0 .columns, c .before .before .find-in .ensures (w .0 .0)), field (c .before .before .before .before .before .before .before .before .before .loop .inv .0) (c .before .before .before .before .before .before .before .before .loop-test .taken) (c .before .before .before .before .before .before .before .label .ensures .0) (c .before .before .before .before .before .l .given .1) .head), (w .1 .0, (field-name (c .before .before .before .before .before .before .before .before .before .loop .inv .0) (c .before .before .before .before .before .before .before .before .loop-test .taken) (c .before .before .before .before .before .before .before .label .ensures .0) (c .before .before .before .before .before .l .given .1) (c .before .before .before .before .before .before .before .label .ensures .1), (w .1 .1 .0 .0, w .1 .1 .0 .1, omega (arith, c .before .before .before .before .before .before .before .before .before .loop .inv .0 .room, field-after (c .before .before .before .before .before .before .before .before .before .loop .inv .0) (c .before .before .before .before .before .before .before .before .loop-test .taken) (c .before .before .before .before .before .before .before .label .ensures .0) (c .before .before .before .before .before .l .given .1)))))))
+attach-fields-attach-field-requires : (t : ℕ) → attach-fields-lts.Need-attach-field-requires (attach-fields-claims t) (attach-fields-at t) attach-fields.Post
+    attach-fields-Inv-loop attach-fields-μ-loop
+attach-fields-attach-field-requires t c κs =
+    let c2 = c .before .before in let c5 = c2 .before .before .before in let c7 = c5 .before .before in let c8 = c7 .before in let c9 = c8 .before in let c18
+    = c9 .before .before .before .before .before .before .before .before .before in
+    let w = c18 .pre .1 in (
+      omega (arith, c18 .pre .0),
+      (
+        (
+          (w .0 .0 .columns, c2 .find-in .ensures (w .0 .0)),
+          (
+            field (c9 .loop .inv .0) (c8 .loop-test .taken)
+                (c7 .label .ensures .0) (c5 .l .given .1) .head,
+            w .0 .1 .1,
+          ),
+        ),
+        (
+          w .1 .0,
+          (
+            field-name (c9 .loop .inv .0) (c8 .loop-test .taken)
+                (c7 .label .ensures .0) (c5 .l .given .1) (c7 .label .ensures .1),
+            (
+              w .1 .1 .0 .0,
+              w .1 .1 .0 .1,
+              omega (
+                arith,
+                c9 .loop .inv .0 .room,
+                field-after
+                    (c9 .loop .inv .0) (c8 .loop-test .taken) (c7 .label .ensures .0) (c5 .l .given .1),
+              ),
+            ),
+          ),
+        ),
+      ),
+    )
 
-attach-fields-is-refused-requires : (t : ℕ) → attach-fields-lts.Need-is-refused-requires (inserts-reads.Asked, inserts-reads.Learnt, label-reads.Asked, label-reads.Learnt, find-in-reads.Asked, find-in-reads.Learnt, attach-field-below t, attach-field.Post, is-refused-reads.Asked, is-refused-reads.Learnt, failed-reads.Asked, failed-reads.Learnt, is-bare-reads.Asked, is-bare-reads.Learnt, both-reads.Asked, both-reads.Learnt, len-of-reads.Asked, len-of-reads.Learnt, skip-type-reads.Asked, skip-type-reads.Learnt) (attach-fields-at t) attach-fields.Post attach-fields-Inv-loop attach-fields-μ-loop
+attach-fields-is-refused-requires : (t : ℕ) → attach-fields-lts.Need-is-refused-requires (attach-fields-claims t) (attach-fields-at t) attach-fields.Post
+    attach-fields-Inv-loop attach-fields-μ-loop
 attach-fields-is-refused-requires t c κs = search needs
 
-attach-fields-failed-requires : (t : ℕ) → attach-fields-lts.Need-failed-requires (inserts-reads.Asked, inserts-reads.Learnt, label-reads.Asked, label-reads.Learnt, find-in-reads.Asked, find-in-reads.Learnt, attach-field-below t, attach-field.Post, is-refused-reads.Asked, is-refused-reads.Learnt, failed-reads.Asked, failed-reads.Learnt, is-bare-reads.Asked, is-bare-reads.Learnt, both-reads.Asked, both-reads.Learnt, len-of-reads.Asked, len-of-reads.Learnt, skip-type-reads.Asked, skip-type-reads.Learnt) (attach-fields-at t) attach-fields.Post attach-fields-Inv-loop attach-fields-μ-loop
+attach-fields-failed-requires : (t : ℕ) → attach-fields-lts.Need-failed-requires (attach-fields-claims t) (attach-fields-at t) attach-fields.Post
+    attach-fields-Inv-loop attach-fields-μ-loop
 attach-fields-failed-requires t c κs = search needs
 
-attach-fields-same-length : (t : ℕ) → attach-fields-lts.Need-same-length (inserts-reads.Asked, inserts-reads.Learnt, label-reads.Asked, label-reads.Learnt, find-in-reads.Asked, find-in-reads.Learnt, attach-field-below t, attach-field.Post, is-refused-reads.Asked, is-refused-reads.Learnt, failed-reads.Asked, failed-reads.Learnt, is-bare-reads.Asked, is-bare-reads.Learnt, both-reads.Asked, both-reads.Learnt, len-of-reads.Asked, len-of-reads.Learnt, skip-type-reads.Asked, skip-type-reads.Learnt) (attach-fields-at t) attach-fields.Post attach-fields-Inv-loop attach-fields-μ-loop
-attach-fields-same-length t c = c .before .before .before .before .before .before .before .attach-field .kept .1 .1 .1 .1 .1 .1 .1 .1 .1 .1 .1 .1 .0 ∙ c .before .before .before .before .before .before .before .before .before .before .before .before .before .before .before .before .before .loop .inv .0 .kept
+attach-fields-same-length : (t : ℕ) → attach-fields-lts.Need-same-length (attach-fields-claims t) (attach-fields-at t) attach-fields.Post
+    attach-fields-Inv-loop attach-fields-μ-loop
+attach-fields-same-length t c =
+    let c7 = c .before .before .before .before .before .before .before in let c17 =
+    c7 .before .before .before .before .before .before .before .before .before .before in
+    c7 .attach-field .kept .1 .1 .1 .1 .1 .0 ∙ c17 .loop .inv .0 .kept
 
-attach-fields-same-length-2 : (t : ℕ) → attach-fields-lts.Need-same-length-2 (inserts-reads.Asked, inserts-reads.Learnt, label-reads.Asked, label-reads.Learnt, find-in-reads.Asked, find-in-reads.Learnt, attach-field-below t, attach-field.Post, is-refused-reads.Asked, is-refused-reads.Learnt, failed-reads.Asked, failed-reads.Learnt, is-bare-reads.Asked, is-bare-reads.Learnt, both-reads.Asked, both-reads.Learnt, len-of-reads.Asked, len-of-reads.Learnt, skip-type-reads.Asked, skip-type-reads.Learnt) (attach-fields-at t) attach-fields.Post attach-fields-Inv-loop attach-fields-μ-loop
-attach-fields-same-length-2 t c = same-len-mid (c .before .before .before .before .before .before .before .before .before .before .before .before .before .before .before .before .before .before .before .before .before .before .before .before .args .used) (length (c .before .before .before .before .before .before .before .before .before .before .before .before .before .before .before .before .before .loop .arena) - c .before .before .before .before .before .before .before .before .before .before .before .before .before .before .before .before .before .before .before .before .before .before .before .before .args .used) (c .before .before .before .before .before .before .before .before .before .before .before .before .before .before .before .before .before .loop .arena) (c .before .before .before .before .before .before .before .attach-field .last .1 .1 .1 .1 .1 .1 .1 .1 .1 .1 .1 .1 .1 .1 .0) (c .before .before .before .before .before .before .before .attach-field .kept .1 .1 .1 .1 .1 .1 .1 .1 .1 .1 .1 .1 .1 .1 .0) ∙ c .before .before .before .before .before .before .before .before .before .before .before .before .before .before .before .before .before .loop .inv .2
+attach-fields-same-length-2 : (t : ℕ) → attach-fields-lts.Need-same-length-2 (attach-fields-claims t) (attach-fields-at t) attach-fields.Post
+    attach-fields-Inv-loop attach-fields-μ-loop
+attach-fields-same-length-2 t c =
+    let c7 = c .before .before .before .before .before .before .before in let c17 =
+    c7 .before .before .before .before .before .before .before .before .before .before in let c26 =
+    c17 .before .before .before .before .before .before .before .before .before in
+    same-len-mid (c26 .args .used) (length (c17 .loop .arena) - c26 .args .used) (c17 .loop .arena) (c7 .attach-field .last .1 .1 .1 .1 .1 .1 .1 .0)
+    (c7 .attach-field .kept .1 .1 .1 .1 .1 .1 .1 .0) ∙ c17 .loop .inv .2
 
-attach-fields-returns : (t : ℕ) → attach-fields-lts.Need-returns (inserts-reads.Asked, inserts-reads.Learnt, label-reads.Asked, label-reads.Learnt, find-in-reads.Asked, find-in-reads.Learnt, attach-field-below t, attach-field.Post, is-refused-reads.Asked, is-refused-reads.Learnt, failed-reads.Asked, failed-reads.Learnt, is-bare-reads.Asked, is-bare-reads.Learnt, both-reads.Asked, both-reads.Learnt, len-of-reads.Asked, len-of-reads.Learnt, skip-type-reads.Asked, skip-type-reads.Learnt) (attach-fields-at t) attach-fields.Post attach-fields-Inv-loop attach-fields-μ-loop
-attach-fields-returns t c = remaining-stop (c .before .before .before .before .before .before .before .before .before .before .before .before .before .before .before .before .before .loop .inv .0) (c .before .before .before .before .before .before .before .before .before .before .before .before .before .before .before .before .loop-test .taken) (c .before .before .before .before .before .before .before .before .before .before .before .before .before .before .before .label .ensures .0) (c .before .before .before .before .before .before .before .before .before .before .before .before .before .l .given .1) (c .before .before .before .before .before .before .before .before .before .before .before .before .before .before .before .before .before .before .inserts .ensures) _ (λ T P. c .before .before .before .before .before .before .before .attach-field .ensures (c .before .before .before .before .before .before .before .before .before .before .before .before .before .before .before .before .before .loop .from) T (P .columns) (field (c .before .before .before .before .before .before .before .before .before .before .before .before .before .before .before .before .before .loop .inv .0) (c .before .before .before .before .before .before .before .before .before .before .before .before .before .before .before .before .loop-test .taken) (c .before .before .before .before .before .before .before .before .before .before .before .before .before .before .before .label .ensures .0) (c .before .before .before .before .before .before .before .before .before .before .before .before .before .l .given .1) .head) (c .before .before .before .before .before .before .before .before .before .before .find-in .ensures P) (field-after (c .before .before .before .before .before .before .before .before .before .before .before .before .before .before .before .before .before .loop .inv .0) (c .before .before .before .before .before .before .before .before .before .before .before .before .before .before .before .before .loop-test .taken) (c .before .before .before .before .before .before .before .before .before .before .before .before .before .before .before .label .ensures .0) (c .before .before .before .before .before .before .before .before .before .before .before .before .before .l .given .1))) (c .failed .ensures) (sym (c .before .before .is-refused .ensures) ∙ c .before .if1 .taken)
+attach-fields-returns : (t : ℕ) → attach-fields-lts.Need-returns (attach-fields-claims t) (attach-fields-at t) attach-fields.Post attach-fields-Inv-loop
+    attach-fields-μ-loop
+attach-fields-returns t c =
+    let c1 = c .before in let c2 = c1 .before in let c7 = c2 .before .before .before .before .before in let c10 = c7 .before .before .before in let c13 =
+    c10 .before .before .before in let c15 = c13 .before .before in let c16 = c15 .before in let c17 = c16 .before in let c18 = c17 .before in
+    remaining-stop (c17 .loop .inv .0) (c16 .loop-test .taken) (c15 .label .ensures .0) (c13 .l .given .1) (c18 .inserts .ensures) _ (λ T P.
+    c7 .attach-field .ensures (c17 .loop .from) T (P .columns) (field (c17 .loop .inv .0) (c16 .loop-test .taken) (c15 .label .ensures .0)
+    (c13 .l .given .1) .head) (c10 .find-in .ensures P) (field-after (c17 .loop .inv .0) (c16 .loop-test .taken) (c15 .label .ensures .0)
+    (c13 .l .given .1))) (c .failed .ensures) (sym (c2 .is-refused .ensures) ∙ c1 .if1 .taken)
 
-attach-fields-is-bare-requires : (t : ℕ) → attach-fields-lts.Need-is-bare-requires (inserts-reads.Asked, inserts-reads.Learnt, label-reads.Asked, label-reads.Learnt, find-in-reads.Asked, find-in-reads.Learnt, attach-field-below t, attach-field.Post, is-refused-reads.Asked, is-refused-reads.Learnt, failed-reads.Asked, failed-reads.Learnt, is-bare-reads.Asked, is-bare-reads.Learnt, both-reads.Asked, both-reads.Learnt, len-of-reads.Asked, len-of-reads.Learnt, skip-type-reads.Asked, skip-type-reads.Learnt) (attach-fields-at t) attach-fields.Post attach-fields-Inv-loop attach-fields-μ-loop
+attach-fields-is-bare-requires : (t : ℕ) → attach-fields-lts.Need-is-bare-requires (attach-fields-claims t) (attach-fields-at t) attach-fields.Post
+    attach-fields-Inv-loop attach-fields-μ-loop
 attach-fields-is-bare-requires t c κs = search needs
 
-attach-fields-both-requires : (t : ℕ) → attach-fields-lts.Need-both-requires (inserts-reads.Asked, inserts-reads.Learnt, label-reads.Asked, label-reads.Learnt, find-in-reads.Asked, find-in-reads.Learnt, attach-field-below t, attach-field.Post, is-refused-reads.Asked, is-refused-reads.Learnt, failed-reads.Asked, failed-reads.Learnt, is-bare-reads.Asked, is-bare-reads.Learnt, both-reads.Asked, both-reads.Learnt, len-of-reads.Asked, len-of-reads.Learnt, skip-type-reads.Asked, skip-type-reads.Learnt) (attach-fields-at t) attach-fields.Post attach-fields-Inv-loop attach-fields-μ-loop
+attach-fields-both-requires : (t : ℕ) → attach-fields-lts.Need-both-requires (attach-fields-claims t) (attach-fields-at t) attach-fields.Post
+    attach-fields-Inv-loop attach-fields-μ-loop
 attach-fields-both-requires t c κs = search needs
 
-attach-fields-len-of-requires : (t : ℕ) → attach-fields-lts.Need-len-of-requires (inserts-reads.Asked, inserts-reads.Learnt, label-reads.Asked, label-reads.Learnt, find-in-reads.Asked, find-in-reads.Learnt, attach-field-below t, attach-field.Post, is-refused-reads.Asked, is-refused-reads.Learnt, failed-reads.Asked, failed-reads.Learnt, is-bare-reads.Asked, is-bare-reads.Learnt, both-reads.Asked, both-reads.Learnt, len-of-reads.Asked, len-of-reads.Learnt, skip-type-reads.Asked, skip-type-reads.Learnt) (attach-fields-at t) attach-fields.Post attach-fields-Inv-loop attach-fields-μ-loop
+attach-fields-len-of-requires : (t : ℕ) → attach-fields-lts.Need-len-of-requires (attach-fields-claims t) (attach-fields-at t) attach-fields.Post
+    attach-fields-Inv-loop attach-fields-μ-loop
 attach-fields-len-of-requires t c κs = search needs
 
-attach-fields-add-to : (t : ℕ) → attach-fields-lts.Need-add-to (inserts-reads.Asked, inserts-reads.Learnt, label-reads.Asked, label-reads.Learnt, find-in-reads.Asked, find-in-reads.Learnt, attach-field-below t, attach-field.Post, is-refused-reads.Asked, is-refused-reads.Learnt, failed-reads.Asked, failed-reads.Learnt, is-bare-reads.Asked, is-bare-reads.Learnt, both-reads.Asked, both-reads.Learnt, len-of-reads.Asked, len-of-reads.Learnt, skip-type-reads.Asked, skip-type-reads.Learnt) (attach-fields-at t) attach-fields.Post attach-fields-Inv-loop attach-fields-μ-loop
-attach-fields-add-to t c = let w = c .before .before .before .before .before .before .before .before .before .before .before .before .before .before .before .before .before .before .before .before .before .before .before .before .before .before .pre .1 in
-    omega (arith, remaining-room (c .before .before .before .before .before .before .before .before .before .before .before .before .before .before .before .before .before .before .before .loop .inv .0) (c .before .before .before .before .before .before .before .before .before .before .before .before .before .before .before .before .before .before .loop-test .taken) (c .before .before .before .before .before .before .before .before .before .before .before .before .before .before .before .before .before .label .ensures .0) (c .before .before .before .before .before .before .before .before .before .before .before .before .before .before .before .l .given .1) (c .before .before .before .before .before .before .before .before .before .before .before .before .before .before .before .before .before .before .before .before .inserts .ensures) _ (λ T P. c .before .before .before .before .before .before .before .before .before .attach-field .ensures (c .before .before .before .before .before .before .before .before .before .before .before .before .before .before .before .before .before .before .before .loop .from) T (P .columns) (field (c .before .before .before .before .before .before .before .before .before .before .before .before .before .before .before .before .before .before .before .loop .inv .0) (c .before .before .before .before .before .before .before .before .before .before .before .before .before .before .before .before .before .before .loop-test .taken) (c .before .before .before .before .before .before .before .before .before .before .before .before .before .before .before .before .before .label .ensures .0) (c .before .before .before .before .before .before .before .before .before .before .before .before .before .before .before .l .given .1) .head) (c .before .before .before .before .before .before .before .before .before .before .before .before .find-in .ensures P) (field-after (c .before .before .before .before .before .before .before .before .before .before .before .before .before .before .before .before .before .before .before .loop .inv .0) (c .before .before .before .before .before .before .before .before .before .before .before .before .before .before .before .before .before .before .loop-test .taken) (c .before .before .before .before .before .before .before .before .before .before .before .before .before .before .before .before .before .label .ensures .0) (c .before .before .before .before .before .before .before .before .before .before .before .before .before .before .before .l .given .1))) (sym (c .before .before .before .before .is-refused .ensures) ∙ c .before .before .before .if1 .left) (w .1 .0) (w .0 .0), extent (field (c .before .before .before .before .before .before .before .before .before .before .before .before .before .before .before .before .before .before .before .loop .inv .0) (c .before .before .before .before .before .before .before .before .before .before .before .before .before .before .before .before .before .before .loop-test .taken) (c .before .before .before .before .before .before .before .before .before .before .before .before .before .before .before .before .before .label .ensures .0) (c .before .before .before .before .before .before .before .before .before .before .before .before .before .before .before .l .given .1) .head), w .1 .1 .0, c .len-of .ensures)
+attach-fields-add-to : (t : ℕ) → attach-fields-lts.Need-add-to (attach-fields-claims t) (attach-fields-at t) attach-fields.Post attach-fields-Inv-loop
+    attach-fields-μ-loop
+attach-fields-add-to t c =
+    let c3 = c .before .before .before in let c4 = c3 .before in let c9 = c4 .before .before .before .before .before in let c12 = c9 .before .before .before
+    in let c15 = c12 .before .before .before in let c17 = c15 .before .before in let c18 = c17 .before in let c19 = c18 .before in let c20 = c19 .before
+    in let c28 = c20 .before .before .before .before .before .before .before .before in
+    let w = c28 .pre .1 in
+    omega (
+      arith,
+      remaining-room (c19 .loop .inv .0) (c18 .loop-test .taken) (c17 .label .ensures .0) (c15 .l .given .1) (c20 .inserts .ensures) _ (λ T P.
+          c9 .attach-field .ensures (c19 .loop .from) T (P .columns) (field (c19 .loop .inv .0) (c18 .loop-test .taken) (c17 .label .ensures .0)
+          (c15 .l .given .1) .head) (c12 .find-in .ensures P) (field-after (c19 .loop .inv .0) (c18 .loop-test .taken) (c17 .label .ensures .0)
+          (c15 .l .given .1))) (sym (c4 .is-refused .ensures) ∙ c3 .if1 .left) (w .1 .0) (w .0 .0),
+      extent (field (c19 .loop .inv .0) (c18 .loop-test .taken)
+          (c17 .label .ensures .0) (c15 .l .given .1) .head),
+      w .1 .1 .0,
+      c .len-of .ensures,
+    )
 
-attach-fields-skip-type-requires : (t : ℕ) → attach-fields-lts.Need-skip-type-requires (inserts-reads.Asked, inserts-reads.Learnt, label-reads.Asked, label-reads.Learnt, find-in-reads.Asked, find-in-reads.Learnt, attach-field-below t, attach-field.Post, is-refused-reads.Asked, is-refused-reads.Learnt, failed-reads.Asked, failed-reads.Learnt, is-bare-reads.Asked, is-bare-reads.Learnt, both-reads.Asked, both-reads.Learnt, len-of-reads.Asked, len-of-reads.Learnt, skip-type-reads.Asked, skip-type-reads.Learnt) (attach-fields-at t) attach-fields.Post attach-fields-Inv-loop attach-fields-μ-loop
-attach-fields-skip-type-requires t c κs = field (c .before .before .before .before .before .before .before .before .before .before .before .before .before .before .before .before .before .before .before .loop .inv .0) (c .before .before .before .before .before .before .before .before .before .before .before .before .before .before .before .before .before .before .loop-test .taken) (c .before .before .before .before .before .before .before .before .before .before .before .before .before .before .before .before .before .label .ensures .0) (c .before .before .before .before .before .before .before .before .before .before .before .before .before .before .before .l .given .1) .head
+attach-fields-skip-type-requires : (t : ℕ) → attach-fields-lts.Need-skip-type-requires (attach-fields-claims t) (attach-fields-at t) attach-fields.Post
+    attach-fields-Inv-loop attach-fields-μ-loop
+attach-fields-skip-type-requires t c κs =
+    let c15 = c .before .before .before .before .before .before .before .before .before .before .before .before .before .before .before in let c17 =
+    c15 .before .before in let c18 = c17 .before in let c19 = c18 .before in
+    field (c19 .loop .inv .0) (c18 .loop-test .taken) (c17 .label .ensures .0) (c15 .l .given .1) .head
 
-attach-fields-enum-told : (t : ℕ) → attach-fields-lts.Need-enum-told (inserts-reads.Asked, inserts-reads.Learnt, label-reads.Asked, label-reads.Learnt, find-in-reads.Asked, find-in-reads.Learnt, attach-field-below t, attach-field.Post, is-refused-reads.Asked, is-refused-reads.Learnt, failed-reads.Asked, failed-reads.Learnt, is-bare-reads.Asked, is-bare-reads.Learnt, both-reads.Asked, both-reads.Learnt, len-of-reads.Asked, len-of-reads.Learnt, skip-type-reads.Asked, skip-type-reads.Learnt) (attach-fields-at t) attach-fields.Post attach-fields-Inv-loop attach-fields-μ-loop
+attach-fields-enum-told : (t : ℕ) → attach-fields-lts.Need-enum-told (attach-fields-claims t) (attach-fields-at t) attach-fields.Post attach-fields-Inv-loop
+    attach-fields-μ-loop
 attach-fields-enum-told t c = search needs
 
-attach-fields-same-length-3 : (t : ℕ) → attach-fields-lts.Need-same-length-3 (inserts-reads.Asked, inserts-reads.Learnt, label-reads.Asked, label-reads.Learnt, find-in-reads.Asked, find-in-reads.Learnt, attach-field-below t, attach-field.Post, is-refused-reads.Asked, is-refused-reads.Learnt, failed-reads.Asked, failed-reads.Learnt, is-bare-reads.Asked, is-bare-reads.Learnt, both-reads.Asked, both-reads.Learnt, len-of-reads.Asked, len-of-reads.Learnt, skip-type-reads.Asked, skip-type-reads.Learnt) (attach-fields-at t) attach-fields.Post attach-fields-Inv-loop attach-fields-μ-loop
+attach-fields-same-length-3 : (t : ℕ) → attach-fields-lts.Need-same-length-3 (attach-fields-claims t) (attach-fields-at t) attach-fields.Post
+    attach-fields-Inv-loop attach-fields-μ-loop
 attach-fields-same-length-3 t c = search needs
 
-attach-fields-same-length-4 : (t : ℕ) → attach-fields-lts.Need-same-length-4 (inserts-reads.Asked, inserts-reads.Learnt, label-reads.Asked, label-reads.Learnt, find-in-reads.Asked, find-in-reads.Learnt, attach-field-below t, attach-field.Post, is-refused-reads.Asked, is-refused-reads.Learnt, failed-reads.Asked, failed-reads.Learnt, is-bare-reads.Asked, is-bare-reads.Learnt, both-reads.Asked, both-reads.Learnt, len-of-reads.Asked, len-of-reads.Learnt, skip-type-reads.Asked, skip-type-reads.Learnt) (attach-fields-at t) attach-fields.Post attach-fields-Inv-loop attach-fields-μ-loop
+attach-fields-same-length-4 : (t : ℕ) → attach-fields-lts.Need-same-length-4 (attach-fields-claims t) (attach-fields-at t) attach-fields.Post
+    attach-fields-Inv-loop attach-fields-μ-loop
 attach-fields-same-length-4 t c = c .before .before .before .before .loop .inv .2
 
-attach-fields-returns-2 : (t : ℕ) → attach-fields-lts.Need-returns-2 (inserts-reads.Asked, inserts-reads.Learnt, label-reads.Asked, label-reads.Learnt, find-in-reads.Asked, find-in-reads.Learnt, attach-field-below t, attach-field.Post, is-refused-reads.Asked, is-refused-reads.Learnt, failed-reads.Asked, failed-reads.Learnt, is-bare-reads.Asked, is-bare-reads.Learnt, both-reads.Asked, both-reads.Learnt, len-of-reads.Asked, len-of-reads.Learnt, skip-type-reads.Asked, skip-type-reads.Learnt) (attach-fields-at t) attach-fields.Post attach-fields-Inv-loop attach-fields-μ-loop
-attach-fields-returns-2 t c = λ T P Q. remaining-unlabelled (c .before .before .before .before .loop .inv .0) (c .before .before .before .loop-test .taken) (c .before .before .label .ensures .0) (c .enum-told .given .1)
+attach-fields-returns-2 : (t : ℕ) → attach-fields-lts.Need-returns-2 (attach-fields-claims t) (attach-fields-at t) attach-fields.Post attach-fields-Inv-loop
+    attach-fields-μ-loop
+attach-fields-returns-2 t c =
+    let c2 = c .before .before in let c3 = c2 .before in let c4 = c3 .before in
+    λ T P Q. remaining-unlabelled (c4 .loop .inv .0) (c3 .loop-test .taken) (c2 .label .ensures .0) (c .enum-told .given .1)
 
-attach-fields-add-index : (t : ℕ) → attach-fields-lts.Need-add-index (inserts-reads.Asked, inserts-reads.Learnt, label-reads.Asked, label-reads.Learnt, find-in-reads.Asked, find-in-reads.Learnt, attach-field-below t, attach-field.Post, is-refused-reads.Asked, is-refused-reads.Learnt, failed-reads.Asked, failed-reads.Learnt, is-bare-reads.Asked, is-bare-reads.Learnt, both-reads.Asked, both-reads.Learnt, len-of-reads.Asked, len-of-reads.Learnt, skip-type-reads.Asked, skip-type-reads.Learnt) (attach-fields-at t) attach-fields.Post attach-fields-Inv-loop attach-fields-μ-loop
-attach-fields-add-index t c = omega (arith, c .before .before .before .before .before .before .before .before .before .before .before .before .before .before .before .before .before .before .before .before .before .before .before .before .before .before .before .fits .m, c .before .before .before .before .before .before .before .before .before .before .before .before .before .before .before .before .before .before .before .loop-test .taken)
+attach-fields-add-index : (t : ℕ) → attach-fields-lts.Need-add-index (attach-fields-claims t) (attach-fields-at t) attach-fields.Post attach-fields-Inv-loop
+    attach-fields-μ-loop
+attach-fields-add-index t c =
+    let c19 = c .before .before .before .before .before .before .before .before .before .before .before .before .before .before .before .before .before
+    .before .before in let c29 = c19 .before .before .before .before .before .before .before .before .before .before in
+    omega (arith, c29 .good .1 .1 .1 .1 .1 .0, c19 .loop-test .taken)
 
-attach-fields-loop-less : (t : ℕ) → attach-fields-lts.Need-loop-less (inserts-reads.Asked, inserts-reads.Learnt, label-reads.Asked, label-reads.Learnt, find-in-reads.Asked, find-in-reads.Learnt, attach-field-below t, attach-field.Post, is-refused-reads.Asked, is-refused-reads.Learnt, failed-reads.Asked, failed-reads.Learnt, is-bare-reads.Asked, is-bare-reads.Learnt, both-reads.Asked, both-reads.Learnt, len-of-reads.Asked, len-of-reads.Learnt, skip-type-reads.Asked, skip-type-reads.Learnt) (attach-fields-at t) attach-fields.Post attach-fields-Inv-loop attach-fields-μ-loop
+attach-fields-loop-less : (t : ℕ) → attach-fields-lts.Need-loop-less (attach-fields-claims t) (attach-fields-at t) attach-fields.Post attach-fields-Inv-loop
+    attach-fields-μ-loop
 attach-fields-loop-less t c = search needs
 
-attach-fields-loop-again : (t : ℕ) → attach-fields-lts.Need-loop-again (inserts-reads.Asked, inserts-reads.Learnt, label-reads.Asked, label-reads.Learnt, find-in-reads.Asked, find-in-reads.Learnt, attach-field-below t, attach-field.Post, is-refused-reads.Asked, is-refused-reads.Learnt, failed-reads.Asked, failed-reads.Learnt, is-bare-reads.Asked, is-bare-reads.Learnt, both-reads.Asked, both-reads.Learnt, len-of-reads.Asked, len-of-reads.Learnt, skip-type-reads.Asked, skip-type-reads.Learnt) (attach-fields-at t) attach-fields.Post attach-fields-Inv-loop attach-fields-μ-loop
-attach-fields-loop-again t c = (
-  let w = c .before .before .before .before .before .before .before .before .before .before .before .before .before .before .before .before .before .before .before .before .before .before .before .before .before .before .before .pre .1 in
-      remaining-more (c .before .before .before .before .before .before .before .before .before .before .before .before .before .before .before .before .before .before .before .before .loop .inv .0) (c .before .before .before .before .before .before .before .before .before .before .before .before .before .before .before .before .before .before .before .loop-test .taken) (c .before .before .before .before .before .before .before .before .before .before .before .before .before .before .before .before .before .before .label .ensures .0) (c .before .before .before .before .before .before .before .before .before .before .before .before .before .before .before .before .l .given .1) (c .before .before .before .before .before .before .before .before .before .before .before .before .before .before .before .before .before .before .before .before .before .inserts .ensures) _ (λ T P. c .before .before .before .before .before .before .before .before .before .before .attach-field .ensures (c .before .before .before .before .before .before .before .before .before .before .before .before .before .before .before .before .before .before .before .before .loop .from) T (P .columns) (field (c .before .before .before .before .before .before .before .before .before .before .before .before .before .before .before .before .before .before .before .before .loop .inv .0) (c .before .before .before .before .before .before .before .before .before .before .before .before .before .before .before .before .before .before .before .loop-test .taken) (c .before .before .before .before .before .before .before .before .before .before .before .before .before .before .before .before .before .before .label .ensures .0) (c .before .before .before .before .before .before .before .before .before .before .before .before .before .before .before .before .l .given .1) .head) (c .before .before .before .before .before .before .before .before .before .before .before .before .before .find-in .ensures P) (field-after (c .before .before .before .before .before .before .before .before .before .before .before .before .before .before .before .before .before .before .before .before .loop .inv .0) (c .before .before .before .before .before .before .before .before .before .before .before .before .before .before .before .before .before .before .before .loop-test .taken) (c .before .before .before .before .before .before .before .before .before .before .before .before .before .before .before .before .before .before .label .ensures .0) (c .before .before .before .before .before .before .before .before .before .before .before .before .before .before .before .before .l .given .1))) (sym (c .before .before .before .before .before .is-refused .ensures) ∙ c .before .before .before .before .if1 .left) (w .1 .0) (w .0 .0) (c .before .before .before .before .before .before .before .before .before .before .attach-field .kept .1 .1 .1 .1 .1 .1 .1 .1 .1 .1 .1 .1 .0)
-      (c .skip-type .ensures (field (c .before .before .before .before .before .before .before .before .before .before .before .before .before .before .before .before .before .before .before .before .loop .inv .0) (c .before .before .before .before .before .before .before .before .before .before .before .before .before .before .before .before .before .before .before .loop-test .taken) (c .before .before .before .before .before .before .before .before .before .before .before .before .before .before .before .before .before .before .label .ensures .0) (c .before .before .before .before .before .before .before .before .before .before .before .before .before .before .before .before .l .given .1) .head)) (c .before .len-of .ensures) (c .before .before .both .ensures ∙ ap (λ (b : Bool). c .before .before .before .before .before .before .before .before .before .before .before .before .before .before .before .before .before .before .before .before .loop .same && b) (c .before .before .before .is-bare .ensures)),
-  take-put (c .before .before .before .before .before .before .before .before .before .before .before .before .before .before .before .before .before .before .before .before .before .before .before .before .before .before .before .args .used) (length (c .before .before .before .before .before .before .before .before .before .before .before .before .before .before .before .before .before .before .before .before .loop .arena) - c .before .before .before .before .before .before .before .before .before .before .before .before .before .before .before .before .before .before .before .before .before .before .before .before .before .before .before .args .used) (c .before .before .before .before .before .before .before .before .before .before .before .before .before .before .before .before .before .before .before .before .loop .arena) (c .before .before .before .before .before .before .before .before .before .before .attach-field .last .1 .1 .1 .1 .1 .1 .1 .1 .1 .1 .1 .1 .1 .1 .0) (let a = c .before .before .before .before .before .before .before .before .before .before .before .before .before .before .before .before .before .before .before .before .loop .inv .2 in let b = c .before .before .before .before .before .before .before .before .before .before .before .before .before .before .before .before .before .before .before .before .before .before .before .before .before .before .before .pre .1 .1 .1 .1 .0 in omega arith) ∙ c .before .before .before .before .before .before .before .before .before .before .before .before .before .before .before .before .before .before .before .before .loop .inv .1,
-  same-len-mid (c .before .before .before .before .before .before .before .before .before .before .before .before .before .before .before .before .before .before .before .before .before .before .before .before .before .before .before .args .used) (length (c .before .before .before .before .before .before .before .before .before .before .before .before .before .before .before .before .before .before .before .before .loop .arena) - c .before .before .before .before .before .before .before .before .before .before .before .before .before .before .before .before .before .before .before .before .before .before .before .before .before .before .before .args .used) (c .before .before .before .before .before .before .before .before .before .before .before .before .before .before .before .before .before .before .before .before .loop .arena) (c .before .before .before .before .before .before .before .before .before .before .attach-field .last .1 .1 .1 .1 .1 .1 .1 .1 .1 .1 .1 .1 .1 .1 .0) (c .before .before .before .before .before .before .before .before .before .before .attach-field .kept .1 .1 .1 .1 .1 .1 .1 .1 .1 .1 .1 .1 .1 .1 .0) ∙ c .before .before .before .before .before .before .before .before .before .before .before .before .before .before .before .before .before .before .before .before .loop .inv .2,
-)
+attach-fields-loop-again : (t : ℕ) → attach-fields-lts.Need-loop-again (attach-fields-claims t) (attach-fields-at t) attach-fields.Post
+    attach-fields-Inv-loop attach-fields-μ-loop
+attach-fields-loop-again t c =
+    let c1 = c .before in let c2 = c1 .before in let c3 = c2 .before in let c4 = c3 .before in let c5 = c4 .before in let c10 =
+    c5 .before .before .before .before .before in let c13 = c10 .before .before .before in let c16 = c13 .before .before .before in let c18 =
+    c16 .before .before in let c19 = c18 .before in let c20 = c19 .before in let c21 = c20 .before in let c29 =
+    c21 .before .before .before .before .before .before .before .before in (
+      let w = c29 .pre .1 in remaining-more (c20 .loop .inv .0) (c19 .loop-test .taken) (c18 .label .ensures .0) (c16 .l .given .1) (c21 .inserts .ensures) _
+          (λ T P. c10 .attach-field .ensures (c20 .loop .from) T (P .columns) (field (c20 .loop .inv .0) (c19 .loop-test .taken) (c18 .label .ensures .0)
+          (c16 .l .given .1) .head) (c13 .find-in .ensures P) (field-after (c20 .loop .inv .0) (c19 .loop-test .taken) (c18 .label .ensures .0)
+          (c16 .l .given .1))) (sym (c5 .is-refused .ensures) ∙ c4 .if1 .left) (w .1 .0) (w .0 .0) (c10 .attach-field .kept .1 .1 .1 .1 .1 .0)
+          (c .skip-type .ensures (field (c20 .loop .inv .0) (c19 .loop-test .taken) (c18 .label .ensures .0) (c16 .l .given .1) .head)) (c1 .len-of .ensures)
+          (c2 .both .ensures ∙ ap (λ (b : Bool). c20 .loop .same && b) (c3 .is-bare .ensures)),
+      take-put (c29 .args .used) (length (c20 .loop .arena) -
+          c29 .args .used) (c20 .loop .arena) (c10 .attach-field .last .1 .1 .1 .1 .1 .1 .1 .0) (let a = c20 .loop .inv .2 in let b = c29 .pre .1 .1 .1 .1 .0
+          in omega arith) ∙ c20 .loop .inv .1,
+      same-len-mid (c29 .args .used) (length (c20 .loop .arena) - c29 .args .used) (c20 .loop .arena)
+          (c10 .attach-field .last .1 .1 .1 .1 .1 .1 .1 .0) (c10 .attach-field .kept .1 .1 .1 .1 .1 .1 .1 .0) ∙ c20 .loop .inv .2,
+    )
 
-attach-fields-sub-t41 : (t : ℕ) → attach-fields-lts.Need-sub-t41 (inserts-reads.Asked, inserts-reads.Learnt, label-reads.Asked, label-reads.Learnt, find-in-reads.Asked, find-in-reads.Learnt, attach-field-below t, attach-field.Post, is-refused-reads.Asked, is-refused-reads.Learnt, failed-reads.Asked, failed-reads.Learnt, is-bare-reads.Asked, is-bare-reads.Learnt, both-reads.Asked, both-reads.Learnt, len-of-reads.Asked, len-of-reads.Learnt, skip-type-reads.Asked, skip-type-reads.Learnt) (attach-fields-at t) attach-fields.Post attach-fields-Inv-loop attach-fields-μ-loop
-attach-fields-sub-t41 t c = search needs
+attach-fields-sub-t44 : (t : ℕ) → attach-fields-lts.Need-sub-t44 (attach-fields-claims t) (attach-fields-at t) attach-fields.Post attach-fields-Inv-loop
+    attach-fields-μ-loop
+attach-fields-sub-t44 t c = search needs
 
-attach-fields-same-length-5 : (t : ℕ) → attach-fields-lts.Need-same-length-5 (inserts-reads.Asked, inserts-reads.Learnt, label-reads.Asked, label-reads.Learnt, find-in-reads.Asked, find-in-reads.Learnt, attach-field-below t, attach-field.Post, is-refused-reads.Asked, is-refused-reads.Learnt, failed-reads.Asked, failed-reads.Learnt, is-bare-reads.Asked, is-bare-reads.Learnt, both-reads.Asked, both-reads.Learnt, len-of-reads.Asked, len-of-reads.Learnt, skip-type-reads.Asked, skip-type-reads.Learnt) (attach-fields-at t) attach-fields.Post attach-fields-Inv-loop attach-fields-μ-loop
+attach-fields-same-length-5 : (t : ℕ) → attach-fields-lts.Need-same-length-5 (attach-fields-claims t) (attach-fields-at t) attach-fields.Post
+    attach-fields-Inv-loop attach-fields-μ-loop
 attach-fields-same-length-5 t c = search needs
 
-attach-fields-same-length-6 : (t : ℕ) → attach-fields-lts.Need-same-length-6 (inserts-reads.Asked, inserts-reads.Learnt, label-reads.Asked, label-reads.Learnt, find-in-reads.Asked, find-in-reads.Learnt, attach-field-below t, attach-field.Post, is-refused-reads.Asked, is-refused-reads.Learnt, failed-reads.Asked, failed-reads.Learnt, is-bare-reads.Asked, is-bare-reads.Learnt, both-reads.Asked, both-reads.Learnt, len-of-reads.Asked, len-of-reads.Learnt, skip-type-reads.Asked, skip-type-reads.Learnt) (attach-fields-at t) attach-fields.Post attach-fields-Inv-loop attach-fields-μ-loop
+attach-fields-same-length-6 : (t : ℕ) → attach-fields-lts.Need-same-length-6 (attach-fields-claims t) (attach-fields-at t) attach-fields.Post
+    attach-fields-Inv-loop attach-fields-μ-loop
 attach-fields-same-length-6 t c = c .before .loop .inv .2
 
-attach-fields-returns-3 : (t : ℕ) → attach-fields-lts.Need-returns-3 (inserts-reads.Asked, inserts-reads.Learnt, label-reads.Asked, label-reads.Learnt, find-in-reads.Asked, find-in-reads.Learnt, attach-field-below t, attach-field.Post, is-refused-reads.Asked, is-refused-reads.Learnt, failed-reads.Asked, failed-reads.Learnt, is-bare-reads.Asked, is-bare-reads.Learnt, both-reads.Asked, both-reads.Learnt, len-of-reads.Asked, len-of-reads.Learnt, skip-type-reads.Asked, skip-type-reads.Learnt) (attach-fields-at t) attach-fields.Post attach-fields-Inv-loop attach-fields-μ-loop
+attach-fields-returns-3 : (t : ℕ) → attach-fields-lts.Need-returns-3 (attach-fields-claims t) (attach-fields-at t) attach-fields.Post attach-fields-Inv-loop
+    attach-fields-μ-loop
 attach-fields-returns-3 t c = remaining-none (c .before .loop .inv .0) (c .loop-test .left)
 
-attach-inner-element-part-requires : (t : ℕ) → attach-inner-lts.Need-element-part-requires (element-part-reads.Asked, element-part-reads.Learnt, list-part-reads.Asked, list-part-reads.Learnt, attach-element-below t, attach-element.Post, array-part-reads.Asked, array-part-reads.Learnt) (attach-inner-at t) attach-inner.Post
+attach-inner-element-part-requires : (t : ℕ) → attach-inner-lts.Need-element-part-requires (attach-inner-claims t) (attach-inner-at t) attach-inner.Post
 attach-inner-element-part-requires t c κs = search needs
 
-attach-inner-enum-known-l : (t : ℕ) → attach-inner-lts.Need-enum-known-l (element-part-reads.Asked, element-part-reads.Learnt, list-part-reads.Asked, list-part-reads.Learnt, attach-element-below t, attach-element.Post, array-part-reads.Asked, array-part-reads.Learnt) (attach-inner-at t) attach-inner.Post
+attach-inner-enum-known-l : (t : ℕ) → attach-inner-lts.Need-enum-known-l (attach-inner-claims t) (attach-inner-at t) attach-inner.Post
 attach-inner-enum-known-l t c = search needs
 
-attach-inner-list-part-requires : (t : ℕ) → attach-inner-lts.Need-list-part-requires (element-part-reads.Asked, element-part-reads.Learnt, list-part-reads.Asked, list-part-reads.Learnt, attach-element-below t, attach-element.Post, array-part-reads.Asked, array-part-reads.Learnt) (attach-inner-at t) attach-inner.Post
+attach-inner-list-part-requires : (t : ℕ) → attach-inner-lts.Need-list-part-requires (attach-inner-claims t) (attach-inner-at t) attach-inner.Post
 attach-inner-list-part-requires t c κs = search needs
 
-attach-inner-enum-known-m : (t : ℕ) → attach-inner-lts.Need-enum-known-m (element-part-reads.Asked, element-part-reads.Learnt, list-part-reads.Asked, list-part-reads.Learnt, attach-element-below t, attach-element.Post, array-part-reads.Asked, array-part-reads.Learnt) (attach-inner-at t) attach-inner.Post
+attach-inner-enum-known-m : (t : ℕ) → attach-inner-lts.Need-enum-known-m (attach-inner-claims t) (attach-inner-at t) attach-inner.Post
 attach-inner-enum-known-m t c = search needs
 
-attach-inner-enum-told : (t : ℕ) → attach-inner-lts.Need-enum-told (element-part-reads.Asked, element-part-reads.Learnt, list-part-reads.Asked, list-part-reads.Learnt, attach-element-below t, attach-element.Post, array-part-reads.Asked, array-part-reads.Learnt) (attach-inner-at t) attach-inner.Post
+attach-inner-enum-told : (t : ℕ) → attach-inner-lts.Need-enum-told (attach-inner-claims t) (attach-inner-at t) attach-inner.Post
 attach-inner-enum-told t c = search needs
 
-attach-inner-returns : (t : ℕ) → attach-inner-lts.Need-returns (element-part-reads.Asked, element-part-reads.Learnt, list-part-reads.Asked, list-part-reads.Learnt, attach-element-below t, attach-element.Post, array-part-reads.Asked, array-part-reads.Learnt) (attach-inner-at t) attach-inner.Post
-attach-inner-returns t c = λ P Q.
-    let a = c .before .before .before .before .before .before .before .before .before .before .before .before .args in
-    let E = part-list (a .v) (a .depth) (now (a .target)) (a .b .at) (elementOf (Q .tree)) (Q .end) (c .before .before .before .before .before .before .element-part .ensures (a .depth) Q) (c .before .before .before .before .l .given .1) in
-    makes-refused _ _ _ _ _ (inner-list-other (a .v) (a .policy) (E .label) (E .type) (a .position) (P .tree) (E .is) (part-no-inner (a .v) (a .depth) (now (a .incoming)) (a .c .at) (listPart (P .tree)) (P .end) (c .before .before .list-part .ensures (a .depth) P) (c .enum-told .given .1)))
+attach-inner-returns : (t : ℕ) → attach-inner-lts.Need-returns (attach-inner-claims t) (attach-inner-at t) attach-inner.Post
+attach-inner-returns t c =
+    let c2 = c .before .before in let c4 = c2 .before .before in let c6 = c4 .before .before in let c12 = c6 .before .before .before .before .before .before
+    in
+    λ P Q.
+    let a = c12 .args in
+    let E = part-list (a .build .target) (a .types .depth) (now (a .target)) (a .types .target .at) (elementOf (Q .tree)) (Q .end) (c6 .element-part .ensures
+    (a .types .depth) Q) (c4 .l .given .1) in
+    makes-refused _ _ _ _ _ (inner-list-other (a .build .matching) (a .build .policy) (E .label) (E .type) (a .place .position) (P .tree) (E .is)
+    (part-no-inner (a .build .incoming) (a .types .depth) (now (a .incoming)) (a .types .incoming .at) (listPart (P .tree)) (P .end)
+    (c2 .list-part .ensures (a .types .depth) P) (c .enum-told .given .1)))
 
-attach-inner-sub-attach-element : (t : ℕ) → attach-inner-lts.Need-sub-attach-element (element-part-reads.Asked, element-part-reads.Learnt, list-part-reads.Asked, list-part-reads.Learnt, attach-element-below t, attach-element.Post, array-part-reads.Asked, array-part-reads.Learnt) (attach-inner-at t) attach-inner.Post
-attach-inner-sub-attach-element t c = let z = deep (c .before .before .before .before .before .before .before .before .before .before .before .before .before .pre .1 .0 .0) in omega arith
+attach-inner-sub-t25 : (t : ℕ) → attach-inner-lts.Need-sub-t25 (attach-inner-claims t) (attach-inner-at t) attach-inner.Post
+attach-inner-sub-t25 t c =
+    let c14 = c .before .before .before .before .before .before .before .before .before .before .before .before .before .before in
+    let z = deep (c14 .pre .1 .0 .0) in omega arith
 
-attach-inner-attach-element-requires : (t : ℕ) → attach-inner-lts.Need-attach-element-requires (element-part-reads.Asked, element-part-reads.Learnt, list-part-reads.Asked, list-part-reads.Learnt, attach-element-below t, attach-element.Post, array-part-reads.Asked, array-part-reads.Learnt) (attach-inner-at t) attach-inner.Post
-attach-inner-attach-element-requires t c κs = let a = c .before .before .before .before .before .before .before .before .before .before .before .before .before .before .before .args in
-    let w = c .before .before .before .before .before .before .before .before .before .before .before .before .before .before .before .pre .1 in
+attach-inner-attach-element-requires : (t : ℕ) → attach-inner-lts.Need-attach-element-requires (attach-inner-claims t) (attach-inner-at t) attach-inner.Post
+attach-inner-attach-element-requires t c κs =
+    let c4 = c .before .before .before .before in let c6 = c4 .before .before in let c8 = c6 .before .before in let c10 = c8 .before .before in let c16 =
+    c10 .before .before .before .before .before .before in
+    let a = c16 .args in
+    let w = c16 .pre .1 in
     let P = w .0 .0 in
-    let Q = w .0 .1 in
+    let Q = w .0 .1 .0 in
     let z = deep P in
-    let E = part-list (a .v) (a .depth) (now (a .target)) (a .b .at) (elementOf (Q .tree)) (Q .end) (c .before .before .before .before .before .before .before .before .before .element-part .ensures (a .depth) Q) (c .before .before .before .before .before .before .before .l .given .1) in
-    let I = part-inner (a .v) (a .depth) (now (a .incoming)) (a .c .at) (listPart (P .tree)) (P .end) (c .before .before .before .before .before .list-part .ensures (a .depth) P) (c .before .before .before .m .given .1) in
-    (omega (arith, c .before .before .before .before .before .before .before .before .before .before .before .before .before .before .before .pre .0), ((I .element .inner, E .element .inner), ((I .element .inside, E .element .inside, E .element .short), (w .1 .0, w .1 .1, omega (arith, E .element .after, w .1)))))
+    let E = part-list (a .build .target) (a .types .depth) (now (a .target)) (a .types .target .at) (elementOf (Q .tree)) (Q .end)
+    (c10 .element-part .ensures (a .types .depth) Q) (c8 .l .given .1) in
+    let I = part-inner (a .build .incoming) (a .types .depth) (now (a .incoming)) (a .types .incoming .at) (listPart (P .tree)) (P .end)
+    (c6 .list-part .ensures (a .types .depth) P) (c4 .m .given .1) in (
+      omega (arith, c16 .pre .0),
+      (
+        (I .element .inner, (E .element .inner, w .0 .1 .1)),
+        (
+          (I .element .inside, E .element .inside, E .element .short),
+          (w .1 .0, w .1 .1, omega (arith, E .element .after, w .1)),
+        ),
+      ),
+    )
 
-attach-inner-enum-known-w : (t : ℕ) → attach-inner-lts.Need-enum-known-w (element-part-reads.Asked, element-part-reads.Learnt, list-part-reads.Asked, list-part-reads.Learnt, attach-element-below t, attach-element.Post, array-part-reads.Asked, array-part-reads.Learnt) (attach-inner-at t) attach-inner.Post
-attach-inner-enum-known-w t c = search needs
+attach-inner-enum-known-width : (t : ℕ) → attach-inner-lts.Need-enum-known-width (attach-inner-claims t) (attach-inner-at t) attach-inner.Post
+attach-inner-enum-known-width t c = search needs
 
-attach-inner-array-part-requires : (t : ℕ) → attach-inner-lts.Need-array-part-requires (element-part-reads.Asked, element-part-reads.Learnt, list-part-reads.Asked, list-part-reads.Learnt, attach-element-below t, attach-element.Post, array-part-reads.Asked, array-part-reads.Learnt) (attach-inner-at t) attach-inner.Post
+attach-inner-array-part-requires : (t : ℕ) → attach-inner-lts.Need-array-part-requires (attach-inner-claims t) (attach-inner-at t) attach-inner.Post
 attach-inner-array-part-requires t c κs = search needs
 
-attach-inner-enum-known-m-2 : (t : ℕ) → attach-inner-lts.Need-enum-known-m-2 (element-part-reads.Asked, element-part-reads.Learnt, list-part-reads.Asked, list-part-reads.Learnt, attach-element-below t, attach-element.Post, array-part-reads.Asked, array-part-reads.Learnt) (attach-inner-at t) attach-inner.Post
+attach-inner-enum-known-m-2 : (t : ℕ) → attach-inner-lts.Need-enum-known-m-2 (attach-inner-claims t) (attach-inner-at t) attach-inner.Post
 attach-inner-enum-known-m-2 t c = search needs
 
-attach-inner-enum-told-2 : (t : ℕ) → attach-inner-lts.Need-enum-told-2 (element-part-reads.Asked, element-part-reads.Learnt, list-part-reads.Asked, list-part-reads.Learnt, attach-element-below t, attach-element.Post, array-part-reads.Asked, array-part-reads.Learnt) (attach-inner-at t) attach-inner.Post
+attach-inner-enum-told-2 : (t : ℕ) → attach-inner-lts.Need-enum-told-2 (attach-inner-claims t) (attach-inner-at t) attach-inner.Post
 attach-inner-enum-told-2 t c = search needs
 
-attach-inner-returns-2 : (t : ℕ) → attach-inner-lts.Need-returns-2 (element-part-reads.Asked, element-part-reads.Learnt, list-part-reads.Asked, list-part-reads.Learnt, attach-element-below t, attach-element.Post, array-part-reads.Asked, array-part-reads.Learnt) (attach-inner-at t) attach-inner.Post
-attach-inner-returns-2 t c = λ P Q.
-    let a = c .before .before .before .before .before .before .before .before .before .before .before .before .args in
-    let E = part-array (a .v) (a .depth) (now (a .target)) (a .b .at) (elementOf (Q .tree)) (Q .end) (c .before .before .before .before .before .before .element-part .ensures (a .depth) Q) (c .before .before .before .before .w .given .1) in
-    makes-refused _ _ _ _ _ (inner-array-other (a .v) (a .policy) (E .label) (E .type) (a .position) (P .tree) (c .before .before .before .before .w .given .0 .0) (E .is) (part-no-inner (a .v) (a .depth) (now (a .incoming)) (a .c .at) (arrayPart (c .before .before .before .before .w .given .0 .0) (P .tree)) (P .end) (c .before .before .array-part .ensures (a .depth) P) (c .enum-told2 .given .1)))
+attach-inner-returns-2 : (t : ℕ) → attach-inner-lts.Need-returns-2 (attach-inner-claims t) (attach-inner-at t) attach-inner.Post
+attach-inner-returns-2 t c =
+    let c2 = c .before .before in let c4 = c2 .before .before in let c6 = c4 .before .before in let c12 = c6 .before .before .before .before .before .before
+    in
+    λ P Q.
+    let a = c12 .args in
+    let E = part-array (a .build .target) (a .types .depth) (now (a .target)) (a .types .target .at) (elementOf (Q .tree)) (Q .end)
+    (c6 .element-part .ensures (a .types .depth) Q) (c4 .width .given .1) in
+    makes-refused _ _ _ _ _ (inner-array-other (a .build .matching) (a .build .policy) (E .label) (E .type) (a .place .position) (P .tree)
+    (c4 .width .given .0 .0) (E .is) (part-no-inner (a .build .incoming) (a .types .depth) (now (a .incoming)) (a .types .incoming .at) (arrayPart
+    (c4 .width .given .0 .0) (P .tree)) (P .end) (c2 .array-part .ensures (a .types .depth) P) (c .enum-told2 .given .1)))
 
-attach-inner-sub-attach-element-2 : (t : ℕ) → attach-inner-lts.Need-sub-attach-element-2 (element-part-reads.Asked, element-part-reads.Learnt, list-part-reads.Asked, list-part-reads.Learnt, attach-element-below t, attach-element.Post, array-part-reads.Asked, array-part-reads.Learnt) (attach-inner-at t) attach-inner.Post
-attach-inner-sub-attach-element-2 t c = let z = deep (c .before .before .before .before .before .before .before .before .before .before .before .before .before .pre .1 .0 .0) in omega arith
+attach-inner-sub-t33 : (t : ℕ) → attach-inner-lts.Need-sub-t33 (attach-inner-claims t) (attach-inner-at t) attach-inner.Post
+attach-inner-sub-t33 t c =
+    let c14 = c .before .before .before .before .before .before .before .before .before .before .before .before .before .before in
+    let z = deep (c14 .pre .1 .0 .0) in omega arith
 
-attach-inner-attach-element-requires-2 : (t : ℕ) → attach-inner-lts.Need-attach-element-requires-2 (element-part-reads.Asked, element-part-reads.Learnt, list-part-reads.Asked, list-part-reads.Learnt, attach-element-below t, attach-element.Post, array-part-reads.Asked, array-part-reads.Learnt) (attach-inner-at t) attach-inner.Post
-attach-inner-attach-element-requires-2 t c κs = let a = c .before .before .before .before .before .before .before .before .before .before .before .before .before .before .before .args in
-    let w = c .before .before .before .before .before .before .before .before .before .before .before .before .before .before .before .pre .1 in
+attach-inner-attach-element-requires-2 : (t : ℕ) → attach-inner-lts.Need-attach-element-requires-2 (attach-inner-claims t) (attach-inner-at t)
+    attach-inner.Post
+attach-inner-attach-element-requires-2 t c κs =
+    let c4 = c .before .before .before .before in let c6 = c4 .before .before in let c8 = c6 .before .before in let c10 = c8 .before .before in let c16 =
+    c10 .before .before .before .before .before .before in
+    let a = c16 .args in
+    let w = c16 .pre .1 in
     let P = w .0 .0 in
-    let Q = w .0 .1 in
+    let Q = w .0 .1 .0 in
     let z = deep P in
-    let E = part-array (a .v) (a .depth) (now (a .target)) (a .b .at) (elementOf (Q .tree)) (Q .end) (c .before .before .before .before .before .before .before .before .before .element-part .ensures (a .depth) Q) (c .before .before .before .before .before .before .before .w .given .1) in
-    let I = part-inner (a .v) (a .depth) (now (a .incoming)) (a .c .at) (arrayPart (c .before .before .before .before .before .before .before .w .given .0 .0) (P .tree)) (P .end) (c .before .before .before .before .before .array-part .ensures (a .depth) P) (c .before .before .before .m2 .given .1) in
-    (omega (arith, c .before .before .before .before .before .before .before .before .before .before .before .before .before .before .before .pre .0), ((I .element .inner, E .element .inner), ((I .element .inside, E .element .inside, E .element .short), (w .1 .0, w .1 .1, omega (arith, E .element .after, w .1)))))
+    let E = part-array (a .build .target) (a .types .depth) (now (a .target)) (a .types .target .at) (elementOf (Q .tree)) (Q .end)
+    (c10 .element-part .ensures (a .types .depth) Q) (c8 .width .given .1) in
+    let I = part-inner (a .build .incoming) (a .types .depth) (now (a .incoming)) (a .types .incoming .at) (arrayPart (c8 .width .given .0 .0) (P .tree))
+    (P .end) (c6 .array-part .ensures (a .types .depth) P) (c4 .m2 .given .1) in (
+      omega (arith, c16 .pre .0),
+      (
+        (I .element .inner, (E .element .inner, w .0 .1 .1)),
+        (
+          (I .element .inside, E .element .inside, E .element .short),
+          (w .1 .0, w .1 .1, omega (arith, E .element .after, w .1)),
+        ),
+      ),
+    )
 
-attach-inner-enum-told-3 : (t : ℕ) → attach-inner-lts.Need-enum-told-3 (element-part-reads.Asked, element-part-reads.Learnt, list-part-reads.Asked, list-part-reads.Learnt, attach-element-below t, attach-element.Post, array-part-reads.Asked, array-part-reads.Learnt) (attach-inner-at t) attach-inner.Post
+attach-inner-enum-told-3 : (t : ℕ) → attach-inner-lts.Need-enum-told-3 (attach-inner-claims t) (attach-inner-at t) attach-inner.Post
 attach-inner-enum-told-3 t c = search needs
 
-attach-inner-same-length : (t : ℕ) → attach-inner-lts.Need-same-length (element-part-reads.Asked, element-part-reads.Learnt, list-part-reads.Asked, list-part-reads.Learnt, attach-element-below t, attach-element.Post, array-part-reads.Asked, array-part-reads.Learnt) (attach-inner-at t) attach-inner.Post
+attach-inner-same-length : (t : ℕ) → attach-inner-lts.Need-same-length (attach-inner-claims t) (attach-inner-at t) attach-inner.Post
 attach-inner-same-length t c = search needs
 
-attach-inner-same-length-2 : (t : ℕ) → attach-inner-lts.Need-same-length-2 (element-part-reads.Asked, element-part-reads.Learnt, list-part-reads.Asked, list-part-reads.Learnt, attach-element-below t, attach-element.Post, array-part-reads.Asked, array-part-reads.Learnt) (attach-inner-at t) attach-inner.Post
+attach-inner-same-length-2 : (t : ℕ) → attach-inner-lts.Need-same-length-2 (attach-inner-claims t) (attach-inner-at t) attach-inner.Post
 attach-inner-same-length-2 t c = search needs
 
-attach-inner-returns-3 : (t : ℕ) → attach-inner-lts.Need-returns-3 (element-part-reads.Asked, element-part-reads.Learnt, list-part-reads.Asked, list-part-reads.Learnt, attach-element-below t, attach-element.Post, array-part-reads.Asked, array-part-reads.Learnt) (attach-inner-at t) attach-inner.Post
-attach-inner-returns-3 t c = λ P Q.
-    let a = c .before .before .before .before .before .before .before .before .before .before .before .before .before .before .before .before .before .before .before .before .args in
-    let E = part-list (a .v) (a .depth) (now (a .target)) (a .b .at) (elementOf (Q .tree)) (Q .end) (c .before .before .before .before .before .before .before .before .before .before .before .before .before .before .element-part .ensures (a .depth) Q) (c .before .before .before .before .before .before .before .before .before .before .before .before .l .given .1) in
-    let I = part-inner (a .v) (a .depth) (now (a .incoming)) (a .c .at) (listPart (P .tree)) (P .end) (c .before .before .before .before .before .before .before .before .before .before .list-part .ensures (a .depth) P) (c .before .before .before .before .before .before .before .before .m .given .1) in
-    makes-to _ _ _ _ (E .element .ends) (inner-list (a .v) (a .policy) (E .label) (E .type) (a .position) (P .tree) (E .is) (I .is) ∙ element-names (a .v) (a .policy) (listSelector (a .position)) (E .element .label) (E .element .tree) (I .element .label) (I .element .tree))
-    (c .before .before .before .before .attach-element .ensures (a .b .at) (listSelector (a .position)) (λ s. listMapping (position (a .position)) s) (list-maps (a .position)) (I .element .inner) (E .element .inner) (E .element .after) (E .element .named _ _))
+attach-inner-returns-3 : (t : ℕ) → attach-inner-lts.Need-returns-3 (attach-inner-claims t) (attach-inner-at t) attach-inner.Post
+attach-inner-returns-3 t c =
+    let c4 = c .before .before .before .before in let c9 = c4 .before .before .before .before .before in let c11 = c9 .before .before in let c13 =
+    c11 .before .before in let c15 = c13 .before .before in let c21 = c15 .before .before .before .before .before .before in
+    λ P Q.
+    let a = c21 .args in
+    let E = part-list (a .build .target) (a .types .depth) (now (a .target)) (a .types .target .at) (elementOf (Q .tree)) (Q .end)
+    (c15 .element-part .ensures (a .types .depth) Q) (c13 .l .given .1) in
+    let I = part-inner (a .build .incoming) (a .types .depth) (now (a .incoming)) (a .types .incoming .at) (listPart (P .tree)) (P .end)
+    (c11 .list-part .ensures (a .types .depth) P) (c9 .m .given .1) in
+    makes-to _ _ _ _ (E .element .ends) (inner-list (a .build .matching) (a .build .policy) (E .label) (E .type) (a .place .position) (P .tree) (E .is)
+    (I .is) ∙ element-names (a .build .matching) (a .build .policy) (listSelector (a .place .position)) (E .element .label) (E .element .tree)
+    (I .element .label) (I .element .tree))
+    (c4 .attach-element .ensures (a .types .target .at) (listSelector (a .place .position)) (λ s. listMapping (position (a .place .position)) s) (list-maps
+    (a .place .position)) (I .element .inner) (E .element .inner) (E .element .after) (E .element .named (a .build .matching) _ _ (c21 .pre .1 .0 .1 .1)))
 
-attach-inner-same-length-3 : (t : ℕ) → attach-inner-lts.Need-same-length-3 (element-part-reads.Asked, element-part-reads.Learnt, list-part-reads.Asked, list-part-reads.Learnt, attach-element-below t, attach-element.Post, array-part-reads.Asked, array-part-reads.Learnt) (attach-inner-at t) attach-inner.Post
+attach-inner-same-length-3 : (t : ℕ) → attach-inner-lts.Need-same-length-3 (attach-inner-claims t) (attach-inner-at t) attach-inner.Post
 attach-inner-same-length-3 t c = search needs
 
-attach-inner-same-length-4 : (t : ℕ) → attach-inner-lts.Need-same-length-4 (element-part-reads.Asked, element-part-reads.Learnt, list-part-reads.Asked, list-part-reads.Learnt, attach-element-below t, attach-element.Post, array-part-reads.Asked, array-part-reads.Learnt) (attach-inner-at t) attach-inner.Post
+attach-inner-same-length-4 : (t : ℕ) → attach-inner-lts.Need-same-length-4 (attach-inner-claims t) (attach-inner-at t) attach-inner.Post
 attach-inner-same-length-4 t c = search needs
 
-attach-inner-returns-4 : (t : ℕ) → attach-inner-lts.Need-returns-4 (element-part-reads.Asked, element-part-reads.Learnt, list-part-reads.Asked, list-part-reads.Learnt, attach-element-below t, attach-element.Post, array-part-reads.Asked, array-part-reads.Learnt) (attach-inner-at t) attach-inner.Post
-attach-inner-returns-4 t c = λ P Q.
-    let a = c .before .before .before .before .before .before .before .before .before .before .before .before .before .before .before .before .before .before .before .before .args in
-    let E = part-array (a .v) (a .depth) (now (a .target)) (a .b .at) (elementOf (Q .tree)) (Q .end) (c .before .before .before .before .before .before .before .before .before .before .before .before .before .before .element-part .ensures (a .depth) Q) (c .before .before .before .before .before .before .before .before .before .before .before .before .w .given .1) in
-    let I = part-inner (a .v) (a .depth) (now (a .incoming)) (a .c .at) (arrayPart (c .before .before .before .before .before .before .before .before .before .before .before .before .w .given .0 .0) (P .tree)) (P .end) (c .before .before .before .before .before .before .before .before .before .before .array-part .ensures (a .depth) P) (c .before .before .before .before .before .before .before .before .m2 .given .1) in
-    makes-to _ _ _ _ (E .element .ends) (inner-array (a .v) (a .policy) (E .label) (E .type) (a .position) (P .tree) (c .before .before .before .before .before .before .before .before .before .before .before .before .w .given .0 .0) (E .is) (I .is) ∙ element-names (a .v) (a .policy) (arraySelector (a .position)) (E .element .label) (E .element .tree) (I .element .label) (I .element .tree))
-    (c .before .before .before .before .attach-element2 .ensures (a .b .at) (arraySelector (a .position)) (λ s. arrayMapping (position (a .position)) s) (array-maps (a .position)) (I .element .inner) (E .element .inner) (E .element .after) (E .element .named _ _))
+attach-inner-returns-4 : (t : ℕ) → attach-inner-lts.Need-returns-4 (attach-inner-claims t) (attach-inner-at t) attach-inner.Post
+attach-inner-returns-4 t c =
+    let c4 = c .before .before .before .before in let c9 = c4 .before .before .before .before .before in let c11 = c9 .before .before in let c13 =
+    c11 .before .before in let c15 = c13 .before .before in let c21 = c15 .before .before .before .before .before .before in
+    λ P Q.
+    let a = c21 .args in
+    let E = part-array (a .build .target) (a .types .depth) (now (a .target)) (a .types .target .at) (elementOf (Q .tree)) (Q .end)
+    (c15 .element-part .ensures (a .types .depth) Q) (c13 .width .given .1) in
+    let I = part-inner (a .build .incoming) (a .types .depth) (now (a .incoming)) (a .types .incoming .at) (arrayPart (c13 .width .given .0 .0) (P .tree))
+    (P .end) (c11 .array-part .ensures (a .types .depth) P) (c9 .m2 .given .1) in
+    makes-to _ _ _ _ (E .element .ends) (inner-array (a .build .matching) (a .build .policy) (E .label) (E .type) (a .place .position) (P .tree)
+    (c13 .width .given .0 .0) (E .is) (I .is) ∙ element-names (a .build .matching) (a .build .policy) (arraySelector (a .place .position))
+    (E .element .label) (E .element .tree) (I .element .label) (I .element .tree))
+    (c4 .attach-element2 .ensures (a .types .target .at) (arraySelector (a .place .position)) (λ s. arrayMapping (position (a .place .position)) s)
+    (array-maps (a .place .position)) (I .element .inner) (E .element .inner) (E .element .after) (E .element .named (a .build .matching) _ _
+    (c21 .pre .1 .0 .1 .1)))
 
-attach-inner-returns-5 : (t : ℕ) → attach-inner-lts.Need-returns-5 (element-part-reads.Asked, element-part-reads.Learnt, list-part-reads.Asked, list-part-reads.Learnt, attach-element-below t, attach-element.Post, array-part-reads.Asked, array-part-reads.Learnt) (attach-inner-at t) attach-inner.Post
-attach-inner-returns-5 t c = λ P Q.
-    let a = c .before .before .before .before .before .before .before .before .args in
-    makes-refused _ _ _ _ _ (inner-none (a .v) (a .policy) (a .position) (P .tree) (part-no-element (a .v) (a .depth) (now (a .target)) (a .b .at) (elementOf (Q .tree)) (Q .end) (c .before .before .element-part .ensures (a .depth) Q) (c .enum-told3 .given .1)))
+attach-inner-returns-5 : (t : ℕ) → attach-inner-lts.Need-returns-5 (attach-inner-claims t) (attach-inner-at t) attach-inner.Post
+attach-inner-returns-5 t c =
+    let c2 = c .before .before in let c8 = c2 .before .before .before .before .before .before in
+    λ P Q.
+    let a = c8 .args in
+    makes-refused _ _ _ _ _ (inner-none (a .build .matching) (a .build .policy) (a .place .position) (P .tree) (part-no-element (a .build .target)
+    (a .types .depth) (now (a .target)) (a .types .target .at) (elementOf (Q .tree)) (Q .end) (c2 .element-part .ensures (a .types .depth) Q)
+    (c .enum-told3 .given .1)))
 
 attach-nested-is-null-incoming-requires :
-    (t : ℕ) → attach-nested-lts.Need-is-null-incoming-requires (
-      is-null-incoming-reads.Asked,
-      is-null-incoming-reads.Learnt,
-      put-null-cast-reads.Asked,
-      put-null-cast-reads.Learnt,
-      struct-part-reads.Asked,
-      struct-part-reads.Learnt,
-      attach-struct-below t,
-      attach-struct.Post,
-      attach-inner-below t,
-      attach-inner.Post,
-    ) (attach-nested-at t) attach-nested.Post
+    (t : ℕ) → attach-nested-lts.Need-is-null-incoming-requires (attach-nested-claims t) (attach-nested-at t) attach-nested.Post
 attach-nested-is-null-incoming-requires t c κs = search needs
 
-attach-nested-put-null-cast-requires : (t : ℕ) → attach-nested-lts.Need-put-null-cast-requires (is-null-incoming-reads.Asked, is-null-incoming-reads.Learnt, put-null-cast-reads.Asked, put-null-cast-reads.Learnt, struct-part-reads.Asked, struct-part-reads.Learnt, attach-struct-below t, attach-struct.Post, attach-inner-below t, attach-inner.Post) (attach-nested-at t) attach-nested.Post
+attach-nested-put-null-cast-requires : (t : ℕ) → attach-nested-lts.Need-put-null-cast-requires (attach-nested-claims t) (attach-nested-at t)
+    attach-nested.Post
 attach-nested-put-null-cast-requires t c κs = search needs
 
-attach-nested-same-length : (t : ℕ) → attach-nested-lts.Need-same-length (is-null-incoming-reads.Asked, is-null-incoming-reads.Learnt, put-null-cast-reads.Asked, put-null-cast-reads.Learnt, struct-part-reads.Asked, struct-part-reads.Learnt, attach-struct-below t, attach-struct.Post, attach-inner-below t, attach-inner.Post) (attach-nested-at t) attach-nested.Post
+attach-nested-same-length : (t : ℕ) → attach-nested-lts.Need-same-length (attach-nested-claims t) (attach-nested-at t) attach-nested.Post
 attach-nested-same-length t c = search needs
 
-attach-nested-returns : (t : ℕ) → attach-nested-lts.Need-returns (is-null-incoming-reads.Asked, is-null-incoming-reads.Learnt, put-null-cast-reads.Asked, put-null-cast-reads.Learnt, struct-part-reads.Asked, struct-part-reads.Learnt, attach-struct-below t, attach-struct.Post, attach-inner-below t, attach-inner.Post) (attach-nested-at t) attach-nested.Post
-attach-nested-returns t c = λ T P Q.
-    let a = c .before .before .before .before .before .before .before .before .before .before .before .args in
-    makes-as _ _ _ _ _ _ (nested-null (a .v) (a .policy) (a .position) (Q .tree) (P .tree) _ (c .before .before .before .before .before .is-null-incoming .ensures (a .depth) P) (c .before .before .before .before .if1 .taken)) (c .before .before .put-null-cast .ensures Q)
+attach-nested-returns : (t : ℕ) → attach-nested-lts.Need-returns (attach-nested-claims t) (attach-nested-at t) attach-nested.Post
+attach-nested-returns t c =
+    let c2 = c .before .before in let c4 = c2 .before .before in let c5 = c4 .before in let c13 =
+    c5 .before .before .before .before .before .before .before .before in
+    λ T P Q.
+    let a = c13 .args in
+    makes-as _ _ _ _ _ _ (nested-null (a .build .matching) (a .build .policy) (a .place .position) (Q .tree) (P .tree) _ (c5 .is-null-incoming .ensures
+    (a .build .incoming) (a .types .depth) P) (c4 .if1 .taken)) (c2 .put-null-cast .ensures Q)
 
-attach-nested-struct-part-requires : (t : ℕ) → attach-nested-lts.Need-struct-part-requires (is-null-incoming-reads.Asked, is-null-incoming-reads.Learnt, put-null-cast-reads.Asked, put-null-cast-reads.Learnt, struct-part-reads.Asked, struct-part-reads.Learnt, attach-struct-below t, attach-struct.Post, attach-inner-below t, attach-inner.Post) (attach-nested-at t) attach-nested.Post
+attach-nested-struct-part-requires : (t : ℕ) → attach-nested-lts.Need-struct-part-requires (attach-nested-claims t) (attach-nested-at t) attach-nested.Post
 attach-nested-struct-part-requires t c κs = search needs
 
-attach-nested-enum-known-m : (t : ℕ) → attach-nested-lts.Need-enum-known-m (is-null-incoming-reads.Asked, is-null-incoming-reads.Learnt, put-null-cast-reads.Asked, put-null-cast-reads.Learnt, struct-part-reads.Asked, struct-part-reads.Learnt, attach-struct-below t, attach-struct.Post, attach-inner-below t, attach-inner.Post) (attach-nested-at t) attach-nested.Post
-attach-nested-enum-known-m t c = search needs
+attach-nested-enum-known-count : (t : ℕ) → attach-nested-lts.Need-enum-known-count (attach-nested-claims t) (attach-nested-at t) attach-nested.Post
+attach-nested-enum-known-count t c = search needs
 
-attach-nested-attach-struct-requires : (t : ℕ) → attach-nested-lts.Need-attach-struct-requires (is-null-incoming-reads.Asked, is-null-incoming-reads.Learnt, put-null-cast-reads.Asked, put-null-cast-reads.Learnt, struct-part-reads.Asked, struct-part-reads.Learnt, attach-struct-below t, attach-struct.Post, attach-inner-below t, attach-inner.Post) (attach-nested-at t) attach-nested.Post
-attach-nested-attach-struct-requires t c κs = let a = c .before .before .before .before .before .before .before .before .before .before .before .before .before .args in
-    let w = c .before .before .before .before .before .before .before .before .before .before .before .before .before .pre .1 in
-    let Q = w .0 .1 in
-    let S = part-struct (a .v) (a .depth) (now (a .target)) (a .b .at) (structPart (Q .tree)) (Q .end) (c .before .before .before .before .before .struct-part .ensures (a .v) (a .depth) Q) (c .before .before .before .m .given .1) in
-    (omega (arith, c .before .before .before .before .before .before .before .before .before .before .before .before .before .pre .0), ((w .0 .0, S .inner), (w .1 .0, (w .1 .1 .0, w .1 .1 .1, S .within, omega (arith, S .after, w .1 .1)))))
+attach-nested-attach-struct-requires : (t : ℕ) → attach-nested-lts.Need-attach-struct-requires (attach-nested-claims t) (attach-nested-at t)
+    attach-nested.Post
+attach-nested-attach-struct-requires t c κs =
+    let c3 = c .before .before .before in let c5 = c3 .before .before in let c15 =
+    c5 .before .before .before .before .before .before .before .before .before .before in
+    let a = c15 .args in
+    let w = c15 .pre .1 in
+    let Q = w .0 .1 .0 in
+    let S = part-struct (a .build .target) (a .types .depth) (now (a .target)) (a .types .target .at) (structPart (Q .tree)) (Q .end)
+    (c5 .struct-part .ensures (a .build .target) (a .types .depth) Q) (c3 .count .given .1) in
+    (omega (arith, c15 .pre .0), ((w .0 .0, (S .inner, w .0 .1 .1)), (w .1 .0, (w .1 .1 .0, w .1 .1 .1, S .within, omega (arith, S .after, w .1 .1)))))
 
-attach-nested-enum-told : (t : ℕ) → attach-nested-lts.Need-enum-told (is-null-incoming-reads.Asked, is-null-incoming-reads.Learnt, put-null-cast-reads.Asked, put-null-cast-reads.Learnt, struct-part-reads.Asked, struct-part-reads.Learnt, attach-struct-below t, attach-struct.Post, attach-inner-below t, attach-inner.Post) (attach-nested-at t) attach-nested.Post
+attach-nested-enum-told : (t : ℕ) → attach-nested-lts.Need-enum-told (attach-nested-claims t) (attach-nested-at t) attach-nested.Post
 attach-nested-enum-told t c = search needs
 
-attach-nested-attach-inner-requires : (t : ℕ) → attach-nested-lts.Need-attach-inner-requires (is-null-incoming-reads.Asked, is-null-incoming-reads.Learnt, put-null-cast-reads.Asked, put-null-cast-reads.Learnt, struct-part-reads.Asked, struct-part-reads.Learnt, attach-struct-below t, attach-struct.Post, attach-inner-below t, attach-inner.Post) (attach-nested-at t) attach-nested.Post
+attach-nested-attach-inner-requires : (t : ℕ) → attach-nested-lts.Need-attach-inner-requires (attach-nested-claims t) (attach-nested-at t) attach-nested.Post
 attach-nested-attach-inner-requires t c κs = search needs
 
-attach-nested-same-length-2 : (t : ℕ) → attach-nested-lts.Need-same-length-2 (is-null-incoming-reads.Asked, is-null-incoming-reads.Learnt, put-null-cast-reads.Asked, put-null-cast-reads.Learnt, struct-part-reads.Asked, struct-part-reads.Learnt, attach-struct-below t, attach-struct.Post, attach-inner-below t, attach-inner.Post) (attach-nested-at t) attach-nested.Post
+attach-nested-same-length-2 : (t : ℕ) → attach-nested-lts.Need-same-length-2 (attach-nested-claims t) (attach-nested-at t) attach-nested.Post
 attach-nested-same-length-2 t c = search needs
 
-attach-nested-same-length-3 : (t : ℕ) → attach-nested-lts.Need-same-length-3 (is-null-incoming-reads.Asked, is-null-incoming-reads.Learnt, put-null-cast-reads.Asked, put-null-cast-reads.Learnt, struct-part-reads.Asked, struct-part-reads.Learnt, attach-struct-below t, attach-struct.Post, attach-inner-below t, attach-inner.Post) (attach-nested-at t) attach-nested.Post
+attach-nested-same-length-3 : (t : ℕ) → attach-nested-lts.Need-same-length-3 (attach-nested-claims t) (attach-nested-at t) attach-nested.Post
 attach-nested-same-length-3 t c = search needs
 
-attach-nested-returns-2 : (t : ℕ) → attach-nested-lts.Need-returns-2 (is-null-incoming-reads.Asked, is-null-incoming-reads.Learnt, put-null-cast-reads.Asked, put-null-cast-reads.Learnt, struct-part-reads.Asked, struct-part-reads.Learnt, attach-struct-below t, attach-struct.Post, attach-inner-below t, attach-inner.Post) (attach-nested-at t) attach-nested.Post
-attach-nested-returns-2 t c = λ T P Q.
-    let a = c .before .before .before .before .before .before .before .before .before .before .before .before .before .before .before .before .before .before .args in
-    let S = part-struct (a .v) (a .depth) (now (a .target)) (a .b .at) (structPart (Q .tree)) (Q .end) (c .before .before .before .before .before .before .before .before .before .before .struct-part .ensures (a .v) (a .depth) Q) (c .before .before .before .before .before .before .before .before .m .given .1) in
-    makes-to _ _ _ _ (S .ends) (nested-other (a .v) (a .policy) (a .position) (Q .tree) (P .tree) _ (c .before .before .before .before .before .before .before .before .before .before .before .before .is-null-incoming .ensures (a .depth) P) (c .before .before .before .before .before .before .before .before .before .before .before .if1 .left) ∙ nested-struct (a .v) (a .policy) (defaultsAt (a .defaults) T) (a .position) (P .tree) (Q .tree) (S .is)) (c .before .before .before .before .attach-struct .ensures (a .b .at) T P (S .inner) (S .after))
+attach-nested-returns-2 : (t : ℕ) → attach-nested-lts.Need-returns-2 (attach-nested-claims t) (attach-nested-at t) attach-nested.Post
+attach-nested-returns-2 t c =
+    let c4 = c .before .before .before .before in let c8 = c4 .before .before .before .before in let c10 = c8 .before .before in let c11 = c10 .before in let
+    c12 = c11 .before in let c20 = c12 .before .before .before .before .before .before .before .before in
+    λ T P Q.
+    let a = c20 .args in
+    let S = part-struct (a .build .target) (a .types .depth) (now (a .target)) (a .types .target .at) (structPart (Q .tree)) (Q .end)
+    (c10 .struct-part .ensures (a .build .target) (a .types .depth) Q) (c8 .count .given .1) in
+    makes-to _ _ _ _ (S .ends) (nested-other (a .build .matching) (a .build .policy) (a .place .position) (Q .tree) (P .tree) _
+    (c12 .is-null-incoming .ensures (a .build .incoming) (a .types .depth) P) (c11 .if1 .left) ∙ nested-struct (a .build .matching) (a .build .policy)
+    (defaultsAt (a .build .defaults) T) (a .place .position) (P .tree) (Q .tree) (S .is)) (c4 .attach-struct .ensures (a .types .target .at) T P
+    (S .inner) (S .after))
 
-attach-nested-same-length-4 : (t : ℕ) → attach-nested-lts.Need-same-length-4 (is-null-incoming-reads.Asked, is-null-incoming-reads.Learnt, put-null-cast-reads.Asked, put-null-cast-reads.Learnt, struct-part-reads.Asked, struct-part-reads.Learnt, attach-struct-below t, attach-struct.Post, attach-inner-below t, attach-inner.Post) (attach-nested-at t) attach-nested.Post
+attach-nested-same-length-4 : (t : ℕ) → attach-nested-lts.Need-same-length-4 (attach-nested-claims t) (attach-nested-at t) attach-nested.Post
 attach-nested-same-length-4 t c = search needs
 
-attach-nested-same-length-5 : (t : ℕ) → attach-nested-lts.Need-same-length-5 (is-null-incoming-reads.Asked, is-null-incoming-reads.Learnt, put-null-cast-reads.Asked, put-null-cast-reads.Learnt, struct-part-reads.Asked, struct-part-reads.Learnt, attach-struct-below t, attach-struct.Post, attach-inner-below t, attach-inner.Post) (attach-nested-at t) attach-nested.Post
+attach-nested-same-length-5 : (t : ℕ) → attach-nested-lts.Need-same-length-5 (attach-nested-claims t) (attach-nested-at t) attach-nested.Post
 attach-nested-same-length-5 t c = search needs
 
-attach-nested-returns-3 : (t : ℕ) → attach-nested-lts.Need-returns-3 (is-null-incoming-reads.Asked, is-null-incoming-reads.Learnt, put-null-cast-reads.Asked, put-null-cast-reads.Learnt, struct-part-reads.Asked, struct-part-reads.Learnt, attach-struct-below t, attach-struct.Post, attach-inner-below t, attach-inner.Post) (attach-nested-at t) attach-nested.Post
-attach-nested-returns-3 t c = λ T P Q.
-    let a = c .before .before .before .before .before .before .before .before .before .before .before .before .before .before .before .before .before .args in
-    let n = part-no-struct (a .v) (a .depth) (now (a .target)) (a .b .at) (structPart (Q .tree)) (Q .end) (c .before .before .before .before .before .before .before .before .before .struct-part .ensures (a .v) (a .depth) Q) (c .before .before .before .before .before .before .before .enum-told .given .1) in
-    makes-as _ _ _ _ _ _ (nested-other (a .v) (a .policy) (a .position) (Q .tree) (P .tree) _ (c .before .before .before .before .before .before .before .before .before .before .before .is-null-incoming .ensures (a .depth) P) (c .before .before .before .before .before .before .before .before .before .before .if1 .left) ∙ nested-inner (a .v) (a .policy) (defaultsAt (a .defaults) T) (a .position) (P .tree) (Q .tree) n) (c .before .before .before .before .attach-inner .ensures P Q)
+attach-nested-returns-3 : (t : ℕ) → attach-nested-lts.Need-returns-3 (attach-nested-claims t) (attach-nested-at t) attach-nested.Post
+attach-nested-returns-3 t c =
+    let c4 = c .before .before .before .before in let c7 = c4 .before .before .before in let c9 = c7 .before .before in let c10 = c9 .before in let c11 =
+    c10 .before in let c19 = c11 .before .before .before .before .before .before .before .before in
+    λ T P Q.
+    let a = c19 .args in
+    let n = part-no-struct (a .build .target) (a .types .depth) (now (a .target)) (a .types .target .at) (structPart (Q .tree)) (Q .end)
+    (c9 .struct-part .ensures (a .build .target) (a .types .depth) Q) (c7 .enum-told .given .1) in
+    makes-as _ _ _ _ _ _ (nested-other (a .build .matching) (a .build .policy) (a .place .position) (Q .tree) (P .tree) _ (c11 .is-null-incoming .ensures
+    (a .build .incoming) (a .types .depth) P) (c10 .if1 .left) ∙ nested-inner (a .build .matching) (a .build .policy) (defaultsAt (a .build .defaults) T)
+    (a .place .position) (P .tree) (Q .tree) n) (c4 .attach-inner .ensures P Q)
 
-attach-renamed-needs-rename-requires : (t : ℕ) → attach-renamed-lts.Need-needs-rename-requires (needs-rename-reads.Asked, needs-rename-reads.Learnt, attach-transforms-below t, attach-transforms.Post, put-reads.Asked, put-reads.Learnt, is-refused-reads.Asked, is-refused-reads.Learnt, len-of-reads.Asked, len-of-reads.Learnt, write-text-reads.Asked, write-text-reads.Learnt) (attach-renamed-at t) attach-renamed.Post
+attach-renamed-keeps-required-requires : (t : ℕ) → attach-renamed-lts.Need-keeps-required-requires (attach-renamed-claims t) (attach-renamed-at t)
+    attach-renamed.Post
+attach-renamed-keeps-required-requires t c κs = search needs
+
+attach-renamed-returns : (t : ℕ) → attach-renamed-lts.Need-returns (attach-renamed-claims t) (attach-renamed-at t) attach-renamed.Post
+attach-renamed-returns t c =
+    let c1 = c .before in let c8 = c1 .before .before .before .before .before .before .before in
+    λ from T P Q le lt.
+    let a = c8 .args in
+    makes-refused _ _ _ _ _ (required-unkept (a .build .matching) (a .build .policy) (defaultsAt (a .build .defaults) T) (labelAt (now (a .target))
+    (a .pair .target .label)) (Q .tree) (a .place .position) (labelAt (now (a .incoming)) (a .pair .incoming .label)) (P .tree)
+    (c1 .keeps-required .ensures (a .build .incoming) (a .pair .depth) P _ refl) (c .if1 .taken))
+
+attach-renamed-needs-rename-requires : (t : ℕ) → attach-renamed-lts.Need-needs-rename-requires (attach-renamed-claims t) (attach-renamed-at t)
+    attach-renamed.Post
 attach-renamed-needs-rename-requires t c κs = search needs
 
 attach-renamed-attach-transforms-requires :
-    (t : ℕ) → attach-renamed-lts.Need-attach-transforms-requires (
-      needs-rename-reads.Asked,
-      needs-rename-reads.Learnt,
-      attach-transforms-below t,
-      attach-transforms.Post,
-      put-reads.Asked,
-      put-reads.Learnt,
-      is-refused-reads.Asked,
-      is-refused-reads.Learnt,
-      len-of-reads.Asked,
-      len-of-reads.Learnt,
-      write-text-reads.Asked,
-      write-text-reads.Learnt,
-    ) (attach-renamed-at t) attach-renamed.Post
-attach-renamed-attach-transforms-requires t c κs = let w = c .before .before .before .before .before .before .before .before .before .pre .1 in
-    (omega (arith, c .before .before .before .before .before .before .before .before .before .pre .0), (w .0, (w .1 .0, (w .1 .1 .1 .0, w .1 .1 .1 .1, omega (arith, w .1 .1 .1)))))
+    (t : ℕ) → attach-renamed-lts.Need-attach-transforms-requires (attach-renamed-claims t) (attach-renamed-at t) attach-renamed.Post
+attach-renamed-attach-transforms-requires t c κs =
+    let c16 = c .before .before .before .before .before .before .before .before .before .before .before .before .before .before .before .before in
+    let w = c16 .pre .1 in
+    (omega (arith, c16 .pre .0), (w .0, (w .1 .0, (w .1 .1 .1 .0, w .1 .1 .1 .1, omega (arith, w .1 .1 .1)))))
 
-attach-renamed-same-length : (t : ℕ) → attach-renamed-lts.Need-same-length (needs-rename-reads.Asked, needs-rename-reads.Learnt, attach-transforms-below t, attach-transforms.Post, put-reads.Asked, put-reads.Learnt, is-refused-reads.Asked, is-refused-reads.Learnt, len-of-reads.Asked, len-of-reads.Learnt, write-text-reads.Asked, write-text-reads.Learnt) (attach-renamed-at t) attach-renamed.Post
+attach-renamed-same-length : (t : ℕ) → attach-renamed-lts.Need-same-length (attach-renamed-claims t) (attach-renamed-at t) attach-renamed.Post
 attach-renamed-same-length t c = search needs
 
-attach-renamed-same-length-2 : (t : ℕ) → attach-renamed-lts.Need-same-length-2 (needs-rename-reads.Asked, needs-rename-reads.Learnt, attach-transforms-below t, attach-transforms.Post, put-reads.Asked, put-reads.Learnt, is-refused-reads.Asked, is-refused-reads.Learnt, len-of-reads.Asked, len-of-reads.Learnt, write-text-reads.Asked, write-text-reads.Learnt) (attach-renamed-at t) attach-renamed.Post
+attach-renamed-same-length-2 : (t : ℕ) → attach-renamed-lts.Need-same-length-2 (attach-renamed-claims t) (attach-renamed-at t) attach-renamed.Post
 attach-renamed-same-length-2 t c = search needs
 
-attach-renamed-returns : (t : ℕ) → attach-renamed-lts.Need-returns (needs-rename-reads.Asked, needs-rename-reads.Learnt, attach-transforms-below t, attach-transforms.Post, put-reads.Asked, put-reads.Learnt, is-refused-reads.Asked, is-refused-reads.Learnt, len-of-reads.Asked, len-of-reads.Learnt, write-text-reads.Asked, write-text-reads.Learnt) (attach-renamed-at t) attach-renamed.Post
-attach-renamed-returns t c = λ from T P Q le lt.
-    let a = c .before .before .before .before .before .before .before .before .before .before .before .before .before .before .args in
-    renamed-plain (a .v) (a .policy) (defaultsAt (a .defaults) T) (labelAt (now (a .target)) (a .l)) (Q .tree) (a .position) (labelAt (now (a .incoming)) (a .m)) (P .tree) (c .before .before .before .before .before .before .before .before .needs-rename .ensures) _ _ from (c .before .before .before .before .before .before .before .if1 .taken) le (c .before .before .before .before .attach-transforms .ensures T P Q)
+attach-renamed-returns-2 : (t : ℕ) → attach-renamed-lts.Need-returns-2 (attach-renamed-claims t) (attach-renamed-at t) attach-renamed.Post
+attach-renamed-returns-2 t c =
+    let c4 = c .before .before .before .before in let c7 = c4 .before .before .before in let c8 = c7 .before in let c13 =
+    c8 .before .before .before .before .before in let c14 = c13 .before in let c21 = c14 .before .before .before .before .before .before .before in
+    λ from T P Q le lt.
+    let a = c21 .args in
+    renamed-plain (a .build .matching) (a .build .policy) (defaultsAt (a .build .defaults) T) (labelAt (now (a .target)) (a .pair .target .label)) (Q .tree)
+    (a .place .position) (labelAt (now (a .incoming)) (a .pair .incoming .label)) (P .tree) (c14 .keeps-required .ensures (a .build .incoming)
+    (a .pair .depth) P _ refl) (c13 .if1 .left) (c8 .needs-rename .ensures) _ _ from (c7 .if2 .taken) le (c4 .attach-transforms .ensures T P Q)
 
-attach-renamed-put-requires : (t : ℕ) → attach-renamed-lts.Need-put-requires (needs-rename-reads.Asked, needs-rename-reads.Learnt, attach-transforms-below t, attach-transforms.Post, put-reads.Asked, put-reads.Learnt, is-refused-reads.Asked, is-refused-reads.Learnt, len-of-reads.Asked, len-of-reads.Learnt, write-text-reads.Asked, write-text-reads.Learnt) (attach-renamed-at t) attach-renamed.Post
+attach-renamed-put-requires : (t : ℕ) → attach-renamed-lts.Need-put-requires (attach-renamed-claims t) (attach-renamed-at t) attach-renamed.Post
 attach-renamed-put-requires t c κs = search needs
 
-attach-renamed-add-attach-transforms : (t : ℕ) → attach-renamed-lts.Need-add-attach-transforms (needs-rename-reads.Asked, needs-rename-reads.Learnt, attach-transforms-below t, attach-transforms.Post, put-reads.Asked, put-reads.Learnt, is-refused-reads.Asked, is-refused-reads.Learnt, len-of-reads.Asked, len-of-reads.Learnt, write-text-reads.Asked, write-text-reads.Learnt) (attach-renamed-at t) attach-renamed.Post
-attach-renamed-add-attach-transforms t c = omega (arith, extent (c .before .before .before .before .before .before .before .before .before .before .before .before .pre .1 .0 .1), c .before .before .before .before .before .before .before .before .before .before .before .before .pre .1 .1 .1 .1)
+attach-renamed-add-write-text : (t : ℕ) → attach-renamed-lts.Need-add-write-text (attach-renamed-claims t) (attach-renamed-at t) attach-renamed.Post
+attach-renamed-add-write-text t c =
+    let c20 = c .before .before .before .before .before .before .before .before .before .before .before .before .before .before .before .before .before
+    .before .before .before in
+    omega (arith, extent (c20 .pre .1 .0 .1 .0), c20 .pre .1 .1 .1 .1)
 
 attach-renamed-attach-transforms-requires-2 :
-    (t : ℕ) → attach-renamed-lts.Need-attach-transforms-requires-2 (
-      needs-rename-reads.Asked,
-      needs-rename-reads.Learnt,
-      attach-transforms-below t,
-      attach-transforms.Post,
-      put-reads.Asked,
-      put-reads.Learnt,
-      is-refused-reads.Asked,
-      is-refused-reads.Learnt,
-      len-of-reads.Asked,
-      len-of-reads.Learnt,
-      write-text-reads.Asked,
-      write-text-reads.Learnt,
-    ) (attach-renamed-at t) attach-renamed.Post
-attach-renamed-attach-transforms-requires-2 t c κs = let w = c .before .before .before .before .before .before .before .before .before .before .before .before .before .pre .1 in
-    (omega (arith, c .before .before .before .before .before .before .before .before .before .before .before .before .before .pre .0), (w .0, (w .1 .0, (w .1 .1 .1 .0, w .1 .1 .1 .1, omega (arith, w .1 .1 .1)))))
+    (t : ℕ) → attach-renamed-lts.Need-attach-transforms-requires-2 (attach-renamed-claims t) (attach-renamed-at t) attach-renamed.Post
+attach-renamed-attach-transforms-requires-2 t c κs =
+    let c22 = c .before .before .before .before .before .before .before .before .before .before .before .before .before .before .before .before .before
+    .before .before .before .before .before in
+    let w = c22 .pre .1 in
+    (omega (arith, c22 .pre .0), (w .0, (w .1 .0, (w .1 .1 .1 .0, w .1 .1 .1 .1, omega (arith, w .1 .1 .1)))))
 
-attach-renamed-is-refused-requires : (t : ℕ) → attach-renamed-lts.Need-is-refused-requires (needs-rename-reads.Asked, needs-rename-reads.Learnt, attach-transforms-below t, attach-transforms.Post, put-reads.Asked, put-reads.Learnt, is-refused-reads.Asked, is-refused-reads.Learnt, len-of-reads.Asked, len-of-reads.Learnt, write-text-reads.Asked, write-text-reads.Learnt) (attach-renamed-at t) attach-renamed.Post
+attach-renamed-is-refused-requires : (t : ℕ) → attach-renamed-lts.Need-is-refused-requires (attach-renamed-claims t) (attach-renamed-at t) attach-renamed.Post
 attach-renamed-is-refused-requires t c κs = search needs
 
-attach-renamed-same-length-3 : (t : ℕ) → attach-renamed-lts.Need-same-length-3 (needs-rename-reads.Asked, needs-rename-reads.Learnt, attach-transforms-below t, attach-transforms.Post, put-reads.Asked, put-reads.Learnt, is-refused-reads.Asked, is-refused-reads.Learnt, len-of-reads.Asked, len-of-reads.Learnt, write-text-reads.Asked, write-text-reads.Learnt) (attach-renamed-at t) attach-renamed.Post
+attach-renamed-same-length-3 : (t : ℕ) → attach-renamed-lts.Need-same-length-3 (attach-renamed-claims t) (attach-renamed-at t) attach-renamed.Post
 attach-renamed-same-length-3 t c = search needs
 
-attach-renamed-same-length-4 : (t : ℕ) → attach-renamed-lts.Need-same-length-4 (needs-rename-reads.Asked, needs-rename-reads.Learnt, attach-transforms-below t, attach-transforms.Post, put-reads.Asked, put-reads.Learnt, is-refused-reads.Asked, is-refused-reads.Learnt, len-of-reads.Asked, len-of-reads.Learnt, write-text-reads.Asked, write-text-reads.Learnt) (attach-renamed-at t) attach-renamed.Post
+attach-renamed-same-length-4 : (t : ℕ) → attach-renamed-lts.Need-same-length-4 (attach-renamed-claims t) (attach-renamed-at t) attach-renamed.Post
 attach-renamed-same-length-4 t c = search needs
 
-attach-renamed-returns-2 : (t : ℕ) → attach-renamed-lts.Need-returns-2 (needs-rename-reads.Asked, needs-rename-reads.Learnt, attach-transforms-below t, attach-transforms.Post, put-reads.Asked, put-reads.Learnt, is-refused-reads.Asked, is-refused-reads.Learnt, len-of-reads.Asked, len-of-reads.Learnt, write-text-reads.Asked, write-text-reads.Learnt) (attach-renamed-at t) attach-renamed.Post
-attach-renamed-returns-2 t c = λ from T P Q le lt.
-    let a = c .before .before .before .before .before .before .before .before .before .before .before .before .before .before .before .before .before .before .before .before .args in
-    renamed-stopped (a .v) (a .policy) (defaultsAt (a .defaults) T) (labelAt (now (a .target)) (a .l)) (Q .tree) (a .position) (labelAt (now (a .incoming)) (a .m)) (P .tree) (c .before .before .before .before .before .before .before .before .before .before .before .before .before .before .needs-rename .ensures) _ _ from (c .before .before .before .before .before .before .attach-transforms2 .ensures T P Q) (sym (c .before .is-refused .ensures) ∙ c .if2 .taken)
+attach-renamed-returns-3 : (t : ℕ) → attach-renamed-lts.Need-returns-3 (attach-renamed-claims t) (attach-renamed-at t) attach-renamed.Post
+attach-renamed-returns-3 t c =
+    let c1 = c .before in let c6 = c1 .before .before .before .before .before in let c16 =
+    c6 .before .before .before .before .before .before .before .before .before .before in let c21 = c16 .before .before .before .before .before in let
+    c22 = c21 .before in let c29 = c22 .before .before .before .before .before .before .before in
+    λ from T P Q le lt.
+    let a = c29 .args in
+    renamed-stopped (a .build .matching) (a .build .policy) (defaultsAt (a .build .defaults) T) (labelAt (now (a .target)) (a .pair .target .label))
+    (Q .tree) (a .place .position) (labelAt (now (a .incoming)) (a .pair .incoming .label)) (P .tree) (c22 .keeps-required .ensures (a .build .incoming)
+    (a .pair .depth) P _ refl) (c21 .if1 .left) (c16 .needs-rename .ensures) _ _ from (c6 .attach-transforms2 .ensures T P Q) (sym
+    (c1 .is-refused .ensures) ∙ c .if3 .taken)
 
-attach-renamed-len-of-requires : (t : ℕ) → attach-renamed-lts.Need-len-of-requires (needs-rename-reads.Asked, needs-rename-reads.Learnt, attach-transforms-below t, attach-transforms.Post, put-reads.Asked, put-reads.Learnt, is-refused-reads.Asked, is-refused-reads.Learnt, len-of-reads.Asked, len-of-reads.Learnt, write-text-reads.Asked, write-text-reads.Learnt) (attach-renamed-at t) attach-renamed.Post
+attach-renamed-len-of-requires : (t : ℕ) → attach-renamed-lts.Need-len-of-requires (attach-renamed-claims t) (attach-renamed-at t) attach-renamed.Post
 attach-renamed-len-of-requires t c κs = search needs
 
-attach-renamed-add-write-text : (t : ℕ) → attach-renamed-lts.Need-add-write-text (needs-rename-reads.Asked, needs-rename-reads.Learnt, attach-transforms-below t, attach-transforms.Post, put-reads.Asked, put-reads.Learnt, is-refused-reads.Asked, is-refused-reads.Learnt, len-of-reads.Asked, len-of-reads.Learnt, write-text-reads.Asked, write-text-reads.Learnt) (attach-renamed-at t) attach-renamed.Post
-attach-renamed-add-write-text t c = omega (arith, extent (c .before .before .before .before .before .before .before .before .before .before .before .before .before .before .before .before .before .before .before .before .before .before .before .pre .1 .0 .1), c .before .before .before .before .before .before .before .before .before .before .before .before .before .before .before .before .before .before .before .before .before .before .before .pre .1 .1 .1 .1)
+attach-renamed-add-write-text-2 : (t : ℕ) → attach-renamed-lts.Need-add-write-text-2 (attach-renamed-claims t) (attach-renamed-at t) attach-renamed.Post
+attach-renamed-add-write-text-2 t c =
+    let c33 = c .before .before .before .before .before .before .before .before .before .before .before .before .before .before .before .before .before
+    .before .before .before .before .before .before .before .before .before .before .before .before .before .before .before .before in
+    omega (arith, extent (c33 .pre .1 .0 .1 .0), c33 .pre .1 .1 .1 .1)
 
-attach-renamed-add-write-text-2 : (t : ℕ) → attach-renamed-lts.Need-add-write-text-2 (needs-rename-reads.Asked, needs-rename-reads.Learnt, attach-transforms-below t, attach-transforms.Post, put-reads.Asked, put-reads.Learnt, is-refused-reads.Asked, is-refused-reads.Learnt, len-of-reads.Asked, len-of-reads.Learnt, write-text-reads.Asked, write-text-reads.Learnt) (attach-renamed-at t) attach-renamed.Post
-attach-renamed-add-write-text-2 t c = let w = c .before .before .before .before .before .before .before .before .before .before .before .before .before .before .before .before .before .before .before .before .before .before .before .pre .1 in
-    omega (arith, makes-room _ (c .before .before .before .before .before .before .before .before .before .attach-transforms2 .ensures (w .1 .0) (w .0 .0) (w .0 .1)) (sym (c .before .before .before .before .is-refused .ensures) ∙ c .before .before .before .if2 .left), c .before .before .len-of .ensures, extent (w .0 .1), w .1 .1 .1)
+attach-renamed-add-write-text-3 : (t : ℕ) → attach-renamed-lts.Need-add-write-text-3 (attach-renamed-claims t) (attach-renamed-at t) attach-renamed.Post
+attach-renamed-add-write-text-3 t c =
+    let c3 = c .before .before .before in let c4 = c3 .before in let c5 = c4 .before in let c10 = c5 .before .before .before .before .before in let c33 =
+    c10 .before .before .before .before .before .before .before .before .before .before .before .before .before .before .before .before .before .before
+    .before .before .before .before .before in
+    let w = c33 .pre .1 in
+    omega (
+      arith,
+      makes-room _ (c10 .attach-transforms2 .ensures (w .1 .0) (w .0 .0) (w .0 .1 .0)) (sym (c5 .is-refused .ensures) ∙ c4 .if3 .left),
+      c3 .len-of .ensures,
+      extent (w .0 .1 .0),
+      w .1 .1 .1,
+    )
 
-attach-renamed-write-text-requires : (t : ℕ) → attach-renamed-lts.Need-write-text-requires (needs-rename-reads.Asked, needs-rename-reads.Learnt, attach-transforms-below t, attach-transforms.Post, put-reads.Asked, put-reads.Learnt, is-refused-reads.Asked, is-refused-reads.Learnt, len-of-reads.Asked, len-of-reads.Learnt, write-text-reads.Asked, write-text-reads.Learnt) (attach-renamed-at t) attach-renamed.Post
-attach-renamed-write-text-requires t c κs = let w = c .before .before .before .before .before .before .before .before .before .before .before .before .before .before .before .before .before .before .before .before .before .before .before .pre .1 in
-    ((w .1 .1 .0 .1, w .1 .1 .0 .2), omega (arith, makes-room _ (c .before .before .before .before .before .before .before .before .before .attach-transforms2 .ensures (w .1 .0) (w .0 .0) (w .0 .1)) (sym (c .before .before .before .before .is-refused .ensures) ∙ c .before .before .before .if2 .left), c .before .before .len-of .ensures, extent (w .0 .1), w .1 .1 .1))
+attach-renamed-write-text-requires : (t : ℕ) → attach-renamed-lts.Need-write-text-requires (attach-renamed-claims t) (attach-renamed-at t) attach-renamed.Post
+attach-renamed-write-text-requires t c κs =
+    let c3 = c .before .before .before in let c4 = c3 .before in let c5 = c4 .before in let c10 = c5 .before .before .before .before .before in let c33 =
+    c10 .before .before .before .before .before .before .before .before .before .before .before .before .before .before .before .before .before .before
+    .before .before .before .before .before in
+    let w = c33 .pre .1 in (
+      (w .1 .1 .0 .1, w .1 .1 .0 .2),
+      omega (
+        arith,
+        makes-room _ (c10 .attach-transforms2 .ensures (w .1 .0) (w .0 .0) (w .0 .1 .0)) (sym
+            (c5 .is-refused .ensures) ∙ c4 .if3 .left),
+        c3 .len-of .ensures,
+        extent (w .0 .1 .0),
+        w .1 .1 .1,
+      ),
+    )
 
-attach-renamed-add-t31 : (t : ℕ) → attach-renamed-lts.Need-add-t31 (needs-rename-reads.Asked, needs-rename-reads.Learnt, attach-transforms-below t, attach-transforms.Post, put-reads.Asked, put-reads.Learnt, is-refused-reads.Asked, is-refused-reads.Learnt, len-of-reads.Asked, len-of-reads.Learnt, write-text-reads.Asked, write-text-reads.Learnt) (attach-renamed-at t) attach-renamed.Post
-attach-renamed-add-t31 t c = let w = c .before .before .before .before .before .before .before .before .before .before .before .before .before .before .before .before .before .before .before .before .before .before .before .before .before .before .pre .1 in
-    omega (arith, makes-room _ (c .before .before .before .before .before .before .before .before .before .before .before .before .attach-transforms2 .ensures (w .1 .0) (w .0 .0) (w .0 .1)) (sym (c .before .before .before .before .before .before .before .is-refused .ensures) ∙ c .before .before .before .before .before .before .if2 .left), c .before .before .before .before .before .len-of .ensures, extent (w .0 .1), w .1 .1 .1)
+attach-renamed-add-t31 : (t : ℕ) → attach-renamed-lts.Need-add-t31 (attach-renamed-claims t) (attach-renamed-at t) attach-renamed.Post
+attach-renamed-add-t31 t c =
+    let c6 = c .before .before .before .before .before .before in let c7 = c6 .before in let c8 = c7 .before in let c13 =
+    c8 .before .before .before .before .before in let c36 =
+    c13 .before .before .before .before .before .before .before .before .before .before .before .before .before .before .before .before .before .before
+    .before .before .before .before .before in
+    let w = c36 .pre .1 in
+    omega (
+      arith,
+      makes-room _ (c13 .attach-transforms2 .ensures (w .1 .0) (w .0 .0) (w .0 .1 .0)) (sym (c8 .is-refused .ensures) ∙ c7 .if3 .left),
+      c6 .len-of .ensures,
+      extent (w .0 .1 .0),
+      w .1 .1 .1,
+    )
 
-attach-renamed-add-t37 : (t : ℕ) → attach-renamed-lts.Need-add-t37 (needs-rename-reads.Asked, needs-rename-reads.Learnt, attach-transforms-below t, attach-transforms.Post, put-reads.Asked, put-reads.Learnt, is-refused-reads.Asked, is-refused-reads.Learnt, len-of-reads.Asked, len-of-reads.Learnt, write-text-reads.Asked, write-text-reads.Learnt) (attach-renamed-at t) attach-renamed.Post
-attach-renamed-add-t37 t c = let w = c .before .before .before .before .before .before .before .before .before .before .before .before .before .before .before .before .before .before .before .before .before .before .before .before .before .before .pre .1 in
-    omega (arith, makes-room _ (c .before .before .before .before .before .before .before .before .before .before .before .before .attach-transforms2 .ensures (w .1 .0) (w .0 .0) (w .0 .1)) (sym (c .before .before .before .before .before .before .before .is-refused .ensures) ∙ c .before .before .before .before .before .before .if2 .left), c .before .before .before .before .before .len-of .ensures, extent (w .0 .1), w .1 .1 .1, c .before .before .write-text .ensures .0, text-long (now (c .before .before .before .before .before .before .before .before .before .before .before .before .before .before .before .before .before .before .before .before .before .before .before .before .before .before .args .target)) (c .before .before .before .before .before .before .before .before .before .before .before .before .before .before .before .before .before .before .before .before .before .before .before .before .before .before .args .l .name) (w .1 .1 .0 .1), w .1 .1 .0 .2)
+attach-renamed-add-t39 : (t : ℕ) → attach-renamed-lts.Need-add-t39 (attach-renamed-claims t) (attach-renamed-at t) attach-renamed.Post
+attach-renamed-add-t39 t c =
+    let c2 = c .before .before in let c6 = c2 .before .before .before .before in let c7 = c6 .before in let c8 = c7 .before in let c13 =
+    c8 .before .before .before .before .before in let c36 =
+    c13 .before .before .before .before .before .before .before .before .before .before .before .before .before .before .before .before .before .before
+    .before .before .before .before .before in
+    let w = c36 .pre .1 in
+    omega (
+      arith,
+      makes-room _ (c13 .attach-transforms2 .ensures (w .1 .0) (w .0 .0) (w .0 .1 .0)) (sym (c8 .is-refused .ensures) ∙ c7 .if3 .left),
+      c6 .len-of .ensures,
+      extent (w .0 .1 .0),
+      w .1 .1 .1,
+      c2 .write-text .ensures .0,
+      text-long (now (c36 .args .target))
+          (c36 .args .pair .target .label .name) (w .1 .1 .0 .1),
+      w .1 .1 .0 .2,
+    )
 
-attach-renamed-same-length-5 : (t : ℕ) → attach-renamed-lts.Need-same-length-5 (needs-rename-reads.Asked, needs-rename-reads.Learnt, attach-transforms-below t, attach-transforms.Post, put-reads.Asked, put-reads.Learnt, is-refused-reads.Asked, is-refused-reads.Learnt, len-of-reads.Asked, len-of-reads.Learnt, write-text-reads.Asked, write-text-reads.Learnt) (attach-renamed-at t) attach-renamed.Post
+attach-renamed-same-length-5 : (t : ℕ) → attach-renamed-lts.Need-same-length-5 (attach-renamed-claims t) (attach-renamed-at t) attach-renamed.Post
 attach-renamed-same-length-5 t c = search needs
 
-attach-renamed-same-length-6 : (t : ℕ) → attach-renamed-lts.Need-same-length-6 (needs-rename-reads.Asked, needs-rename-reads.Learnt, attach-transforms-below t, attach-transforms.Post, put-reads.Asked, put-reads.Learnt, is-refused-reads.Asked, is-refused-reads.Learnt, len-of-reads.Asked, len-of-reads.Learnt, write-text-reads.Asked, write-text-reads.Learnt) (attach-renamed-at t) attach-renamed.Post
+attach-renamed-same-length-6 : (t : ℕ) → attach-renamed-lts.Need-same-length-6 (attach-renamed-claims t) (attach-renamed-at t) attach-renamed.Post
 attach-renamed-same-length-6 t c = search needs
 
-attach-renamed-returns-3 : (t : ℕ) → attach-renamed-lts.Need-returns-3 (needs-rename-reads.Asked, needs-rename-reads.Learnt, attach-transforms-below t, attach-transforms.Post, put-reads.Asked, put-reads.Learnt, is-refused-reads.Asked, is-refused-reads.Learnt, len-of-reads.Asked, len-of-reads.Learnt, write-text-reads.Asked, write-text-reads.Learnt) (attach-renamed-at t) attach-renamed.Post
-attach-renamed-returns-3 t c = λ from T P Q le lt.
-    let a = c .before .before .before .before .before .before .before .before .before .before .before .before .before .before .before .before .before .before .before .before .before .before .before .before .before .before .args in
-    let w = c .before .before .before .before .before .before .before .before .before .before .before .before .before .before .before .before .before .before .before .before .before .before .before .before .before .before .pre .1 in
-    renamed-made (a .v) (a .policy) (defaultsAt (a .defaults) T) (labelAt (now (a .target)) (a .l)) (Q .tree) (a .position) (labelAt (now (a .incoming)) (a .m)) (P .tree) (c .before .before .before .before .before .before .before .before .before .before .before .before .before .before .before .before .before .before .before .before .needs-rename .ensures) _ _ from _ _ (c .before .before .before .before .before .before .before .before .before .before .before .before .before .before .before .before .before .before .before .if1 .left) (c .before .before .before .before .before .before .before .before .before .before .before .before .before .before .before .before .before .put .kept .0) (c .before .before .before .before .before .before .before .before .before .before .before .before .attach-transforms2 .kept .1 .1 .1 .1 .1 .1 .1 .1 .1 .1 .0 ∙ c .before .before .before .before .before .before .before .before .before .before .before .before .before .before .before .before .before .put .kept .0) (c .before .before .before .before .before .before .before .before .before .before .before .before .before .before .before .before .before .put .ensures) (c .before .before .before .before .before .before .before .before .before .before .before .before .attach-transforms2 .ensures T P Q)
-    (sym (c .before .before .before .before .before .before .before .is-refused .ensures) ∙ c .before .before .before .before .before .before .if2 .left) (c .before .before .before .before .before .len-of .ensures) (c .before .before .write-text .ensures .0) (c .before .before .write-text .ensures .1) (omega (arith, c .before .before .write-text .ensures .0, text-long (now (c .before .before .before .before .before .before .before .before .before .before .before .before .before .before .before .before .before .before .before .before .before .before .before .before .before .before .args .target)) (c .before .before .before .before .before .before .before .before .before .before .before .before .before .before .before .before .before .before .before .before .before .before .before .before .before .before .args .l .name) (w .1 .1 .0 .1), w .1 .1 .0 .2))
-    (lt (rename-on (a .v) (labelAt (now (a .target)) (a .l)) (labelAt (now (a .incoming)) (a .m)) (c .before .before .before .before .before .before .before .before .before .before .before .before .before .before .before .before .before .before .before .before .needs-rename .ensures) (c .before .before .before .before .before .before .before .before .before .before .before .before .before .before .before .before .before .before .before .if1 .left)))
+attach-renamed-returns-4 : (t : ℕ) → attach-renamed-lts.Need-returns-4 (attach-renamed-claims t) (attach-renamed-at t) attach-renamed.Post
+attach-renamed-returns-4 t c =
+    let c2 = c .before .before in let c6 = c2 .before .before .before .before in let c7 = c6 .before in let c8 = c7 .before in let c13 =
+    c8 .before .before .before .before .before in let c20 = c13 .before .before .before .before .before .before .before in let c22 = c20 .before .before
+    in let c23 = c22 .before in let c28 = c23 .before .before .before .before .before in let c29 = c28 .before in let c36 =
+    c29 .before .before .before .before .before .before .before in
+    λ from T P Q le lt.
+    let a = c36 .args in
+    let w = c36 .pre .1 in
+    renamed-made (a .build .matching) (a .build .policy) (defaultsAt (a .build .defaults) T) (labelAt (now (a .target)) (a .pair .target .label)) (Q .tree)
+    (a .place .position) (labelAt (now (a .incoming)) (a .pair .incoming .label)) (P .tree) (c29 .keeps-required .ensures (a .build .incoming)
+    (a .pair .depth) P _ refl) (c28 .if1 .left) (c23 .needs-rename .ensures) _ _ from _ _ (c22 .if2 .left) (c20 .put .kept .0)
+    (c13 .attach-transforms2 .kept .1 .1 .1 .1 .1 .0 ∙ c20 .put .kept .0) (c20 .put .ensures) (c13 .attach-transforms2 .ensures T P Q)
+    (sym (c8 .is-refused .ensures) ∙ c7 .if3 .left) (c6 .len-of .ensures) (c2 .write-text .ensures .0) (c2 .write-text .ensures .1) (omega (
+      arith,
+      c2 .write-text .ensures .0,
+      text-long (now (c36 .args .target)) (c36 .args .pair .target .label .name) (w .1 .1 .0 .1),
+      w .1 .1 .0 .2,
+    ))
+    (lt (rename-on (a .build .matching) (labelAt (now (a .target)) (a .pair .target .label)) (labelAt (now (a .incoming)) (a .pair .incoming .label))
+    (c23 .needs-rename .ensures) (c22 .if2 .left)))
 
-attach-row-fill-in-requires : (t : ℕ) → attach-row-lts.Need-fill-in-requires (fill-in-reads.Asked, fill-in-reads.Learnt, attach-fields-below t, attach-fields.Post) (attach-row-at t) attach-row.Post
+attach-row-fill-in-requires : (t : ℕ) → attach-row-lts.Need-fill-in-requires (attach-row-claims t) (attach-row-at t) attach-row.Post
 attach-row-fill-in-requires t c κs = search needs
 
-attach-row-attach-fields-requires : (t : ℕ) → attach-row-lts.Need-attach-fields-requires (fill-in-reads.Asked, fill-in-reads.Learnt, attach-fields-below t, attach-fields.Post) (attach-row-at t) attach-row.Post
+attach-row-attach-fields-requires : (t : ℕ) → attach-row-lts.Need-attach-fields-requires (attach-row-claims t) (attach-row-at t) attach-row.Post
 attach-row-attach-fields-requires t c κs =
-    let w = c .before .before .before .before .before .before .before .before .before .before .before .pre .1 in
-    (omega (arith, c .before .before .before .before .before .before .before .before .before .before .before .pre .0), (w .0, (w .1 .0, (w .1 .1, (c .before .before .before .before .fill-in .ensures .0, c .before .before .before .before .fill-in .ensures .1)))))
+    let c4 = c .before .before .before .before in let c12 = c4 .before .before .before .before .before .before .before .before in
+    let w = c12 .pre .1 in
+    (omega (arith, c12 .pre .0), (w .0, (w .1 .0, (w .1 .1, (c4 .fill-in .ensures .0, c4 .fill-in .ensures .1)))))
 
-attach-row-same-length : (t : ℕ) → attach-row-lts.Need-same-length (fill-in-reads.Asked, fill-in-reads.Learnt, attach-fields-below t, attach-fields.Post) (attach-row-at t) attach-row.Post
+attach-row-same-length : (t : ℕ) → attach-row-lts.Need-same-length (attach-row-claims t) (attach-row-at t) attach-row.Post
 attach-row-same-length t c = search needs
 
-attach-row-same-length-2 : (t : ℕ) → attach-row-lts.Need-same-length-2 (fill-in-reads.Asked, fill-in-reads.Learnt, attach-fields-below t, attach-fields.Post) (attach-row-at t) attach-row.Post
+attach-row-same-length-2 : (t : ℕ) → attach-row-lts.Need-same-length-2 (attach-row-claims t) (attach-row-at t) attach-row.Post
 attach-row-same-length-2 t c = search needs
 
-attach-row-returns : (t : ℕ) → attach-row-lts.Need-returns (fill-in-reads.Asked, fill-in-reads.Learnt, attach-fields-below t, attach-fields.Post) (attach-row-at t) attach-row.Post
+attach-row-returns : (t : ℕ) → attach-row-lts.Need-returns (attach-row-claims t) (attach-row-at t) attach-row.Post
 attach-row-returns t c = search needs
 
-attach-struct-struct-part-requires : (t : ℕ) → attach-struct-lts.Need-struct-part-requires (struct-part-reads.Asked, struct-part-reads.Learnt, struct-fault-reads.Asked, struct-fault-reads.Learnt, put-head-reads.Asked, put-head-reads.Learnt, put-short-reads.Asked, put-short-reads.Learnt, attach-row-below t, attach-row.Post, refused-row-reads.Asked, refused-row-reads.Learnt, unchanged-reads.Asked, unchanged-reads.Learnt, put-position-reads.Asked, put-position-reads.Learnt) (attach-struct-at t) attach-struct.Post
+attach-struct-struct-part-requires : (t : ℕ) → attach-struct-lts.Need-struct-part-requires (attach-struct-claims t) (attach-struct-at t) attach-struct.Post
 attach-struct-struct-part-requires t c κs = search needs
 
-attach-struct-enum-known-n : (t : ℕ) → attach-struct-lts.Need-enum-known-n (struct-part-reads.Asked, struct-part-reads.Learnt, struct-fault-reads.Asked, struct-fault-reads.Learnt, put-head-reads.Asked, put-head-reads.Learnt, put-short-reads.Asked, put-short-reads.Learnt, attach-row-below t, attach-row.Post, refused-row-reads.Asked, refused-row-reads.Learnt, unchanged-reads.Asked, unchanged-reads.Learnt, put-position-reads.Asked, put-position-reads.Learnt) (attach-struct-at t) attach-struct.Post
+attach-struct-enum-known-n : (t : ℕ) → attach-struct-lts.Need-enum-known-n (attach-struct-claims t) (attach-struct-at t) attach-struct.Post
 attach-struct-enum-known-n t c = search needs
 
-attach-struct-enum-told : (t : ℕ) → attach-struct-lts.Need-enum-told (struct-part-reads.Asked, struct-part-reads.Learnt, struct-fault-reads.Asked, struct-fault-reads.Learnt, put-head-reads.Asked, put-head-reads.Learnt, put-short-reads.Asked, put-short-reads.Learnt, attach-row-below t, attach-row.Post, refused-row-reads.Asked, refused-row-reads.Learnt, unchanged-reads.Asked, unchanged-reads.Learnt, put-position-reads.Asked, put-position-reads.Learnt) (attach-struct-at t) attach-struct.Post
+attach-struct-enum-told : (t : ℕ) → attach-struct-lts.Need-enum-told (attach-struct-claims t) (attach-struct-at t) attach-struct.Post
 attach-struct-enum-told t c = search needs
 
-attach-struct-returns : (t : ℕ) → attach-struct-lts.Need-returns (struct-part-reads.Asked, struct-part-reads.Learnt, struct-fault-reads.Asked, struct-fault-reads.Learnt, put-head-reads.Asked, put-head-reads.Learnt, put-short-reads.Asked, put-short-reads.Learnt, attach-row-below t, attach-row.Post, refused-row-reads.Asked, refused-row-reads.Learnt, unchanged-reads.Asked, unchanged-reads.Learnt, put-position-reads.Asked, put-position-reads.Learnt) (attach-struct-at t) attach-struct.Post
-attach-struct-returns t c = λ from T P Q lt.
-    let a = c .before .before .before .before .before .before .before .before .args in
-    makes-refused _ _ _ _ _ (struct-other (a .v) (a .policy) (defaultsAt (a .defaults) T) (Q .columns) (a .position) (P .tree) (part-no-struct (a .v) (a .depth) (now (a .incoming)) (a .c .at) (structPart (P .tree)) (P .end) (c .before .before .struct-part .ensures (a .v) (a .depth) P) (c .enum-told .given .1)))
+attach-struct-returns : (t : ℕ) → attach-struct-lts.Need-returns (attach-struct-claims t) (attach-struct-at t) attach-struct.Post
+attach-struct-returns t c =
+    let c2 = c .before .before in let c8 = c2 .before .before .before .before .before .before in
+    λ from T P Q lt.
+    let a = c8 .args in
+    makes-refused _ _ _ _ _ (struct-other (a .build .matching) (a .build .policy) (defaultsAt (a .build .defaults) T) (Q .columns) (a .place .position)
+    (P .tree) (part-no-struct (a .build .incoming) (a .over .depth) (now (a .incoming)) (a .over .incoming .at) (structPart (P .tree)) (P .end)
+    (c2 .struct-part .ensures (a .build .incoming) (a .over .depth) P) (c .enum-told .given .1)))
 
-attach-struct-sub-struct-fault : (t : ℕ) → attach-struct-lts.Need-sub-struct-fault (struct-part-reads.Asked, struct-part-reads.Learnt, struct-fault-reads.Asked, struct-fault-reads.Learnt, put-head-reads.Asked, put-head-reads.Learnt, put-short-reads.Asked, put-short-reads.Learnt, attach-row-below t, attach-row.Post, refused-row-reads.Asked, refused-row-reads.Learnt, unchanged-reads.Asked, unchanged-reads.Learnt, put-position-reads.Asked, put-position-reads.Learnt) (attach-struct-at t) attach-struct.Post
-attach-struct-sub-struct-fault t c = let z = deep (c .before .before .before .before .before .before .before .before .before .pre .1 .0 .0) in omega arith
+attach-struct-sub-t19 : (t : ℕ) → attach-struct-lts.Need-sub-t19 (attach-struct-claims t) (attach-struct-at t) attach-struct.Post
+attach-struct-sub-t19 t c =
+    let c11 = c .before .before .before .before .before .before .before .before .before .before .before in
+    let z = deep (c11 .pre .1 .0 .0) in omega arith
 
-attach-struct-struct-fault-requires : (t : ℕ) → attach-struct-lts.Need-struct-fault-requires (struct-part-reads.Asked, struct-part-reads.Learnt, struct-fault-reads.Asked, struct-fault-reads.Learnt, put-head-reads.Asked, put-head-reads.Learnt, put-short-reads.Asked, put-short-reads.Learnt, attach-row-below t, attach-row.Post, refused-row-reads.Asked, refused-row-reads.Learnt, unchanged-reads.Asked, unchanged-reads.Learnt, put-position-reads.Asked, put-position-reads.Learnt) (attach-struct-at t) attach-struct.Post
-attach-struct-struct-fault-requires t c κs = let a = c .before .before .before .before .before .before .before .before .before .before .args in
-    let P = c .before .before .before .before .before .before .before .before .before .before .pre .1 .0 .0 in
-    let S = part-struct (a .v) (a .depth) (now (a .incoming)) (a .c .at) (structPart (P .tree)) (P .end) (c .before .before .before .before .struct-part .ensures (a .v) (a .depth) P) (c .before .before .n .given .1) in
-    (S .inner, c .before .before .before .before .before .before .before .before .before .before .pre .1 .0 .1)
+attach-struct-struct-fault-requires : (t : ℕ) → attach-struct-lts.Need-struct-fault-requires (attach-struct-claims t) (attach-struct-at t) attach-struct.Post
+attach-struct-struct-fault-requires t c κs =
+    let c4 = c .before .before .before .before in let c6 = c4 .before .before in let c12 = c6 .before .before .before .before .before .before in
+    let a = c12 .args in
+    let P = c12 .pre .1 .0 .0 in
+    let S = part-struct (a .build .incoming) (a .over .depth) (now (a .incoming)) (a .over .incoming .at) (structPart (P .tree)) (P .end)
+    (c6 .struct-part .ensures (a .build .incoming) (a .over .depth) P) (c4 .n .given .1) in
+    (S .inner, c12 .pre .1 .0 .1)
 
-attach-struct-same-length : (t : ℕ) → attach-struct-lts.Need-same-length (struct-part-reads.Asked, struct-part-reads.Learnt, struct-fault-reads.Asked, struct-fault-reads.Learnt, put-head-reads.Asked, put-head-reads.Learnt, put-short-reads.Asked, put-short-reads.Learnt, attach-row-below t, attach-row.Post, refused-row-reads.Asked, refused-row-reads.Learnt, unchanged-reads.Asked, unchanged-reads.Learnt, put-position-reads.Asked, put-position-reads.Learnt) (attach-struct-at t) attach-struct.Post
+attach-struct-same-length : (t : ℕ) → attach-struct-lts.Need-same-length (attach-struct-claims t) (attach-struct-at t) attach-struct.Post
 attach-struct-same-length t c = search needs
 
-attach-struct-returns-2 : (t : ℕ) → attach-struct-lts.Need-returns-2 (struct-part-reads.Asked, struct-part-reads.Learnt, struct-fault-reads.Asked, struct-fault-reads.Learnt, put-head-reads.Asked, put-head-reads.Learnt, put-short-reads.Asked, put-short-reads.Learnt, attach-row-below t, attach-row.Post, refused-row-reads.Asked, refused-row-reads.Learnt, unchanged-reads.Asked, unchanged-reads.Learnt, put-position-reads.Asked, put-position-reads.Learnt) (attach-struct-at t) attach-struct.Post
-attach-struct-returns-2 t c = λ from T P Q lt.
-    let a = c .before .before .before .before .before .before .before .before .before .before .before .before .before .before .args in
-    let S = part-struct (a .v) (a .depth) (now (a .incoming)) (a .c .at) (structPart (P .tree)) (P .end) (c .before .before .before .before .before .before .before .before .struct-part .ensures (a .v) (a .depth) P) (c .before .before .before .before .before .before .n .given .1) in
-    makes-refused _ _ _ _ _ (struct-faulted (a .v) (a .policy) (defaultsAt (a .defaults) T) (Q .columns) (a .position) (P .tree) (S .inner .columns) (S .is) (c .before .before .before .struct-fault .ensures (S .inner) Q) (c .if1 .taken))
+attach-struct-returns-2 : (t : ℕ) → attach-struct-lts.Need-returns-2 (attach-struct-claims t) (attach-struct-at t) attach-struct.Post
+attach-struct-returns-2 t c =
+    let c3 = c .before .before .before in let c8 = c3 .before .before .before .before .before in let c10 = c8 .before .before in let c16 =
+    c10 .before .before .before .before .before .before in
+    λ from T P Q lt.
+    let a = c16 .args in
+    let S = part-struct (a .build .incoming) (a .over .depth) (now (a .incoming)) (a .over .incoming .at) (structPart (P .tree)) (P .end)
+    (c10 .struct-part .ensures (a .build .incoming) (a .over .depth) P) (c8 .n .given .1) in
+    makes-refused _ _ _ _ _ (struct-faulted (a .build .matching) (a .build .policy) (defaultsAt (a .build .defaults) T) (Q .columns) (a .place .position)
+    (P .tree) (S .inner .columns) (S .is) (c3 .struct-fault .ensures (S .inner) Q) (c .if1 .taken))
 
-attach-struct-put-head-requires : (t : ℕ) → attach-struct-lts.Need-put-head-requires (struct-part-reads.Asked, struct-part-reads.Learnt, struct-fault-reads.Asked, struct-fault-reads.Learnt, put-head-reads.Asked, put-head-reads.Learnt, put-short-reads.Asked, put-short-reads.Learnt, attach-row-below t, attach-row.Post, refused-row-reads.Asked, refused-row-reads.Learnt, unchanged-reads.Asked, unchanged-reads.Learnt, put-position-reads.Asked, put-position-reads.Learnt) (attach-struct-at t) attach-struct.Post
-attach-struct-put-head-requires t c κs = omega (arith, c .before .before .before .before .before .before .before .before .before .before .before .before .before .before .before .pre .1 .1 .1)
+attach-struct-put-head-requires : (t : ℕ) → attach-struct-lts.Need-put-head-requires (attach-struct-claims t) (attach-struct-at t) attach-struct.Post
+attach-struct-put-head-requires t c κs =
+    let c18 = c .before .before .before .before .before .before .before .before .before .before .before .before .before .before .before .before .before
+    .before in
+    omega (arith, c18 .pre .1 .1 .1)
 
-attach-struct-add-put-short : (t : ℕ) → attach-struct-lts.Need-add-put-short (struct-part-reads.Asked, struct-part-reads.Learnt, struct-fault-reads.Asked, struct-fault-reads.Learnt, put-head-reads.Asked, put-head-reads.Learnt, put-short-reads.Asked, put-short-reads.Learnt, attach-row-below t, attach-row.Post, refused-row-reads.Asked, refused-row-reads.Learnt, unchanged-reads.Asked, unchanged-reads.Learnt, put-position-reads.Asked, put-position-reads.Learnt) (attach-struct-at t) attach-struct.Post
-attach-struct-add-put-short t c = omega (arith, c .before .before .before .before .before .before .before .before .before .before .before .before .before .before .before .before .before .before .before .pre .1 .1 .1)
+attach-struct-add-put-short : (t : ℕ) → attach-struct-lts.Need-add-put-short (attach-struct-claims t) (attach-struct-at t) attach-struct.Post
+attach-struct-add-put-short t c =
+    let c23 = c .before .before .before .before .before .before .before .before .before .before .before .before .before .before .before .before .before
+    .before .before .before .before .before .before in
+    omega (arith, c23 .pre .1 .1 .1)
 
-attach-struct-put-short-requires : (t : ℕ) → attach-struct-lts.Need-put-short-requires (struct-part-reads.Asked, struct-part-reads.Learnt, struct-fault-reads.Asked, struct-fault-reads.Learnt, put-head-reads.Asked, put-head-reads.Learnt, put-short-reads.Asked, put-short-reads.Learnt, attach-row-below t, attach-row.Post, refused-row-reads.Asked, refused-row-reads.Learnt, unchanged-reads.Asked, unchanged-reads.Learnt, put-position-reads.Asked, put-position-reads.Learnt) (attach-struct-at t) attach-struct.Post
-attach-struct-put-short-requires t c κs = omega (arith, c .before .before .before .before .before .before .before .before .before .before .before .before .before .before .before .before .before .before .before .pre .1 .1 .1)
+attach-struct-put-short-requires : (t : ℕ) → attach-struct-lts.Need-put-short-requires (attach-struct-claims t) (attach-struct-at t) attach-struct.Post
+attach-struct-put-short-requires t c κs =
+    let c23 = c .before .before .before .before .before .before .before .before .before .before .before .before .before .before .before .before .before
+    .before .before .before .before .before .before in
+    omega (arith, c23 .pre .1 .1 .1)
 
-attach-struct-sub-attach-row : (t : ℕ) → attach-struct-lts.Need-sub-attach-row (struct-part-reads.Asked, struct-part-reads.Learnt, struct-fault-reads.Asked, struct-fault-reads.Learnt, put-head-reads.Asked, put-head-reads.Learnt, put-short-reads.Asked, put-short-reads.Learnt, attach-row-below t, attach-row.Post, refused-row-reads.Asked, refused-row-reads.Learnt, unchanged-reads.Asked, unchanged-reads.Learnt, put-position-reads.Asked, put-position-reads.Learnt) (attach-struct-at t) attach-struct.Post
-attach-struct-sub-attach-row t c = let z = deep (c .before .before .before .before .before .before .before .before .before .before .before .before .before .before .before .before .before .before .before .before .before .before .pre .1 .0 .0) in omega arith
+attach-struct-add-attach-row : (t : ℕ) → attach-struct-lts.Need-add-attach-row (attach-struct-claims t) (attach-struct-at t) attach-struct.Post
+attach-struct-add-attach-row t c =
+    let c28 = c .before .before .before .before .before .before .before .before .before .before .before .before .before .before .before .before .before
+    .before .before .before .before .before .before .before .before .before .before .before in
+    omega (arith, c28 .pre .1 .1 .1)
 
-attach-struct-add-attach-row : (t : ℕ) → attach-struct-lts.Need-add-attach-row (struct-part-reads.Asked, struct-part-reads.Learnt, struct-fault-reads.Asked, struct-fault-reads.Learnt, put-head-reads.Asked, put-head-reads.Learnt, put-short-reads.Asked, put-short-reads.Learnt, attach-row-below t, attach-row.Post, refused-row-reads.Asked, refused-row-reads.Learnt, unchanged-reads.Asked, unchanged-reads.Learnt, put-position-reads.Asked, put-position-reads.Learnt) (attach-struct-at t) attach-struct.Post
-attach-struct-add-attach-row t c = omega (arith, c .before .before .before .before .before .before .before .before .before .before .before .before .before .before .before .before .before .before .before .before .before .before .before .pre .1 .1 .1)
-
-attach-struct-attach-row-requires : (t : ℕ) → attach-struct-lts.Need-attach-row-requires (struct-part-reads.Asked, struct-part-reads.Learnt, struct-fault-reads.Asked, struct-fault-reads.Learnt, put-head-reads.Asked, put-head-reads.Learnt, put-short-reads.Asked, put-short-reads.Learnt, attach-row-below t, attach-row.Post, refused-row-reads.Asked, refused-row-reads.Learnt, unchanged-reads.Asked, unchanged-reads.Learnt, put-position-reads.Asked, put-position-reads.Learnt) (attach-struct-at t) attach-struct.Post
-attach-struct-attach-row-requires t c κs = let a = c .before .before .before .before .before .before .before .before .before .before .before .before .before .before .before .before .before .before .before .before .before .before .before .before .args in
-    let w = c .before .before .before .before .before .before .before .before .before .before .before .before .before .before .before .before .before .before .before .before .before .before .before .before .pre .1 in
+attach-struct-attach-row-requires : (t : ℕ) → attach-struct-lts.Need-attach-row-requires (attach-struct-claims t) (attach-struct-at t) attach-struct.Post
+attach-struct-attach-row-requires t c κs =
+    let c21 = c .before .before .before .before .before .before .before .before .before .before .before .before .before .before .before .before .before
+    .before .before .before .before in let c23 = c21 .before .before in let c29 = c23 .before .before .before .before .before .before in
+    let a = c29 .args in
+    let w = c29 .pre .1 in
     let P = w .0 .0 in
     let z = deep P in
-    let S = part-struct (a .v) (a .depth) (now (a .incoming)) (a .c .at) (structPart (P .tree)) (P .end) (c .before .before .before .before .before .before .before .before .before .before .before .before .before .before .before .before .before .before .struct-part .ensures (a .v) (a .depth) P) (c .before .before .before .before .before .before .before .before .before .before .before .before .before .before .before .before .n .given .1) in
-    (omega (arith, c .before .before .before .before .before .before .before .before .before .before .before .before .before .before .before .before .before .before .before .before .before .before .before .before .pre .0), ((S .inner, w .0 .1), (w .1 .0, (w .1 .1 .0, w .1 .1 .1, w .1 .1 .3))))
+    let S = part-struct (a .build .incoming) (a .over .depth) (now (a .incoming)) (a .over .incoming .at) (structPart (P .tree)) (P .end)
+    (c23 .struct-part .ensures (a .build .incoming) (a .over .depth) P) (c21 .n .given .1) in
+    (omega (arith, c29 .pre .0), ((S .inner, w .0 .1), (w .1 .0, (w .1 .1 .0, w .1 .1 .1, w .1 .1 .3))))
 
-attach-struct-enum-known-row : (t : ℕ) → attach-struct-lts.Need-enum-known-row (struct-part-reads.Asked, struct-part-reads.Learnt, struct-fault-reads.Asked, struct-fault-reads.Learnt, put-head-reads.Asked, put-head-reads.Learnt, put-short-reads.Asked, put-short-reads.Learnt, attach-row-below t, attach-row.Post, refused-row-reads.Asked, refused-row-reads.Learnt, unchanged-reads.Asked, unchanged-reads.Learnt, put-position-reads.Asked, put-position-reads.Learnt) (attach-struct-at t) attach-struct.Post
+attach-struct-enum-known-row : (t : ℕ) → attach-struct-lts.Need-enum-known-row (attach-struct-claims t) (attach-struct-at t) attach-struct.Post
 attach-struct-enum-known-row t c = search needs
 
-attach-struct-enum-told-2 : (t : ℕ) → attach-struct-lts.Need-enum-told-2 (struct-part-reads.Asked, struct-part-reads.Learnt, struct-fault-reads.Asked, struct-fault-reads.Learnt, put-head-reads.Asked, put-head-reads.Learnt, put-short-reads.Asked, put-short-reads.Learnt, attach-row-below t, attach-row.Post, refused-row-reads.Asked, refused-row-reads.Learnt, unchanged-reads.Asked, unchanged-reads.Learnt, put-position-reads.Asked, put-position-reads.Learnt) (attach-struct-at t) attach-struct.Post
+attach-struct-enum-told-2 : (t : ℕ) → attach-struct-lts.Need-enum-told-2 (attach-struct-claims t) (attach-struct-at t) attach-struct.Post
 attach-struct-enum-told-2 t c = search needs
 
-attach-struct-refused-row-requires : (t : ℕ) → attach-struct-lts.Need-refused-row-requires (struct-part-reads.Asked, struct-part-reads.Learnt, struct-fault-reads.Asked, struct-fault-reads.Learnt, put-head-reads.Asked, put-head-reads.Learnt, put-short-reads.Asked, put-short-reads.Learnt, attach-row-below t, attach-row.Post, refused-row-reads.Asked, refused-row-reads.Learnt, unchanged-reads.Asked, unchanged-reads.Learnt, put-position-reads.Asked, put-position-reads.Learnt) (attach-struct-at t) attach-struct.Post
+attach-struct-refused-row-requires : (t : ℕ) → attach-struct-lts.Need-refused-row-requires (attach-struct-claims t) (attach-struct-at t) attach-struct.Post
 attach-struct-refused-row-requires t c κs = search needs
 
-attach-struct-same-length-2 : (t : ℕ) → attach-struct-lts.Need-same-length-2 (struct-part-reads.Asked, struct-part-reads.Learnt, struct-fault-reads.Asked, struct-fault-reads.Learnt, put-head-reads.Asked, put-head-reads.Learnt, put-short-reads.Asked, put-short-reads.Learnt, attach-row-below t, attach-row.Post, refused-row-reads.Asked, refused-row-reads.Learnt, unchanged-reads.Asked, unchanged-reads.Learnt, put-position-reads.Asked, put-position-reads.Learnt) (attach-struct-at t) attach-struct.Post
+attach-struct-same-length-2 : (t : ℕ) → attach-struct-lts.Need-same-length-2 (attach-struct-claims t) (attach-struct-at t) attach-struct.Post
 attach-struct-same-length-2 t c = search needs
 
-attach-struct-same-length-3 : (t : ℕ) → attach-struct-lts.Need-same-length-3 (struct-part-reads.Asked, struct-part-reads.Learnt, struct-fault-reads.Asked, struct-fault-reads.Learnt, put-head-reads.Asked, put-head-reads.Learnt, put-short-reads.Asked, put-short-reads.Learnt, attach-row-below t, attach-row.Post, refused-row-reads.Asked, refused-row-reads.Learnt, unchanged-reads.Asked, unchanged-reads.Learnt, put-position-reads.Asked, put-position-reads.Learnt) (attach-struct-at t) attach-struct.Post
+attach-struct-same-length-3 : (t : ℕ) → attach-struct-lts.Need-same-length-3 (attach-struct-claims t) (attach-struct-at t) attach-struct.Post
 attach-struct-same-length-3 t c = search needs
 
-attach-struct-returns-3 : (t : ℕ) → attach-struct-lts.Need-returns-3 (struct-part-reads.Asked, struct-part-reads.Learnt, struct-fault-reads.Asked, struct-fault-reads.Learnt, put-head-reads.Asked, put-head-reads.Learnt, put-short-reads.Asked, put-short-reads.Learnt, attach-row-below t, attach-row.Post, refused-row-reads.Asked, refused-row-reads.Learnt, unchanged-reads.Asked, unchanged-reads.Learnt, put-position-reads.Asked, put-position-reads.Learnt) (attach-struct-at t) attach-struct.Post
-attach-struct-returns-3 t c = λ from T P Q lt.
-    let a = c .before .before .before .before .before .before .before .before .before .before .before .before .before .before .before .before .before .before .before .before .before .before .before .before .before .before .before .before .before .before .before .before .args in
-    let S = part-struct (a .v) (a .depth) (now (a .incoming)) (a .c .at) (structPart (P .tree)) (P .end) (c .before .before .before .before .before .before .before .before .before .before .before .before .before .before .before .before .before .before .before .before .before .before .before .before .before .before .struct-part .ensures (a .v) (a .depth) P) (c .before .before .before .before .before .before .before .before .before .before .before .before .before .before .before .before .before .before .before .before .before .before .before .before .n .given .1) in
-    struct-stops (a .v) (a .policy) (defaultsAt (a .defaults) T) (Q .columns) (a .position) (P .tree) (S .inner .columns) (S .is) (c .before .before .before .before .before .before .before .before .before .before .before .before .before .before .before .before .before .before .before .before .before .struct-fault .ensures (S .inner) Q) (c .before .before .before .before .before .before .before .before .before .before .before .before .before .before .before .before .before .before .if1 .left) _ _ from _ _ (c .refused-row .ensures) (c .before .before .before .before .before .before .before .attach-row .ensures T (S .inner) Q) (c .before .enum-told2 .given .1)
+attach-struct-returns-3 : (t : ℕ) → attach-struct-lts.Need-returns-3 (attach-struct-claims t) (attach-struct-at t) attach-struct.Post
+attach-struct-returns-3 t c =
+    let c1 = c .before in let c7 = c1 .before .before .before .before .before .before in let c21 =
+    c7 .before .before .before .before .before .before .before .before .before .before .before .before .before .before in let c24 =
+    c21 .before .before .before in let c29 = c24 .before .before .before .before .before in let c31 = c29 .before .before in let c37 =
+    c31 .before .before .before .before .before .before in
+    λ from T P Q lt.
+    let a = c37 .args in
+    let S = part-struct (a .build .incoming) (a .over .depth) (now (a .incoming)) (a .over .incoming .at) (structPart (P .tree)) (P .end)
+    (c31 .struct-part .ensures (a .build .incoming) (a .over .depth) P) (c29 .n .given .1) in
+    struct-stops (a .build .matching) (a .build .policy) (defaultsAt (a .build .defaults) T) (Q .columns) (a .place .position) (P .tree) (S .inner .columns)
+    (S .is) (c24 .struct-fault .ensures (S .inner) Q) (c21 .if1 .left) _ _ from _ _ (c .refused-row .ensures) (c7 .attach-row .ensures T (S .inner) Q)
+    (c1 .enum-told2 .given .1)
 
-attach-struct-unchanged-requires : (t : ℕ) → attach-struct-lts.Need-unchanged-requires (struct-part-reads.Asked, struct-part-reads.Learnt, struct-fault-reads.Asked, struct-fault-reads.Learnt, put-head-reads.Asked, put-head-reads.Learnt, put-short-reads.Asked, put-short-reads.Learnt, attach-row-below t, attach-row.Post, refused-row-reads.Asked, refused-row-reads.Learnt, unchanged-reads.Asked, unchanged-reads.Learnt, put-position-reads.Asked, put-position-reads.Learnt) (attach-struct-at t) attach-struct.Post
+attach-struct-unchanged-requires : (t : ℕ) → attach-struct-lts.Need-unchanged-requires (attach-struct-claims t) (attach-struct-at t) attach-struct.Post
 attach-struct-unchanged-requires t c κs = search needs
 
-attach-struct-put-position-requires : (t : ℕ) → attach-struct-lts.Need-put-position-requires (struct-part-reads.Asked, struct-part-reads.Learnt, struct-fault-reads.Asked, struct-fault-reads.Learnt, put-head-reads.Asked, put-head-reads.Learnt, put-short-reads.Asked, put-short-reads.Learnt, attach-row-below t, attach-row.Post, refused-row-reads.Asked, refused-row-reads.Learnt, unchanged-reads.Asked, unchanged-reads.Learnt, put-position-reads.Asked, put-position-reads.Learnt) (attach-struct-at t) attach-struct.Post
-attach-struct-put-position-requires t c κs = omega (arith, c .before .before .before .before .before .before .before .before .before .before .before .before .before .before .before .before .before .before .before .before .before .before .before .before .before .before .before .before .before .before .before .before .before .before .before .pre .1 .1 .1)
+attach-struct-put-position-requires : (t : ℕ) → attach-struct-lts.Need-put-position-requires (attach-struct-claims t) (attach-struct-at t) attach-struct.Post
+attach-struct-put-position-requires t c κs =
+    let c40 = c .before .before .before .before .before .before .before .before .before .before .before .before .before .before .before .before .before
+    .before .before .before .before .before .before .before .before .before .before .before .before .before .before .before .before .before .before
+    .before .before .before .before .before in
+    omega (arith, c40 .pre .1 .1 .1)
 
-attach-struct-same-length-4 : (t : ℕ) → attach-struct-lts.Need-same-length-4 (struct-part-reads.Asked, struct-part-reads.Learnt, struct-fault-reads.Asked, struct-fault-reads.Learnt, put-head-reads.Asked, put-head-reads.Learnt, put-short-reads.Asked, put-short-reads.Learnt, attach-row-below t, attach-row.Post, refused-row-reads.Asked, refused-row-reads.Learnt, unchanged-reads.Asked, unchanged-reads.Learnt, put-position-reads.Asked, put-position-reads.Learnt) (attach-struct-at t) attach-struct.Post
+attach-struct-same-length-4 : (t : ℕ) → attach-struct-lts.Need-same-length-4 (attach-struct-claims t) (attach-struct-at t) attach-struct.Post
 attach-struct-same-length-4 t c = search needs
 
-attach-struct-same-length-5 : (t : ℕ) → attach-struct-lts.Need-same-length-5 (struct-part-reads.Asked, struct-part-reads.Learnt, struct-fault-reads.Asked, struct-fault-reads.Learnt, put-head-reads.Asked, put-head-reads.Learnt, put-short-reads.Asked, put-short-reads.Learnt, attach-row-below t, attach-row.Post, refused-row-reads.Asked, refused-row-reads.Learnt, unchanged-reads.Asked, unchanged-reads.Learnt, put-position-reads.Asked, put-position-reads.Learnt) (attach-struct-at t) attach-struct.Post
-attach-struct-same-length-5 t c = search needs
+attach-struct-same-length-5 : (t : ℕ) → attach-struct-lts.Need-same-length-5 (attach-struct-claims t) (attach-struct-at t) attach-struct.Post
+attach-struct-same-length-5 t c =
+    let c13 = c .before .before .before .before .before .before .before .before .before .before .before .before .before in let c30 =
+    c13 .before .before .before .before .before .before .before .before .before .before .before .before .before .before .before .before .before in
+    c13 .attach-row .kept .1 .1 .1 .1 .1 .1 .1 .0 ∙ c30 .struct-fault .kept .1 .1 .1 .1 .0
 
-attach-struct-returns-4 : (t : ℕ) → attach-struct-lts.Need-returns-4 (struct-part-reads.Asked, struct-part-reads.Learnt, struct-fault-reads.Asked, struct-fault-reads.Learnt, put-head-reads.Asked, put-head-reads.Learnt, put-short-reads.Asked, put-short-reads.Learnt, attach-row-below t, attach-row.Post, refused-row-reads.Asked, refused-row-reads.Learnt, unchanged-reads.Asked, unchanged-reads.Learnt, put-position-reads.Asked, put-position-reads.Learnt) (attach-struct-at t) attach-struct.Post
-attach-struct-returns-4 t c = λ from T P Q lt.
-    let a = c .before .before .before .before .before .before .before .before .before .before .before .before .before .before .before .before .before .before .before .before .before .before .before .before .before .before .before .before .before .before .before .before .before .before .before .before .before .before .args in
-    let S = part-struct (a .v) (a .depth) (now (a .incoming)) (a .c .at) (structPart (P .tree)) (P .end) (c .before .before .before .before .before .before .before .before .before .before .before .before .before .before .before .before .before .before .before .before .before .before .before .before .before .before .before .before .before .before .before .before .struct-part .ensures (a .v) (a .depth) P) (c .before .before .before .before .before .before .before .before .before .before .before .before .before .before .before .before .before .before .before .before .before .before .before .before .before .before .before .before .before .before .n .given .1) in
-    struct-left-out (a .v) (a .policy) (defaultsAt (a .defaults) T) (Q .columns) (a .position) (P .tree) (S .inner .columns) (S .is) (c .before .before .before .before .before .before .before .before .before .before .before .before .before .before .before .before .before .before .before .before .before .before .before .before .before .before .before .struct-fault .ensures (S .inner) Q) (c .before .before .before .before .before .before .before .before .before .before .before .before .before .before .before .before .before .before .before .before .before .before .before .before .if1 .left) _ _ from (count-at (S .inner)) (count-at Q) (c .before .before .before .before .before .before .before .row .given .1) _ _ _ (c .before .before .before .before .before .before .before .before .before .before .before .before .before .before .before .before .before .before .before .before .before .before .put-head .ensures) (c .before .before .before .before .before .before .before .before .before .before .before .before .before .before .before .before .before .before .put-short .ensures) (c .before .before .before .before .before .before .before .before .before .before .before .before .before .attach-row .ensures T (S .inner) Q) (c .before .before .before .before .before .unchanged .ensures) (c .before .before .before .before .if2 .taken)
-    (c .before .before .before .before .before .before .before .before .before .before .before .before .before .attach-row .kept .1 .1 .1 .1 .1 .1 .1 .1 .1 .1 .1 .0 ∙ c .before .before .before .before .before .before .before .before .before .before .before .before .before .before .before .before .before .before .put-short .kept .0 ∙ c .before .before .before .before .before .before .before .before .before .before .before .before .before .before .before .before .before .before .before .before .before .before .put-head .kept .0) (c .before .before .put-position .ensures) (omega (arith, lt, columns-within Q (c .before .before .before .before .before .before .before .before .before .before .before .before .before .before .before .before .before .before .before .before .before .before .before .before .before .before .before .before .before .before .before .before .before .before .before .before .before .before .pre .1 .1 .1 .2)))
+attach-struct-returns-4 : (t : ℕ) → attach-struct-lts.Need-returns-4 (attach-struct-claims t) (attach-struct-at t) attach-struct.Post
+attach-struct-returns-4 t c =
+    let c2 = c .before .before in let c4 = c2 .before .before in let c5 = c4 .before in let c7 = c5 .before .before in let c13 =
+    c7 .before .before .before .before .before .before in let c19 = c13 .before .before .before .before .before .before in let c24 =
+    c19 .before .before .before .before .before in let c27 = c24 .before .before .before in let c30 = c27 .before .before .before in let c35 =
+    c30 .before .before .before .before .before in let c37 = c35 .before .before in let c43 = c37 .before .before .before .before .before .before in
+    λ from T P Q lt.
+    let a = c43 .args in
+    let S = part-struct (a .build .incoming) (a .over .depth) (now (a .incoming)) (a .over .incoming .at) (structPart (P .tree)) (P .end)
+    (c37 .struct-part .ensures (a .build .incoming) (a .over .depth) P) (c35 .n .given .1) in
+    struct-left-out (a .build .matching) (a .build .policy) (defaultsAt (a .build .defaults) T) (Q .columns) (a .place .position) (P .tree)
+    (S .inner .columns) (S .is) (c30 .struct-fault .ensures (S .inner) Q) (c27 .if1 .left) _ _ from (count-at (S .inner)) (count-at Q)
+    (c7 .row .given .1) _ _ _ (c24 .put-head .ensures) (c19 .put-short .ensures) (c13 .attach-row .ensures T (S .inner) Q) (c5 .unchanged .ensures)
+    (c4 .if2 .taken)
+    (c13 .attach-row .kept .1 .1 .1 .1 .1 .0 ∙ c19 .put-short .kept .0 ∙ c24 .put-head .kept .0) (c2 .put-position .ensures) (omega (
+      arith,
+      lt,
+      columns-within Q (c43 .pre .1 .1 .1 .2),
+    ))
 
-attach-struct-add-t31 : (t : ℕ) → attach-struct-lts.Need-add-t31 (struct-part-reads.Asked, struct-part-reads.Learnt, struct-fault-reads.Asked, struct-fault-reads.Learnt, put-head-reads.Asked, put-head-reads.Learnt, put-short-reads.Asked, put-short-reads.Learnt, attach-row-below t, attach-row.Post, refused-row-reads.Asked, refused-row-reads.Learnt, unchanged-reads.Asked, unchanged-reads.Learnt, put-position-reads.Asked, put-position-reads.Learnt) (attach-struct-at t) attach-struct.Post
-attach-struct-add-t31 t c = let a = c .before .before .before .before .before .before .before .before .before .before .before .before .before .before .before .before .before .before .before .before .before .before .before .before .before .before .before .before .before .before .before .before .before .before .args in
-    let w = c .before .before .before .before .before .before .before .before .before .before .before .before .before .before .before .before .before .before .before .before .before .before .before .before .before .before .before .before .before .before .before .before .before .before .pre .1 in
+attach-struct-add-t29 : (t : ℕ) → attach-struct-lts.Need-add-t29 (attach-struct-claims t) (attach-struct-at t) attach-struct.Post
+attach-struct-add-t29 t c =
+    let c3 = c .before .before .before in let c9 = c3 .before .before .before .before .before .before in let c31 =
+    c9 .before .before .before .before .before .before .before .before .before .before .before .before .before .before .before .before .before .before
+    .before .before .before .before in let c33 = c31 .before .before in let c39 = c33 .before .before .before .before .before .before in
+    let a = c39 .args in
+    let w = c39 .pre .1 in
     let P = w .0 .0 in
-    let S = part-struct (a .v) (a .depth) (now (a .incoming)) (a .c .at) (structPart (P .tree)) (P .end) (c .before .before .before .before .before .before .before .before .before .before .before .before .before .before .before .before .before .before .before .before .before .before .before .before .before .before .before .before .struct-part .ensures (a .v) (a .depth) P) (c .before .before .before .before .before .before .before .before .before .before .before .before .before .before .before .before .before .before .before .before .before .before .before .before .before .before .n .given .1) in
-    omega (arith, row-room _ (c .before .before .before .before .before .before .before .before .before .attach-row .ensures (w .1 .0) (S .inner) (w .0 .1)) (c .before .before .before .row .given .1), columns-within (w .0 .1) (w .1 .1 .2), w .1 .1)
+    let S = part-struct (a .build .incoming) (a .over .depth) (now (a .incoming)) (a .over .incoming .at) (structPart (P .tree)) (P .end)
+    (c33 .struct-part .ensures (a .build .incoming) (a .over .depth) P) (c31 .n .given .1) in
+    omega (
+      arith,
+      row-room _ (c9 .attach-row .ensures (w .1 .0) (S .inner) (w .0 .1 .0)) (c3 .row .given .1),
+      columns-within (w .0 .1 .0) (w .1 .1 .2),
+      w .1 .1,
+    )
 
-attach-struct-same-length-6 : (t : ℕ) → attach-struct-lts.Need-same-length-6 (struct-part-reads.Asked, struct-part-reads.Learnt, struct-fault-reads.Asked, struct-fault-reads.Learnt, put-head-reads.Asked, put-head-reads.Learnt, put-short-reads.Asked, put-short-reads.Learnt, attach-row-below t, attach-row.Post, refused-row-reads.Asked, refused-row-reads.Learnt, unchanged-reads.Asked, unchanged-reads.Learnt, put-position-reads.Asked, put-position-reads.Learnt) (attach-struct-at t) attach-struct.Post
+attach-struct-same-length-6 : (t : ℕ) → attach-struct-lts.Need-same-length-6 (attach-struct-claims t) (attach-struct-at t) attach-struct.Post
 attach-struct-same-length-6 t c = search needs
 
-attach-struct-same-length-7 : (t : ℕ) → attach-struct-lts.Need-same-length-7 (struct-part-reads.Asked, struct-part-reads.Learnt, struct-fault-reads.Asked, struct-fault-reads.Learnt, put-head-reads.Asked, put-head-reads.Learnt, put-short-reads.Asked, put-short-reads.Learnt, attach-row-below t, attach-row.Post, refused-row-reads.Asked, refused-row-reads.Learnt, unchanged-reads.Asked, unchanged-reads.Learnt, put-position-reads.Asked, put-position-reads.Learnt) (attach-struct-at t) attach-struct.Post
+attach-struct-same-length-7 : (t : ℕ) → attach-struct-lts.Need-same-length-7 (attach-struct-claims t) (attach-struct-at t) attach-struct.Post
 attach-struct-same-length-7 t c = search needs
 
-attach-struct-returns-5 : (t : ℕ) → attach-struct-lts.Need-returns-5 (struct-part-reads.Asked, struct-part-reads.Learnt, struct-fault-reads.Asked, struct-fault-reads.Learnt, put-head-reads.Asked, put-head-reads.Learnt, put-short-reads.Asked, put-short-reads.Learnt, attach-row-below t, attach-row.Post, refused-row-reads.Asked, refused-row-reads.Learnt, unchanged-reads.Asked, unchanged-reads.Learnt, put-position-reads.Asked, put-position-reads.Learnt) (attach-struct-at t) attach-struct.Post
-attach-struct-returns-5 t c = λ from T P Q lt.
-    let a = c .before .before .before .before .before .before .before .before .before .before .before .before .before .before .before .before .before .before .before .before .before .before .before .before .before .before .before .before .before .before .before .before .before .before .args in
-    let S = part-struct (a .v) (a .depth) (now (a .incoming)) (a .c .at) (structPart (P .tree)) (P .end) (c .before .before .before .before .before .before .before .before .before .before .before .before .before .before .before .before .before .before .before .before .before .before .before .before .before .before .before .before .struct-part .ensures (a .v) (a .depth) P) (c .before .before .before .before .before .before .before .before .before .before .before .before .before .before .before .before .before .before .before .before .before .before .before .before .before .before .n .given .1) in
-    struct-kept (a .v) (a .policy) (defaultsAt (a .defaults) T) (Q .columns) (a .position) (P .tree) (S .inner .columns) (S .is) (c .before .before .before .before .before .before .before .before .before .before .before .before .before .before .before .before .before .before .before .before .before .before .before .struct-fault .ensures (S .inner) Q) (c .before .before .before .before .before .before .before .before .before .before .before .before .before .before .before .before .before .before .before .before .if1 .left) _ _ from (count-at (S .inner)) (count-at Q) (c .before .before .before .row .given .1) _ _ _ (c .before .before .before .before .before .before .before .before .before .before .before .before .before .before .before .before .before .before .put-head .ensures) (c .before .before .before .before .before .before .before .before .before .before .before .before .before .before .put-short .ensures) (c .before .before .before .before .before .before .before .before .before .attach-row .ensures T (S .inner) Q) (c .before .unchanged .ensures) (c .if2 .left)
-    (c .before .before .before .before .before .before .before .before .before .before .before .before .before .before .put-short .kept .0 ∙ c .before .before .before .before .before .before .before .before .before .before .before .before .before .before .before .before .before .before .put-head .kept .0) lt
+attach-struct-returns-5 : (t : ℕ) → attach-struct-lts.Need-returns-5 (attach-struct-claims t) (attach-struct-at t) attach-struct.Post
+attach-struct-returns-5 t c =
+    let c1 = c .before in let c3 = c1 .before .before in let c9 = c3 .before .before .before .before .before .before in let c15 =
+    c9 .before .before .before .before .before .before in let c20 = c15 .before .before .before .before .before in let c23 = c20 .before .before .before
+    in let c26 = c23 .before .before .before in let c31 = c26 .before .before .before .before .before in let c33 = c31 .before .before in let c39 =
+    c33 .before .before .before .before .before .before in
+    λ from T P Q lt.
+    let a = c39 .args in
+    let S = part-struct (a .build .incoming) (a .over .depth) (now (a .incoming)) (a .over .incoming .at) (structPart (P .tree)) (P .end)
+    (c33 .struct-part .ensures (a .build .incoming) (a .over .depth) P) (c31 .n .given .1) in
+    struct-kept (a .build .matching) (a .build .policy) (defaultsAt (a .build .defaults) T) (Q .columns) (a .place .position) (P .tree) (S .inner .columns)
+    (S .is) (c26 .struct-fault .ensures (S .inner) Q) (c23 .if1 .left) _ _ from (count-at (S .inner)) (count-at Q) (c3 .row .given .1) _ _ _
+    (c20 .put-head .ensures) (c15 .put-short .ensures) (c9 .attach-row .ensures T (S .inner) Q) (c1 .unchanged .ensures) (c .if2 .left)
+    (c15 .put-short .kept .0 ∙ c20 .put-head .kept .0) lt
 
-attach-transforms-head-requires : (t : ℕ) → attach-transforms-lts.Need-head-requires (head-reads.Asked, head-reads.Learnt, attach-leaf-reads.Asked, attach-leaf-reads.Learnt, attach-nested-below t, attach-nested.Post) (attach-transforms-at t) attach-transforms.Post
+attach-transforms-head-requires : (t : ℕ) → attach-transforms-lts.Need-head-requires (attach-transforms-claims t) (attach-transforms-at t)
+    attach-transforms.Post
 attach-transforms-head-requires t c κs = search needs
 
-attach-transforms-enum-known-u : (t : ℕ) → attach-transforms-lts.Need-enum-known-u (head-reads.Asked, head-reads.Learnt, attach-leaf-reads.Asked, attach-leaf-reads.Learnt, attach-nested-below t, attach-nested.Post) (attach-transforms-at t) attach-transforms.Post
+attach-transforms-enum-known-u : (t : ℕ) → attach-transforms-lts.Need-enum-known-u (attach-transforms-claims t) (attach-transforms-at t)
+    attach-transforms.Post
 attach-transforms-enum-known-u t c = search needs
 
-attach-transforms-attach-leaf-requires : (t : ℕ) → attach-transforms-lts.Need-attach-leaf-requires (head-reads.Asked, head-reads.Learnt, attach-leaf-reads.Asked, attach-leaf-reads.Learnt, attach-nested-below t, attach-nested.Post) (attach-transforms-at t) attach-transforms.Post
-attach-transforms-attach-leaf-requires t c κs = let w = c .before .before .before .before .before .before .before .before .before .before .pre .1 in
-    (w .0, ((w .1 .1 .0, w .1 .1 .2), (head-in _ (c .before .before .before .before .head .ensures .1) (c .before .before .u .given .1), λ Q. leaf-at Q (c .before .before .before .before .head .ensures .0) (c .before .before .u .given .1) .0)))
+attach-transforms-attach-leaf-requires : (t : ℕ) → attach-transforms-lts.Need-attach-leaf-requires (attach-transforms-claims t) (attach-transforms-at t)
+    attach-transforms.Post
+attach-transforms-attach-leaf-requires t c κs =
+    let c2 = c .before .before in let c4 = c2 .before .before in let c11 = c4 .before .before .before .before .before .before .before in
+    let w = c11 .pre .1 in
+    (w .0, ((w .1 .1 .0, w .1 .1 .2), (head-in _ (c4 .head .ensures .1) (c2 .u .given .1), λ Q. leaf-at Q (c4 .head .ensures .0) (c2 .u .given .1) .0)))
 
-attach-transforms-enum-told : (t : ℕ) → attach-transforms-lts.Need-enum-told (head-reads.Asked, head-reads.Learnt, attach-leaf-reads.Asked, attach-leaf-reads.Learnt, attach-nested-below t, attach-nested.Post) (attach-transforms-at t) attach-transforms.Post
+attach-transforms-enum-told : (t : ℕ) → attach-transforms-lts.Need-enum-told (attach-transforms-claims t) (attach-transforms-at t) attach-transforms.Post
 attach-transforms-enum-told t c = search needs
 
 attach-transforms-attach-nested-requires :
-    (t : ℕ) → attach-transforms-lts.Need-attach-nested-requires (
-      head-reads.Asked,
-      head-reads.Learnt,
-      attach-leaf-reads.Asked,
-      attach-leaf-reads.Learnt,
-      attach-nested-below t,
-      attach-nested.Post,
-    ) (attach-transforms-at t) attach-transforms.Post
+    (t : ℕ) → attach-transforms-lts.Need-attach-nested-requires (attach-transforms-claims t) (attach-transforms-at t) attach-transforms.Post
 attach-transforms-attach-nested-requires t c κs = search needs
 
-attach-transforms-enum-told-2 : (t : ℕ) → attach-transforms-lts.Need-enum-told-2 (head-reads.Asked, head-reads.Learnt, attach-leaf-reads.Asked, attach-leaf-reads.Learnt, attach-nested-below t, attach-nested.Post) (attach-transforms-at t) attach-transforms.Post
+attach-transforms-enum-told-2 : (t : ℕ) → attach-transforms-lts.Need-enum-told-2 (attach-transforms-claims t) (attach-transforms-at t) attach-transforms.Post
 attach-transforms-enum-told-2 t c = search needs
 
 attach-transforms-attach-nested-requires-2 :
-    (t : ℕ) → attach-transforms-lts.Need-attach-nested-requires-2 (
-      head-reads.Asked,
-      head-reads.Learnt,
-      attach-leaf-reads.Asked,
-      attach-leaf-reads.Learnt,
-      attach-nested-below t,
-      attach-nested.Post,
-    ) (attach-transforms-at t) attach-transforms.Post
+    (t : ℕ) → attach-transforms-lts.Need-attach-nested-requires-2 (attach-transforms-claims t) (attach-transforms-at t) attach-transforms.Post
 attach-transforms-attach-nested-requires-2 t c κs = search needs
 
-attach-transforms-enum-told-3 : (t : ℕ) → attach-transforms-lts.Need-enum-told-3 (head-reads.Asked, head-reads.Learnt, attach-leaf-reads.Asked, attach-leaf-reads.Learnt, attach-nested-below t, attach-nested.Post) (attach-transforms-at t) attach-transforms.Post
+attach-transforms-enum-told-3 : (t : ℕ) → attach-transforms-lts.Need-enum-told-3 (attach-transforms-claims t) (attach-transforms-at t) attach-transforms.Post
 attach-transforms-enum-told-3 t c = search needs
 
 attach-transforms-attach-nested-requires-3 :
-    (t : ℕ) → attach-transforms-lts.Need-attach-nested-requires-3 (
-      head-reads.Asked,
-      head-reads.Learnt,
-      attach-leaf-reads.Asked,
-      attach-leaf-reads.Learnt,
-      attach-nested-below t,
-      attach-nested.Post,
-    ) (attach-transforms-at t) attach-transforms.Post
+    (t : ℕ) → attach-transforms-lts.Need-attach-nested-requires-3 (attach-transforms-claims t) (attach-transforms-at t) attach-transforms.Post
 attach-transforms-attach-nested-requires-3 t c κs = search needs
 
-attach-transforms-enum-told-4 : (t : ℕ) → attach-transforms-lts.Need-enum-told-4 (head-reads.Asked, head-reads.Learnt, attach-leaf-reads.Asked, attach-leaf-reads.Learnt, attach-nested-below t, attach-nested.Post) (attach-transforms-at t) attach-transforms.Post
+attach-transforms-enum-told-4 : (t : ℕ) → attach-transforms-lts.Need-enum-told-4 (attach-transforms-claims t) (attach-transforms-at t) attach-transforms.Post
 attach-transforms-enum-told-4 t c = search needs
 
-attach-transforms-same-length : (t : ℕ) → attach-transforms-lts.Need-same-length (head-reads.Asked, head-reads.Learnt, attach-leaf-reads.Asked, attach-leaf-reads.Learnt, attach-nested-below t, attach-nested.Post) (attach-transforms-at t) attach-transforms.Post
+attach-transforms-same-length : (t : ℕ) → attach-transforms-lts.Need-same-length (attach-transforms-claims t) (attach-transforms-at t) attach-transforms.Post
 attach-transforms-same-length t c = search needs
 
-attach-transforms-returns : (t : ℕ) → attach-transforms-lts.Need-returns (head-reads.Asked, head-reads.Learnt, attach-leaf-reads.Asked, attach-leaf-reads.Learnt, attach-nested-below t, attach-nested.Post) (attach-transforms-at t) attach-transforms.Post
-attach-transforms-returns t c = λ T P Q. c .before .before .attach-leaf .ensures (defaultsAt (c .before .before .before .before .before .before .before .before .before .before .before .before .before .args .defaults) T) P Q
+attach-transforms-returns : (t : ℕ) → attach-transforms-lts.Need-returns (attach-transforms-claims t) (attach-transforms-at t) attach-transforms.Post
+attach-transforms-returns t c =
+    let c2 = c .before .before in let c14 = c2 .before .before .before .before .before .before .before .before .before .before .before .before in
+    λ T P Q. c2 .attach-leaf .ensures (defaultsAt (c14 .args .build .defaults) T) P Q
 
-attach-transforms-same-length-2 : (t : ℕ) → attach-transforms-lts.Need-same-length-2 (head-reads.Asked, head-reads.Learnt, attach-leaf-reads.Asked, attach-leaf-reads.Learnt, attach-nested-below t, attach-nested.Post) (attach-transforms-at t) attach-transforms.Post
+attach-transforms-same-length-2 : (t : ℕ) → attach-transforms-lts.Need-same-length-2 (attach-transforms-claims t) (attach-transforms-at t)
+    attach-transforms.Post
 attach-transforms-same-length-2 t c = search needs
 
-attach-transforms-same-length-3 : (t : ℕ) → attach-transforms-lts.Need-same-length-3 (head-reads.Asked, head-reads.Learnt, attach-leaf-reads.Asked, attach-leaf-reads.Learnt, attach-nested-below t, attach-nested.Post) (attach-transforms-at t) attach-transforms.Post
+attach-transforms-same-length-3 : (t : ℕ) → attach-transforms-lts.Need-same-length-3 (attach-transforms-claims t) (attach-transforms-at t)
+    attach-transforms.Post
 attach-transforms-same-length-3 t c = search needs
 
-attach-transforms-returns-2 : (t : ℕ) → attach-transforms-lts.Need-returns-2 (head-reads.Asked, head-reads.Learnt, attach-leaf-reads.Asked, attach-leaf-reads.Learnt, attach-nested-below t, attach-nested.Post) (attach-transforms-at t) attach-transforms.Post
-attach-transforms-returns-2 t c = λ T P Q.
-    let a = c .before .before .before .before .before .before .before .before .before .before .before .before .before .before .before .args in
-    makes-as _ _ _ _ _ _ (nested-is (a .v) (a .policy) (defaultsAt (a .defaults) T) (Q .tree) (a .position) (P .tree) (leaf-none Q _ (sym (c .before .before .before .before .before .before .before .before .before .head .ensures .0) ∙ ap (headRes _) (c .before .before .before .before .before .before .before .enum-told .given .1)) refl)) (c .before .before .before .before .attach-nested .ensures T P Q)
+attach-transforms-returns-2 : (t : ℕ) → attach-transforms-lts.Need-returns-2 (attach-transforms-claims t) (attach-transforms-at t) attach-transforms.Post
+attach-transforms-returns-2 t c =
+    let c4 = c .before .before .before .before in let c7 = c4 .before .before .before in let c9 = c7 .before .before in let c16 =
+    c9 .before .before .before .before .before .before .before in
+    λ T P Q.
+    let a = c16 .args in
+    makes-as _ _ _ _ _ _ (nested-is (a .build .matching) (a .build .policy) (defaultsAt (a .build .defaults) T) (Q .tree) (a .place .position) (P .tree)
+    (leaf-none Q _ (sym (c9 .head .ensures .0) ∙ ap (headRes _) (c7 .enum-told .given .1)) refl)) (c4 .attach-nested .ensures T P Q)
 
-attach-transforms-same-length-4 : (t : ℕ) → attach-transforms-lts.Need-same-length-4 (head-reads.Asked, head-reads.Learnt, attach-leaf-reads.Asked, attach-leaf-reads.Learnt, attach-nested-below t, attach-nested.Post) (attach-transforms-at t) attach-transforms.Post
+attach-transforms-same-length-4 : (t : ℕ) → attach-transforms-lts.Need-same-length-4 (attach-transforms-claims t) (attach-transforms-at t)
+    attach-transforms.Post
 attach-transforms-same-length-4 t c = search needs
 
-attach-transforms-same-length-5 : (t : ℕ) → attach-transforms-lts.Need-same-length-5 (head-reads.Asked, head-reads.Learnt, attach-leaf-reads.Asked, attach-leaf-reads.Learnt, attach-nested-below t, attach-nested.Post) (attach-transforms-at t) attach-transforms.Post
+attach-transforms-same-length-5 : (t : ℕ) → attach-transforms-lts.Need-same-length-5 (attach-transforms-claims t) (attach-transforms-at t)
+    attach-transforms.Post
 attach-transforms-same-length-5 t c = search needs
 
-attach-transforms-returns-3 : (t : ℕ) → attach-transforms-lts.Need-returns-3 (head-reads.Asked, head-reads.Learnt, attach-leaf-reads.Asked, attach-leaf-reads.Learnt, attach-nested-below t, attach-nested.Post) (attach-transforms-at t) attach-transforms.Post
-attach-transforms-returns-3 t c = λ T P Q.
-    let a = c .before .before .before .before .before .before .before .before .before .before .before .before .before .before .before .args in
-    makes-as _ _ _ _ _ _ (nested-is (a .v) (a .policy) (defaultsAt (a .defaults) T) (Q .tree) (a .position) (P .tree) (leaf-none Q _ (sym (c .before .before .before .before .before .before .before .before .before .head .ensures .0) ∙ ap (headRes _) (c .before .before .before .before .before .before .before .enum-told2 .given .1)) refl)) (c .before .before .before .before .attach-nested2 .ensures T P Q)
+attach-transforms-returns-3 : (t : ℕ) → attach-transforms-lts.Need-returns-3 (attach-transforms-claims t) (attach-transforms-at t) attach-transforms.Post
+attach-transforms-returns-3 t c =
+    let c4 = c .before .before .before .before in let c7 = c4 .before .before .before in let c9 = c7 .before .before in let c16 =
+    c9 .before .before .before .before .before .before .before in
+    λ T P Q.
+    let a = c16 .args in
+    makes-as _ _ _ _ _ _ (nested-is (a .build .matching) (a .build .policy) (defaultsAt (a .build .defaults) T) (Q .tree) (a .place .position) (P .tree)
+    (leaf-none Q _ (sym (c9 .head .ensures .0) ∙ ap (headRes _) (c7 .enum-told2 .given .1)) refl)) (c4 .attach-nested2 .ensures T P Q)
 
-attach-transforms-same-length-6 : (t : ℕ) → attach-transforms-lts.Need-same-length-6 (head-reads.Asked, head-reads.Learnt, attach-leaf-reads.Asked, attach-leaf-reads.Learnt, attach-nested-below t, attach-nested.Post) (attach-transforms-at t) attach-transforms.Post
+attach-transforms-same-length-6 : (t : ℕ) → attach-transforms-lts.Need-same-length-6 (attach-transforms-claims t) (attach-transforms-at t)
+    attach-transforms.Post
 attach-transforms-same-length-6 t c = search needs
 
-attach-transforms-same-length-7 : (t : ℕ) → attach-transforms-lts.Need-same-length-7 (head-reads.Asked, head-reads.Learnt, attach-leaf-reads.Asked, attach-leaf-reads.Learnt, attach-nested-below t, attach-nested.Post) (attach-transforms-at t) attach-transforms.Post
+attach-transforms-same-length-7 : (t : ℕ) → attach-transforms-lts.Need-same-length-7 (attach-transforms-claims t) (attach-transforms-at t)
+    attach-transforms.Post
 attach-transforms-same-length-7 t c = search needs
 
-attach-transforms-returns-4 : (t : ℕ) → attach-transforms-lts.Need-returns-4 (head-reads.Asked, head-reads.Learnt, attach-leaf-reads.Asked, attach-leaf-reads.Learnt, attach-nested-below t, attach-nested.Post) (attach-transforms-at t) attach-transforms.Post
-attach-transforms-returns-4 t c = λ T P Q.
-    let a = c .before .before .before .before .before .before .before .before .before .before .before .before .before .before .before .args in
-    makes-as _ _ _ _ _ _ (nested-is (a .v) (a .policy) (defaultsAt (a .defaults) T) (Q .tree) (a .position) (P .tree) (leaf-none Q _ (sym (c .before .before .before .before .before .before .before .before .before .head .ensures .0) ∙ ap (headRes _) (c .before .before .before .before .before .before .before .enum-told3 .given .1)) refl)) (c .before .before .before .before .attach-nested3 .ensures T P Q)
+attach-transforms-returns-4 : (t : ℕ) → attach-transforms-lts.Need-returns-4 (attach-transforms-claims t) (attach-transforms-at t) attach-transforms.Post
+attach-transforms-returns-4 t c =
+    let c4 = c .before .before .before .before in let c7 = c4 .before .before .before in let c9 = c7 .before .before in let c16 =
+    c9 .before .before .before .before .before .before .before in
+    λ T P Q.
+    let a = c16 .args in
+    makes-as _ _ _ _ _ _ (nested-is (a .build .matching) (a .build .policy) (defaultsAt (a .build .defaults) T) (Q .tree) (a .place .position) (P .tree)
+    (leaf-none Q _ (sym (c9 .head .ensures .0) ∙ ap (headRes _) (c7 .enum-told3 .given .1)) refl)) (c4 .attach-nested3 .ensures T P Q)
 
-attach-transforms-returns-5 : (t : ℕ) → attach-transforms-lts.Need-returns-5 (head-reads.Asked, head-reads.Learnt, attach-leaf-reads.Asked, attach-leaf-reads.Learnt, attach-nested-below t, attach-nested.Post) (attach-transforms-at t) attach-transforms.Post
+attach-transforms-returns-5 : (t : ℕ) → attach-transforms-lts.Need-returns-5 (attach-transforms-claims t) (attach-transforms-at t) attach-transforms.Post
 attach-transforms-returns-5 t c = λ T P Q. never-headless Q (c .before .before .head .ensures .0) (c .enum-told4 .given .1)
 
 pub +attach-element+attach-field+attach-fields+attach-inner+attach-nested+attach-renamed+attach-row+attach-struct+attach-transforms-spec :
@@ -992,28 +1520,13 @@ pub +attach-element+attach-field+attach-fields+attach-inner+attach-nested+attach
     μ-attach-row
     μ-attach-struct
     μ-attach-transforms
-    (λ t. attach-element-lts.spec (
-      same-element-reads.Asked,
-      same-element-reads.Learnt,
-      put-head-reads.Asked,
-      put-head-reads.Learnt,
-      attach-renamed-below t,
-      attach-renamed.Post,
-      is-refused-reads.Asked,
-      is-refused-reads.Learnt,
-      is-bare-reads.Asked,
-      is-bare-reads.Learnt,
-      put-position-reads.Asked,
-      put-position-reads.Learnt,
-      len-of-reads.Asked,
-      len-of-reads.Learnt,
-    )
+    (λ t. attach-element-lts.spec (attach-element-claims t)
     (attach-element-at t)
     attach-element.Post
     (attach-element-same-element-requires t)
     (attach-element-returns t)
     (attach-element-put-head-requires t)
-    (attach-element-add-attach-renamed t)
+    (attach-element-add-t25 t)
     (attach-element-attach-renamed-requires t)
     (attach-element-is-refused-requires t)
     (attach-element-same-length t)
@@ -1025,16 +1538,11 @@ pub +attach-element+attach-field+attach-fields+attach-inner+attach-nested+attach
     (attach-element-same-length-4 t)
     (attach-element-returns-3 t)
     (attach-element-len-of-requires t)
-    (attach-element-add-t38 t)
+    (attach-element-add-t35 t)
     (attach-element-same-length-5 t)
     (attach-element-same-length-6 t)
     (attach-element-returns-4 t))
-    (λ t. attach-field-lts.spec (
-      attach-renamed-below t,
-      attach-renamed.Post,
-      put-missing-reads.Asked,
-      put-missing-reads.Learnt,
-    )
+    (λ t. attach-field-lts.spec (attach-field-claims t)
     (attach-field-at t)
     attach-field.Post
     (attach-field-enum-known-found t)
@@ -1046,28 +1554,7 @@ pub +attach-element+attach-field+attach-fields+attach-inner+attach-nested+attach
     (attach-field-returns t)
     (attach-field-same-length-3 t)
     (attach-field-returns-2 t))
-    (λ t. attach-fields-lts.spec (
-      inserts-reads.Asked,
-      inserts-reads.Learnt,
-      label-reads.Asked,
-      label-reads.Learnt,
-      find-in-reads.Asked,
-      find-in-reads.Learnt,
-      attach-field-below t,
-      attach-field.Post,
-      is-refused-reads.Asked,
-      is-refused-reads.Learnt,
-      failed-reads.Asked,
-      failed-reads.Learnt,
-      is-bare-reads.Asked,
-      is-bare-reads.Learnt,
-      both-reads.Asked,
-      both-reads.Learnt,
-      len-of-reads.Asked,
-      len-of-reads.Learnt,
-      skip-type-reads.Asked,
-      skip-type-reads.Learnt,
-    )
+    (λ t. attach-fields-lts.spec (attach-fields-claims t)
     (attach-fields-at t)
     attach-fields.Post
     attach-fields-Inv-loop
@@ -1101,20 +1588,11 @@ pub +attach-element+attach-field+attach-fields+attach-inner+attach-nested+attach
     (attach-fields-add-index t)
     (attach-fields-loop-less t)
     (attach-fields-loop-again t)
-    (attach-fields-sub-t41 t)
+    (attach-fields-sub-t44 t)
     (attach-fields-same-length-5 t)
     (attach-fields-same-length-6 t)
     (attach-fields-returns-3 t))
-    (λ t. attach-inner-lts.spec (
-      element-part-reads.Asked,
-      element-part-reads.Learnt,
-      list-part-reads.Asked,
-      list-part-reads.Learnt,
-      attach-element-below t,
-      attach-element.Post,
-      array-part-reads.Asked,
-      array-part-reads.Learnt,
-    )
+    (λ t. attach-inner-lts.spec (attach-inner-claims t)
     (attach-inner-at t)
     attach-inner.Post
     (attach-inner-element-part-requires t)
@@ -1123,14 +1601,14 @@ pub +attach-element+attach-field+attach-fields+attach-inner+attach-nested+attach
     (attach-inner-enum-known-m t)
     (attach-inner-enum-told t)
     (attach-inner-returns t)
-    (attach-inner-sub-attach-element t)
+    (attach-inner-sub-t25 t)
     (attach-inner-attach-element-requires t)
-    (attach-inner-enum-known-w t)
+    (attach-inner-enum-known-width t)
     (attach-inner-array-part-requires t)
     (attach-inner-enum-known-m-2 t)
     (attach-inner-enum-told-2 t)
     (attach-inner-returns-2 t)
-    (attach-inner-sub-attach-element-2 t)
+    (attach-inner-sub-t33 t)
     (attach-inner-attach-element-requires-2 t)
     (attach-inner-enum-told-3 t)
     (attach-inner-same-length t)
@@ -1140,18 +1618,7 @@ pub +attach-element+attach-field+attach-fields+attach-inner+attach-nested+attach
     (attach-inner-same-length-4 t)
     (attach-inner-returns-4 t)
     (attach-inner-returns-5 t))
-    (λ t. attach-nested-lts.spec (
-      is-null-incoming-reads.Asked,
-      is-null-incoming-reads.Learnt,
-      put-null-cast-reads.Asked,
-      put-null-cast-reads.Learnt,
-      struct-part-reads.Asked,
-      struct-part-reads.Learnt,
-      attach-struct-below t,
-      attach-struct.Post,
-      attach-inner-below t,
-      attach-inner.Post,
-    )
+    (λ t. attach-nested-lts.spec (attach-nested-claims t)
     (attach-nested-at t)
     attach-nested.Post
     (attach-nested-is-null-incoming-requires t)
@@ -1159,7 +1626,7 @@ pub +attach-element+attach-field+attach-fields+attach-inner+attach-nested+attach
     (attach-nested-same-length t)
     (attach-nested-returns t)
     (attach-nested-struct-part-requires t)
-    (attach-nested-enum-known-m t)
+    (attach-nested-enum-known-count t)
     (attach-nested-attach-struct-requires t)
     (attach-nested-enum-told t)
     (attach-nested-attach-inner-requires t)
@@ -1169,49 +1636,33 @@ pub +attach-element+attach-field+attach-fields+attach-inner+attach-nested+attach
     (attach-nested-same-length-4 t)
     (attach-nested-same-length-5 t)
     (attach-nested-returns-3 t))
-    (λ t. attach-renamed-lts.spec (
-      needs-rename-reads.Asked,
-      needs-rename-reads.Learnt,
-      attach-transforms-below t,
-      attach-transforms.Post,
-      put-reads.Asked,
-      put-reads.Learnt,
-      is-refused-reads.Asked,
-      is-refused-reads.Learnt,
-      len-of-reads.Asked,
-      len-of-reads.Learnt,
-      write-text-reads.Asked,
-      write-text-reads.Learnt,
-    )
+    (λ t. attach-renamed-lts.spec (attach-renamed-claims t)
     (attach-renamed-at t)
     attach-renamed.Post
+    (attach-renamed-keeps-required-requires t)
+    (attach-renamed-returns t)
     (attach-renamed-needs-rename-requires t)
     (attach-renamed-attach-transforms-requires t)
     (attach-renamed-same-length t)
     (attach-renamed-same-length-2 t)
-    (attach-renamed-returns t)
+    (attach-renamed-returns-2 t)
     (attach-renamed-put-requires t)
-    (attach-renamed-add-attach-transforms t)
+    (attach-renamed-add-write-text t)
     (attach-renamed-attach-transforms-requires-2 t)
     (attach-renamed-is-refused-requires t)
     (attach-renamed-same-length-3 t)
     (attach-renamed-same-length-4 t)
-    (attach-renamed-returns-2 t)
+    (attach-renamed-returns-3 t)
     (attach-renamed-len-of-requires t)
-    (attach-renamed-add-write-text t)
     (attach-renamed-add-write-text-2 t)
+    (attach-renamed-add-write-text-3 t)
     (attach-renamed-write-text-requires t)
     (attach-renamed-add-t31 t)
-    (attach-renamed-add-t37 t)
+    (attach-renamed-add-t39 t)
     (attach-renamed-same-length-5 t)
     (attach-renamed-same-length-6 t)
-    (attach-renamed-returns-3 t))
-    (λ t. attach-row-lts.spec (
-      fill-in-reads.Asked,
-      fill-in-reads.Learnt,
-      attach-fields-below t,
-      attach-fields.Post,
-    )
+    (attach-renamed-returns-4 t))
+    (λ t. attach-row-lts.spec (attach-row-claims t)
     (attach-row-at t)
     attach-row.Post
     (attach-row-fill-in-requires t)
@@ -1219,38 +1670,20 @@ pub +attach-element+attach-field+attach-fields+attach-inner+attach-nested+attach
     (attach-row-same-length t)
     (attach-row-same-length-2 t)
     (attach-row-returns t))
-    (λ t. attach-struct-lts.spec (
-      struct-part-reads.Asked,
-      struct-part-reads.Learnt,
-      struct-fault-reads.Asked,
-      struct-fault-reads.Learnt,
-      put-head-reads.Asked,
-      put-head-reads.Learnt,
-      put-short-reads.Asked,
-      put-short-reads.Learnt,
-      attach-row-below t,
-      attach-row.Post,
-      refused-row-reads.Asked,
-      refused-row-reads.Learnt,
-      unchanged-reads.Asked,
-      unchanged-reads.Learnt,
-      put-position-reads.Asked,
-      put-position-reads.Learnt,
-    )
+    (λ t. attach-struct-lts.spec (attach-struct-claims t)
     (attach-struct-at t)
     attach-struct.Post
     (attach-struct-struct-part-requires t)
     (attach-struct-enum-known-n t)
     (attach-struct-enum-told t)
     (attach-struct-returns t)
-    (attach-struct-sub-struct-fault t)
+    (attach-struct-sub-t19 t)
     (attach-struct-struct-fault-requires t)
     (attach-struct-same-length t)
     (attach-struct-returns-2 t)
     (attach-struct-put-head-requires t)
     (attach-struct-add-put-short t)
     (attach-struct-put-short-requires t)
-    (attach-struct-sub-attach-row t)
     (attach-struct-add-attach-row t)
     (attach-struct-attach-row-requires t)
     (attach-struct-enum-known-row t)
@@ -1264,18 +1697,11 @@ pub +attach-element+attach-field+attach-fields+attach-inner+attach-nested+attach
     (attach-struct-same-length-4 t)
     (attach-struct-same-length-5 t)
     (attach-struct-returns-4 t)
-    (attach-struct-add-t31 t)
+    (attach-struct-add-t29 t)
     (attach-struct-same-length-6 t)
     (attach-struct-same-length-7 t)
     (attach-struct-returns-5 t))
-    λ t. attach-transforms-lts.spec (
-      head-reads.Asked,
-      head-reads.Learnt,
-      attach-leaf-reads.Asked,
-      attach-leaf-reads.Learnt,
-      attach-nested-below t,
-      attach-nested.Post,
-    )
+    λ t. attach-transforms-lts.spec (attach-transforms-claims t)
     (attach-transforms-at t)
     attach-transforms.Post
     (attach-transforms-head-requires t)
