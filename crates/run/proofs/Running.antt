@@ -168,7 +168,7 @@ plan-of {count = count} P = record { count = count; selectors = P .selectors; st
 -- ---- the check
 
 -- what passes the check with 55 passes the check of types
-marked-checked : (Γ Δ : Columns) (ss : Selectors) → checkMarked Γ Δ ss ≡ accepted tt → check (fieldsOf Γ) (fieldsOf Δ) ss ≡ accepted tt
+pub marked-checked : (Γ Δ : Columns) (ss : Selectors) → checkMarked Γ Δ ss ≡ accepted tt → check (fieldsOf Γ) (fieldsOf Δ) ss ≡ accepted tt
 unfolding checkMarked
 marked-checked Γ Δ ss e = let (u, p, q) = answered-accepted _ _ e in p
 
