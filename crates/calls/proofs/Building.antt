@@ -18,7 +18,8 @@ use Rattle.layout.specs.declared.columns.Label.{Label as LabelSpan}
 use Rattle.layout.specs.declared.columns.Labelled.{Labelled}
 use Rattle.layout.specs.declared.columns.Siblings.the-variants.{Free}
 use Rattle.layout.specs.declared.cursor.Cursor.{Cursor}
-use Rattle.layout.specs.declared.version.Version.{Version}
+use Rattle.layout.specs.declared.edition.Edition.{Edition}
+use Rattle.layout.specs.declared.matching.Matching.{Matching}
 use Rattle.layout.proofs.Ways.{label-in}
 use Rattle.layout.proofs.View.{label-got, same-columns, no-column, FirstAt, first-at, first-labelled}
 use Rattle.forms.specs.Form.{textBytes}
@@ -94,18 +95,18 @@ join-failed n i (Made.Built l) = refl
 
 -- ---- the loop: after i of m columns, what is still to be done
 
-pub record Building (p : Policy) (d : Defaults) (fs : Columns) (v : Version) (s : Bytes) (m from : ℕ) (out₀ : Bytes) (k : ℕ) (out : Bytes) (at to i : ℕ) : Type 0 where
+pub record Building (p : Policy) (d : Defaults) (fs : Columns) (how : Matching) (v : Edition) (s : Bytes) (m from : ℕ) (out₀ : Bytes) (k : ℕ) (out : Bytes) (at to i : ℕ) : Type 0 where
   pub within : i ≤ m
   pub room : to ≤ 65536 * at
   pub over : k ≤ to
   pub kept : length out ≡ length out₀
   pub rest : ColumnsAt v deepest s (m - i) at
   pub ends : (Q : ColumnsAt v deepest s m from) → rest .end ≡ Q .end
-  pub answer : (Q : ColumnsAt v deepest s m from) → columnsMade (buildFrom v p d (Q .columns) fs 0) ≡ joinColumns (to - k) (columnsMade (buildFrom v p d (rest .columns) fs i))
-  pub stores : (Q : ColumnsAt v deepest s m from) (o : Bytes) → WroteColumns at (rest .end) out to (buildFrom v p d (rest .columns) fs i) o → WroteColumns from (Q .end) out₀ k (buildFrom v p d (Q .columns) fs 0) o
+  pub answer : (Q : ColumnsAt v deepest s m from) → columnsMade (buildFrom how p d (Q .columns) fs 0) ≡ joinColumns (to - k) (columnsMade (buildFrom how p d (rest .columns) fs i))
+  pub stores : (Q : ColumnsAt v deepest s m from) (o : Bytes) → WroteColumns at (rest .end) out to (buildFrom how p d (rest .columns) fs i) o → WroteColumns from (Q .end) out₀ k (buildFrom how p d (Q .columns) fs 0) o
 
-module _ (p : Policy) (d : Defaults) (fs : Columns) {v : Version} {s : Bytes} {m from : ℕ} {out₀ : Bytes} {k : ℕ} where
-  pub building-none : ColumnsAt v deepest s m from → k ≤ 65536 * from → Building p d fs v s m from out₀ k out₀ from k 0
+module _ (p : Policy) (d : Defaults) (fs : Columns) (how : Matching) {v : Edition} {s : Bytes} {m from : ℕ} {out₀ : Bytes} {k : ℕ} where
+  pub building-none : ColumnsAt v deepest s m from → k ≤ 65536 * from → Building p d fs how v s m from out₀ k out₀ from k 0
   building-none P h =
       let e : m ≡ m - 0 = omega arith in
       record {
@@ -115,21 +116,21 @@ module _ (p : Policy) (d : Defaults) (fs : Columns) {v : Version} {s : Bytes} {m
         kept = refl;
         rest = record { columns = P .columns; end = P .end; reads = ap (λ (j : ℕ). columns v Free (type v Free deepest) j [] s from) (sym e) ∙ P .reads };
         ends = λ Q. same-columns P Q .1;
-        answer = λ Q. ap (λ (cs : Columns). columnsMade (buildFrom v p d cs fs 0)) (same-columns Q P .0) ∙ join-none _ (omega arith);
-        stores = λ Q o w. let (a, b) = same-columns P Q in subst (λ (cs : Columns). WroteColumns from (Q .end) out₀ k (buildFrom v p d cs fs 0) o) a (subst (λ (x : ℕ). WroteColumns from x out₀ k (buildFrom v p d (P .columns) fs 0) o) b w);
+        answer = λ Q. ap (λ (cs : Columns). columnsMade (buildFrom how p d cs fs 0)) (same-columns Q P .0) ∙ join-none _ (omega arith);
+        stores = λ Q o w. let (a, b) = same-columns P Q in subst (λ (cs : Columns). WroteColumns from (Q .end) out₀ k (buildFrom how p d cs fs 0) o) a (subst (λ (x : ℕ). WroteColumns from x out₀ k (buildFrom how p d (P .columns) fs 0) o) b w);
       }
 
-module _ {p : Policy} {d : Defaults} {fs : Columns} {v : Version} {s : Bytes} {m from : ℕ} {out₀ : Bytes} {k : ℕ} {out : Bytes} {at to i : ℕ} (W : Building p d fs v s m from out₀ k out at to i) where
+module _ {p : Policy} {d : Defaults} {fs : Columns} {how : Matching} {v : Edition} {s : Bytes} {m from : ℕ} {out₀ : Bytes} {k : ℕ} {out : Bytes} {at to i : ℕ} (W : Building p d fs how v s m from out₀ k out at to i) where
   -- no column is left
-  pub building-all : m ≤ i → (Q : ColumnsAt v deepest s m from) → MakesColumns from (Q .end) out₀ k (buildFrom v p d (Q .columns) fs 0) (ColumnsMade.Done (to - k)) out
+  pub building-all : m ≤ i → (Q : ColumnsAt v deepest s m from) → MakesColumns from (Q .end) out₀ k (buildFrom how p d (Q .columns) fs 0) (ColumnsMade.Done (to - k)) out
   unfolding buildFrom columnsMade WroteColumns encodeSelectors overlay
   building-all h Q =
       let (z, q) = no-column (W .rest) (let y : m - i ≡ 0 = omega arith in y) in
-      let here : columnsMade (buildFrom v p d (W .rest .columns) fs i) ≡ ColumnsMade.Done 0 = ap (λ (cs : Columns). columnsMade (buildFrom v p d cs fs i)) z in
-      let none : WroteColumns at (W .rest .end) out to (buildFrom v p d cnil fs i) out = (holds-exact out to [] refl, omega arith) in
+      let here : columnsMade (buildFrom how p d (W .rest .columns) fs i) ≡ ColumnsMade.Done 0 = ap (λ (cs : Columns). columnsMade (buildFrom how p d cs fs i)) z in
+      let none : WroteColumns at (W .rest .end) out to (buildFrom how p d cnil fs i) out = (holds-exact out to [] refl, omega arith) in
       record {
         answer = sym (W .answer Q ∙ ap (joinColumns (to - k)) here ∙ ap ColumnsMade.Done (add-zero (to - k)));
-        wrote = W .stores Q out (subst (λ (cs : Columns). WroteColumns at (W .rest .end) out to (buildFrom v p d cs fs i) out) (sym z) none);
+        wrote = W .stores Q out (subst (λ (cs : Columns). WroteColumns at (W .rest .end) out to (buildFrom how p d cs fs i) out) (sym z) none);
       }
 
   -- a column that stands there has a label
@@ -157,27 +158,27 @@ module _ {p : Policy} {d : Defaults} {fs : Columns} {v : Version} {s : Bytes} {m
     column-room = let r = W .room in let a = column-after in omega arith
 
     abbrev here : Result Selector
-    here = buildColumnSelector v p d (labelAt s l) (column .head .tree) fs
+    here = buildColumnSelector how p d (labelAt s l) (column .head .tree) fs
 
     abbrev others : Answer Selectors
-    others = buildFrom v p d (column .tail .columns) fs (i + 1)
+    others = buildFrom how p d (column .tail .columns) fs (i + 1)
 
-    split : buildFrom v p d (W .rest .columns) fs i ≡ beforeColumns i here others
+    split : buildFrom how p d (W .rest .columns) fs i ≡ beforeColumns i here others
     unfolding buildFrom
-    split = ap (λ (cs : Columns). buildFrom v p d cs fs i) (column .is)
+    split = ap (λ (cs : Columns). buildFrom how p d cs fs i) (column .is)
 
     -- what the field matcher made is the column's selector
     pub column-made : {insert : Bool} (r : Made) (o : Bytes) → insert ≡ inserts (p .«missing_columns»)
-        → Makes at (column .head .end) out to (attachField v p d insert 11 (labelAt s l) (column .head .tree) fs) r o → Makes at (column .head .end) out to here r o
+        → Makes at (column .head .end) out to (attachField how p d insert 11 (labelAt s l) (column .head .tree) fs) r o → Makes at (column .head .end) out to here r o
     unfolding buildColumnSelector
-    column-made r o h A = subst (λ (x : Bool). Makes at (column .head .end) out to (attachField v p d x 11 (labelAt s l) (column .head .tree) fs) r o) h A
+    column-made r o h A = subst (λ (x : Bool). Makes at (column .head .end) out to (attachField how p d x 11 (labelAt s l) (column .head .tree) fs) r o) h A
 
     module _ {r : Made} {o : Bytes} (A : Makes at (column .head .end) out to here r o) where
       pub building-stop : {x : Bool} {y : ColumnsMade} → x ≡ isRefused r → x ≡ true → y ≡ failedColumn i r → (Q : ColumnsAt v deepest s m from)
-          → MakesColumns from (Q .end) out₀ k (buildFrom v p d (Q .columns) fs 0) y o
+          → MakesColumns from (Q .end) out₀ k (buildFrom how p d (Q .columns) fs 0) y o
       building-stop g h u Q =
           let z = sym g ∙ h in
-          let is : columnsMade (buildFrom v p d (W .rest .columns) fs i) ≡ failedColumn i r = ap columnsMade split ∙ sym (columns-stop i here others A z) in
+          let is : columnsMade (buildFrom how p d (W .rest .columns) fs i) ≡ failedColumn i r = ap columnsMade split ∙ sym (columns-stop i here others A z) in
           record {
             answer = u ∙ sym (W .answer Q ∙ ap (joinColumns (to - k)) is ∙ join-failed (to - k) i r);
             wrote = W .stores Q o (subst (λ (g : Answer Selectors). WroteColumns at (W .rest .end) out to g o) (sym split) (columns-wrote-stopped i here others at (W .rest .end) out to o A z));
@@ -189,7 +190,7 @@ module _ {p : Policy} {d : Defaults} {fs : Columns} {v : Version} {s : Bytes} {m
         column-fits u = let a = makes-room here A (sym g ∙ h) in let b = W .room in let (x, y) = extent (column .head) in omega arith
 
         pub building-more : {a : Cursor} {n : ℕ} → ((Q : TypeAt v deepest s (c .at)) → a .at ≡ Q .end) → n ≡ lenOf r → length o ≡ length out
-            → Building p d fs v s m from out₀ k o (a .at) (to + n) (i + 1)
+            → Building p d fs how v s m from out₀ k o (a .at) (to + n) (i + 1)
         building-more {a} {n} skip u len =
             let z = sym g ∙ h in
             let E : a .at ≡ column .head .end = skip (column .head) in
@@ -198,7 +199,7 @@ module _ {p : Policy} {d : Defaults} {fs : Columns} {v : Version} {s : Bytes} {m
             let ov = W .over in
             let less : m - i - 1 ≡ m - (i + 1) = omega arith in
             let dist : to - k + n ≡ to + n - k = omega arith in
-            let is : columnsMade (buildFrom v p d (W .rest .columns) fs i) ≡ joinColumns n (columnsMade others) =
+            let is : columnsMade (buildFrom how p d (W .rest .columns) fs i) ≡ joinColumns n (columnsMade others) =
             ap columnsMade split ∙ columns-more i here others A z ∙ ap (λ (w : ℕ). joinColumns w (columnsMade others)) (sym u) in
             record {
               within = omega arith;
@@ -215,7 +216,7 @@ module _ {p : Policy} {d : Defaults} {fs : Columns} {v : Version} {s : Bytes} {m
             tail-reads less E = rw (← less, E) (column .tail .reads)
 
             whole : (o′ : Bytes) {y n : ℕ} → y ≡ column .head .end → n ≡ lenOf r → WroteColumns y (column .tail .end) o (to + n) others o′
-                → WroteColumns at (W .rest .end) out to (buildFrom v p d (W .rest .columns) fs i) o′
+                → WroteColumns at (W .rest .end) out to (buildFrom how p d (W .rest .columns) fs i) o′
             whole o′ {y} {n} E u w =
                 let w₁ : WroteColumns (column .head .end) (column .tail .end) o (to + lenOf r) others o′ =
                 subst (λ (j : ℕ). WroteColumns (column .head .end) (column .tail .end) o (to + j) others o′) u (subst (λ (j : ℕ). WroteColumns j (column .tail .end) o (to + n) others o′) E w) in

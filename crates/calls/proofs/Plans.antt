@@ -21,8 +21,9 @@ use Rattle.layout.specs.Stands.{ColumnsAt, LayoutAt}
 use Rattle.layout.specs.declared.columns.Siblings.the-variants.{Free}
 use Rattle.layout.specs.declared.cursor.Cursor.{Cursor}
 use Rattle.layout.specs.declared.read.LayoutRead.{LayoutRead}
-use Rattle.layout.specs.declared.version.Version.{Version}
-use Rattle.layout.specs.declared.version.Version.the-variants.{ByName, ByNumber}
+use Rattle.layout.specs.declared.edition.Edition.{Edition}
+use Rattle.layout.specs.declared.matching.Matching.{Matching}
+use Rattle.layout.specs.declared.matching.Matching.the-variants.{ByName, ByNumber}
 use Rattle.layout.proofs.Ways.{clash}
 use Rattle.layout.proofs.Top.{columns-count}
 use Rattle.layout.proofs.View.{next-ok, no-column}
@@ -45,19 +46,19 @@ use Rattle.plan.specs.Read.{longestPlan}
 use Rattle.matching.specs.Default.{Defaults, noDefaults}
 use Rattle.matching.specs.Build.{extraColumns, buildFrom, build}
 use Rattle.plan.specs.Calls.{readAt, writeResult, bufferAfter}
-use Rattle.matching.specs.Calls.{sameVersion, ofVersion, bothLayouts, roomFor, writtenPlan, buildByName, buildByNumber}
-use Rattle.matching.proofs.Calls.{of-version}
+use Rattle.matching.specs.Calls.{takes, ofEdition, bothLayouts, roomFor, writtenPlan, buildByName, buildByNumber}
 use Rattle.calls.specs.Answers.{BothAt, BothIs, extraAnswer, columnsMade, WroteColumns, MakesColumns, planHead, written, LongerThan, Attempted}
 use Rattle.calls.specs.declared.write.Attempt.{Attempt}
 use Rattle.plan.specs.declared.answer.WriteResult.{WriteResult}
 use Rattle.calls.specs.declared.layouts.BothRead.{BothRead}
 use Rattle.calls.specs.declared.columns.ColumnsMade.{ColumnsMade}
+use Rattle.calls.specs.declared.layouts.Both.{Both}
 use Rattle.calls.specs.declared.extra.ExtraColumn.{ExtraColumn}
 
 -- ---- the two layouts
 
 -- 1 to 6 of the first, of the second, then 10
-module _ (v : Version) (incoming target : Bytes) (f : Columns → Columns → Answer Bytes) where
+module _ (v : Matching) (incoming target : Bytes) (f : Columns → Columns → Answer Bytes) where
   pub first-refused : {k : ℕ} → layout incoming ≡ refuse k → bothLayouts v incoming target f ≡ refusedAt k 1
   unfolding bothLayouts readAt
   first-refused h = rw h
@@ -67,70 +68,64 @@ module _ (v : Version) (incoming target : Bytes) (f : Columns → Columns → An
     unfolding bothLayouts readAt
     second-refused g = rw (h, g)
 
-    both-tested : {b : Layout} {n : ℕ} {t : Bool} → layout target ≡ ok b n → (sameVersion v (a .version) && sameVersion v (b .version)) ≡ t
+    both-tested : {b : Layout} {n : ℕ} {t : Bool} → layout target ≡ ok b n → (takes v (a .edition) && takes v (b .edition)) ≡ t
         → bothLayouts v incoming target f ≡ placed 0 (demand t 10 (gives (tt {0}))) (λ x. f (a .columns) (b .columns))
-    unfolding bothLayouts readAt ofVersion
+    unfolding bothLayouts readAt ofEdition
     both-tested g q = rw (h, g, q)
 
-    pub versions-differ : {b : Layout} {n : ℕ} → layout target ≡ ok b n → (sameVersion v (a .version) && sameVersion v (b .version)) ≡ false → bothLayouts v incoming target f ≡ refusedAt 10 0
+    pub editions-refused : {b : Layout} {n : ℕ} → layout target ≡ ok b n → (takes v (a .edition) && takes v (b .edition)) ≡ false → bothLayouts v incoming target f ≡ refusedAt 10 0
     unfolding placed demand
-    versions-differ g q = both-tested g q
+    editions-refused g q = both-tested g q
 
-    pub versions-same : {b : Layout} {n : ℕ} → layout target ≡ ok b n → (sameVersion v (a .version) && sameVersion v (b .version)) ≡ true → bothLayouts v incoming target f ≡ f (a .columns) (b .columns)
+    pub editions-taken : {b : Layout} {n : ℕ} → layout target ≡ ok b n → (takes v (a .edition) && takes v (b .edition)) ≡ true → bothLayouts v incoming target f ≡ f (a .columns) (b .columns)
     unfolding placed demand
-    versions-same g q = both-tested g q
+    editions-taken g q = both-tested g q
 
 both-true : (a b : Bool) → (a && b) ≡ true → (a ≡ true) × (b ≡ true)
 both-true true b h = (refl, h)
 both-true false b h = clash (cc)
 
--- a layout's columns, once its version is known
-abbrev versionIn : Version → Res Layout → Version
-versionIn v (refuse n) = v
-versionIn v (ok l m) = l .version
+-- a layout's columns, by the answer
+columns-of : {s : Bytes} {v : Edition} {n at : ℕ} (L : LayoutAt s v n) → at ≡ 7 → ColumnsAt v deepest s n at
+columns-of {s} {v} {n} {at} L z = record {
+  columns = L .columns .columns;
+  end = L .columns .end;
+  reads = ap (λ (j : ℕ). columns v Free (type v Free deepest) n [] s j) z ∙ L .columns .reads;
+}
 
-columns-of : {s : Bytes} {v w : Version} {n at : ℕ} (L : LayoutAt s w n) → sameVersion v w ≡ true → at ≡ 7 → ColumnsAt v deepest s n at
-columns-of {s} {v} {w} {n} {at} L h z =
-    let e : w ≡ v = ap (versionIn v) (sym (L .reads) ∙ of-version v s (record { version = w; columns = L .columns .columns }) (L .reads) h) in
-    record {
-      columns = L .columns .columns;
-      end = L .columns .end;
-      reads = ap (λ (x : Version). columns x Free (type x Free deepest) n [] s at) (sym e) ∙ ap (λ (j : ℕ). columns w Free (type w Free deepest) n [] s j) z ∙ L .columns .reads;
-    }
+module _ (how : Matching) (incoming target : Bytes) {r q : LayoutRead} (e : r ≡ layoutOf (layout incoming)) (g : q ≡ layoutOf (layout target)) {a w : Edition} {n m : ℕ} {c b : Cursor}
+    (f : r ≡ LayoutRead.Read a n c) (h : q ≡ LayoutRead.Read w m b) {x y z : Bool} (i : x ≡ takes how a) (j : y ≡ takes how w) (t : z ≡ (x && y)) where
+  tested : {o : Bool} → z ≡ o → (takes how a && takes how w) ≡ o
+  tested u = sym (ap (λ (k : Bool). k && takes how w) i) ∙ sym (ap (λ (k : Bool). x && k) j) ∙ sym t ∙ u
 
-module _ (v : Version) (incoming target : Bytes) {r q : LayoutRead} (e : r ≡ layoutOf (layout incoming)) (g : q ≡ layoutOf (layout target)) {a w : Version} {n m : ℕ} {c b : Cursor}
-    (f : r ≡ LayoutRead.Read a n c) (h : q ≡ LayoutRead.Read w m b) {x y z : Bool} (i : x ≡ sameVersion v a) (j : y ≡ sameVersion v w) (t : z ≡ (x && y)) where
-  tested : {o : Bool} → z ≡ o → (sameVersion v a && sameVersion v w) ≡ o
-  tested u = sym (ap (λ (k : Bool). k && sameVersion v w) i) ∙ sym (ap (λ (k : Bool). x && k) j) ∙ sym t ∙ u
-
-  pub both-read : z ≡ true → BothAt v incoming target n c m b
+  pub both-read : z ≡ true → BothAt how incoming target a w (record { incoming = record { count = n; first = c }; target = record { count = m; first = b } })
   unfolding columns-of
   both-read u =
       let (L, l) = layout-at incoming e f in
       let (M, o) = layout-at target g h in
       let k = tested u in
-      let (p, s) = both-true (sameVersion v a) (sameVersion v w) k in
       record {
-        from = columns-of L p l;
-        to = columns-of M s o;
+        from = columns-of L l;
+        to = columns-of M o;
+        taken = both-true (takes how a) (takes how w) k .1;
         starts = o;
         small = layout-small M;
-        is = λ φ. versions-same v incoming target φ (L .reads) (M .reads) k;
+        is = λ φ. editions-taken how incoming target φ (L .reads) (M .reads) k;
       }
 
-  pub both-differ : z ≡ false → (φ : Columns → Columns → Answer Bytes) → bothLayouts v incoming target φ ≡ refusedAt 10 0
+  pub both-differ : z ≡ false → (φ : Columns → Columns → Answer Bytes) → bothLayouts how incoming target φ ≡ refusedAt 10 0
   both-differ u φ =
       let (L, l) = layout-at incoming e f in
       let (M, o) = layout-at target g h in
-      versions-differ v incoming target φ (L .reads) (M .reads) (tested u)
+      editions-refused how incoming target φ (L .reads) (M .reads) (tested u)
 
 -- what `read_both` answered
-module _ (v : Version) (incoming target : Bytes) (r : BothRead) (h : BothIs v incoming target r) where
-  pub both-at : {n : ℕ} {c : Cursor} {m : ℕ} {b : Cursor} → r ≡ BothRead.Read n c m b → BothAt v incoming target n c m b
-  both-at e = subst (λ (x : BothRead). BothIs v incoming target x) e h
+module _ (how : Matching) (incoming target : Bytes) (r : BothRead) (h : BothIs how incoming target r) where
+  pub both-at : {v w : Edition} {both : Both} → r ≡ BothRead.Read v w both → BothAt how incoming target v w both
+  both-at e = subst (λ (x : BothRead). BothIs how incoming target x) e h
 
-  pub both-refused : {n k : ℕ} → r ≡ BothRead.Refused n k → (f : Columns → Columns → Answer Bytes) → bothLayouts v incoming target f ≡ refusedAt n k
-  both-refused e = subst (λ (x : BothRead). BothIs v incoming target x) e h
+  pub both-refused : {n k : ℕ} → r ≡ BothRead.Refused n k → (f : Columns → Columns → Answer Bytes) → bothLayouts how incoming target f ≡ refusedAt n k
+  both-refused e = subst (λ (x : BothRead). BothIs how incoming target x) e h
 
 -- ---- 27
 
@@ -177,16 +172,18 @@ one-more i (refuses k) Y ss n f h = clash (cc)
 one-more i (gives s) (refusedAt k j) ss n f h = clash (cc)
 one-more i (gives s) (accepted rs) ss n f h = let q : ss ≡ scons s rs = cc in rw q (ap suc (f rs refl))
 
-count-built : (v : Version) (p : Policy) (d : Defaults) (gs fs : Columns) (i : ℕ) (ss : Selectors) → buildFrom v p d gs fs i ≡ accepted ss → countSelectors ss ≡ countColumns gs
+count-built : (v : Matching) (p : Policy) (d : Defaults) (gs fs : Columns) (i : ℕ) (ss : Selectors) → buildFrom v p d gs fs i ≡ accepted ss → countSelectors ss ≡ countColumns gs
 unfolding buildFrom countColumns countSelectors
 count-built v p d cnil fs i ss h = let q : ss ≡ snil = cc in rw q
 count-built v p d (ccons l u gs) fs i ss h = one-more i _ (buildFrom v p d gs fs (i + 1)) ss (countColumns gs) (count-built v p d gs fs (i + 1)) h
 
-pub count-is : (v : Version) (p : Policy) (d : Defaults) (fs : Columns) {s : Bytes} {m at : ℕ} (Q : ColumnsAt v deepest s m at) (ss : Selectors) → buildFrom v p d (Q .columns) fs 0 ≡ accepted ss → countSelectors ss ≡ m
-count-is v p d fs {s} {m} {at} Q ss h = count-built v p d (Q .columns) fs 0 ss h ∙ columns-count v Free (type v Free deepest) m [] s at (Q .columns) (Q .end) (Q .reads)
+pub count-is : (how : Matching) (p : Policy) (d : Defaults) (fs : Columns) {v : Edition} {s : Bytes} {m at : ℕ} (Q : ColumnsAt v deepest s m at) (ss : Selectors)
+    → buildFrom how p d (Q .columns) fs 0 ≡ accepted ss → countSelectors ss ≡ m
+count-is how p d fs {v} {s} {m} {at} Q ss h =
+    count-built how p d (Q .columns) fs 0 ss h ∙ columns-count v Free (type v Free deepest) m [] s at (Q .columns) (Q .end) (Q .reads)
 
 -- columns end within the bytes, or where they begin
-columns-end : {v : Version} {d : ℕ} {s : Bytes} (n : ℕ) {at : ℕ} (Q : ColumnsAt v d s n at) → Q .end ≤ at + length s
+columns-end : {v : Edition} {d : ℕ} {s : Bytes} (n : ℕ) {at : ℕ} (Q : ColumnsAt v d s n at) → Q .end ≤ at + length s
 unfolding columns
 columns-end zero Q = let (a, b) = no-column Q refl in omega arith
 columns-end {v} {d} {s} (suc n) {at} Q =
@@ -196,7 +193,7 @@ columns-end {v} {d} {s} (suc n) {at} Q =
     omega arith
 
 -- the index behind the selectors stays in its bounds
-pub columns-room : (X : Answer Selectors) {v : Version} {d : ℕ} {s : Bytes} {n at : ℕ} (Q : ColumnsAt v d s n at) {out : Bytes} {k : ℕ} {r : ColumnsMade} {o : Bytes} {len : ℕ}
+pub columns-room : (X : Answer Selectors) {v : Edition} {d : ℕ} {s : Bytes} {n at : ℕ} (Q : ColumnsAt v d s n at) {out : Bytes} {k : ℕ} {r : ColumnsMade} {o : Bytes} {len : ℕ}
     → MakesColumns at (Q .end) out k X r o → r ≡ ColumnsMade.Done len → len ≤ 65536 * length s
 unfolding columnsMade WroteColumns
 columns-room (refusedAt m j) Q {len = len} A q = let z : ColumnsMade.Failed m j ≡ ColumnsMade.Done len = sym (A .answer) ∙ q in clash (cc)
@@ -262,7 +259,7 @@ plan-again X {y = y} {o = o} e h = subst (λ (p : Bytes). (y ≡ writeResult (an
 
 -- ---- 53, and what a build is after it
 
-module _ (v : Version) (p : Policy) (d : Defaults) (fs gs : Columns) {x : ExtraColumn} (e : extraAnswer x ≡ extraColumns (p .«extra_columns») v fs gs) where
+module _ (v : Matching) (p : Policy) (d : Defaults) (fs gs : Columns) {x : ExtraColumn} (e : extraAnswer x ≡ extraColumns (p .«extra_columns») v fs gs) where
   pub build-extra : {i : ℕ} → x ≡ ExtraColumn.At i → build v p d fs gs ≡ refusedAt 53 i
   unfolding build answered
   build-extra h = ap (λ (a : Answer (Unit {0})). answered a (λ u. buildFrom v p d gs fs 0)) (sym e ∙ ap extraAnswer h)
@@ -302,7 +299,7 @@ module _ (p : Policy) (incoming target : Bytes) (room : ℕ) where
   unfolding buildByName
   by-name-refused h = h _
 
-  pub by-name-built : {n : ℕ} {c : Cursor} {m : ℕ} {b : Cursor} (B : BothAt ByName incoming target n c m b) {s : Bytes} (T : TableAt s noValues) (k : ℕ)
+  pub by-name-built : {v w : Edition} {both : Both} (B : BothAt ByName incoming target v w both) {s : Bytes} (T : TableAt s noValues) (k : ℕ)
       → buildByName p incoming target room ≡ answered (build ByName p (getDefaultValue (T .entries) k) (B .from .columns) (B .to .columns)) (writtenPlan room)
   unfolding buildByName
   by-name-built B T k = B .is _ ∙ ap (λ (d : Defaults). answered (build ByName p d (B .from .columns) (B .to .columns)) (writtenPlan room)) (sym (no-entries T k))
@@ -313,13 +310,13 @@ module _ (p : Policy) (index owner : ℕ) (incoming target defaults : Bytes) (ro
   unfolding buildByNumber
   by-number-refused h = h _
 
-  module _ {n : ℕ} {c : Cursor} {m : ℕ} {b : Cursor} (B : BothAt ByNumber incoming target n c m b) where
+  module _ {v w : Edition} {both : Both} (B : BothAt ByNumber incoming target v w both) where
     pub by-number-untabled : {k : ℕ} → table defaults ≡ refuse k → buildByNumber p index owner incoming target defaults room ≡ refusedAt k 3
     unfolding buildByNumber readAt
     by-number-untabled h = B .is _ ∙ rw h
 
-    pub by-number-built : {w : TableVersion} {l : ℕ} {d : Cursor}
-        (G : TableGot defaults (record { version = w; count = l; entries = d; owner = owner; «source_index» = index }))
+    pub by-number-built : {x : TableVersion} {l : ℕ} {d : Cursor}
+        (G : TableGot defaults (record { version = x; count = l; entries = d; owner = owner; «source_index» = index }))
         → buildByNumber p index owner incoming target defaults room
         ≡ answered (build ByNumber p (getDefaultValue (G .entries .entries) index) (B .from .columns) (B .to .columns)) (writtenPlan room)
     unfolding buildByNumber readAt

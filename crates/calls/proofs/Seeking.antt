@@ -17,7 +17,8 @@ use Rattle.layout.specs.declared.columns.Position.{Position}
 use Rattle.layout.specs.declared.columns.Siblings.the-variants.{Free}
 use Rattle.layout.specs.declared.cursor.Cursor.{Cursor}
 use Rattle.layout.specs.declared.find.Found.{Found}
-use Rattle.layout.specs.declared.version.Version.{Version}
+use Rattle.layout.specs.declared.edition.Edition.{Edition}
+use Rattle.layout.specs.declared.matching.Matching.{Matching}
 use Rattle.layout.proofs.Ways.{clash}
 use Rattle.layout.proofs.View.{same-columns, no-column, FirstAt, first-at, first-labelled}
 use Rattle.rules.specs.declared.policy.ExtraColumnsPolicy.{ExtraColumnsPolicy}
@@ -29,7 +30,7 @@ use Rattle.calls.specs.declared.extra.ExtraColumn.{ExtraColumn}
 
 -- ---- a look-up
 
-module _ (v : Version) (s : Bytes) where
+module _ (v : Edition) (s : Bytes) where
   pub found-some : (x : Lookup) {r : Found} {k : Position} {l : LabelSpan} {c : Cursor} → Finds v deepest s x r → r ≡ Found.At k l c → false ≡ isAbsent x
   found-some absent {r} {k} {l} {c} f e = let z : Found.Absent ≡ Found.At k l c = sym f ∙ e in clash (cc)
   found-some (at k l t) f e = refl
@@ -40,27 +41,27 @@ module _ (v : Version) (s : Bytes) where
 
 -- ---- the loop: after i of n columns
 
-pub record Seeking (v : Version) (gs : Columns) (s : Bytes) (n from at i : ℕ) : Type 0 where
+pub record Seeking (how : Matching) (v : Edition) (gs : Columns) (s : Bytes) (n from at i : ℕ) : Type 0 where
   pub within : i ≤ n
   pub rest : ColumnsAt v deepest s (n - i) at
-  pub answer : (P : ColumnsAt v deepest s n from) → extraColumnErr v (P .columns) gs 0 ≡ extraColumnErr v (rest .columns) gs i
+  pub answer : (P : ColumnsAt v deepest s n from) → extraColumnErr how (P .columns) gs 0 ≡ extraColumnErr how (rest .columns) gs i
 
-pub seeking-none : {v : Version} (gs : Columns) {s : Bytes} {n from : ℕ} → ColumnsAt v deepest s n from → Seeking v gs s n from from 0
-seeking-none {v} gs {s} {n} {from} P =
+pub seeking-none : (how : Matching) {v : Edition} (gs : Columns) {s : Bytes} {n from : ℕ} → ColumnsAt v deepest s n from → Seeking how v gs s n from from 0
+seeking-none how {v} gs {s} {n} {from} P =
     let e : n ≡ n - 0 = omega arith in
     record {
       within = omega arith;
       rest = record { columns = P .columns; end = P .end; reads = ap (λ (j : ℕ). columns v Free (type v Free deepest) j [] s from) (sym e) ∙ P .reads };
-      answer = λ Q. ap (λ (cs : Columns). extraColumnErr v cs gs 0) (same-columns Q P .0);
+      answer = λ Q. ap (λ (cs : Columns). extraColumnErr how cs gs 0) (same-columns Q P .0);
     }
 
-module _ {v : Version} {gs : Columns} {s : Bytes} {n from here i : ℕ} (W : Seeking v gs s n from here i) where
+module _ {how : Matching} {v : Edition} {gs : Columns} {s : Bytes} {n from here i : ℕ} (W : Seeking how v gs s n from here i) where
   -- no column is left
-  pub seeking-all : n ≤ i → (P : ColumnsAt v deepest s n from) → accepted tt ≡ extraColumnErr v (P .columns) gs 0
+  pub seeking-all : n ≤ i → (P : ColumnsAt v deepest s n from) → accepted tt ≡ extraColumnErr how (P .columns) gs 0
   unfolding extraColumnErr
   seeking-all h P =
       let (z, q) = no-column (W .rest) (let y : n - i ≡ 0 = omega arith in y) in
-      sym (W .answer P ∙ ap (λ (cs : Columns). extraColumnErr v cs gs i) z)
+      sym (W .answer P ∙ ap (λ (cs : Columns). extraColumnErr how cs gs i) z)
 
   -- a column that stands there has a label
   pub seeking-unlabelled : {B : Type 0} → i < n → {q : Labelled} {x : ℕ} → labelRes s q ≡ label v s here → q ≡ Labelled.Refused x → B
@@ -73,18 +74,18 @@ module _ {v : Version} {gs : Columns} {s : Bytes} {n from here i : ℕ} (W : See
 
     -- the answer from it on, by whether it is extra
     abbrev from-here : Bool → Answer (Unit {0})
-    from-here b = choose b (refusedAt 53 i) (extraColumnErr v (column .tail .columns) gs (i + 1))
+    from-here b = choose b (refusedAt 53 i) (extraColumnErr how (column .tail .columns) gs (i + 1))
 
-    split : {b : Bool} → b ≡ isAbsent (counterpart v (labelAt s l) gs) → (P : ColumnsAt v deepest s n from) → extraColumnErr v (P .columns) gs 0 ≡ from-here b
+    split : {b : Bool} → b ≡ isAbsent (counterpart how (labelAt s l) gs) → (P : ColumnsAt v deepest s n from) → extraColumnErr how (P .columns) gs 0 ≡ from-here b
     unfolding extraColumnErr
-    split g P = W .answer P ∙ ap (λ (cs : Columns). extraColumnErr v cs gs i) (column .is) ∙ ap from-here (sym g)
+    split g P = W .answer P ∙ ap (λ (cs : Columns). extraColumnErr how cs gs i) (column .is) ∙ ap from-here (sym g)
 
-    module _ {b : Bool} (g : b ≡ isAbsent (counterpart v (labelAt s l) gs)) where
-      pub seeking-stop : b ≡ true → (P : ColumnsAt v deepest s n from) → refusedAt 53 i ≡ extraColumnErr v (P .columns) gs 0
+    module _ {b : Bool} (g : b ≡ isAbsent (counterpart how (labelAt s l) gs)) where
+      pub seeking-stop : b ≡ true → (P : ColumnsAt v deepest s n from) → refusedAt 53 i ≡ extraColumnErr how (P .columns) gs 0
       unfolding choose
       seeking-stop h P = sym (split g P ∙ ap from-here h)
 
-      pub seeking-more : b ≡ false → {a : ℕ} → ((Q : TypeAt v deepest s (c .at)) → a ≡ Q .end) → Seeking v gs s n from a (i + 1)
+      pub seeking-more : b ≡ false → {a : ℕ} → ((Q : TypeAt v deepest s (c .at)) → a ≡ Q .end) → Seeking how v gs s n from a (i + 1)
       unfolding choose
       seeking-more h {a} skip =
           let less : n - i - 1 ≡ n - (i + 1) = omega arith in
@@ -99,11 +100,11 @@ module _ {v : Version} {gs : Columns} {s : Bytes} {n from here i : ℕ} (W : See
 
 -- ---- the policy
 
-module _ {e : ExtraColumnsPolicy} (v : Version) (fs gs : Columns) where
-  pub ignoring : e ≡ Ignore → accepted tt ≡ extraColumns e v fs gs
+module _ {e : ExtraColumnsPolicy} (how : Matching) (fs gs : Columns) where
+  pub ignoring : e ≡ Ignore → accepted tt ≡ extraColumns e how fs gs
   unfolding extraColumns
   ignoring h = rw h
 
-  pub raising : e ≡ Raise → (r : ExtraColumn) → extraAnswer r ≡ extraColumnErr v fs gs 0 → extraAnswer r ≡ extraColumns e v fs gs
+  pub raising : e ≡ Raise → (r : ExtraColumn) → extraAnswer r ≡ extraColumnErr how fs gs 0 → extraAnswer r ≡ extraColumns e how fs gs
   unfolding extraColumns
   raising h r a = rw h a

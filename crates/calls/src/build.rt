@@ -6,12 +6,13 @@ ghost use Rattle.matching.specs.Calls.{buildByName, buildByNumber};
 use crate::layouts::BothRead;
 use crate::layouts::read_both;
 use crate::write::build_plan;
+use builder::build::Build;
 use defaults::lookup::DefaultFieldValues;
 use defaults::read::TableRead;
 use defaults::read::TableVersion;
 use defaults::read::read_table;
 use layout::cursor::Cursor;
-use layout::version::Version;
+use layout::matching::Matching;
 use plan::answer::WriteResult;
 use rules::policy::Policy;
 
@@ -20,8 +21,8 @@ pub fn build_by_name(policy: Policy, incoming: &[u8], target: &[u8], plan: &mut 
     ensures { λ r. ⌜ r ≡ writeResult (buildByName policy (now (incoming .entry)) (now (target .entry)) (length (now (plan .entry)))) ⌝ }
     ensures { λ _. ⌜ now (plan .exit) ≡ bufferAfter (buildByName policy (now (incoming .entry)) (now (target .entry)) (length (now (plan .entry)))) (now (plan .entry)) ⌝ }
 {
-    match read_both(Version::ByName, incoming, target) {
-        BothRead::Read(n, c, m, b) => {
+    match read_both(Matching::ByName, incoming, target) {
+        BothRead::Read(v, w, columns) => {
             let none = DefaultFieldValues {
                 version: TableVersion::Shared,
                 count: 0,
@@ -29,19 +30,14 @@ pub fn build_by_name(policy: Policy, incoming: &[u8], target: &[u8], plan: &mut 
                 owner: 0,
                 source_index: 0,
             };
-            build_plan(
+            let build = Build {
                 policy,
-                Version::ByName,
-                incoming,
-                n,
-                c,
-                target,
-                none,
-                target,
-                m,
-                b,
-                plan,
-            )
+                matching: Matching::ByName,
+                incoming: v,
+                target: w,
+                defaults: none,
+            };
+            build_plan(build, incoming, target, target, columns, plan)
         }
         BothRead::Refused(k, place) => WriteResult::Refused(k, place),
     }
@@ -60,8 +56,8 @@ pub fn build_by_number(
     ensures { λ r. ⌜ r ≡ writeResult (buildByNumber policy «source_index» owner (now (incoming .entry)) (now (target .entry)) (now (defaults .entry)) (length (now (plan .entry)))) ⌝ }
     ensures { λ _. ⌜ now (plan .exit) ≡ bufferAfter (buildByNumber policy «source_index» owner (now (incoming .entry)) (now (target .entry)) (now (defaults .entry)) (length (now (plan .entry)))) (now (plan .entry)) ⌝ }
 {
-    match read_both(Version::ByNumber, incoming, target) {
-        BothRead::Read(n, c, m, b) => match read_table(defaults) {
+    match read_both(Matching::ByNumber, incoming, target) {
+        BothRead::Read(v, w, columns) => match read_table(defaults) {
             TableRead::Read {
                 version,
                 count,
@@ -74,19 +70,14 @@ pub fn build_by_number(
                     owner,
                     source_index,
                 };
-                build_plan(
+                let build = Build {
                     policy,
-                    Version::ByNumber,
-                    incoming,
-                    n,
-                    c,
-                    defaults,
-                    values,
-                    target,
-                    m,
-                    b,
-                    plan,
-                )
+                    matching: Matching::ByNumber,
+                    incoming: v,
+                    target: w,
+                    defaults: values,
+                };
+                build_plan(build, incoming, defaults, target, columns, plan)
             }
             TableRead::Refused(k) => WriteResult::Refused(k, 3),
         },

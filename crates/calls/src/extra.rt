@@ -3,19 +3,18 @@ ghost use mathlib.Core.Path.{_≡_};
 ghost use Prim.Native.Nat.{_<_};
 ghost use lib.ListN.{length};
 ghost use Rattle.layout.specs.Answers.{labelAt, spanIn};
-ghost use Rattle.layout.specs.Find.{counterpart};
 ghost use Rattle.layout.specs.Layout.{deepest};
-ghost use Rattle.layout.specs.Stands.{ColumnsAt};
-ghost use Rattle.labels.specs.Table.{Table};
-ghost use Rattle.matching.specs.Build.{isAbsent, extraColumns};
-ghost use Rattle.calls.specs.Answers.{extraAnswer, FoundExtra};
+ghost use Rattle.builder.specs.Bundles.{FieldsAt, TableOf};
+ghost use Rattle.calls.specs.Answers.{BothIn, IsExtra, FoundExtra, ExtraFound};
+use crate::layouts::Both;
+use builder::build::Build;
+use builder::build::Fields;
 use labels::fill_in;
 use labels::find_in;
 use layout::columns::Label;
 use layout::columns::Labelled;
 use layout::cursor::Cursor;
 use layout::find::Found;
-use layout::version::Version;
 use layout::walk::skip_type;
 use rules::policy::ExtraColumnsPolicy;
 
@@ -25,41 +24,51 @@ pub enum ExtraColumn {
     Nothing,
 }
 
-// Whether the label `l`, which stands in `t`, has no counterpart among `n` columns. `chains` is a table of these, or empty.
-fn is_extra(s: &[u8], v: Version, n: u16, c: Cursor, chains: &[u16], t: &[u8], l: Label) -> bool
-    requires { ⌜ ColumnsAt v deepest (now s) n (c .at) ⌝ }
-    requires { ⌜ (0 < length (now chains) → Table v deepest (now s) n (c .at) (now chains)) ⌝ }
-    requires { ⌜ spanIn (now t) (l .name) ⌝ }
-    ensures { λ r. ⌜ ((P : ColumnsAt v deepest (now (s .entry)) n (c .at)) → r ≡ isAbsent (counterpart v (labelAt (now (t .entry)) l) (P .columns))) ⌝ }
+// Whether the incoming label `l` has no counterpart among the target's columns. `chains` is a table of these, or empty.
+fn is_extra(
+    build: Build,
+    target: &[u8],
+    fields: Fields,
+    chains: &[u16],
+    incoming: &[u8],
+    l: Label,
+) -> bool
+    requires { ⌜ FieldsAt (build .target) deepest (now target) fields ⌝ }
+    requires { ⌜ (0 < length (now chains) → TableOf build (build .target) deepest (now target) fields (now chains)) ⌝ }
+    requires { ⌜ spanIn (now incoming) (l .name) ⌝ }
+    ensures { λ r. ⌜ IsExtra build (now (target .entry)) fields (labelAt (now (incoming .entry)) l) r ⌝ }
 {
-    match find_in(s, v, 16, n, c, chains, t, l) {
+    let how = build.matching;
+    let w = build.target;
+    let c = fields.first;
+    match find_in(target, w, how, 16, fields.count, c, chains, incoming, l) {
         Found::At(_, _, _) => false,
         Found::Absent => true,
     }
 }
 
-// The first of `n` incoming columns that is extra. `chains` is a table of the target's columns, or empty.
+// The first incoming column that is extra. `chains` is a table of the target's columns, or empty.
 fn first_extra(
-    v: Version,
+    build: Build,
     incoming: &[u8],
-    n: u16,
-    c: Cursor,
     target: &[u8],
-    m: u16,
-    b: Cursor,
+    both: Both,
     chains: &[u16],
 ) -> ExtraColumn
-    requires { ⌜ ColumnsAt v deepest (now incoming) n (c .at) × ColumnsAt v deepest (now target) m (b .at) ⌝ }
-    requires { ⌜ (0 < length (now chains) → Table v deepest (now target) m (b .at) (now chains)) ⌝ }
-    ensures { λ r. ⌜ FoundExtra v (now (incoming .entry)) n (c .at) (now (target .entry)) m (b .at) r ⌝ }
+    requires { ⌜ BothIn build both (now incoming) (now target) ⌝ }
+    requires { ⌜ (0 < length (now chains) → TableOf build (build .target) deepest (now target) (both .target) (now chains)) ⌝ }
+    ensures { λ r. ⌜ FoundExtra build both (now (incoming .entry)) (now (target .entry)) r ⌝ }
 {
-    let mut at = c.at;
+    let v = build.incoming;
+    let fields = both.target;
+    let n = both.incoming.count;
+    let mut at = both.incoming.first.at;
     let mut i: u16 = 0;
     while i < n {
         let d = Cursor { at };
         match d.label(incoming, v) {
             Labelled::Is(l, next) => {
-                if is_extra(target, v, m, b, chains, incoming, l) {
+                if is_extra(build, target, fields, chains, incoming, l) {
                     return ExtraColumn::At(i);
                 }
                 let e = skip_type(incoming, v, 16, next);
@@ -74,77 +83,68 @@ fn first_extra(
 
 // The same with an arena, in which a table of the target's columns is filled where many are looked for.
 fn extra_in_arena(
-    v: Version,
+    build: Build,
     incoming: &[u8],
-    n: u16,
-    c: Cursor,
     target: &[u8],
-    m: u16,
-    b: Cursor,
+    both: Both,
     arena: &mut [u16],
 ) -> ExtraColumn
-    requires { ⌜ ColumnsAt v deepest (now incoming) n (c .at) × ColumnsAt v deepest (now target) m (b .at) ⌝ }
-    ensures { λ r. ⌜ FoundExtra v (now (incoming .entry)) n (c .at) (now (target .entry)) m (b .at) r ⌝ }
+    requires { ⌜ BothIn build both (now incoming) (now target) ⌝ }
+    ensures { λ r. ⌜ FoundExtra build both (now (incoming .entry)) (now (target .entry)) r ⌝ }
 {
-    let used = fill_in(n, target, v, 16, m, b, arena);
-    first_extra(v, incoming, n, c, target, m, b, &arena[..used])
+    let how = build.matching;
+    let w = build.target;
+    let b = both.target.first;
+    let used = fill_in(
+        both.incoming.count,
+        target,
+        w,
+        how,
+        16,
+        both.target.count,
+        b,
+        arena,
+    );
+    first_extra(build, incoming, target, both, &arena[..used])
 }
 
 // With an arena that takes less time to clear. Where it is too short for a table, the columns are scanned.
-fn extra_in_small(
-    v: Version,
-    incoming: &[u8],
-    n: u16,
-    c: Cursor,
-    target: &[u8],
-    m: u16,
-    b: Cursor,
-) -> ExtraColumn
-    requires { ⌜ ColumnsAt v deepest (now incoming) n (c .at) × ColumnsAt v deepest (now target) m (b .at) ⌝ }
-    ensures { λ r. ⌜ FoundExtra v (now (incoming .entry)) n (c .at) (now (target .entry)) m (b .at) r ⌝ }
+fn extra_in_small(build: Build, incoming: &[u8], target: &[u8], both: Both) -> ExtraColumn
+    requires { ⌜ BothIn build both (now incoming) (now target) ⌝ }
+    ensures { λ r. ⌜ FoundExtra build both (now (incoming .entry)) (now (target .entry)) r ⌝ }
 {
     let mut arena = [0u16; 1024];
-    extra_in_arena(v, incoming, n, c, target, m, b, &mut arena)
+    extra_in_arena(build, incoming, target, both, &mut arena)
 }
 
 // With an arena that has room for a table of the most columns.
-fn extra_in_large(
-    v: Version,
-    incoming: &[u8],
-    n: u16,
-    c: Cursor,
-    target: &[u8],
-    m: u16,
-    b: Cursor,
-) -> ExtraColumn
-    requires { ⌜ ColumnsAt v deepest (now incoming) n (c .at) × ColumnsAt v deepest (now target) m (b .at) ⌝ }
-    ensures { λ r. ⌜ FoundExtra v (now (incoming .entry)) n (c .at) (now (target .entry)) m (b .at) r ⌝ }
+fn extra_in_large(build: Build, incoming: &[u8], target: &[u8], both: Both) -> ExtraColumn
+    requires { ⌜ BothIn build both (now incoming) (now target) ⌝ }
+    ensures { λ r. ⌜ FoundExtra build both (now (incoming .entry)) (now (target .entry)) r ⌝ }
 {
     let mut arena = [0u16; 10400];
-    extra_in_arena(v, incoming, n, c, target, m, b, &mut arena)
+    extra_in_arena(build, incoming, target, both, &mut arena)
 }
 
 // The extra column that refuses a build, under Raise. That `extra_in_large` is called twice keeps it a function of its own: called once, it would be compiled
 // into its caller, and its table would stand beside the plan's buffer.
 pub fn extra_column(
     policy: ExtraColumnsPolicy,
-    v: Version,
+    build: Build,
     incoming: &[u8],
-    n: u16,
-    c: Cursor,
     target: &[u8],
-    m: u16,
-    b: Cursor,
+    both: Both,
 ) -> ExtraColumn
-    requires { ⌜ ColumnsAt v deepest (now incoming) n (c .at) × ColumnsAt v deepest (now target) m (b .at) ⌝ }
-    ensures { λ r. ⌜ ((P : ColumnsAt v deepest (now (incoming .entry)) n (c .at)) (Q : ColumnsAt v deepest (now (target .entry)) m (b .at)) → extraAnswer r ≡ extraColumns policy v (P .columns) (Q .columns)) ⌝ }
+    requires { ⌜ BothIn build both (now incoming) (now target) ⌝ }
+    ensures { λ r. ⌜ ExtraFound policy build both (now (incoming .entry)) (now (target .entry)) r ⌝ }
 {
+    let count = both.target.count;
     match policy {
         ExtraColumnsPolicy::Ignore => ExtraColumn::Nothing,
-        ExtraColumnsPolicy::Raise => match m {
-            0..=256 => extra_in_small(v, incoming, n, c, target, m, b),
-            257 => extra_in_large(v, incoming, n, c, target, m, b),
-            _ => extra_in_large(v, incoming, n, c, target, m, b),
+        ExtraColumnsPolicy::Raise => match count {
+            0..=256 => extra_in_small(build, incoming, target, both),
+            257 => extra_in_large(build, incoming, target, both),
+            _ => extra_in_large(build, incoming, target, both),
         },
     }
 }

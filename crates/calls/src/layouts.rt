@@ -1,51 +1,65 @@
 // The two layouts of a build.
 ghost use mathlib.Core.Path.{_≡_};
-ghost use Rattle.matching.specs.Calls.{sameVersion as sameVersionOf};
+ghost use Rattle.matching.specs.Calls.{takes as takesEdition};
 ghost use Rattle.calls.specs.Answers.{BothIs};
 use builder::answer::both;
-use layout::cursor::Cursor;
+use builder::build::Fields;
+use layout::edition::Edition;
+use layout::matching::Matching;
 use layout::read::LayoutRead;
 use layout::read::read_layout;
-use layout::version::Version;
 
-// The incoming and the target columns: of each layout the count and where they begin; or a refusal's number and place.
+// The columns of the two layouts.
+pub struct Both {
+    pub incoming: Fields,
+    pub target: Fields,
+}
+
+// The editions of the two layouts, the incoming one first, and their columns; or a refusal's number and place.
 pub enum BothRead {
-    Read(u16, Cursor, u16, Cursor),
+    Read(Edition, Edition, Both),
     Refused(u8, u16),
 }
 
-fn same_version(v: Version, w: Version) -> bool
-    ensures { λ r. ⌜ r ≡ sameVersionOf v w ⌝ }
+// By name takes edition 1 alone, by number 2 and 3.
+fn takes(how: Matching, v: Edition) -> bool
+    ensures { λ r. ⌜ r ≡ takesEdition how v ⌝ }
 {
-    match v {
-        Version::ByName => match w {
-            Version::ByName => true,
-            Version::ByNumber => false,
+    match how {
+        Matching::ByName => match v {
+            Edition::One => true,
+            Edition::Two => false,
+            Edition::Three => false,
         },
-        Version::ByNumber => match w {
-            Version::ByName => false,
-            Version::ByNumber => true,
+        Matching::ByNumber => match v {
+            Edition::One => false,
+            Edition::Two => true,
+            Edition::Three => true,
         },
     }
 }
 
 // The incoming layout, the target layout, 10.
-pub fn read_both(v: Version, incoming: &[u8], target: &[u8]) -> BothRead
-    ensures { λ r. ⌜ BothIs v (now (incoming .entry)) (now (target .entry)) r ⌝ }
+pub fn read_both(how: Matching, incoming: &[u8], target: &[u8]) -> BothRead
+    ensures { λ r. ⌜ BothIs how (now (incoming .entry)) (now (target .entry)) r ⌝ }
 {
     match read_layout(incoming) {
         LayoutRead::Read {
-            version: a,
+            edition: a,
             count: n,
             columns: c,
         } => match read_layout(target) {
             LayoutRead::Read {
-                version: w,
+                edition: w,
                 count: m,
                 columns: b,
             } => {
-                if both(same_version(v, a), same_version(v, w)) {
-                    return BothRead::Read(n, c, m, b);
+                if both(takes(how, a), takes(how, w)) {
+                    let columns = Both {
+                        incoming: Fields { count: n, first: c },
+                        target: Fields { count: m, first: b },
+                    };
+                    return BothRead::Read(a, w, columns);
                 }
                 BothRead::Refused(10, 0)
             }

@@ -4,25 +4,16 @@ ghost use Prim.Native.Nat.{_+_, _≤_, _<_};
 ghost use lib.ListN.{length, take};
 ghost use Rattle.store.specs.Overlay.{overlay};
 ghost use Rattle.layout.specs.Bytes.{Bytes};
-ghost use Rattle.layout.specs.Layout.{deepest};
-ghost use Rattle.layout.specs.Stands.{ColumnsAt};
 ghost use Rattle.defaults.specs.Stands.{TableAt};
-ghost use Rattle.plan.specs.Result.{answered};
-ghost use Rattle.matching.specs.Build.{buildFrom, build};
-ghost use Rattle.plan.specs.Calls.{bufferAfter, writeResult};
-ghost use Rattle.matching.specs.Calls.{writtenPlan};
-ghost use Rattle.builder.specs.Answers.{DefaultsAt, defaultsAt};
-ghost use Rattle.calls.specs.Answers.{Attempted, LongerThan, planHead, written};
+ghost use Rattle.calls.specs.Answers.{BothIn, Attempted, planHead, written, AttemptedIn, PlanMatched, PlanBuilt};
 use crate::columns::ColumnsMade;
 use crate::columns::build_columns;
 use crate::extra::ExtraColumn;
 use crate::extra::extra_column;
+use crate::layouts::Both;
+use builder::build::Build;
 use builder::write::put_short;
-use defaults::lookup::DefaultFieldValues;
-use layout::cursor::Cursor;
-use layout::version::Version;
 use plan::answer::WriteResult;
-use rules::policy::Policy;
 use store::copy;
 use store::put;
 
@@ -60,40 +51,22 @@ fn write_plan(room: &[u8], len: usize, plan: &mut [u8]) -> Attempt
 
 // The plan between two layouts that were read, built in a room.
 fn build_in(
-    policy: Policy,
-    v: Version,
+    build: Build,
     incoming: &[u8],
-    n: u16,
-    c: Cursor,
     table: &[u8],
-    defaults: DefaultFieldValues,
     target: &[u8],
-    m: u16,
-    b: Cursor,
+    both: Both,
     room: &mut [u8],
     plan: &mut [u8],
 ) -> Attempt
-    requires { ⌜ ColumnsAt v deepest (now incoming) n (c .at) × ColumnsAt v deepest (now target) m (b .at) ⌝ }
-    requires { ⌜ TableAt (now table) defaults ⌝ }
-    requires { ⌜ (length (now target) ≤ 16384) × (length (now table) ≤ 16384) × (b .at ≡ 7) ⌝ }
+    requires { ⌜ BothIn build both (now incoming) (now target) ⌝ }
+    requires { ⌜ TableAt (now table) (build .defaults) ⌝ }
+    requires { ⌜ (length (now target) ≤ 16384) × (length (now table) ≤ 16384) × (both .target .first .at ≡ 7) ⌝ }
     requires { ⌜ length (now room) ≤ 65536 ⌝ }
-    ensures { λ r. ⌜ ((T : DefaultsAt (now (table .entry)) defaults) (P : ColumnsAt v deepest (now (incoming .entry)) n (c .at)) (Q : ColumnsAt v deepest (now (target .entry)) m (b .at)) → Attempted (LongerThan (length (now (room .entry))) (buildFrom v policy (defaultsAt defaults T) (Q .columns) (P .columns) 0)) (answered (buildFrom v policy (defaultsAt defaults T) (Q .columns) (P .columns) 0) (writtenPlan (length (now (plan .entry))))) (now (plan .entry)) r (now (plan .exit))) ⌝ }
+    ensures { λ r. ⌜ AttemptedIn build both (length (now (room .entry))) (now (table .entry)) (now (incoming .entry)) (now (target .entry)) (now (plan .entry)) r (now (plan .exit)) ⌝ }
 {
-    put_plan_head(room, m);
-    match build_columns(
-        policy,
-        v,
-        incoming,
-        n,
-        c,
-        table,
-        defaults,
-        target,
-        m,
-        b,
-        room,
-        7,
-    ) {
+    put_plan_head(room, both.target.count);
+    match build_columns(build, incoming, table, target, both, room, 7) {
         ColumnsMade::Failed(x, i) => Attempt::Answer(WriteResult::Refused(x, i)),
         ColumnsMade::Done(len) => write_plan(room, 7 + len, plan),
     }
@@ -101,74 +74,38 @@ fn build_in(
 
 // In a room of 4,096 bytes, which takes less time to clear.
 fn build_small(
-    policy: Policy,
-    v: Version,
+    build: Build,
     incoming: &[u8],
-    n: u16,
-    c: Cursor,
     table: &[u8],
-    defaults: DefaultFieldValues,
     target: &[u8],
-    m: u16,
-    b: Cursor,
+    both: Both,
     plan: &mut [u8],
 ) -> Attempt
-    requires { ⌜ ColumnsAt v deepest (now incoming) n (c .at) × ColumnsAt v deepest (now target) m (b .at) ⌝ }
-    requires { ⌜ TableAt (now table) defaults ⌝ }
-    requires { ⌜ (length (now target) ≤ 16384) × (length (now table) ≤ 16384) × (b .at ≡ 7) ⌝ }
-    ensures { λ r. ⌜ ((T : DefaultsAt (now (table .entry)) defaults) (P : ColumnsAt v deepest (now (incoming .entry)) n (c .at)) (Q : ColumnsAt v deepest (now (target .entry)) m (b .at)) → Attempted (LongerThan 4096 (buildFrom v policy (defaultsAt defaults T) (Q .columns) (P .columns) 0)) (answered (buildFrom v policy (defaultsAt defaults T) (Q .columns) (P .columns) 0) (writtenPlan (length (now (plan .entry))))) (now (plan .entry)) r (now (plan .exit))) ⌝ }
+    requires { ⌜ BothIn build both (now incoming) (now target) ⌝ }
+    requires { ⌜ TableAt (now table) (build .defaults) ⌝ }
+    requires { ⌜ (length (now target) ≤ 16384) × (length (now table) ≤ 16384) × (both .target .first .at ≡ 7) ⌝ }
+    ensures { λ r. ⌜ AttemptedIn build both 4096 (now (table .entry)) (now (incoming .entry)) (now (target .entry)) (now (plan .entry)) r (now (plan .exit)) ⌝ }
 {
     let mut room = [0u8; 4096];
-    build_in(
-        policy,
-        v,
-        incoming,
-        n,
-        c,
-        table,
-        defaults,
-        target,
-        m,
-        b,
-        &mut room,
-        plan,
-    )
+    build_in(build, incoming, table, target, both, &mut room, plan)
 }
 
 // In a room as long as a plan may be: what is longer is refused with 27.
 fn build_large(
-    policy: Policy,
-    v: Version,
+    build: Build,
     incoming: &[u8],
-    n: u16,
-    c: Cursor,
     table: &[u8],
-    defaults: DefaultFieldValues,
     target: &[u8],
-    m: u16,
-    b: Cursor,
+    both: Both,
     plan: &mut [u8],
 ) -> WriteResult
-    requires { ⌜ ColumnsAt v deepest (now incoming) n (c .at) × ColumnsAt v deepest (now target) m (b .at) ⌝ }
-    requires { ⌜ TableAt (now table) defaults ⌝ }
-    requires { ⌜ (length (now target) ≤ 16384) × (length (now table) ≤ 16384) × (b .at ≡ 7) ⌝ }
-    ensures { λ r. ⌜ ((T : DefaultsAt (now (table .entry)) defaults) (P : ColumnsAt v deepest (now (incoming .entry)) n (c .at)) (Q : ColumnsAt v deepest (now (target .entry)) m (b .at)) → (r ≡ writeResult (answered (buildFrom v policy (defaultsAt defaults T) (Q .columns) (P .columns) 0) (writtenPlan (length (now (plan .entry)))))) × (now (plan .exit) ≡ bufferAfter (answered (buildFrom v policy (defaultsAt defaults T) (Q .columns) (P .columns) 0) (writtenPlan (length (now (plan .entry))))) (now (plan .entry)))) ⌝ }
+    requires { ⌜ BothIn build both (now incoming) (now target) ⌝ }
+    requires { ⌜ TableAt (now table) (build .defaults) ⌝ }
+    requires { ⌜ (length (now target) ≤ 16384) × (length (now table) ≤ 16384) × (both .target .first .at ≡ 7) ⌝ }
+    ensures { λ r. ⌜ PlanMatched build both (now (table .entry)) (now (incoming .entry)) (now (target .entry)) (now (plan .entry)) r (now (plan .exit)) ⌝ }
 {
     let mut room = [0u8; 65536];
-    match build_in(
-        policy,
-        v,
-        incoming,
-        n,
-        c,
-        table,
-        defaults,
-        target,
-        m,
-        b,
-        &mut room,
-        plan,
-    ) {
+    match build_in(build, incoming, table, target, both, &mut room, plan) {
         Attempt::Answer(r) => r,
         Attempt::Short => WriteResult::Refused(27, 0),
     }
@@ -176,89 +113,44 @@ fn build_large(
 
 // The plan between two layouts that were read, once 53 was tested. For a small target the small room is tried first, and the large one where that was too short.
 fn build_matched(
-    policy: Policy,
-    v: Version,
+    build: Build,
     incoming: &[u8],
-    n: u16,
-    c: Cursor,
     table: &[u8],
-    defaults: DefaultFieldValues,
     target: &[u8],
-    m: u16,
-    b: Cursor,
+    both: Both,
     plan: &mut [u8],
 ) -> WriteResult
-    requires { ⌜ ColumnsAt v deepest (now incoming) n (c .at) × ColumnsAt v deepest (now target) m (b .at) ⌝ }
-    requires { ⌜ TableAt (now table) defaults ⌝ }
-    requires { ⌜ (length (now target) ≤ 16384) × (length (now table) ≤ 16384) × (b .at ≡ 7) ⌝ }
-    ensures { λ r. ⌜ ((T : DefaultsAt (now (table .entry)) defaults) (P : ColumnsAt v deepest (now (incoming .entry)) n (c .at)) (Q : ColumnsAt v deepest (now (target .entry)) m (b .at)) → (r ≡ writeResult (answered (buildFrom v policy (defaultsAt defaults T) (Q .columns) (P .columns) 0) (writtenPlan (length (now (plan .entry)))))) × (now (plan .exit) ≡ bufferAfter (answered (buildFrom v policy (defaultsAt defaults T) (Q .columns) (P .columns) 0) (writtenPlan (length (now (plan .entry))))) (now (plan .entry)))) ⌝ }
+    requires { ⌜ BothIn build both (now incoming) (now target) ⌝ }
+    requires { ⌜ TableAt (now table) (build .defaults) ⌝ }
+    requires { ⌜ (length (now target) ≤ 16384) × (length (now table) ≤ 16384) × (both .target .first .at ≡ 7) ⌝ }
+    ensures { λ r. ⌜ PlanMatched build both (now (table .entry)) (now (incoming .entry)) (now (target .entry)) (now (plan .entry)) r (now (plan .exit)) ⌝ }
 {
     if target.len() <= 1024 {
-        if let Attempt::Answer(r) = build_small(
-            policy,
-            v,
-            incoming,
-            n,
-            c,
-            table,
-            defaults,
-            target,
-            m,
-            b,
-            plan,
-        ) {
+        if let Attempt::Answer(r) = build_small(build, incoming, table, target, both, plan) {
             return r;
         }
     }
-    build_large(
-        policy,
-        v,
-        incoming,
-        n,
-        c,
-        table,
-        defaults,
-        target,
-        m,
-        b,
-        plan,
-    )
+    build_large(build, incoming, table, target, both, plan)
 }
 
 // The plan between two layouts that were read: 53 is tested before the first target column.
 pub fn build_plan(
-    policy: Policy,
-    v: Version,
+    build: Build,
     incoming: &[u8],
-    n: u16,
-    c: Cursor,
     table: &[u8],
-    defaults: DefaultFieldValues,
     target: &[u8],
-    m: u16,
-    b: Cursor,
+    both: Both,
     plan: &mut [u8],
 ) -> WriteResult
-    requires { ⌜ ColumnsAt v deepest (now incoming) n (c .at) × ColumnsAt v deepest (now target) m (b .at) ⌝ }
-    requires { ⌜ TableAt (now table) defaults ⌝ }
-    requires { ⌜ (length (now target) ≤ 16384) × (length (now table) ≤ 16384) × (b .at ≡ 7) ⌝ }
-    ensures { λ r. ⌜ ((T : DefaultsAt (now (table .entry)) defaults) (P : ColumnsAt v deepest (now (incoming .entry)) n (c .at)) (Q : ColumnsAt v deepest (now (target .entry)) m (b .at)) → (r ≡ writeResult (answered (build v policy (defaultsAt defaults T) (P .columns) (Q .columns)) (writtenPlan (length (now (plan .entry)))))) × (now (plan .exit) ≡ bufferAfter (answered (build v policy (defaultsAt defaults T) (P .columns) (Q .columns)) (writtenPlan (length (now (plan .entry))))) (now (plan .entry)))) ⌝ }
+    requires { ⌜ BothIn build both (now incoming) (now target) ⌝ }
+    requires { ⌜ TableAt (now table) (build .defaults) ⌝ }
+    requires { ⌜ (length (now target) ≤ 16384) × (length (now table) ≤ 16384) × (both .target .first .at ≡ 7) ⌝ }
+    ensures { λ r. ⌜ PlanBuilt build both (now (table .entry)) (now (incoming .entry)) (now (target .entry)) (now (plan .entry)) r (now (plan .exit)) ⌝ }
 {
+    let policy = build.policy;
     let extra = policy.extra_columns;
-    match extra_column(extra, v, incoming, n, c, target, m, b) {
+    match extra_column(extra, build, incoming, target, both) {
         ExtraColumn::At(i) => WriteResult::Refused(53, i),
-        ExtraColumn::Nothing => build_matched(
-            policy,
-            v,
-            incoming,
-            n,
-            c,
-            table,
-            defaults,
-            target,
-            m,
-            b,
-            plan,
-        ),
+        ExtraColumn::Nothing => build_matched(build, incoming, table, target, both, plan),
     }
 }

@@ -27,19 +27,28 @@ use Rattle.layout.proofs.walk.skip_type.Reads as skip-type-reads
 use Rattle.matcher.proofs.attach.attach_field.Reads as attach-field-reads
 
 abbrev Inv-loop : tie.InvT-loop
-Inv-loop policy v incoming n c used table defaults target m out₀ k arena₀ insert at₀ to₀ i₀ out arena at to i =
-    ((T : TableAt table defaults) (P : ColumnsAt v deepest incoming n (c .at)) → Building policy (getDefaultValue (T .entries) (defaults .«source_index»)) (P .columns) v target m at₀ out₀ k out at to i)
+Inv-loop build incoming used table target out₀ k arena₀ how v w insert n c m at₀ to₀ i₀ out arena at to i =
+    ((T : TableAt table (build .defaults)) (P : ColumnsAt (build .incoming) deepest incoming n (c .at))
+    → Building (build .policy) (getDefaultValue (T .entries) (build .defaults .«source_index»)) (P .columns) (build .matching) w target m at₀ out₀ k out
+    at to i)
     × (take used arena ≡ take used arena₀) × (length arena ≡ length arena₀)
 
 abbrev μ-loop : tie.MeasureT-loop
-μ-loop policy v incoming n c used table defaults target m out₀ k arena₀ insert at₀ to₀ i₀ out arena at to i =
+μ-loop build incoming used table target out₀ k arena₀ how v w insert n c m at₀ to₀ i₀ out arena at to i =
     m - i
 
 inserts-requires : tie.Need-inserts-requires Inv-loop μ-loop
 inserts-requires c κs = search needs
 
 loop-holds : tie.Need-loop-holds Inv-loop μ-loop
-loop-holds c = (λ T P. building-none (c .before .before .before .before .before .before .args .policy) (getDefaultValue (T .entries) (c .before .before .before .before .before .before .args .defaults .«source_index»)) (P .columns) (c .before .before .before .before .before .before .pre .0 .1) (c .before .before .before .before .before .before .pre .1 .1 .0 .2), refl, refl)
+loop-holds c =
+    let c8 = c .before .before .before .before .before .before .before .before in (
+      λ T P. building-none (c8 .args .build .policy) (getDefaultValue (T .entries) (c8 .args .build .defaults .«source_index»)) (P .columns)
+          (c8 .args .build .matching)
+          (c8 .pre .0 .1 .0) (c8 .pre .1 .1 .0 .2),
+      refl,
+      refl,
+    )
 
 label-requires : tie.Need-label-requires Inv-loop μ-loop
 label-requires c κs = search needs
@@ -48,32 +57,70 @@ enum-known-l : tie.Need-enum-known-l Inv-loop μ-loop
 enum-known-l c = search needs
 
 slice-reshare-prefix-find-in : tie.Need-slice-reshare-prefix-find-in Inv-loop μ-loop
-slice-reshare-prefix-find-in c = let a = c .before .before .before .before .before .loop .inv .2 in let b = c .before .before .before .before .before .before .before .before .before .before .before .before .pre .1 .1 .1 .0 in omega arith
+slice-reshare-prefix-find-in c =
+    let c5 = c .before .before .before .before .before in let c14 = c5 .before .before .before .before .before .before .before .before .before in
+    let a = c5 .loop .inv .2 in let b = c14 .pre .1 .1 .1 .0 in omega arith
 
 slice-aggregate-find-in : tie.Need-slice-aggregate-find-in Inv-loop μ-loop
-slice-aggregate-find-in c = sym (length-take-le (c .before .before .before .before .before .before .before .before .before .before .before .before .before .args .used) (c .before .before .before .before .before .before .loop .arena) (let a = c .before .before .before .before .before .before .loop .inv .2 in let b = c .before .before .before .before .before .before .before .before .before .before .before .before .before .pre .1 .1 .1 .0 in omega arith))
+slice-aggregate-find-in c =
+    let c6 = c .before .before .before .before .before .before in let c15 = c6 .before .before .before .before .before .before .before .before .before in
+    sym (length-take-le (c15 .args .used) (c6 .loop .arena) (let a = c6 .loop .inv .2 in let b = c15 .pre .1 .1 .1 .0 in omega arith))
 
 find-in-requires : tie.Need-find-in-requires Inv-loop μ-loop
-find-in-requires c κs = let P = c .before .before .before .before .before .before .before .before .before .before .before .before .before .pre .0 .0 in
-    (P, (table-kept (c .before .before .before .before .before .before .before .before .before .before .before .before .before .args .arena .now) (c .before .before .before .before .before .before .loop .arena) (c .before .before .before .before .before .before .before .before .before .before .before .before .before .pre .1 .1 .1 .0) (c .before .before .before .before .before .before .loop .inv .1) (c .before .before .before .before .before .before .before .before .before .before .before .before .before .pre .1 .1 .1 .1), column-name (c .before .before .before .before .before .before .loop .inv .0 (c .before .before .before .before .before .before .before .before .before .before .before .before .before .pre .1 .0) P) (c .before .before .before .before .before .loop-test .taken) (c .before .before .before .before .label .ensures .0) (c .before .before .l .given .1) (c .before .before .before .before .label .ensures .1) .0))
+find-in-requires c κs =
+    let c2 = c .before .before in let c4 = c2 .before .before in let c5 = c4 .before in let c6 = c5 .before in let c15 =
+    c6 .before .before .before .before .before .before .before .before .before in
+    let P = c15 .pre .0 .0 in (
+      P,
+      (
+        table-kept (c15 .args .arena .now) (c6 .loop .arena) (c15 .pre .1 .1 .1 .0) (c6 .loop .inv .1) (c15 .pre .1 .1 .1 .1),
+        column-name (c6 .loop .inv .0
+            (c15 .pre .1 .0) P) (c5 .loop-test .taken) (c4 .label .ensures .0) (c2 .l .given .1) (c4 .label .ensures .1) .0,
+      ),
+    )
 
 mul-attach-field : tie.Need-mul-attach-field Inv-loop μ-loop
-mul-attach-field c = omega (arith, c .before .before .before .before .before .before .before .before .before .before .before .before .before .before .before .pre .1 .1 .1 .0, c .before .before .before .before .before .before .before .before .before .before .before .before .before .before .before .good .1 .1 .1 .1 .1 .1 .1 .1 .1 .1 .1 .1 .1 .0 .1)
+mul-attach-field c =
+    let c17 = c .before .before .before .before .before .before .before .before .before .before .before .before .before .before .before .before .before in
+    omega (arith, c17 .pre .1 .1 .1 .0, c17 .good .1 .1 .1 .1 .1 .1 .1 .1 .0 .1)
 
 sub-attach-field : tie.Need-sub-attach-field Inv-loop μ-loop
-sub-attach-field c = let a = c .before .before .before .before .before .before .before .before .loop .inv .2 in let b = c .before .before .before .before .before .before .before .before .before .before .before .before .before .before .before .pre .1 .1 .1 .0 in omega arith
+sub-attach-field c =
+    let c8 = c .before .before .before .before .before .before .before .before in let c17 =
+    c8 .before .before .before .before .before .before .before .before .before in
+    let a = c8 .loop .inv .2 in let b = c17 .pre .1 .1 .1 .0 in omega arith
 
 part-attach-field-start : tie.Need-part-attach-field-start Inv-loop μ-loop
-part-attach-field-start c = let a = c .before .before .before .before .before .before .before .before .loop .inv .2 in let b = c .before .before .before .before .before .before .before .before .before .before .before .before .before .before .before .pre .1 .1 .1 .0 in omega arith
+part-attach-field-start c =
+    let c8 = c .before .before .before .before .before .before .before .before in let c17 =
+    c8 .before .before .before .before .before .before .before .before .before in
+    let a = c8 .loop .inv .2 in let b = c17 .pre .1 .1 .1 .0 in omega arith
 
 part-attach-field-end : tie.Need-part-attach-field-end Inv-loop μ-loop
 part-attach-field-end c = omega arith
 
 attach-field-requires : tie.Need-attach-field-requires Inv-loop μ-loop
-attach-field-requires c κs = let P = c .before .before .before .before .before .before .before .before .before .before .before .before .before .before .before .before .pre .0 .0 in
-    let T = c .before .before .before .before .before .before .before .before .before .before .before .before .before .before .before .before .pre .1 .0 in
-    let W = c .before .before .before .before .before .before .before .before .before .loop .inv .0 T P in
-    (((P .columns, c .before .before .find-in .ensures P), column W (c .before .before .before .before .before .before .before .before .loop-test .taken) (c .before .before .before .before .before .before .before .label .ensures .0) (c .before .before .before .before .before .l .given .1) .head), (T, (column-name W (c .before .before .before .before .before .before .before .before .loop-test .taken) (c .before .before .before .before .before .before .before .label .ensures .0) (c .before .before .before .before .before .l .given .1) (c .before .before .before .before .before .before .before .label .ensures .1), (c .before .before .before .before .before .before .before .before .before .before .before .before .before .before .before .before .pre .1 .1 .0 .0, c .before .before .before .before .before .before .before .before .before .before .before .before .before .before .before .before .pre .1 .1 .0 .1, column-room W (c .before .before .before .before .before .before .before .before .loop-test .taken) (c .before .before .before .before .before .before .before .label .ensures .0) (c .before .before .before .before .before .l .given .1)))))
+attach-field-requires c κs =
+    let c2 = c .before .before in let c5 = c2 .before .before .before in let c7 = c5 .before .before in let c8 = c7 .before in let c9 = c8 .before in let c18
+    = c9 .before .before .before .before .before .before .before .before .before in
+    let P = c18 .pre .0 .0 in
+    let T = c18 .pre .1 .0 in
+    let W = c9 .loop .inv .0 T P in (
+      ((P .columns, c2 .find-in .ensures P), (column W (c8 .loop-test .taken) (c7 .label .ensures .0) (c5 .l .given .1) .head, c18 .pre .0 .1 .1)),
+      (
+        T,
+        (
+          column-name W
+              (c8 .loop-test .taken) (c7 .label .ensures .0) (c5 .l .given .1) (c7 .label .ensures .1),
+          (
+            c18 .pre .1 .1 .0 .0,
+            c18 .pre .1 .1 .0 .1,
+            column-room W
+                (c8 .loop-test .taken) (c7 .label .ensures .0) (c5 .l .given .1),
+          ),
+        ),
+      ),
+    )
 
 is-refused-requires : tie.Need-is-refused-requires Inv-loop μ-loop
 is-refused-requires c κs = search needs
@@ -82,64 +129,112 @@ failed-column-requires : tie.Need-failed-column-requires Inv-loop μ-loop
 failed-column-requires c κs = search needs
 
 same-length : tie.Need-same-length Inv-loop μ-loop
-same-length c = c .before .before .before .before .before .before .before .attach-field .kept .1 .1 .1 .1 .1 .1 .1 .1 .1 .1 .1 .1 .0 ∙ c .before .before .before .before .before .before .before .before .before .before .before .before .before .before .before .before .before .loop .inv .0 (c .before .before .before .before .before .before .before .before .before .before .before .before .before .before .before .before .before .before .before .before .before .before .before .before .pre .1 .0) (c .before .before .before .before .before .before .before .before .before .before .before .before .before .before .before .before .before .before .before .before .before .before .before .before .pre .0 .0) .kept
+same-length c =
+    let c7 = c .before .before .before .before .before .before .before in let c17 =
+    c7 .before .before .before .before .before .before .before .before .before .before in let c26 =
+    c17 .before .before .before .before .before .before .before .before .before in
+    c7 .attach-field .kept .1 .1 .1 .1 .1 .0 ∙ c17 .loop .inv .0 (c26 .pre .1 .0) (c26 .pre .0 .0) .kept
 
 same-length-2 : tie.Need-same-length-2 Inv-loop μ-loop
-same-length-2 c = same-len-mid (c .before .before .before .before .before .before .before .before .before .before .before .before .before .before .before .before .before .before .before .before .before .before .before .before .args .used) (length (c .before .before .before .before .before .before .before .before .before .before .before .before .before .before .before .before .before .loop .arena) - c .before .before .before .before .before .before .before .before .before .before .before .before .before .before .before .before .before .before .before .before .before .before .before .before .args .used) (c .before .before .before .before .before .before .before .before .before .before .before .before .before .before .before .before .before .loop .arena) (c .before .before .before .before .before .before .before .attach-field .last .1 .1 .1 .1 .1 .1 .1 .1 .1 .1 .1 .1 .1 .1 .0) (c .before .before .before .before .before .before .before .attach-field .kept .1 .1 .1 .1 .1 .1 .1 .1 .1 .1 .1 .1 .1 .1 .0) ∙ c .before .before .before .before .before .before .before .before .before .before .before .before .before .before .before .before .before .loop .inv .2
+same-length-2 c =
+    let c7 = c .before .before .before .before .before .before .before in let c17 =
+    c7 .before .before .before .before .before .before .before .before .before .before in let c26 =
+    c17 .before .before .before .before .before .before .before .before .before in
+    same-len-mid (c26 .args .used) (length (c17 .loop .arena) - c26 .args .used) (c17 .loop .arena) (c7 .attach-field .last .1 .1 .1 .1 .1 .1 .1 .0)
+    (c7 .attach-field .kept .1 .1 .1 .1 .1 .1 .1 .0) ∙ c17 .loop .inv .2
 
 returns : tie.Need-returns Inv-loop μ-loop
-returns c = λ T P Q.
-    let W = c .before .before .before .before .before .before .before .before .before .before .before .before .before .before .before .before .before .loop .inv .0 T P in
-    let A = column-made W (c .before .before .before .before .before .before .before .before .before .before .before .before .before .before .before .before .loop-test .taken) (c .before .before .before .before .before .before .before .before .before .before .before .before .before .before .before .label .ensures .0) (c .before .before .before .before .before .before .before .before .before .before .before .before .before .l .given .1) _ _ (c .before .before .before .before .before .before .before .before .before .before .before .before .before .before .before .before .before .before .inserts .ensures) (c .before .before .before .before .before .before .before .attach-field .ensures _ T (P .columns) (column W (c .before .before .before .before .before .before .before .before .before .before .before .before .before .before .before .before .loop-test .taken) (c .before .before .before .before .before .before .before .before .before .before .before .before .before .before .before .label .ensures .0) (c .before .before .before .before .before .before .before .before .before .before .before .before .before .l .given .1) .head) (c .before .before .before .before .before .before .before .before .before .before .find-in .ensures P) (column-after W (c .before .before .before .before .before .before .before .before .before .before .before .before .before .before .before .before .loop-test .taken) (c .before .before .before .before .before .before .before .before .before .before .before .before .before .before .before .label .ensures .0) (c .before .before .before .before .before .before .before .before .before .before .before .before .before .l .given .1))) in
-    building-stop W (c .before .before .before .before .before .before .before .before .before .before .before .before .before .before .before .before .loop-test .taken) (c .before .before .before .before .before .before .before .before .before .before .before .before .before .before .before .label .ensures .0) (c .before .before .before .before .before .before .before .before .before .before .before .before .before .l .given .1) A (c .before .before .is-refused .ensures) (c .before .if1 .taken) (c .failed-column .ensures) Q
+returns c =
+    let c1 = c .before in let c2 = c1 .before in let c7 = c2 .before .before .before .before .before in let c10 = c7 .before .before .before in let c13 =
+    c10 .before .before .before in let c15 = c13 .before .before in let c16 = c15 .before in let c17 = c16 .before in let c19 = c17 .before .before in
+    λ T P Q.
+    let W = c17 .loop .inv .0 T P in
+    let A = column-made W (c16 .loop-test .taken) (c15 .label .ensures .0) (c13 .l .given .1) _ _ (c19 .inserts .ensures) (c7 .attach-field .ensures _ T
+    (P .columns) (column W (c16 .loop-test .taken) (c15 .label .ensures .0) (c13 .l .given .1) .head) (c10 .find-in .ensures P) (column-after W
+    (c16 .loop-test .taken) (c15 .label .ensures .0) (c13 .l .given .1))) in
+    building-stop W (c16 .loop-test .taken) (c15 .label .ensures .0) (c13 .l .given .1) A (c2 .is-refused .ensures) (c1 .if1 .taken)
+    (c .failed-column .ensures) Q
 
 skip-type-requires : tie.Need-skip-type-requires Inv-loop μ-loop
-skip-type-requires c κs = let W = c .before .before .before .before .before .before .before .before .before .before .before .before .before .before .before .before .loop .inv .0 (c .before .before .before .before .before .before .before .before .before .before .before .before .before .before .before .before .before .before .before .before .before .before .before .pre .1 .0) (c .before .before .before .before .before .before .before .before .before .before .before .before .before .before .before .before .before .before .before .before .before .before .before .pre .0 .0) in
-    column W (c .before .before .before .before .before .before .before .before .before .before .before .before .before .before .before .loop-test .taken) (c .before .before .before .before .before .before .before .before .before .before .before .before .before .before .label .ensures .0) (c .before .before .before .before .before .before .before .before .before .before .before .before .l .given .1) .head
+skip-type-requires c κs =
+    let c12 = c .before .before .before .before .before .before .before .before .before .before .before .before in let c14 = c12 .before .before in let c15 =
+    c14 .before in let c16 = c15 .before in let c25 = c16 .before .before .before .before .before .before .before .before .before in
+    let W = c16 .loop .inv .0 (c25 .pre .1 .0) (c25 .pre .0 .0) in
+    column W (c15 .loop-test .taken) (c14 .label .ensures .0) (c12 .l .given .1) .head
 
 len-of-requires : tie.Need-len-of-requires Inv-loop μ-loop
 len-of-requires c κs = search needs
 
 add-to : tie.Need-add-to Inv-loop μ-loop
-add-to c = let T = c .before .before .before .before .before .before .before .before .before .before .before .before .before .before .before .before .before .before .before .before .before .before .before .before .before .pre .1 .0 in
-    let P = c .before .before .before .before .before .before .before .before .before .before .before .before .before .before .before .before .before .before .before .before .before .before .before .before .before .pre .0 .0 in
-    let W = c .before .before .before .before .before .before .before .before .before .before .before .before .before .before .before .before .before .before .loop .inv .0 T P in
-    let A = column-made W (c .before .before .before .before .before .before .before .before .before .before .before .before .before .before .before .before .before .loop-test .taken) (c .before .before .before .before .before .before .before .before .before .before .before .before .before .before .before .before .label .ensures .0) (c .before .before .before .before .before .before .before .before .before .before .before .before .before .before .l .given .1) _ _ (c .before .before .before .before .before .before .before .before .before .before .before .before .before .before .before .before .before .before .before .inserts .ensures) (c .before .before .before .before .before .before .before .before .attach-field .ensures _ T (P .columns) (column W (c .before .before .before .before .before .before .before .before .before .before .before .before .before .before .before .before .before .loop-test .taken) (c .before .before .before .before .before .before .before .before .before .before .before .before .before .before .before .before .label .ensures .0) (c .before .before .before .before .before .before .before .before .before .before .before .before .before .before .l .given .1) .head) (c .before .before .before .before .before .before .before .before .before .before .before .find-in .ensures P) (column-after W (c .before .before .before .before .before .before .before .before .before .before .before .before .before .before .before .before .before .loop-test .taken) (c .before .before .before .before .before .before .before .before .before .before .before .before .before .before .before .before .label .ensures .0) (c .before .before .before .before .before .before .before .before .before .before .before .before .before .before .l .given .1))) in
-    omega (arith, column-fits W (c .before .before .before .before .before .before .before .before .before .before .before .before .before .before .before .before .before .loop-test .taken) (c .before .before .before .before .before .before .before .before .before .before .before .before .before .before .before .before .label .ensures .0) (c .before .before .before .before .before .before .before .before .before .before .before .before .before .before .l .given .1) A (c .before .before .before .is-refused .ensures) (c .before .before .if1 .left) (c .len-of .ensures), c .before .before .before .before .before .before .before .before .before .before .before .before .before .before .before .before .before .before .before .before .before .before .before .before .before .pre .1 .1 .0)
+add-to c =
+    let c2 = c .before .before in let c3 = c2 .before in let c8 = c3 .before .before .before .before .before in let c11 = c8 .before .before .before in let
+    c14 = c11 .before .before .before in let c16 = c14 .before .before in let c17 = c16 .before in let c18 = c17 .before in let c20 = c18 .before .before
+    in let c27 = c20 .before .before .before .before .before .before .before in
+    let T = c27 .pre .1 .0 in
+    let P = c27 .pre .0 .0 in
+    let W = c18 .loop .inv .0 T P in
+    let A = column-made W (c17 .loop-test .taken) (c16 .label .ensures .0) (c14 .l .given .1) _ _ (c20 .inserts .ensures) (c8 .attach-field .ensures _ T
+    (P .columns) (column W (c17 .loop-test .taken) (c16 .label .ensures .0) (c14 .l .given .1) .head) (c11 .find-in .ensures P) (column-after W
+    (c17 .loop-test .taken) (c16 .label .ensures .0) (c14 .l .given .1))) in
+    omega (
+      arith,
+      column-fits W (c17 .loop-test .taken) (c16 .label .ensures .0) (c14 .l .given .1) A (c3 .is-refused .ensures) (c2 .if1 .left)
+          (c .len-of .ensures),
+      c27 .pre .1 .1 .0,
+    )
 
 enum-known-x : tie.Need-enum-known-x Inv-loop μ-loop
 enum-known-x c = search needs
 
 same-length-3 : tie.Need-same-length-3 Inv-loop μ-loop
-same-length-3 c = c .before .before .before .before .before .loop .inv .0 (c .before .before .before .before .before .before .before .before .before .before .before .before .pre .1 .0) (c .before .before .before .before .before .before .before .before .before .before .before .before .pre .0 .0) .kept
+same-length-3 c =
+    let c5 = c .before .before .before .before .before in let c14 = c5 .before .before .before .before .before .before .before .before .before in
+    c5 .loop .inv .0 (c14 .pre .1 .0) (c14 .pre .0 .0) .kept
 
 same-length-4 : tie.Need-same-length-4 Inv-loop μ-loop
 same-length-4 c = c .before .before .before .before .before .loop .inv .2
 
 returns-2 : tie.Need-returns-2 Inv-loop μ-loop
-returns-2 c = λ T P Q. building-unlabelled (c .before .before .before .before .before .loop .inv .0 T P) (c .before .before .before .before .loop-test .taken) (c .before .before .before .label .ensures .0) (c .before .x .given .1)
+returns-2 c =
+    let c1 = c .before in let c3 = c1 .before .before in let c4 = c3 .before in let c5 = c4 .before in
+    λ T P Q. building-unlabelled (c5 .loop .inv .0 T P) (c4 .loop-test .taken) (c3 .label .ensures .0) (c1 .x .given .1)
 
 add-i : tie.Need-add-i Inv-loop μ-loop
-add-i c = omega (arith, c .before .before .before .before .before .before .before .before .before .before .before .before .before .before .before .before .before .before .before .before .before .before .before .before .before .fits .m, c .before .before .before .before .before .before .before .before .before .before .before .before .before .before .before .before .before .loop-test .taken)
+add-i c =
+    let c17 = c .before .before .before .before .before .before .before .before .before .before .before .before .before .before .before .before .before in
+    let c27 = c17 .before .before .before .before .before .before .before .before .before .before in
+    omega (arith, c27 .good .1 .1 .1 .1 .1 .0, c17 .loop-test .taken)
 
 loop-less : tie.Need-loop-less Inv-loop μ-loop
 loop-less c = omega arith
 
 loop-again : tie.Need-loop-again Inv-loop μ-loop
-loop-again c = (
-  λ T P.
-      let W = c .before .before .before .before .before .before .before .before .before .before .before .before .before .before .before .before .before .before .loop .inv .0 T P in
-      let A = column-made W (c .before .before .before .before .before .before .before .before .before .before .before .before .before .before .before .before .before .loop-test .taken) (c .before .before .before .before .before .before .before .before .before .before .before .before .before .before .before .before .label .ensures .0) (c .before .before .before .before .before .before .before .before .before .before .before .before .before .before .l .given .1) _ _ (c .before .before .before .before .before .before .before .before .before .before .before .before .before .before .before .before .before .before .before .inserts .ensures) (c .before .before .before .before .before .before .before .before .attach-field .ensures _ T (P .columns) (column W (c .before .before .before .before .before .before .before .before .before .before .before .before .before .before .before .before .before .loop-test .taken) (c .before .before .before .before .before .before .before .before .before .before .before .before .before .before .before .before .label .ensures .0) (c .before .before .before .before .before .before .before .before .before .before .before .before .before .before .l .given .1) .head) (c .before .before .before .before .before .before .before .before .before .before .before .find-in .ensures P) (column-after W (c .before .before .before .before .before .before .before .before .before .before .before .before .before .before .before .before .before .loop-test .taken) (c .before .before .before .before .before .before .before .before .before .before .before .before .before .before .before .before .label .ensures .0) (c .before .before .before .before .before .before .before .before .before .before .before .before .before .before .l .given .1))) in
-      building-more W (c .before .before .before .before .before .before .before .before .before .before .before .before .before .before .before .before .before .loop-test .taken) (c .before .before .before .before .before .before .before .before .before .before .before .before .before .before .before .before .label .ensures .0) (c .before .before .before .before .before .before .before .before .before .before .before .before .before .before .l .given .1) A (c .before .before .before .is-refused .ensures) (c .before .before .if1 .left) (c .before .skip-type .ensures) (c .len-of .ensures) (c .before .before .before .before .before .before .before .before .attach-field .kept .1 .1 .1 .1 .1 .1 .1 .1 .1 .1 .1 .1 .0),
-  take-put (c .before .before .before .before .before .before .before .before .before .before .before .before .before .before .before .before .before .before .before .before .before .before .before .before .before .args .used) (length (c .before .before .before .before .before .before .before .before .before .before .before .before .before .before .before .before .before .before .loop .arena) - c .before .before .before .before .before .before .before .before .before .before .before .before .before .before .before .before .before .before .before .before .before .before .before .before .before .args .used) (c .before .before .before .before .before .before .before .before .before .before .before .before .before .before .before .before .before .before .loop .arena) (c .before .before .before .before .before .before .before .before .attach-field .last .1 .1 .1 .1 .1 .1 .1 .1 .1 .1 .1 .1 .1 .1 .0) (let a = c .before .before .before .before .before .before .before .before .before .before .before .before .before .before .before .before .before .before .loop .inv .2 in let b = c .before .before .before .before .before .before .before .before .before .before .before .before .before .before .before .before .before .before .before .before .before .before .before .before .before .pre .1 .1 .1 .0 in omega arith) ∙ c .before .before .before .before .before .before .before .before .before .before .before .before .before .before .before .before .before .before .loop .inv .1,
-  same-len-mid (c .before .before .before .before .before .before .before .before .before .before .before .before .before .before .before .before .before .before .before .before .before .before .before .before .before .args .used) (length (c .before .before .before .before .before .before .before .before .before .before .before .before .before .before .before .before .before .before .loop .arena) - c .before .before .before .before .before .before .before .before .before .before .before .before .before .before .before .before .before .before .before .before .before .before .before .before .before .args .used) (c .before .before .before .before .before .before .before .before .before .before .before .before .before .before .before .before .before .before .loop .arena) (c .before .before .before .before .before .before .before .before .attach-field .last .1 .1 .1 .1 .1 .1 .1 .1 .1 .1 .1 .1 .1 .1 .0) (c .before .before .before .before .before .before .before .before .attach-field .kept .1 .1 .1 .1 .1 .1 .1 .1 .1 .1 .1 .1 .1 .1 .0) ∙ c .before .before .before .before .before .before .before .before .before .before .before .before .before .before .before .before .before .before .loop .inv .2,
-)
+loop-again c =
+    let c1 = c .before in let c2 = c1 .before in let c3 = c2 .before in let c8 = c3 .before .before .before .before .before in let c11 =
+    c8 .before .before .before in let c14 = c11 .before .before .before in let c16 = c14 .before .before in let c17 = c16 .before in let c18 =
+    c17 .before in let c20 = c18 .before .before in let c27 = c20 .before .before .before .before .before .before .before in (
+      λ T P.
+          let W = c18 .loop .inv .0 T P in
+          let A = column-made W (c17 .loop-test .taken) (c16 .label .ensures .0) (c14 .l .given .1) _ _ (c20 .inserts .ensures) (c8 .attach-field .ensures _ T
+          (P .columns) (column W (c17 .loop-test .taken) (c16 .label .ensures .0) (c14 .l .given .1) .head) (c11 .find-in .ensures P) (column-after W
+          (c17 .loop-test .taken) (c16 .label .ensures .0) (c14 .l .given .1))) in
+          building-more W (c17 .loop-test .taken) (c16 .label .ensures .0) (c14 .l .given .1) A (c3 .is-refused .ensures) (c2 .if1 .left)
+          (c1 .skip-type .ensures) (c .len-of .ensures) (c8 .attach-field .kept .1 .1 .1 .1 .1 .0),
+      take-put (c27 .args .used) (length (c18 .loop .arena) - c27 .args .used) (c18 .loop .arena) (c8 .attach-field .last .1 .1 .1 .1 .1 .1 .1 .0) (let a =
+          c18 .loop .inv .2 in let b = c27 .pre .1 .1 .1 .0 in omega arith) ∙ c18 .loop .inv .1,
+      same-len-mid (c27 .args .used) (length (c18 .loop .arena) - c27 .args .used) (c18 .loop .arena) (c8 .attach-field .last .1 .1 .1 .1 .1 .1 .1 .0)
+          (c8 .attach-field .kept .1 .1 .1 .1 .1 .1 .1 .0) ∙ c18 .loop .inv .2,
+    )
 
-sub-t39 : tie.Need-sub-t39 Inv-loop μ-loop
-sub-t39 c = omega (arith, c .before .loop .inv .0 (c .before .before .before .before .before .before .before .before .pre .1 .0) (c .before .before .before .before .before .before .before .before .pre .0 .0) .over)
+sub-t44 : tie.Need-sub-t44 Inv-loop μ-loop
+sub-t44 c =
+    let c1 = c .before in let c10 = c1 .before .before .before .before .before .before .before .before .before in
+    omega (arith, c1 .loop .inv .0 (c10 .pre .1 .0) (c10 .pre .0 .0) .over)
 
 same-length-5 : tie.Need-same-length-5 Inv-loop μ-loop
-same-length-5 c = c .before .loop .inv .0 (c .before .before .before .before .before .before .before .before .pre .1 .0) (c .before .before .before .before .before .before .before .before .pre .0 .0) .kept
+same-length-5 c =
+    let c1 = c .before in let c10 = c1 .before .before .before .before .before .before .before .before .before in
+    c1 .loop .inv .0 (c10 .pre .1 .0) (c10 .pre .0 .0) .kept
 
 same-length-6 : tie.Need-same-length-6 Inv-loop μ-loop
 same-length-6 c = c .before .loop .inv .2
@@ -180,7 +275,7 @@ build-each-spec =
     add-i
     loop-less
     loop-again
-    sub-t39
+    sub-t44
     same-length-5
     same-length-6
     returns-3)

@@ -8,8 +8,10 @@ build-in-arena-spec =
     tie.close
     (tie.spec
     (λ c κs. search needs)
-    (λ c κs. let w = c .before .before .before .before .before .before .before .before .before .before .before .pre in
-    (w .0, (w .1 .0, (w .1 .1, (c .before .before .before .before .fill-in .ensures .0, c .before .before .before .before .fill-in .ensures .1)))))
+    (λ c κs.
+    let c4 = c .before .before .before .before in let c12 = c4 .before .before .before .before .before .before .before .before in
+    let w = c12 .pre in
+    (w .0, (w .1 .0, (w .1 .1, (c4 .fill-in .ensures .0, c4 .fill-in .ensures .1)))))
     (λ c. search needs)
     (λ c. search needs)
     (λ c. search needs))

@@ -13,13 +13,19 @@ extra-column-spec =
     (λ c κs. search needs)
     (λ c κs. search needs)
     (λ c κs. search needs)
-    (λ c. λ P Q. ignoring (c .before .before .before .before .args .v) (P .columns) (Q .columns) (c .enum-told .given .1))
-    (λ c. λ P Q.
-    raising (c .before .before .before .before .before .before .args .v) (P .columns) (Q .columns) (c .before .before .enum-told2 .given .1)
+    (λ c. λ P Q. ignoring (c .before .before .before .before .args .build .matching) (P .columns) (Q .columns) (c .enum-told .given .1))
+    (λ c.
+    let c2 = c .before .before in let c6 = c2 .before .before .before .before in
+    λ P Q.
+    raising (c6 .args .build .matching) (P .columns) (Q .columns) (c2 .enum-told2 .given .1)
     (c .extra-in-large .result) (c .extra-in-large .ensures P Q))
-    (λ c. λ P Q.
-    raising (c .before .before .before .before .before .before .before .args .v) (P .columns) (Q .columns)
-    (c .before .before .before .enum-told2 .given .1) (c .extra-in-small .result) (c .extra-in-small .ensures P Q))
-    (λ c. λ P Q.
-    raising (c .before .before .before .before .before .before .before .args .v) (P .columns) (Q .columns)
-    (c .before .before .before .enum-told2 .given .1) (c .extra-in-large2 .result) (c .extra-in-large2 .ensures P Q)))
+    (λ c.
+    let c3 = c .before .before .before in let c7 = c3 .before .before .before .before in
+    λ P Q.
+    raising (c7 .args .build .matching) (P .columns) (Q .columns)
+    (c3 .enum-told2 .given .1) (c .extra-in-small .result) (c .extra-in-small .ensures P Q))
+    (λ c.
+    let c3 = c .before .before .before in let c7 = c3 .before .before .before .before in
+    λ P Q.
+    raising (c7 .args .build .matching) (P .columns) (Q .columns)
+    (c3 .enum-told2 .given .1) (c .extra-in-large2 .result) (c .extra-in-large2 .ensures P Q)))

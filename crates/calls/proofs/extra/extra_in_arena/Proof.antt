@@ -12,9 +12,11 @@ extra-in-arena-spec =
     (tie.spec
     (λ c κs. search needs)
     (λ c. search needs)
-    (λ c. let f = c .before .before .before .fill-in in sym (length-take-le (f .result) (f .last .1 .1 .1 .1 .1 .1 .0) (f .ensures .0)))
-    (λ c κs. let f = c .before .before .before .fill-in in
-    let xs = f .last .1 .1 .1 .1 .1 .1 .0 in
-    (c .before .before .before .before .before .before .before .before .pre, table-kept xs xs (f .ensures .0) refl (f .ensures .1)))
+    (λ c. let f = c .before .before .before .fill-in in sym (length-take-le (f .result) (f .last .1 .1 .1 .1 .1 .1 .1 .0) (f .ensures .0)))
+    (λ c κs.
+    let c3 = c .before .before .before in let c9 = c3 .before .before .before .before .before .before in
+    let f = c3 .fill-in in
+    let xs = f .last .1 .1 .1 .1 .1 .1 .1 .0 in
+    (c9 .pre, table-kept xs xs (f .ensures .0) refl (f .ensures .1)))
     (λ c. search needs)
     (λ c. search needs))

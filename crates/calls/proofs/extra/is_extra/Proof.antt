@@ -14,15 +14,19 @@ is-extra-spec =
     (λ c κs. search needs)
     (λ c. search needs)
     (λ c. search needs)
-    (λ c. λ P.
-    let v = c .before .before .before .before .before .before .args .v in
-    let l = labelAt (now (c .before .before .before .before .before .before .args .t))
-    (c .before .before .before .before .before .before .args .l) in
-    found-some v (now (c .before .before .before .before .before .before .args .s)) (counterpart v l (P .columns))
-    (c .before .before .find-in .ensures P) (c .enum-told .given .1))
-    (λ c. λ P.
-    let v = c .before .before .before .before .before .before .args .v in
-    let l = labelAt (now (c .before .before .before .before .before .before .args .t))
-    (c .before .before .before .before .before .before .args .l) in
-    found-none v (now (c .before .before .before .before .before .before .args .s)) (counterpart v l (P .columns))
-    (c .before .before .find-in .ensures P) (c .enum-told2 .given .1)))
+    (λ c.
+    let c2 = c .before .before in let c7 = c2 .before .before .before .before .before in
+    λ P.
+    let v = c7 .args .build .matching in
+    let l = labelAt (now (c7 .args .incoming))
+    (c7 .args .l) in
+    found-some (c7 .args .build .target) (now (c7 .args .target)) (counterpart v l (P .columns))
+    (c2 .find-in .ensures P) (c .enum-told .given .1))
+    (λ c.
+    let c2 = c .before .before in let c7 = c2 .before .before .before .before .before in
+    λ P.
+    let v = c7 .args .build .matching in
+    let l = labelAt (now (c7 .args .incoming))
+    (c7 .args .l) in
+    found-none (c7 .args .build .target) (now (c7 .args .target)) (counterpart v l (P .columns))
+    (c2 .find-in .ensures P) (c .enum-told2 .given .1)))

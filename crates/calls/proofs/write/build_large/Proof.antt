@@ -7,6 +7,20 @@ use Rattle.calls.proofs.write.build_large.Tie as tie
 
 pub build-large-spec : {M : Type 1} → statement M
 build-large-spec =
-    tie.close (tie.spec (λ c. search needs) (λ c κs. (c .before .before .before .before .before .before .pre .0, (c .before .before .before .before .before .before .pre .1 .0, (c .before .before .before .before .before .before .pre .1 .1, omega arith)))) (λ c. search needs) (λ c. search needs) (λ c. search needs) (λ c. λ T P Q. attempt-answered _ _ _ (c .before .before .before .before .before .before .build-in .result) _ (c .before .before .before .before .before .before .build-in .ensures T P Q) (c .before .r .given .1)) (λ c. search needs) (λ c. λ T P Q.
-    let (w, k) = attempt-short _ _ _ (c .before .before .before .before .before .build-in .result) _ (c .before .before .before .before .before .build-in .ensures T P Q) (c .enum-told .given .1) in
+    tie.close (tie.spec
+    (λ c. search needs)
+    (λ c κs.
+    let c6 = c .before .before .before .before .before .before in
+    (c6 .pre .0, (c6 .pre .1 .0, (c6 .pre .1 .1, omega arith))))
+    (λ c. search needs)
+    (λ c. search needs)
+    (λ c. search needs)
+    (λ c.
+    let c1 = c .before in let c6 = c1 .before .before .before .before .before in
+    λ T P Q. attempt-answered _ _ _ (c6 .build-in .result) _ (c6 .build-in .ensures T P Q) (c1 .r .given .1))
+    (λ c. search needs)
+    (λ c.
+    let c5 = c .before .before .before .before .before in
+    λ T P Q.
+    let (w, k) = attempt-short _ _ _ (c5 .build-in .result) _ (c5 .build-in .ensures T P Q) (c .enum-told .given .1) in
     plan-long _ w k))

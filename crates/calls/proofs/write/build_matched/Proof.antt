@@ -15,7 +15,8 @@ kept c =
     ⊎-elim
     (λ w.
     let (i, a, s, p, k, m, t, e) = w in
-    let (l, q) = attempt-short _ _ _ (s .result) _ (s .ensures (c .before .before .before .before .before .pre .1 .0) (c .before .before .before .before .before .pre .0 .0) (c .before .before .before .before .before .pre .0 .1)) (t .given .1) in
+    let (l, q) = attempt-short _ _ _ (s .result) _ (s .ensures (c .before .before .before .before .before .pre .1 .0)
+    (c .before .before .before .before .before .pre .0 .0) (c .before .before .before .before .before .pre .0 .1 .0)) (t .given .1) in
     e ∙ q)
     (λ w. w .1)
     (c .if1 .came)
@@ -27,9 +28,16 @@ build-matched-spec =
     (λ c κs. search needs)
     (λ c. search needs)
     (λ c. search needs)
-    (λ c. λ T P Q. attempt-answered _ _ _ (c .before .before .before .before .before .build-small .result) _ (c .before .before .before .before .before .build-small .ensures T P Q) (c .before .r .given .1))
+    (λ c.
+    let c1 = c .before in let c5 = c1 .before .before .before .before in
+    λ T P Q. attempt-answered _ _ _ (c5 .build-small .result) _ (c5 .build-small .ensures T P Q) (c1 .r .given .1))
     (λ c. search needs)
     (λ c κs. search needs)
-    (λ c. c .before .before .build-large .kept .1 .1 .1 .1 .1 .1 .1 .1 .1 .1 .0 ∙ ap length (kept (c .before .before .before .before)))
-    (λ c. λ T P Q.
-    plan-again (buildFrom (c .before .before .before .before .before .before .before .before .before .args .v) (c .before .before .before .before .before .before .before .before .before .args .policy) (getDefaultValue (T .entries) (c .before .before .before .before .before .before .before .before .before .args .defaults .«source_index»)) (Q .columns) (P .columns) 0) (kept (c .before .before .before .before)) (c .before .before .build-large .ensures T P Q)))
+    (λ c.
+    let c2 = c .before .before in let c4 = c2 .before .before in
+    c2 .build-large .kept .1 .1 .1 .1 .1 .0 ∙ ap length (kept (c4)))
+    (λ c.
+    let c2 = c .before .before in let c4 = c2 .before .before in let c9 = c4 .before .before .before .before .before in
+    λ T P Q.
+    plan-again (buildFrom (c9 .args .build .matching) (c9 .args .build .policy) (getDefaultValue (T .entries) (c9 .args .build .defaults .«source_index»))
+    (Q .columns) (P .columns) 0) (kept (c4)) (c2 .build-large .ensures T P Q)))
