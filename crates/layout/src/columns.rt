@@ -75,7 +75,8 @@ impl Cursor {
         }
     }
 
-    pub fn label(self, s: &[u8], v: Edition) -> Labelled
+    // In any version.
+    fn label_of(self, s: &[u8], v: Edition) -> Labelled
         ensures { λ r. ⌜ labelRes (now (s .entry)) r ≡ label v (now (s .entry)) (self .at) ⌝ }
         ensures { λ r. ⌜ labelIn (now (s .entry)) r ⌝ }
     {
@@ -106,6 +107,28 @@ impl Cursor {
         }
     }
 
+    // The few steps of version 1 stand in line at the callers, which the compiler does not do with those of all versions.
+    pub fn label(self, s: &[u8], v: Edition) -> Labelled
+        ensures { λ r. ⌜ labelRes (now (s .entry)) r ≡ label v (now (s .entry)) (self .at) ⌝ }
+        ensures { λ r. ⌜ labelIn (now (s .entry)) r ⌝ }
+    {
+        match v {
+            Edition::One => match self.text(s) {
+                Text::Is(name, next) => Labelled::Is(
+                    Label {
+                        name,
+                        id: FieldId(0),
+                        required: false,
+                    },
+                    next,
+                ),
+                Text::Refused(k) => Labelled::Refused(k),
+            },
+            Edition::Two => self.label_of(s, v),
+            Edition::Three => self.label_of(s, v),
+        }
+    }
+
     // An element's label: nothing stands for it in version 1.
     pub fn element_label(self, s: &[u8], v: Edition) -> Labelled
         ensures { λ r. ⌜ labelRes (now (s .entry)) r ≡ elementLabel v (now (s .entry)) (self .at) ⌝ }
@@ -120,8 +143,8 @@ impl Cursor {
                 },
                 self,
             ),
-            Edition::Two => self.label(s, v),
-            Edition::Three => self.label(s, v),
+            Edition::Two => self.label_of(s, v),
+            Edition::Three => self.label_of(s, v),
         }
     }
 }
