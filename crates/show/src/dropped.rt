@@ -1,4 +1,6 @@
 // What a plan drops: the incoming columns, or the fields of an incoming struct, that no selector takes.
+ghost use mathlib.Core.Path.{_≡_};
+ghost use lib.ListN.{length};
 use crate::scope::Scope;
 use crate::scope::Source;
 use describe::columns::put_column;
@@ -36,16 +38,21 @@ fn position_taken(plan: &[u8], c: Cursor) -> usize {
     NONE
 }
 
+fn note(taken: &mut [u8], k: usize)
+    ensures { λ _. ⌜ length (now (taken .exit)) ≡ length (now (taken .entry)) ⌝ }
+{
+    if k < taken.len() {
+        taken[k] = 1;
+    }
+}
+
 // Notes what each of `n` selectors from `c` on takes.
 fn note_taken(plan: &[u8], n: u16, c: Cursor, taken: &mut [u8]) {
     let mut at = c.at;
     let mut i: u16 = 0;
     while i < n {
         let d = Cursor { at };
-        let k = position_taken(plan, d);
-        if k < taken.len() {
-            taken[k] = 1;
-        }
+        note(taken, position_taken(plan, d));
         at = skip_selector(plan, d).at;
         i += 1;
     }

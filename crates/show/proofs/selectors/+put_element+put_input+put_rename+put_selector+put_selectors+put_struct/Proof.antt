@@ -24,6 +24,7 @@ use Rattle.show.proofs.selectors.put_struct.Kinds as put-struct-kinds
 use Rattle.show.proofs.selectors.+put_element+put_input+put_rename+put_selector+put_selectors+put_struct.Lts-put_struct as put-struct-lts
 use Rattle.describe.proofs.columns.put_start.Reads as put-start-reads
 use Rattle.plan.proofs.read.read_selector.Reads as read-selector-reads
+use Rattle.show.proofs.dropped.put_dropped.Reads as put-dropped-reads
 use Rattle.show.proofs.scope.inside.Reads as inside-reads
 use Rattle.show.proofs.scope.put_position.Reads as put-position-reads
 use Rattle.show.proofs.scope.type_of.Reads as type-of-reads
@@ -140,7 +141,7 @@ abbrev put-selectors-claims : ℕ → put-selectors-lts.Claims
 put-selectors-claims t = (put-start-reads.Asked, put-start-reads.Learnt, put-made-column-reads.Asked, put-made-column-reads.Learnt, put-selector-below t, put-selector.Post, read-selector-reads.Asked, read-selector-reads.Learnt)
 
 abbrev put-struct-claims : ℕ → put-struct-lts.Claims
-put-struct-claims t = (struct-fields-reads.Asked, struct-fields-reads.Learnt, put-reads.Asked, put-reads.Learnt, put-count-reads.Asked, put-count-reads.Learnt, put-input-below t, put-input.Post, type-of-reads.Asked, type-of-reads.Learnt, inside-reads.Asked, inside-reads.Learnt, made-fields-reads.Asked, made-fields-reads.Learnt, deeper-reads.Asked, deeper-reads.Learnt, put-selectors-below t, put-selectors.Post)
+put-struct-claims t = (struct-fields-reads.Asked, struct-fields-reads.Learnt, put-reads.Asked, put-reads.Learnt, put-count-reads.Asked, put-count-reads.Learnt, put-input-below t, put-input.Post, type-of-reads.Asked, type-of-reads.Learnt, inside-reads.Asked, inside-reads.Learnt, made-fields-reads.Asked, made-fields-reads.Learnt, deeper-reads.Asked, deeper-reads.Learnt, put-selectors-below t, put-selectors.Post, put-dropped-reads.Asked, put-dropped-reads.Learnt)
 
 abbrev put-selectors-Inv-loop : put-selectors-lts.InvT-loop
 put-selectors-Inv-loop plan incoming scope target columns depth n level at₀ i₀ at i = (i ≤ n) × (n < 65536)
@@ -255,6 +256,8 @@ pub +put-element+put-input+put-rename+put-selector+put-selectors+put-struct-spec
     (λ c. search needs)
     (λ c κs. search needs)
     (λ c. search needs)
+    (λ c κs. search needs)
+    (λ c κs. search needs)
     (λ c κs. search needs)
     (λ c κs. search needs)
     (λ c κs. search needs)
