@@ -8,14 +8,18 @@ static void position(text *t, int k) {
     put(t, (uint64_t)k, 2);
 }
 
-static void expect_check(const char *name, uint32_t number) {
+static void expect_check_within(const char *name, uint32_t number, double limit) {
     struct timespec from;
     clock_gettime(CLOCK_MONOTONIC, &from);
     uint64_t answer = selector_check_plan(incoming.bytes, incoming.length, target.bytes, target.length, plan.bytes, plan.length);
     double taken = since(&from);
     printf("%s, a plan of %zu bytes: check %u after %.2f ms\n", name, plan.length, SELECTOR_NUMBER(answer), taken);
-    if (SELECTOR_NUMBER(answer) != number || taken > 1000)
+    if (SELECTOR_NUMBER(answer) != number || taken > limit)
         failed = 1;
+}
+
+static void expect_check(const char *name, uint32_t number) {
+    expect_check_within(name, number, 1000);
 }
 
 /* Renames of a mapping that turns the fields round. */
