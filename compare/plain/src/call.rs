@@ -40,6 +40,21 @@ fn at_column((number, place): (Fault, usize)) -> Refusal {
     }
 }
 
+/// The layouts of a build, which takes these versions.
+fn both_layouts(
+    incoming: &[u8],
+    target: &[u8],
+    takes: impl Fn(u8) -> bool,
+) -> Result<(Layout, Layout), Refusal> {
+    let incoming = layout(incoming).map_err(Refusal::of_input(1))?;
+    let target = layout(target).map_err(Refusal::of_input(2))?;
+    if takes(incoming.version) && takes(target.version) {
+        Ok((incoming, target))
+    } else {
+        Err(Refusal::of(10))
+    }
+}
+
 /// The plan, for a buffer of `space` bytes.
 pub fn build_by_name(
     policy: u32,
@@ -47,11 +62,7 @@ pub fn build_by_name(
     target: &[u8],
     space: usize,
 ) -> Result<Vec<u8>, Refusal> {
-    let incoming = layout(incoming).map_err(Refusal::of_input(1))?;
-    let target = layout(target).map_err(Refusal::of_input(2))?;
-    if incoming.version != 1 || target.version != 1 {
-        return Err(Refusal::of(10));
-    }
+    let (incoming, target) = both_layouts(incoming, target, |version| version == 1)?;
     build::by_name(policy, (&incoming, &target), space).map_err(at_column)
 }
 
@@ -63,11 +74,7 @@ pub fn build_by_number(
     target: &[u8],
     space: usize,
 ) -> Result<Vec<u8>, Refusal> {
-    let incoming = layout(incoming).map_err(Refusal::of_input(1))?;
-    let target = layout(target).map_err(Refusal::of_input(2))?;
-    if incoming.version == 1 || target.version == 1 {
-        return Err(Refusal::of(10));
-    }
+    let (incoming, target) = both_layouts(incoming, target, |version| version > 1)?;
     let entries = read_defaults(defaults, owner).map_err(Refusal::of_input(3))?;
     let layouts = (&incoming, &target);
     build::by_number(policy, source_index, layouts, &entries, space).map_err(at_column)

@@ -1,5 +1,6 @@
 //! The required column or field to which a plan may give null.
 
+use super::first_refused;
 use crate::follow::Way;
 use crate::form::{Column, Layout, Type};
 use crate::write::layout_bytes;
@@ -23,18 +24,8 @@ pub fn optional_place(
     };
     let mut places = Vec::new();
     required(&target.columns, &mut Way::new(), &mut places);
-    let (mut passes, mut refuses) = (0, places.len());
-    if !refused(refuses)? {
-        return None;
-    }
-    while refuses - passes > 1 {
-        let middle = (passes + refuses) / 2;
-        match refused(middle)? {
-            true => refuses = middle,
-            false => passes = middle,
-        }
-    }
-    places.into_iter().nth(passes)
+    let first = first_refused(places.len(), refused)?;
+    places.into_iter().nth(first)
 }
 
 /// The ways to what is required, the outer first.

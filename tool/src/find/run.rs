@@ -1,5 +1,6 @@
 //! The column and field with which a run begins to be refused.
 
+use super::first_refused;
 use crate::follow::{Way, made};
 use crate::form::{Column, Layout, Plan, Selector};
 use crate::write::{layout_bytes, plan_bytes};
@@ -33,18 +34,7 @@ impl Run<'_> {
             let selectors = plan.selectors.get(..count)?.to_vec();
             self.refused(selectors, &Layout { columns, ..*target })
         };
-        let (mut passes, mut refuses) = (0, target.columns.len());
-        if !refused(refuses)? {
-            return None;
-        }
-        while refuses - passes > 1 {
-            let middle = (passes + refuses) / 2;
-            match refused(middle)? {
-                true => refuses = middle,
-                false => passes = middle,
-            }
-        }
-        refuses.checked_sub(1)
+        first_refused(target.columns.len(), refused)
     }
 
     /// The way on from a column to the field inside it that is refused by itself, as far as there is one.
