@@ -24,7 +24,7 @@ use Rattle.layout.specs.declared.edition.Edition.{Edition}
 use Rattle.layout.proofs.Ways.{clash, moved-to, moved-refused}
 use Rattle.layout.proofs.View.{leaf-at, StructAt}
 use Rattle.forms.specs.Form.{u16Bytes, kindForm, headOf}
-use Rattle.forms.specs.Same.{sameDtype}
+use Rattle.forms.specs.Compare.{sameDtype}
 use Rattle.forms.proofs.Equal.{same-dtype-refl, same-dtype-eq}
 use Rattle.rules.specs.Outcomes.{Verdict, untouched, refused as refusedBy, cast as casts, verdictOf}
 use Rattle.rules.specs.Pairs.{pairRule}

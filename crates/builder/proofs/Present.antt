@@ -7,7 +7,7 @@ use Rattle.layout.specs.Parser.{choose}
 use Rattle.layout.specs.Tree.{LeafType, Label, ColumnType, cleaf, cstruct, clist, carray, Columns, leaf, dtypeOf}
 use Rattle.layout.specs.declared.columns.FieldId.{FieldId}
 use Rattle.layout.proofs.Ways.{clash}
-use Rattle.forms.specs.Same.{sameDtype}
+use Rattle.forms.specs.Compare.{sameDtype}
 use Rattle.values.specs.Value.{Value, vnull, vnumber, vtext, voverflow, vstruct, vlist, varray, Values, vnil, vcons, isNullValue}
 use Rattle.defaults.specs.Table.{Entry, Given, initial, partition, failed}
 use Rattle.defaults.specs.Lookup.{Taken, refused, nothing, taken, unlessNull, ofSource, givenTo, isPartitionOf, isInitialOf, firstEntry, getDefaultValue}

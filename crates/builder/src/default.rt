@@ -7,7 +7,7 @@ ghost use Rattle.store.specs.Overlay.{overlay};
 ghost use Rattle.layout.specs.Tree.{leaf};
 ghost use Rattle.layout.specs.Answers.{leafAt, spanIn};
 ghost use Rattle.layout.specs.Stands.{TypeAt, ColumnsAt};
-ghost use Rattle.forms.specs.Same.{sameDtype};
+ghost use Rattle.forms.specs.Compare.{sameDtype};
 ghost use Rattle.values.specs.Value.{vnull};
 ghost use Rattle.values.specs.Encode.{encodeValue};
 ghost use Rattle.values.specs.Stands.{ValueAt};

@@ -19,7 +19,7 @@ use borrow.Author.Tests.{eq-eqb}
 use Rattle.layout.proofs.Ways.{clash}
 use Rattle.layout.proofs.View.{same-columns, label-got, no-column}
 use Rattle.forms.specs.Form.{headOf}
-use Rattle.forms.specs.Same.{sameDtype, sameFields}
+use Rattle.forms.specs.Compare.{sameDtype, sameFields}
 use Rattle.forms.specs.Labelled.{ElementAt, ColumnAt}
 use Rattle.forms.specs.Answers.{endOf, sameOf}
 use Rattle.forms.specs.declared.compare.Same.{Same}

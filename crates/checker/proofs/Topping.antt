@@ -17,7 +17,7 @@ use Rattle.layout.proofs.Ways.{clash}
 use Rattle.layout.proofs.Top.{columns-count}
 use Rattle.layout.proofs.View.{next-ok, same-columns, no-column}
 use Rattle.layout.proofs.Whole.{u16-at, tested}
-use Rattle.forms.specs.Same.{sameDtype, sameFields}
+use Rattle.forms.specs.Compare.{sameDtype, sameFields}
 use Rattle.forms.specs.Labelled.{ColumnAt}
 use Rattle.forms.proofs.Equal.{same-fields-eq}
 use Rattle.forms.proofs.Heads.{count-fields}

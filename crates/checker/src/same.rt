@@ -7,7 +7,7 @@ ghost use Rattle.layout.specs.Tree.{DataType, struct, Fields, countFields, dtyp
 ghost use Rattle.layout.specs.Stands.{TypeAt, ColumnsAt};
 ghost use Rattle.layout.specs.declared.edition.Edition.{Edition as EditionOf};
 ghost use Rattle.forms.specs.Form.{headOf};
-ghost use Rattle.forms.specs.Same.{sameDtype, sameFields};
+ghost use Rattle.forms.specs.Compare.{sameDtype, sameFields};
 ghost use Rattle.forms.specs.Labelled.{ElementAt, ColumnAt};
 ghost use Rattle.plan.specs.Check.{Column};
 ghost use Rattle.checker.specs.declared.resolve.Source.{Source as SourceOf};

@@ -2,7 +2,7 @@
 ghost use mathlib.Core.Path.{_≡_};
 ghost use Rattle.layout.specs.Tree.{Fields, fieldsOf};
 ghost use Rattle.layout.specs.Stands.{ColumnsAt};
-ghost use Rattle.forms.specs.Same.{sameFields};
+ghost use Rattle.forms.specs.Compare.{sameFields};
 ghost use Rattle.plan.specs.Selector.{Selectors};
 ghost use Rattle.plan.specs.Check.{topTypes, check};
 ghost use Rattle.plan.specs.Nullness.{nullnessesOf};

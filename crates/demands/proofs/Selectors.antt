@@ -14,7 +14,7 @@ use Rattle.values.specs.Encode.{encodeValues}
 use Rattle.values.specs.Record.{longest}
 use Rattle.plan.specs.Result.{gives, refuses, demand, accepted, placed}
 use Rattle.plan.specs.Selector.{Selector, position, constant, cast, rename, structMapping, listMapping, arrayMapping, Selectors, snil, scons, countSelectors}
-use Rattle.forms.specs.Same.{sameFields}
+use Rattle.forms.specs.Same.{equalFields}
 use Rattle.plan.specs.Check.{columnAt, elementOf, structOf, listOf, arrayOf, resulting, checkCast, checkRename, checkStruct, checkList, checkArray, typeOf, typesOf, topTypes, against, check}
 use Rattle.plan.specs.Nullness.{nnil, nullnessesOf}
 use Rattle.plan.specs.Marks.{givens, meetsAll, checkMarked}
@@ -109,7 +109,7 @@ some-selector Γ Δ (scons s ss) e = omega arith
 pub check-in : (Γ Δ : Fields) (ss : Selectors) {P : ℕ → ℕ → Type 0} → ((n k : ℕ) → ColumnRefusal selectorRefusals (countSelectors ss) n k → P n k) → P 33 0
     → Answers (λ x. Unit {0}) P (check Γ Δ ss)
 unfolding check against placed demand
-check-in Γ Δ ss {P} c p = answered-in (top-in Γ ss 0 (countSelectors ss) (omega arith)) c (λ fs x. go (sameFields fs Δ))
+check-in Γ Δ ss {P} c p = answered-in (top-in Γ ss 0 (countSelectors ss) (omega arith)) c (λ fs x. go (equalFields fs Δ))
   where
     go : (b : Bool) → Answers (λ (x : Unit {0}). Unit {0}) P (placed 0 (demand b 33 (gives tt)) accepted)
     go true = in-accepted tt

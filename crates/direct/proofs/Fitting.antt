@@ -16,7 +16,7 @@ use Rattle.layout.specs.declared.cursor.Text.{Text}
 use Rattle.layout.specs.declared.edition.Edition.{Edition}
 use Rattle.layout.specs.declared.edition.Edition.the-variants.{One}
 use Rattle.layout.proofs.Ways.{text-in}
-use Rattle.forms.specs.Same.{sameDtype}
+use Rattle.forms.specs.Compare.{sameDtype}
 use Rattle.forms.specs.Answers.{sameOf}
 use Rattle.forms.specs.declared.compare.Same.{Same}
 use Rattle.forms.proofs.Equal.{same-dtype-eq}

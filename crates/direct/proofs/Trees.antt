@@ -11,7 +11,7 @@ use Rattle.layout.specs.Stands.{TypeAt}
 use Rattle.layout.specs.declared.edition.Edition.{Edition}
 use Rattle.forms.specs.Form.{form}
 use Rattle.forms.specs.Readable.{depthOf}
-use Rattle.forms.proofs.Equal.{same-fields-refl}
+use Rattle.forms.proofs.Equal.{equal-fields-refl}
 use Rattle.forms.proofs.Writing.{extent}
 use Rattle.nodes.proofs.Sizes.{depth-within}
 use Rattle.rules.specs.declared.outcome.CastOption.{CastOption}
@@ -64,4 +64,4 @@ tops-given Γ (scons s ss) k e =
 -- a plan that gives the target's columns
 pub plan-passes : (Γ Δ : Fields) (ss : Selectors) → typesOf Γ ss ≡ gives Δ → check Γ Δ ss ≡ accepted tt
 unfolding check against answered placed demand
-plan-passes Γ Δ ss e = rw (tops-given Γ ss 0 e, same-fields-refl Δ)
+plan-passes Γ Δ ss e = rw (tops-given Γ ss 0 e, equal-fields-refl Δ)

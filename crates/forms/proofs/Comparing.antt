@@ -27,7 +27,7 @@ use Rattle.layout.proofs.Ways.{clash}
 use Rattle.layout.proofs.Top.{columns-count}
 use Rattle.layout.proofs.View.{next-ok, deep, label-got, label-none, same-columns, columns-any, no-column}
 use Rattle.forms.specs.Form.{kindForm, headOf}
-use Rattle.forms.specs.Same.{sameLeaf, sameDtype, sameFields}
+use Rattle.forms.specs.Compare.{sameLeaf, sameDtype, sameFields}
 use Rattle.forms.specs.Answers.{sameOf}
 use Rattle.forms.specs.Labelled.{LabelledAt, ElementAt, ColumnAt}
 use Rattle.forms.specs.declared.compare.Same.{Same}

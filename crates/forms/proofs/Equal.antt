@@ -19,7 +19,8 @@ use Rattle.layout.proofs.Ways.{clash}
 use Rattle.layout.proofs.OfBytes.{same-bytes-refl, both, same-bytes-eq}
 use Rattle.layout.specs.Layout.{unitCode}
 use Rattle.forms.specs.Form.{u16Bytes, u32Bytes, textBytes, leafForm, kindForm, form, formFields, headOf, restForm}
-use Rattle.forms.specs.Same.{equalTypes, sameLeaf, sameDtype, sameFields}
+use Rattle.forms.specs.Same.{equalTypes, equalFields}
+use Rattle.forms.specs.Compare.{sameLeaf, sameDtype, sameFields}
 use Rattle.forms.proofs.Leaves.{LeafCase, plain, timed, scaled, leafCase}
 
 -- ---- each form is read in one way
@@ -240,3 +241,46 @@ mutual
       let (p, f) = both (sameBytes n m) (sameDtype t u && sameFields fs gs) e in
       let (q, g) = both (sameDtype t u) (sameFields fs gs) f in
       fcons-eq (same-bytes-eq n m p) (same-dtype-eq t u q) (same-fields-eq fs gs g)
+
+-- ---- as the document compares them
+
+pub equal-types-refl : (t : DataType) → equalTypes t t ≡ true
+unfolding equalTypes
+equal-types-refl t = same-bytes-refl (form t)
+
+pub equal-types-eq : (t u : DataType) → equalTypes t u ≡ true → t ≡ u
+unfolding equalTypes
+equal-types-eq t u e = form-eq t u (alone (same-bytes-eq (form t) (form u) e)) .0
+
+pub equal-fields-refl : (fs : Fields) → equalFields fs fs ≡ true
+unfolding equalFields
+equal-fields-refl fnil = refl
+equal-fields-refl (fcons n t fs) = rw (same-bytes-refl n, equal-types-refl t) (equal-fields-refl fs)
+
+pub equal-fields-eq : (fs gs : Fields) → equalFields fs gs ≡ true → fs ≡ gs
+unfolding equalFields
+equal-fields-eq fnil fnil e = refl
+equal-fields-eq fnil (fcons m u gs) e = clash (cc)
+equal-fields-eq (fcons n t fs) fnil e = clash (cc)
+equal-fields-eq (fcons n t fs) (fcons m u gs) e =
+    let (p, f) = both (sameBytes n m) (equalTypes t u && equalFields fs gs) e in
+    let (q, g) = both (equalTypes t u) (equalFields fs gs) f in
+    fcons-eq (same-bytes-eq n m p) (equal-types-eq t u q) (equal-fields-eq fs gs g)
+
+both-ways : (a b : Bool) → (a ≡ true → b ≡ true) → (b ≡ true → a ≡ true) → a ≡ b
+both-ways true b f g = sym (f refl)
+both-ways false true f g = g refl
+both-ways false false f g = refl
+
+-- comparing part with part is the same
+pub same-is-equal : (t u : DataType) → sameDtype t u ≡ equalTypes t u
+same-is-equal t u =
+    both-ways (sameDtype t u) (equalTypes t u)
+    (λ e. ap (equalTypes t) (sym (same-dtype-eq t u e)) ∙ equal-types-refl t)
+    (λ e. ap (sameDtype t) (sym (equal-types-eq t u e)) ∙ same-dtype-refl t)
+
+pub same-fields-equal : (fs gs : Fields) → sameFields fs gs ≡ equalFields fs gs
+same-fields-equal fs gs =
+    both-ways (sameFields fs gs) (equalFields fs gs)
+    (λ e. ap (equalFields fs) (sym (same-fields-eq fs gs e)) ∙ equal-fields-refl fs)
+    (λ e. ap (sameFields fs) (sym (equal-fields-eq fs gs e)) ∙ same-fields-refl fs)

@@ -9,7 +9,8 @@ use Rattle.layout.specs.declared.leaf.TimeUnit.{TimeUnit}
 use Rattle.layout.specs.declared.leaf.TimeUnit.the-variants.{Microseconds, Milliseconds}
 use Rattle.layout.specs.Layout.{unitCode}
 use Rattle.forms.specs.Form.{u16Bytes, u32Bytes, textBytes, carried, leafForm, kindForm, form, formFields}
-use Rattle.forms.specs.Same.{sameLeaf, sameDtype, sameFields, equalTypes}
+use Rattle.forms.specs.Same.{equalTypes}
+use Rattle.forms.specs.Compare.{sameLeaf, sameDtype, sameFields}
 use Rattle.numeric.specs.declared.integers.Integer.the-variants.{Int32}
 
 -- open every definition that a sample computes through

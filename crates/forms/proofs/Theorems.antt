@@ -17,9 +17,10 @@ use Rattle.layout.specs.declared.edition.Edition.the-variants.{One}
 use Rattle.layout.specs.declared.columns.Siblings.{Siblings}
 use Rattle.layout.specs.declared.columns.Siblings.the-variants.{Free}
 use Rattle.forms.specs.Form.{form, formFields}
-use Rattle.forms.specs.Same.{sameDtype, sameFields, equalTypes}
+use Rattle.forms.specs.Same.{equalTypes, equalFields}
+use Rattle.forms.specs.Compare.{sameDtype}
 use Rattle.forms.specs.Readable.{Readable, depthOf, labelled}
-use Rattle.forms.proofs.Equal.{form-eq, same-dtype-refl, same-dtype-eq, same-fields-refl, same-fields-eq}
+use Rattle.forms.proofs.Equal.{form-eq, equal-types-refl, equal-types-eq, equal-fields-refl, equal-fields-eq, same-is-equal}
 use Rattle.layout.proofs.OfBytes.{same-bytes-refl, same-bytes-eq}
 use Rattle.store.proofs.Overlay.{slice-take}
 use Rattle.forms.proofs.Read.{type→, columns→}
@@ -39,27 +40,16 @@ forms-equal t u = (λ e. form-eq t u (ap (λ (b : Bytes). b ++ []) e) .0, λ e. 
 pub labelled-forms-equal : (a b : ColumnType) → (form (dtypeOf a) ≡ form (dtypeOf b)) ↔ (dtypeOf a ≡ dtypeOf b)
 labelled-forms-equal a b = forms-equal (dtypeOf a) (dtypeOf b)
 
--- comparing decides it: part with part, and the bytes
-pub same-decides : (t u : DataType) → (sameDtype t u ≡ true) ↔ (t ≡ u)
-same-decides t u = (λ e. same-dtype-eq t u e, λ e. ap (sameDtype t) (sym e) ∙ same-dtype-refl t)
-
+-- comparing decides it: the bytes, as the document says, and part with part, as code does
 pub equal-decides : (t u : DataType) → (equalTypes t u ≡ true) ↔ (t ≡ u)
-unfolding equalTypes
-equal-decides t u = (λ e. forms-equal t u .0 (same-bytes-eq (form t) (form u) e), λ e. ap (λ (x : DataType). sameBytes (form t) (form x)) (sym e) ∙ same-bytes-refl (form t))
+equal-decides t u = (λ e. equal-types-eq t u e, λ e. ap (equalTypes t) (sym e) ∙ equal-types-refl t)
 
-both-ways : (a b : Bool) → (a ≡ true → b ≡ true) → (b ≡ true → a ≡ true) → a ≡ b
-both-ways true b f g = sym (f refl)
-both-ways false true f g = g refl
-both-ways false false f g = refl
-
--- so comparing part with part is what the document defines
-pub same-is-equal : (t u : DataType) → sameDtype t u ≡ equalTypes t u
-same-is-equal t u =
-    both-ways (sameDtype t u) (equalTypes t u) (λ e. equal-decides t u .1 (same-decides t u .0 e)) (λ e. same-decides t u .1 (equal-decides t u .0 e))
+pub same-decides : (t u : DataType) → sameDtype t u ≡ equalTypes t u
+same-decides t u = same-is-equal t u
 
 -- columns: names, types and count
-pub same-fields-decides : (fs gs : Fields) → (sameFields fs gs ≡ true) ↔ (fs ≡ gs)
-same-fields-decides fs gs = (λ e. same-fields-eq fs gs e, λ e. ap (sameFields fs) (sym e) ∙ same-fields-refl fs)
+pub fields-decide : (fs gs : Fields) → (equalFields fs gs ≡ true) ↔ (fs ≡ gs)
+fields-decide fs gs = (λ e. equal-fields-eq fs gs e, λ e. ap (equalFields fs) (sym e) ∙ equal-fields-refl fs)
 
 -- ---- 2. a form that is written is read back, and nothing behind it is read
 

@@ -1,40 +1,18 @@
--- Document 01, "Types are equal when their version 1 forms have the same bytes", and the same by comparing part with part.
-use Prim.Native.Nat.{ℕ}
+-- Document 01, "Types are equal when their version 1 forms have the same bytes".
 use mathlib.Core.Bool.{Bool, true, false, _&&_}
-use lib.Dec.{eqb}
 use Rattle.layout.specs.Bytes.{sameBytes}
-use Rattle.layout.specs.Tree.{LeafType, DataType, leaf, struct, list, array, Fields, fnil, fcons}
-use Rattle.forms.specs.Form.{leafForm, form}
+use Rattle.layout.specs.Tree.{LeafType, DataType, leaf, Fields, fnil, fcons}
+use Rattle.forms.specs.Form.{form}
 
 unfoldable pub equalTypes : DataType → DataType → Bool
 equalTypes t u = sameBytes (form t) (form u)
 
--- kind, a date-time's unit and zone
-unfoldable pub sameLeaf : LeafType → LeafType → Bool
-sameLeaf l m = sameBytes (leafForm l) (leafForm m)
+abbrev pub equalLeaves : LeafType → LeafType → Bool
+equalLeaves l m = equalTypes (leaf l) (leaf m)
 
-unfoldable mutual
-  pub sameDtype : DataType → DataType → Bool
-  sameDtype (leaf l) (leaf m) = sameLeaf l m
-  sameDtype (leaf l) (struct gs) = false
-  sameDtype (leaf l) (list u) = false
-  sameDtype (leaf l) (array x u) = false
-  sameDtype (struct fs) (leaf m) = false
-  sameDtype (struct fs) (struct gs) = sameFields fs gs
-  sameDtype (struct fs) (list u) = false
-  sameDtype (struct fs) (array x u) = false
-  sameDtype (list t) (leaf m) = false
-  sameDtype (list t) (struct gs) = false
-  sameDtype (list t) (list u) = sameDtype t u
-  sameDtype (list t) (array x u) = false
-  sameDtype (array w t) (leaf m) = false
-  sameDtype (array w t) (struct gs) = false
-  sameDtype (array w t) (list u) = false
-  sameDtype (array w t) (array x u) = eqb w x && sameDtype t u
-
-  -- names, types and count
-  pub sameFields : Fields → Fields → Bool
-  sameFields fnil fnil = true
-  sameFields fnil (fcons m u gs) = false
-  sameFields (fcons n t fs) fnil = false
-  sameFields (fcons n t fs) (fcons m u gs) = sameBytes n m && (sameDtype t u && sameFields fs gs)
+-- columns: the same names, equal types, as many
+unfoldable pub equalFields : Fields → Fields → Bool
+equalFields fnil fnil = true
+equalFields fnil (fcons m u gs) = false
+equalFields (fcons n t fs) fnil = false
+equalFields (fcons n t fs) (fcons m u gs) = sameBytes n m && (equalTypes t u && equalFields fs gs)

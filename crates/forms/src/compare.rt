@@ -5,7 +5,7 @@ ghost use Rattle.layout.specs.Bytes.{sameBytes};
 ghost use Rattle.layout.specs.Tree.{dtypeOf, fieldsOf};
 ghost use Rattle.layout.specs.Answers.{spanAt, spanIn};
 ghost use Rattle.layout.specs.Stands.{TypeAt, ColumnsAt};
-ghost use Rattle.forms.specs.Same.{sameDtype, sameFields};
+ghost use Rattle.forms.specs.Compare.{sameDtype, sameFields};
 ghost use Rattle.forms.specs.Answers.{sameOf};
 ghost use Rattle.forms.specs.Labelled.{ElementAt, ColumnAt};
 use crate::head::head_end;

@@ -12,7 +12,7 @@ use Rattle.layout.specs.declared.columns.FieldId.{FieldId}
 use Rattle.layout.specs.declared.columns.Position.{Position}
 use Rattle.layout.specs.declared.matching.Matching.the-variants.{ByNumber}
 use Rattle.layout.proofs.Ways.{clash}
-use Rattle.forms.specs.Same.{sameDtype}
+use Rattle.forms.specs.Same.{equalTypes}
 use Rattle.rules.specs.declared.policy.Policy.{Policy}
 use Rattle.rules.specs.declared.policy.MissingColumnsPolicy.{MissingColumnsPolicy}
 use Rattle.rules.specs.declared.policy.ExtraColumnsPolicy.{ExtraColumnsPolicy}
@@ -183,7 +183,7 @@ module _ (p : Policy) (nulls : Bool) (es : List Entry) (k : ℕ) (empties : Fiel
   M = stated nulls es k empties
 
   leaf-default-refused : {i : FieldId} {t : Taken} {n : ℕ} (l : LeafType) → Origin es i t → leafDefault l t ≡ refuses n → NoDefaultFor es n i (cleaf l)
-  unfolding leafDefault sameDtype
+  unfolding leafDefault equalTypes
   leaf-default-refused l (from-failed h) e = rw (← refuses-eq e) (partition-failed h)
   leaf-default-refused l from-nothing e = never-given e
   leaf-default-refused l (from-given h t) e = demand-refused _ _ _ e (λ q r. rw (← r) (default-type h t q)) (λ q r. never-given r)

@@ -20,8 +20,8 @@ use Rattle.layout.specs.declared.leaf.TimeUnit.the-variants.{Microseconds}
 use Rattle.layout.specs.declared.edition.Edition.the-variants.{Two}
 use Rattle.layout.specs.declared.matching.Matching.the-variants.{ByNumber}
 use Rattle.layout.proofs.Ways.{clash}
-use Rattle.forms.specs.Form.{leafForm, carried, textBytes}
-use Rattle.forms.specs.Same.{sameLeaf, sameDtype}
+use Rattle.forms.specs.Form.{form, leafForm, carried, textBytes}
+use Rattle.forms.specs.Same.{equalTypes}
 use Rattle.rules.specs.declared.policy.Policy.{Policy}
 use Rattle.rules.specs.Policies.{policyOf, allOn}
 use Rattle.rules.specs.Zones.{zonesOf, readZone, isUtc}
@@ -70,7 +70,7 @@ computed : Policy → List Entry → Columns → Columns → Values → Answer V
 unfolding keepsRequired fillsRequired present mayBecome allowed meets meetsAll ofValue ofFields ofElements nullnessAt
     build buildFrom buildColumnSelector attachTransforms attachFields sought missing missingValue buildIcebergDefaultValue defaultsOf leafDefault
     withField structDefault getDefaultValue firstEntry givenTo ofSource unlessNull leafPart structPart listPart arrayPart isNullType unlessNullType renamed
-    sameElement distinct noExtra extraColumnErr extraColumns ruled isPosition inPlace structSelector listSelector arraySelector findFrom sameBytes sameDtype sameLeaf leafForm carried
+    sameElement distinct noExtra extraColumnErr extraColumns ruled isPosition inPlace structSelector listSelector arraySelector findFrom sameBytes equalTypes form leafForm carried
     dtypeOf fieldsOf countColumns countSelectors choose _>>=_ demand placed answered eval evals valueAt mapValues onStruct onList onArray castLeaf castValue
     pairRule chain paramsOf decimalsOf zonesOf readZone isUtc convert convertAs counted rescaled widened numberOf signed unsigned pattern
 computed p es Γ Δ ρ = answered (build ByNumber p (getDefaultValue es 0) Γ Δ) (λ ss. accepted (evals ρ ss))
@@ -178,7 +178,7 @@ unfolding laidOut
 repeated-read = refl
 
 repeated-reads : Sample false [] noneEmpty repeated repeated (row five) [] (row five) (row five)
-unfolding computed stated choose valueAt promotes dueLeaf sameLeaf sameDtype leafForm carried sameBytes
+unfolding computed stated choose valueAt promotes dueLeaf equalTypes form leafForm carried sameBytes
 repeated-reads =
     record {
       ours = refl;
@@ -366,7 +366,7 @@ module _ (M : Metadata) where
 -- an element of the id 4,294,967,295 pairs with any
 any-paired : Own [] (listed 2 (cleaf (integer Int8))) (listed 4294967295 (cleaf (integer Int8))) (one (vlist (one five))) (anyElement ∷ [])
     (one (vlist (one five)))
-unfolding computed stated choose valueAt promotes dueLeaf sameLeaf sameDtype leafForm carried sameBytes
+unfolding computed stated choose valueAt promotes dueLeaf equalTypes form leafForm carried sameBytes
 any-paired =
     record {
       ours = refl;
@@ -384,7 +384,7 @@ abbrev arrayed : Columns
 arrayed = ccons (label 0x74 1) (carray 1 (label 0x65 2) (cleaf (integer Int8))) cnil
 
 array-of-one : Own [] arrayed arrayed (one (varray (one five))) (arrayRead ∷ []) (one (varray (one five)))
-unfolding computed stated choose valueAt promotes dueLeaf sameLeaf sameDtype leafForm carried sameBytes
+unfolding computed stated choose valueAt promotes dueLeaf equalTypes form leafForm carried sameBytes
 array-of-one =
     record {
       ours = refl;
@@ -397,7 +397,7 @@ abbrev typed : LeafType → Columns
 typed l = ccons (label 0x74 1) (cleaf l) cnil
 
 int8-to-int16 : Own [] (typed (integer Int8)) (typed (integer Int16)) (one five) (leafConverted ∷ []) (one (vnumber (Leaf.Integer Int16) 5))
-unfolding computed stated choose valueAt promotes dueLeaf sameLeaf sameDtype leafForm carried sameBytes castLeaf convert convertAs counted rescaled widened
+unfolding computed stated choose valueAt promotes dueLeaf equalTypes form leafForm carried sameBytes castLeaf convert convertAs counted rescaled widened
     numberOf signed unsigned pattern
 int8-to-int16 =
     record {
@@ -426,7 +426,7 @@ unloaded =
 -- a default of another type
 unlike : Refusal allOn (record { id = record { 0 = 2 }; given = initial (integer UInt8) (vnumber (Leaf.Integer UInt8) 7) } ∷ []) bare whole emptyRow 28
     (row (vnumber (Leaf.Integer UInt8) 7))
-unfolding computed stated partitionOf initialOf firstEntry choose valueAt sameLeaf leafForm carried sameBytes
+unfolding computed stated partitionOf initialOf firstEntry choose valueAt equalTypes form leafForm carried sameBytes
 unlike =
     record {
       ours = refl;
@@ -483,7 +483,7 @@ unknown-nested =
 -- a promotion that the policy refuses
 not-upcast : Refusal (policyOf 65533) [] (typed (integer Int32)) (typed (integer Int64)) (one (vnumber (Leaf.Integer Int32) 5)) 16
     (one (vnumber (Leaf.Integer Int64) 5))
-unfolding computed stated choose valueAt promotes dueLeaf sameLeaf sameDtype leafForm carried sameBytes castLeaf convert convertAs counted rescaled widened
+unfolding computed stated choose valueAt promotes dueLeaf equalTypes form leafForm carried sameBytes castLeaf convert convertAs counted rescaled widened
     numberOf signed unsigned pattern pairRule chain paramsOf zonesOf readZone isUtc
 not-upcast = record { ours = refl; why = at-selected (id-here refl) (leaf-pair refl); theirs = reads-selected (id-here refl) refl (reads-leaf refl refl) reads-nil }
 
@@ -515,7 +515,7 @@ date-to-timestamp : (computed allOn [] (typed date) (typed timestamp) (one (vnum
     × RefusesAny allOn [] (stated false [] 0 noneEmpty) outside (allOn .«missing_columns») 11 24 (typed timestamp) (typed date)
     × ((f : LeafType → LeafType → Value → Value)
     → ReadsAll f (stated false [] 0 noneEmpty) (typed timestamp) (typed date) (one (vnumber Date 5)) (one (f date timestamp (vnumber Date 5))))
-unfolding computed valueAt promotes sameLeaf leafForm carried sameBytes pairRule chain paramsOf zonesOf readZone isUtc textBytes
+unfolding computed valueAt promotes equalTypes form leafForm carried sameBytes pairRule chain paramsOf zonesOf readZone isUtc textBytes
 date-to-timestamp = (refl, at-selected (id-here refl) (leaf-pair refl), λ f. reads-selected (id-here refl) refl (reads-leaf refl refl) reads-nil)
 
 -- ---- decimals (document 02, L1)
@@ -532,7 +532,7 @@ fixed p s n = one (vnumber (Leaf.Decimal (digits p s)) n)
 
 -- a larger precision at the same scale is a promotion: no difference, and the number is kept
 widening : Sample false [] noneEmpty (decimals 9 2) (decimals 18 2) (fixed 9 2 999999999) [] (fixed 18 2 999999999) (fixed 18 2 999999999)
-unfolding computed stated choose valueAt promotes dueLeaf sameLeaf sameDtype leafForm carried sameBytes castLeaf convert convertAs
+unfolding computed stated choose valueAt promotes dueLeaf equalTypes form leafForm carried sameBytes castLeaf convert convertAs
 widening =
     record {
       ours = refl;
@@ -542,12 +542,12 @@ widening =
 
 -- whatever the record holds
 widening-agrees : AgreesAll (stated false [] 0 noneEmpty) outside (decimals 18 2) (decimals 9 2)
-unfolding promotes sameLeaf leafForm carried sameBytes
+unfolding promotes equalTypes form leafForm carried sameBytes
 widening-agrees = agrees-selected (id-here refl) (agrees-leaf refl) agrees-nil
 
 -- with its flag off it is refused
 not-widened : Refusal (policyOf 49151) [] (decimals 9 2) (decimals 18 2) (fixed 9 2 999999999) 51 (fixed 18 2 999999999)
-unfolding computed stated choose valueAt promotes dueLeaf sameLeaf sameDtype leafForm carried sameBytes castLeaf convert convertAs pairRule chain paramsOf
+unfolding computed stated choose valueAt promotes dueLeaf equalTypes form leafForm carried sameBytes castLeaf convert convertAs pairRule chain paramsOf
     decimalsOf
 not-widened = record { ours = refl; why = at-selected (id-here refl) (leaf-pair refl); theirs = reads-selected (id-here refl) refl (reads-leaf refl refl) reads-nil }
 
@@ -559,7 +559,7 @@ record Neither (Γ Δ : Columns) (ρ : Values) (n : ℕ) : Type 0 where
 
 -- a smaller precision
 narrowing : Neither (decimals 18 2) (decimals 9 2) (fixed 18 2 5) 24
-unfolding computed promotes sameLeaf leafForm carried sameBytes pairRule chain paramsOf decimalsOf
+unfolding computed promotes equalTypes form leafForm carried sameBytes pairRule chain paramsOf decimalsOf
 narrowing =
     record {
       ours = refl;
@@ -569,7 +569,7 @@ narrowing =
 
 -- another scale, be the precision larger
 other-scale : Neither (decimals 9 2) (decimals 18 3) (fixed 9 2 5) 24
-unfolding computed promotes sameLeaf leafForm carried sameBytes pairRule chain paramsOf decimalsOf
+unfolding computed promotes equalTypes form leafForm carried sameBytes pairRule chain paramsOf decimalsOf
 other-scale =
     record {
       ours = refl;

@@ -12,7 +12,7 @@ use Rattle.layout.specs.declared.columns.FieldId.{FieldId}
 use Rattle.layout.specs.declared.columns.Position.{Position}
 use Rattle.layout.specs.declared.matching.Matching.the-variants.{ByNumber}
 use Rattle.layout.proofs.Ways.{clash}
-use Rattle.forms.specs.Same.{sameDtype}
+use Rattle.forms.specs.Same.{equalTypes}
 use Rattle.values.specs.Value.{vnull}
 use Rattle.plan.specs.Run.{castLeaf}
 use Rattle.matching.specs.Due.{dueLeaf}
@@ -75,7 +75,7 @@ counterpart-lacks b fs e = lacking (b .id) 0 fs e
 -- a null leaf stays null
 pub null-due : (l m : LeafType) → dueLeaf l m vnull ≡ vnull
 unfolding dueLeaf castLeaf choose
-null-due l m = go (sameDtype (leaf l) (leaf m))
+null-due l m = go (equalTypes (leaf l) (leaf m))
   where
     go : (b : Bool) → choose b vnull vnull ≡ vnull
     go true = refl

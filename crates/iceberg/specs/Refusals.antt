@@ -8,7 +8,7 @@ use mathlib.Core.Bool.{true, false}
 use mathlib.Core.List.{List, _∷_}
 use Rattle.layout.specs.Tree.{LeafType, leafOf, Label, ColumnType, cleaf, cstruct, clist, carray, Columns, ccons}
 use Rattle.layout.specs.declared.columns.FieldId.{FieldId}
-use Rattle.forms.specs.Same.{sameLeaf}
+use Rattle.forms.specs.Same.{equalLeaves}
 use Rattle.rules.specs.declared.policy.Policy.{Policy}
 use Rattle.rules.specs.declared.policy.MissingColumnsPolicy.{MissingColumnsPolicy}
 use Rattle.rules.specs.declared.policy.ExtraColumnsPolicy.{ExtraColumnsPolicy}
@@ -64,7 +64,7 @@ module _ (es : List Entry) where
       -- a partition that failed to load is an error
       partition-failed : {i : FieldId} {l : LeafType} → EntryOf es i failed → NoDefaultFor 26 i (cleaf l)
       -- a default of another type
-      default-type : {i : FieldId} {g : Given} {l m : LeafType} → EntryOf es i g → TypeGiven g m → sameLeaf m l ≡ false → NoDefaultFor 28 i (cleaf l)
+      default-type : {i : FieldId} {g : Given} {l m : LeafType} → EntryOf es i g → TypeGiven g m → equalLeaves m l ≡ false → NoDefaultFor 28 i (cleaf l)
       for-a-field : {n : ℕ} {i : FieldId} {cs : Columns} → NoDefaultIn n cs → NoDefaultFor n i (cstruct cs)
 
     pub data NoDefaultIn : ℕ → Columns → Type 0 where

@@ -10,7 +10,7 @@ use Rattle.layout.specs.Tree.{ccons}
 use Rattle.layout.specs.declared.leaf.Leaf.{Leaf}
 use Rattle.layout.specs.declared.leaf.TimeUnit.the-variants.{Microseconds, Nanoseconds}
 use Rattle.layout.specs.declared.columns.FieldId.{FieldId}
-use Rattle.forms.specs.Same.{sameLeaf}
+use Rattle.forms.specs.Same.{equalLeaves}
 use Rattle.rules.specs.Classes.{isDecimal}
 use Rattle.rules.specs.Params.{widens, decimalOf}
 use Rattle.values.specs.Value.{Value, vnull, vstruct, vlist, Values, vnil, vcons}
@@ -120,11 +120,11 @@ decimalPromotes i t = isDecimal i && isDecimal t && widens (decimalOf i) (decima
 -- and date to timestamp or timestamp_ns. Nothing else"; and an unchanged type.
 unfoldable pub promotes : LeafType → LeafType → Bool
 promotes l m =
-    sameLeaf l m
-    || ((sameLeaf l (integer Int32) && sameLeaf m (integer Int64))
-    || ((sameLeaf l (float Binary32) && sameLeaf m (float Binary64))
+    equalLeaves l m
+    || ((equalLeaves l (integer Int32) && equalLeaves m (integer Int64))
+    || ((equalLeaves l (float Binary32) && equalLeaves m (float Binary64))
     || (decimalPromotes (leafOf l) (leafOf m)
-    || (sameLeaf l null || (sameLeaf l date && (sameLeaf m (datetime Microseconds []) || sameLeaf m (datetime Nanoseconds [])))))))
+    || (equalLeaves l null || (equalLeaves l date && (equalLeaves m (datetime Microseconds []) || equalLeaves m (datetime Nanoseconds [])))))))
 
 -- `converted l m x`: what the value x of the file's leaf type l is in the table's leaf type m
 module _ (converted : LeafType → LeafType → Value → Value) (M : Metadata) where

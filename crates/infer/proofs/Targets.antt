@@ -11,7 +11,7 @@ use Rattle.layout.specs.declared.columns.Labelled.{Labelled}
 use Rattle.layout.specs.declared.cursor.Cursor.{Cursor}
 use Rattle.layout.specs.declared.edition.Edition.{Edition}
 use Rattle.layout.proofs.View.{label-got}
-use Rattle.forms.specs.Same.{sameDtype}
+use Rattle.forms.specs.Compare.{sameDtype}
 use Rattle.forms.specs.Answers.{sameOf}
 use Rattle.forms.specs.declared.compare.Same.{Same}
 use Rattle.forms.proofs.Equal.{same-dtype-eq}

@@ -10,7 +10,7 @@ use Rattle.layout.specs.Tree.{LeafType, Label, ColumnType, cleaf, cstruct, clis
 use Rattle.layout.specs.declared.columns.FieldId.{FieldId}
 use Rattle.layout.proofs.Ways.{clash}
 use Rattle.layout.proofs.View.{next-ok}
-use Rattle.forms.proofs.Equal.{same-dtype-eq}
+use Rattle.forms.proofs.Equal.{equal-types-eq}
 use Rattle.values.specs.Value.{Value, Values, isNullValue}
 use Rattle.values.specs.Reading.{value, times}
 use Rattle.values.specs.Fits.{Fits, fit-null, fit-struct, FitsAll, all-nil, all-cons, FitsEach, each-nil, each-cons}
@@ -42,7 +42,7 @@ leaf-fits l (refused n) g q = never-refused q refl
 leaf-fits l nothing g q = rw (← gives-eq q) fit-null
 leaf-fits l (taken m y) g q =
     let (c, q) = demand-gives _ _ _ q in
-    rw (← gives-eq q, ← same-dtype-eq (leaf m) (leaf l) c) (g m y refl)
+    rw (← gives-eq q, ← equal-types-eq (leaf m) (leaf l) c) (g m y refl)
 
 struct-fits : {fs : Fields} (g : FieldDefaults) → FitsAll fs (g .values) → Fits (struct fs) (orNull (structDefault g))
 unfolding structDefault choose

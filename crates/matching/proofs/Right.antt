@@ -10,8 +10,8 @@ use Rattle.layout.specs.declared.columns.Position.{Position}
 use Rattle.layout.specs.declared.matching.Matching.{Matching}
 use Rattle.layout.specs.declared.matching.Matching.the-variants.{ByName, ByNumber}
 use Rattle.layout.proofs.Ways.{clash}
-use Rattle.forms.specs.Same.{sameDtype}
-use Rattle.forms.proofs.Equal.{same-dtype-refl, same-dtype-eq}
+use Rattle.forms.specs.Same.{equalTypes}
+use Rattle.forms.proofs.Equal.{equal-types-refl, equal-types-eq}
 use Rattle.rules.specs.declared.outcome.CastOption.{CastOption}
 use Rattle.rules.proofs.OfClass.{null-type}
 use Rattle.rules.proofs.PairRule.{cast-unequal}
@@ -111,15 +111,15 @@ unfolding fromNull
 from-null-value l o e h = null-value (rw (null-type l (both _ e .0)) at h)
 
 -- no cast is between equal types
-cast-differs : (a b : LeafType) (o : CastOption) → castFits (leaf a) (leaf b) o ≡ true → sameDtype (leaf a) (leaf b) ≡ false
+cast-differs : (a b : LeafType) (o : CastOption) → castFits (leaf a) (leaf b) o ≡ true → equalTypes (leaf a) (leaf b) ≡ false
 unfolding castFits
-cast-differs a b o e = go (sameDtype (leaf a) (leaf b)) refl
+cast-differs a b o e = go (equalTypes (leaf a) (leaf b)) refl
   where
     leaf-eq : leaf a ≡ leaf b → a ≡ b
     leaf-eq q = cc
 
-    go : (c : Bool) → sameDtype (leaf a) (leaf b) ≡ c → c ≡ false
-    go true q = absurd (cast-unequal _ a b o (casts-allowed a b o (passes-casts a b o e)) (leaf-eq (same-dtype-eq (leaf a) (leaf b) q)))
+    go : (c : Bool) → equalTypes (leaf a) (leaf b) ≡ c → c ≡ false
+    go true q = absurd (cast-unequal _ a b o (casts-allowed a b o (passes-casts a b o e)) (leaf-eq (equal-types-eq (leaf a) (leaf b) q)))
     go false q = refl
 
 cast-due : (v : Matching) (d : Defaults) (t u : ColumnType) {x : Value} (o : CastOption) → castFits (dtypeOf t) (dtypeOf u) o ≡ true → Fits (dtypeOf t) x → castValue (dtypeOf u) x ≡ due v d u t x
@@ -201,7 +201,7 @@ module _ (v : Matching) where
 
     pub attach-due : {d : Defaults} {Γ : Fields} {ρ : Values} {n : Bytes} {u t : ColumnType} {k : Position} {s : Selector} → Attach v d u k t s → At Γ (k .0) n (dtypeOf t) → FitsAll Γ ρ
         → eval ρ s ≡ due v d u t (valueAt ρ (k .0))
-    attach-due (a-same {l = l}) a h = rw (same-dtype-refl (leaf l))
+    attach-due (a-same {l = l}) a h = rw (equal-types-refl (leaf l))
     attach-due (a-cast {d} {k} {t} {u} {o = o} r p) a h = rw (← p) (cast-due v d t u o (rw (← p) at r) (at-fits a h))
     attach-due (a-struct {k = k} {fs} {ss = ss} c g r) a h = rw (← r, struct-selector k fs ss) (struct-due h k _ ss _ refl a (λ xs f. attachAll-due g f))
     attach-due (a-list {k = k} {a = x} {b} {e = e} y m g r) a h = rw (← r) (list-due h k _ (renamed v b x e) _ refl a (λ y f. renamed-eval _ v b x e ∙ attach-due g at-element (only f)))

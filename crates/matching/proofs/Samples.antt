@@ -11,7 +11,7 @@ use Rattle.layout.specs.Find.{findFrom}
 use Rattle.layout.specs.declared.leaf.Leaf.{Leaf}
 use Rattle.layout.specs.Layout.{unitCode}
 use Rattle.forms.specs.Form.{u16Bytes, u32Bytes, textBytes, carried, leafForm, kindForm, form, formFields}
-use Rattle.forms.specs.Same.{sameLeaf, sameDtype}
+use Rattle.forms.specs.Same.{equalTypes}
 use Rattle.rules.specs.declared.policy.Policy.{Policy}
 use Rattle.rules.specs.Policies.{policyOf}
 use Rattle.rules.specs.Zones.{zonesOf, readZone, isUtc}
@@ -50,7 +50,7 @@ unfolding laidOut table tableFrom countedTable tableVersion entries ownedEntry o
 tabled s = table s
 
 unfoldable pub built : Policy → ℕ → ℕ → Bytes → Bytes → Bytes → ℕ → Answer Bytes
-unfolding tabled keepsRequired fillsRequired allowed meets meetsAll ofValue ofFields ofElements nullnessAt buildByName buildByNumber bothLayouts readAt ofEdition roomFor writtenPlan build buildFrom buildColumnSelector attachTransforms attachFields sought missing missingValue buildIcebergDefaultValue defaultsOf structDefault withField leafDefault entriesOf getDefaultValue firstEntry givenTo ofSource unlessNull leafPart structPart listPart arrayPart isNullType unlessNullType renamed sameElement distinctNames distinct noExtra extraColumnErr extraColumns ruled isPosition inPlace structSelector listSelector arraySelector findFrom pairRule chain paramsOf zonesOf readZone isUtc sameDtype sameLeaf dtypeOf fieldsOf countColumns countFields countSelectors encodePlan encodeSelector encodeSelectors u16Bytes u32Bytes textBytes leafForm carried kindForm form formFields encodeValue encodeValues littleBytes _>>=_ demand placed answered
+unfolding tabled keepsRequired fillsRequired allowed meets meetsAll ofValue ofFields ofElements nullnessAt buildByName buildByNumber bothLayouts readAt ofEdition roomFor writtenPlan build buildFrom buildColumnSelector attachTransforms attachFields sought missing missingValue buildIcebergDefaultValue defaultsOf structDefault withField leafDefault entriesOf getDefaultValue firstEntry givenTo ofSource unlessNull leafPart structPart listPart arrayPart isNullType unlessNullType renamed sameElement distinctNames distinct noExtra extraColumnErr extraColumns ruled isPosition inPlace structSelector listSelector arraySelector findFrom pairRule chain paramsOf zonesOf readZone isUtc equalTypes dtypeOf fieldsOf countColumns countFields countSelectors encodePlan encodeSelector encodeSelectors u16Bytes u32Bytes textBytes leafForm carried kindForm form formFields encodeValue encodeValues littleBytes _>>=_ demand placed answered
 built p k o a b d room = buildByNumber p k o a b d room
 
 -- ---- layouts, tables and plans

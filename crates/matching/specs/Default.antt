@@ -3,7 +3,7 @@ use mathlib.Core.Bool.{Bool, true, false, _||_}
 use Rattle.layout.specs.Parser.{choose}
 use Rattle.layout.specs.Tree.{LeafType, Label, ColumnType, cleaf, cstruct, clist, carray, Columns, cnil, ccons, leaf}
 use Rattle.layout.specs.declared.columns.FieldId.{FieldId}
-use Rattle.forms.specs.Same.{sameDtype}
+use Rattle.forms.specs.Same.{equalTypes}
 use Rattle.values.specs.Value.{Value, vnull, vstruct, Values, vnil, vcons}
 use Rattle.defaults.specs.Lookup.{Taken, refused, nothing, taken}
 use Rattle.plan.specs.Result.{Result, gives, refuses, _>>=_, demand}
@@ -33,7 +33,7 @@ isSome (some v) = true
 unfoldable pub leafDefault : LeafType → Taken → Result Default
 leafDefault l (refused n) = refuses n
 leafDefault l nothing = gives none
-leafDefault l (taken m v) = demand (sameDtype (leaf m) (leaf l)) 28 (gives (some v))
+leafDefault l (taken m v) = demand (equalTypes (leaf m) (leaf l)) 28 (gives (some v))
 
 -- a struct's fields: their defaults, null where none, and whether one has any
 pub record FieldDefaults : Type 0 where

@@ -4,7 +4,7 @@ use Rattle.layout.specs.Parser.{choose}
 use Rattle.layout.specs.Tree.{LeafType, null, leafOf, ColumnType, cleaf, cstruct, clist, carray, Columns, cnil, ccons, leaf}
 use Rattle.layout.specs.Find.{Lookup, absent, at, counterpart}
 use Rattle.layout.specs.declared.matching.Matching.{Matching}
-use Rattle.forms.specs.Same.{sameDtype}
+use Rattle.forms.specs.Same.{equalTypes}
 use Rattle.values.specs.Value.{Value, vnull, Values, vnil, vcons}
 use Rattle.plan.specs.Result.{Result, gives, refuses}
 use Rattle.plan.specs.Run.{valueAt, castLeaf, onStruct, onList, onArray}
@@ -34,7 +34,7 @@ elementIn (carray w l t) = t
 
 -- "a leaf changes as Run says for its pair, or not at all between equal types"; null stays null
 unfoldable pub dueLeaf : LeafType → LeafType → Value → Value
-dueLeaf incoming target x = choose (sameDtype (leaf incoming) (leaf target)) x (castLeaf (leafOf target) x)
+dueLeaf incoming target x = choose (equalTypes (leaf incoming) (leaf target)) x (castLeaf (leafOf target) x)
 
 -- "its default if it has one, else null"
 unfoldable pub orElseNull : Result Value → Value

@@ -13,7 +13,7 @@ use Rattle.layout.specs.declared.columns.Siblings.the-variants.{Free}
 use Rattle.store.specs.Overlay.{littleBytes}
 use Rattle.forms.specs.Form.{u16Bytes, textBytes, carried, leafForm, kindForm, form}
 use Rattle.forms.specs.Readable.{depthOf, depthOfFields}
-use Rattle.forms.specs.Same.{sameDtype, sameFields, sameLeaf}
+use Rattle.forms.specs.Same.{equalTypes, equalFields}
 use Rattle.rules.specs.declared.outcome.CastOption.the-variants.{Overflowing}
 use Rattle.rules.specs.Zones.{zonesOf, readZone, isUtc}
 use Rattle.rules.specs.Params.{paramsOf}
@@ -66,7 +66,7 @@ unfolding selectors selector selectorRest positionRest constantRest castRest dat
 selectors-read = refl
 
 passes : check (fieldsOf incoming) target ss ≡ accepted tt
-unfolding fieldsOf dtypeOf check topTypes typeOf columnAt _>>=_ checkCast castFits castPasses pairRule chain paramsOf zonesOf readZone isUtc sameBytes demand resulting withinLimits depthOf form leafForm carried kindForm textBytes u16Bytes placed answered against sameFields sameDtype sameLeaf
+unfolding fieldsOf dtypeOf check topTypes typeOf columnAt _>>=_ checkCast castFits castPasses pairRule chain paramsOf zonesOf readZone isUtc sameBytes demand resulting withinLimits depthOf form leafForm carried kindForm textBytes u16Bytes placed answered against equalFields equalTypes
 passes = refl
 
 is-clean : cleanAll (evals row ss) ≡ true

@@ -18,7 +18,7 @@ use Rattle.layout.specs.declared.edition.Edition.the-variants.{One}
 use Rattle.layout.specs.Layout.{unitCode}
 use Rattle.forms.specs.Form.{u16Bytes, textBytes, carried, leafForm, kindForm, form, formFields}
 use Rattle.forms.specs.Readable.{depthOf, depthOfFields}
-use Rattle.forms.specs.Same.{sameDtype, sameFields, sameLeaf}
+use Rattle.forms.specs.Same.{equalTypes, equalFields}
 use Rattle.rules.specs.declared.outcome.CastOption.the-variants.{Strict}
 use Rattle.rules.specs.Zones.{zonesOf, readZone, isUtc}
 use Rattle.rules.specs.Params.{paramsOf}
@@ -92,7 +92,7 @@ targeted = record { columns = one Nanoseconds; end = 5; reads = refl }
 
 -- the plan passes the check
 planned : PlanAt plan 0 (fieldsOf (one Milliseconds)) (fieldsOf (one Nanoseconds))
-unfolding plan-computed check topTypes typeOf columnAt _>>=_ checkCast castFits castPasses pairRule chain paramsOf zonesOf readZone isUtc sameBytes demand resulting withinLimits depthOf depthOfFields countFields form formFields leafForm carried kindForm textBytes u16Bytes placed answered against sameFields sameDtype sameLeaf fieldsOf dtypeOf
+unfolding plan-computed check topTypes typeOf columnAt _>>=_ checkCast castFits castPasses pairRule chain paramsOf zonesOf readZone isUtc sameBytes demand resulting withinLimits depthOf depthOfFields countFields form formFields leafForm carried kindForm textBytes u16Bytes placed answered against equalFields equalTypes fieldsOf dtypeOf
 planned = record { count = 1; selectors = record { trees = strict; end = 8; reads = refl }; starts = omega arith; small = omega arith; passes = refl }
 
 -- opens every definition that an answer goes through

@@ -15,7 +15,7 @@ use Rattle.layout.specs.declared.leaf.Leaf.{Leaf}
 use Rattle.layout.specs.Layout.{unitCode}
 use Rattle.forms.specs.Form.{u16Bytes, textBytes, carried, leafForm, kindForm, form, formFields}
 use Rattle.forms.specs.Readable.{depthOf, depthOfFields}
-use Rattle.forms.specs.Same.{sameDtype, sameFields, sameLeaf}
+use Rattle.forms.specs.Same.{equalTypes, equalFields}
 use Rattle.rules.specs.declared.outcome.CastOption.the-variants.{NonStrict, Strict, Overflowing}
 use Rattle.rules.specs.Zones.{zonesOf, readZone, isUtc}
 use Rattle.rules.specs.Params.{paramsOf}
@@ -80,7 +80,7 @@ s1-left = refl
 
 -- opens every definition that a check goes through
 unfoldable pub checked : Fields → Fields → Selectors → Answer (Unit {0})
-unfolding check topTypes typeOf typesOf columnAt _>>=_ checkCast checkRename checkStruct structOf castFits fromNull castPasses pairRule chain paramsOf zonesOf readZone isUtc sameBytes demand resulting withinLimits depthOf depthOfFields countFields form formFields leafForm carried kindForm textBytes u16Bytes placed answered against sameFields sameDtype sameLeaf
+unfolding check topTypes typeOf typesOf columnAt _>>=_ checkCast checkRename checkStruct structOf castFits fromNull castPasses pairRule chain paramsOf zonesOf readZone isUtc sameBytes demand resulting withinLimits depthOf depthOfFields countFields form formFields leafForm carried kindForm textBytes u16Bytes placed answered against equalFields equalTypes
 checked Γ Δ ss = check Γ Δ ss
 
 s1-checked : check (one (leaf (integer Int16))) (fcons t (leaf (integer Int32)) (fcons s (leaf string) fnil)) s1 ≡ accepted tt

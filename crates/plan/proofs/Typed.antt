@@ -5,7 +5,7 @@ use mathlib.Core.Bool.{true}
 use Rattle.layout.specs.Bytes.{Bytes}
 use Rattle.layout.specs.Tree.{DataType, leaf, struct, list, array, Fields, fnil, fcons}
 use Rattle.layout.specs.declared.columns.Position.{Position}
-use Rattle.forms.proofs.Equal.{same-fields-refl, same-fields-eq}
+use Rattle.forms.proofs.Equal.{equal-fields-refl, equal-fields-eq}
 use Rattle.rules.specs.declared.outcome.CastOption.{CastOption}
 use Rattle.values.specs.Value.{Value}
 use Rattle.values.specs.Fits.{Fits}
@@ -157,8 +157,8 @@ passed→typed {Γ} {Δ} {ss} f e =
     let (fs, p, q) = answered-accepted _ _ e in
     let (x, r, q) = placed-accepted _ _ _ q in
     let (b, r) = demand-gives _ _ _ r in
-    rw (same-fields-eq fs Δ b) at (top→typed 0 f p)
+    rw (equal-fields-eq fs Δ b) at (top→typed 0 f p)
 
 pub typed→passed : {Γ Δ : Fields} {ss : Selectors} → TypedAll Γ ss Δ → check Γ Δ ss ≡ accepted tt
 unfolding check against answered placed demand
-typed→passed {Γ} {Δ} d = rw (typed→top d 0, same-fields-refl Δ)
+typed→passed {Γ} {Δ} d = rw (typed→top d 0, equal-fields-refl Δ)

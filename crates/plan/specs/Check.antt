@@ -10,7 +10,7 @@ use Rattle.layout.specs.Tree.{LeafType, leafOf, DataType, leaf, struct, list, a
 use Rattle.layout.specs.Layout.{deepest}
 use Rattle.forms.specs.Form.{form}
 use Rattle.forms.specs.Readable.{depthOf}
-use Rattle.forms.specs.Same.{sameFields}
+use Rattle.forms.specs.Same.{equalFields}
 use Rattle.rules.specs.declared.outcome.CastOption.{CastOption}
 use Rattle.rules.specs.declared.outcome.CastOption.the-variants.{NonStrict}
 use Rattle.rules.specs.Outcomes.{Verdict}
@@ -136,7 +136,7 @@ topTypes Γ (scons s ss) k = placed k (typeOf Γ s) (λ c. answered (topTypes Γ
 
 -- 33: names, types or count differ from the target's
 unfoldable pub against : Fields → Fields → Answer (Unit {0})
-against Δ fs = placed 0 (demand (sameFields fs Δ) 33 (gives tt)) accepted
+against Δ fs = placed 0 (demand (equalFields fs Δ) 33 (gives tt)) accepted
 
 -- a plan from the columns Γ to the columns Δ, ids dropped
 unfoldable pub check : Fields → Fields → Selectors → Answer (Unit {0})
