@@ -24,8 +24,8 @@ use Rattle.layout.specs.declared.edition.Edition.{Edition}
 use Rattle.layout.proofs.Ways.{clash, moved-to, moved-refused}
 use Rattle.layout.proofs.View.{leaf-at, StructAt}
 use Rattle.forms.specs.Form.{u16Bytes, kindForm, headOf}
-use Rattle.forms.specs.Compare.{sameDtype}
-use Rattle.forms.proofs.Equal.{same-dtype-refl, same-dtype-eq}
+use Rattle.forms.specs.Same.{equalTypes}
+use Rattle.forms.proofs.Equal.{equal-types-refl, equal-types-eq}
 use Rattle.rules.specs.Outcomes.{Verdict, untouched, refused as refusedBy, cast as casts, verdictOf}
 use Rattle.rules.specs.Pairs.{pairRule}
 use Rattle.rules.specs.declared.policy.Policy.{Policy}
@@ -57,17 +57,17 @@ isUntouched (refusedBy n) = false
 isUntouched (casts o) = false
 
 module _ (p : Policy) (a b : LeafType) (x : Outcome) (e : verdictOf x ≡ pairRule p a b) where
-  pub leaves-same : x ≡ Outcome.Untouched → true ≡ sameDtype (leaf a) (leaf b)
+  pub leaves-same : x ≡ Outcome.Untouched → true ≡ equalTypes (leaf a) (leaf b)
   leaves-same f =
       let z : a ≡ b = untouched-equal p a b (sym e ∙ ap verdictOf f) in
-      sym (ap (λ (c : LeafType). sameDtype (leaf a) (leaf c)) (sym z) ∙ same-dtype-refl (leaf a))
+      sym (ap (λ (c : LeafType). equalTypes (leaf a) (leaf c)) (sym z) ∙ equal-types-refl (leaf a))
 
-  pub leaves-unlike : isUntouched (verdictOf x) ≡ false → false ≡ sameDtype (leaf a) (leaf b)
-  leaves-unlike f = go (sameDtype (leaf a) (leaf b)) refl
+  pub leaves-unlike : isUntouched (verdictOf x) ≡ false → false ≡ equalTypes (leaf a) (leaf b)
+  leaves-unlike f = go (equalTypes (leaf a) (leaf b)) refl
     where
-      go : (c : Bool) → sameDtype (leaf a) (leaf b) ≡ c → false ≡ c
+      go : (c : Bool) → equalTypes (leaf a) (leaf b) ≡ c → false ≡ c
       go true h =
-          let z : leaf a ≡ leaf b = same-dtype-eq (leaf a) (leaf b) h in
+          let z : leaf a ≡ leaf b = equal-types-eq (leaf a) (leaf b) h in
           let y : a ≡ b = cc in
           differ {a = isUntouched untouched} {b = isUntouched (verdictOf x)} refl f (ap isUntouched (sym (e ∙ equal-untouched p a b y)))
       go false h = refl
@@ -97,7 +97,7 @@ unfolding leafDefault
 leaf-nothing l h = rw h
 
 pub leaf-taken : (l : LeafType) {s : Bytes} {x : Taken} {m : LeafSpan} {at : ℕ} (A : DefaultAt s x m at)
-    → leafDefault l x ≡ demand (sameDtype (leaf (leafAt s m)) (leaf l)) 28 (gives (some (A .tree)))
+    → leafDefault l x ≡ demand (equalTypes (leaf (leafAt s m)) (leaf l)) 28 (gives (some (A .tree)))
 unfolding leafDefault
 leaf-taken l A = ap (leafDefault l) (A .is)
 

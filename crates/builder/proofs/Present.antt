@@ -7,7 +7,7 @@ use Rattle.layout.specs.Parser.{choose}
 use Rattle.layout.specs.Tree.{LeafType, Label, ColumnType, cleaf, cstruct, clist, carray, Columns, leaf, dtypeOf}
 use Rattle.layout.specs.declared.columns.FieldId.{FieldId}
 use Rattle.layout.proofs.Ways.{clash}
-use Rattle.forms.specs.Compare.{sameDtype}
+use Rattle.forms.specs.Same.{equalTypes}
 use Rattle.values.specs.Value.{Value, vnull, vnumber, vtext, voverflow, vstruct, vlist, varray, Values, vnil, vcons, isNullValue}
 use Rattle.defaults.specs.Table.{Entry, Given, initial, partition, failed}
 use Rattle.defaults.specs.Lookup.{Taken, refused, nothing, taken, unlessNull, ofSource, givenTo, isPartitionOf, isInitialOf, firstEntry, getDefaultValue}
@@ -84,7 +84,7 @@ leaf-top : (l : LeafType) (t : Taken) (x : Value) → takenPresent t ≡ true �
 unfolding leafDefault demand
 leaf-top l (refused n) x h e = clash (cc)
 leaf-top l nothing x h e = clash (cc)
-leaf-top l (taken m v) x h e = go (sameDtype (leaf m) (leaf l)) e
+leaf-top l (taken m v) x h e = go (equalTypes (leaf m) (leaf l)) e
   where
     go : (c : Bool) → demand c 28 (gives (some v)) ≡ gives (some x) → topOf (ofValue x) ≡ required
     go true e = let z : v ≡ x = cc in ap (λ (y : Value). topOf (ofValue y)) (sym z) ∙ present-top v h

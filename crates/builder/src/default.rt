@@ -7,7 +7,7 @@ ghost use Rattle.store.specs.Overlay.{overlay};
 ghost use Rattle.layout.specs.Tree.{leaf};
 ghost use Rattle.layout.specs.Answers.{leafAt, spanIn};
 ghost use Rattle.layout.specs.Stands.{TypeAt, ColumnsAt};
-ghost use Rattle.forms.specs.Compare.{sameDtype};
+ghost use Rattle.forms.specs.Same.{equalTypes};
 ghost use Rattle.values.specs.Value.{vnull};
 ghost use Rattle.values.specs.Encode.{encodeValue};
 ghost use Rattle.values.specs.Stands.{ValueAt};
@@ -115,7 +115,7 @@ fn either(a: bool, b: bool) -> bool
 // Equal leaf types are those whose pair is untouched, under any policy.
 fn same_leaf_type(a: &[u8], l: LeafType, b: &[u8], m: LeafType) -> bool
     requires { ⌜ spanIn (now a) (l .zone) × spanIn (now b) (m .zone) ⌝ }
-    ensures { λ r. ⌜ r ≡ sameDtype (leaf (leafAt (now (a .entry)) l)) (leaf (leafAt (now (b .entry)) m)) ⌝ }
+    ensures { λ r. ⌜ r ≡ equalTypes (leaf (leafAt (now (a .entry)) l)) (leaf (leafAt (now (b .entry)) m)) ⌝ }
 {
     match leaf_rule(Policy::all_on(), a, l, b, m) {
         Outcome::Untouched => true,
@@ -145,7 +145,7 @@ fn put_taken(
     requires { ⌜ spanIn (now table) (m .zone) × spanIn (now target) (u .zone) ⌝ }
     requires { ⌜ ValueAt (leaf (leafAt (now table) m)) (now table) (c .at) ⌝ }
     requires { ⌜ (length (now table) ≤ 16384) × (k + 16384 < 2 ^ 64) ⌝ }
-    ensures { λ r. ⌜ ((b e : ℕ) (P : ValueAt (leaf (leafAt (now (table .entry)) m)) (now (table .entry)) (c .at)) → b < e → MakesDefault anyFilled b e (now (out .entry)) k (demand (sameDtype (leaf (leafAt (now (table .entry)) m)) (leaf (leafAt (now (target .entry)) u))) 28 (gives (some (P .tree)))) r (now (out .exit))) ⌝ }
+    ensures { λ r. ⌜ ((b e : ℕ) (P : ValueAt (leaf (leafAt (now (table .entry)) m)) (now (table .entry)) (c .at)) → b < e → MakesDefault anyFilled b e (now (out .entry)) k (demand (equalTypes (leaf (leafAt (now (table .entry)) m)) (leaf (leafAt (now (target .entry)) u))) 28 (gives (some (P .tree)))) r (now (out .exit))) ⌝ }
 {
     if !same_leaf_type(table, m, target, u) {
         return DefaultMade::Refused(28);

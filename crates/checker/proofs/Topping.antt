@@ -19,7 +19,7 @@ use Rattle.layout.proofs.View.{next-ok, same-columns, no-column}
 use Rattle.layout.proofs.Whole.{u16-at, tested}
 use Rattle.forms.specs.Compare.{sameDtype, sameFields}
 use Rattle.forms.specs.Labelled.{ColumnAt}
-use Rattle.forms.proofs.Equal.{same-fields-eq}
+use Rattle.forms.proofs.Equal.{same-fields-eq, same-fields-equal}
 use Rattle.forms.proofs.Heads.{count-fields}
 use Rattle.forms.proofs.Read.{chosen, ok-eq}
 use borrow.Author.Tests.{eqb-true}
@@ -359,11 +359,11 @@ module _ {incoming : Bytes} {v : Edition} {n : ℕ} {plan : Bytes} {count at : �
 
     pub read-passed : (Δ : Fields) {b : Bool} → b ≡ sameFields (given .0) Δ → b ≡ true → PlanChecked.Passed ≡ planChecked (check Γ Δ ss)
     unfolding check against answered placed demand
-    read-passed Δ f q = rw (given .1, ← f, q)
+    read-passed Δ f q = rw (given .1, ← same-fields-equal (given .0) Δ, ← f, q)
 
     pub read-differs : (Δ : Fields) {b : Bool} → b ≡ sameFields (given .0) Δ → b ≡ false → PlanChecked.Refused 33 0 ≡ planChecked (check Γ Δ ss)
     unfolding check against answered placed demand
-    read-differs Δ f q = rw (given .1, ← f, q)
+    read-differs Δ f q = rw (given .1, ← same-fields-equal (given .0) Δ, ← f, q)
 
   pub read-refused : (Δ : Fields) {j k : ℕ} → r ≡ PlanChecked.Refused j k → PlanChecked.Refused j k ≡ planChecked (check Γ Δ ss)
   unfolding check answered
