@@ -19,6 +19,7 @@ use Rattle.layout.proofs.Ways.{text-in}
 use Rattle.forms.specs.Compare.{sameDtype}
 use Rattle.forms.specs.Answers.{sameOf}
 use Rattle.forms.specs.declared.compare.Same.{Same}
+use Rattle.direct.specs.declared.fit.FitEnd.{FitEnd}
 use Rattle.forms.proofs.Equal.{same-dtype-eq}
 use Rattle.forms.proofs.Read.{ok-eq}
 use Rattle.forms.proofs.Comparing.{same-to}
@@ -45,15 +46,15 @@ use Rattle.direct.proofs.Trees.{within, cast-gives, rename-gives, struc
 pub unknown : {incoming plan : Bytes} {r : Result Column} {e : ℕ} {t : DataType} {f : ℕ} → FitIs incoming plan r e t f Fit.Unknown
 unknown = record { parts = tt }
 
-pub none-given : {A : Type 0} {r : Result A} {e : ℕ} {a : A} {f : ℕ} → GivesIs r e a f Same.No
+pub none-given : {A : Type 0} {r : Result A} {e : ℕ} {a : A} {f : ℕ} → GivesIs r e a f FitEnd.Unknown
 none-given = record { parts = tt }
 
 -- what a caller gets from an answer
 pub fit-to : {incoming plan : Bytes} {r : Result Column} {e : ℕ} {t : DataType} {f : ℕ} {q : Fit} → FitIs incoming plan r e t f q → {x y : Cursor} {n : Name} → q ≡ Fit.Is x y n → FitTo incoming plan r e t f x y n
 fit-to {incoming} {plan} {r} {e} {t} {f} F g = subst (λ (q : Fit). fitParts incoming plan r e t f q) g (F .parts)
 
-pub gives-to : {A : Type 0} {r : Result A} {e : ℕ} {a : A} {f : ℕ} {q : Same} → GivesIs r e a f q → {x y : Cursor} → q ≡ Same.To x y → GivesTo r e a f x y
-gives-to {r = r} {e} {a} {f} G h = subst (λ (q : Same). givesParts r e a f q) h (G .parts)
+pub gives-to : {A : Type 0} {r : Result A} {e : ℕ} {a : A} {f : ℕ} {q : FitEnd} → GivesIs r e a f q → {x y : Cursor} → q ≡ FitEnd.At x y → GivesTo r e a f x y
+gives-to {r = r} {e} {a} {f} G h = subst (λ (q : FitEnd). givesParts r e a f q) h (G .parts)
 
 fit-as : {incoming plan : Bytes} {r : Result Column} {e : ℕ} {t : DataType} {f : ℕ} {q p : Fit} → q ≡ p → FitIs incoming plan r e t f p → FitIs incoming plan r e t f q
 fit-as {incoming} {plan} {r} {e} {t} {f} g F = subst (λ (x : Fit). FitIs incoming plan r e t f x) (sym g) F

@@ -17,7 +17,7 @@ use Rattle.layout.specs.declared.cursor.Cursor.{Cursor}
 use Rattle.layout.specs.declared.edition.Edition.{Edition}
 use Rattle.layout.proofs.OfBytes.{same-bytes-eq}
 use Rattle.layout.proofs.View.{label-got, same-columns, no-column}
-use Rattle.forms.specs.declared.compare.Same.{Same}
+use Rattle.direct.specs.declared.fit.FitEnd.{FitEnd}
 use Rattle.forms.proofs.Read.{ok-eq}
 use Rattle.forms.proofs.Comparing.{behind-label, split, Split}
 use Rattle.plan.specs.Result.{gives}
@@ -41,7 +41,7 @@ module _ {incoming : Bytes} {v : Edition} {scope : Scope} {index : List ℕ} {st
   column-asks = record { scoped = A .scoped; selector = A .selector; type = behind-label (A .column) (label-got target e f); small = A .small }
 
   pub column-fits : {x y : Cursor} {n : Name} (F : FitTo incoming plan (typeOf (A .scoped .fields) (A .selector .tree)) (A .selector .end) (dtypeOf (A .column .inner .tree)) (A .column .inner .end) x y n) {b : Bool}
-      → b ≡ sameBytes (F .name) (spanAt target (l .name)) → b ≡ true → FitsColumn A (Same.To x y)
+      → b ≡ sameBytes (F .name) (spanAt target (l .name)) → b ≡ true → FitsColumn A (FitEnd.At x y)
   column-fits F g h =
       let z : F .name ≡ spanAt target (l .name) = same-bytes-eq _ _ (sym g ∙ h) in
       let w : A .column .label .name ≡ spanAt target (l .name) = ap (λ (x : Label). x .name) (ok-eq (sym (A .column .labelled) ∙ label-got target e f) .0) in
@@ -77,7 +77,7 @@ module _ {incoming : Bytes} {v : Edition} {scope : Scope} {index : List ℕ} {st
       }
 
   module _ {i at bt : ℕ} (C : Fitting incoming v scope index stride plan n from target vt from′ i at bt) where
-    pub fitting-all : n ≤ i → (A : FieldsFitAt incoming v scope index stride plan n from target vt from′) → FitsFields A (Same.To (record { at = at }) (record { at = bt }))
+    pub fitting-all : n ≤ i → (A : FieldsFitAt incoming v scope index stride plan n from target vt from′) → FitsFields A (FitEnd.At (record { at = at }) (record { at = bt }))
     unfolding typesOf fieldsOf
     fitting-all h A =
         let z : n - i ≡ 0 = let w = C .within in omega arith in
@@ -105,7 +105,7 @@ module _ {incoming : Bytes} {v : Edition} {scope : Scope} {index : List ℕ} {st
       abbrev pub fitting-asks : FieldsFitAt incoming v scope index stride plan n from target vt from′ → ColumnFitAt incoming v scope index stride plan at target vt bt
       fitting-asks A = record { scoped = A .scoped; selector = first .head; column = next .first; small = A .small }
 
-      pub fitting-more : {r : Same} {x y : Cursor} → ((B : ColumnFitAt incoming v scope index stride plan at target vt bt) → FitsColumn B r) → r ≡ Same.To x y
+      pub fitting-more : {r : FitEnd} {x y : Cursor} → ((B : ColumnFitAt incoming v scope index stride plan at target vt bt) → FitsColumn B r) → r ≡ FitEnd.At x y
           → FieldsFitAt incoming v scope index stride plan n from target vt from′ → Fitting incoming v scope index stride plan n from target vt from′ (i + 1) (x .at) (y .at)
       unfolding fieldsOf
       fitting-more {x = x} {y} g h B =

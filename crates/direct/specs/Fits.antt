@@ -11,7 +11,7 @@ use Rattle.layout.specs.declared.bytes.Span.{Span}
 use Rattle.layout.specs.declared.cursor.Cursor.{Cursor}
 use Rattle.layout.specs.declared.edition.Edition.{Edition}
 use Rattle.forms.specs.Labelled.{ColumnAt}
-use Rattle.forms.specs.declared.compare.Same.{Same}
+use Rattle.direct.specs.declared.fit.FitEnd.{FitEnd}
 use Rattle.plan.specs.Result.{Result, gives}
 use Rattle.plan.specs.Check.{Column, column, longestType, typeOf, typesOf}
 use Rattle.walk.specs.Stands.{SelectorAt, SelectorsAt}
@@ -69,15 +69,15 @@ pub record GivesTo {A : Type 0} (r : Result A) (e : ℕ) (a : A) (f : ℕ) (x y 
   pub typed : r ≡ gives a
   pub ends : (x .at ≡ e) × (y .at ≡ f)
 
-abbrev pub givesParts : {A : Type 0} → Result A → ℕ → A → ℕ → Same → Type 0
-givesParts r e a f (Same.To x y) = GivesTo r e a f x y
-givesParts r e a f Same.No = Unit {0}
+abbrev pub givesParts : {A : Type 0} → Result A → ℕ → A → ℕ → FitEnd → Type 0
+givesParts r e a f (FitEnd.At x y) = GivesTo r e a f x y
+givesParts r e a f FitEnd.Unknown = Unit {0}
 
-pub record GivesIs {A : Type 0} (r : Result A) (e : ℕ) (a : A) (f : ℕ) (q : Same) : Type 0 where
+pub record GivesIs {A : Type 0} (r : Result A) (e : ℕ) (a : A) (f : ℕ) (q : FitEnd) : Type 0 where
   pub parts : givesParts r e a f q
 
 abbrev pub FitsColumn : {incoming : Bytes} {v : Edition} {scope : Scope} {index : List ℕ} {stride : ℕ} {plan : Bytes} {at : ℕ} {target : Bytes} {vt : Edition} {bt : ℕ}
-    → ColumnFitAt incoming v scope index stride plan at target vt bt → Same → Type 0
+    → ColumnFitAt incoming v scope index stride plan at target vt bt → FitEnd → Type 0
 FitsColumn A q =
     GivesIs (typeOf (A .scoped .fields) (A .selector .tree)) (A .selector .end) (column (A .column .label .name) (dtypeOf (A .column .inner .tree))) (A .column .inner .end) q
 
@@ -90,5 +90,5 @@ pub record FieldsFitAt (incoming : Bytes) (v : Edition) (scope : Scope) (index :
   pub small : length target ≤ longestType
 
 abbrev pub FitsFields : {incoming : Bytes} {v : Edition} {scope : Scope} {index : List ℕ} {stride : ℕ} {plan : Bytes} {n at : ℕ} {target : Bytes} {vt : Edition} {bt : ℕ}
-    → FieldsFitAt incoming v scope index stride plan n at target vt bt → Same → Type 0
+    → FieldsFitAt incoming v scope index stride plan n at target vt bt → FitEnd → Type 0
 FitsFields A q = GivesIs (typesOf (A .scoped .fields) (A .selectors .trees)) (A .selectors .end) (fieldsOf (A .columns .columns)) (A .columns .end) q

@@ -33,6 +33,12 @@ pub enum Fit {
     Unknown,
 }
 
+// Where the selector and the column of the target end.
+pub enum FitEnd {
+    At(Cursor, Cursor),
+    Unknown,
+}
+
 fn fit_position(
     incoming: &[u8],
     v: Edition,
@@ -292,8 +298,8 @@ fn fit_struct(
                     y,
                     levels,
                 ) {
-                    Same::To(e, f) => Fit::Is(e, f, named(Place::Incoming, name)),
-                    Same::No => Fit::Unknown,
+                    FitEnd::At(e, f) => Fit::Is(e, f, named(Place::Incoming, name)),
+                    FitEnd::Unknown => Fit::Unknown,
                 }
             }
             _ => Fit::Unknown,
@@ -315,7 +321,7 @@ pub fn fit_column(
     vt: Edition,
     b: Cursor,
     levels: u8,
-) -> Same
+) -> FitEnd
     requires { ⌜ ColumnFitAt (now incoming) v scope (now index) stride (now plan) (c .at) (now target) vt (b .at) ⌝ }
     ensures { λ r. ⌜ ((A : ColumnFitAt (now (incoming .entry)) v scope (now (index .entry)) stride (now (plan .entry)) (c .at) (now (target .entry)) vt (b .at)) → FitsColumn A r) ⌝ }
 {
@@ -337,15 +343,15 @@ pub fn fit_column(
                 Fit::Is(e, f, name) => {
                     let q = l.name;
                     if same_name(incoming, plan, name, target, q) {
-                        Same::To(e, f)
+                        FitEnd::At(e, f)
                     } else {
-                        Same::No
+                        FitEnd::Unknown
                     }
                 }
-                Fit::Unknown => Same::No,
+                Fit::Unknown => FitEnd::Unknown,
             }
         }
-        Labelled::Refused(_) => Same::No,
+        Labelled::Refused(_) => FitEnd::Unknown,
     }
 }
 
@@ -363,7 +369,7 @@ pub fn fit_fields(
     vt: Edition,
     b: Cursor,
     levels: u8,
-) -> Same
+) -> FitEnd
     requires { ⌜ FieldsFitAt (now incoming) v scope (now index) stride (now plan) n (c .at) (now target) vt (b .at) ⌝ }
     ensures { λ r. ⌜ ((A : FieldsFitAt (now (incoming .entry)) v scope (now (index .entry)) stride (now (plan .entry)) n (c .at) (now (target .entry)) vt (b .at)) → FitsFields A r) ⌝ }
 {
@@ -386,15 +392,15 @@ pub fn fit_fields(
             e,
             levels,
         ) {
-            Same::To(f, g) => {
+            FitEnd::At(f, g) => {
                 at = f.at;
                 bt = g.at;
             }
-            Same::No => return Same::No,
+            FitEnd::Unknown => return FitEnd::Unknown,
         }
         i += 1;
     }
-    Same::To(Cursor { at }, Cursor { at: bt })
+    FitEnd::At(Cursor { at }, Cursor { at: bt })
 }
 
 // Inside at most so many others.

@@ -14,6 +14,7 @@ use Rattle.layout.proofs.View.{label-got}
 use Rattle.forms.specs.Compare.{sameDtype}
 use Rattle.forms.specs.Answers.{sameOf}
 use Rattle.forms.specs.declared.compare.Same.{Same}
+use Rattle.direct.specs.declared.fit.FitEnd.{FitEnd}
 use Rattle.forms.proofs.Equal.{same-dtype-eq}
 use Rattle.forms.proofs.Read.{ok-eq}
 use Rattle.forms.proofs.Comparing.{same-to}
@@ -26,16 +27,16 @@ use Rattle.infer.specs.Typed.{TypedIs, FitsType}
 use Rattle.infer.specs.Writing.{InferredTo}
 use Rattle.infer.proofs.Standing.{standing, standing-is}
 
-pub not-typed : {r : Result Column} {e : ℕ} {t : DataType} {f : ℕ} → TypedIs r e t f Same.No
+pub not-typed : {r : Result Column} {e : ℕ} {t : DataType} {f : ℕ} → TypedIs r e t f FitEnd.Unknown
 not-typed = record { parts = tt }
 
-pub given-as : {A : Type 0} {r : Result A} {e : ℕ} {a : A} {f : ℕ} {q p : Same} → GivesIs r e a f q → q ≡ p → GivesIs r e a f p
-given-as {r = r} {e} {a} {f} G h = subst (λ (x : Same). GivesIs r e a f x) h G
+pub given-as : {A : Type 0} {r : Result A} {e : ℕ} {a : A} {f : ℕ} {q p : FitEnd} → GivesIs r e a f q → q ≡ p → GivesIs r e a f p
+given-as {r = r} {e} {a} {f} G h = subst (λ (x : FitEnd). GivesIs r e a f x) h G
 
 -- the type that was written is the target's
 pub composed-fits : {incoming : Bytes} {v : Edition} {scope : Scope} {index : List ℕ} {stride : ℕ} {plan : Bytes} {at : ℕ} {target : Bytes} {vt : Edition} {bt : ℕ} (A : FitAt incoming v scope index stride plan at target vt bt)
     {depth : ℕ} {out : Bytes} {k len : ℕ} {out′ : Bytes} (W : InferredTo (typeOf (A .scoped .fields) (A .selector .tree)) depth out k len out′) {q : Same} {x y e : Cursor}
-    → q ≡ sameOf (sameDtype (dtypeOf (standing (W .writes) .tree)) (dtypeOf (A .type .tree))) (standing (W .writes) .end) (A .type .end) → q ≡ Same.To x y → e .at ≡ A .selector .end → FitsType A (Same.To e y)
+    → q ≡ sameOf (sameDtype (dtypeOf (standing (W .writes) .tree)) (dtypeOf (A .type .tree))) (standing (W .writes) .end) (A .type .end) → q ≡ Same.To x y → e .at ≡ A .selector .end → FitsType A (FitEnd.At e y)
 composed-fits A W f g h =
     let (z, o, w) = same-to _ f g in
     record {
@@ -47,16 +48,16 @@ composed-fits A W f g h =
     }
 
 -- under the name b, that every column of the result has
-named-given : {r : Result Column} {e : ℕ} {t : DataType} {f : ℕ} {b : Bytes} → ((a : Column) → r ≡ gives a → a .name ≡ b) → (q : Same) → TypedIs r e t f q → GivesIs r e (column b t) f q
-named-given {t = t} h (Same.To x y) T =
+named-given : {r : Result Column} {e : ℕ} {t : DataType} {f : ℕ} {b : Bytes} → ((a : Column) → r ≡ gives a → a .name ≡ b) → (q : FitEnd) → TypedIs r e t f q → GivesIs r e (column b t) f q
+named-given {t = t} h (FitEnd.At x y) T =
     record { parts = record { typed = T .parts .typed ∙ ap (λ (n : Bytes). gives (column n t)) (h (column (T .parts .name) t) (T .parts .typed)); ends = T .parts .ends } }
-named-given h Same.No T = none-given
+named-given h FitEnd.Unknown T = none-given
 
 -- a type and a name of the target make a column of the target
 pub column-typed : {incoming : Bytes} {v : Edition} {scope : Scope} {index : List ℕ} {stride : ℕ} {plan : Bytes} {at : ℕ} {target : Bytes} {vt : Edition} {bt : ℕ}
     (A : ColumnFitAt incoming v scope index stride plan at target vt bt) {p : Labelled} {l : LabelSpan} {c : Cursor} → labelRes target p ≡ label vt target bt → p ≡ Labelled.Is l c
     → ((a : Column) → typeOf (A .scoped .fields) (A .selector .tree) ≡ gives a → a .name ≡ spanAt target (l .name))
-    → {q : Same} → TypedIs (typeOf (A .scoped .fields) (A .selector .tree)) (A .selector .end) (dtypeOf (A .column .inner .tree)) (A .column .inner .end) q → FitsColumn A q
+    → {q : FitEnd} → TypedIs (typeOf (A .scoped .fields) (A .selector .tree)) (A .selector .end) (dtypeOf (A .column .inner .tree)) (A .column .inner .end) q → FitsColumn A q
 column-typed {target = target} A {l = l} e f h {q} T =
     let w : A .column .label .name ≡ spanAt target (l .name) = ap (λ (x : Label). x .name) (ok-eq (sym (A .column .labelled) ∙ label-got target e f) .0) in
     named-given (λ a g. h a g ∙ sym w) q T

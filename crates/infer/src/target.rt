@@ -19,6 +19,7 @@ use crate::name::infer_name;
 use direct::fit::fit_column;
 use direct::place::same_name;
 use direct::scope::Scope;
+use direct::fit::FitEnd;
 use forms::compare::Same;
 use forms::compare::same_type;
 use index::columns::few;
@@ -44,7 +45,7 @@ fn fit_composed(
     b: Cursor,
     out: &mut [u8],
     other: &mut [u8],
-) -> Same
+) -> FitEnd
     requires { ⌜ FitAt (now s) v scope (now index) stride (now plan) (c .at) (now target) vt (b .at) ⌝ }
     requires { ⌜ (length (now s) ≤ 65536) × (length (now plan) ≤ 65536) × (length (now out) ≤ 65536) × (length (now other) ≤ 65536) ⌝ }
     ensures { λ r. ⌜ ((A : FitAt (now (s .entry)) v scope (now (index .entry)) stride (now (plan .entry)) (c .at) (now (target .entry)) vt (b .at)) → FitsType A r) ⌝ }
@@ -53,11 +54,11 @@ fn fit_composed(
         Inferred::Is(_) => {
             let start = Cursor { at: 0 };
             match same_type(out, Edition::One, 16, start, target, vt, 16, b) {
-                Same::To(_, f) => Same::To(skip_selector(plan, c), f),
-                Same::No => Same::No,
+                Same::To(_, f) => FitEnd::At(skip_selector(plan, c), f),
+                Same::No => FitEnd::Unknown,
             }
         }
-        Inferred::Unknown => Same::No,
+        Inferred::Unknown => FitEnd::Unknown,
     }
 }
 
@@ -73,7 +74,7 @@ fn fit_small(
     target: &[u8],
     vt: Edition,
     b: Cursor,
-) -> Same
+) -> FitEnd
     requires { ⌜ FitAt (now s) v scope (now index) stride (now plan) (c .at) (now target) vt (b .at) ⌝ }
     requires { ⌜ (length (now s) ≤ 65536) × (length (now plan) ≤ 65536) ⌝ }
     ensures { λ r. ⌜ ((A : FitAt (now (s .entry)) v scope (now (index .entry)) stride (now (plan .entry)) (c .at) (now (target .entry)) vt (b .at)) → FitsType A r) ⌝ }
@@ -108,7 +109,7 @@ fn fit_large(
     target: &[u8],
     vt: Edition,
     b: Cursor,
-) -> Same
+) -> FitEnd
     requires { ⌜ FitAt (now s) v scope (now index) stride (now plan) (c .at) (now target) vt (b .at) ⌝ }
     requires { ⌜ (length (now s) ≤ 65536) × (length (now plan) ≤ 65536) ⌝ }
     ensures { λ r. ⌜ ((A : FitAt (now (s .entry)) v scope (now (index .entry)) stride (now (plan .entry)) (c .at) (now (target .entry)) vt (b .at)) → FitsType A r) ⌝ }
@@ -167,7 +168,7 @@ fn fit_inputs(
     target: &[u8],
     vt: Edition,
     b: Cursor,
-) -> Same
+) -> FitEnd
     requires { ⌜ ColumnFitAt (now s) v scope (now index) stride (now plan) (c .at) (now target) vt (b .at) ⌝ }
     requires { ⌜ (length (now s) ≤ 65536) × (length (now plan) ≤ 65536) ⌝ }
     ensures { λ r. ⌜ ((A : ColumnFitAt (now (s .entry)) v scope (now (index .entry)) stride (now (plan .entry)) (c .at) (now (target .entry)) vt (b .at)) → FitsColumn A r) ⌝ }
@@ -176,14 +177,14 @@ fn fit_inputs(
         Labelled::Is(l, d) => {
             let q = l.name;
             if !same_label(s, v, scope, index, stride, plan, c, target, q) {
-                return Same::No;
+                return FitEnd::Unknown;
             }
             match fit_small(s, v, scope, index, stride, plan, c, target, vt, d) {
-                Same::To(e, f) => Same::To(e, f),
-                Same::No => fit_large(s, v, scope, index, stride, plan, c, target, vt, d),
+                FitEnd::At(e, f) => FitEnd::At(e, f),
+                FitEnd::Unknown => fit_large(s, v, scope, index, stride, plan, c, target, vt, d),
             }
         }
-        Labelled::Refused(_) => Same::No,
+        Labelled::Refused(_) => FitEnd::Unknown,
     }
 }
 
@@ -199,14 +200,14 @@ fn fit_top(
     target: &[u8],
     vt: Edition,
     b: Cursor,
-) -> Same
+) -> FitEnd
     requires { ⌜ ColumnFitAt (now s) v scope (now index) stride (now plan) (c .at) (now target) vt (b .at) ⌝ }
     requires { ⌜ (length (now s) ≤ 65536) × (length (now plan) ≤ 65536) ⌝ }
     ensures { λ r. ⌜ ((A : ColumnFitAt (now (s .entry)) v scope (now (index .entry)) stride (now (plan .entry)) (c .at) (now (target .entry)) vt (b .at)) → FitsColumn A r) ⌝ }
 {
     match fit_column(s, v, scope, index, stride, plan, c, target, vt, b, 64) {
-        Same::To(e, f) => Same::To(e, f),
-        Same::No => fit_inputs(s, v, scope, index, stride, plan, c, target, vt, b),
+        FitEnd::At(e, f) => FitEnd::At(e, f),
+        FitEnd::Unknown => fit_inputs(s, v, scope, index, stride, plan, c, target, vt, b),
     }
 }
 
@@ -223,7 +224,7 @@ fn fit_tops(
     target: &[u8],
     vt: Edition,
     b: Cursor,
-) -> Same
+) -> FitEnd
     requires { ⌜ FieldsFitAt (now s) v scope (now index) stride (now plan) n (c .at) (now target) vt (b .at) ⌝ }
     requires { ⌜ (length (now s) ≤ 65536) × (length (now plan) ≤ 65536) ⌝ }
     ensures { λ r. ⌜ ((A : FieldsFitAt (now (s .entry)) v scope (now (index .entry)) stride (now (plan .entry)) n (c .at) (now (target .entry)) vt (b .at)) → FitsFields A r) ⌝ }
@@ -235,15 +236,15 @@ fn fit_tops(
         let d = Cursor { at };
         let e = Cursor { at: bt };
         match fit_top(s, v, scope, index, stride, plan, d, target, vt, e) {
-            Same::To(f, g) => {
+            FitEnd::At(f, g) => {
                 at = f.at;
                 bt = g.at;
             }
-            Same::No => return Same::No,
+            FitEnd::Unknown => return FitEnd::Unknown,
         }
         i += 1;
     }
-    Same::To(Cursor { at }, Cursor { at: bt })
+    FitEnd::At(Cursor { at }, Cursor { at: bt })
 }
 
 // Few selectors over few columns, which are passed over.
@@ -279,8 +280,8 @@ fn fits_few(
         vt,
         first,
     ) {
-        Same::To(_, _) => true,
-        Same::No => false,
+        FitEnd::At(_, _) => true,
+        FitEnd::Unknown => false,
     }
 }
 
@@ -319,8 +320,8 @@ fn fits_many(
         vt,
         first,
     ) {
-        Same::To(_, _) => true,
-        Same::No => false,
+        FitEnd::At(_, _) => true,
+        FitEnd::Unknown => false,
     }
 }
 
