@@ -25,7 +25,7 @@ use Rattle.layout.specs.declared.edition.Edition.{Edition}
 use Rattle.layout.proofs.Ways.{clash, moved-to, moved-refused}
 use Rattle.layout.proofs.View.{first-at, first-labelled, no-column}
 use Rattle.nodes.proofs.Rows.{first-column, column-before}
-use Rattle.index.specs.Indexed.{dropColumns, firstAs, StartsAt, Indexed}
+use Rattle.index.specs.Indexed.{dropColumns, firstAs, StartsAt, StartsBefore, Indexed}
 use Rattle.index.proofs.Drop.{none-left, drop-more, find-drop, parts, next-multiple}
 
 -- as many columns, under another name of their number and place
@@ -122,16 +122,38 @@ module _ {v : Edition} {s : Bytes} {n at : ℕ} (P : ColumnsAt v deepest s n at)
   pub from-first : (r : Found) → Finds v deepest s (firstAs k (dropColumns (k .0) (P .columns))) r → Finds v deepest s (columnAt k (P .columns)) r
   from-first r h = subst (λ (x : Lookup). Finds v deepest s x r) (sym (find-drop (k .0) 0 (k .0) (P .columns) (omega arith))) h
 
-  -- from an entry on
-  pub from-entry : (r : Found) {stride : ℕ} {index : List ℕ} {j o : ℕ} → Indexed v s n at stride index → j ≡ k .0 / stride → j < length index → o ≡ getD index j 0 → k .0 < n
-      → ((a : ℕ) (Q : ColumnsAt v deepest s a o) → k .0 % stride < a → Finds v deepest s (firstAs k (dropColumns (k .0 % stride) (Q .columns))) r)
+  -- from a column at or before it on
+  pub from-start : (r : Found) {m left : ℕ} → StartsBefore v s n at P (k .0) m left → k .0 < n
+      → ((a : ℕ) (Q : ColumnsAt v deepest s a m) → left < a → Finds v deepest s (firstAs k (dropColumns left (Q .columns))) r)
       → Finds v deepest s (columnAt k (P .columns)) r
-  from-entry r {stride} {index} {j} I q lt g h f =
-      let T = I .starts P j lt in
-      let d = parts (k .0) stride q in
+  from-start r {left = left} B h f =
+      let T = B .starts in
+      let d = B .counted in
       from-first r (subst (λ (cs : Columns). Finds v deepest s (firstAs k cs) r)
-      (ap (dropColumns (k .0 % stride)) (T .is) ∙ drop-more (j * stride) (k .0 % stride) (k .0) (P .columns) d)
-      (f _ (record { columns = T .rest .columns; end = T .rest .end; reads = renamed (T .rest) refl (sym g) }) (omega arith)))
+      (ap (dropColumns left) (T .is) ∙ drop-more (B .from) left (k .0) (P .columns) d)
+      (f _ (T .rest) (omega arith)))
+
+-- the first column stands where the columns begin
+pub first-starts : {v : Edition} {s : Bytes} {n at : ℕ} (P : ColumnsAt v deepest s n at) → StartsAt v s n at P 0 at
+unfolding dropColumns
+first-starts {n = n} P = record {
+  within = omega arith;
+  rest = record { columns = P .columns; end = P .end; reads = renamed P (let e : n ≡ n - 0 = omega arith in e) refl };
+  is = refl;
+}
+
+-- before column k: the first column, or the last entry that is not behind it
+module _ {v : Edition} {s : Bytes} {n at : ℕ} (P : ColumnsAt v deepest s n at) (k : ℕ) where
+  pub before-first : StartsBefore v s n at P k at k
+  before-first = record { from = 0; counted = omega arith; starts = first-starts P }
+
+  pub before-entry : {stride : ℕ} {index : List ℕ} {j o left : ℕ} → Indexed v s n at stride index → j ≡ k / stride → j < length index → o ≡ getD index j 0
+      → left ≡ k % stride → StartsBefore v s n at P k o left
+  before-entry {stride} {j = j} I q lt g l = record {
+    from = j * stride;
+    counted = parts k stride q ∙ ap (λ (m : ℕ). j * stride + m) (sym l);
+    starts = subst (λ (m : ℕ). StartsAt v s n at P (j * stride) m) (sym g) (I .starts P j lt);
+  }
 
 -- ---- the entries of a table
 
@@ -150,7 +172,7 @@ module _ {v : Edition} {s : Bytes} {n from stride : ℕ} where
     within = omega arith;
     counted = sym (zero-mul stride);
     room = omega arith;
-    here = λ P. record { within = omega arith; rest = record { columns = P .columns; end = P .end; reads = renamed P (let e : n ≡ n - 0 = omega arith in e) refl }; is = refl };
+    here = λ P. first-starts P;
     filled = λ P e h. absurd (omega arith);
   }
 

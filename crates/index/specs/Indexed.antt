@@ -40,6 +40,12 @@ pub record StartsAt (v : Edition) (s : Bytes) (n at : ℕ) (P : ColumnsAt v deep
   pub rest : ColumnsAt v deepest s (n - i) m
   pub is : rest .columns ≡ dropColumns i (P .columns)
 
+-- column k is the one after `left` others from m on
+pub record StartsBefore (v : Edition) (s : Bytes) (n at : ℕ) (P : ColumnsAt v deepest s n at) (k m left : ℕ) : Type 0 where
+  pub from : ℕ
+  pub counted : k ≡ from + left
+  pub starts : StartsAt v s n at P from m
+
 -- entry j is where column j * stride stands
 pub record Indexed (v : Edition) (s : Bytes) (n at stride : ℕ) (index : List ℕ) : Type 0 where
   pub starts : (P : ColumnsAt v deepest s n at) (j : ℕ) → j < length index → StartsAt v s n at P (j * stride) (getD index j 0)

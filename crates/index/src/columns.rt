@@ -4,7 +4,9 @@ ghost use Prim.Native.Nat.{ℕ, _≤_, _<_};
 ghost use lib.ListN.{length, take};
 ghost use Rattle.layout.specs.Find.{columnAt, Finds};
 ghost use Rattle.layout.specs.Stands.{ColumnsAt};
-ghost use Rattle.index.specs.Indexed.{strideOf, Indexed, dropColumns, firstAs};
+ghost use Rattle.layout.specs.Bytes.{Bytes};
+ghost use Rattle.layout.specs.declared.edition.Edition.{Edition as EditionOf};
+ghost use Rattle.index.specs.Indexed.{strideOf, Indexed, StartsBefore, dropColumns, firstAs};
 use layout::bytes::wide;
 use layout::columns::Labelled;
 use layout::columns::Position;
@@ -87,6 +89,31 @@ fn column_after(s: &[u8], v: Edition, m: u16, c: Cursor, k: Position) -> Found
     }
 }
 
+// Where a column at or before the one looked for stands, and how many lie between.
+struct Start {
+    at: usize,
+    left: u16,
+}
+
+// The last entry of the table that is not behind column `k`; without one, the first column.
+fn start_of(index: &[u16], stride: u16, first: Cursor, k: u16) -> Start
+    requires { ⌜ 0 < stride ⌝ }
+    ensures { λ r. ⌜ ((v : EditionOf) (s : Bytes) (n : ℕ) → Indexed v s n (first .at) stride (now (index .entry)) → (P : ColumnsAt v 16 s n (first .at)) → StartsBefore v s n (first .at) P k (r .at) (r .left)) ⌝ }
+{
+    let j = wide(k / stride);
+    if j < index.len() {
+        Start {
+            at: wide(index[j]),
+            left: k % stride,
+        }
+    } else {
+        Start {
+            at: first.at,
+            left: k,
+        }
+    }
+}
+
 // Column `k` of `n`, as `layout::find::column_at` finds it.
 pub fn indexed_column(
     s: &[u8],
@@ -106,11 +133,6 @@ pub fn indexed_column(
     if n <= p {
         return Found::Absent;
     }
-    let j = wide(p / stride);
-    if j < index.len() {
-        let at = wide(index[j]);
-        column_after(s, v, p % stride, Cursor { at }, k)
-    } else {
-        column_after(s, v, p, first, k)
-    }
+    let b = start_of(index, stride, first, p);
+    column_after(s, v, b.left, Cursor { at: b.at }, k)
 }
