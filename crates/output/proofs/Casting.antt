@@ -21,7 +21,7 @@ use Rattle.raw.specs.Number.{isNumber, leafAnswer, LeafIs}
 use Rattle.raw.specs.Stored.{Stores}
 use Rattle.raw.specs.declared.leaf.LeafValue.{LeafValue}
 use Rattle.raw.proofs.Storing.{cast-kept, stores-as}
-use Rattle.output.specs.Chain.{castAll}
+use Rattle.output.specs.Chain.{castAll, Kept, Casting}
 use Rattle.output.specs.Answers.{castValueOf}
 use Rattle.output.specs.declared.leaf.CastValue.{CastValue}
 
@@ -45,11 +45,6 @@ first-casts [] i v h = absurd (omega arith)
 first-casts (k ∷ ks) zero v h = refl
 first-casts (k ∷ ks) (suc i) v h = ap (castLeaf k) (first-casts ks i v (omega arith))
 
--- the casts ks of v₀ are the first i of them of v
-pub record Casting (ks : List Leaf) (v₀ : Value) (i : ℕ) (v : Value) : Type 0 where
-  pub within : i ≤ length ks
-  pub same : castAll ks v₀ ≡ castAll (take i ks) v
-
 pub casting-none : (ks : List Leaf) (v : Value) {i : ℕ} → length ks ≡ i → Casting ks v i v
 casting-none ks v {i} e = record { within = omega arith; same = ap (λ (l : List Leaf). castAll l v) (sym (take-all i ks (omega arith))) }
 
@@ -68,9 +63,15 @@ module _ {ks : List Leaf} {v₀ : Value} {i : ℕ} {k : Leaf} {x : ℕ} (C : Cas
     pub casting-number : {m : ℕ} → r ≡ Converted.Number m → Casting ks v₀ (i - 1) (vnumber to m)
     casting-number g = record { within = omega (arith, C .within); same = stepped ∙ ap (λ (q : Converted). castAll (take (i - 1) ks) (valueOf to q)) g }
 
-    pub casting-overflow : r ≡ Converted.Overflow → castValueOf CastValue.Overflow ≡ castAll ks v₀
+    -- nothing changes it any more
+    pub casting-overflow : r ≡ Converted.Overflow → {j : ℕ} → j ≤ i → Casting ks v₀ j voverflow
     unfolding isNumber
-    casting-overflow g = sym (stepped ∙ ap (λ (q : Converted). castAll (take (i - 1) ks) (valueOf to q)) g ∙ casts-kept (take (i - 1) ks) voverflow refl)
+    casting-overflow g {j} l = record {
+      within = omega (arith, C .within);
+      same =
+          stepped ∙ ap (λ (q : Converted). castAll (take (i - 1) ks) (valueOf to q)) g ∙ casts-kept (take (i - 1) ks) voverflow refl
+          ∙ sym (casts-kept (take j ks) voverflow refl);
+    }
 
   pub casting-all : i ≤ 0 → vnumber k x ≡ castAll ks v₀
   casting-all h = sym (C .same ∙ no-casts (take i ks) (vnumber k x) (short (i) h ks))
@@ -78,6 +79,33 @@ module _ {ks : List Leaf} {v₀ : Value} {i : ℕ} {k : Leaf} {x : ℕ} (C : Cas
       short : (j : ℕ) → j ≤ 0 → (l : List Leaf) → length (take j l) ≡ 0
       short zero h l = refl
       short (suc j) h l = absurd (omega arith)
+
+pub casting-to : {ks : List Leaf} {v₀ : Value} {i j : ℕ} {v : Value} → i ≡ j → Casting ks v₀ i v → Casting ks v₀ j v
+casting-to {ks} {v = v} e C = record { within = omega (arith, C .within); same = C .same ∙ ap (λ (n : ℕ). castAll (take n ks) v) e }
+
+-- the last casts of the first i, whose kinds are kept: m of them were done
+module _ {ks : List Leaf} {v₀ : Value} {i m : ℕ} {kinds : List Leaf} {k : Leaf} {x count : ℕ} (K : Kept ks i 0 kinds)
+    (C : Casting ks v₀ (i - m) (vnumber k x)) (h : count ≤ i) where
+  pub block-all : m ≤ count → count ≤ m → Casting ks v₀ (i - count) (vnumber k x)
+  block-all a b = casting-to (omega arith) C
+
+  module _ (b : count ≤ 256) (l : m < count) (r : Converted) (f : valueOf (getD kinds m Null) r ≡ convert k (getD kinds m Null) x) where
+    kind-is : getD kinds m Null ≡ getD ks (i - m - 1) Null
+    kind-is = let q : i - 1 - m ≡ i - m - 1 = omega arith in K .right m (omega arith) (omega arith) (omega arith) ∙ ap (λ (j : ℕ). getD ks j Null) q
+
+    pub block-number : {y : ℕ} → r ≡ Converted.Number y → Casting ks v₀ (i - (m + 1)) (vnumber (getD kinds m Null) y)
+    block-number g = casting-to (omega arith) (casting-number C (omega arith) kind-is r f g)
+
+    pub block-overflow : r ≡ Converted.Overflow → Casting ks v₀ (i - count) voverflow
+    block-overflow g = casting-overflow C (omega arith) kind-is r f g (omega arith)
+
+module _ {ks : List Leaf} {v₀ : Value} {i : ℕ} {r : CastValue} (C : Casting ks v₀ i (castValueOf r)) where
+  pub cast-number : {k : Leaf} {x : ℕ} → r ≡ CastValue.Number k x → Casting ks v₀ i (vnumber k x)
+  cast-number e = record { within = C .within; same = C .same ∙ ap (λ (q : CastValue). castAll (take i ks) (castValueOf q)) e }
+
+  pub cast-overflow : r ≡ CastValue.Overflow → castValueOf CastValue.Overflow ≡ castAll ks v₀
+  unfolding isNumber
+  cast-overflow e = sym (C .same ∙ ap (λ (q : CastValue). castAll (take i ks) (castValueOf q)) e ∙ casts-kept (take i ks) voverflow refl)
 
 -- ---- what is stored
 

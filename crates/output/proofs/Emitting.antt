@@ -26,7 +26,10 @@ use Rattle.walk.specs.Moves.{Moves, m-here, m-field, m-list, m-array, Part, p-f
 use Rattle.walk.specs.Standing.{Entries, e-none, e-more, WalkAt, StepsTo, rank}
 use Rattle.walk.specs.Values.{opened, given, givens, within, stateValue}
 use Rattle.walk.specs.declared.walk.Walk.{Walk}
+use Rattle.walk.specs.Children.{PartStands, Reached}
 use Rattle.walk.proofs.View.{nth-exists}
+use Rattle.walk.proofs.Standing.{walk-starts, walk-small}
+use Rattle.walk.proofs.Children.{reached-stands}
 use Rattle.nodes.specs.Raw.{NodeIs, partsOf}
 use Rattle.nodes.specs.declared.raw.Parts.{Parts}
 use Rattle.raw.specs.Number.{isNumber}
@@ -320,6 +323,10 @@ module _ {us : Values} {out₀ : Bytes} {k i at : ℕ} {out : Bytes} (R : Rowing
 
 -- ---- one part
 
+-- what the walks to the parts ask
+pub parts-asks : {v : Edition} {lay : Bytes} {n t : ℕ} {rec plan : Bytes} {w : Walk} → EmitAt v lay n t rec plan w → (w .at < 65536) × (w .at < length plan)
+parts-asks A = (walk-small (A .standing), omega (arith, walk-starts (A .standing), A .standing .bound))
+
 module _ {v : Edition} {lay : Bytes} {n t : ℕ} {rec plan : Bytes} {w : Walk} (A : EmitAt v lay n t rec plan w) (M : Mapped (A .state)) where
   abbrev σ : Values
   σ = A .row .values .values
@@ -333,6 +340,11 @@ module _ {v : Edition} {lay : Bytes} {n t : ℕ} {rec plan : Bytes} {w : Walk} (
   module _ {i : ℕ} (h : i < countValues all) where
     deep-less : levels (valueAt all i) + 1 ≤ levels (stateValue σ (A .state))
     deep-less = part-levels (stateValue σ (A .state)) i h
+
+    pub part-reached : {m : ℕ} → Reached plan (w .at) i m → PartStands plan (w .at) i m
+    part-reached R =
+        let (f, s, p) = part-exists σ (A .state) i M h in
+        reached-stands R (A .standing .here) (subst (λ (y : Selector). Part y i f s) (sym (A .standing .selector)) p)
 
     pub part-room : w .deep < 64
     unfolding size

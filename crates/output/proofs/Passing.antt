@@ -1,10 +1,12 @@
 -- The walk past casts and renames, step by step. Assumes nothing.
-use Prim.Native.Nat.{ℕ, zero, suc, _+_, _-_, _<_, _≤_}
+use Prim.Native.Nat.{ℕ, zero, suc, _+_, _-_, _%_, _<_, _≤_}
 use mathlib.Core.Path.{_≡_, refl, ap, sym, subst, _∙_}
 use mathlib.Core.Bool.{true}
 use mathlib.Core.List.{List, [], _∷_, _++_}
 use native.Mathlib.Omega.{arith}
-use lib.ListN.{length, getD, length-append}
+use native.Mathlib.Decide.{ℕ-discrete}
+use lib.ListN.{length, getD, set, length-append, length-set}
+use lib.Seq.{getD-set-same, getD-set-other}
 use borrow.Author.Tests.{ne-eqb}
 use Rattle.layout.specs.Bytes.{Bytes}
 use Rattle.layout.specs.Parser.{choose}
@@ -29,6 +31,7 @@ use Rattle.walk.specs.Standing.{WalkAt, Located, StepsTo, rank}
 use Rattle.walk.specs.declared.walk.Walk.{Walk}
 use Rattle.walk.proofs.Standing.{rank-below}
 use Rattle.output.specs.Chain.{ends, goes, casts, nextField, nextOut, nextCast, nextPart, nextElement, nextOf, next, Passed, p-here, p-goes, p-casts}
+use Rattle.output.specs.Chain.{Kept}
 use Rattle.output.specs.Answers.{castPass, GoesOn, CastsOn, passAnswer, PassIs, OnwardTo, OriginIs}
 use Rattle.output.specs.declared.casts.Pass.{Pass}
 use Rattle.output.proofs.Chain.{moves-passed, passed-on, passed-moves}
@@ -220,7 +223,7 @@ passing-origin L P e = record {
   falls = omega (arith, P .falls, L .falls);
 }
 
--- ---- the loop of `nth_cast`
+-- ---- the loop of `last_kinds`
 
 casts-eq : {a b : Leaf} {x y : State} → casts a x ≡ casts b y → (a ≡ b) × (x ≡ y)
 casts-eq e = (cc, cc)
@@ -255,62 +258,95 @@ past-casts {z = z} h (p-casts {ks = ks} f p) e =
     let (a, b) = casts-eq (sym f ∙ e) in
     record { rest = ks; is = ap (λ (k : Leaf). k ∷ ks) a; passed = subst (λ (u : State). Passed u ks z) b p }
 
--- the cast i of ks is the cast n of those that are left from y
-pub record Seeking (z : State) (ks : List Leaf) (i n : ℕ) (y : State) : Type 0 where
+-- n of the first i of the casts ks are left from y
+pub record Ahead (z : State) (ks : List Leaf) (i n : ℕ) (y : State) : Type 0 where
   pub kinds : List Leaf
-  pub passed : Passed y kinds z
-  pub more : n < length kinds
-  pub same : getD ks i Null ≡ getD kinds n Null
+  pub passed : 0 < n → Passed y kinds z
+  pub more : n ≤ length kinds
+  pub same : (m : ℕ) → m < n → getD kinds (n - 1 - m) Null ≡ getD ks (i - 1 - m) Null
 
-module _ {z : State} {ks : List Leaf} {i n : ℕ} {y : State} (S : Seeking z ks i n y) where
-  pub seeking-ends : {B : Type 0} → next y ≡ ends → B
-  seeking-ends e = never-ends (let h = S .more in omega arith) (S .passed) e
+module _ {z : State} {ks : List Leaf} {i n : ℕ} {y : State} (A : Ahead z ks i n y) (h : 0 < n) where
+  some-left : 0 < length (A .kinds)
+  some-left = omega (arith, A .more)
 
-  pub seeking-found : {k : Leaf} (G : CastsOn y k) → n ≡ 0 → k ≡ getD ks i Null
-  seeking-found G e =
-      let B = past-casts (omega (arith, S .more)) (S .passed) (G .next) in
-      sym (S .same ∙ ap (λ (j : ℕ). getD (S .kinds) j Null) e ∙ ap (λ (l : List Leaf). getD l 0 Null) (B .is))
+  pub ahead-ends : {B : Type 0} → next y ≡ ends → B
+  ahead-ends e = never-ends some-left (A .passed h) e
 
--- from where w stands
-pub record Sought (plan : Bytes) (z : State) (ks : List Leaf) (i n : ℕ) (w : Walk) : Type 0 where
+  pub ahead-goes : {y′ u : State} → next y ≡ goes y′ → Moves y′ u → Ahead z ks i n u
+  ahead-goes e m = record { kinds = A .kinds; passed = λ l. passed-from some-left m (past-goes some-left (A .passed h) e); more = A .more; same = A .same }
+
+  module _ {k : Leaf} {y′ : State} (e : next y ≡ casts k y′) where
+    past : Behind y′ z (A .kinds) k
+    past = past-casts some-left (A .passed h) e
+
+    pub ahead-kind : k ≡ getD ks (i - 1 - (n - 1)) Null
+    ahead-kind =
+        let q : 0 ≡ n - 1 - (n - 1) = omega arith in
+        let l : n - 1 < n = omega arith in
+        sym (ap (λ (l : List Leaf). getD l 0 Null) (past .is)) ∙ ap (λ (j : ℕ). getD (A .kinds) j Null) q ∙ A .same (n - 1) l
+
+    pub ahead-casts : {u : State} → Moves y′ u → Ahead z ks i (n - 1) u
+    ahead-casts m =
+        let B = past in
+        let l : length (A .kinds) ≡ suc (length (B .rest)) = ap length (B .is) in
+        record { kinds = B .rest; passed = λ g. passed-from (omega (arith, A .more, l)) m (B .passed); more = omega (arith, A .more, l); same = same }
+      where
+        same : (m : ℕ) → m < n - 1 → getD (past .rest) (n - 1 - 1 - m) Null ≡ getD ks (i - 1 - m) Null
+        same m l =
+            let q : suc (n - 1 - 1 - m) ≡ n - 1 - m = omega arith in
+            ap (λ (j : ℕ). getD (k ∷ past .rest) j Null) q ∙ ap (λ (l : List Leaf). getD l (n - 1 - m) Null) (sym (past .is)) ∙ A .same m (omega arith)
+
+-- One kind more, at its place; where it is not among the last 256, what it takes the place of is not either.
+kept-more : {ks : List Leaf} {i left : ℕ} {kinds : List Leaf} {kind : Leaf} → Kept ks i (left + 1) kinds → kind ≡ getD ks (i - 1 - left) Null
+    → Kept ks i left (set kinds (left % 256) kind)
+kept-more {ks} {i} {left} {kinds} {kind} K e = record { room = length-set kinds (left % 256) kind ∙ K .room; right = λ m a b c. go m a b c (ℕ-discrete m left) }
+  where
+    go : (m : ℕ) → left ≤ m → m < i → m < 256 → Dec (m ≡ left) → getD (set kinds (left % 256) kind) m Null ≡ getD ks (i - 1 - m) Null
+    go m a b c (yes q) =
+        let p : m ≡ left % 256 = omega arith in
+        ap (λ (j : ℕ). getD (set kinds (left % 256) kind) j Null) p ∙ getD-set-same kinds (left % 256) kind Null (omega (arith, K .room)) ∙ e
+        ∙ ap (λ (j : ℕ). getD ks (i - 1 - j) Null) (sym q)
+    go m a b c (no q) =
+        let p : m ≡ left % 256 → ⊥ = λ z. q (omega arith) in
+        getD-set-other kinds (left % 256) m kind Null p ∙ K .right m (omega (arith, q)) b c
+
+-- from where w stands n of the first i casts are left, and the kinds of those before them are kept
+pub record Keeping (plan : Bytes) (z : State) (ks : List Leaf) (i n : ℕ) (kinds : List Leaf) (w : Walk) : Type 0 where
   pub state : State
   pub standing : WalkAt plan w state
   pub stopped : Stopped state
-  pub seeking : Seeking z ks i n state
+  pub ahead : Ahead z ks i n state
+  pub kept : Kept ks i n kinds
 
-pub sought-any : {x y z : State} {ks : List Leaf} {i : ℕ} → Passed x ks z → i < length ks → Moves x y → Passed y ks z
-sought-any p h m = passed-from (omega arith) m p
+pub ahead-all : {x y z : State} {ks : List Leaf} {i : ℕ} → Moves x y → Passed x ks z → i ≤ length ks → Ahead z ks i i y
+ahead-all {ks = ks} m p h = record { kinds = ks; passed = λ l. passed-from (omega arith) m p; more = h; same = λ m l. refl }
 
-pub sought-none : {plan : Bytes} {x z : State} {ks : List Leaf} {i : ℕ} {w : Walk} → WalkAt plan w x → Stopped x → Passed x ks z → i < length ks → Sought plan z ks i i w
-sought-none {x = x} {ks = ks} W S p h = record { state = x; standing = W; stopped = S; seeking = record { kinds = ks; passed = p; more = h; same = refl } }
+pub keeping-none : {plan : Bytes} {x z : State} {ks : List Leaf} {i : ℕ} {w : Walk} {kinds : List Leaf} → length kinds ≡ 256 → WalkAt plan w x → Stopped x
+    → Ahead z ks i i x → Keeping plan z ks i i kinds w
+keeping-none {x = x} e W S A = record { state = x; standing = W; stopped = S; ahead = A; kept = record { room = e; right = λ m a b c. absurd (omega arith) } }
 
-module _ {plan : Bytes} {z : State} {ks : List Leaf} {i n : ℕ} {w : Walk} (Q : Sought plan z ks i n w) where
-  pub sought-goes : (G : GoesOn (Q .state)) {r : Walk} → OnwardTo plan (Q .state) (G .input) w r → Sought plan z ks i n r
-  sought-goes G O =
-      let S = Q .seeking in
-      let h : 0 < length (S .kinds) = omega (arith, S .more) in
-      record {
-        state = O .state;
-        standing = O .standing;
-        stopped = O .stopped;
-        seeking = record { kinds = S .kinds; passed = passed-from h (O .moves) (past-goes h (S .passed) (G .next)); more = S .more; same = S .same };
-      }
+module _ {plan : Bytes} {z : State} {ks : List Leaf} {i n : ℕ} {kinds : List Leaf} {w : Walk} (Q : Keeping plan z ks i n kinds w) where
+  pub keeping-all : n ≤ 0 → Kept ks i 0 kinds
+  keeping-all h = record { room = Q .kept .room; right = λ m a b c. Q .kept .right m (omega arith) b c }
 
-  pub sought-casts : {k : Leaf} (G : CastsOn (Q .state) k) → 0 < n → {r : Walk} → OnwardTo plan (Q .state) (G .input) w r → Sought plan z ks i (n - 1) r
-  sought-casts {k} G h O =
-      let S = Q .seeking in
-      let B = past-casts (omega (arith, S .more)) (S .passed) (G .next) in
-      let l : length (S .kinds) ≡ suc (length (B .rest)) = ap length (B .is) in
-      let m : n - 1 < length (B .rest) = omega (arith, S .more, l) in
-      let e : n ≡ suc (n - 1) = omega arith in
-      record {
-        state = O .state;
-        standing = O .standing;
-        stopped = O .stopped;
-        seeking = record {
-          kinds = B .rest;
-          passed = passed-from (omega arith) (O .moves) (B .passed);
-          more = m;
-          same = S .same ∙ ap (λ (l : List Leaf). getD l n Null) (B .is) ∙ ap (λ (j : ℕ). getD (k ∷ B .rest) j Null) e;
-        };
-      }
+  module _ (h : 0 < n) {r : Walk} where
+    pub keeping-goes : (G : GoesOn (Q .state)) → OnwardTo plan (Q .state) (G .input) w r → Keeping plan z ks i n kinds r
+    keeping-goes G O = record {
+      state = O .state;
+      standing = O .standing;
+      stopped = O .stopped;
+      ahead = ahead-goes (Q .ahead) h (G .next) (O .moves);
+      kept = Q .kept;
+    }
+
+    pub keeping-casts : {k : Leaf} (G : CastsOn (Q .state) k) → OnwardTo plan (Q .state) (G .input) w r
+        → Keeping plan z ks i (n - 1) (set kinds ((n - 1) % 256) k) r
+    keeping-casts G O =
+        let K : Kept ks i (n - 1 + 1) kinds = record { room = Q .kept .room; right = λ m a b c. Q .kept .right m (omega arith) b c } in
+        record {
+          state = O .state;
+          standing = O .standing;
+          stopped = O .stopped;
+          ahead = ahead-casts (Q .ahead) h (G .next) (O .moves);
+          kept = kept-more K (ahead-kind (Q .ahead) h (G .next));
+        }

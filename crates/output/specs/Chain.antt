@@ -1,11 +1,13 @@
 -- A leaf through its casts: where a walk goes from a selector to the column, constant or mapping that its value comes from, and the casts that it passes.
-use Prim.Native.Nat.{ℕ, zero, suc}
+use Prim.Native.Nat.{ℕ, zero, suc, _-_, _≤_, _<_}
 use mathlib.Core.Path.{_≡_}
 use mathlib.Core.List.{List, [], _∷_}
 use lib.Dec.{eqb}
+use lib.ListN.{length, getD, take}
 use Rattle.layout.specs.Parser.{choose}
 use Rattle.layout.specs.Tree.{leafOf, DataType, leaf, struct, list, array}
 use Rattle.layout.specs.declared.leaf.Leaf.{Leaf}
+use Rattle.layout.specs.declared.leaf.Leaf.the-variants.{Null}
 use Rattle.values.specs.Value.{Value}
 use Rattle.plan.specs.Selector.{Selector, position, constant, cast, rename, structMapping, listMapping, arrayMapping, Selectors, snil, scons}
 use Rattle.plan.specs.Run.{castLeaf}
@@ -70,3 +72,13 @@ pub data Passed : State → List Leaf → State → Type 0 where
 unfoldable pub castAll : List Leaf → Value → Value
 castAll [] v = v
 castAll (k ∷ ks) v = castLeaf k (castAll ks v)
+
+-- of the first i of the casts ks, counted from the innermost on, those from `left` on are among the kinds, as far as there is room
+pub record Kept (ks : List Leaf) (i left : ℕ) (kinds : List Leaf) : Type 0 where
+  pub room : length kinds ≡ 256
+  pub right : (m : ℕ) → left ≤ m → m < i → m < 256 → getD kinds m Null ≡ getD ks (i - 1 - m) Null
+
+-- the casts ks of v₀ are the first i of them of v
+pub record Casting (ks : List Leaf) (v₀ : Value) (i : ℕ) (v : Value) : Type 0 where
+  pub within : i ≤ length ks
+  pub same : castAll ks v₀ ≡ castAll (take i ks) v

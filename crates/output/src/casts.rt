@@ -1,8 +1,8 @@
 // From a selector to where its value comes from, past casts and renames, and the casts that are passed. Nothing recurses: a chain of casts can be long.
 ghost use mathlib.Core.Path.{_≡_};
 ghost use mathlib.Core.List.{List};
-ghost use Prim.Native.Nat.{_<_};
-ghost use lib.ListN.{length, getD};
+ghost use Prim.Native.Nat.{_≤_};
+ghost use lib.ListN.{length};
 ghost use Rattle.layout.specs.Stands.{TypeAt};
 ghost use Rattle.layout.specs.Tree.{dtypeOf};
 ghost use Rattle.layout.specs.declared.leaf.Leaf.{Leaf as LeafOf};
@@ -11,7 +11,7 @@ ghost use Rattle.plan.specs.Selector.{Selector};
 ghost use Rattle.walk.specs.State.{State};
 ghost use Rattle.walk.specs.Moves.{Stopped, Input};
 ghost use Rattle.walk.specs.Standing.{WalkAt};
-ghost use Rattle.output.specs.Chain.{Passed};
+ghost use Rattle.output.specs.Chain.{Passed, Kept};
 ghost use Rattle.output.specs.Answers.{castPass, PassIs, OnwardTo, OriginIs};
 use layout::cursor::Cursor;
 use layout::leaf::Leaf;
@@ -103,26 +103,27 @@ pub fn find_origin(plan: &[u8], w: Walk) -> Origin
     Origin { casts, walk: at }
 }
 
-// The leaf kind of the cast `i` of those passed, from the outermost on.
-pub fn nth_cast(plan: &[u8], w: Walk, i: usize) -> Leaf
+// Of the first `i` casts passed the kinds of the last 256, from the innermost on.
+pub fn last_kinds(plan: &[u8], w: Walk, i: usize) -> [Leaf; 256]
     requires { ⌜ ((x : State) × WalkAt (now plan) w x) ⌝ }
-    ensures { λ r. ⌜ ((x z : State) (ks : List LeafOf) → WalkAt (now (plan .entry)) w x → Passed x ks z → i < length ks → r ≡ getD ks i LeafOf.Null) ⌝ }
+    ensures { λ r. ⌜ ((x z : State) (ks : List LeafOf) → WalkAt (now (plan .entry)) w x → Passed x ks z → i ≤ length ks → Kept ks i 0 r) ⌝ }
 {
+    let mut kinds = [Leaf::Null; 256];
     let mut at = w.locate(plan);
     let mut left = i;
-    loop {
+    while 0 < left {
         match next_pass(plan, at) {
-            Pass::Ends => return Leaf::Null,
+            Pass::Ends => return kinds,
             Pass::Goes => {
                 at = onward(plan, at);
             }
             Pass::Casts(kind) => {
-                if left == 0 {
-                    return kind;
-                }
-                at = onward(plan, at);
                 left -= 1;
+                let place = left % 256;
+                kinds[place] = kind;
+                at = onward(plan, at);
             }
         }
     }
+    kinds
 }

@@ -28,6 +28,9 @@ use nodes::raw::Parts;
 use raw::copy::is_null;
 use raw::copy::put_lead;
 use raw::copy::put_null;
+use walk::child::child_at;
+use walk::child::first_part;
+use walk::child::next_part;
 use walk::walk::Walk;
 
 // The constant at `t` and `c` where `at` stands, through the casts that `w` passes; null if it is not run.
@@ -95,13 +98,15 @@ pub fn emit_parts(
     ensures { λ r. ⌜ ((A : EmitAt v (now (lay .entry)) n (columns .at) (now (rec .entry)) (now (plan .entry)) w) → Mapped (A .state) → m ≡ countValues (parts (stateValue (A .row .values .values) (A .state))) → Emits (now (out .entry)) k (encodeValues (parts (stateValue (A .row .values .values) (A .state)))) r (now (out .exit))) ⌝ }
 {
     let mut at = k;
+    let mut c = first_part(plan, w);
     let mut i: u32 = 0;
     while i < m {
         if 16384 < at {
             return at;
         }
-        let part = w.child(plan, i as u16);
+        let part = child_at(w, i as u16, c);
         at = emit(lay, v, n, columns, rec, plan, part, out, at, table);
+        c = next_part(plan, w, c);
         i += 1;
     }
     at

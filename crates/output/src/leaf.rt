@@ -1,19 +1,19 @@
 // The bytes of a value after casts.
 ghost use mathlib.Core.Path.{_≡_};
 ghost use mathlib.Core.List.{List};
-ghost use Prim.Native.Nat.{_+_, _^_, _<_};
+ghost use Prim.Native.Nat.{ℕ, _+_, _-_, _^_, _≤_, _<_};
 ghost use lib.ListN.{length};
 ghost use Rattle.ends.specs.Ends.{Ends};
 ghost use Rattle.layout.specs.declared.leaf.Leaf.{Leaf as LeafOf};
-ghost use Rattle.values.specs.Value.{vnumber};
+ghost use Rattle.values.specs.Value.{Value, vnumber};
 ghost use Rattle.values.specs.Encode.{encodeValue};
 ghost use Rattle.walk.specs.State.{State};
 ghost use Rattle.walk.specs.Standing.{WalkAt};
 ghost use Rattle.nodes.specs.Raw.{RawAt};
 ghost use Rattle.raw.specs.Stored.{Stores};
-ghost use Rattle.output.specs.Chain.{Passed, castAll};
+ghost use Rattle.output.specs.Chain.{Passed, castAll, Kept, Casting};
 ghost use Rattle.output.specs.Answers.{castValueOf};
-use crate::casts::nth_cast;
+use crate::casts::last_kinds;
 use convert::leaf::Converted;
 use convert::leaf::convert_leaf;
 use convert::put::put_number;
@@ -31,7 +31,36 @@ pub enum CastValue {
     Overflow,
 }
 
-// The number of the kind `kind` through the casts that a walk passes, from the innermost outward.
+// The number of the kind `kind` through casts to the first `count` of the kinds, one after the other.
+fn cast_block(kinds: [Leaf; 256], count: usize, kind: Leaf, n: u64) -> CastValue
+    requires { ⌜ count ≤ 256 ⌝ }
+    ensures { λ r. ⌜ ((ks : List LeafOf) (u : Value) (i : ℕ) → Kept ks i 0 kinds → Casting ks u i (vnumber kind n) → count ≤ i → Casting ks u (i - count) (castValueOf r)) ⌝ }
+{
+    let mut k = kind;
+    let mut x = n;
+    let mut m: usize = 0;
+    while m < count {
+        let to = kinds[m];
+        match convert_leaf(k, to, x) {
+            Converted::Number(y) => {
+                k = to;
+                x = y;
+                m += 1;
+            }
+            Converted::Overflow => return CastValue::Overflow,
+        }
+    }
+    CastValue::Number(k, x)
+}
+
+// So many of the casts that are left are looked up at once.
+fn block_of(left: usize) -> usize
+    ensures { λ r. ⌜ (r ≤ 256) × (r ≤ left) × (0 < left → 0 < r) ⌝ }
+{
+    if left < 256 { left } else { 256 }
+}
+
+// The number of the kind `kind` through the casts that a walk passes, from the innermost outward. They are walked past once for each 256 of them.
 fn cast_number(plan: &[u8], w: Walk, casts: usize, kind: Leaf, n: u64) -> CastValue
     requires { ⌜ ((x : State) × WalkAt (now plan) w x) ⌝ }
     ensures { λ r. ⌜ ((x z : State) (ks : List LeafOf) → WalkAt (now (plan .entry)) w x → Passed x ks z → length ks ≡ casts → castValueOf r ≡ castAll ks (vnumber kind n)) ⌝ }
@@ -40,14 +69,15 @@ fn cast_number(plan: &[u8], w: Walk, casts: usize, kind: Leaf, n: u64) -> CastVa
     let mut x = n;
     let mut i = casts;
     while 0 < i {
-        i -= 1;
-        let to = nth_cast(plan, w, i);
-        match convert_leaf(k, to, x) {
-            Converted::Number(m) => {
-                k = to;
-                x = m;
+        let kinds = last_kinds(plan, w, i);
+        let count = block_of(i);
+        match cast_block(kinds, count, k, x) {
+            CastValue::Number(j, y) => {
+                k = j;
+                x = y;
+                i -= count;
             }
-            Converted::Overflow => return CastValue::Overflow,
+            CastValue::Overflow => return CastValue::Overflow,
         }
     }
     CastValue::Number(k, x)

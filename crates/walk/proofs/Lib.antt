@@ -6,5 +6,6 @@ pub mod Ending
 pub mod Trees
 pub mod Standing
 pub mod Moving
+pub mod Children
 pub mod Asking
 pub mod Samples

@@ -27,7 +27,7 @@ use Rattle.walk.proofs.Standing.{entries-none, innermost, some-inner, w
 -- ---- a mapping's part
 
 -- whether a selector is a mapping
-maps : Selector → Bool
+unfoldable pub maps : Selector → Bool
 maps (position k) = false
 maps (constant n t v) = false
 maps (cast s t o) = false
@@ -42,7 +42,7 @@ maps-mapping is-struct = refl
 maps-mapping is-list = refl
 maps-mapping is-array = refl
 
-unmapped : {B : Type 0} {y z : Selector} → y ≡ z → maps z ≡ false → Mapping y → B
+pub unmapped : {B : Type 0} {y z : Selector} → y ≡ z → maps z ≡ false → Mapping y → B
 unmapped {y = y} {z = z} e f m = let h : true ≡ false = sym (maps-mapping m) ∙ ap maps e ∙ f in clash (cc)
 
 pub part-position : {B : Type 0} {y : Selector} {j : Position} → y ≡ position j → Mapping y → B

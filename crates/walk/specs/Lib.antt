@@ -6,3 +6,4 @@ pub mod Moves
 pub mod Types
 pub mod Values
 pub mod Standing
+pub mod Children

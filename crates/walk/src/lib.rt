@@ -1,4 +1,5 @@
 // Walking through the selectors of a plan that was read.
+pub mod child;
 pub mod head;
 pub mod inputs;
 pub mod walk;

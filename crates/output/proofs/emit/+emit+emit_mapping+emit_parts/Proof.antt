@@ -1,8 +1,14 @@
 use Rattle.output.proofs.Emitting.{emitted, emitted-null, emitted-node, mapped-asks, mapped-emits, struct-mapped, list-mapped, array-mapped, mapping-null, mapping-counted, mapping-parts, Rowing, rowing-none, rowing-past, rowing-all, rowing-small, rowing-more, all-clean, part-room, part-emit, part-falls, part-emits}
+use Rattle.output.proofs.Emitting.{parts-asks, part-reached}
 use Rattle.raw.proofs.Storing.{lead-short}
 use Rattle.output.proofs.Sources.{from-null, from-record, from-constant, from-struct, from-list, from-array}
 use Rattle.output.specs.Answers.{EmitAt, Mapped}
 use Rattle.walk.specs.Standing.{rank}
+use Rattle.walk.specs.Children.{Reached}
+use Rattle.walk.specs.declared.walk.Walk.{Walk}
+use Rattle.walk.proofs.Children.{reached-child}
+use Rattle.layout.specs.Bytes.{Bytes}
+use Rattle.layout.specs.declared.edition.Edition.{Edition}
 use Rattle.walk.specs.Values.{stateValue}
 use Rattle.plan.specs.Reach.{parts}
 use Rattle.values.specs.Value.{countValues}
@@ -29,7 +35,9 @@ use Rattle.raw.proofs.copy.put_null.Reads as put-null-reads
 use Rattle.output.proofs.leaf.put_raw.Reads as put-raw-reads
 use Rattle.output.proofs.parts.parts_count.Reads as parts-count-reads
 use Rattle.output.proofs.source.source_at.Reads as source-at-reads
-use Rattle.walk.proofs.walk.Walk.child.Reads as child-reads
+use Rattle.walk.proofs.child.first_part.Reads as first-part-reads
+use Rattle.walk.proofs.child.child_at.Reads as child-at-reads
+use Rattle.walk.proofs.child.next_part.Reads as next-part-reads
 use Rattle.output.proofs.emit.+emit+emit_mapping+emit_parts.{statement}
 use Rattle.output.proofs.emit.+emit+emit_mapping+emit_parts.Tie.{close}
 
@@ -75,13 +83,20 @@ abbrev emit-mapping-claims : ℕ → emit-mapping-lts.Claims
 emit-mapping-claims t = (parts-count-reads.Asked, parts-count-reads.Learnt, put-null-reads.Asked, put-null-reads.Learnt, put-lead-reads.Asked, put-lead-reads.Learnt, emit-parts-below t, emit-parts.Post)
 
 abbrev emit-parts-claims : ℕ → emit-parts-lts.Claims
-emit-parts-claims t = (child-reads.Asked, child-reads.Learnt, emit-below t, emit.Post)
+emit-parts-claims t =
+    (first-part-reads.Asked, first-part-reads.Learnt, child-at-reads.Asked, child-at-reads.Learnt, emit-below t, emit.Post, next-part-reads.Asked, next-part-reads.Learnt)
+
+-- how many parts there are
+abbrev count : {v : Edition} {lay : Bytes} {n t : ℕ} {rec plan : Bytes} {w : Walk} → EmitAt v lay n t rec plan w → ℕ
+count A = countValues (parts (stateValue (A .row .values .values) (A .state)))
 
 abbrev emit-parts-Inv-loop : emit-parts-lts.InvT-loop
-emit-parts-Inv-loop lay v n columns rec plan w m out₀ k table at₀ i₀ out at i = ((A : EmitAt v lay n (columns .at) rec plan w) × Mapped (A .state) × (m ≡ countValues (parts (stateValue (A .row .values .values) (A .state))))) × (length out ≡ length out₀) × ((A : EmitAt v lay n (columns .at) rec plan w) → Mapped (A .state) → m ≡ countValues (parts (stateValue (A .row .values .values) (A .state))) → Rowing (parts (stateValue (A .row .values .values) (A .state))) out₀ k i at out)
+emit-parts-Inv-loop lay v n columns rec plan w m out₀ k table at₀ c₀ i₀ out at c i =
+    ((A : EmitAt v lay n (columns .at) rec plan w) × Mapped (A .state) × (m ≡ count A)) × Reached plan (w .at) i (c .at) × (length out ≡ length out₀)
+    × ((A : EmitAt v lay n (columns .at) rec plan w) → Mapped (A .state) → m ≡ count A → Rowing (parts (stateValue (A .row .values .values) (A .state))) out₀ k i at out)
 
 abbrev emit-parts-μ-loop : emit-parts-lts.MeasureT-loop
-emit-parts-μ-loop lay v n columns rec plan w m out₀ k table at₀ i₀ out at i = m - i
+emit-parts-μ-loop lay v n columns rec plan w m out₀ k table at₀ c₀ i₀ out at c i = m - i
 
 pub +emit+emit-mapping+emit-parts-spec : {M : Type 1} → statement M
 +emit+emit-mapping+emit-parts-spec = close μ-emit μ-emit-mapping μ-emit-parts (λ t. emit-lts.spec (emit-claims t)
@@ -169,26 +184,33 @@ pub +emit+emit-mapping+emit-parts-spec : {M : Type 1} → statement M
     emit-parts.Post
     emit-parts-Inv-loop
     emit-parts-μ-loop
-    (λ c. (c .before .before .before .before .before .pre .1 .1 .0, refl, λ A M h. rowing-none _ _ _))
-    (λ c. c .before .before .loop .inv .1)
-    (λ c. λ A M h. rowing-past (c .before .before .loop .inv .2 A M h) (c .if1 .taken))
-    (λ c. let ((A, M, h), l, f) = c .before .before .loop .inv in
+    (λ c κs. parts-asks (c .before .before .before .before .before .pre .1 .1 .0 .0))
+    (λ c. (c .before .before .before .before .before .before .pre .1 .1 .0, c .first-part .ensures, refl, λ A M h. rowing-none _ _ _))
+    (λ c. c .before .before .loop .inv .2)
+    (λ c. λ A M h. rowing-past (c .before .before .loop .inv .3 A M h) (c .if1 .taken))
+    (λ c. let ((A, M, h), R, l, f) = c .before .before .loop .inv in
     omega (arith, rowing-small (f A M h) (c .if1 .left) (all-clean A M)))
-    (λ c κs. let ((A, M, h), l, f) = c .before .before .loop .inv in
-    let i : c .before .before .loop .i < countValues (parts (stateValue (A .row .values .values) (A .state))) = omega (arith, h, c .before .loop-test .taken) in
-    ((A .state, A .standing), part-room A M i))
-    (λ c κs. let ((A, M, h), l, f) = c .before .before .before .before .loop .inv in
-    let i : c .before .before .before .before .loop .i < countValues (parts (stateValue (A .row .values .values) (A .state))) = omega (arith, h, c .before .before .before .loop-test .taken) in
-    (omega (arith, part-falls A M i (c .before .child .ensures), c .before .before .before .before .before .before .before .before .before .before .pre .0), (c .before .before .before .before .before .before .before .before .before .before .pre .1 .0, (part-emit A M i (c .before .child .ensures), c .before .before .if1 .left))))
-    (λ c. omega (arith, c .before .before .before .before .before .before .loop-test .taken))
-    (λ c. omega (arith, c .before .before .before .before .before .before .loop-test .taken))
-    (λ c. let (R, l, f) = c .before .before .before .before .before .before .before .loop .inv in
-    let kept = c .before .before .emit .kept .1 .1 .1 .1 .1 .1 .1 .0 in (
-      R,
+    (λ c κs. let ((A, M, h), R, l, f) = c .before .before .loop .inv in
+    let i : c .before .before .loop .i < count A = omega (arith, h, c .before .loop-test .taken) in
+    (parts-asks A .0, part-room A M i))
+    (λ c κs. let ((A, M, h), R, l, f) = c .before .before .before .before .loop .inv in
+    let i : c .before .before .before .before .loop .i < count A = omega (arith, h, c .before .before .before .loop-test .taken) in
+    let F = reached-child R (c .before .child-at .ensures) in
+    let p = c .before .before .before .before .before .before .before .before .before .before .before .pre in
+    (omega (arith, part-falls A M i F, p .0), (p .1 .0, (part-emit A M i F, c .before .before .if1 .left))))
+    (λ c κs. let ((A, M, h), R, l, f) = c .before .before .before .before .before .before .before .loop .inv in parts-asks A .1)
+    (λ c. omega (arith, c .before .before .before .before .before .before .before .loop-test .taken, c .before .before .before .before .before .before .before .before .before .before .before .before .before .before .before .fits .m))
+    (λ c. omega (arith, c .before .before .before .before .before .before .before .loop-test .taken))
+    (λ c. let (S, R, l, f) = c .before .before .before .before .before .before .before .before .loop .inv in
+    let t = c .before .before .before .before .before .before .before .loop-test .taken in
+    let kept = c .before .before .before .emit .kept .1 .1 .1 .1 .1 .1 .1 .0 in (
+      S,
+      (let (A, M, h) = S in c .next-part .ensures _ R (part-reached A M (omega (arith, h, t)) R)),
       kept ∙ l,
       λ A M h.
-          let i : c .before .before .before .before .before .before .before .loop .i < countValues (parts (stateValue (A .row .values .values) (A .state))) = omega (arith, h, c .before .before .before .before .before .before .loop-test .taken) in
-          rowing-more (f A M h) (c .before .before .before .before .before .if1 .left) i kept (part-emits A M i (c .before .before .before .before .child .ensures) (c .before .before .emit .ensures)),
+          let i : c .before .before .before .before .before .before .before .before .loop .i < count A = omega (arith, h, t) in
+          let F = reached-child R (c .before .before .before .before .before .child-at .ensures) in
+          rowing-more (f A M h) (c .before .before .before .before .before .before .if1 .left) i kept (part-emits A M i F (c .before .before .before .emit .ensures)),
     ))
-    (λ c. c .before .loop .inv .1)
-    (λ c. λ A M h. rowing-all (c .before .loop .inv .2 A M h) (omega (arith, h, c .loop-test .left)))
+    (λ c. c .before .loop .inv .2)
+    (λ c. λ A M h. rowing-all (c .before .loop .inv .3 A M h) (omega (arith, h, c .loop-test .left)))

@@ -1,5 +1,5 @@
-use Rattle.output.proofs.Casting.{Casting, casting-none, casting-more, casting-number, casting-overflow, casting-all}
-use Rattle.output.specs.Chain.{Passed}
+use Rattle.output.proofs.Casting.{casting-none, casting-all, cast-number, cast-overflow}
+use Rattle.output.specs.Chain.{Passed, Casting}
 use Rattle.walk.specs.Standing.{WalkAt}
 use Rattle.walk.specs.State.{State}
 use Rattle.values.specs.Value.{vnumber}
@@ -13,7 +13,9 @@ use Rattle.output.proofs.leaf.cast_number.Statement.{statement}
 use Rattle.output.proofs.leaf.cast_number.Tie as tie
 
 abbrev Inv-loop : tie.InvT-loop
-Inv-loop plan w casts n k₀ x₀ i₀ k x i = ((y : State) × WalkAt plan w y) × ((y z : State) (ks : List Leaf) → WalkAt plan w y → Passed y ks z → length ks ≡ i₀ → Casting ks (vnumber k₀ x₀) i (vnumber k x))
+Inv-loop plan w casts n k₀ x₀ i₀ k x i =
+    ((y : State) × WalkAt plan w y)
+    × ((y z : State) (ks : List Leaf) → WalkAt plan w y → Passed y ks z → length ks ≡ i₀ → Casting ks (vnumber k₀ x₀) i (vnumber k x))
 
 abbrev μ-loop : tie.MeasureT-loop
 μ-loop plan w casts n k₀ x₀ i₀ k x i = i
@@ -25,19 +27,29 @@ cast-number-spec =
     Inv-loop
     μ-loop
     (λ c. (c .before .pre, λ y z ks W p e. casting-none ks _ e))
-    (λ c. search needs)
     (λ c κs. c .before .loop .inv .0)
     (λ c κs. search needs)
+    (λ c κs. c .block-of .ensures .0)
     (λ c. search needs)
-    (λ c. omega (arith, c .before .before .before .before .before .loop-test .taken))
-    (λ c. let (R, f) = c .before .before .before .before .before .before .loop .inv in (
+    (λ c. omega (arith, c .before .before .before .before .block-of .ensures .1))
+    (λ c.
+    let l = c .before .before .before .before .before .before .loop-test .taken in
+    let b = c .before .before .before .before .block-of .ensures in
+    omega (arith, l, b .1, b .2 l))
+    (λ c.
+    let (R, f) = c .before .before .before .before .before .before .before .loop .inv in
+    let kept = c .before .before .before .before .before .last-kinds .ensures in
+    let b = c .before .before .before .before .block-of .ensures in (
       R,
       λ y z ks W p e.
           let C = f y z ks W p e in
-          casting-number C (c .before .before .before .before .before .loop-test .taken) (c .before .before .before .before .nth-cast .ensures y z ks W p (casting-more C (c .before .before .before .before .before .loop-test .taken))) _ (c .before .before .before .convert-leaf .ensures) (c .before .m .given .1),
+          cast-number (c .before .before .before .cast-block .ensures ks _ _ (kept y z ks W p (C .within)) C (b .1)) (c .before .j .given .1),
     ))
     (λ c. search needs)
-    (λ c. λ y z ks W p e.
-    let C = c .before .before .before .before .before .loop .inv .1 y z ks W p e in
-    casting-overflow C (c .before .before .before .before .loop-test .taken) (c .before .before .before .nth-cast .ensures y z ks W p (casting-more C (c .before .before .before .before .loop-test .taken))) _ (c .before .before .convert-leaf .ensures) (c .enum-told .given .1))
+    (λ c.
+    λ y z ks W p e.
+    let C = c .before .before .before .before .before .before .loop .inv .1 y z ks W p e in
+    let K = c .before .before .before .before .last-kinds .ensures y z ks W p (C .within) in
+    let b = c .before .before .before .block-of .ensures in
+    cast-overflow (c .before .before .cast-block .ensures ks _ _ K C (b .1)) (c .enum-told .given .1))
     (λ c. λ y z ks W p e. casting-all (c .before .loop .inv .1 y z ks W p e) (omega (arith, c .loop-test .left))))
