@@ -4,11 +4,11 @@
 use crate::form::{
     Column, Default, Entry, Fault, Layout, Leaf, PLAN_LIMIT, Type, write_text, write_type,
 };
+use crate::hash::FastMap;
 use crate::number::Kind;
 use crate::policy;
 use crate::reader::Siblings;
 use crate::rules::{CastOption, cast_option};
-use std::collections::HashMap;
 
 /// Pairs an element with any other.
 const ELEMENT: u32 = u32::MAX;
@@ -29,7 +29,7 @@ enum Matching<'a> {
 
 /// The entries of a table by id and kind, whether initial or not.
 struct Defaults<'a> {
-    entries: HashMap<(u32, bool), &'a Default>,
+    entries: FastMap<(u32, bool), &'a Default>,
     source_index: u32,
 }
 
@@ -119,8 +119,8 @@ impl<'a> Defaults<'a> {
 /// Columns by their keys: a few are scanned, for that is faster than hashing them.
 enum Index<'a> {
     Few(&'a [Column]),
-    Names(HashMap<&'a [u8], usize>),
-    Ids(HashMap<u32, usize>),
+    Names(FastMap<&'a [u8], usize>),
+    Ids(FastMap<u32, usize>),
 }
 
 impl<'a> Index<'a> {

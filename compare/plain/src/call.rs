@@ -80,15 +80,15 @@ pub fn build_by_number(
     build::by_number(policy, source_index, layouts, &entries, space).map_err(at_column)
 }
 
-/// The layouts and the plan of a check or a run.
-struct Read<'a> {
+/// The layouts and the plan of a check or a run, read.
+pub struct Read<'a> {
     incoming: Layout,
     target: Layout,
     plan: Vec<Selector<'a>>,
 }
 
 impl<'a> Read<'a> {
-    fn new(incoming: &[u8], target: &[u8], plan: &'a [u8]) -> Result<Read<'a>, Refusal> {
+    pub fn new(incoming: &[u8], target: &[u8], plan: &'a [u8]) -> Result<Read<'a>, Refusal> {
         Ok(Read {
             incoming: layout(incoming).map_err(Refusal::of_input(1))?,
             target: layout(target).map_err(Refusal::of_input(2))?,
@@ -96,8 +96,14 @@ impl<'a> Read<'a> {
         })
     }
 
-    fn check(&self) -> Result<(), Refusal> {
+    pub fn check(&self) -> Result<(), Refusal> {
         check(&self.incoming, &self.target, &self.plan).map_err(at_column)
+    }
+
+    /// The output of a plan that passed the check.
+    pub fn run(&self, record: &[u8], space: usize) -> Result<Vec<u8>, Refusal> {
+        let record = read_record(&self.incoming.columns, record).map_err(Refusal::of)?;
+        run_checked(&self.plan, &record, space).map_err(Refusal::of)
     }
 }
 
@@ -115,6 +121,5 @@ pub fn run(
 ) -> Result<Vec<u8>, Refusal> {
     let read = Read::new(incoming, target, plan)?;
     read.check()?;
-    let record = read_record(&read.incoming.columns, record).map_err(Refusal::of)?;
-    run_checked(&read.plan, &record, space).map_err(Refusal::of)
+    read.run(record, space)
 }

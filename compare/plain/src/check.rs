@@ -130,7 +130,7 @@ impl<'a> Field<'a> {
 /// Names, types and count are those of a layout's columns.
 fn are(fields: &[Field], columns: &[Column]) -> bool {
     let is = |(field, column): (&Field, &Column)| {
-        field.name == column.name && field.type_.is(&column.type_)
+        field.name == column.name.as_slice() && field.type_.is(&column.type_)
     };
     fields.len() == columns.len() && fields.iter().zip(columns).all(is)
 }

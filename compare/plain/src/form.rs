@@ -1,5 +1,6 @@
 //! Layouts and tables of defaults: trees and their bytes, by document 01.
 
+use crate::name::Name;
 use crate::number::Kind;
 use crate::reader::{Reader, Siblings};
 use crate::value::Value;
@@ -15,7 +16,7 @@ pub const PRECISION_LIMIT: u8 = 18;
 
 #[derive(Clone, Debug, PartialEq, Eq)]
 pub struct Column {
-    pub name: Vec<u8>,
+    pub name: Name,
     /// 0 in version 1.
     pub id: u32,
     /// Only version 3 has such.
@@ -27,7 +28,7 @@ impl Column {
     /// A name and a type, as version 1 has them.
     pub fn of(name: &[u8], type_: Type) -> Column {
         Column {
-            name: name.to_vec(),
+            name: name.into(),
             id: 0,
             required: false,
             type_,
@@ -88,15 +89,20 @@ pub fn fixed_width(leaf: &Leaf) -> Option<usize> {
     Kind::of(leaf).map(Kind::width)
 }
 
-pub fn read_layout(bytes: &[u8]) -> Result<Layout, Fault> {
+/// A reader of what follows a layout's mark and version.
+pub(crate) fn layout_head(bytes: &[u8]) -> Result<Reader<'_>, Fault> {
     if bytes.len() > LAYOUT_LIMIT {
         return Err(4);
     }
-    let (version, rest) = match bytes {
-        [b'L', b'A', b'Y', version @ 1..=3, 0, rest @ ..] => (*version, rest),
-        _ => return Err(1),
-    };
-    let mut reader = Reader::new(rest, version);
+    match bytes {
+        [b'L', b'A', b'Y', version @ 1..=3, 0, rest @ ..] => Ok(Reader::new(rest, *version)),
+        _ => Err(1),
+    }
+}
+
+pub fn read_layout(bytes: &[u8]) -> Result<Layout, Fault> {
+    let mut reader = layout_head(bytes)?;
+    let version = reader.version;
     let columns = reader.columns(1, true)?;
     reader.end(Layout { version, columns })
 }

@@ -183,7 +183,7 @@ fn element_id(random: &mut Random) -> u32 {
 
 fn column(random: &mut Random, depth: u32) -> Column {
     Column {
-        name: name(random),
+        name: name(random).into(),
         id: id(random),
         required: false,
         type_: type_(random, depth),
@@ -200,7 +200,9 @@ fn element(random: &mut Random, depth: u32) -> Box<Column> {
 /// Many columns, most of them leaves, of which few repeat a name or an id.
 fn wide_row(random: &mut Random, depth: u32) -> Vec<Column> {
     let wide_column = |random: &mut Random| Column {
-        name: format!("reading{}", random.below(20_000)).into_bytes(),
+        name: format!("reading{}", random.below(20_000))
+            .into_bytes()
+            .into(),
         id: 100 + random.below(20_000) as u32,
         required: false,
         type_: match random.percent(95) {
@@ -358,7 +360,7 @@ fn related_column(random: &mut Random, style: &Style, from: &Column, depth: u32)
     };
     Column {
         name: if random.percent(renamed) {
-            name(random)
+            name(random).into()
         } else {
             from.name.clone()
         },

@@ -1,13 +1,20 @@
 //! A cursor over bytes, with what layouts, tables, plans and records have in common.
 
 use crate::form::{Column, DEPTH_LIMIT, Fault, Leaf, PRECISION_LIMIT, TEXT_LIMIT, Type};
-use std::collections::HashSet;
+use crate::hash::FastSet;
 use std::hash::Hash;
 
 pub(crate) struct Reader<'a> {
     pub rest: &'a [u8],
     /// Of the layout; types in plans have the form of version 1.
     pub version: u8,
+}
+
+/// The label of a column: its name where it stands, its id, 0 in version 1, and its mark.
+pub(crate) struct Label<'a> {
+    pub name: &'a [u8],
+    pub id: u32,
+    pub required: bool,
 }
 
 impl<'a> Reader<'a> {
@@ -91,18 +98,23 @@ impl<'a> Reader<'a> {
 
     /// A column, and its name where it stands.
     fn column(&mut self, depth: u32) -> Result<(&'a [u8], Column), Fault> {
-        let text = self.text()?;
-        let name = text.to_vec();
-        let id = if self.version >= 2 { self.u32()? } else { 0 };
-        let required = self.version >= 3 && self.mark()?;
+        let Label { name, id, required } = self.label()?;
         let type_ = self.type_(depth)?;
         let column = Column {
-            name,
+            name: name.into(),
             id,
             required,
             type_,
         };
-        Ok((text, column))
+        Ok((name, column))
+    }
+
+    /// What a column has before its type.
+    pub fn label(&mut self) -> Result<Label<'a>, Fault> {
+        let name = self.text()?;
+        let id = if self.version >= 2 { self.u32()? } else { 0 };
+        let required = self.version >= 3 && self.mark()?;
+        Ok(Label { name, id, required })
     }
 
     /// Whether a column is required.
@@ -145,14 +157,14 @@ impl<'a> Reader<'a> {
 /// The keys of earlier siblings. A few are scanned, for that is faster than hashing them.
 pub(crate) struct Siblings<K> {
     few: Vec<K>,
-    many: HashSet<K>,
+    many: FastSet<K>,
 }
 
 impl<K> Default for Siblings<K> {
     fn default() -> Self {
         Self {
             few: Vec::new(),
-            many: HashSet::new(),
+            many: FastSet::default(),
         }
     }
 }

@@ -6,10 +6,10 @@
 //! origin and the same selectors over it, and of these there are no more than selectors times values.
 
 use crate::form::{Fault, RECORD_LIMIT, Type};
+use crate::hash::{FastMap, FastSet};
 use crate::number::{Kind, Number, Overflow};
 use crate::selector::Selector;
 use crate::value::Value;
-use std::collections::{HashMap, HashSet};
 use std::rc::Rc;
 
 #[derive(Clone)]
@@ -167,8 +167,8 @@ enum Key {
 #[derive(Default)]
 struct Search {
     /// The keys of inputs with the selectors over them.
-    mapped: HashMap<(Key, *const ()), usize>,
-    seen: HashSet<Key>,
+    mapped: FastMap<(Key, *const ()), usize>,
+    seen: FastSet<Key>,
 }
 
 impl Search {

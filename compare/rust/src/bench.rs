@@ -1,5 +1,10 @@
 //! What the calls cost in the library and in plain Rust, measured side by side in one run and printed as ratios. The plain Rust of a build is the original over
-//! its stand-ins, that of the other calls compare/plain; all go from bytes to bytes, with their allocations.
+//! its stand-ins, that of the other calls compare/plain; all go from bytes to bytes, with their allocations. Names of up to 22 bytes stand in place, and keys
+//! have a fast hash, in the stand-ins too.
+
+mod records;
+mod refused;
+mod wide;
 
 use crate::beside::Builder;
 use crate::clock;
@@ -14,6 +19,7 @@ use plain::form::{
 use plain::generate::marks;
 use plain::policy::{ALL, EXTRA_COLUMNS};
 use plain::rules::CastOption;
+use plain::validate;
 use plain::write;
 use std::hint::black_box;
 
@@ -271,10 +277,10 @@ fn median(mut values: Vec<f64>) -> f64 {
     values[values.len() / 2]
 }
 
-/// One line: the sides in turn, the median of their ratios, and the median of plain Rust's own time.
+/// One line: the sides in turn, the median of their ratios.
 fn line(name: &str, count: usize, mut library: impl FnMut(), mut plain: impl FnMut()) {
     let (library_calls, plain_calls) = (calls(&mut library), calls(&mut plain));
-    let (mut ratios, mut times) = (Vec::new(), Vec::new());
+    let mut ratios = Vec::new();
     let start = clock::now();
     while ratios.len() < FEWEST_ROUNDS
         || (ratios.len() < MOST_ROUNDS && clock::now() - start < LINE)
@@ -284,10 +290,8 @@ fn line(name: &str, count: usize, mut library: impl FnMut(), mut plain: impl FnM
             time(plain_calls, &mut plain),
         );
         ratios.push(ours / theirs);
-        times.push(theirs * 1e6);
     }
-    let (ratio, time) = (median(ratios), median(times));
-    println!("{name:32} {count:>7} {ratio:>13.2} {time:>14.1}");
+    println!("{name:40} {count:>7} {:>13.2}", median(ratios));
 }
 
 fn differs(name: &str) -> String {
@@ -307,6 +311,24 @@ fn reading(name: &str, count: usize, layout: &[u8]) -> Result<(), String> {
         },
         || {
             black_box(form::read_layout(black_box(layout))).ok();
+        },
+    );
+    Ok(())
+}
+
+/// Beside Rust that only says whether the layout can be read.
+fn validating(name: &str, count: usize, layout: &[u8]) -> Result<(), String> {
+    if library::read_layout(layout) != Ok(0) || validate::layout(layout).is_err() {
+        return Err(differs(name));
+    }
+    line(
+        name,
+        count,
+        || {
+            black_box(library::read_layout(black_box(layout))).ok();
+        },
+        || {
+            black_box(validate::layout(black_box(layout))).ok();
         },
     );
     Ok(())
@@ -498,10 +520,15 @@ impl Planned {
     }
 
     fn of(case: Case, plan: Vec<u8>) -> Option<Planned> {
+        let record = record(&case.incoming)?;
+        Planned::over(case, plan, record)
+    }
+
+    /// Over a record.
+    fn over(case: Case, plan: Vec<u8>, record: Vec<u8>) -> Option<Planned> {
         let Case {
             incoming, target, ..
         } = &case;
-        let record = record(incoming)?;
         let output = plainly::run(incoming, target, &plan, &record, RECORD_LIMIT).ok()?;
         Some(Planned {
             case,
@@ -588,10 +615,7 @@ pub fn run() -> Result<(), String> {
     println!(
         "The library's time over plain Rust's, medians of one run (the builds' plain Rust is the original over stand-ins):"
     );
-    println!(
-        "{:32} {:>7} {:>13} {:>14}",
-        "", "columns", "library/plain", "plain Rust, µs"
-    );
+    println!("{:40} {:>7} {:>13}", "", "columns", "library/plain");
     let readable = |version: u8| {
         move |count: usize| {
             let target = layout(version, count, Role::Target, Order::Reversed, Place::Deep);
@@ -603,9 +627,11 @@ pub fn run() -> Result<(), String> {
         for count in [SMALL, MIDDLE, largest(readable(version))] {
             let layout = layout(version, count, Role::Target, Order::Reversed, Place::Top);
             reading(&name, count, &layout)?;
+            validating(&format!("{name}, no tree"), count, &layout)?;
         }
         let (count, layout) = widest(version);
         reading(&format!("{name}, leaves alone"), count, &layout)?;
+        validating(&format!("{name}, leaves alone, no tree"), count, &layout)?;
     }
     for (version, name) in [(1, "building by name"), (2, "building by number")] {
         for count in [SMALL, MIDDLE, largest(readable(version))] {
@@ -640,7 +666,10 @@ pub fn run() -> Result<(), String> {
     planned("everything twice", Planned::twice)?;
     decimals()?;
     defaults()?;
-    required()
+    required()?;
+    wide::run()?;
+    records::run()?;
+    refused::run()
 }
 
 /// How many columns are missing in a build with a full table of defaults.

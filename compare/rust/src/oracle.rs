@@ -103,14 +103,14 @@ pub fn original(case: &Case) -> Result<Answer, Aside> {
 fn schema(layout: &Layout) -> Result<Schema, Aside> {
     let column = |column: &Column| Ok((text(&column.name)?, dtype(&column.type_)?));
     let columns: Result<_, _> = layout.columns.iter().map(column).collect();
-    Ok(Schema(columns?))
+    Ok(Schema::new(columns?))
 }
 
 fn by_name(policy: u32, incoming: &Layout, target: &Layout) -> Result<Answer, Aside> {
     let (incoming, target) = (schema(incoming)?, schema(target)?);
     let builder = builder(policy);
     let mut selectors = Vec::new();
-    for (place, (name, dtype)) in target.0.iter().enumerate() {
+    for (place, (name, dtype)) in target.iter().enumerate() {
         match builder.build_column_selector(&incoming, name, dtype) {
             Ok(selector) => selectors.push(selector),
             Err(error) => return Ok(refused(error, place)),
@@ -246,7 +246,7 @@ fn dtype(type_: &Type) -> Result<DataType, Aside> {
 
 fn iceberg_schema(columns: &[Column]) -> Result<IcebergSchema, Aside> {
     let columns: Result<_, _> = columns.iter().map(iceberg_column).collect();
-    Ok(IcebergSchema(columns?))
+    Ok(IcebergSchema::new(columns?))
 }
 
 fn iceberg_column(column: &Column) -> Result<IcebergColumn, Aside> {

@@ -34,7 +34,7 @@ pub fn plan(random: &mut Random, incoming: &[Column]) -> (Vec<u8>, Vec<Column>) 
         if columns.iter().any(repeats) && room > 1 {
             let name = format!("other{at}").into_bytes();
             made.bytes = write::rename(&made.bytes, &name);
-            made.column.name = name;
+            made.column.name = name.into();
         }
         selectors.push(made.bytes);
         columns.push(made.column);
@@ -139,7 +139,7 @@ impl Generator<'_> {
             let name = name(self.random);
             let bytes = write::rename(&made.bytes, &name);
             let column = Column {
-                name,
+                name: name.into(),
                 ..made.column
             };
             return Made { bytes, column };

@@ -11,7 +11,7 @@ impl Trials<'_> {
     pub(super) fn layouts(&mut self) {
         let most = (LAYOUT_LIMIT - 7) / 4;
         let name = |at: usize| Column {
-            name: (at as u16).to_le_bytes().to_vec(),
+            name: (at as u16).to_le_bytes().as_slice().into(),
             ..column("", int8())
         };
         let names: Vec<Column> = (0..most).map(name).collect();

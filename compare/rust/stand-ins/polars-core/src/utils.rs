@@ -1,8 +1,8 @@
 use crate::datatypes::DataType;
-use std::collections::HashMap;
-use std::hash::{BuildHasherDefault, DefaultHasher, Hash};
+use plain::hash::FastMap;
+use std::hash::{BuildHasherDefault, Hash};
 
-pub type PlHashMap<K, V> = HashMap<K, V, BuildHasherDefault<DefaultHasher>>;
+pub type PlHashMap<K, V> = FastMap<K, V>;
 
 /// The constructors of a hash map whose hasher is not the standard one.
 pub trait InitHashMaps {

@@ -1,23 +1,26 @@
-//! Stand-in for the crate `polars-utils`: its small string.
+//! Stand-in for the crate `polars-utils`: its small string, which stands in place where it is short.
 
 pub mod pl_str {
+    use plain::name::Name;
     use std::fmt;
     use std::ops::Deref;
 
-    #[derive(Clone, Debug, PartialEq, Eq, Hash)]
-    pub struct PlSmallStr(String);
+    /// Always text.
+    #[derive(Clone, PartialEq, Eq, Hash)]
+    pub struct PlSmallStr(Name);
 
     impl PlSmallStr {
-        pub const EMPTY: Self = Self(String::new());
+        pub const EMPTY: Self = Self(Name::EMPTY);
 
         pub fn as_str(&self) -> &str {
-            &self.0
+            // SAFETY: it is made from text alone.
+            unsafe { std::str::from_utf8_unchecked(&self.0) }
         }
     }
 
     impl From<&str> for PlSmallStr {
         fn from(text: &str) -> Self {
-            Self(text.to_owned())
+            Self(text.as_bytes().into())
         }
     }
 
@@ -25,13 +28,19 @@ pub mod pl_str {
         type Target = str;
 
         fn deref(&self) -> &str {
-            &self.0
+            self.as_str()
+        }
+    }
+
+    impl fmt::Debug for PlSmallStr {
+        fn fmt(&self, f: &mut fmt::Formatter<'_>) -> fmt::Result {
+            self.as_str().fmt(f)
         }
     }
 
     impl fmt::Display for PlSmallStr {
         fn fmt(&self, f: &mut fmt::Formatter<'_>) -> fmt::Result {
-            f.write_str(&self.0)
+            f.write_str(self)
         }
     }
 }
