@@ -127,9 +127,24 @@ fn marked_content(
     ensures { λ r. ⌜ ((P : TypeAt (cx .edition) (cx .depth) (now (lay .entry)) (t .at)) → r ≡ valueMoved (P .end) (contentMarked (marksOf (cx .marks)) (P .tree) (now (rec .entry)) (c .at))) ⌝ }
 {
     match read_number(lay, t, rec, c) {
-        NumberRead::Is(r) => return r,
-        NumberRead::Other => {}
+        NumberRead::Is(r) => r,
+        NumberRead::Other => marked_nested(lay, cx, t, rec, c, ends),
     }
+}
+
+// The same of any type. Numbers are read before it is called, in line.
+fn marked_nested(
+    lay: &[u8],
+    cx: Context,
+    t: Cursor,
+    rec: &[u8],
+    c: Cursor,
+    ends: &[u16],
+) -> ValueRead
+    requires { ⌜ TypeAt (cx .edition) (cx .depth) (now lay) (t .at) ⌝ }
+    requires { ⌜ Ends (cx .edition) (now lay) (now ends) ⌝ }
+    ensures { λ r. ⌜ ((P : TypeAt (cx .edition) (cx .depth) (now (lay .entry)) (t .at)) → r ≡ valueMoved (P .end) (contentMarked (marksOf (cx .marks)) (P .tree) (now (rec .entry)) (c .at))) ⌝ }
+{
     let v = cx.edition;
     let inner = Context {
         edition: v,

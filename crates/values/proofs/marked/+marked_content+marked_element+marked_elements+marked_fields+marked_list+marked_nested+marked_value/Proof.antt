@@ -1,5 +1,5 @@
--- The proof of the cycle of calls {marked_content, marked_element, marked_elements, marked_fields, marked_list, marked_value}. The measure is 4 for each level
--- left, and 0, 1, 2, 2, 3 and 1 more. `Fielding` and `Repeating` hold at the heads of the loops; each way has its law in `Walk`. Assumes nothing.
+-- The proof of the cycle of calls {marked_content, marked_element, marked_elements, marked_fields, marked_list, marked_nested, marked_value}. The measure is 5 for
+-- each level left, and 1, 2, 3, 3, 4, 0 and 2 more. `Fielding` and `Repeating` hold at the heads of the loops; each way has its law in `Walk`. Assumes nothing.
 use Rattle.values.proofs.Walk.{content-leaf, content-no-leaf, content-struct, content-list, content-array, element-null, element-to, element-stopped, element-refused, repeating-none, repeating-stopped, repeating-more, repeating-all, fielding-none, fielding-first, fielding-refused, fielding-labelled, fielding-more, fielding-all, list-counted, list-uncounted, value-null, value-present, value-refused, Fielding, Repeating}
 use Rattle.values.proofs.Numbers.{number-read}
 use Rattle.values.specs.Marked.{marksOf, valueMarked}
@@ -11,22 +11,25 @@ use borrow.Fn.Kinds.{In}
 use borrow.Fn.PlainCycle.{Measures, is, falls, and}
 use Rattle.values.proofs.marked.marked_content.Reads as marked-content
 use Rattle.values.proofs.marked.marked_content.Kinds as marked-content-kinds
-use Rattle.values.proofs.marked.+marked_content+marked_element+marked_elements+marked_fields+marked_list+marked_value.Lts-marked_content as marked-content-lts
+use Rattle.values.proofs.marked.+marked_content+marked_element+marked_elements+marked_fields+marked_list+marked_nested+marked_value.Lts-marked_content as marked-content-lts
 use Rattle.values.proofs.marked.marked_element.Reads as marked-element
 use Rattle.values.proofs.marked.marked_element.Kinds as marked-element-kinds
-use Rattle.values.proofs.marked.+marked_content+marked_element+marked_elements+marked_fields+marked_list+marked_value.Lts-marked_element as marked-element-lts
+use Rattle.values.proofs.marked.+marked_content+marked_element+marked_elements+marked_fields+marked_list+marked_nested+marked_value.Lts-marked_element as marked-element-lts
 use Rattle.values.proofs.marked.marked_elements.Reads as marked-elements
 use Rattle.values.proofs.marked.marked_elements.Kinds as marked-elements-kinds
-use Rattle.values.proofs.marked.+marked_content+marked_element+marked_elements+marked_fields+marked_list+marked_value.Lts-marked_elements as marked-elements-lts
+use Rattle.values.proofs.marked.+marked_content+marked_element+marked_elements+marked_fields+marked_list+marked_nested+marked_value.Lts-marked_elements as marked-elements-lts
 use Rattle.values.proofs.marked.marked_fields.Reads as marked-fields
 use Rattle.values.proofs.marked.marked_fields.Kinds as marked-fields-kinds
-use Rattle.values.proofs.marked.+marked_content+marked_element+marked_elements+marked_fields+marked_list+marked_value.Lts-marked_fields as marked-fields-lts
+use Rattle.values.proofs.marked.+marked_content+marked_element+marked_elements+marked_fields+marked_list+marked_nested+marked_value.Lts-marked_fields as marked-fields-lts
 use Rattle.values.proofs.marked.marked_list.Reads as marked-list
 use Rattle.values.proofs.marked.marked_list.Kinds as marked-list-kinds
-use Rattle.values.proofs.marked.+marked_content+marked_element+marked_elements+marked_fields+marked_list+marked_value.Lts-marked_list as marked-list-lts
+use Rattle.values.proofs.marked.+marked_content+marked_element+marked_elements+marked_fields+marked_list+marked_nested+marked_value.Lts-marked_list as marked-list-lts
+use Rattle.values.proofs.marked.marked_nested.Reads as marked-nested
+use Rattle.values.proofs.marked.marked_nested.Kinds as marked-nested-kinds
+use Rattle.values.proofs.marked.+marked_content+marked_element+marked_elements+marked_fields+marked_list+marked_nested+marked_value.Lts-marked_nested as marked-nested-lts
 use Rattle.values.proofs.marked.marked_value.Reads as marked-value
 use Rattle.values.proofs.marked.marked_value.Kinds as marked-value-kinds
-use Rattle.values.proofs.marked.+marked_content+marked_element+marked_elements+marked_fields+marked_list+marked_value.Lts-marked_value as marked-value-lts
+use Rattle.values.proofs.marked.+marked_content+marked_element+marked_elements+marked_fields+marked_list+marked_nested+marked_value.Lts-marked_value as marked-value-lts
 use Rattle.layout.proofs.cursor.Cursor.element_label.Reads as element-label-reads
 use Rattle.layout.proofs.cursor.Cursor.head.Reads as head-reads
 use Rattle.layout.proofs.cursor.Cursor.label.Reads as label-reads
@@ -36,30 +39,33 @@ use Rattle.values.proofs.marked.marked_presence.Reads as marked-presenc
 use Rattle.values.proofs.marked.is_required.Reads as is-required-reads
 use Rattle.values.proofs.marked.pass_type.Reads as pass-type-reads
 use Rattle.values.proofs.marked.read_number.Reads as read-number-reads
-use Rattle.values.proofs.marked.+marked_content+marked_element+marked_elements+marked_fields+marked_list+marked_value.{
+use Rattle.values.proofs.marked.+marked_content+marked_element+marked_elements+marked_fields+marked_list+marked_nested+marked_value.{
   statement,
 }
-use Rattle.values.proofs.marked.+marked_content+marked_element+marked_elements+marked_fields+marked_list+marked_value.Tie.{
+use Rattle.values.proofs.marked.+marked_content+marked_element+marked_elements+marked_fields+marked_list+marked_nested+marked_value.Tie.{
   close,
 }
 
 abbrev μ-marked-content : Measures 3 marked-content-kinds.ps ℕ
-μ-marked-content κs a = 4 * (a .1 .0 .depth)
+μ-marked-content κs a = 5 * (a .1 .0 .depth) + 1
 
 abbrev μ-marked-element : Measures 3 marked-element-kinds.ps ℕ
-μ-marked-element κs a = 4 * (a .1 .0 .depth) + 1
+μ-marked-element κs a = 5 * (a .1 .0 .depth) + 2
 
 abbrev μ-marked-elements : Measures 3 marked-elements-kinds.ps ℕ
-μ-marked-elements κs a = 4 * (a .1 .0 .depth) + 2
+μ-marked-elements κs a = 5 * (a .1 .0 .depth) + 3
 
 abbrev μ-marked-fields : Measures 3 marked-fields-kinds.ps ℕ
-μ-marked-fields κs a = 4 * (a .1 .0 .depth) + 2
+μ-marked-fields κs a = 5 * (a .1 .0 .depth) + 3
 
 abbrev μ-marked-list : Measures 3 marked-list-kinds.ps ℕ
-μ-marked-list κs a = 4 * (a .1 .0 .depth) + 3
+μ-marked-list κs a = 5 * (a .1 .0 .depth) + 4
+
+abbrev μ-marked-nested : Measures 3 marked-nested-kinds.ps ℕ
+μ-marked-nested κs a = 5 * (a .1 .0 .depth)
 
 abbrev μ-marked-value : Measures 3 marked-value-kinds.ps ℕ
-μ-marked-value κs a = 4 * (a .1 .0 .depth) + 1
+μ-marked-value κs a = 5 * (a .1 .0 .depth) + 2
 
 abbrev marked-content-at : ℕ → In 3 marked-content-kinds.ps
 marked-content-at t =
@@ -112,6 +118,14 @@ abbrev marked-list-below : ℕ → In 3 marked-list-kinds.ps
 marked-list-below t =
     and 3 marked-list-kinds.ps (falls 3 marked-list-kinds.ps _<_ μ-marked-list t) marked-list.Pre
 
+abbrev marked-nested-at : ℕ → In 3 marked-nested-kinds.ps
+marked-nested-at t =
+    and 3 marked-nested-kinds.ps (is 3 marked-nested-kinds.ps μ-marked-nested t) marked-nested.Pre
+
+abbrev marked-nested-below : ℕ → In 3 marked-nested-kinds.ps
+marked-nested-below t =
+    and 3 marked-nested-kinds.ps (falls 3 marked-nested-kinds.ps _<_ μ-marked-nested t) marked-nested.Pre
+
 abbrev marked-value-at : ℕ → In 3 marked-value-kinds.ps
 marked-value-at t =
     and 3 marked-value-kinds.ps (is 3 marked-value-kinds.ps μ-marked-value t) marked-value.Pre
@@ -121,7 +135,7 @@ marked-value-below t =
     and 3 marked-value-kinds.ps (falls 3 marked-value-kinds.ps _<_ μ-marked-value t) marked-value.Pre
 
 abbrev marked-content-claims : ℕ → marked-content-lts.Claims
-marked-content-claims t = (read-number-reads.Asked, read-number-reads.Learnt, head-reads.Asked, head-reads.Learnt, read-leaf-reads.Asked, read-leaf-reads.Learnt, marked-fields-below t, marked-fields.Post, element-label-reads.Asked, element-label-reads.Learnt, is-required-reads.Asked, is-required-reads.Learnt, marked-list-below t, marked-list.Post, marked-elements-below t, marked-elements.Post)
+marked-content-claims t = (read-number-reads.Asked, read-number-reads.Learnt, marked-nested-below t, marked-nested.Post)
 
 abbrev marked-element-claims : ℕ → marked-element-lts.Claims
 marked-element-claims t = (marked-presence-reads.Asked, marked-presence-reads.Learnt, marked-content-below t, marked-content.Post)
@@ -134,6 +148,9 @@ marked-fields-claims t = (label-reads.Asked, label-reads.Learnt, is-required-rea
 
 abbrev marked-list-claims : ℕ → marked-list-lts.Claims
 marked-list-claims t = (short-reads.Asked, short-reads.Learnt, marked-elements-below t, marked-elements.Post)
+
+abbrev marked-nested-claims : ℕ → marked-nested-lts.Claims
+marked-nested-claims t = (head-reads.Asked, head-reads.Learnt, read-leaf-reads.Asked, read-leaf-reads.Learnt, marked-fields-below t, marked-fields.Post, element-label-reads.Asked, element-label-reads.Learnt, is-required-reads.Asked, is-required-reads.Learnt, marked-list-below t, marked-list.Post, marked-elements-below t, marked-elements.Post)
 
 abbrev marked-value-claims : ℕ → marked-value-lts.Claims
 marked-value-claims t = (marked-presence-reads.Asked, marked-presence-reads.Learnt, pass-type-reads.Asked, pass-type-reads.Learnt, marked-content-below t, marked-content.Post)
@@ -150,62 +167,25 @@ marked-fields-Inv-loop lay cx n rec ends v at₀ to₀ i₀ at to i = Fielding (
 abbrev marked-fields-μ-loop : marked-fields-lts.MeasureT-loop
 marked-fields-μ-loop lay cx n rec ends v at₀ to₀ i₀ at to i = n - i
 
-pub +marked-content+marked-element+marked-elements+marked-fields+marked-list+marked-value-spec : {M : Type 1} → statement M
-+marked-content+marked-element+marked-elements+marked-fields+marked-list+marked-value-spec =
+pub +marked-content+marked-element+marked-elements+marked-fields+marked-list+marked-nested+marked-value-spec : {M : Type 1} → statement M
++marked-content+marked-element+marked-elements+marked-fields+marked-list+marked-nested+marked-value-spec =
     close
     μ-marked-content
     μ-marked-element
     μ-marked-elements
     μ-marked-fields
     μ-marked-list
+    μ-marked-nested
     μ-marked-value
     (λ t. marked-content-lts.spec (marked-content-claims t)
     (marked-content-at t)
     marked-content.Post
     (λ c κs. search needs)
     (λ c. search needs)
+    (λ c. search needs)
+    (λ c κs. (omega (arith, c .before .before .before .before .before .before .pre .0), c .before .before .before .before .before .before .pre .1))
     (λ c. λ P. number-read _ _ _ (c .before .before .before .read-number .ensures _ _ _ P) (c .before .r .given .1))
-    (λ c. search needs)
-    (λ c. let z = deep (c .before .before .before .before .before .before .before .pre .1 .0) in omega arith)
-    (λ c κs. search needs)
-    (λ c. search needs)
-    (λ c κs. search needs)
-    (λ c. search needs)
-    (λ c. search needs)
-    (λ c. search needs)
-    (λ c κs.
-    let P = c .before .before .before .before .before .before .before .before .before .before .before .pre .1 .0 in
-    let z = deep P in
-    (omega (arith, c .before .before .before .before .before .before .before .before .before .before .before .pre .0), (struct-at P (c .before .before .before .head .ensures .0) (c .before .n .given .1) .inner, c .before .before .before .before .before .before .before .before .before .before .before .pre .1 .1)))
-    (λ c. search needs)
-    (λ c κs. search needs)
-    (λ c. search needs)
-    (λ c κs. search needs)
-    (λ c κs.
-    let P = c .before .before .before .before .before .before .before .before .before .before .before .before .before .before .before .before .pre .1 .0 in
-    let z = deep P in
-    let L = list-at P (c .before .before .before .before .before .before .before .before .head .ensures .0) (c .before .before .before .before .element-label .ensures .0) (c .before .before .before .before .before .before .e .given .1) (c .before .before .l2 .given .1) in
-    (omega (arith, c .before .before .before .before .before .before .before .before .before .before .before .before .before .before .before .before .pre .0), (L .inner, c .before .before .before .before .before .before .before .before .before .before .before .before .before .before .before .before .pre .1 .1)))
-    (λ c. search needs)
-    (λ c. search needs)
-    (λ c κs. search needs)
-    (λ c. search needs)
-    (λ c κs. search needs)
-    (λ c κs.
-    let P = c .before .before .before .before .before .before .before .before .before .before .before .before .before .before .before .before .pre .1 .0 in
-    let z = deep P in
-    let L = array-at P (c .before .before .before .before .before .before .before .before .head .ensures .0) (c .before .before .before .before .element-label2 .ensures .0) (c .before .before .before .before .before .before .w .given .1) (c .before .before .l3 .given .1) in
-    (omega (arith, c .before .before .before .before .before .before .before .before .before .before .before .before .before .before .before .before .pre .0), (L .inner, c .before .before .before .before .before .before .before .before .before .before .before .before .before .before .before .before .pre .1 .1)))
-    (λ c. search needs)
-    (λ c. search needs)
-    (λ c. λ P. content-leaf _ P _ _ (c .before .before .before .before .before .before .before .head .ensures .0) (c .before .before .before .before .before .l .given .1) (c .before .before .before .read-leaf .ensures) (c .before .d .given .1))
-    (λ c. λ P. content-no-leaf _ P _ _ (c .before .before .before .before .before .before .before .head .ensures .0) (c .before .before .before .before .before .l .given .1) (c .before .before .before .read-leaf .ensures) (c .before .k .given .1))
-    (λ c. λ P. content-struct _ P _ _ (c .before .before .before .before .head .ensures .0) (c .before .before .n .given .1) (c .marked-fields .ensures))
-    (λ c. λ P. content-list _ P _ _ (c .before .before .before .before .before .before .before .before .before .head .ensures .0) (c .before .before .before .before .before .element-label .ensures .0) (c .before .before .before .l2 .given .1) (c .before .is-required .ensures) (c .before .before .before .before .before .before .before .e .given .1) (c .marked-list .ensures))
-    (λ c. λ P. list-labelled P (c .before .before .before .before .before .before .before .head .ensures .0) (c .before .before .before .element-label .ensures .0) (c .before .before .before .before .before .e .given .1) (c .before .k2 .given .1))
-    (λ c. λ P. content-array _ P _ _ (c .before .before .before .before .before .before .before .before .before .head .ensures .0) (c .before .before .before .before .before .element-label2 .ensures .0) (c .before .before .before .l3 .given .1) (c .before .is-required2 .ensures) (c .before .before .before .before .before .before .before .w .given .1) (c .marked-elements .ensures))
-    (λ c. λ P. array-labelled P (c .before .before .before .before .before .before .before .head .ensures .0) (c .before .before .before .element-label2 .ensures .0) (c .before .before .before .before .before .w .given .1) (c .before .k3 .given .1))
-    (λ c. λ P. never-headless P (c .before .before .before .head .ensures .0) (c .before .k4 .given .1)))
+    (λ c. c .marked-nested .ensures))
     (λ t. marked-element-lts.spec (marked-element-claims t)
     (marked-element-at t)
     marked-element.Post
@@ -266,6 +246,49 @@ pub +marked-content+marked-element+marked-elements+marked-fields+marked-list+mar
     (λ c. search needs)
     (λ c. λ P. list-counted (P .end) (valueMarked _ _ (P .tree)) _ _ (c .before .before .before .before .short .ensures) (c .before .before .n .given .1) (c .marked-elements .ensures P))
     (λ c. λ P. list-uncounted (P .end) (valueMarked _ _ (P .tree)) _ _ (c .before .before .before .short .ensures) (c .before .k .given .1)))
+    (λ t. marked-nested-lts.spec (marked-nested-claims t)
+    (marked-nested-at t)
+    marked-nested.Post
+    (λ c. let z = deep (c .before .before .before .before .pre .1 .0) in omega arith)
+    (λ c κs. search needs)
+    (λ c. search needs)
+    (λ c κs. search needs)
+    (λ c. search needs)
+    (λ c. search needs)
+    (λ c. search needs)
+    (λ c κs.
+    let P = c .before .before .before .before .before .before .before .before .pre .1 .0 in
+    let z = deep P in
+    (omega (arith, c .before .before .before .before .before .before .before .before .pre .0), (struct-at P (c .before .before .before .head .ensures .0) (c .before .n .given .1) .inner, c .before .before .before .before .before .before .before .before .pre .1 .1)))
+    (λ c. search needs)
+    (λ c κs. search needs)
+    (λ c. search needs)
+    (λ c κs. search needs)
+    (λ c κs.
+    let P = c .before .before .before .before .before .before .before .before .before .before .before .before .before .pre .1 .0 in
+    let z = deep P in
+    let L = list-at P (c .before .before .before .before .before .before .before .before .head .ensures .0) (c .before .before .before .before .element-label .ensures .0) (c .before .before .before .before .before .before .e .given .1) (c .before .before .l2 .given .1) in
+    (omega (arith, c .before .before .before .before .before .before .before .before .before .before .before .before .before .pre .0), (L .inner, c .before .before .before .before .before .before .before .before .before .before .before .before .before .pre .1 .1)))
+    (λ c. search needs)
+    (λ c. search needs)
+    (λ c κs. search needs)
+    (λ c. search needs)
+    (λ c κs. search needs)
+    (λ c κs.
+    let P = c .before .before .before .before .before .before .before .before .before .before .before .before .before .pre .1 .0 in
+    let z = deep P in
+    let L = array-at P (c .before .before .before .before .before .before .before .before .head .ensures .0) (c .before .before .before .before .element-label2 .ensures .0) (c .before .before .before .before .before .before .w .given .1) (c .before .before .l3 .given .1) in
+    (omega (arith, c .before .before .before .before .before .before .before .before .before .before .before .before .before .pre .0), (L .inner, c .before .before .before .before .before .before .before .before .before .before .before .before .before .pre .1 .1)))
+    (λ c. search needs)
+    (λ c. search needs)
+    (λ c. λ P. content-leaf _ P _ _ (c .before .before .before .before .before .before .before .head .ensures .0) (c .before .before .before .before .before .l .given .1) (c .before .before .before .read-leaf .ensures) (c .before .d .given .1))
+    (λ c. λ P. content-no-leaf _ P _ _ (c .before .before .before .before .before .before .before .head .ensures .0) (c .before .before .before .before .before .l .given .1) (c .before .before .before .read-leaf .ensures) (c .before .k .given .1))
+    (λ c. λ P. content-struct _ P _ _ (c .before .before .before .before .head .ensures .0) (c .before .before .n .given .1) (c .marked-fields .ensures))
+    (λ c. λ P. content-list _ P _ _ (c .before .before .before .before .before .before .before .before .before .head .ensures .0) (c .before .before .before .before .before .element-label .ensures .0) (c .before .before .before .l2 .given .1) (c .before .is-required .ensures) (c .before .before .before .before .before .before .before .e .given .1) (c .marked-list .ensures))
+    (λ c. λ P. list-labelled P (c .before .before .before .before .before .before .before .head .ensures .0) (c .before .before .before .element-label .ensures .0) (c .before .before .before .before .before .e .given .1) (c .before .k2 .given .1))
+    (λ c. λ P. content-array _ P _ _ (c .before .before .before .before .before .before .before .before .before .head .ensures .0) (c .before .before .before .before .before .element-label2 .ensures .0) (c .before .before .before .l3 .given .1) (c .before .is-required2 .ensures) (c .before .before .before .before .before .before .before .w .given .1) (c .marked-elements .ensures))
+    (λ c. λ P. array-labelled P (c .before .before .before .before .before .before .before .head .ensures .0) (c .before .before .before .element-label2 .ensures .0) (c .before .before .before .before .before .w .given .1) (c .before .k3 .given .1))
+    (λ c. λ P. never-headless P (c .before .before .before .head .ensures .0) (c .before .k4 .given .1)))
     λ t. marked-value-lts.spec (marked-value-claims t)
     (marked-value-at t)
     marked-value.Post
