@@ -5,7 +5,6 @@ pub mod Casts
 pub mod EachLeaf
 pub mod Grid
 pub mod Interval
-pub mod Keys
 pub mod LeafTypes
 pub mod Loosen
 pub mod OfClass

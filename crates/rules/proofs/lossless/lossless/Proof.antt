@@ -2,7 +2,7 @@
 use native.Mathlib.Omega.{arith}
 use Rattle.rules.specs.Promotion.{promotes}
 use Rattle.rules.proofs.Interval.{holds-on, fails-on, fails-off}
-use Rattle.rules.proofs.Keys.{none}
+use Rattle.layout.proofs.Keys.{none}
 use borrow.Author.Needs.{needs}
 use Rattle.rules.proofs.lossless.lossless.Statement.{statement}
 use Rattle.rules.proofs.lossless.lossless.Tie as tie

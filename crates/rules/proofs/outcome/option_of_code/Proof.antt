@@ -4,7 +4,7 @@ use Prim.Native.Nat.{zero-le}
 use lib.ListN.{List·getD-eq-default}
 use Rattle.rules.specs.declared.outcome.OptionCode.the-variants.{Unknown}
 use Rattle.rules.specs.Outcomes.{options}
-use Rattle.rules.proofs.Keys.{none}
+use Rattle.layout.proofs.Keys.{none}
 use Rattle.rules.proofs.outcome.option_of_code.Statement.{statement}
 use Rattle.rules.proofs.outcome.option_of_code.Tie as tie
 

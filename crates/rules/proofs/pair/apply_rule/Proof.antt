@@ -2,7 +2,7 @@
 use mathlib.Core.Path.{refl, sym}
 use Rattle.rules.specs.Outcomes.{refused}
 use Rattle.rules.specs.Rules.{rules}
-use Rattle.rules.proofs.Keys.{none, first}
+use Rattle.layout.proofs.Keys.{none, first}
 use borrow.Author.Needs.{needs}
 use Rattle.rules.proofs.pair.apply_rule.Statement.{statement}
 use Rattle.rules.proofs.pair.apply_rule.Tie as tie
