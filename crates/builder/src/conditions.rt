@@ -123,10 +123,10 @@ pub fn struct_fault(
     let w = build.target;
     let c = rows.incoming.first;
     let b = rows.target.first;
-    if !distinct(how, target, w, rows.depth, rows.target.count, b) {
+    if !distinct(how, target, w, rows.depth, rows.target.count, b, arena) {
         return 12;
     }
-    if !distinct(how, incoming, v, rows.depth, rows.incoming.count, c) {
+    if !distinct(how, incoming, v, rows.depth, rows.incoming.count, c, arena) {
         return 12;
     }
     let policy = build.policy;

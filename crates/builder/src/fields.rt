@@ -24,6 +24,7 @@ use layout::find::Found;
 use layout::find::column_named;
 use layout::matching::Matching;
 use layout::read::read_columns;
+use layout::seen::clear_slots;
 use layout::walk::skip_type;
 
 // Whether one of `n` columns has a name, which stands in `t`.
@@ -64,15 +65,16 @@ fn distinct_few(s: &[u8], v: Edition, depth: u8, n: u16, c: Cursor) -> bool
     true
 }
 
-// No name is repeated among `n` columns. Many are read again under the rule of names, which is the reader's own test of siblings.
-pub fn distinct_names(s: &[u8], v: Edition, depth: u8, n: u16, c: Cursor) -> bool
+// No name is repeated among `n` columns. Many are read again under the rule of names, which is the reader's own test of siblings, with its table in
+// the arena.
+pub fn distinct_names(s: &[u8], v: Edition, depth: u8, n: u16, c: Cursor, arena: &mut [u16]) -> bool
     requires { ⌜ ColumnsAt v depth (now s) n (c .at) ⌝ }
     ensures { λ r. ⌜ ((P : ColumnsAt v depth (now (s .entry)) n (c .at)) → r ≡ distinctNames (P .columns)) ⌝ }
 {
     if n <= 8 {
         return distinct_few(s, v, depth, n, c);
     }
-    let mut seen = [0u64; 512];
+    let slots = clear_slots(n, arena);
     match read_columns(
         s,
         v,
@@ -81,7 +83,7 @@ pub fn distinct_names(s: &[u8], v: Edition, depth: u8, n: u16, c: Cursor) -> boo
         depth,
         n,
         c,
-        &mut seen,
+        &mut arena[..slots],
     ) {
         Moved::To(_) => true,
         Moved::Refused(_) => false,
@@ -89,12 +91,20 @@ pub fn distinct_names(s: &[u8], v: Edition, depth: u8, n: u16, c: Cursor) -> boo
 }
 
 // Test 12: by number a struct has none.
-pub fn distinct(how: Matching, s: &[u8], v: Edition, depth: u8, n: u16, c: Cursor) -> bool
+pub fn distinct(
+    how: Matching,
+    s: &[u8],
+    v: Edition,
+    depth: u8,
+    n: u16,
+    c: Cursor,
+    arena: &mut [u16],
+) -> bool
     requires { ⌜ ColumnsAt v depth (now s) n (c .at) ⌝ }
     ensures { λ r. ⌜ ((P : ColumnsAt v depth (now (s .entry)) n (c .at)) → r ≡ distinctBy how (P .columns)) ⌝ }
 {
     match how {
-        Matching::ByName => distinct_names(s, v, depth, n, c),
+        Matching::ByName => distinct_names(s, v, depth, n, c, arena),
         Matching::ByNumber => true,
     }
 }

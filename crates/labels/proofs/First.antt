@@ -13,7 +13,7 @@ use Rattle.layout.specs.Find.{Lookup, absent, at, findFrom, matchRule}
 use Rattle.layout.specs.declared.columns.Position.{Position}
 use Rattle.layout.specs.declared.matching.Matching.{Matching}
 use Rattle.layout.proofs.Ways.{clash, choose-true, choose-false}
-use Rattle.layout.proofs.Marking.{same-hash}
+use Rattle.layout.proofs.Noting.{same-hash}
 use Rattle.labels.specs.Table.{slotOf}
 
 pub untrue : (b : Bool) → (b ≡ true → false ≡ true) → b ≡ false

@@ -4,7 +4,7 @@ pub mod Leaves
 pub mod Ways
 pub mod FreeRule
 pub mod OfBytes
-pub mod Marking
+pub mod Noting
 pub mod Reading
 pub mod Top
 pub mod View

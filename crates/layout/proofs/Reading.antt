@@ -8,7 +8,7 @@ use Rattle.layout.specs.Parser.{Res, refuse, ok, next, choose, Parser}
 use Rattle.layout.specs.Tree.{Label, ColumnType, ccons}
 use Rattle.layout.specs.Layout.{label, columns, type, repeats, repeatsAny}
 use Rattle.layout.specs.Scan.{scan, found}
-use Rattle.layout.specs.Seen.{labelHash, Marked, Keeps, Noted}
+use Rattle.layout.specs.Seen.{labelHash, Meets, Keeps, Begins, Noted, Notes}
 use Rattle.layout.specs.Answers.{movedOf, labelRes, labelAt}
 use Rattle.layout.specs.declared.cursor.Cursor.{Cursor}
 use Rattle.layout.specs.declared.cursor.Moved.{Moved}
@@ -18,7 +18,7 @@ use Rattle.layout.specs.declared.edition.Edition.{Edition}
 use Rattle.layout.specs.declared.columns.Siblings.{Siblings}
 use Rattle.layout.proofs.Ways.{clash, moved-to, moved-refused, to-pure}
 use Rattle.layout.proofs.FreeRule.{type-free}
-use Rattle.layout.proofs.Marking.{keeps-same, keeps-on, marked-as, same-hash}
+use Rattle.layout.proofs.Noting.{keeps-same, keeps-on, meets-kept}
 
 -- what a label's answer says of the parser
 label-got : (s : List ℕ) (x : Res Label) {p : Labelled} {k : LabelSpan} {c : Cursor} → labelRes s p ≡ x → p ≡ Labelled.Is k c → x ≡ ok (labelAt s k) (c .at)
@@ -46,13 +46,14 @@ unfolding columns next choose
 columns-suc v r p n ms s at {l} {m} {e} {t} h g z = rw (h, g, z) (sym (to-pure (ccons l t) (columns v r p n (ms ++ (l ∷ [])) s e) refl))
 
 -- whether one of the earlier labels or the one after them is repeated
-snoc-marked : (r : Siblings) (from : ℕ) (l k : Label) (ms : List Label) {t u : List ℕ} → ((l : Label) → repeatsAny r l ms ≡ true → Marked t (labelHash r from l)) → Keeps t u
-    → Marked u (labelHash r from k) → repeatsAny r l (ms ++ (k ∷ [])) ≡ true → Marked u (labelHash r from l)
-snoc-marked r from l k ms {t} {u} f a m e = go (repeatsAny r l ms) refl (sym (repeatsAny-snoc r l ms k) ∙ e)
+snoc-met : (v : Edition) (r : Siblings) (s : List ℕ) (from : ℕ) (l k : Label) (ms : List Label) {t u : List ℕ}
+    → ((l : Label) → repeatsAny r l ms ≡ true → Meets v r l s t (labelHash r from l)) → Keeps t u → Notes v r s from k u
+    → repeatsAny r l (ms ++ (k ∷ [])) ≡ true → Meets v r l s u (labelHash r from l)
+snoc-met v r s from l k ms {t} {u} f a m e = go (repeatsAny r l ms) refl (sym (repeatsAny-snoc r l ms k) ∙ e)
   where
-    go : (b : Bool) → repeatsAny r l ms ≡ b → (b || repeats r l k) ≡ true → Marked u (labelHash r from l)
-    go true q h = a .kept (labelHash r from l) (f l q)
-    go false q h = marked-as (sym (same-hash r from l k h)) m
+    go : (b : Bool) → repeatsAny r l ms ≡ b → (b || repeats r l k) ≡ true → Meets v r l s u (labelHash r from l)
+    go true q h = meets-kept a (f l q)
+    go false q h = m .notes l h
 
 -- after i of n columns; the table was t₀ and is t
 pub record Reading (v : Edition) (r inner : Siblings) (d : ℕ) (s : List ℕ) (n from : ℕ) (t₀ : List ℕ) (i at : ℕ) (t : List ℕ) : Type 0 where
@@ -61,7 +62,7 @@ pub record Reading (v : Edition) (r inner : Siblings) (d : ℕ) (s : List ℕ) (
   pub rest : movedOf (columns v r (type v inner d) n [] s from) ≡ movedOf (columns v r (type v inner d) (n - i) earlier s at)
   pub passed : (l : Label) (m : ℕ) → scan v r d l (i + m) s from ≡ (repeatsAny r l earlier || scan v r d l m s at)
   pub kept : Keeps t₀ t
-  pub marked : (l : Label) → repeatsAny r l earlier ≡ true → Marked t (labelHash r from l)
+  pub met : (l : Label) → repeatsAny r l earlier ≡ true → Meets v r l s t (labelHash r from l)
 
 module _ (v : Edition) (r inner : Siblings) (d : ℕ) (s : List ℕ) (n from : ℕ) (t₀ : List ℕ) where
   pub reading-none : Reading v r inner d s n from t₀ 0 from t₀
@@ -72,7 +73,7 @@ module _ (v : Edition) (r inner : Siblings) (d : ℕ) (s : List ℕ) (n from : �
     rest = ap (λ (k : ℕ). movedOf (columns v r (type v inner d) k [] s from)) (let e : n ≡ n - 0 = omega arith in e);
     passed = λ l m. ap (λ (k : ℕ). scan v r d l k s from) (let e : 0 + m ≡ m = omega arith in e);
     kept = keeps-same t₀;
-    marked = λ l e. clash (cc);
+    met = λ l e. clash (cc);
   }
 
   module _ (i at : ℕ) {t : List ℕ} (a : Reading v r inner d s n from t₀ i at t) where
@@ -105,10 +106,13 @@ module _ (v : Edition) (r inner : Siblings) (d : ℕ) (s : List ℕ) (n from : �
             ∙ a .passed (labelAt s k) 0 ∙ or-false (repeatsAny r (labelAt s k) (a .earlier))
 
         pub reading-noted : Noted v r d (labelAt s k) i s from t₁
-        reading-noted = record { noted = λ h. g .1 .kept (labelHash r from (labelAt s k)) (a .marked (labelAt s k) (sym (tested (sym h)))) }
+        reading-noted = record { noted = λ h. meets-kept (g .1) (a .met (labelAt s k) (sym (tested (sym h)))) }
+
+        pub reading-begins : Begins v s at (labelAt s k)
+        reading-begins = record { next = c .at; reads = label-got s (label v s at) e f }
 
         module _ {j : Cursor} (h : q ≡ Moved.To j) {b : Bool} {t₂ : List ℕ}
-            (x : (b ≡ scan v r d (labelAt s k) i s from) × (Keeps t₁ t₂ × Marked t₂ (labelHash r from (labelAt s k)))) where
+            (x : (b ≡ scan v r d (labelAt s k) i s from) × (Keeps t₁ t₂ × Notes v r s from (labelAt s k) t₂)) where
           pub reading-repeated : b ≡ true → (Moved.Refused 5 ≡ movedOf (columns v r (type v inner d) n [] s from)) × Keeps t₀ t₂
           unfolding columns next choose movedOf
           reading-repeated y =
@@ -133,7 +137,7 @@ module _ (v : Edition) (r inner : Siblings) (d : ℕ) (s : List ℕ) (n from : �
                     ∙ rw (scan-suc v r d l m s at w o, repeatsAny-snoc r l (a .earlier) (labelAt s k))
                     (sym (or-assoc (repeatsAny r l (a .earlier)) (repeats r l (labelAt s k)) (scan v r d l m s (j .at))));
                 kept = keeps-on (a .kept) (keeps-on (g .1) (x .1 .0));
-                marked = λ l y. snoc-marked r from l (labelAt s k) (a .earlier) (a .marked) (keeps-on (g .1) (x .1 .0)) (x .1 .1) y;
+                met = λ l y. snoc-met v r s from l (labelAt s k) (a .earlier) (a .met) (keeps-on (g .1) (x .1 .0)) (x .1 .1) y;
               }
 
 -- a scan for a label

@@ -6,8 +6,8 @@ ghost use lib.ListN.{length};
 ghost use Rattle.layout.specs.Layout.{plainLeaf, listType, type, columns, counted, layout};
 ghost use Rattle.layout.specs.Pass.{typeRest};
 ghost use Rattle.layout.specs.Scan.{scan};
-ghost use Rattle.layout.specs.Seen.{labelHash, Marked, Keeps, Noted};
-ghost use Rattle.layout.specs.Answers.{movedOf, labelAt, layoutOf};
+ghost use Rattle.layout.specs.Seen.{Keeps, Begins, Noted, Notes};
+ghost use Rattle.layout.specs.Answers.{movedOf, labelAt, spanIn, layoutOf};
 ghost use Rattle.layout.specs.declared.types.PlainLeaf.{PlainLeaf as PlainLeafOf};
 use crate::columns::Label;
 use crate::columns::Labelled;
@@ -27,8 +27,9 @@ use crate::pass::pass_decimal;
 use crate::pass::pass_element_label;
 use crate::pass::pass_long;
 use crate::pass::pass_type;
+use crate::seen::find_slot;
 use crate::seen::label_hash;
-use crate::seen::mark;
+use crate::seen::place;
 use crate::types::PlainLeaf;
 use crate::types::plain_leaf;
 
@@ -42,16 +43,8 @@ pub enum LayoutRead {
     Refused(u8),
 }
 
-// One type of at most `depth` levels, whose inner columns keep to the rule. `seen` is the table of the labels that may have been read.
-fn read_type(
-    s: &[u8],
-    v: Edition,
-    rule: Siblings,
-    depth: u8,
-    c: Cursor,
-    seen: &mut [u64; 512],
-) -> Moved
-    requires { ⌜ 512 ≡ length (now seen) ⌝ }
+// One type of at most `depth` levels, whose inner columns keep to the rule. `seen` is the table of the labels that were read.
+fn read_type(s: &[u8], v: Edition, rule: Siblings, depth: u8, c: Cursor, seen: &mut [u16]) -> Moved
     ensures { λ r. ⌜ r ≡ movedOf (type v rule depth (now (s .entry)) (c .at)) ⌝ }
     ensures { λ _. ⌜ Keeps (now (seen .entry)) (now (seen .exit)) ⌝ }
 {
@@ -78,10 +71,9 @@ fn read_rest(
     depth: u8,
     code: u8,
     c: Cursor,
-    seen: &mut [u64; 512],
+    seen: &mut [u16],
 ) -> Moved
     requires { ⌜ plainLeaf code ≡ PlainLeafOf.Unknown ⌝ }
-    requires { ⌜ 512 ≡ length (now seen) ⌝ }
     ensures { λ r. ⌜ r ≡ movedOf (typeRest v rule depth code (now (s .entry)) (c .at)) ⌝ }
     ensures { λ _. ⌜ Keeps (now (seen .entry)) (now (seen .exit)) ⌝ }
 {
@@ -108,9 +100,8 @@ fn read_element(
     rule: Siblings,
     depth: u8,
     c: Cursor,
-    seen: &mut [u64; 512],
+    seen: &mut [u16],
 ) -> Moved
-    requires { ⌜ 512 ≡ length (now seen) ⌝ }
     ensures { λ r. ⌜ r ≡ movedOf (listType v (type v rule depth) (now (s .entry)) (c .at)) ⌝ }
     ensures { λ _. ⌜ Keeps (now (seen .entry)) (now (seen .exit)) ⌝ }
 {
@@ -129,9 +120,8 @@ pub fn read_columns(
     depth: u8,
     n: u16,
     c: Cursor,
-    seen: &mut [u64; 512],
+    seen: &mut [u16],
 ) -> Moved
-    requires { ⌜ 512 ≡ length (now seen) ⌝ }
     ensures { λ r. ⌜ r ≡ movedOf (columns v rule (type v inner depth) n [] (now (s .entry)) (c .at)) ⌝ }
     ensures { λ _. ⌜ Keeps (now (seen .entry)) (now (seen .exit)) ⌝ }
 {
@@ -142,7 +132,7 @@ pub fn read_columns(
         match d.label(s, v) {
             Labelled::Is(l, next) => match read_type(s, v, inner, depth, next, seen) {
                 Moved::To(e) => {
-                    if is_repeated(s, v, rule, depth, i, c, l, seen) {
+                    if is_repeated(s, v, rule, depth, i, c, d, l, seen) {
                         return Moved::Refused(5);
                     }
                     at = e.at;
@@ -156,7 +146,7 @@ pub fn read_columns(
     Moved::To(Cursor { at })
 }
 
-// Whether one of the `n` columns from a cursor repeats a label, which is marked. They are scanned only where it may be marked already.
+// Whether one of the `n` columns from a cursor repeats the label `l` of the column at `d`, which is noted. They are scanned only where it may.
 fn is_repeated(
     s: &[u8],
     v: Edition,
@@ -164,22 +154,24 @@ fn is_repeated(
     depth: u8,
     n: u16,
     c: Cursor,
+    d: Cursor,
     l: Label,
-    seen: &mut [u64; 512],
+    seen: &mut [u16],
 ) -> bool
-    requires { ⌜ l .name .start + l .name .len ≤ length (now s) ⌝ }
-    requires { ⌜ 512 ≡ length (now seen) ⌝ }
+    requires { ⌜ spanIn (now s) (l .name) ⌝ }
+    requires { ⌜ Begins v (now s) (d .at) (labelAt (now s) l) ⌝ }
     requires { ⌜ Noted v rule depth (labelAt (now s) l) n (now s) (c .at) (now seen) ⌝ }
     ensures { λ r. ⌜ r ≡ scan v rule depth (labelAt (now (s .entry)) l) n (now (s .entry)) (c .at) ⌝ }
     ensures { λ _. ⌜ Keeps (now (seen .entry)) (now (seen .exit)) ⌝ }
-    ensures { λ _. ⌜ Marked (now (seen .exit)) (labelHash rule (c .at) (labelAt (now (s .entry)) l)) ⌝ }
+    ensures { λ _. ⌜ Notes v rule (now (s .entry)) (c .at) (labelAt (now (s .entry)) l) (now (seen .exit)) ⌝ }
 {
     let h = label_hash(s, rule, c.at, l);
-    if mark(seen, h) {
-        repeats(s, v, rule, depth, n, c, l)
-    } else {
-        false
+    let k = find_slot(s, v, rule, l, h, seen);
+    if k < seen.len() {
+        seen[k] = place(d);
+        return false;
     }
+    repeats(s, v, rule, depth, n, c, l)
 }
 
 // Whether one of the `n` columns from a cursor repeats a label. Their types are passed over with no such test inside, else the
@@ -215,15 +207,14 @@ fn repeats(s: &[u8], v: Edition, rule: Siblings, depth: u8, n: u16, c: Cursor, l
 }
 
 // The count and the columns of a layout, which begin after its version, to the end.
-fn read_counted(s: &[u8], v: Edition) -> LayoutRead
+fn read_counted(s: &[u8], v: Edition, seen: &mut [u16]) -> LayoutRead
     ensures { λ r. ⌜ r ≡ layoutOf (counted v (now (s .entry)) 5) ⌝ }
 {
-    let mut seen = [0u64; 512];
     let top = top_rule(v);
     let inner = inner_rule(v);
     let c = Cursor { at: 5 };
     match c.short(s) {
-        Short::Is(n, d) => match read_columns(s, v, top, inner, 16, n, d, &mut seen) {
+        Short::Is(n, d) => match read_columns(s, v, top, inner, 16, n, d, seen) {
             Moved::To(e) => {
                 if e.at == s.len() {
                     LayoutRead::Read {
@@ -241,6 +232,32 @@ fn read_counted(s: &[u8], v: Edition) -> LayoutRead
     }
 }
 
+// At most 4,096 bytes, which have at most 1,086 columns with labels of their own.
+fn read_short(s: &[u8], v: Edition) -> LayoutRead
+    ensures { λ r. ⌜ r ≡ layoutOf (counted v (now (s .entry)) 5) ⌝ }
+{
+    let mut seen = [0u16; 1536];
+    read_counted(s, v, &mut seen)
+}
+
+// At most 16,384 bytes, which have at most 4,158.
+fn read_long(s: &[u8], v: Edition) -> LayoutRead
+    ensures { λ r. ⌜ r ≡ layoutOf (counted v (now (s .entry)) 5) ⌝ }
+{
+    let mut seen = [0u16; 4224];
+    read_counted(s, v, &mut seen)
+}
+
+// With a table of the size that is needed, since a large one takes longer to clear.
+fn read_sized(s: &[u8], v: Edition) -> LayoutRead
+    ensures { λ r. ⌜ r ≡ layoutOf (counted v (now (s .entry)) 5) ⌝ }
+{
+    if s.len() <= 4096 {
+        return read_short(s, v);
+    }
+    read_long(s, v)
+}
+
 pub fn read_layout(s: &[u8]) -> LayoutRead
     ensures { λ r. ⌜ r ≡ layoutOf (layout (now (s .entry))) ⌝ }
 {
@@ -248,7 +265,7 @@ pub fn read_layout(s: &[u8]) -> LayoutRead
         return LayoutRead::Refused(4);
     }
     match read_edition(s) {
-        EditionRead::Is(v) => read_counted(s, v),
+        EditionRead::Is(v) => read_sized(s, v),
         EditionRead::Refused(k) => LayoutRead::Refused(k),
     }
 }

@@ -1,13 +1,21 @@
-// Which labels may have been seen: a table of bits, of which a label's hash sets three in one word. Where one of them is not set yet,
-// no label that was noted before is the same.
+// The labels that were read, in a table of slots. A slot holds where a column begins, or 0. The hash of a label says which slot is looked at
+// first, the others follow in turn, and the label is new where one is empty. Nothing is asked of what a table holds: where it was not cleared,
+// or is full, more is compared.
 ghost use mathlib.Core.Path.{_≡_};
-ghost use mathlib.Core.Bool.{true};
-ghost use Prim.Native.Nat.{_^_, _<_};
+ghost use Prim.Native.Nat.{_≤_, _<_};
 ghost use lib.ListN.{length};
 ghost use Rattle.layout.specs.Answers.{labelAt, spanIn};
-ghost use Rattle.layout.specs.Seen.{mixed, hashBytes, labelHash, bitsOf, Marked, Keeps};
+ghost use Rattle.layout.specs.Seen.{mixed, hashBytes, labelHash, far, firstSlot, slotAfter, mayRepeat, Searched};
+use crate::bytes::wide;
 use crate::columns::Label;
+use crate::columns::Labelled;
 use crate::columns::Siblings;
+use crate::columns::same_label;
+use crate::cursor::Cursor;
+use crate::edition::Edition;
+
+// What a slot holds of a column that begins where a slot can't say.
+const FAR: u16 = 65535;
 
 fn mix(h: u32, x: u32) -> u32
     ensures { λ r. ⌜ r ≡ mixed h x ⌝ }
@@ -43,29 +51,95 @@ pub fn label_hash(s: &[u8], rule: Siblings, from: usize, l: Label) -> u32
     }
 }
 
-fn bit(j: u32) -> u64
-    requires { ⌜ j < 64 ⌝ }
-    ensures { λ r. ⌜ r ≡ 2 ^ j ⌝ }
+// The slot that is looked at first, of `n`.
+fn first_slot(n: usize, h: u32) -> usize
+    requires { ⌜ 0 < n ⌝ }
+    ensures { λ r. ⌜ r ≡ firstSlot n h ⌝ }
+    ensures { λ r. ⌜ r < n ⌝ }
 {
-    1u64 << j
+    let m = (n as u64) % 0x1_0000_0000;
+    ((h as u64) * m / 0x1_0000_0000) as usize
 }
 
-fn bits_of(h: u32) -> u64
-    ensures { λ r. ⌜ r ≡ bitsOf h ⌝ }
+// The slot that is looked at after `i` others.
+fn slot_after(n: usize, first: usize, i: usize) -> usize
+    requires { ⌜ first < n ⌝ }
+    requires { ⌜ i < n ⌝ }
+    ensures { λ r. ⌜ r ≡ slotAfter n first i ⌝ }
+    ensures { λ r. ⌜ r < n ⌝ }
 {
-    bit(h / 131072 % 64) | bit(h / 2048 % 64) | bit(h / 32 % 64)
+    let behind = n - first;
+    if i < behind { first + i } else { i - behind }
 }
 
-// Sets a hash's bits; false where they were not all set before.
-pub fn mark(seen: &mut [u64; 512], h: u32) -> bool
-    requires { ⌜ 512 ≡ length (now seen) ⌝ }
-    ensures { λ r. ⌜ (Marked (now (seen .entry)) h → r ≡ true) ⌝ }
-    ensures { λ _. ⌜ Keeps (now (seen .entry)) (now (seen .exit)) ⌝ }
-    ensures { λ _. ⌜ Marked (now (seen .exit)) h ⌝ }
+// Whether the column that a slot tells of may have a label that this one repeats.
+fn may_repeat(s: &[u8], v: Edition, rule: Siblings, l: Label, x: u16) -> bool
+    requires { ⌜ spanIn (now s) (l .name) ⌝ }
+    ensures { λ r. ⌜ r ≡ mayRepeat v rule (labelAt (now (s .entry)) l) (now (s .entry)) x ⌝ }
 {
-    let word = (h / 8388608) as usize;
-    let old = seen[word];
-    let new = old | bits_of(h);
-    seen[word] = new;
-    new == old
+    if x == FAR {
+        return true;
+    }
+    let at = wide(x);
+    let d = Cursor { at };
+    match d.label(s, v) {
+        Labelled::Is(m, _) => same_label(rule, s, l, s, m),
+        Labelled::Refused(_) => false,
+    }
+}
+
+// The empty slot for a label of a hash, which is then new; the table's length where it may be repeated.
+pub fn find_slot(s: &[u8], v: Edition, rule: Siblings, l: Label, h: u32, seen: &[u16]) -> usize
+    requires { ⌜ spanIn (now s) (l .name) ⌝ }
+    ensures { λ r. ⌜ Searched v rule (labelAt (now (s .entry)) l) (now (s .entry)) (now (seen .entry)) h r ⌝ }
+{
+    let n = seen.len();
+    if n == 0 {
+        return 0;
+    }
+    let first = first_slot(n, h);
+    let mut i = 0;
+    while i < n {
+        let k = slot_after(n, first, i);
+        let x = seen[k];
+        if x == 0 {
+            return k;
+        }
+        if may_repeat(s, v, rule, l, x) {
+            return n;
+        }
+        i += 1;
+    }
+    n
+}
+
+// What a slot holds of a column.
+pub fn place(c: Cursor) -> u16
+    ensures { λ r. ⌜ 0 < r ⌝ }
+    ensures { λ r. ⌜ ((r ≡ far → ⊥) → r ≡ c .at) ⌝ }
+{
+    let at = c.at;
+    if at == 0 {
+        return FAR;
+    }
+    if 65535 < at {
+        return FAR;
+    }
+    at as u16
+}
+
+// Empties two slots for each of `n` labels at the start of an arena, or all that there are, and answers how many.
+pub fn clear_slots(n: u16, arena: &mut [u16]) -> usize
+    ensures { λ r. ⌜ r ≤ length (now (arena .exit)) ⌝ }
+{
+    let wanted = 2 * wide(n);
+    let mut k = 0;
+    while k < arena.len() {
+        if wanted <= k {
+            return k;
+        }
+        arena[k] = 0;
+        k += 1;
+    }
+    k
 }

@@ -2,12 +2,12 @@
 -- `Reading` holds at the head of the loop. Assumes nothing.
 use borrow.Author.Needs.{needs}
 use Prim.Native.Nat.{ℕ, _<_, _+_, _-_, _*_}
-use mathlib.Core.Path.{_∙_}
+use mathlib.Core.Path.{sym, _∙_}
 use native.Mathlib.Omega.{arith}
 use Rattle.layout.proofs.Ways.{label-in}
 use Rattle.layout.proofs.Passing.{not-plain, type-unruled, type-passed, rest-passed, element-passed}
-use Rattle.layout.proofs.Marking.{keeps-same}
-use Rattle.layout.proofs.Reading.{Reading, reading-none, reading-all, reading-no-label, reading-no-type, reading-noted, reading-repeated, reading-more}
+use Rattle.layout.proofs.Noting.{keeps-same}
+use Rattle.layout.proofs.Reading.{Reading, reading-none, reading-all, reading-no-label, reading-no-type, reading-begins, reading-noted, reading-repeated, reading-more}
 use borrow.Fn.Kinds.{In}
 use borrow.Fn.PlainCycle.{Measures, is, falls, and}
 use Rattle.layout.proofs.read.read_columns.Reads as read-columns
@@ -113,17 +113,44 @@ pub +read-columns+read-element+read-rest+read-type-spec : {M : Type 1} → state
     (λ c. reading-none _ _ _ _ _ _ _ _)
     (λ c κs. search needs)
     (λ c. search needs)
-    (λ c κs. (omega arith, c .before .before .before .before .before .before .before .before .pre .1 ∙ c .before .before .before .before .before .before .loop .inv .kept .long))
+    (λ c κs. search needs)
     (λ c. search needs)
-    (λ c κs. (label-in _ (c .before .before .before .before .before .before .before .before .before .label .ensures .1) (c .before .before .before .before .before .before .before .l .given .1), (c .before .before .before .before .before .before .before .before .before .before .before .before .before .pre .1 ∙ c .before .before .before .before .before .before .before .before .before .before .before .loop .inv .kept .long ∙ c .before .before .before .before .read-type .ensures .1 .long, reading-noted _ _ _ _ _ _ _ _ _ _ (c .before .before .before .before .before .before .before .before .before .before .before .loop .inv) (c .before .before .before .before .before .before .before .before .before .before .loop-test .taken) (c .before .before .before .before .before .before .before .before .before .label .ensures .0) (c .before .before .before .before .before .before .before .l .given .1) (c .before .before .before .before .read-type .ensures))))
-    (λ c. reading-repeated _ _ _ _ _ _ _ _ _ _ (c .before .before .before .before .before .before .before .before .before .before .before .before .before .loop .inv) (c .before .before .before .before .before .before .before .before .before .before .before .before .loop-test .taken) (c .before .before .before .before .before .before .before .before .before .before .before .label .ensures .0) (c .before .before .before .before .before .before .before .before .before .l .given .1) (c .before .before .before .before .before .before .read-type .ensures) (c .before .before .before .before .e .given .1) (c .before .is-repeated .ensures) (c .if1 .taken))
+    (λ c κs. let inv = c .before .before .before .before .before .before .before .before .before .before .before .before .before .loop .inv in
+    let lt = c .before .before .before .before .before .before .before .before .before .before .before .before .loop-test .taken in
+    let told = c .before .before .before .before .before .before .before .before .before .before .before .label .ensures in
+    let is = c .before .before .before .before .before .before .before .before .before .l .given .1 in
+    let typed = c .before .before .before .before .before .before .read-type .ensures in
+    (label-in _ (told .1) is, (reading-begins _ _ _ _ _ _ _ _ _ _ inv lt (told .0) is typed, reading-noted _ _ _ _ _ _ _ _ _ _ inv lt (told .0) is typed)))
+    (λ c. sym (c .before .before .before .before .before .before .before .before .before .before .before .before .before .before .before .before .before .loop .inv .kept .long ∙ c .before .before .before .before .before .before .before .before .before .before .read-type .ensures .1 .long ∙ c .before .before .before .is-repeated .ensures .1 .0 .long))
+    (λ c. let inv = c .before .before .before .before .before .before .before .before .before .before .before .before .before .before .before .before .before .loop .inv in
+    let lt = c .before .before .before .before .before .before .before .before .before .before .before .before .before .before .before .before .loop-test .taken in
+    let told = c .before .before .before .before .before .before .before .before .before .before .before .before .before .before .before .label .ensures in
+    let is = c .before .before .before .before .before .before .before .before .before .before .before .before .before .l .given .1 in
+    let typed = c .before .before .before .before .before .before .before .before .before .before .read-type .ensures in
+    reading-repeated _ _ _ _ _ _ _ _ _ _ inv lt (told .0) is typed (c .before .before .before .before .before .before .e .given .1) (c .before .before .before .is-repeated .ensures) (c .if1 .taken))
     (λ c. search needs)
-    (λ c. reading-no-type _ _ _ _ _ _ _ _ _ _ (c .before .before .before .before .before .before .before .before .before .before .loop .inv) (c .before .before .before .before .before .before .before .before .before .loop-test .taken) (c .before .before .before .before .before .before .before .before .label .ensures .0) (c .before .before .before .before .before .before .l .given .1) (c .before .before .before .read-type .ensures) (c .before .k .given .1))
+    (λ c. sym (c .before .before .before .before .before .before .before .before .before .before .before .before .loop .inv .kept .long ∙ c .before .before .before .before .before .read-type .ensures .1 .long))
+    (λ c. let inv = c .before .before .before .before .before .before .before .before .before .before .before .before .loop .inv in
+    let lt = c .before .before .before .before .before .before .before .before .before .before .before .loop-test .taken in
+    let told = c .before .before .before .before .before .before .before .before .before .before .label .ensures in
+    let is = c .before .before .before .before .before .before .before .before .l .given .1 in
+    let typed = c .before .before .before .before .before .read-type .ensures in
+    reading-no-type _ _ _ _ _ _ _ _ _ _ inv lt (told .0) is typed (c .before .k .given .1))
     (λ c. search needs)
-    (λ c. reading-no-label _ _ _ _ _ _ _ _ _ _ (c .before .before .before .before .before .loop .inv) (c .before .before .before .before .loop-test .taken) (c .before .before .before .label .ensures .0) (c .before .k2 .given .1))
-    (λ c. omega (arith, c .before .before .before .before .before .before .before .before .before .before .before .before .before .before .before .fits .n, c .before .before .before .before .before .before .before .before .before .before .before .before .loop-test .taken))
+    (λ c. sym (c .before .before .before .before .before .loop .inv .kept .long))
+    (λ c. let inv = c .before .before .before .before .before .loop .inv in
+    let lt = c .before .before .before .before .loop-test .taken in
+    let told = c .before .before .before .label .ensures in
+    reading-no-label _ _ _ _ _ _ _ _ _ _ inv lt (told .0) (c .before .k2 .given .1))
+    (λ c. omega (arith, c .before .before .before .before .before .before .before .before .before .before .before .before .before .before .before .before .before .before .before .before .fits .n, c .before .before .before .before .before .before .before .before .before .before .before .before .before .before .before .before .loop-test .taken))
     (λ c. omega arith)
-    (λ c. reading-more _ _ _ _ _ _ _ _ _ _ (c .before .before .before .before .before .before .before .before .before .before .before .before .before .loop .inv) (c .before .before .before .before .before .before .before .before .before .before .before .before .loop-test .taken) (c .before .before .before .before .before .before .before .before .before .before .before .label .ensures .0) (c .before .before .before .before .before .before .before .before .before .l .given .1) (c .before .before .before .before .before .before .read-type .ensures) (c .before .before .before .before .e .given .1) (c .before .is-repeated .ensures) (c .if1 .left))
+    (λ c. let inv = c .before .before .before .before .before .before .before .before .before .before .before .before .before .before .before .before .before .loop .inv in
+    let lt = c .before .before .before .before .before .before .before .before .before .before .before .before .before .before .before .before .loop-test .taken in
+    let told = c .before .before .before .before .before .before .before .before .before .before .before .before .before .before .before .label .ensures in
+    let is = c .before .before .before .before .before .before .before .before .before .before .before .before .before .l .given .1 in
+    let typed = c .before .before .before .before .before .before .before .before .before .before .read-type .ensures in
+    reading-more _ _ _ _ _ _ _ _ _ _ inv lt (told .0) is typed (c .before .before .before .before .before .before .e .given .1) (c .before .before .before .is-repeated .ensures) (c .if1 .left))
+    (λ c. sym (c .before .loop .inv .kept .long))
     (λ c. reading-all _ _ _ _ _ _ _ _ _ _ (c .before .loop .inv) (c .loop-test .left)))
     (λ t. read-element-lts.spec (read-element-claims t)
     (read-element-at t)
@@ -132,7 +159,8 @@ pub +read-columns+read-element+read-rest+read-type-spec : {M : Type 1} → state
     (λ c. search needs)
     (λ c κs. search needs)
     (λ c. search needs)
-    (λ c. (search element-passed, c .read-type .ensures .1))
+    (λ c. sym (c .before .before .read-type .ensures .1 .long))
+    (λ c. (search element-passed, c .before .before .read-type .ensures .1))
     (λ c. (search element-passed, keeps-same _)))
     (λ t. read-rest-lts.spec (read-rest-claims t)
     (read-rest-at t)
@@ -149,10 +177,13 @@ pub +read-columns+read-element+read-rest+read-type-spec : {M : Type 1} → state
     (λ c. search needs)
     (λ c κs. search needs)
     (λ c. (search rest-passed, keeps-same _))
-    (λ c. (search rest-passed, c .read-columns .ensures .1))
+    (λ c. sym (c .before .before .read-columns .ensures .1 .long))
+    (λ c. (search rest-passed, c .before .before .read-columns .ensures .1))
     (λ c. (search rest-passed, keeps-same _))
-    (λ c. (search rest-passed, c .read-element .ensures .1))
-    (λ c. (search rest-passed, c .read-element2 .ensures .1))
+    (λ c. sym (c .before .before .read-element .ensures .1 .long))
+    (λ c. (search rest-passed, c .before .before .read-element .ensures .1))
+    (λ c. sym (c .before .before .read-element2 .ensures .1 .long))
+    (λ c. (search rest-passed, c .before .before .read-element2 .ensures .1))
     (λ c. (search rest-passed, keeps-same _))
     (λ c. (search rest-passed, keeps-same _))
     (λ c. (search rest-passed, keeps-same _)))
@@ -172,5 +203,6 @@ pub +read-columns+read-element+read-rest+read-type-spec : {M : Type 1} → state
     (λ c κs. search (not-plain, needs))
     (λ c. search needs)
     (λ c. (search type-passed, keeps-same _))
-    (λ c. (search type-passed, c .read-rest .ensures .1))
+    (λ c. sym (c .before .before .read-rest .ensures .1 .long))
+    (λ c. (search type-passed, c .before .before .read-rest .ensures .1))
     (λ c. (search type-passed, keeps-same _))

@@ -1,5 +1,6 @@
 -- `layout::read::read_counted` meets its contract: each way has its rule in `Top`. Assumes nothing.
 use borrow.Author.Needs.{needs}
+use mathlib.Core.Path.{sym}
 use Rattle.layout.proofs.Top.{layout-read, layout-longer, layout-broken, layout-uncounted}
 use Rattle.layout.proofs.read.read_counted.Statement.{statement}
 use Rattle.layout.proofs.read.read_counted.Tie as tie
@@ -16,7 +17,13 @@ read-counted-spec =
     (λ c. search needs)
     (λ c. search needs)
     (λ c. search needs)
-    (λ c. layout-read _ _ (c .before .before .before .before .before .before .before .before .before .before .short .ensures) (c .before .before .before .before .before .before .before .before .n .given .1) (c .before .before .before .before .before .before .before .before .before .before .before .before .top-rule .ensures) (c .before .before .before .before .before .before .before .before .before .before .before .inner-rule .ensures) (c .before .before .before .before .before .read-columns .ensures .0) (c .before .before .before .e .given .1) (c .if1 .taken))
+    (λ c. sym (c .before .before .before .before .before .before .before .read-columns .ensures .1 .long))
+    (λ c.
+    let counted = c .before .before .before .before .before .before .before .before .before .before .before .before in
+    layout-read _ _ (counted .short .ensures) (c .before .before .before .before .before .before .before .before .before .before .n .given .1) (counted .before .before .top-rule .ensures) (counted .before .inner-rule .ensures)
+    (c .before .before .before .before .before .before .before .read-columns .ensures .0) (c .before .before .before .e .given .1) (c .if1 .taken))
+    (λ c. sym (c .before .before .before .before .before .before .before .read-columns .ensures .1 .long))
     (λ c. search layout-longer)
+    (λ c. sym (c .before .before .before .before .before .read-columns .ensures .1 .long))
     (λ c. search layout-broken)
     (λ c. search layout-uncounted))

@@ -3,7 +3,7 @@ use borrow.Author.Needs.{needs}
 use Prim.Native.Nat.{_-_}
 use lib.ListN.{length}
 use native.Mathlib.Omega.{arith}
-use Rattle.layout.proofs.Marking.{Hashing, hashing-none, hashing-more, hashing-all}
+use Rattle.layout.proofs.Noting.{Hashing, hashing-none, hashing-more, hashing-all}
 use Rattle.layout.proofs.seen.hash_bytes.Statement.{statement}
 use Rattle.layout.proofs.seen.hash_bytes.Tie as tie
 

@@ -1,6 +1,6 @@
 -- `layout::seen::label_hash` meets its contract: a case for each rule. Assumes nothing.
 use borrow.Author.Needs.{needs}
-use Rattle.layout.proofs.Marking.{hash-name, hash-id, hash-none}
+use Rattle.layout.proofs.Noting.{hash-name, hash-id, hash-none}
 use Rattle.layout.proofs.seen.label_hash.Statement.{statement}
 use Rattle.layout.proofs.seen.label_hash.Tie as tie
 
