@@ -1,82 +1,86 @@
 -- What the functions of src/selector.rt answer on each way. Assumes nothing.
 use Prim.Native.Nat.{ℕ, _-_, _≤_, _<_}
 use mathlib.Core.Path.{_≡_, refl, sym, ap, _∙_, subst}
-use mathlib.Core.Bool.{Bool, true, false}
+use mathlib.Core.Bool.{Bool, true, false, _&&_}
 use mathlib.Core.List.{List, []}
 use native.Mathlib.Omega.{arith}
 use lib.ListN.{length}
+use lib.Dec.{leb}
 use Rattle.layout.specs.Bytes.{Bytes}
+use Rattle.layout.specs.Parser.{choose}
 use Rattle.layout.specs.Tree.{DataType, leaf, struct, list, array, Fields, countFields, fieldsOf, dtypeOf}
 use Rattle.layout.specs.Layout.{Kind, aLeaf, aStruct, aList, anArray, type}
 use Rattle.layout.specs.Stands.{TypeAt, ColumnsAt}
 use Rattle.layout.specs.declared.columns.Siblings.the-variants.{Free}
-use Rattle.layout.specs.declared.cursor.Cursor.{Cursor}
 use Rattle.layout.specs.declared.edition.Edition.{Edition}
 use Rattle.layout.specs.declared.edition.Edition.the-variants.{One}
 use Rattle.layout.proofs.Ways.{clash}
 use Rattle.layout.proofs.Top.{columns-count}
-use Rattle.forms.specs.Form.{headOf}
+use Rattle.forms.specs.Form.{form, headOf}
+use Rattle.forms.specs.Readable.{depthOf}
 use Rattle.forms.proofs.Heads.{count-fields}
 use Rattle.rules.specs.declared.outcome.CastOption.{CastOption}
 use Rattle.plan.specs.Result.{Result, gives, refuses, _>>=_, demand}
 use Rattle.plan.specs.Check.{Column, column, columnAt, castFits, withinLimits, resulting, checkCast}
 use Rattle.walk.specs.State.{Frame}
 use Rattle.walk.specs.Types.{ScopeOf, c-top, c-fields, c-list, c-array}
-use Rattle.walk.specs.Stands.{SelectorAt}
 use Rattle.walk.specs.Parts.{OptionAt}
 use Rattle.walk.specs.declared.walk.Walk.{Walk}
-use Rattle.checker.specs.Standing.{partsOf, headKind, TypeHeadIs, NamedAt, ResolvedAt, ScopedAt, EnclosingIs}
-use Rattle.checker.specs.Checking.{checkedOf, fittingOf, isTransform}
-use Rattle.checker.specs.declared.selector.Checked.{Checked}
+use Rattle.nodes.specs.Typed.{TypeIs}
+use Rattle.checker.specs.Standing.{partsOf, headKind, TypeHeadIs, ResolvedAt, ScopedAt, EnclosingIs}
+use Rattle.checker.specs.Limits.{fitOf, typeFit, sizeOf}
+use Rattle.checker.specs.Checking.{checkedOf, droppedOf, measuredOf, fittingOf}
+use Rattle.checker.specs.declared.limits.Fit.{Fit}
+use Rattle.checker.specs.declared.limits.Size.{Size}
+use Rattle.checker.specs.declared.selector.Measured.{Measured}
 use Rattle.checker.specs.declared.place.TypeHead.{TypeHead}
-use Rattle.checker.specs.declared.resolve.Source.{Source}
 use Rattle.checker.specs.declared.resolve.Resolved.{Resolved}
-use Rattle.checker.proofs.Given.{transform-within}
 use Rattle.checker.proofs.Room.{entries-count}
 use Rattle.checker.proofs.Fields.{column-there, column-past}
 
 -- ---- results
 
-pub result-is : (n : Bytes) (t : DataType) → fittingOf (withinLimits t) ≡ checkedOf (resulting n t)
-unfolding resulting demand
-result-is n t = go (withinLimits t)
+pub result-is : (n : Bytes) (t : DataType) → fittingOf (typeFit t 16 16384) ≡ measuredOf true (resulting n t)
+unfolding resulting demand withinLimits fitOf choose
+result-is n t = go (leb (depthOf t) 16 && leb (length (form t)) 16384)
   where
-    go : (b : Bool) → fittingOf b ≡ checkedOf (demand b 32 (gives (column n t)))
+    go : (b : Bool) → fittingOf (choose b (Fit.Within (length (form t)) (depthOf t)) Fit.Over) ≡ measuredOf true (demand b 32 (gives (column n t)))
     go true = refl
     go false = refl
 
-pub cast-no : (t : DataType) (o : CastOption) (a : Column) → castFits (a .type) t o ≡ false → Checked.Refused 32 ≡ checkedOf (checkCast t o a)
+pub cast-no : (t : DataType) (o : CastOption) (a : Column) → castFits (a .type) t o ≡ false → Measured.Refused 32 ≡ measuredOf true (checkCast t o a)
 unfolding checkCast demand
 cast-no t o a e = rw e
 
-pub cast-yes : (t : DataType) (o : CastOption) (a : Column) → castFits (a .type) t o ≡ true → {r : Checked} → r ≡ fittingOf (withinLimits t) → r ≡ checkedOf (checkCast t o a)
+pub cast-yes : (t : DataType) (o : CastOption) (a : Column) → castFits (a .type) t o ≡ true → {r : Measured} → r ≡ fittingOf (typeFit t 16 16384) → r ≡ measuredOf true (checkCast t o a)
 unfolding checkCast demand
 cast-yes t o a e f = rw e (f ∙ result-is (a .name) t)
 
-module _ {A B : Type 0} (x : Result A) (f : A → Result B) where
-  pub bind-refused : {n : ℕ} → checkedOf x ≡ Checked.Refused n → Checked.Refused n ≡ checkedOf (x >>= f)
+module _ {A : Type 0} (x : Result A) (f : A → Result Column) where
+  pub bind-refused : {n : ℕ} → x ≡ refuses n → Measured.Refused n ≡ measuredOf true (x >>= f)
   unfolding _>>=_
-  bind-refused {n} e = go x e
-    where
-      go : (x : Result A) → checkedOf x ≡ Checked.Refused n → Checked.Refused n ≡ checkedOf (x >>= f)
-      go (gives a) e = clash (cc)
-      go (refuses m) e = sym e
+  bind-refused e = rw e
 
-  pub bind-gives : {a : A} {r : Checked} → x ≡ gives a → r ≡ checkedOf (f a) → r ≡ checkedOf (x >>= f)
+  pub bind-gives : {a : A} {r : Measured} → x ≡ gives a → r ≡ measuredOf true (f a) → r ≡ measuredOf true (x >>= f)
   unfolding _>>=_
   bind-gives e g = rw e g
 
-pub passed-gives : {A : Type 0} (x : Result A) → checkedOf x ≡ Checked.Passed → (a : A) × (x ≡ gives a)
-passed-gives (gives a) e = (a, refl)
-passed-gives (refuses n) e = clash (cc)
+pub record PassedAs (b : Bool) (x : Result Column) (z : Size) : Type 0 where
+  pub column : Column
+  pub is : x ≡ gives column
+  pub sized : z ≡ sizeOf b (column .type)
 
--- ---- a rename of what a transform gives
+pub passed-gives : (b : Bool) (x : Result Column) {z : Size} → measuredOf b x ≡ Measured.Passed z → PassedAs b x z
+passed-gives b (gives a) {z} e = record { column = a; is = refl; sized = let q : sizeOf b (a .type) ≡ z = cc in sym q }
+passed-gives b (refuses n) e = clash (cc)
 
-pub renamed-transform : {incoming : Bytes} {v : Edition} {n : ℕ} {plan : Bytes} {x : Walk} {a : Column} {b : Bool} → NamedAt incoming v n plan x a
-    → ((P : SelectorAt plan (x .at)) → b ≡ isTransform (P .tree)) → b ≡ true → (name : Bytes) → Checked.Passed ≡ checkedOf (resulting name (a .type))
-renamed-transform {a = a} N f e name =
-    let h = ap isTransform (sym (N .standing .selector)) ∙ sym (f (N .standing .here)) ∙ e in
-    ap fittingOf (sym (transform-within (N .scope) (N .selector) h (N .passes))) ∙ result-is name (a .type)
+pub refused-refuses : (b : Bool) (x : Result Column) {n : ℕ} → measuredOf b x ≡ Measured.Refused n → x ≡ refuses n
+refused-refuses b (gives a) e = clash (cc)
+refused-refuses b (refuses m) {n} e = ap refuses (let q : m ≡ n = cc in q)
+
+pub dropped-is : (b : Bool) (x : Result Column) → droppedOf (measuredOf b x) ≡ checkedOf x
+dropped-is b (gives a) = refl
+dropped-is b (refuses n) = refl
 
 -- ---- positions
 
@@ -111,11 +115,11 @@ module _ {incoming : Bytes} {v : Edition} {n : ℕ} {plan : Bytes} {w : Walk} {�
   pub scope-parts : {k : TypeHead} → h ≡ k → countOf (headKind incoming plan k) ≡ countFields Δ
   scope-parts {k} e = parts-count (E .type) (ap countOf (sym (H (E .type) (E .resolved) .kind)) ∙ ap (λ (x : TypeHead). countOf (headKind incoming plan x)) e) ∙ ap countFields (E .parts)
 
-pub position-there : (Δ : Fields) (k : ℕ) {c : ℕ} → c ≡ countFields Δ → k < c → Checked.Passed ≡ checkedOf (columnAt Δ k)
-position-there Δ k e h = let (a, q) = column-there Δ k (omega arith) in ap checkedOf (sym q)
+pub position-there : (Δ : Fields) (k : ℕ) {c : ℕ} → c ≡ countFields Δ → k < c → Measured.Passed Size.Unknown ≡ measuredOf false (columnAt Δ k)
+position-there Δ k e h = let (a, q) = column-there Δ k (omega arith) in ap (measuredOf false) (sym q)
 
-pub position-past : (Δ : Fields) (k : ℕ) {c : ℕ} → c ≡ countFields Δ → c ≤ k → Checked.Refused 31 ≡ checkedOf (columnAt Δ k)
-position-past Δ k e h = ap checkedOf (sym (column-past Δ k (omega arith)))
+pub position-past : (Δ : Fields) (k : ℕ) {c : ℕ} → c ≡ countFields Δ → c ≤ k → Measured.Refused 31 ≡ measuredOf false (columnAt Δ k)
+position-past Δ k e h = ap (measuredOf false) (sym (column-past Δ k (omega arith)))
 
 -- ---- a cast's type and option, where the code finds them
 
@@ -133,12 +137,11 @@ module _ {plan : Bytes} {m : ℕ} {t : DataType} {o : CastOption} (K : CastType 
     cast-so : castFits (a .type) t o ≡ b
     cast-so = ap (λ (u : DataType). castFits (a .type) u o) (sym (K .tree)) ∙ ap (λ (q : CastOption). castFits (a .type) (dtypeOf (K .type .tree)) q) (sym (f ∙ K .chosen)) ∙ sym g
 
-    pub cast-refused : b ≡ false → Checked.Refused 32 ≡ checkedOf (checkCast t o a)
+    pub cast-refused : b ≡ false → Measured.Refused 32 ≡ measuredOf true (checkCast t o a)
     cast-refused e = cast-no t o a (cast-so ∙ e)
 
-    pub cast-passed : b ≡ true → {r : Checked} → r ≡ fittingOf (withinLimits t) → r ≡ checkedOf (checkCast t o a)
+    pub cast-passed : b ≡ true → {r : Measured} → r ≡ fittingOf (typeFit t 16 16384) → r ≡ measuredOf true (checkCast t o a)
     cast-passed e h = cast-yes t o a (cast-so ∙ e) h
 
-pub plan-type : {incoming : Bytes} {v : Edition} {n : ℕ} {plan : Bytes} {w : Walk} {c : Cursor} {q : Resolved} {t : DataType} {o : CastOption} → q ≡ record { source = Source.Plan; at = c; walk = w }
-    → CastType plan (c .at) t o → ResolvedAt incoming v n plan q t
-plan-type {incoming} {v} {n} {plan} {t = t} e K = subst (λ (r : Resolved). ResolvedAt incoming v n plan r t) (sym e) (record { stands = record { type = K .type; is = K .tree } })
+pub cast-stands : {plan : Bytes} {m : ℕ} {t : DataType} {o : CastOption} → CastType plan m t o → TypeIs One plan m t
+cast-stands K = record { type = K .type; is = K .tree }

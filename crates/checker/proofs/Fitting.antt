@@ -26,8 +26,9 @@ use Rattle.nodes.specs.declared.types.FormSize.{FormSize}
 use Rattle.direct.specs.Places.{bytesOf, NameAt}
 use Rattle.checker.specs.Standing.{partsOf, PartOf, TypedAt, NamedAt, Made, made-struct, made-list, made-array, MappedAt, ResolvedAt, Resolves, headKind, TypeHeadIs}
 use Rattle.checker.specs.Children.{PassedTo}
-use Rattle.checker.specs.Limits.{fitOf, typeFit, fieldsFit, isWithin}
+use Rattle.checker.specs.Limits.{fitOf, typeFit, fieldsFit, columnFit, aroundOf, joinedOf, addedOf, restFit, Bounded, sizeOf}
 use Rattle.checker.specs.declared.limits.Fit.{Fit}
+use Rattle.checker.specs.declared.limits.Size.{Size}
 use Rattle.direct.specs.declared.place.Name.{Name}
 use Rattle.direct.specs.declared.place.Place.{Place}
 use Rattle.checker.specs.declared.place.TypeHead.{TypeHead}
@@ -49,53 +50,69 @@ module _ (d s l r : ℕ) where
   unfolding fitOf choose
   fit-long h = go (leb d l)
     where
-      go : (b : Bool) → Fit.Over ≡ choose (b && leb s r) (Fit.Left (r - s)) Fit.Over
+      go : (b : Bool) → Fit.Over ≡ choose (b && leb s r) (Fit.Within s d) Fit.Over
       go true = rw (lt-leb s r h)
       go false = refl
 
-  pub fit-left : d ≤ l → s ≤ r → Fit.Left (r - s) ≡ fitOf d s l r
+  pub fit-within : d ≤ l → s ≤ r → Fit.Within s d ≡ fitOf d s l r
   unfolding fitOf choose
-  fit-left h k = rw (le-leb d l h, le-leb s r k)
+  fit-within h k = rw (le-leb d l h, le-leb s r k)
 
-  pub record Fitted (x : ℕ) : Type 0 where
+  pub record Fitted (x y : ℕ) : Type 0 where
     pub deep : d ≤ l
     pub long : s ≤ r
-    pub is : x ≡ r - s
+    pub size : x ≡ s
+    pub depth : y ≡ d
 
   -- the other way
-  pub fits-in : {x : ℕ} → fitOf d s l r ≡ Fit.Left x → Fitted x
+  pub fits-in : {x y : ℕ} → fitOf d s l r ≡ Fit.Within x y → Fitted x y
   unfolding fitOf choose
-  fits-in {x} e = go (leb d l) (leb s r) refl refl e
+  fits-in {x} {y} e = go (leb d l) (leb s r) refl refl e
     where
-      go : (a b : Bool) → leb d l ≡ a → leb s r ≡ b → choose (a && b) (Fit.Left (r - s)) Fit.Over ≡ Fit.Left x → Fitted x
-      go true true p q e = record { deep = leb-true d l p; long = leb-true s r q; is = cc }
+      go : (a b : Bool) → leb d l ≡ a → leb s r ≡ b → choose (a && b) (Fit.Within s d) Fit.Over ≡ Fit.Within x y → Fitted x y
+      go true true p q e = record { deep = leb-true d l p; long = leb-true s r q; size = cc; depth = cc }
       go true false p q e = clash (cc)
       go false b p q e = clash (cc)
 
   pub fits-not : fitOf d s l r ≡ Fit.Over → d ≤ l → s ≤ r → ⊥
-  fits-not e h k = let z : Fit.Left (r - s) ≡ Fit.Over = fit-left h k ∙ e in clash (cc)
+  fits-not e h k = let z : Fit.Within s d ≡ Fit.Over = fit-within h k ∙ e in clash (cc)
 
--- the same bytes are left, by the same tests
-fit-same : (d s l r e t m q : ℕ) → (d ≤ l → s ≤ r → (e ≤ m) × (t ≤ q) × (r - s ≡ q - t)) → (e ≤ m → t ≤ q → (d ≤ l) × (s ≤ r)) → fitOf d s l r ≡ fitOf e t m q
-fit-same d s l r e t m q f g = go (fitOf d s l r) refl (fitOf e t m q) refl
+  pub fit-bounded : {f : Fit} → f ≡ fitOf d s l r → Bounded l r f
+  fit-bounded e x y q = let A = fits-in (sym e ∙ q) in let i = A .size in let j = A .depth in (omega (arith, A .deep), omega (arith, A .long))
+
+-- numbers made of others pass by the same tests
+fit-same : (g : Fit → Fit) (d s l r e t m q : ℕ) → g Fit.Over ≡ Fit.Over → g (Fit.Within s d) ≡ Fit.Within t e → (d ≤ l → s ≤ r → (e ≤ m) × (t ≤ q))
+    → (e ≤ m → t ≤ q → (d ≤ l) × (s ≤ r)) → g (fitOf d s l r) ≡ fitOf e t m q
+fit-same g d s l r e t m q z w f h = go (fitOf d s l r) refl (fitOf e t m q) refl
   where
-    go : (x : Fit) → fitOf d s l r ≡ x → (y : Fit) → fitOf e t m q ≡ y → x ≡ y
-    go (Fit.Left x) p (Fit.Left y) o =
+    go : (x : Fit) → fitOf d s l r ≡ x → (y : Fit) → fitOf e t m q ≡ y → g x ≡ y
+    go (Fit.Within x y) p (Fit.Within i j) o =
         let A = fits-in d s l r p in
         let B = fits-in e t m q o in
-        let C = f (A .deep) (A .long) in
-        ap Fit.Left (A .is ∙ C .2 ∙ sym (B .is))
-    go (Fit.Left x) p Fit.Over o = let A = fits-in d s l r p in let C = f (A .deep) (A .long) in absurd (fits-not e t m q o (C .0) (C .1))
-    go Fit.Over p (Fit.Left y) o = let B = fits-in e t m q o in let C = g (B .deep) (B .long) in absurd (fits-not d s l r p (C .0) (C .1))
-    go Fit.Over p Fit.Over o = refl
+        let a : Fit.Within x y ≡ Fit.Within s d = rw (A .size, A .depth) refl in
+        let b : Fit.Within i j ≡ Fit.Within t e = rw (B .size, B .depth) refl in
+        ap g a ∙ w ∙ sym b
+    go (Fit.Within x y) p Fit.Over o = let A = fits-in d s l r p in let C = f (A .deep) (A .long) in absurd (fits-not e t m q o (C .0) (C .1))
+    go Fit.Over p (Fit.Within i j) o = let B = fits-in e t m q o in let C = h (B .deep) (B .long) in absurd (fits-not d s l r p (C .0) (C .1))
+    go Fit.Over p Fit.Over o = z
 
--- a level less
-pub fit-level : (d s l r : ℕ) → (l ≡ 0 → ⊥) → fitOf d s (l - 1) r ≡ fitOf (suc d) s l r
-fit-level d s l r h = fit-same d s (l - 1) r (suc d) s l r (λ a b. (omega arith, b, refl)) (λ a b. (omega arith, b))
+within-as : {s t d e : ℕ} → s ≡ t → d ≡ e → Fit.Within s d ≡ Fit.Within t e
+within-as p q = rw (p, q) refl
 
--- a head's bytes less
-pub fit-head : (h d s l r : ℕ) → h ≤ r → fitOf d s l (r - h) ≡ fitOf d (h + s) l r
-fit-head h d s l r k = fit-same d s l (r - h) d (h + s) l r (λ a b. (a, omega arith, omega arith)) (λ a b. (a, omega arith))
+fit-as : {d s e t : ℕ} (l r : ℕ) → d ≡ e → s ≡ t → fitOf d s l r ≡ fitOf e t l r
+fit-as l r p q = rw (p, q) refl
+
+-- a head of h bytes
+pub fit-around : (h d s l r : ℕ) → 0 < l → h ≤ r → aroundOf h (fitOf d s (l - 1) (r - h)) ≡ fitOf (d + 1) (h + s) l r
+fit-around h d s l r p k = fit-same (aroundOf h) d s (l - 1) (r - h) (d + 1) (h + s) l r refl refl (λ a b. (omega arith, omega arith)) (λ a b. (omega arith, omega arith))
+
+-- behind b bytes of m levels
+pub fit-joined : (b m d s l r : ℕ) → m ≤ l → b ≤ r → joinedOf b m (fitOf d s l (r - b)) ≡ fitOf (max m d) (b + s) l r
+fit-joined b m d s l r p k = fit-same (joinedOf b m) d s l (r - b) (max m d) (b + s) l r refl refl (λ a c. (omega arith, omega arith)) (λ a c. (omega arith, omega arith))
+
+joined-joined : (a m b n : ℕ) (f : Fit) → joinedOf a m (joinedOf b n f) ≡ joinedOf (a + b) (max m n) f
+joined-joined a m b n (Fit.Within s d) = within-as (omega arith) (omega arith)
+joined-joined a m b n Fit.Over = refl
 
 -- ---- trees
 
@@ -118,22 +135,20 @@ fields-long n t fs =
     ap suc (length-append n (form t ++ formFields fs) ∙ ap (λ (i : ℕ). length n + i) (length-append (form t) (formFields fs))) in
     omega arith
 
-pub fit-struct : (fs : Fields) (l r : ℕ) → (l ≡ 0 → ⊥) → 3 ≤ r → fieldsFit fs (l - 1) (r - 3) ≡ typeFit (struct fs) l r
+pub fit-struct : (fs : Fields) (l r : ℕ) → 0 < l → 3 ≤ r → aroundOf 3 (fieldsFit fs (l - 1) (r - 3)) ≡ typeFit (struct fs) l r
 unfolding depthOf
-fit-struct fs l r h k =
-    fit-head 3 (depthOfFields fs) (length (formFields fs)) (l - 1) r k ∙ fit-level (depthOfFields fs) (3 + length (formFields fs)) l r h
-    ∙ ap (λ (i : ℕ). fitOf (suc (depthOfFields fs)) i l r) (sym (struct-long fs))
+fit-struct fs l r h k = fit-around 3 (depthOfFields fs) (length (formFields fs)) l r h k ∙ fit-as l r (omega arith) (sym (struct-long fs))
 
 pub fit-struct-short : (fs : Fields) (l r : ℕ) → r < 3 → Fit.Over ≡ typeFit (struct fs) l r
 fit-struct-short fs l r h = fit-long (depthOf (struct fs)) (length (form (struct fs))) l r (let e = struct-long fs in omega arith)
 
-pub fit-list : (t : DataType) (l r : ℕ) → (l ≡ 0 → ⊥) → fitOf (depthOf t) (1 + length (form t)) (l - 1) r ≡ typeFit (list t) l r
+pub fit-list : (t : DataType) (l r : ℕ) → fitOf (depthOf t + 1) (1 + length (form t)) l r ≡ typeFit (list t) l r
 unfolding depthOf
-fit-list t l r h = fit-level (depthOf t) (1 + length (form t)) l r h ∙ ap (λ (i : ℕ). fitOf (suc (depthOf t)) i l r) (sym (list-long t))
+fit-list t l r = fit-as l r (omega arith) (sym (list-long t))
 
-pub fit-array : (w : ℕ) (t : DataType) (l r : ℕ) → (l ≡ 0 → ⊥) → fitOf (depthOf t) (5 + length (form t)) (l - 1) r ≡ typeFit (array w t) l r
+pub fit-array : (w : ℕ) (t : DataType) (l r : ℕ) → fitOf (depthOf t + 1) (5 + length (form t)) l r ≡ typeFit (array w t) l r
 unfolding depthOf
-fit-array w t l r h = fit-level (depthOf t) (5 + length (form t)) l r h ∙ ap (λ (i : ℕ). fitOf (suc (depthOf t)) i l r) (sym (array-long w t))
+fit-array w t l r = fit-as l r (omega arith) (sym (array-long w t))
 
 -- every type has a level
 depth-some : (t : DataType) → 0 < depthOf t
@@ -146,64 +161,91 @@ depth-some (array w t) = omega arith
 pub fit-none : (t : DataType) (l r : ℕ) → l ≡ 0 → Fit.Over ≡ typeFit t l r
 fit-none t l r h = fit-deep (depthOf t) (length (form t)) l r (let z = depth-some t in omega arith)
 
--- a field's name, its type, and the fields behind it
-module _ (n : Bytes) (t : DataType) (fs : Fields) (l r : ℕ) where
-  pub fit-name : r ≤ length n → Fit.Over ≡ fieldsFit (fcons n t fs) l r
-  fit-name h = fit-long (depthOfFields (fcons n t fs)) (length (formFields (fcons n t fs))) l r (let e = fields-long n t fs in omega arith)
+-- a field's name and its type
+module _ (n d s l r : ℕ) where
+  pub fit-name : n < r → joinedOf (n + 1) 0 (fitOf d s l (r - n - 1)) ≡ fitOf d (n + 1 + s) l r
+  fit-name h = fit-same (joinedOf (n + 1) 0) d s l (r - n - 1) d (n + 1 + s) l r refl (within-as refl (omega arith)) (λ a b. (a, omega arith)) (λ a b. (a, omega arith))
 
-  pub fit-field : {x : ℕ} → length n < r → typeFit t l (r - length n - 1) ≡ Fit.Left x → fieldsFit (fcons n t fs) l r ≡ fieldsFit fs l x
+  pub fit-name-long : r ≤ n → Fit.Over ≡ fitOf d (n + 1 + s) l r
+  fit-name-long h = fit-long d (n + 1 + s) l r (omega arith)
+
+-- and the fields behind it
+module _ (a : Column) (fs : Fields) (l r : ℕ) where
+  fields-as : fitOf (max (depthOf (a .type)) (depthOfFields fs)) (length (a .name) + 1 + length (form (a .type)) + length (formFields fs)) l r
+      ≡ fieldsFit (fcons (a .name) (a .type) fs) l r
   unfolding depthOfFields
-  fit-field {x} h e =
+  fields-as = let z = fields-long (a .name) (a .type) fs in fit-as l r refl (omega arith)
+
+  pub fit-field : {s d : ℕ} → columnFit a l r ≡ Fit.Within s d → fieldsFit (fcons (a .name) (a .type) fs) l r ≡ joinedOf s d (fieldsFit fs l (r - s))
+  fit-field {s} {d} e =
       let A = fits-in _ _ _ _ e in
-      let z = fields-long n t fs in
-      let a = A .deep in
-      let b = A .long in
-      let c = A .is in
-      fit-same (max (depthOf t) (depthOfFields fs)) (length (formFields (fcons n t fs))) l r (depthOfFields fs) (length (formFields fs)) l x
-      (λ p q. (omega arith, omega arith, omega arith)) (λ p q. (omega arith, omega arith))
+      let i = A .size in
+      let j = A .depth in
+      sym fields-as ∙ fit-as l r (omega arith) (omega arith)
+      ∙ sym (fit-joined s d (depthOfFields fs) (length (formFields fs)) l r (omega (arith, A .deep)) (omega (arith, A .long)))
 
-  pub fit-field-over : length n < r → typeFit t l (r - length n - 1) ≡ Fit.Over → Fit.Over ≡ fieldsFit (fcons n t fs) l r
-  unfolding depthOfFields
-  fit-field-over h e = go (fieldsFit (fcons n t fs) l r) refl
+  pub fit-field-over : columnFit a l r ≡ Fit.Over → Fit.Over ≡ fieldsFit (fcons (a .name) (a .type) fs) l r
+  fit-field-over e = go (fitOf (max (depthOf (a .type)) (depthOfFields fs)) (length (a .name) + 1 + length (form (a .type)) + length (formFields fs)) l r) refl ∙ fields-as
     where
-      go : (y : Fit) → fitOf (max (depthOf t) (depthOfFields fs)) (length (formFields (fcons n t fs))) l r ≡ y → Fit.Over ≡ y
-      go Fit.Over p = refl
-      go (Fit.Left y) p =
-          let B = fits-in _ _ _ _ p in
-          let z = fields-long n t fs in
-          let a = B .deep in
-          let b = B .long in
-          absurd (fits-not _ _ _ _ e (omega arith) (omega arith))
+      go : (y : Fit) → fitOf (max (depthOf (a .type)) (depthOfFields fs)) (length (a .name) + 1 + length (form (a .type)) + length (formFields fs)) l r ≡ y
+          → Fit.Over ≡ fitOf (max (depthOf (a .type)) (depthOfFields fs)) (length (a .name) + 1 + length (form (a .type)) + length (formFields fs)) l r
+      go Fit.Over p = sym p
+      go (Fit.Within x y) p = let B = fits-in _ _ _ _ p in absurd (fits-not _ _ _ _ e (omega (arith, B .deep)) (omega (arith, B .long)))
 
-pub fit-no-fields : (l r : ℕ) → Fit.Left r ≡ fieldsFit fnil l r
-unfolding depthOfFields formFields
-fit-no-fields l r = ap Fit.Left (let e : r ≡ r - 0 = omega arith in e) ∙ fit-left 0 0 l r (omega arith) (omega arith)
+-- the fields so far and the others
+module _ (l r : ℕ) where
+  pub rest-start : (fs : Fields) → restFit l r (Fit.Within 0 0) fs ≡ fieldsFit fs l r
+  rest-start fs = fit-joined 0 0 (depthOfFields fs) (length (formFields fs)) l r (omega arith) (omega arith) ∙ fit-as l r (omega arith) (omega arith)
+
+  pub rest-none : (f : Fit) → restFit l r f fnil ≡ f
+  unfolding depthOfFields formFields
+  rest-none (Fit.Within s d) = ap (joinedOf s d) (sym (fit-within 0 0 l (r - s) (omega arith) (omega arith))) ∙ within-as (omega arith) (omega arith)
+  rest-none Fit.Over = refl
+
+  module _ (a : Column) where
+    pub rest-more : (f : Fit) (fs : Fields) → restFit l r f (fcons (a .name) (a .type) fs) ≡ restFit l r (addedOf l r f a) fs
+    rest-more (Fit.Within s d) fs = go (columnFit a l (r - s)) refl
+      where
+        go : (x : Fit) → columnFit a l (r - s) ≡ x → joinedOf s d (fieldsFit (fcons (a .name) (a .type) fs) l (r - s)) ≡ restFit l r (joinedOf s d x) fs
+        go (Fit.Within x y) e =
+            let z : r - s - x ≡ r - (s + x) = omega arith in
+            ap (joinedOf s d) (fit-field a fs l (r - s) e) ∙ joined-joined s d x y (fieldsFit fs l (r - s - x))
+            ∙ ap (λ (i : ℕ). joinedOf (s + x) (max d y) (fieldsFit fs l i)) z
+        go Fit.Over e = ap (joinedOf s d) (sym (fit-field-over a fs l (r - s) e))
+    rest-more Fit.Over fs = refl
+
+    pub added-bounded : (f : Fit) → Bounded l r f → Bounded l r (addedOf l r f a)
+    added-bounded (Fit.Within s d) B = go (columnFit a l (r - s)) refl
+      where
+        go : (x : Fit) → columnFit a l (r - s) ≡ x → Bounded l r (joinedOf s d x)
+        go (Fit.Within x y) e i j q =
+            let A = fits-in _ _ _ _ e in
+            let (m, n) = B s d refl in
+            let b : s + x ≡ i = cc in
+            let c : max d y ≡ j = cc in
+            let u = A .size in
+            let v = A .depth in
+            (omega (arith, A .deep), omega (arith, A .long))
+        go Fit.Over e i j q = clash (cc)
+    added-bounded Fit.Over B = B
+
+-- what is behind others, with them
+pub joined-is : (b m : ℕ) {s d i : ℕ} {f : Fit} → i ≡ max m d → f ≡ Fit.Within s d → Fit.Within (b + s) i ≡ joinedOf b m f
+joined-is b m p e = within-as refl p ∙ sym (ap (joinedOf b m) e)
+
+-- a sum that stays within the bytes
+pub bounded-sum : {l b : ℕ} (r : ℕ) {f : Fit} → Bounded l (r - b) f → b ≤ r → (size deep : ℕ) → f ≡ Fit.Within size deep → b + size ≤ r
+bounded-sum r B h s d e = let (m, n) = B s d e in omega arith
 
 -- ---- raw_fit
-
-module _ {t : DataType} {end : ℕ} {z : FormSize} (Z : SizeOf t end z) (l r : ℕ) where
-  pub raw-deep : l < z .deep → Fit.Over ≡ typeFit t l r
-  raw-deep h = fit-deep (depthOf t) (length (form t)) l r (let e = Z .deep in omega arith)
-
-  pub raw-long : r < z .size → Fit.Over ≡ typeFit t l r
-  raw-long h = fit-long (depthOf t) (length (form t)) l r (let e = Z .size in omega arith)
-
-  pub raw-left : z .deep ≤ l → z .size ≤ r → Fit.Left (r - z .size) ≡ typeFit t l r
-  raw-left h k = ap (λ (i : ℕ). Fit.Left (r - i)) (Z .size) ∙ fit-left (depthOf t) (length (form t)) l r (let e = Z .deep in omega arith) (let e = Z .size in omega arith)
 
 -- by the type's other name
 pub sized-as : {v : Edition} {s : Bytes} {at : ℕ} {t : DataType} (T : TypeIs v s at t) {z : FormSize} → SizeOf (dtypeOf (T .type .tree)) (T .type .end) z → SizeOf t (T .type .end) z
 sized-as T {z} Z = subst (λ (u : DataType). SizeOf u (T .type .end) z) (T .is) Z
 
--- ---- within_limits
-
-pub limits-are : (t : DataType) {f : Fit} → f ≡ typeFit t 16 16384 → isWithin f ≡ withinLimits t
-unfolding fitOf withinLimits choose
-limits-are t {f} e = ap isWithin e ∙ go (leb (depthOf t) 16 && leb (length (form t)) 16384)
-  where
-    go : (b : Bool) → isWithin (choose b (Fit.Left (16384 - length (form t))) Fit.Over) ≡ b
-    go true = refl
-    go false = refl
+pub raw-is : {v : Edition} {s : Bytes} {at : ℕ} {t : DataType} (T : TypeIs v s at t) {z : FormSize} → SizeOf (dtypeOf (T .type .tree)) (T .type .end) z → (l r : ℕ) {f : Fit}
+    → f ≡ fitOf (z .deep) (z .size) l r → f ≡ typeFit t l r
+raw-is T Z l r e = let S = sized-as T Z in e ∙ fit-as l r (S .deep) (S .size)
 
 -- ---- mapped_fit
 
@@ -274,13 +316,16 @@ module _ {incoming plan : Bytes} {t : DataType} {h : TypeHead} (H : TypeHeadIs i
     c,
   )
 
-  pub struct-fits : {v : Edition} {m : ℕ} {q : Resolved} {n : ℕ} {f : Fit} (l r : ℕ) → ResolvedAt incoming v m plan q t → q .source ≡ Source.Mapped
-      → h ≡ TypeHead.Struct n → (l ≡ 0 → ⊥) → 3 ≤ r
-      → ((fs : Fields) → MappedAt incoming v m plan (q .walk) (struct fs) → countFields fs ≡ n → f ≡ fieldsFit fs (l - 1) (r - 3)) → f ≡ typeFit t l r
-  struct-fits {v} {m} {q} l r R y e z k g =
-      let (fs, (p, c)) = is-struct e in
-      g fs (subst (λ (u : DataType). MappedAt incoming v m plan (q .walk) u) p (from-mapping R y)) c ∙ fit-struct fs l r z k
-      ∙ ap (λ (u : DataType). typeFit u l r) (sym p)
+  module _ {v : Edition} {m : ℕ} {q : Resolved} {n : ℕ} {f : Fit} (l r : ℕ) (R : ResolvedAt incoming v m plan q t) (y : q .source ≡ Source.Mapped) (e : h ≡ TypeHead.Struct n)
+      (g : (fs : Fields) → MappedAt incoming v m plan (q .walk) (struct fs) → countFields fs ≡ n → f ≡ fieldsFit fs (l - 1) (r - 3)) where
+    struct-fields : f ≡ fieldsFit (is-struct e .0) (l - 1) (r - 3)
+    struct-fields = let (fs, (p, c)) = is-struct e in g fs (subst (λ (u : DataType). MappedAt incoming v m plan (q .walk) u) p (from-mapping R y)) c
+
+    pub struct-bounded : Bounded (l - 1) (r - 3) f
+    struct-bounded = let fs = is-struct e .0 in fit-bounded (depthOfFields (is-struct e .0)) (length (formFields (is-struct e .0))) (l - 1) (r - 3) struct-fields
+
+    pub struct-fits : {x : Fit} → x ≡ aroundOf 3 f → 0 < l → 3 ≤ r → x ≡ typeFit t l r
+    struct-fits o z k = let (fs, (p, c)) = is-struct e in o ∙ ap (aroundOf 3) struct-fields ∙ fit-struct (is-struct e .0) l r z k ∙ ap (λ (u : DataType). typeFit u l r) (sym p)
 
   module _ {v : Edition} {m : ℕ} {q : Resolved} (R : ResolvedAt incoming v m plan q t) where
     pub list-asks : h ≡ TypeHead.List → (u : DataType) × (a : Column) × ResolvedAt incoming v m plan q u × PartOf u 0 a
@@ -289,19 +334,19 @@ module _ {incoming plan : Bytes} {t : DataType} {h : TypeHead} (H : TypeHeadIs i
     pub array-asks : {w : ℕ} → h ≡ TypeHead.Array w → (u : DataType) × (a : Column) × ResolvedAt incoming v m plan q u × PartOf u 0 a
     array-asks {w} e = let (u, p) = is-array e in (t, column [] u, R, subst (λ (y : DataType). PartOf y 0 (column [] u)) (sym p) (array-element-part w u))
 
-    pub list-fits : {f : Fit} (l r : ℕ) → h ≡ TypeHead.List → (l ≡ 0 → ⊥)
-        → ((u : DataType) (a : Column) → ResolvedAt incoming v m plan q u → PartOf u 0 a → f ≡ fitOf (depthOf (a .type)) (1 + length (form (a .type))) (l - 1) r) → f ≡ typeFit t l r
-    list-fits l r e z g =
+    pub list-fits : {f : Fit} (l r : ℕ) → h ≡ TypeHead.List
+        → ((u : DataType) (a : Column) → ResolvedAt incoming v m plan q u → PartOf u 0 a → f ≡ fitOf (depthOf (a .type) + 1) (1 + length (form (a .type))) l r) → f ≡ typeFit t l r
+    list-fits l r e g =
         let (u, p) = is-list e in
-        g t (column [] u) R (subst (λ (y : DataType). PartOf y 0 (column [] u)) (sym p) (element-part u)) ∙ fit-list u l r z ∙ ap (λ (y : DataType). typeFit y l r) (sym p)
+        g t (column [] u) R (subst (λ (y : DataType). PartOf y 0 (column [] u)) (sym p) (element-part u)) ∙ fit-list u l r ∙ ap (λ (y : DataType). typeFit y l r) (sym p)
 
-    pub array-fits : {f : Fit} {w : ℕ} (l r : ℕ) → h ≡ TypeHead.Array w → (l ≡ 0 → ⊥)
-        → ((u : DataType) (a : Column) → ResolvedAt incoming v m plan q u → PartOf u 0 a → f ≡ fitOf (depthOf (a .type)) (5 + length (form (a .type))) (l - 1) r) → f ≡ typeFit t l r
-    array-fits {w = w} l r e z g =
+    pub array-fits : {f : Fit} {w : ℕ} (l r : ℕ) → h ≡ TypeHead.Array w
+        → ((u : DataType) (a : Column) → ResolvedAt incoming v m plan q u → PartOf u 0 a → f ≡ fitOf (depthOf (a .type) + 1) (5 + length (form (a .type))) l r) → f ≡ typeFit t l r
+    array-fits {w = w} l r e g =
         let (u, p) = is-array e in
-        g t (column [] u) R (subst (λ (y : DataType). PartOf y 0 (column [] u)) (sym p) (array-element-part w u)) ∙ fit-array w u l r z ∙ ap (λ (y : DataType). typeFit y l r) (sym p)
+        g t (column [] u) R (subst (λ (y : DataType). PartOf y 0 (column [] u)) (sym p) (array-element-part w u)) ∙ fit-array w u l r ∙ ap (λ (y : DataType). typeFit y l r) (sym p)
 
--- ---- fields_fit
+-- ---- the fields of a struct
 
 unfoldable pub dropFields : ℕ → Fields → Fields
 dropFields zero fs = fs
@@ -327,25 +372,58 @@ name-long {incoming} {plan} {m} {b} N =
     let i = N .inside in
     sym (length-take-le (m .span .len) (drop (m .span .start) (bytesOf incoming plan (m .place))) (let e = length-drop (m .span .start) (bytesOf incoming plan (m .place)) in omega arith)) ∙ ap length (N .is)
 
-pub record Fitting (incoming : Bytes) (v : Edition) (n : ℕ) (plan : Bytes) (w : Walk) (count levels room at left k : ℕ) : Type 0 where
+-- what is known of a type
+size-known : (b : Bool) (t : DataType) {z : Size} {x y : ℕ} → z ≡ sizeOf b t → z ≡ Size.Is x y → (x ≡ length (form t)) × (y ≡ depthOf t)
+size-known true t {x = x} {y = y} e f = let q : Size.Is (length (form t)) (depthOf t) ≡ Size.Is x y = sym e ∙ f in (sym (let a : length (form t) ≡ x = cc in a), sym (let a : depthOf t ≡ y = cc in a))
+size-known false t {x = x} {y = y} e f = let q : Size.Unknown ≡ Size.Is x y = sym e ∙ f in clash (cc)
+
+pub sized-is : (b : Bool) (t : DataType) (l r : ℕ) {z : Size} {x y : ℕ} {f : Fit} → z ≡ sizeOf b t → z ≡ Size.Is x y → f ≡ fitOf y x l r → f ≡ typeFit t l r
+sized-is b t l r e g h = let (p, q) = size-known b t e g in h ∙ fit-as l r q p
+
+-- ---- column_fit
+
+module _ {incoming plan : Bytes} {m : Name} (a : Column) (N : NameAt incoming plan m (a .name)) (l r : ℕ) where
+  pub column-over : r ≤ m .span .len → Fit.Over ≡ columnFit a l r
+  column-over h = fit-name-long (length (a .name)) (depthOf (a .type)) (length (form (a .type))) l r (let e = name-long N in omega arith)
+
+  pub column-fits : m .span .len < r → {f x : Fit} → f ≡ typeFit (a .type) l (r - m .span .len - 1) → x ≡ joinedOf (m .span .len + 1) 0 f → x ≡ columnFit a l r
+  column-fits h e g =
+      let z = name-long N in
+      g ∙ ap (joinedOf (m .span .len + 1) 0) e ∙ fit-name (m .span .len) (depthOf (a .type)) (length (form (a .type))) l r h
+      ∙ fit-as l r refl (omega arith)
+
+-- ---- fields_fit
+
+pub record Fitting (incoming : Bytes) (v : Edition) (n : ℕ) (plan : Bytes) (w : Walk) (count levels room at size deep k : ℕ) : Type 0 where
   pub some : Fields
   pub start : MappedAt incoming v n plan w (struct some)
   pub counted : countFields some ≡ count
   pub within : k ≤ count
+  pub small : size ≤ room
   pub passed : PassedTo plan (w .at) k at
   pub keeps : (fs : Fields) → MappedAt incoming v n plan w (struct fs) → countFields fs ≡ count
-      → fieldsFit fs levels room ≡ fieldsFit (dropFields k fs) levels left
+      → fieldsFit fs levels room ≡ restFit levels room (Fit.Within size deep) (dropFields k fs)
 
 module _ {incoming : Bytes} {v : Edition} {n : ℕ} {plan : Bytes} {w : Walk} {count levels room : ℕ} where
   pub fitting-start : {fs : Fields} {at : ℕ} → MappedAt incoming v n plan w (struct fs) → countFields fs ≡ count → PassedTo plan (w .at) 0 at
-      → Fitting incoming v n plan w count levels room at room 0
+      → Fitting incoming v n plan w count levels room at 0 0 0
   unfolding dropFields
-  fitting-start {fs} M e B = record { some = fs; start = M; counted = e; within = omega arith; passed = B; keeps = λ gs S c. refl }
+  fitting-start {fs} M e B = record {
+    some = fs;
+    start = M;
+    counted = e;
+    within = omega arith;
+    small = omega arith;
+    passed = B;
+    keeps = λ gs S c. sym (rest-start levels room gs);
+  }
 
-  module _ {at left k : ℕ} (O : Fitting incoming v n plan w count levels room at left k) where
-    pub fitting-end : count ≤ k → (fs : Fields) → MappedAt incoming v n plan w (struct fs) → countFields fs ≡ count → Fit.Left left ≡ fieldsFit fs levels room
+  module _ {at size deep k : ℕ} (O : Fitting incoming v n plan w count levels room at size deep k) where
+    pub fitting-end : count ≤ k → (fs : Fields) → MappedAt incoming v n plan w (struct fs) → countFields fs ≡ count
+        → Fit.Within size deep ≡ fieldsFit fs levels room
     fitting-end h fs M c =
-        fit-no-fields levels left ∙ ap (λ (gs : Fields). fieldsFit gs levels left) (sym (drop-all fs k (omega arith))) ∙ sym (O .keeps fs M c)
+        sym (rest-none levels room (Fit.Within size deep)) ∙ ap (λ (gs : Fields). restFit levels room (Fit.Within size deep) gs) (sym (drop-all fs k (omega arith)))
+        ∙ sym (O .keeps fs M c)
 
     module _ (h : k < count) {x : Walk} (g : ChildAt w k at x) where
       below : k < countFields (O .some)
@@ -354,63 +432,47 @@ module _ {incoming : Bytes} {v : Edition} {n : ℕ} {plan : Bytes} {w : Walk} {c
       pub fitting-asks : (a : Column) × NamedAt incoming v n plan x a
       fitting-asks = let (a, e) = column-there (O .some) k below in (a, made-named (O .start) (O .passed) below g (O .start) e)
 
-      pub fitting-typed : (t : DataType) × TypedAt incoming v n plan x t
-      fitting-typed = let (a, N) = fitting-asks in (a .type, named-typed N)
-
-      module _ {m : Name} (N : (a : Column) → NamedAt incoming v n plan x a → NameAt incoming plan m (a .name)) where
+      module _ {f : Fit} (F : (b : Bool) (a : Column) → NamedAt incoming v n plan x a → Size.Unknown ≡ sizeOf b (a .type) → f ≡ columnFit a levels (room - size)) where
         -- the field k of any reading of the type
         record Here (fs : Fields) : Type 0 where
           field : Column
-          named : NamedAt incoming v n plan x field
-          long : m .span .len ≡ length (field .name)
-          is : fieldsFit fs levels room ≡ fieldsFit (fcons (field .name) (field .type) (dropFields (suc k) fs)) levels left
+          fits : f ≡ columnFit field levels (room - size)
+          is : fieldsFit fs levels room ≡ restFit levels room (joinedOf size deep f) (dropFields (suc k) fs)
 
         here : (fs : Fields) → MappedAt incoming v n plan w (struct fs) → countFields fs ≡ count → Here fs
         here fs M c =
             let (a, e) = column-there fs k (omega arith) in
-            let A = made-named (O .start) (O .passed) below g M e in
+            let p = F false a (made-named (O .start) (O .passed) below g M e) refl in
             record {
               field = a;
-              named = A;
-              long = name-long (N a A);
-              is = O .keeps fs M c ∙ ap (λ (gs : Fields). fieldsFit gs levels left) (drop-next fs k e);
+              fits = p;
+              is = O .keeps fs M c ∙ ap (λ (gs : Fields). restFit levels room (Fit.Within size deep) gs) (drop-next fs k e)
+                  ∙ rest-more levels room a (Fit.Within size deep) (dropFields (suc k) fs)
+                  ∙ ap (λ (y : Fit). restFit levels room (joinedOf size deep y) (dropFields (suc k) fs)) (sym p);
             }
 
-        pub fitting-named : left ≤ m .span .len → (fs : Fields) → MappedAt incoming v n plan w (struct fs) → countFields fs ≡ count
+        pub fitting-over : f ≡ Fit.Over → (fs : Fields) → MappedAt incoming v n plan w (struct fs) → countFields fs ≡ count
             → Fit.Over ≡ fieldsFit fs levels room
-        fitting-named q fs M c = let H = here fs M c in let e = H .long in fit-name (H .field .name) (H .field .type) (dropFields (suc k) fs) levels left
-            (omega arith) ∙ sym (H .is)
+        fitting-over e fs M c =
+            let H = here fs M c in ap (λ (y : Fit). restFit levels room (joinedOf size deep y) (dropFields (suc k) fs)) (sym e) ∙ sym (H .is)
 
-        module _ (q : m .span .len < left) {p : Resolved} (T : (t : DataType) → TypedAt incoming v n plan x t → Resolves incoming v n plan x t p) where
-          part-resolved : {fs : Fields} (H : Here fs) → ResolvedAt incoming v n plan p (H .field .type)
-          part-resolved H = T (H .field .type) (named-typed (H .named)) .resolved
+        module _ {s d : ℕ} (e : f ≡ Fit.Within s d) where
+          pub fitting-small : size + s ≤ room
+          fitting-small = let H = here (O .some) (O .start) (O .counted) in bounded-sum room (fit-bounded _ _ _ _ (H .fits)) (O .small) s d e
 
-          pub fitting-part : (t : DataType) × ResolvedAt incoming v n plan p t
-          fitting-part = (_, part-resolved (here (O .some) (O .start) (O .counted)))
-
-          module _ {f : Fit} (F : (t : DataType) → ResolvedAt incoming v n plan p t → f ≡ typeFit t levels (left - m .span .len - 1)) where
-            fit-here : {fs : Fields} (H : Here fs) → f ≡ typeFit (H .field .type) levels (left - length (H .field .name) - 1)
-            fit-here H = F (H .field .type) (part-resolved H) ∙ ap (λ (i : ℕ). typeFit (H .field .type) levels (left - i - 1)) (H .long)
-
-            pub fitting-over : f ≡ Fit.Over → (fs : Fields) → MappedAt incoming v n plan w (struct fs) → countFields fs ≡ count
-                → Fit.Over ≡ fieldsFit fs levels room
-            fitting-over e fs M c =
+          pub fitting-more : {m i : ℕ} → m ≡ size + s → i ≡ max deep d → {y : ℕ} → ((P : SelectorAt plan at) → y ≡ P .end)
+              → Fitting incoming v n plan w count levels room y m i (k + 1)
+          fitting-more {m} {i} p q t = record {
+            some = O .some;
+            start = O .start;
+            counted = O .counted;
+            within = omega arith;
+            small = let z = fitting-small in omega arith;
+            passed = made-more (O .start) (O .passed) below t;
+            keeps = λ fs M c.
                 let H = here fs M c in
-                let z = H .long in
-                fit-field-over (H .field .name) (H .field .type) (dropFields (suc k) fs) levels left (omega arith) (sym (fit-here H) ∙ e) ∙ sym (H .is)
-
-            pub fitting-more : {y : ℕ} → f ≡ Fit.Left y → {d : ℕ} → ((P : SelectorAt plan at) → d ≡ P .end)
-                → Fitting incoming v n plan w count levels room d y (k + 1)
-            fitting-more {y} e s = record {
-              some = O .some;
-              start = O .start;
-              counted = O .counted;
-              within = omega arith;
-              passed = made-more (O .start) (O .passed) below s;
-              keeps = λ fs M c.
-                  let H = here fs M c in
-                  let z = H .long in
-                  let i : suc k ≡ k + 1 = omega arith in
-                  H .is ∙ fit-field (H .field .name) (H .field .type) (dropFields (suc k) fs) levels left (omega arith) (sym (fit-here H) ∙ e)
-                  ∙ ap (λ (j : ℕ). fieldsFit (dropFields j fs) levels y) i;
-            }
+                let z : suc k ≡ k + 1 = omega arith in
+                H .is ∙ ap (λ (y : Fit). restFit levels room (joinedOf size deep y) (dropFields (suc k) fs)) e
+                ∙ ap (λ (y : Fit). restFit levels room y (dropFields (suc k) fs)) (within-as (sym p) (sym q))
+                ∙ ap (λ (j : ℕ). restFit levels room (Fit.Within m i) (dropFields j fs)) z;
+          }

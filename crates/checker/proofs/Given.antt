@@ -1,18 +1,17 @@
 -- What a selector that passed the check gives, by its kind. Assumes nothing.
 use Prim.Native.Nat.{ℕ, zero, suc, _<_}
 use mathlib.Core.Path.{_≡_, refl, sym, ap, _∙_}
-use mathlib.Core.Bool.{true, true≢false}
+use mathlib.Core.Bool.{true}
 use native.Mathlib.Omega.{arith}
 use Rattle.layout.specs.Bytes.{Bytes}
 use Rattle.layout.specs.Tree.{DataType, struct, list, array, Fields, fnil, fcons, countFields}
 use Rattle.rules.specs.declared.outcome.CastOption.{CastOption}
 use Rattle.plan.specs.Result.{gives}
-use Rattle.plan.specs.Selector.{Selector, position, constant, cast, rename, structMapping, listMapping, arrayMapping, Selectors, snil, scons, countSelectors}
+use Rattle.plan.specs.Selector.{Selector, cast, rename, structMapping, listMapping, arrayMapping, Selectors, snil, scons, countSelectors}
 use Rattle.plan.specs.Check.{Column, column, columnAt, elementOf, castFits, withinLimits, resulting, checkCast, checkRename, checkStruct, checkList, checkArray, typeOf, typesOf}
 use Rattle.plan.specs.Reach.{SelectorAt as Nth, s-here, s-there}
 use Rattle.plan.proofs.Results.{never-refused, gives-eq, bind-gives, demand-gives}
 use Rattle.plan.proofs.Typed.{struct-is, list-is, array-is}
-use Rattle.checker.specs.Checking.{isTransform}
 
 -- a result within the limits
 resulting-is : (n : Bytes) (t : DataType) {c : Column} → resulting n t ≡ gives c → (withinLimits t ≡ true) × (column n t ≡ c)
@@ -105,22 +104,6 @@ module _ {Δ : Fields} {s : Selector} {c : Column} where
       let (d, p₂, q) = bind-gives _ _ q in
       let (b, r) = resulting-is _ _ q in
       record { input = a; passes = p; width = u .width; from = u .element; kind = array-is _ p₁; element = d; part = p₂; limits = b; is = sym r }
-
--- what a transform gives is within the limits
-pub transform-within : (Δ : Fields) (s : Selector) {c : Column} → isTransform s ≡ true → typeOf Δ s ≡ gives c → withinLimits (c .type) ≡ true
-transform-within Δ s {c} h e = go s h e
-  where
-    held : {d : Column} → c ≡ d → withinLimits (d .type) ≡ true → withinLimits (c .type) ≡ true
-    held p q = ap (λ (d : Column). withinLimits (d .type)) p ∙ q
-
-    go : (s : Selector) → isTransform s ≡ true → typeOf Δ s ≡ gives c → withinLimits (c .type) ≡ true
-    go (position k) h e = absurd (true≢false (sym h))
-    go (constant n t v) h e = absurd (true≢false (sym h))
-    go (cast i t o) h e = let G = cast-gives e in held (G .is) (G .limits)
-    go (rename i n) h e = let G = rename-gives e in held (G .is) (G .limits)
-    go (structMapping i ss) h e = let G = struct-gives e in held (G .is) (G .limits)
-    go (listMapping i d) h e = let G = list-gives e in held (G .is) (G .limits)
-    go (arrayMapping i d) h e = let G = array-gives e in held (G .is) (G .limits)
 
 -- ---- the parts of a struct mapping
 

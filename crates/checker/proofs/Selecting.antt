@@ -11,7 +11,9 @@ use Rattle.layout.specs.declared.bytes.Span.{Span}
 use Rattle.layout.specs.declared.columns.Position.{Position}
 use Rattle.layout.specs.declared.cursor.Cursor.{Cursor}
 use Rattle.layout.specs.declared.edition.Edition.{Edition}
-use Rattle.forms.specs.Form.{headOf}
+use lib.ListN.{length}
+use Rattle.forms.specs.Form.{form, headOf}
+use Rattle.forms.specs.Readable.{depthOf}
 use Rattle.plan.specs.Result.{Result, gives, refuses, _>>=_}
 use Rattle.rules.specs.declared.outcome.CastOption.{CastOption}
 use Rattle.plan.specs.Selector.{Selector, position, constant, cast, rename, structMapping, listMapping, arrayMapping, Selectors, snil, scons, countSelectors, nesting}
@@ -29,21 +31,22 @@ use Rattle.walk.proofs.Heads.{is-position, is-constant}
 use Rattle.walk.proofs.Standing.{walk-small}
 use Rattle.checker.specs.Shallow.{Shallow}
 use Rattle.checker.specs.Same.{codeOf}
-use Rattle.checker.specs.Standing.{headKind, TypeHeadIs, made-struct, made-list, made-array, MappedAt, ResolvedAt, ScopedAt}
+use Rattle.checker.specs.Standing.{headKind, TypeHeadIs, TypedAt, NamedAt, ScopedAt}
 use Rattle.checker.specs.Children.{PartStands, PassedTo}
-use Rattle.checker.specs.Checking.{checkedOf, fittingOf, isTransform, CheckingAt, PassedInput, nothingLeft, fieldsLeft, listedLeft, arrayedLeft, restAnswer, RestIs, MappingAt, Elements, of-list, of-array, fieldsResult, elementResult}
-use Rattle.checker.specs.declared.selector.Checked.{Checked}
+use Rattle.checker.specs.Limits.{fitOf, typeFit, aroundOf, addedOf, restFit, Bounded, sizeOf}
+use Rattle.checker.specs.Checking.{measuredOf, fittingOf, isTransform, CheckingAt, PassedInput, nothingLeft, fieldsLeft, listedLeft, arrayedLeft, restAnswer, RestIs, MappingAt, Elements, of-list, of-array, fieldsResult, elementResult}
+use Rattle.checker.specs.declared.limits.Fit.{Fit}
+use Rattle.checker.specs.declared.limits.Size.{Size}
+use Rattle.checker.specs.declared.selector.Measured.{Measured}
 use Rattle.checker.specs.declared.selector.Rest.{Rest}
 use Rattle.checker.specs.declared.place.TypeHead.{TypeHead}
-use Rattle.checker.specs.declared.resolve.Source.{Source}
-use Rattle.checker.specs.declared.resolve.Resolved.{Resolved}
 use Rattle.checker.proofs.Room.{cast-shallow, rename-shallow, struct-shallow, list-shallow, array-shallow, field-shallow, element-shallow, array-element-shallow, entries-count}
-use Rattle.checker.proofs.Resolving.{selected}
+use Rattle.checker.proofs.Resolving.{selected, named-typed}
 use Rattle.checker.proofs.Making.{nth-there}
 use Rattle.checker.proofs.Children.{ChildAt, part-stands, passed-more}
-use Rattle.checker.proofs.Checks.{result-is, bind-refused, bind-gives, passed-gives}
+use Rattle.checker.proofs.Checks.{result-is, bind-refused, bind-gives, PassedAs, passed-gives, refused-refuses}
 use Rattle.checker.proofs.Outer.{behind}
-use Rattle.checker.proofs.Fitting.{is-struct, is-list, is-array}
+use Rattle.checker.proofs.Fitting.{is-struct, is-list, is-array, fit-struct, fit-list, fit-array, rest-start, rest-none, rest-more, added-bounded}
 
 abbrev ToInput : Walk → Walk → Type 0
 ToInput w x = (p : Bytes) (z : State) (s : Selector) → WalkAt p w z → Input (z .selector) s → StepsTo p (state s (z .frames) (z .path)) w x
@@ -51,10 +54,24 @@ ToInput w x = (p : Bytes) (z : State) (s : Selector) → WalkAt p w z → Input 
 abbrev ToChild : Bytes → Walk → ℕ → Walk → Type 0
 ToChild plan w k x = (z : State) (f : Frame) (s : Selector) → WalkAt plan w z → z .path ≡ [] → Part (z .selector) k f s → StepsTo plan (state s (f ∷ z .frames) []) w x
 
-abbrev Answers : Bytes → Edition → ℕ → Bytes → Walk → ℕ → Checked → Type 0
-Answers incoming v n plan x m r = (s : Selector) (Δ : Fields) → CheckingAt incoming v n plan x s Δ → countFields Δ ≡ m → r ≡ checkedOf (typeOf Δ s)
+abbrev Answers : Bytes → Edition → ℕ → Bytes → Walk → ℕ → Measured → Type 0
+Answers incoming v n plan x m r = (s : Selector) (Δ : Fields) → CheckingAt incoming v n plan x s Δ → countFields Δ ≡ m → r ≡ measuredOf (isTransform s) (typeOf Δ s)
 
 -- ---- the selector where the walk stands
+
+-- once it has passed
+pub checking-named : {incoming : Bytes} {v : Edition} {n : ℕ} {plan : Bytes} {w : Walk} {s : Selector} {Δ : Fields} → CheckingAt incoming v n plan w s Δ → {a : Column}
+    → typeOf Δ s ≡ gives a → NamedAt incoming v n plan w a
+checking-named {s = s} {Δ = Δ} C e = record {
+  columns = C .columns;
+  selector = s;
+  frames = C .frames;
+  standing = C .standing;
+  shallow = C .shallow;
+  scope = Δ;
+  scoped = C .scoped;
+  passes = e;
+}
 
 module _ {incoming : Bytes} {v : Edition} {n : ℕ} {plan : Bytes} {w : Walk} {s : Selector} {Δ : Fields} (C : CheckingAt incoming v n plan w s Δ) where
   pub checking-before : w .at < w .lim
@@ -77,13 +94,13 @@ module _ {incoming : Bytes} {v : Edition} {n : ℕ} {plan : Bytes} {w : Walk} {s
   no-transform f e h = absurd (true≢false (sym h ∙ ap isTransform (sym (stands-for e)) ∙ f))
 
   module _ {r : SelectorHead} (h : HeadIs plan (w .at) (C .standing .here) r) where
-    pub checks-position : {k : Position} {q : Checked} → r ≡ SelectorHead.Position k → q ≡ checkedOf (columnAt Δ (k .0)) → q ≡ checkedOf (typeOf Δ s)
+    pub checks-position : {k : Position} {q : Measured} → r ≡ SelectorHead.Position k → q ≡ measuredOf false (columnAt Δ (k .0)) → q ≡ measuredOf false (typeOf Δ s)
     unfolding typeOf
-    checks-position e f = f ∙ ap checkedOf (sym (typed-for (is-position h e .1)))
+    checks-position e f = f ∙ ap (measuredOf false) (sym (typed-for (is-position h e .1)))
 
-    pub checks-constant : {b : Span} {c : Cursor} → r ≡ SelectorHead.Constant b c → Checked.Passed ≡ checkedOf (typeOf Δ s)
+    pub checks-constant : {b : Span} {c : Cursor} → r ≡ SelectorHead.Constant b c → Measured.Passed Size.Unknown ≡ measuredOf false (typeOf Δ s)
     unfolding typeOf
-    checks-constant e = ap checkedOf (sym (typed-for (is-constant h e .is)))
+    checks-constant e = ap (measuredOf false) (sym (typed-for (is-constant h e .is)))
 
   -- ---- its input
 
@@ -158,32 +175,17 @@ module _ {incoming : Bytes} {v : Edition} {n : ℕ} {plan : Bytes} {w : Walk} {s
     pub input-falls : rank x < rank w
     input-falls = steps .falls
 
-    module _ {m : ℕ} (c : countFields Δ ≡ m) {r : Checked} (h : Answers incoming v n plan x m r) where
-      pub input-refused : {k : ℕ} → r ≡ Checked.Refused k → Checked.Refused k ≡ checkedOf (typeOf Δ s)
-      input-refused e = bind-refused (typeOf Δ i) f (sym (h i Δ checking-input c) ∙ e) ∙ ap checkedOf (sym (T .typed))
+    module _ {m : ℕ} (c : countFields Δ ≡ m) {r : Measured} (h : Answers incoming v n plan x m r) where
+      answer : r ≡ measuredOf (isTransform i) (typeOf Δ i)
+      answer = h i Δ checking-input c
 
-      module _ (e : r ≡ Checked.Passed) where
-        passed : (a : Column) × (typeOf Δ i ≡ gives a)
-        passed = passed-gives (typeOf Δ i) (sym (h i Δ checking-input c) ∙ e)
+      pub input-refused : {k : ℕ} → r ≡ Measured.Refused k → Measured.Refused k ≡ measuredOf true (typeOf Δ s)
+      input-refused e = bind-refused (typeOf Δ i) f (refused-refuses (isTransform i) (typeOf Δ i) (sym answer ∙ e)) ∙ ap (measuredOf true) (sym (T .typed))
 
-        pub input-passed : PassedInput incoming v n plan w x s Δ
-        input-passed = record {
-          checking = C;
-          input = i;
-          takes = T .takes;
-          column = passed .0;
-          passes = passed .1;
-          named = record {
-            columns = C .columns;
-            selector = i;
-            frames = C .frames;
-            standing = steps .standing;
-            shallow = T .shallow;
-            scope = Δ;
-            scoped = C .scoped;
-            passes = passed .1;
-          };
-        }
+      pub input-passed : {z : Size} → r ≡ Measured.Passed z → PassedInput incoming v n plan w x z s Δ
+      input-passed e =
+          let P = passed-gives (isTransform i) (typeOf Δ i) (sym answer ∙ e) in
+          record { checking = C; input = i; takes = T .takes; column = P .column; passes = P .is; sized = P .sized; named = checking-named checking-input (P .is) }
 
 -- ---- a transform has one input
 
@@ -201,7 +203,7 @@ takes-input i-struct = refl
 takes-input i-list = refl
 takes-input i-array = refl
 
-module _ {incoming : Bytes} {v : Edition} {n : ℕ} {plan : Bytes} {w x : Walk} {s : Selector} {Δ : Fields} (R : PassedInput incoming v n plan w x s Δ) where
+module _ {incoming : Bytes} {v : Edition} {n : ℕ} {plan : Bytes} {w x : Walk} {z : Size} {s : Selector} {Δ : Fields} (R : PassedInput incoming v n plan w x z s Δ) where
   abbrev C : CheckingAt incoming v n plan w s Δ
   C = R .checking
 
@@ -213,8 +215,8 @@ module _ {incoming : Bytes} {v : Edition} {n : ℕ} {plan : Bytes} {w x : Walk} 
     passes : typeOf Δ i ≡ gives (R .column)
     passes = subst (λ (j : Selector). typeOf Δ j ≡ gives (R .column)) (input-same (R .takes) (T .takes)) (R .passes)
 
-    pub input-given : {q : Checked} → q ≡ checkedOf (f (R .column)) → q ≡ checkedOf (typeOf Δ s)
-    input-given p = bind-gives (typeOf Δ i) f passes p ∙ ap checkedOf (sym (T .typed))
+    pub input-given : {q : Measured} → q ≡ measuredOf true (f (R .column)) → q ≡ measuredOf true (typeOf Δ s)
+    input-given p = bind-gives (typeOf Δ i) f passes p ∙ ap (measuredOf true) (sym (T .typed))
 
     -- the mapping t, once the kind of its input is known
     pub input-mapping : {t : Selector} {u : DataType} → C .standing .here .tree ≡ t → R .column .type ≡ u → MappingAt incoming v n plan w t i u
@@ -227,60 +229,60 @@ pub kind-code : {incoming plan : Bytes} {t : DataType} {h k : TypeHead} → Type
 kind-code {incoming} {plan} H e = ap (λ (j : Kind). codeOf j .code) (sym (H .kind)) ∙ ap (λ (x : TypeHead). codeOf (headKind incoming plan x) .code) e
 
 module _ (a : Column) where
-  pub no-struct : (f : Fields → Result Fields) → (codeOf (headOf (a .type)) .code ≡ 18 → ⊥) → Checked.Refused 32 ≡ checkedOf (checkStruct f a)
+  pub no-struct : (f : Fields → Result Fields) → (codeOf (headOf (a .type)) .code ≡ 18 → ⊥) → Measured.Refused 32 ≡ measuredOf true (checkStruct f a)
   unfolding checkStruct structOf headOf _>>=_
   no-struct f h = go (a .type) h
     where
-      go : (t : DataType) → (codeOf (headOf t) .code ≡ 18 → ⊥) → Checked.Refused 32 ≡ checkedOf (structOf t >>= λ fs. f fs >>= λ gs. resulting (a .name) (struct gs))
+      go : (t : DataType) → (codeOf (headOf t) .code ≡ 18 → ⊥) → Measured.Refused 32 ≡ measuredOf true (structOf t >>= λ fs. f fs >>= λ gs. resulting (a .name) (struct gs))
       go (leaf l) h = refl
       go (struct fs) h = absurd (h refl)
       go (list t) h = refl
       go (array w t) h = refl
 
-  pub no-list : (f : Fields → Result Column) → (codeOf (headOf (a .type)) .code ≡ 19 → ⊥) → Checked.Refused 32 ≡ checkedOf (checkList f a)
+  pub no-list : (f : Fields → Result Column) → (codeOf (headOf (a .type)) .code ≡ 19 → ⊥) → Measured.Refused 32 ≡ measuredOf true (checkList f a)
   unfolding checkList listOf headOf _>>=_
   no-list f h = go (a .type) h
     where
-      go : (t : DataType) → (codeOf (headOf t) .code ≡ 19 → ⊥) → Checked.Refused 32 ≡ checkedOf (listOf t >>= λ u. f (elementOf u) >>= λ d. resulting (a .name) (list (d .type)))
+      go : (t : DataType) → (codeOf (headOf t) .code ≡ 19 → ⊥) → Measured.Refused 32 ≡ measuredOf true (listOf t >>= λ u. f (elementOf u) >>= λ d. resulting (a .name) (list (d .type)))
       go (leaf l) h = refl
       go (struct fs) h = refl
       go (list t) h = absurd (h refl)
       go (array w t) h = refl
 
-  pub no-array : (f : Fields → Result Column) → (codeOf (headOf (a .type)) .code ≡ 20 → ⊥) → Checked.Refused 32 ≡ checkedOf (checkArray f a)
+  pub no-array : (f : Fields → Result Column) → (codeOf (headOf (a .type)) .code ≡ 20 → ⊥) → Measured.Refused 32 ≡ measuredOf true (checkArray f a)
   unfolding checkArray arrayOf headOf _>>=_
   no-array f h = go (a .type) h
     where
-      go : (t : DataType) → (codeOf (headOf t) .code ≡ 20 → ⊥) → Checked.Refused 32 ≡ checkedOf (arrayOf t >>= λ b. f (elementOf (b .element)) >>= λ d. resulting (a .name) (array (b .width) (d .type)))
+      go : (t : DataType) → (codeOf (headOf t) .code ≡ 20 → ⊥) → Measured.Refused 32 ≡ measuredOf true (arrayOf t >>= λ b. f (elementOf (b .element)) >>= λ d. resulting (a .name) (array (b .width) (d .type)))
       go (leaf l) h = refl
       go (struct fs) h = refl
       go (list t) h = refl
       go (array w t) h = absurd (h refl)
 
-  pub a-rename : (n : Bytes) {r : Checked} → r ≡ checkedOf (resulting n (a .type)) → r ≡ checkedOf (checkRename n a)
+  pub a-rename : (n : Bytes) {r : Measured} → r ≡ measuredOf true (resulting n (a .type)) → r ≡ measuredOf true (checkRename n a)
   unfolding checkRename
   a-rename n e = e
 
-  pub a-struct : (ss : Selectors) {fs : Fields} → a .type ≡ struct fs → {r : Checked} → r ≡ checkedOf (fieldsResult fs ss (a .name)) → r ≡ checkedOf (checkStruct (λ fs. typesOf fs ss) a)
+  pub a-struct : (ss : Selectors) {fs : Fields} → a .type ≡ struct fs → {r : Measured} → r ≡ measuredOf true (fieldsResult fs ss (a .name)) → r ≡ measuredOf true (checkStruct (λ fs. typesOf fs ss) a)
   unfolding checkStruct structOf _>>=_
   a-struct ss e f = rw e f
 
-  pub a-list : (e : Selector) {t : DataType} → a .type ≡ list t → {r : Checked} → r ≡ checkedOf (elementResult t e (λ u. list u) (a .name)) → r ≡ checkedOf (checkList (λ fs. typeOf fs e) a)
+  pub a-list : (e : Selector) {t : DataType} → a .type ≡ list t → {r : Measured} → r ≡ measuredOf true (elementResult t e (λ u. list u) (a .name)) → r ≡ measuredOf true (checkList (λ fs. typeOf fs e) a)
   unfolding checkList listOf _>>=_
   a-list s e f = rw e f
 
-  pub an-array : (e : Selector) {w : ℕ} {t : DataType} → a .type ≡ array w t → {r : Checked} → r ≡ checkedOf (elementResult t e (λ u. array w u) (a .name)) → r ≡ checkedOf (checkArray (λ fs. typeOf fs e) a)
+  pub an-array : (e : Selector) {w : ℕ} {t : DataType} → a .type ≡ array w t → {r : Measured} → r ≡ measuredOf true (elementResult t e (λ u. array w u) (a .name)) → r ≡ measuredOf true (checkArray (λ fs. typeOf fs e) a)
   unfolding checkArray arrayOf _>>=_
   an-array s e f = rw e f
 
 module _ {incoming plan : Bytes} (a : Column) {h k : TypeHead} (H : TypeHeadIs incoming plan (a .type) h) (e : h ≡ k) where
-  pub head-no-struct : (f : Fields → Result Fields) → (codeOf (headKind incoming plan k) .code ≡ 18 → ⊥) → Checked.Refused 32 ≡ checkedOf (checkStruct f a)
+  pub head-no-struct : (f : Fields → Result Fields) → (codeOf (headKind incoming plan k) .code ≡ 18 → ⊥) → Measured.Refused 32 ≡ measuredOf true (checkStruct f a)
   head-no-struct f z = no-struct a f (λ q. z (sym (kind-code H e) ∙ q))
 
-  pub head-no-list : (f : Fields → Result Column) → (codeOf (headKind incoming plan k) .code ≡ 19 → ⊥) → Checked.Refused 32 ≡ checkedOf (checkList f a)
+  pub head-no-list : (f : Fields → Result Column) → (codeOf (headKind incoming plan k) .code ≡ 19 → ⊥) → Measured.Refused 32 ≡ measuredOf true (checkList f a)
   head-no-list f z = no-list a f (λ q. z (sym (kind-code H e) ∙ q))
 
-  pub head-no-array : (f : Fields → Result Column) → (codeOf (headKind incoming plan k) .code ≡ 20 → ⊥) → Checked.Refused 32 ≡ checkedOf (checkArray f a)
+  pub head-no-array : (f : Fields → Result Column) → (codeOf (headKind incoming plan k) .code ≡ 20 → ⊥) → Measured.Refused 32 ≡ measuredOf true (checkArray f a)
   head-no-array f z = no-array a f (λ q. z (sym (kind-code H e) ∙ q))
 
 -- ---- what is left once the input has passed
@@ -292,14 +294,14 @@ module _ {incoming : Bytes} {v : Edition} {n : ℕ} {plan : Bytes} {w : Walk} {s
   pub rest-of : {r q : Rest} → RestIs incoming v n plan w s Δ r → r ≡ q → restAnswer incoming v n plan w s Δ q
   rest-of R e = subst (λ (x : Rest). restAnswer incoming v n plan w s Δ x) e (R .answer)
 
-  pub none-left : {r : Rest} {q : Checked} → r ≡ nothingLeft q → q ≡ checkedOf (typeOf Δ s) → RestIs incoming v n plan w s Δ r
+  pub none-left : {r : Rest} {q : Measured} → r ≡ nothingLeft q → q ≡ measuredOf true (typeOf Δ s) → RestIs incoming v n plan w s Δ r
   none-left {r} {q} e f = go q e f
     where
-      go : (q : Checked) → r ≡ nothingLeft q → q ≡ checkedOf (typeOf Δ s) → RestIs incoming v n plan w s Δ r
-      go Checked.Passed e f = rest-as e f
-      go (Checked.Refused k) e f = rest-as e f
+      go : (q : Measured) → r ≡ nothingLeft q → q ≡ measuredOf true (typeOf Δ s) → RestIs incoming v n plan w s Δ r
+      go (Measured.Passed z) e f = rest-as e f
+      go (Measured.Refused k) e f = rest-as e f
 
-module _ {incoming : Bytes} {v : Edition} {n : ℕ} {plan : Bytes} {w x : Walk} {s : Selector} {Δ : Fields} (R : PassedInput incoming v n plan w x s Δ) where
+module _ {incoming : Bytes} {v : Edition} {n : ℕ} {plan : Bytes} {w x : Walk} {z : Size} {s : Selector} {Δ : Fields} (R : PassedInput incoming v n plan w x z s Δ) where
   abbrev D : CheckingAt incoming v n plan w s Δ
   D = R .checking
 
@@ -310,7 +312,7 @@ module _ {incoming : Bytes} {v : Edition} {n : ℕ} {plan : Bytes} {w x : Walk} 
       T : Transforms D (K .input .tree) (checkStruct (λ fs. typesOf fs (K .fields .selectors .trees)))
       T = by-struct D K
 
-      refused : {k : TypeHead} → TypeHeadIs incoming plan (R .column .type) k → (codeOf (headKind incoming plan k) .code ≡ 18 → ⊥) → Checked.Refused 32 ≡ checkedOf (typeOf Δ s)
+      refused : {k : TypeHead} → TypeHeadIs incoming plan (R .column .type) k → (codeOf (headKind incoming plan k) .code ≡ 18 → ⊥) → Measured.Refused 32 ≡ measuredOf true (typeOf Δ s)
       refused H z = input-given R T (head-no-struct (R .column) H refl _ z)
 
       go : (h : TypeHead) → TypeHeadIs incoming plan (R .column .type) h → r ≡ fieldsLeft h count → RestIs incoming v n plan w s Δ r
@@ -336,7 +338,7 @@ module _ {incoming : Bytes} {v : Edition} {n : ℕ} {plan : Bytes} {w x : Walk} 
       T : Transforms D (K .input .tree) (checkList (λ fs. typeOf fs (K .element .tree)))
       T = by-list D K
 
-      refused : {k : TypeHead} → TypeHeadIs incoming plan (R .column .type) k → (codeOf (headKind incoming plan k) .code ≡ 19 → ⊥) → Checked.Refused 32 ≡ checkedOf (typeOf Δ s)
+      refused : {k : TypeHead} → TypeHeadIs incoming plan (R .column .type) k → (codeOf (headKind incoming plan k) .code ≡ 19 → ⊥) → Measured.Refused 32 ≡ measuredOf true (typeOf Δ s)
       refused H z = input-given R T (head-no-list (R .column) H refl _ z)
 
       go : (h : TypeHead) → TypeHeadIs incoming plan (R .column .type) h → r ≡ listedLeft h → RestIs incoming v n plan w s Δ r
@@ -360,7 +362,7 @@ module _ {incoming : Bytes} {v : Edition} {n : ℕ} {plan : Bytes} {w x : Walk} 
       T : Transforms D (K .input .tree) (checkArray (λ fs. typeOf fs (K .element .tree)))
       T = by-array D K
 
-      refused : {k : TypeHead} → TypeHeadIs incoming plan (R .column .type) k → (codeOf (headKind incoming plan k) .code ≡ 20 → ⊥) → Checked.Refused 32 ≡ checkedOf (typeOf Δ s)
+      refused : {k : TypeHead} → TypeHeadIs incoming plan (R .column .type) k → (codeOf (headKind incoming plan k) .code ≡ 20 → ⊥) → Measured.Refused 32 ≡ measuredOf true (typeOf Δ s)
       refused H z = input-given R T (head-no-array (R .column) H refl _ z)
 
       go : (h : TypeHead) → TypeHeadIs incoming plan (R .column .type) h → r ≡ arrayedLeft h → RestIs incoming v n plan w s Δ r
@@ -392,10 +394,6 @@ nests-array : (i e : Selector) → 0 < nesting (arrayMapping i e)
 unfolding nesting
 nests-array i e = omega arith
 
--- the result of a mapping
-pub mapped-as : {incoming : Bytes} {v : Edition} {n : ℕ} {plan : Bytes} {w : Walk} {c : Cursor} {q : Resolved} {t : DataType} → q ≡ record { source = Source.Mapped; at = c; walk = w } → MappedAt incoming v n plan w t → ResolvedAt incoming v n plan q t
-mapped-as {incoming} {v} {n} {plan} {t = t} e M = subst (λ (r : Resolved). ResolvedAt incoming v n plan r t) (sym e) (record { stands = M })
-
 -- ---- list and array mappings
 
 pub one-element : (t : DataType) → countFields (elementOf t) ≡ 1
@@ -407,13 +405,13 @@ pub record ElementStep (incoming : Bytes) (v : Edition) (n : ℕ) (plan : Bytes)
   pub falls : rank x < rank w
 
 module _ {incoming : Bytes} {v : Edition} {n : ℕ} {plan : Bytes} {w : Walk} where
-  pub element-child-asks : {t : DataType} {e : Selector} {f : DataType → DataType} → Elements incoming v n plan w t e f → ((x : State) × WalkAt plan w x) × (w .deep < 64)
+  pub element-child-asks : {t : DataType} {e : Selector} {f : DataType → DataType} {head : ℕ} → Elements incoming v n plan w t e f head → ((x : State) × WalkAt plan w x) × (w .deep < 64)
   element-child-asks (of-list {i = i} {e = e} M) =
       ((state (listMapping i e) (M .frames) [], M .standing), let a = entries-count (M .standing .entries) in let b = nests-list i e in omega (arith, M .shallow .here))
   element-child-asks (of-array {i = i} {e = e} M) =
       ((state (arrayMapping i e) (M .frames) [], M .standing), let a = entries-count (M .standing .entries) in let b = nests-array i e in omega (arith, M .shallow .here))
 
-  pub element-step : {t : DataType} {e : Selector} {f : DataType → DataType} {x : Walk} → Elements incoming v n plan w t e f → ToChild plan w 0 x → ElementStep incoming v n plan w t e x
+  pub element-step : {t : DataType} {e : Selector} {f : DataType → DataType} {head : ℕ} {x : Walk} → Elements incoming v n plan w t e f head → ToChild plan w 0 x → ElementStep incoming v n plan w t e x
   element-step (of-list {i = i} {e = e} M) g =
       let S = g (state (listMapping i e) (M .frames) []) (element i 0) e (M .standing) refl p-list in
       record { checking = record { columns = M .columns; frames = element i 0 ∷ M .frames; standing = S .standing; shallow = element-shallow (M .shallow); scoped = c-list (M .scoped) (M .passes) (M .kind) }; falls = S .falls }
@@ -421,24 +419,40 @@ module _ {incoming : Bytes} {v : Edition} {n : ℕ} {plan : Bytes} {w : Walk} wh
       let S = g (state (arrayMapping i e) (M .frames) []) (element i 0) e (M .standing) refl p-array in
       record { checking = record { columns = M .columns; frames = element i 0 ∷ M .frames; standing = S .standing; shallow = array-element-shallow (M .shallow); scoped = c-array (M .scoped) (M .passes) (M .kind) }; falls = S .falls }
 
-  pub element-made : {t : DataType} {e : Selector} {f : DataType → DataType} → Elements incoming v n plan w t e f → {d : Column} → typeOf (elementOf t) e ≡ gives d → MappedAt incoming v n plan w (f (d .type))
-  element-made (of-list M) h = record { columns = M .columns; place = _; standing = M .standing; shallow = M .shallow; made = made-list (M .scoped) (M .passes) (M .kind) h }
-  element-made (of-array M) h = record { columns = M .columns; place = _; standing = M .standing; shallow = M .shallow; made = made-array (M .scoped) (M .passes) (M .kind) h }
+  pub element-small : {t : DataType} {e : Selector} {f : DataType → DataType} {head : ℕ} → Elements incoming v n plan w t e f head → head < 16384
+  element-small (of-list M) = omega arith
+  element-small (of-array M) = omega arith
 
-  module _ {t : DataType} {e : Selector} {f : DataType → DataType} (E : Elements incoming v n plan w t e f) {x : Walk} (g : ToChild plan w 0 x) {r : Checked}
+  -- its result, by that of its element
+  element-fit : {t : DataType} {e : Selector} {f : DataType → DataType} {head : ℕ} → Elements incoming v n plan w t e f head → (u : DataType)
+      → fitOf (depthOf u + 1) (head + length (form u)) 16 16384 ≡ typeFit (f u) 16 16384
+  element-fit (of-list M) u = fit-list u 16 16384
+  element-fit (of-array {x = x} M) u = fit-array x u 16 16384
+
+  module _ {t : DataType} {e : Selector} {f : DataType → DataType} {head : ℕ} (E : Elements incoming v n plan w t e f head) {x : Walk} (g : ToChild plan w 0 x) {r : Measured}
       (h : Answers incoming v n plan x 1 r) where
-    element-answer : r ≡ checkedOf (typeOf (elementOf t) e)
+    element-answer : r ≡ measuredOf (isTransform e) (typeOf (elementOf t) e)
     element-answer = h e (elementOf t) (element-step E g .checking) (one-element t)
 
-    pub element-refused : {k : ℕ} (name : Bytes) → r ≡ Checked.Refused k → Checked.Refused k ≡ checkedOf (elementResult t e f name)
-    element-refused name p = bind-refused (typeOf (elementOf t) e) (λ d. resulting name (f (d .type))) (sym element-answer ∙ p)
+    pub element-refused : {k : ℕ} (name : Bytes) → r ≡ Measured.Refused k → Measured.Refused k ≡ measuredOf true (elementResult t e f name)
+    element-refused name p =
+        bind-refused (typeOf (elementOf t) e) (λ d. resulting name (f (d .type))) (refused-refuses (isTransform e) (typeOf (elementOf t) e) (sym element-answer ∙ p))
 
-    module _ (p : r ≡ Checked.Passed) where
-      pub element-passed : (d : Column) × (typeOf (elementOf t) e ≡ gives d)
-      element-passed = passed-gives (typeOf (elementOf t) e) (sym element-answer ∙ p)
+    module _ {z : Size} (p : r ≡ Measured.Passed z) where
+      pub element-passed : PassedAs (isTransform e) (typeOf (elementOf t) e) z
+      element-passed = passed-gives (isTransform e) (typeOf (elementOf t) e) (sym element-answer ∙ p)
 
-      pub element-given : (name : Bytes) {q : Checked} → q ≡ fittingOf (withinLimits (f (element-passed .0 .type))) → q ≡ checkedOf (elementResult t e f name)
-      element-given name o = bind-gives (typeOf (elementOf t) e) (λ d. resulting name (f (d .type))) (element-passed .1) (o ∙ result-is name (f (element-passed .0 .type)))
+      pub element-typed : TypedAt incoming v n plan x (element-passed .column .type)
+      element-typed = named-typed (checking-named (element-step E g .checking) (element-passed .is))
+
+      pub element-given : {o : Fit} → ((b : Bool) (u : DataType) → TypedAt incoming v n plan x u → z ≡ sizeOf b u → o ≡ fitOf (depthOf u + 1) (head + length (form u)) 16 16384)
+          → {q : Measured} → q ≡ fittingOf o → (name : Bytes) → q ≡ measuredOf true (elementResult t e f name)
+      element-given l y name =
+          let P = element-passed in
+          let u = P .column .type in
+          bind-gives (typeOf (elementOf t) e) (λ d. resulting name (f (d .type))) (P .is)
+          (y ∙ ap fittingOf (l (isTransform e) (element-passed .column .type) element-typed (P .sized) ∙ element-fit E (element-passed .column .type))
+          ∙ result-is name (f (element-passed .column .type)))
 
 -- ---- struct mappings
 
@@ -468,20 +482,31 @@ drop-none snil (suc k) h = refl
 drop-none (scons s ss) zero h = absurd (omega arith)
 drop-none (scons s ss) (suc k) h = drop-none ss k (omega arith)
 
--- the first refused, or passed
-types-refused : (fs : Fields) (s : Selector) (ss : Selectors) {n : ℕ} → checkedOf (typeOf fs s) ≡ Checked.Refused n → checkedOf (typesOf fs (scons s ss)) ≡ Checked.Refused n
-unfolding typesOf
-types-refused fs s ss e = sym (bind-refused (typeOf fs s) _ e)
+-- the check of a struct mapping from the fields so far and the types of the others
+abbrev pub restResult : Fit → Result Fields → Measured
+restResult f (gives gs) = fittingOf (aroundOf 3 (restFit 15 16381 f gs))
+restResult f (refuses n) = Measured.Refused n
 
-types-passed : (fs : Fields) (s : Selector) (ss : Selectors) → checkedOf (typeOf fs s) ≡ Checked.Passed → checkedOf (typesOf fs (scons s ss)) ≡ checkedOf (typesOf fs ss)
+rest-begins : (x : Result Fields) (name : Bytes) → measuredOf true (x >>= λ gs. resulting name (struct gs)) ≡ restResult (Fit.Within 0 0) x
+unfolding _>>=_
+rest-begins (gives gs) name =
+    sym (result-is name (struct gs)) ∙ ap fittingOf (sym (fit-struct gs 16 16384 (omega arith) (omega arith)) ∙ ap (aroundOf 3) (sym (rest-start 15 16381 gs)))
+rest-begins (refuses n) name = refl
+
+rest-refused : (f : Fit) (fs : Fields) (s : Selector) (ss : Selectors) {n : ℕ} → typeOf fs s ≡ refuses n → restResult f (typesOf fs (scons s ss)) ≡ Measured.Refused n
 unfolding typesOf _>>=_
-types-passed fs s ss e = let (a, q) = passed-gives (typeOf fs s) e in rw q (go a (typesOf fs ss))
-  where
-    go : (c : Column) (x : Result Fields) → checkedOf (x >>= λ gs. gives (fcons (c .name) (c .type) gs)) ≡ checkedOf x
-    go c (gives a) = refl
-    go c (refuses n) = refl
+rest-refused f fs s ss e = rw e
 
-pub record Passing (incoming : Bytes) (v : Edition) (n : ℕ) (plan : Bytes) (w : Walk) (count m at k : ℕ) : Type 0 where
+rest-passed : (f : Fit) (fs : Fields) (s : Selector) (ss : Selectors) {a : Column} → typeOf fs s ≡ gives a
+    → restResult f (typesOf fs (scons s ss)) ≡ restResult (addedOf 15 16381 f a) (typesOf fs ss)
+unfolding typesOf _>>=_
+rest-passed f fs s ss {a} e = rw e (go (typesOf fs ss))
+  where
+    go : (x : Result Fields) → restResult f (x >>= λ gs. gives (fcons (a .name) (a .type) gs)) ≡ restResult (addedOf 15 16381 f a) x
+    go (gives gs) = ap (λ (y : Fit). fittingOf (aroundOf 3 y)) (rest-more 15 16381 a f gs)
+    go (refuses n) = refl
+
+pub record Passing (incoming : Bytes) (v : Edition) (n : ℕ) (plan : Bytes) (w : Walk) (count m at : ℕ) (fit : Fit) (k : ℕ) : Type 0 where
   pub input : Selector
   pub parts : Selectors
   pub scope : Fields
@@ -490,14 +515,18 @@ pub record Passing (incoming : Bytes) (v : Edition) (n : ℕ) (plan : Bytes) (w 
   pub columns : countFields scope ≡ m
   pub within : k ≤ count
   pub passed : PassedTo plan (w .at) k at
-  pub keeps : (i : Selector) (ss : Selectors) (fs : Fields) → MappingAt incoming v n plan w (structMapping i ss) i (struct fs) → countSelectors ss ≡ count
-      → countFields fs ≡ m
-      → checkedOf (typesOf fs ss) ≡ checkedOf (typesOf fs (dropSelectors k ss))
+  pub small : Bounded 15 16381 fit
+  pub keeps : (i : Selector) (ss : Selectors) (fs : Fields) (name : Bytes) → MappingAt incoming v n plan w (structMapping i ss) i (struct fs)
+      → countSelectors ss ≡ count → countFields fs ≡ m
+      → measuredOf true (fieldsResult fs ss name) ≡ restResult fit (typesOf fs (dropSelectors k ss))
+
+none-bounded : Bounded 15 16381 (Fit.Within 0 0)
+none-bounded s d e = let a : 0 ≡ s = cc in let b : 0 ≡ d = cc in (omega arith, omega arith)
 
 module _ {incoming : Bytes} {v : Edition} {n : ℕ} {plan : Bytes} {w : Walk} {count m : ℕ} where
   pub passing-start : {i : Selector} {ss : Selectors} {fs : Fields} → MappingAt incoming v n plan w (structMapping i ss) i (struct fs)
       → countSelectors ss ≡ count → countFields fs ≡ m
-      → {at : ℕ} → PassedTo plan (w .at) 0 at → Passing incoming v n plan w count m at 0
+      → {at : ℕ} → PassedTo plan (w .at) 0 at → Passing incoming v n plan w count m at (Fit.Within 0 0) 0
   unfolding dropSelectors
   passing-start {i} {ss} {fs} M c f B = record {
     input = i;
@@ -508,10 +537,11 @@ module _ {incoming : Bytes} {v : Edition} {n : ℕ} {plan : Bytes} {w : Walk} {c
     columns = f;
     within = omega arith;
     passed = B;
-    keeps = λ j rs gs N d e. refl;
+    small = none-bounded;
+    keeps = λ j rs gs name N d e. rest-begins (typesOf gs rs) name;
   }
 
-  module _ {at k : ℕ} (O : Passing incoming v n plan w count m at k) where
+  module _ {at : ℕ} {fit : Fit} {k : ℕ} (O : Passing incoming v n plan w count m at fit k) where
     module _ (h : k < count) {x : Walk} (j : ChildAt w k at x) where
       stands : PartStands plan (w .at) k at
       stands = let c = O .counted in part-stands (O .start .standing .here) (O .start .standing .selector) (O .passed) (omega arith)
@@ -542,54 +572,59 @@ module _ {incoming : Bytes} {v : Edition} {n : ℕ} {plan : Bytes} {w : Walk} {c
       pub passing-falls : rank x < rank w
       passing-falls = child (O .start) (O .counted) .falls
 
-      module _ {r : Checked} (f : Answers incoming v n plan x m r) where
+      module _ {r : Measured} (f : Answers incoming v n plan x m r) where
         rest-is : {i : Selector} {ss : Selectors} {fs : Fields} (M : MappingAt incoming v n plan w (structMapping i ss) i (struct fs))
-            (c : countSelectors ss ≡ count) → countFields fs ≡ m
-            → checkedOf (typesOf fs ss) ≡ checkedOf (typesOf fs (scons (child M c .part) (dropSelectors (suc k) ss)))
-        rest-is {i} {ss} {fs} M c d = O .keeps i ss fs M c d ∙ ap (λ (rs : Selectors). checkedOf (typesOf fs rs)) (drop-nth (child M c .nth))
+            (c : countSelectors ss ≡ count) → countFields fs ≡ m → (name : Bytes)
+            → measuredOf true (fieldsResult fs ss name) ≡ restResult fit (typesOf fs (scons (child M c .part) (dropSelectors (suc k) ss)))
+        rest-is {i} {ss} {fs} M c d name =
+            O .keeps i ss fs name M c d ∙ ap (λ (rs : Selectors). restResult fit (typesOf fs rs)) (drop-nth (child M c .nth))
 
-        pub passing-refused : {q : ℕ} → r ≡ Checked.Refused q → (i : Selector) (ss : Selectors) (fs : Fields) (name : Bytes)
+        pub passing-refused : {q : ℕ} → r ≡ Measured.Refused q → (i : Selector) (ss : Selectors) (fs : Fields) (name : Bytes)
             → MappingAt incoming v n plan w (structMapping i ss) i (struct fs) → countSelectors ss ≡ count → countFields fs ≡ m
-            → Checked.Refused q ≡ checkedOf (fieldsResult fs ss name)
+            → Measured.Refused q ≡ measuredOf true (fieldsResult fs ss name)
         passing-refused e i ss fs name M c d =
             let N = child M c in
-            bind-refused (typesOf fs ss) (λ gs. resulting name (struct gs))
-            (rest-is M c d ∙ types-refused fs (N .part) (dropSelectors (suc k) ss) (sym (f (N .part) fs (N .checking) d) ∙ e))
+            sym (rest-is M c d name ∙ rest-refused fit fs (N .part) (dropSelectors (suc k) ss)
+            (refused-refuses (isTransform (N .part)) (typeOf fs (N .part)) (sym (f (N .part) fs (N .checking) d) ∙ e)))
 
-        pub passing-more : r ≡ Checked.Passed → {y : ℕ} → ((P : SelectorAt plan at) → y ≡ P .end) → Passing incoming v n plan w count m y (k + 1)
-        passing-more e s = record {
-          input = O .input;
-          parts = O .parts;
-          scope = O .scope;
-          start = O .start;
-          counted = O .counted;
-          columns = O .columns;
-          within = omega arith;
-          passed = let c = O .counted in passed-more (O .start .standing .here) (O .start .standing .selector) (O .passed) (omega arith) s;
-          keeps = λ i ss fs M c d.
-              let N = child M c in
-              let z : suc k ≡ k + 1 = omega arith in
-              rest-is M c d ∙ types-passed fs (N .part) (dropSelectors (suc k) ss) (sym (f (N .part) fs (N .checking) d) ∙ e)
-              ∙ ap (λ (j : ℕ). checkedOf (typesOf fs (dropSelectors j ss))) z;
-        }
+        module _ {z : Size} (e : r ≡ Measured.Passed z) where
+          given : {i : Selector} {ss : Selectors} {fs : Fields} (M : MappingAt incoming v n plan w (structMapping i ss) i (struct fs))
+              (c : countSelectors ss ≡ count) → countFields fs ≡ m → PassedAs (isTransform (child M c .part)) (typeOf fs (child M c .part)) z
+          given {fs = fs} M c d = let N = child M c in passed-gives (isTransform (N .part)) (typeOf fs (N .part)) (sym (f (N .part) fs (N .checking) d) ∙ e)
 
-    module _ (h : count ≤ k) where
-      all-passed : {i : Selector} {ss : Selectors} {fs : Fields} → MappingAt incoming v n plan w (structMapping i ss) i (struct fs)
-          → countSelectors ss ≡ count → countFields fs ≡ m → (gs : Fields) × (typesOf fs ss ≡ gives gs)
-      unfolding typesOf
-      all-passed {i} {ss} {fs} M c d =
-          passed-gives (typesOf fs ss) (O .keeps i ss fs M c d ∙ ap (λ (rs : Selectors). checkedOf (typesOf fs rs)) (drop-none ss k (omega arith)))
+          pub passing-named : (b : Bool) × (a : Column) × NamedAt incoming v n plan x a × (z ≡ sizeOf b (a .type))
+          passing-named = let G = given (O .start) (O .counted) (O .columns) in (isTransform (child (O .start) (O .counted) .part), G .column, checking-named (child (O .start) (O .counted) .checking) (G .is), G .sized)
 
-      struct-made : {i : Selector} {ss : Selectors} {fs gs : Fields} → MappingAt incoming v n plan w (structMapping i ss) i (struct fs) → typesOf fs ss ≡ gives gs → MappedAt incoming v n plan w (struct gs)
-      struct-made M e = record { columns = M .columns; place = _; standing = M .standing; shallow = M .shallow; made = made-struct (M .scoped) (M .passes) (M .kind) e }
+          pub passing-more : {more : Fit} → ((b : Bool) (a : Column) → NamedAt incoming v n plan x a → z ≡ sizeOf b (a .type) → more ≡ addedOf 15 16381 fit a)
+              → {y : ℕ} → ((P : SelectorAt plan at) → y ≡ P .end) → Passing incoming v n plan w count m y more (k + 1)
+          passing-more {more} A s = record {
+            input = O .input;
+            parts = O .parts;
+            scope = O .scope;
+            start = O .start;
+            counted = O .counted;
+            columns = O .columns;
+            within = omega arith;
+            passed = let c = O .counted in passed-more (O .start .standing .here) (O .start .standing .selector) (O .passed) (omega arith) s;
+            small =
+                let G = given (O .start) (O .counted) (O .columns) in
+                subst (λ (y : Fit). Bounded 15 16381 y) (sym (added (O .start) (O .counted) (O .columns))) (added-bounded 15 16381 (G .column) fit (O .small));
+            keeps = λ i ss fs name M c d.
+                let N = child M c in
+                let z : suc k ≡ k + 1 = omega arith in
+                rest-is M c d name ∙ rest-passed fit fs (N .part) (dropSelectors (suc k) ss) (given M c d .is)
+                ∙ ap (λ (y : Fit). restResult y (typesOf fs (dropSelectors (suc k) ss))) (sym (added M c d))
+                ∙ ap (λ (j : ℕ). restResult more (typesOf fs (dropSelectors j ss))) z;
+          }
+            where
+              added : {i : Selector} {ss : Selectors} {fs : Fields} (M : MappingAt incoming v n plan w (structMapping i ss) i (struct fs))
+                  (c : countSelectors ss ≡ count) (d : countFields fs ≡ m) → more ≡ addedOf 15 16381 fit (given M c d .column)
+              added M c d = let G = given M c d in A (isTransform (child M c .part)) (G .column) (checking-named (child M c .checking) (G .is)) (G .sized)
 
-      module _ {c : Cursor} {q : Resolved} (e : q ≡ record { source = Source.Mapped; at = c; walk = w }) where
-        pub passing-limits : (t : DataType) × ResolvedAt incoming v n plan q t
-        passing-limits = let (gs, p) = all-passed (O .start) (O .counted) (O .columns) in (struct gs, mapped-as e (struct-made (O .start) p))
-
-        pub passing-end : {r : Checked} {b : Bool} → r ≡ fittingOf b → ((t : DataType) → ResolvedAt incoming v n plan q t → b ≡ withinLimits t)
-            → (i : Selector) (ss : Selectors) (fs : Fields) (name : Bytes) → MappingAt incoming v n plan w (structMapping i ss) i (struct fs)
-            → countSelectors ss ≡ count → countFields fs ≡ m → r ≡ checkedOf (fieldsResult fs ss name)
-        passing-end f l i ss fs name M d y =
-            let (gs, p) = all-passed M d y in
-            bind-gives (typesOf fs ss) (λ gs. resulting name (struct gs)) p (f ∙ ap fittingOf (l (struct gs) (mapped-as e (struct-made M p))) ∙ result-is name (struct gs))
+    pub passing-end : count ≤ k → {o : Fit} {r : Measured} → o ≡ aroundOf 3 fit → r ≡ fittingOf o
+        → (i : Selector) (ss : Selectors) (fs : Fields) (name : Bytes) → MappingAt incoming v n plan w (structMapping i ss) i (struct fs)
+        → countSelectors ss ≡ count → countFields fs ≡ m → r ≡ measuredOf true (fieldsResult fs ss name)
+    unfolding typesOf
+    passing-end h p q i ss fs name M c d =
+        q ∙ ap fittingOf (p ∙ ap (aroundOf 3) (sym (rest-none 15 16381 fit)))
+        ∙ ap (λ (rs : Selectors). restResult fit (typesOf fs rs)) (sym (drop-none ss k (omega arith))) ∙ sym (O .keeps i ss fs name M c d)

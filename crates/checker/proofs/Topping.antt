@@ -53,7 +53,6 @@ use Rattle.checker.specs.declared.selector.Checked.{Checked}
 use Rattle.checker.specs.declared.tops.PlanChecked.{PlanChecked}
 use Rattle.checker.proofs.Given.{types-count}
 use Rattle.checker.proofs.Alike.{ends-at, ends-differ, columns-as}
-use Rattle.checker.proofs.Checks.{passed-gives}
 
 -- ---- trees
 
@@ -65,9 +64,13 @@ top-refused Γ s ss k {j} e = go (typeOf Γ s) e
     go (gives a) e = clash (cc)
     go (refuses n) e = let q : n ≡ j = cc in ap (λ (i : ℕ). PlanChecked.Refused i k) q
 
+passes-gives : {A : Type 0} (x : Result A) → checkedOf x ≡ Checked.Passed → (a : A) × (x ≡ gives a)
+passes-gives (gives a) e = (a, refl)
+passes-gives (refuses n) e = clash (cc)
+
 top-passed : (Γ : Fields) (s : Selector) (ss : Selectors) (k : ℕ) → checkedOf (typeOf Γ s) ≡ Checked.Passed → planChecked (topTypes Γ (scons s ss) k) ≡ planChecked (topTypes Γ ss (k + 1))
 unfolding topTypes placed answered
-top-passed Γ s ss k e = let (a, q) = passed-gives (typeOf Γ s) e in rw q (go a (topTypes Γ ss (k + 1)))
+top-passed Γ s ss k e = let (a, q) = passes-gives (typeOf Γ s) e in rw q (go a (topTypes Γ ss (k + 1)))
   where
     go : (c : Column) (x : Answer Fields) → planChecked (answered x (λ fs. accepted (fcons (c .name) (c .type) fs))) ≡ planChecked x
     go c (accepted a) = refl

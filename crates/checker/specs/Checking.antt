@@ -18,8 +18,12 @@ use Rattle.walk.specs.Standing.{WalkAt}
 use Rattle.walk.specs.declared.walk.Walk.{Walk}
 use Rattle.checker.specs.Shallow.{Shallow}
 use Rattle.checker.specs.Standing.{NamedAt}
+use Rattle.checker.specs.Limits.{sizeOf}
+use Rattle.checker.specs.declared.limits.Fit.{Fit}
+use Rattle.checker.specs.declared.limits.Size.{Size}
 use Rattle.checker.specs.declared.place.TypeHead.{TypeHead}
 use Rattle.checker.specs.declared.selector.Checked.{Checked}
+use Rattle.checker.specs.declared.selector.Measured.{Measured}
 use Rattle.checker.specs.declared.selector.Rest.{Rest}
 
 -- what an answer stands for: the check passes, or the refusal's number
@@ -27,10 +31,19 @@ abbrev pub checkedOf : {A : Type 0} → Result A → Checked
 checkedOf (gives a) = Checked.Passed
 checkedOf (refuses n) = Checked.Refused n
 
--- 32 where a test fails
-abbrev pub fittingOf : Bool → Checked
-fittingOf true = Checked.Passed
-fittingOf false = Checked.Refused 32
+abbrev pub droppedOf : Measured → Checked
+droppedOf (Measured.Passed z) = Checked.Passed
+droppedOf (Measured.Refused n) = Checked.Refused n
+
+-- with what is known of the type, of a transform or not
+abbrev pub measuredOf : Bool → Result Column → Measured
+measuredOf b (gives a) = Measured.Passed (sizeOf b (a .type))
+measuredOf b (refuses n) = Measured.Refused n
+
+-- 32 past the limits
+abbrev pub fittingOf : Fit → Measured
+fittingOf (Fit.Within size deep) = Measured.Passed (Size.Is size deep)
+fittingOf Fit.Over = Measured.Refused 32
 
 -- the walk w stands at the selector s, with no path left, where positions take from the columns Δ
 pub record CheckingAt (incoming : Bytes) (v : Edition) (n : ℕ) (plan : Bytes) (w : Walk) (s : Selector) (Δ : Fields) : Type 0 where
@@ -50,13 +63,14 @@ isTransform (structMapping i ss) = true
 isTransform (listMapping i e) = true
 isTransform (arrayMapping i e) = true
 
--- at the transform s, whose input, at which x stands, has passed and gives a column
-pub record PassedInput (incoming : Bytes) (v : Edition) (n : ℕ) (plan : Bytes) (w x : Walk) (s : Selector) (Δ : Fields) : Type 0 where
+-- at the transform s, whose input, at which x stands, has passed and gives a column of a type of which z is known
+pub record PassedInput (incoming : Bytes) (v : Edition) (n : ℕ) (plan : Bytes) (w x : Walk) (z : Size) (s : Selector) (Δ : Fields) : Type 0 where
   pub checking : CheckingAt incoming v n plan w s Δ
   pub input : Selector
   pub takes : Input s input
   pub column : Column
   pub passes : typeOf Δ input ≡ gives column
+  pub sized : z ≡ sizeOf (isTransform input) (column .type)
   pub named : NamedAt incoming v n plan x column
 
 -- at the mapping s, whose input i has passed and gives the type t
@@ -71,10 +85,10 @@ pub record MappingAt (incoming : Bytes) (v : Edition) (n : ℕ) (plan : Bytes) (
   pub passes : typeOf scope i ≡ gives column
   pub kind : column .type ≡ t
 
--- a mapping of a list or an array of elements t by the selector e, which makes f of what e gives
-pub data Elements (incoming : Bytes) (v : Edition) (n : ℕ) (plan : Bytes) (w : Walk) : DataType → Selector → (DataType → DataType) → Type 0 where
-  of-list : {i e : Selector} {t : DataType} → MappingAt incoming v n plan w (listMapping i e) i (list t) → Elements incoming v n plan w t e (λ u. list u)
-  of-array : {i e : Selector} {x : ℕ} {t : DataType} → MappingAt incoming v n plan w (arrayMapping i e) i (array x t) → Elements incoming v n plan w t e (λ u. array x u)
+-- a mapping of a list or an array of elements t by the selector e, which makes f, by a head of so many bytes, of what e gives
+pub data Elements (incoming : Bytes) (v : Edition) (n : ℕ) (plan : Bytes) (w : Walk) : DataType → Selector → (DataType → DataType) → ℕ → Type 0 where
+  of-list : {i e : Selector} {t : DataType} → MappingAt incoming v n plan w (listMapping i e) i (list t) → Elements incoming v n plan w t e (λ u. list u) 1
+  of-array : {i e : Selector} {x : ℕ} {t : DataType} → MappingAt incoming v n plan w (arrayMapping i e) i (array x t) → Elements incoming v n plan w t e (λ u. array x u) 5
 
 -- what is left of a mapping's check once its input has passed: its selectors, then its result
 abbrev pub fieldsResult : Fields → Selectors → Bytes → Result Column
@@ -84,9 +98,9 @@ abbrev pub elementResult : DataType → Selector → (DataType → DataType) →
 elementResult t e f name = typeOf (elementOf t) e >>= λ d. resulting name (f (d .type))
 
 -- what is left of a transform's check once its input has passed: nothing, where the answer is known
-abbrev pub nothingLeft : Checked → Rest
-nothingLeft Checked.Passed = Rest.Passed
-nothingLeft (Checked.Refused k) = Rest.Refused k
+abbrev pub nothingLeft : Measured → Rest
+nothingLeft (Measured.Passed z) = Rest.Passed z
+nothingLeft (Measured.Refused k) = Rest.Refused k
 
 -- a mapping's selectors, where its input has its kind
 abbrev pub fieldsLeft : TypeHead → ℕ → Rest
@@ -98,14 +112,14 @@ fieldsLeft (TypeHead.Array w) count = Rest.Refused 32
 abbrev pub listedLeft : TypeHead → Rest
 listedLeft (TypeHead.Leaf p l) = Rest.Refused 32
 listedLeft (TypeHead.Struct n) = Rest.Refused 32
-listedLeft TypeHead.List = Rest.Element
+listedLeft TypeHead.List = Rest.Element 1
 listedLeft (TypeHead.Array w) = Rest.Refused 32
 
 abbrev pub arrayedLeft : TypeHead → Rest
 arrayedLeft (TypeHead.Leaf p l) = Rest.Refused 32
 arrayedLeft (TypeHead.Struct n) = Rest.Refused 32
 arrayedLeft TypeHead.List = Rest.Refused 32
-arrayedLeft (TypeHead.Array w) = Rest.Element
+arrayedLeft (TypeHead.Array w) = Rest.Element 5
 
 -- the check of s is that of a struct mapping's count selectors, over m columns, and then of its result
 pub record FieldsLeft (incoming : Bytes) (v : Edition) (n : ℕ) (plan : Bytes) (w : Walk) (s : Selector) (Δ : Fields) (count m : ℕ) : Type 0 where
@@ -116,22 +130,22 @@ pub record FieldsLeft (incoming : Bytes) (v : Edition) (n : ℕ) (plan : Bytes) 
   pub mapping : MappingAt incoming v n plan w (structMapping input parts) input (struct scope)
   pub counted : countSelectors parts ≡ count
   pub columns : countFields scope ≡ m
-  pub left : checkedOf (typeOf Δ s) ≡ checkedOf (fieldsResult scope parts name)
+  pub left : measuredOf true (typeOf Δ s) ≡ measuredOf true (fieldsResult scope parts name)
 
 -- of the selector of a list or array mapping
-pub record ElementLeft (incoming : Bytes) (v : Edition) (n : ℕ) (plan : Bytes) (w : Walk) (s : Selector) (Δ : Fields) : Type 0 where
+pub record ElementLeft (incoming : Bytes) (v : Edition) (n : ℕ) (plan : Bytes) (w : Walk) (s : Selector) (Δ : Fields) (head : ℕ) : Type 0 where
   pub element : DataType
   pub selector : Selector
   pub makes : DataType → DataType
   pub name : Bytes
-  pub elements : Elements incoming v n plan w element selector makes
-  pub left : checkedOf (typeOf Δ s) ≡ checkedOf (elementResult element selector makes name)
+  pub elements : Elements incoming v n plan w element selector makes head
+  pub left : measuredOf true (typeOf Δ s) ≡ measuredOf true (elementResult element selector makes name)
 
 abbrev pub restAnswer : Bytes → Edition → ℕ → Bytes → Walk → Selector → Fields → Rest → Type 0
-restAnswer incoming v n plan w s Δ Rest.Passed = Checked.Passed ≡ checkedOf (typeOf Δ s)
-restAnswer incoming v n plan w s Δ (Rest.Refused k) = Checked.Refused k ≡ checkedOf (typeOf Δ s)
+restAnswer incoming v n plan w s Δ (Rest.Passed z) = Measured.Passed z ≡ measuredOf true (typeOf Δ s)
+restAnswer incoming v n plan w s Δ (Rest.Refused k) = Measured.Refused k ≡ measuredOf true (typeOf Δ s)
 restAnswer incoming v n plan w s Δ (Rest.Fields count m) = FieldsLeft incoming v n plan w s Δ count m
-restAnswer incoming v n plan w s Δ Rest.Element = ElementLeft incoming v n plan w s Δ
+restAnswer incoming v n plan w s Δ (Rest.Element head) = ElementLeft incoming v n plan w s Δ head
 
 pub record RestIs (incoming : Bytes) (v : Edition) (n : ℕ) (plan : Bytes) (w : Walk) (s : Selector) (Δ : Fields) (r : Rest) : Type 0 where
   pub answer : restAnswer incoming v n plan w s Δ r

@@ -1,15 +1,17 @@
-// Refusal 32 for a result type: deeper than 16, or over 16,384 bytes in version 1 form. What is left is counted down, so that no type is looked at past the limit.
+// Refusal 32 for a result type: deeper than 16, or over 16,384 bytes in version 1 form. A type is measured within the levels and bytes that are left, so that none is looked at past the limit.
 ghost use mathlib.Core.Path.{_≡_};
-ghost use Prim.Native.Nat.{_+_};
+ghost use mathlib.Core.Bool.{Bool};
+ghost use Prim.Native.Nat.{ℕ, _+_, _^_, _<_, max};
 ghost use lib.ListN.{length};
 ghost use Rattle.layout.specs.Tree.{DataType, struct, Fields, countFields};
 ghost use Rattle.forms.specs.Form.{form};
 ghost use Rattle.forms.specs.Readable.{depthOf};
-ghost use Rattle.plan.specs.Check.{Column, withinLimits};
+ghost use Rattle.plan.specs.Check.{Column};
 ghost use Rattle.nodes.specs.Typed.{TypeIs};
+ghost use Rattle.checker.specs.declared.limits.Fit.{Fit as FitOf};
 ghost use Rattle.checker.specs.declared.resolve.Source.{Source as SourceOf};
-ghost use Rattle.checker.specs.Standing.{PartOf, MappedAt, ResolvedAt};
-ghost use Rattle.checker.specs.Limits.{fitOf, typeFit, fieldsFit};
+ghost use Rattle.checker.specs.Standing.{PartOf, TypedAt, NamedAt, MappedAt, ResolvedAt};
+ghost use Rattle.checker.specs.Limits.{fitOf, typeFit, fieldsFit, columnFit, aroundOf, joinedOf, addedOf, Bounded, sizeOf};
 use crate::child::child_at;
 use crate::child::first_child;
 use crate::head::type_head;
@@ -25,28 +27,69 @@ use nodes::types::form_size;
 use walk::head::skip_selector;
 use walk::walk::Walk;
 
-// The bytes that are left, or the limits are passed.
+// A length in version 1 form and a depth, or the limits are passed.
 pub enum Fit {
-    Left(usize),
+    Within(usize, u8),
     Over,
 }
 
+// What is known of the type of what a selector gives: the length in version 1 form and the depth of a transform's result. A position
+// or a constant is measured only where something is made of it.
+pub enum Size {
+    Is(usize, u8),
+    Unknown,
+}
+
+fn size_fit(size: usize, deep: u8, levels: u8, room: usize) -> Fit
+    ensures { λ r. ⌜ r ≡ fitOf deep size levels room ⌝ }
+{
+    if levels < deep {
+        return Fit::Over;
+    }
+    if room < size {
+        return Fit::Over;
+    }
+    Fit::Within(size, deep)
+}
+
+// A head of so many bytes, around what is one level inside.
+pub fn around(head: usize, f: Fit) -> Fit
+    requires { ⌜ ((size deep : ℕ) → f ≡ FitOf.Within size deep → (head + size < 2 ^ 64) × (deep < 255)) ⌝ }
+    ensures { λ r. ⌜ r ≡ aroundOf head f ⌝ }
+{
+    match f {
+        Fit::Within(size, deep) => Fit::Within(head + size, deep + 1),
+        Fit::Over => Fit::Over,
+    }
+}
+
+fn larger(a: u8, b: u8) -> u8
+    ensures { λ r. ⌜ r ≡ max a b ⌝ }
+{
+    if a < b { b } else { a }
+}
+
+// What stands behind so many bytes of so many levels, with these.
+fn joined(before: usize, levels: u8, f: Fit) -> Fit
+    requires { ⌜ ((size deep : ℕ) → f ≡ FitOf.Within size deep → before + size < 2 ^ 64) ⌝ }
+    ensures { λ r. ⌜ r ≡ joinedOf before levels f ⌝ }
+{
+    match f {
+        Fit::Within(size, deep) => Fit::Within(before + size, larger(levels, deep)),
+        Fit::Over => Fit::Over,
+    }
+}
+
 // Of a type that stands in bytes.
-fn raw_fit(s: &[u8], v: Edition, c: Cursor, levels: u8, room: usize) -> Fit
+pub fn raw_fit(s: &[u8], v: Edition, c: Cursor, levels: u8, room: usize) -> Fit
     requires { ⌜ ((t : DataType) × TypeIs v (now s) (c .at) t) ⌝ }
     ensures { λ r. ⌜ ((t : DataType) → TypeIs v (now (s .entry)) (c .at) t → r ≡ typeFit t levels room) ⌝ }
 {
-    let size = form_size(s, v, c);
-    if levels < size.deep {
-        return Fit::Over;
-    }
-    if room < size.size {
-        return Fit::Over;
-    }
-    Fit::Left(room - size.size)
+    let z = form_size(s, v, c);
+    size_fit(z.size, z.deep, levels, room)
 }
 
-pub fn type_fit(
+fn type_fit(
     incoming: &[u8],
     v: Edition,
     n: u16,
@@ -91,14 +134,15 @@ fn mapped_fit(
                 return Fit::Over;
             }
             let w = r.walk;
-            fields_fit(incoming, v, n, plan, w, count, levels - 1, room - 3)
+            let f = fields_fit(incoming, v, n, plan, w, count, levels - 1, room - 3);
+            around(3, f)
         }
-        TypeHead::List => element_fit(incoming, v, n, plan, r, 1, levels - 1, room),
-        TypeHead::Array(_) => element_fit(incoming, v, n, plan, r, 5, levels - 1, room),
+        TypeHead::List => element_fit(incoming, v, n, plan, r, 1, levels, room),
+        TypeHead::Array(_) => element_fit(incoming, v, n, plan, r, 5, levels, room),
     }
 }
 
-// Of the element of a list or an array, whose head has so many bytes.
+// Of a list or an array, by its element and how many bytes its head has.
 fn element_fit(
     incoming: &[u8],
     v: Edition,
@@ -110,16 +154,64 @@ fn element_fit(
     room: usize,
 ) -> Fit
     requires { ⌜ ((t : DataType) × (a : Column) × ResolvedAt (now incoming) v n (now plan) r t × PartOf t 0 a) ⌝ }
-    ensures { λ f. ⌜ ((t : DataType) (a : Column) → ResolvedAt (now (incoming .entry)) v n (now (plan .entry)) r t → PartOf t 0 a → f ≡ fitOf (depthOf (a .type)) (head + length (form (a .type))) levels room) ⌝ }
+    requires { ⌜ 0 < levels ⌝ }
+    ensures { λ f. ⌜ ((t : DataType) (a : Column) → ResolvedAt (now (incoming .entry)) v n (now (plan .entry)) r t → PartOf t 0 a → f ≡ fitOf (depthOf (a .type) + 1) (head + length (form (a .type))) levels room) ⌝ }
 {
     if room < head {
         return Fit::Over;
     }
     let p = part(incoming, v, n, plan, r, 0);
-    type_fit(incoming, v, n, plan, p, levels, room - head)
+    let f = type_fit(incoming, v, n, plan, p, levels - 1, room - head);
+    around(head, f)
 }
 
-// Of the names and types of the fields that the struct mapping where the walk stands makes.
+// Of what the selector where the walk stands gives.
+pub fn sized_fit(
+    incoming: &[u8],
+    v: Edition,
+    n: u16,
+    plan: &[u8],
+    x: Walk,
+    size: Size,
+    levels: u8,
+    room: usize,
+) -> Fit
+    requires { ⌜ ((b : Bool) × (t : DataType) × TypedAt (now incoming) v n (now plan) x t × (size ≡ sizeOf b t)) ⌝ }
+    ensures { λ f. ⌜ ((b : Bool) (t : DataType) → TypedAt (now (incoming .entry)) v n (now (plan .entry)) x t → size ≡ sizeOf b t → f ≡ typeFit t levels room) ⌝ }
+{
+    match size {
+        Size::Is(bytes, deep) => size_fit(bytes, deep, levels, room),
+        Size::Unknown => {
+            let r = resolve(incoming, v, n, plan, x);
+            type_fit(incoming, v, n, plan, r, levels, room)
+        }
+    }
+}
+
+// Of the field that it makes: its name and its type.
+fn column_fit(
+    incoming: &[u8],
+    v: Edition,
+    n: u16,
+    plan: &[u8],
+    x: Walk,
+    size: Size,
+    levels: u8,
+    room: usize,
+) -> Fit
+    requires { ⌜ ((b : Bool) × (a : Column) × NamedAt (now incoming) v n (now plan) x a × (size ≡ sizeOf b (a .type))) ⌝ }
+    ensures { λ f. ⌜ ((b : Bool) (a : Column) → NamedAt (now (incoming .entry)) v n (now (plan .entry)) x a → size ≡ sizeOf b (a .type) → f ≡ columnFit a levels room) ⌝ }
+{
+    let name = name_at(incoming, v, n, plan, x);
+    let len = name.span.len;
+    if room <= len {
+        return Fit::Over;
+    }
+    let f = sized_fit(incoming, v, n, plan, x, size, levels, room - len - 1);
+    joined(len + 1, 0, f)
+}
+
+// Of the fields that the struct mapping where the walk stands makes.
 fn fields_fit(
     incoming: &[u8],
     v: Edition,
@@ -135,20 +227,16 @@ fn fields_fit(
 {
     let first = first_child(plan, w);
     let mut at = first.at;
-    let mut left = room;
+    let mut size: usize = 0;
+    let mut deep: u8 = 0;
     let mut k: u16 = 0;
     while k < count {
         let c = Cursor { at };
         let x = child_at(w, k, c);
-        let name = name_at(incoming, v, n, plan, x);
-        let len = name.span.len;
-        if left <= len {
-            return Fit::Over;
-        }
-        let p = resolve(incoming, v, n, plan, x);
-        match type_fit(incoming, v, n, plan, p, levels, left - len - 1) {
-            Fit::Left(rest) => {
-                left = rest;
+        match column_fit(incoming, v, n, plan, x, Size::Unknown, levels, room - size) {
+            Fit::Within(more, inner) => {
+                size += more;
+                deep = larger(deep, inner);
             }
             Fit::Over => return Fit::Over,
         }
@@ -156,16 +244,46 @@ fn fields_fit(
         at = d.at;
         k += 1;
     }
-    Fit::Left(left)
+    Fit::Within(size, deep)
 }
 
-// Whether a type is within the limits.
-pub fn within_limits(incoming: &[u8], v: Edition, n: u16, plan: &[u8], r: Resolved) -> bool
-    requires { ⌜ ((t : DataType) × ResolvedAt (now incoming) v n (now plan) r t) ⌝ }
-    ensures { λ b. ⌜ ((t : DataType) → ResolvedAt (now (incoming .entry)) v n (now (plan .entry)) r t → b ≡ withinLimits t) ⌝ }
+// One more field of a struct that a mapping makes: 15 levels inside it, and the bytes behind its head.
+pub fn add_field(
+    incoming: &[u8],
+    v: Edition,
+    n: u16,
+    plan: &[u8],
+    x: Walk,
+    size: Size,
+    fields: Fit,
+) -> Fit
+    requires { ⌜ ((b : Bool) × (a : Column) × NamedAt (now incoming) v n (now plan) x a × (size ≡ sizeOf b (a .type))) ⌝ }
+    requires { ⌜ Bounded 15 16381 fields ⌝ }
+    ensures { λ f. ⌜ ((b : Bool) (a : Column) → NamedAt (now (incoming .entry)) v n (now (plan .entry)) x a → size ≡ sizeOf b (a .type) → f ≡ addedOf 15 16381 fields a) ⌝ }
 {
-    match type_fit(incoming, v, n, plan, r, 16, 16384) {
-        Fit::Left(_) => true,
-        Fit::Over => false,
+    match fields {
+        Fit::Within(before, deep) => {
+            let f = column_fit(incoming, v, n, plan, x, size, 15, 16381 - before);
+            joined(before, deep, f)
+        }
+        Fit::Over => Fit::Over,
     }
+}
+
+// The list or array of what the selector where the walk stands gives, by how many bytes its head has.
+pub fn list_fit(
+    incoming: &[u8],
+    v: Edition,
+    n: u16,
+    plan: &[u8],
+    x: Walk,
+    size: Size,
+    head: usize,
+) -> Fit
+    requires { ⌜ ((b : Bool) × (t : DataType) × TypedAt (now incoming) v n (now plan) x t × (size ≡ sizeOf b t)) ⌝ }
+    requires { ⌜ head < 16384 ⌝ }
+    ensures { λ f. ⌜ ((b : Bool) (t : DataType) → TypedAt (now (incoming .entry)) v n (now (plan .entry)) x t → size ≡ sizeOf b t → f ≡ fitOf (depthOf t + 1) (head + length (form t)) 16 16384) ⌝ }
+{
+    let f = sized_fit(incoming, v, n, plan, x, size, 15, 16384 - head);
+    around(head, f)
 }

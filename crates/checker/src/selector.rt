@@ -1,7 +1,7 @@
 // The check of one selector: 31 no such position, 32 a transform that doesn't fit. "Selectors in order, input before transform (a mapping's input kind, then its selectors, then its
 // result)."
 ghost use mathlib.Core.Path.{_≡_};
-ghost use mathlib.Core.Bool.{true, false};
+ghost use mathlib.Core.Bool.{Bool, true, false};
 ghost use Prim.Native.Nat.{ℕ};
 ghost use Rattle.layout.specs.Bytes.{Bytes};
 ghost use Rattle.layout.specs.Tree.{Fields, struct, countFields, DataType, dtypeOf};
@@ -12,16 +12,21 @@ ghost use Rattle.plan.specs.Check.{Column, columnAt, typeOf, resulting, checkCa
 ghost use Rattle.walk.specs.Stands.{SelectorAt};
 ghost use Rattle.walk.specs.Parts.{OptionAt};
 ghost use Rattle.checker.specs.Standing.{TypeHeadIs, ScopedAt, TypedAt, NamedAt};
-ghost use Rattle.checker.specs.Checking.{checkedOf, fittingOf, isTransform, CheckingAt, PassedInput, nothingLeft, fieldsLeft, listedLeft, arrayedLeft, RestIs, MappingAt, Elements, fieldsResult, elementResult};
+ghost use Rattle.checker.specs.Limits.{sizeOf};
+ghost use Rattle.checker.specs.Checking.{checkedOf, droppedOf, measuredOf, fittingOf, isTransform, CheckingAt, PassedInput, nothingLeft, fieldsLeft, listedLeft, arrayedLeft, RestIs, MappingAt, Elements, fieldsResult, elementResult};
 use crate::cast::cast_fits;
 use crate::child::child_at;
 use crate::child::first_child;
 use crate::head::type_head;
-use crate::limits::within_limits;
+use crate::limits::Fit;
+use crate::limits::Size;
+use crate::limits::add_field;
+use crate::limits::around;
+use crate::limits::list_fit;
+use crate::limits::raw_fit;
+use crate::limits::sized_fit;
 use crate::part::enclosing;
 use crate::place::TypeHead;
-use crate::resolve::Source;
-use crate::resolve::found_in;
 use crate::resolve::resolve;
 use layout::columns::Position;
 use layout::cursor::Cursor;
@@ -39,14 +44,28 @@ pub enum Checked {
     Refused(u8),
 }
 
-// Refusal 32 where a test fails.
-fn fitting(b: bool) -> Checked
-    ensures { λ r. ⌜ r ≡ fittingOf b ⌝ }
+// With what is known of the type that it gives.
+pub enum Measured {
+    Passed(Size),
+    Refused(u8),
+}
+
+fn dropped(m: Measured) -> Checked
+    ensures { λ r. ⌜ r ≡ droppedOf m ⌝ }
 {
-    if b {
-        Checked::Passed
-    } else {
-        Checked::Refused(32)
+    match m {
+        Measured::Passed(_) => Checked::Passed,
+        Measured::Refused(k) => Checked::Refused(k),
+    }
+}
+
+// Refusal 32 past the limits.
+fn fitting(f: Fit) -> Measured
+    ensures { λ r. ⌜ r ≡ fittingOf f ⌝ }
+{
+    match f {
+        Fit::Within(size, deep) => Measured::Passed(Size::Is(size, deep)),
+        Fit::Over => Measured::Refused(32),
     }
 }
 
@@ -68,30 +87,29 @@ fn scope_count(incoming: &[u8], v: Edition, n: u16, plan: &[u8], w: Walk) -> u16
 }
 
 // The position `k` among so many columns.
-fn check_position(k: Position, scope: u16) -> Checked
-    ensures { λ r. ⌜ ((Δ : Fields) → countFields Δ ≡ scope → r ≡ checkedOf (columnAt Δ (k .0))) ⌝ }
+fn check_position(k: Position, scope: u16) -> Measured
+    ensures { λ r. ⌜ ((Δ : Fields) → countFields Δ ≡ scope → r ≡ measuredOf false (columnAt Δ (k .0))) ⌝ }
 {
     if k.0 < scope {
-        Checked::Passed
+        Measured::Passed(Size::Unknown)
     } else {
-        Checked::Refused(31)
+        Measured::Refused(31)
     }
 }
 
 // A cast whose input, at which `x` stands and which begins at `input`, has passed.
-fn cast_result(incoming: &[u8], v: Edition, n: u16, plan: &[u8], x: Walk, input: Cursor) -> Checked
+fn cast_result(incoming: &[u8], v: Edition, n: u16, plan: &[u8], x: Walk, input: Cursor) -> Measured
     requires { ⌜ ((a : Column) × (P : SelectorAt (now plan) (input .at)) × (T : TypeAt EditionOf.One 16 (now plan) (P .end)) × OptionAt (now plan) (T .end) × TypedAt (now incoming) v n (now plan) x (a .type)) ⌝ }
-    ensures { λ r. ⌜ ((a : Column) (P : SelectorAt (now (plan .entry)) (input .at)) (T : TypeAt EditionOf.One 16 (now (plan .entry)) (P .end)) (O : OptionAt (now (plan .entry)) (T .end)) → TypedAt (now (incoming .entry)) v n (now (plan .entry)) x (a .type) → r ≡ checkedOf (checkCast (dtypeOf (T .tree)) (O .option) a)) ⌝ }
+    ensures { λ r. ⌜ ((a : Column) (P : SelectorAt (now (plan .entry)) (input .at)) (T : TypeAt EditionOf.One 16 (now (plan .entry)) (P .end)) (O : OptionAt (now (plan .entry)) (T .end)) → TypedAt (now (incoming .entry)) v n (now (plan .entry)) x (a .type) → r ≡ measuredOf true (checkCast (dtypeOf (T .tree)) (O .option) a)) ⌝ }
 {
     let r = resolve(incoming, v, n, plan, x);
     let h = type_head(incoming, v, n, plan, r);
     let c = skip_selector(plan, input);
     let o = cast_option(plan, c);
     if !cast_fits(incoming, plan, h, c, o) {
-        return Checked::Refused(32);
+        return Measured::Refused(32);
     }
-    let t = found_in(Source::Plan, c, x);
-    fitting(within_limits(incoming, v, n, plan, t))
+    fitting(raw_fit(plan, Edition::One, c, 16, 16384))
 }
 
 // Whether the selector at `c` transforms what another gives.
@@ -110,16 +128,12 @@ fn is_transform(plan: &[u8], c: Cursor) -> bool
     }
 }
 
-// A rename whose input, at which `x` stands, has passed. What a transform gives was found within the limits by its own check.
-fn rename_result(incoming: &[u8], v: Edition, n: u16, plan: &[u8], x: Walk) -> Checked
-    requires { ⌜ ((a : Column) × NamedAt (now incoming) v n (now plan) x a) ⌝ }
-    ensures { λ r. ⌜ ((a : Column) (name : Bytes) → NamedAt (now (incoming .entry)) v n (now (plan .entry)) x a → r ≡ checkedOf (resulting name (a .type))) ⌝ }
+// A rename whose input, at which `x` stands, has passed.
+fn rename_result(incoming: &[u8], v: Edition, n: u16, plan: &[u8], x: Walk, size: Size) -> Measured
+    requires { ⌜ ((b : Bool) × (a : Column) × NamedAt (now incoming) v n (now plan) x a × (size ≡ sizeOf b (a .type))) ⌝ }
+    ensures { λ r. ⌜ ((b : Bool) (a : Column) (name : Bytes) → NamedAt (now (incoming .entry)) v n (now (plan .entry)) x a → size ≡ sizeOf b (a .type) → r ≡ measuredOf true (resulting name (a .type))) ⌝ }
 {
-    if is_transform(plan, Cursor { at: x.at }) {
-        return Checked::Passed;
-    }
-    let r = resolve(incoming, v, n, plan, x);
-    fitting(within_limits(incoming, v, n, plan, r))
+    fitting(sized_fit(incoming, v, n, plan, x, size, 16, 16384))
 }
 
 // What the input of a mapping begins with.
@@ -132,37 +146,37 @@ fn input_head(incoming: &[u8], v: Edition, n: u16, plan: &[u8], x: Walk) -> Type
 }
 
 // A position, among so many columns, or a constant.
-fn check_source(plan: &[u8], w: Walk, scope: u16) -> Checked
-    ensures { λ r. ⌜ ((incoming : Bytes) (v : EditionOf) (n : ℕ) (s : Selector) (Δ : Fields) → CheckingAt incoming v n (now (plan .entry)) w s Δ → countFields Δ ≡ scope → isTransform s ≡ false → r ≡ checkedOf (typeOf Δ s)) ⌝ }
+fn check_source(plan: &[u8], w: Walk, scope: u16) -> Measured
+    ensures { λ r. ⌜ ((incoming : Bytes) (v : EditionOf) (n : ℕ) (s : Selector) (Δ : Fields) → CheckingAt incoming v n (now (plan .entry)) w s Δ → countFields Δ ≡ scope → isTransform s ≡ false → r ≡ measuredOf false (typeOf Δ s)) ⌝ }
 {
     let c = Cursor { at: w.at };
     match head(plan, c) {
         SelectorHead::Position(k) => check_position(k, scope),
-        SelectorHead::Constant(_, _) => Checked::Passed,
-        SelectorHead::Cast(_) => Checked::Passed,
-        SelectorHead::Rename(_) => Checked::Passed,
-        SelectorHead::Struct(_) => Checked::Passed,
-        SelectorHead::List(_) => Checked::Passed,
-        SelectorHead::Array(_) => Checked::Passed,
-        SelectorHead::Refused => Checked::Passed,
+        SelectorHead::Constant(_, _) => Measured::Passed(Size::Unknown),
+        SelectorHead::Cast(_) => Measured::Refused(32),
+        SelectorHead::Rename(_) => Measured::Refused(32),
+        SelectorHead::Struct(_) => Measured::Refused(32),
+        SelectorHead::List(_) => Measured::Refused(32),
+        SelectorHead::Array(_) => Measured::Refused(32),
+        SelectorHead::Refused => Measured::Refused(32),
     }
 }
 
 // What is left of a transform's check once its input has passed: nothing; or the selectors of a struct mapping, so many of them over so
-// many columns; or the selector of a list or array mapping.
+// many columns; or the selector of a list or array mapping, with how many bytes the head of such a type has.
 pub enum Rest {
-    Passed,
+    Passed(Size),
     Refused(u8),
     Fields(u16, u16),
-    Element,
+    Element(usize),
 }
 
-fn nothing_left(checked: Checked) -> Rest
-    ensures { λ r. ⌜ r ≡ nothingLeft checked ⌝ }
+fn nothing_left(m: Measured) -> Rest
+    ensures { λ r. ⌜ r ≡ nothingLeft m ⌝ }
 {
-    match checked {
-        Checked::Passed => Rest::Passed,
-        Checked::Refused(k) => Rest::Refused(k),
+    match m {
+        Measured::Passed(size) => Rest::Passed(size),
+        Measured::Refused(k) => Rest::Refused(k),
     }
 }
 
@@ -185,7 +199,7 @@ fn listed_left(h: TypeHead) -> Rest
     match h {
         TypeHead::Leaf(_, _) => Rest::Refused(32),
         TypeHead::Struct(_) => Rest::Refused(32),
-        TypeHead::List => Rest::Element,
+        TypeHead::List => Rest::Element(1),
         TypeHead::Array(_) => Rest::Refused(32),
     }
 }
@@ -198,35 +212,43 @@ fn arrayed_left(h: TypeHead) -> Rest
         TypeHead::Leaf(_, _) => Rest::Refused(32),
         TypeHead::Struct(_) => Rest::Refused(32),
         TypeHead::List => Rest::Refused(32),
-        TypeHead::Array(_) => Rest::Element,
+        TypeHead::Array(_) => Rest::Element(5),
     }
 }
 
 // A transform whose input, at which `x` stands, has passed: the result of a cast or rename, the kind of a mapping's input.
-fn check_input(incoming: &[u8], v: Edition, n: u16, plan: &[u8], w: Walk, x: Walk) -> Rest
-    requires { ⌜ ((s : Selector) × (Δ : Fields) × PassedInput (now incoming) v n (now plan) w x s Δ) ⌝ }
-    ensures { λ r. ⌜ ((s : Selector) (Δ : Fields) → PassedInput (now (incoming .entry)) v n (now (plan .entry)) w x s Δ → RestIs (now (incoming .entry)) v n (now (plan .entry)) w s Δ r) ⌝ }
+fn check_input(
+    incoming: &[u8],
+    v: Edition,
+    n: u16,
+    plan: &[u8],
+    w: Walk,
+    x: Walk,
+    size: Size,
+) -> Rest
+    requires { ⌜ ((s : Selector) × (Δ : Fields) × PassedInput (now incoming) v n (now plan) w x size s Δ) ⌝ }
+    ensures { λ r. ⌜ ((s : Selector) (Δ : Fields) → PassedInput (now (incoming .entry)) v n (now (plan .entry)) w x size s Δ → RestIs (now (incoming .entry)) v n (now (plan .entry)) w s Δ r) ⌝ }
 {
     let c = Cursor { at: w.at };
     match head(plan, c) {
-        SelectorHead::Position(_) => Rest::Passed,
-        SelectorHead::Constant(_, _) => Rest::Passed,
+        SelectorHead::Position(_) => Rest::Refused(32),
+        SelectorHead::Constant(_, _) => Rest::Refused(32),
         SelectorHead::Cast(input) => nothing_left(cast_result(incoming, v, n, plan, x, input)),
-        SelectorHead::Rename(_) => nothing_left(rename_result(incoming, v, n, plan, x)),
+        SelectorHead::Rename(_) => { nothing_left(rename_result(incoming, v, n, plan, x, size)) }
         SelectorHead::Struct(input) => {
             let f = struct_fields(plan, input);
             fields_left(input_head(incoming, v, n, plan, x), f.count)
         }
         SelectorHead::List(_) => listed_left(input_head(incoming, v, n, plan, x)),
         SelectorHead::Array(_) => arrayed_left(input_head(incoming, v, n, plan, x)),
-        SelectorHead::Refused => Rest::Passed,
+        SelectorHead::Refused => Rest::Refused(32),
     }
 }
 
 // The selector at which the walk stands, where positions take from so many columns.
-fn check_scoped(incoming: &[u8], v: Edition, n: u16, plan: &[u8], w: Walk, scope: u16) -> Checked
+fn check_scoped(incoming: &[u8], v: Edition, n: u16, plan: &[u8], w: Walk, scope: u16) -> Measured
     requires { ⌜ ((s : Selector) × (Δ : Fields) × CheckingAt (now incoming) v n (now plan) w s Δ × (countFields Δ ≡ scope)) ⌝ }
-    ensures { λ r. ⌜ ((s : Selector) (Δ : Fields) → CheckingAt (now (incoming .entry)) v n (now (plan .entry)) w s Δ → countFields Δ ≡ scope → r ≡ checkedOf (typeOf Δ s)) ⌝ }
+    ensures { λ r. ⌜ ((s : Selector) (Δ : Fields) → CheckingAt (now (incoming .entry)) v n (now (plan .entry)) w s Δ → countFields Δ ≡ scope → r ≡ measuredOf (isTransform s) (typeOf Δ s)) ⌝ }
 {
     if is_transform(plan, Cursor { at: w.at }) {
         return check_transform(incoming, v, n, plan, w, scope);
@@ -236,23 +258,30 @@ fn check_scoped(incoming: &[u8], v: Edition, n: u16, plan: &[u8], w: Walk, scope
 
 // The input of a transform, then what is left. What a level of nesting keeps on the stack is here and in the two functions below; the
 // larger work is done in functions that return before the next level.
-fn check_transform(incoming: &[u8], v: Edition, n: u16, plan: &[u8], w: Walk, scope: u16) -> Checked
+fn check_transform(
+    incoming: &[u8],
+    v: Edition,
+    n: u16,
+    plan: &[u8],
+    w: Walk,
+    scope: u16,
+) -> Measured
     requires { ⌜ ((s : Selector) × (Δ : Fields) × CheckingAt (now incoming) v n (now plan) w s Δ × (countFields Δ ≡ scope) × (isTransform s ≡ true)) ⌝ }
-    ensures { λ r. ⌜ ((s : Selector) (Δ : Fields) → CheckingAt (now (incoming .entry)) v n (now (plan .entry)) w s Δ → countFields Δ ≡ scope → isTransform s ≡ true → r ≡ checkedOf (typeOf Δ s)) ⌝ }
+    ensures { λ r. ⌜ ((s : Selector) (Δ : Fields) → CheckingAt (now (incoming .entry)) v n (now (plan .entry)) w s Δ → countFields Δ ≡ scope → isTransform s ≡ true → r ≡ measuredOf true (typeOf Δ s)) ⌝ }
 {
     let x = w.to_input();
     match check_scoped(incoming, v, n, plan, x, scope) {
-        Checked::Passed => match check_input(incoming, v, n, plan, w, x) {
-            Rest::Passed => Checked::Passed,
-            Rest::Refused(k) => Checked::Refused(k),
+        Measured::Passed(size) => match check_input(incoming, v, n, plan, w, x, size) {
+            Rest::Passed(z) => Measured::Passed(z),
+            Rest::Refused(k) => Measured::Refused(k),
             Rest::Fields(count, m) => check_fields(incoming, v, n, plan, w, count, m),
-            Rest::Element => check_element(incoming, v, n, plan, w),
+            Rest::Element(head) => check_element(incoming, v, n, plan, w, head),
         },
-        Checked::Refused(k) => Checked::Refused(k),
+        Measured::Refused(k) => Measured::Refused(k),
     }
 }
 
-// The selectors of a struct mapping, whose positions take from so many columns, then its result.
+// The selectors of a struct mapping, whose positions take from so many columns, then its result, by the sizes of its fields.
 fn check_fields(
     incoming: &[u8],
     v: Edition,
@@ -261,41 +290,39 @@ fn check_fields(
     w: Walk,
     count: u16,
     scope: u16,
-) -> Checked
+) -> Measured
     requires { ⌜ ((i : Selector) × (ss : Selectors) × (fs : Fields) × MappingAt (now incoming) v n (now plan) w (structMapping i ss) i (struct fs) × (countSelectors ss ≡ count) × (countFields fs ≡ scope)) ⌝ }
-    ensures { λ r. ⌜ ((i : Selector) (ss : Selectors) (fs : Fields) (name : Bytes) → MappingAt (now (incoming .entry)) v n (now (plan .entry)) w (structMapping i ss) i (struct fs) → countSelectors ss ≡ count → countFields fs ≡ scope → r ≡ checkedOf (fieldsResult fs ss name)) ⌝ }
+    ensures { λ r. ⌜ ((i : Selector) (ss : Selectors) (fs : Fields) (name : Bytes) → MappingAt (now (incoming .entry)) v n (now (plan .entry)) w (structMapping i ss) i (struct fs) → countSelectors ss ≡ count → countFields fs ≡ scope → r ≡ measuredOf true (fieldsResult fs ss name)) ⌝ }
 {
     let first = first_child(plan, w);
     let mut at = first.at;
+    let mut fields = Fit::Within(0, 0);
     let mut k: u16 = 0;
     while k < count {
         let c = Cursor { at };
         let x = child_at(w, k, c);
         match check_scoped(incoming, v, n, plan, x, scope) {
-            Checked::Passed => {
+            Measured::Passed(size) => {
+                fields = add_field(incoming, v, n, plan, x, size, fields);
                 let d = skip_selector(plan, c);
                 at = d.at;
                 k += 1;
             }
-            Checked::Refused(j) => return Checked::Refused(j),
+            Measured::Refused(j) => return Measured::Refused(j),
         }
     }
-    let r = found_in(Source::Mapped, Cursor { at: 0 }, w);
-    fitting(within_limits(incoming, v, n, plan, r))
+    fitting(around(3, fields))
 }
 
-// The selector of a list or array mapping, then its result. Its positions take from the element alone.
-fn check_element(incoming: &[u8], v: Edition, n: u16, plan: &[u8], w: Walk) -> Checked
-    requires { ⌜ ((t : DataType) × (e : Selector) × (f : DataType → DataType) × Elements (now incoming) v n (now plan) w t e f) ⌝ }
-    ensures { λ r. ⌜ ((t : DataType) (e : Selector) (f : DataType → DataType) (name : Bytes) → Elements (now (incoming .entry)) v n (now (plan .entry)) w t e f → r ≡ checkedOf (elementResult t e f name)) ⌝ }
+// The selector of a list or array mapping, then its result, whose head has so many bytes. Its positions take from the element alone.
+fn check_element(incoming: &[u8], v: Edition, n: u16, plan: &[u8], w: Walk, head: usize) -> Measured
+    requires { ⌜ ((t : DataType) × (e : Selector) × (f : DataType → DataType) × Elements (now incoming) v n (now plan) w t e f head) ⌝ }
+    ensures { λ r. ⌜ ((t : DataType) (e : Selector) (f : DataType → DataType) (name : Bytes) → Elements (now (incoming .entry)) v n (now (plan .entry)) w t e f head → r ≡ measuredOf true (elementResult t e f name)) ⌝ }
 {
     let x = w.child(plan, 0);
     match check_scoped(incoming, v, n, plan, x, 1) {
-        Checked::Passed => {
-            let r = found_in(Source::Mapped, Cursor { at: 0 }, w);
-            fitting(within_limits(incoming, v, n, plan, r))
-        }
-        Checked::Refused(k) => Checked::Refused(k),
+        Measured::Passed(size) => fitting(list_fit(incoming, v, n, plan, x, size, head)),
+        Measured::Refused(k) => Measured::Refused(k),
     }
 }
 
@@ -305,5 +332,5 @@ pub fn check_selector(incoming: &[u8], v: Edition, n: u16, plan: &[u8], w: Walk)
     ensures { λ r. ⌜ ((s : Selector) (Δ : Fields) → CheckingAt (now (incoming .entry)) v n (now (plan .entry)) w s Δ → r ≡ checkedOf (typeOf Δ s)) ⌝ }
 {
     let scope = scope_count(incoming, v, n, plan, w);
-    check_scoped(incoming, v, n, plan, w, scope)
+    dropped(check_scoped(incoming, v, n, plan, w, scope))
 }

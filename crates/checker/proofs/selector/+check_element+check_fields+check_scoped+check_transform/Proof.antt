@@ -3,8 +3,9 @@ use Prim.Native.Nat.{_+_, _*_, _-_, ℕ, _<_}
 use mathlib.Core.Path.{sym, ap, _∙_}
 use native.Mathlib.Omega.{arith}
 use Rattle.walk.specs.Standing.{rank}
-use Rattle.checker.specs.Checking.{fittingOf}
-use Rattle.checker.proofs.Selecting.{checking-before, transform-is, a-transform, input-asks, input-falls, input-refused, input-passed, rest-of, mapped-as, one-element, element-child-asks, element-step, element-made, element-refused, element-passed, element-given, mapping-asks, Passing, passing-start, passing-asks, passing-falls, passing-refused, passing-more, passing-limits, passing-end}
+use Rattle.plan.specs.Check.{typeOf}
+use Rattle.checker.specs.Checking.{measuredOf, isTransform}
+use Rattle.checker.proofs.Selecting.{checking-before, transform-is, a-transform, input-asks, input-falls, input-refused, input-passed, rest-of, one-element, element-child-asks, element-small, element-step, element-refused, element-passed, element-typed, element-given, mapping-asks, Passing, passing-start, passing-asks, passing-falls, passing-named, passing-refused, passing-more, passing-end}
 use borrow.Author.Needs.{needs}
 use borrow.Fn.Kinds.{In}
 use borrow.Fn.PlainCycle.{Measures, is, falls, and}
@@ -22,8 +23,9 @@ use Rattle.checker.proofs.selector.check_transform.Kinds as check-trans
 use Rattle.checker.proofs.selector.+check_element+check_fields+check_scoped+check_transform.Lts-check_transform as check-transform-lts
 use Rattle.checker.proofs.child.child_at.Reads as child-at-reads
 use Rattle.checker.proofs.child.first_child.Reads as first-child-reads
-use Rattle.checker.proofs.limits.within_limits.Reads as within-limits-reads
-use Rattle.checker.proofs.resolve.found_in.Reads as found-in-reads
+use Rattle.checker.proofs.limits.add_field.Reads as add-field-reads
+use Rattle.checker.proofs.limits.around.Reads as around-reads
+use Rattle.checker.proofs.limits.list_fit.Reads as list-fit-reads
 use Rattle.checker.proofs.selector.check_input.Reads as check-input-reads
 use Rattle.checker.proofs.selector.check_source.Reads as check-source-reads
 use Rattle.checker.proofs.selector.fitting.Reads as fitting-reads
@@ -108,10 +110,8 @@ check-element-claims t = (
   child-reads.Learnt,
   check-scoped-below t,
   check-scoped.Post,
-  found-in-reads.Asked,
-  found-in-reads.Learnt,
-  within-limits-reads.Asked,
-  within-limits-reads.Learnt,
+  list-fit-reads.Asked,
+  list-fit-reads.Learnt,
   fitting-reads.Asked,
   fitting-reads.Learnt,
 )
@@ -124,12 +124,12 @@ check-fields-claims t = (
   child-at-reads.Learnt,
   check-scoped-below t,
   check-scoped.Post,
+  add-field-reads.Asked,
+  add-field-reads.Learnt,
   skip-selector-reads.Asked,
   skip-selector-reads.Learnt,
-  found-in-reads.Asked,
-  found-in-reads.Learnt,
-  within-limits-reads.Asked,
-  within-limits-reads.Learnt,
+  around-reads.Asked,
+  around-reads.Learnt,
   fitting-reads.Asked,
   fitting-reads.Learnt,
 )
@@ -165,19 +165,12 @@ check-element-check-scoped-requires : (t : ℕ) → check-element-lts.Need-check
 check-element-check-scoped-requires t c κs = let (u, e, f, E) = c .before .before .before .pre .1 in
     let S = element-step E (c .child .ensures) in (omega (arith, c .before .before .before .pre .0, S .falls), (e, _, S .checking, one-element u))
 
-check-element-enum-told : (t : ℕ) → check-element-lts.Need-enum-told (check-element-claims t) (check-element-at t) check-element.Post
-check-element-enum-told t c = search needs
+check-element-enum-known-size : (t : ℕ) → check-element-lts.Need-enum-known-size (check-element-claims t) (check-element-at t) check-element.Post
+check-element-enum-known-size t c = search needs
 
-check-element-found-in-requires : (t : ℕ) → check-element-lts.Need-found-in-requires (check-element-claims t) (check-element-at t) check-element.Post
-check-element-found-in-requires t c κs = search needs
-
-check-element-within-limits-requires : (t : ℕ) → check-element-lts.Need-within-limits-requires (check-element-claims t) (check-element-at t) check-element.Post
-check-element-within-limits-requires t c κs = let (u, e, f, E) = c .before .before .before .before .before .before .before .pre .1 in (
-  _,
-  mapped-as (c .found-in .ensures)
-      (element-made E (element-passed E (c .before .before .before .before .child .ensures) (c .before .before .before .check-scoped .ensures)
-      (c .before .enum-told .given .1) .1)),
-)
+check-element-list-fit-requires : (t : ℕ) → check-element-lts.Need-list-fit-requires (check-element-claims t) (check-element-at t) check-element.Post
+check-element-list-fit-requires t c κs = let (u, e, f, E) = c .before .before .before .before .before .before .before .pre .1 in let g = c .before .before .before .before .child .ensures in let h = c .before .before .before .check-scoped .ensures in let p = c .before .size .given .1 in
+    ((isTransform e, _, element-typed E g h p, element-passed E g h p .sized), element-small E)
 
 check-element-fitting-requires : (t : ℕ) → check-element-lts.Need-fitting-requires (check-element-claims t) (check-element-at t) check-element.Post
 check-element-fitting-requires t c κs = search needs
@@ -186,21 +179,16 @@ check-element-enum-known-k : (t : ℕ) → check-element-lts.Need-enum-known-k (
 check-element-enum-known-k t c = search needs
 
 check-element-returns : (t : ℕ) → check-element-lts.Need-returns (check-element-claims t) (check-element-at t) check-element.Post
-check-element-returns t c = λ u e f name E. let g = c .before .before .before .before .before .before .child .ensures in
-    let h = c .before .before .before .before .before .check-scoped .ensures in
-    let p = c .before .before .before .enum-told .given .1 in element-given E g h p name
-    (c .fitting .ensures
-    ∙ ap fittingOf (c .before .within-limits .ensures _ (mapped-as (c .before .before .found-in .ensures) (element-made E (element-passed E g h p .1)))))
+check-element-returns t c = λ u e f name E. element-given E (c .before .before .before .before .before .before .child .ensures) (c .before .before .before .before .before .check-scoped .ensures) (c .before .before .before .size .given .1) (c .before .list-fit .ensures) (c .fitting .ensures) name
 
 check-element-returns-2 : (t : ℕ) → check-element-lts.Need-returns-2 (check-element-claims t) (check-element-at t) check-element.Post
-check-element-returns-2 t c = λ u e f name E. element-refused E (c .before .before .before .before .child .ensures)
-    (c .before .before .before .check-scoped .ensures) name (c .before .k .given .1)
+check-element-returns-2 t c = λ u e f name E. element-refused E (c .before .before .before .before .child .ensures) (c .before .before .before .check-scoped .ensures) name (c .before .k .given .1)
 
 abbrev check-fields-Inv-loop : check-fields-lts.InvT-loop
-check-fields-Inv-loop incoming v n plan w count scope at₀ k₀ at k = Passing incoming v n plan w count scope at k
+check-fields-Inv-loop incoming v n plan w count scope at₀ fields₀ k₀ at fields k = Passing incoming v n plan w count scope at fields k
 
 abbrev check-fields-μ-loop : check-fields-lts.MeasureT-loop
-check-fields-μ-loop incoming v n plan w count scope at₀ k₀ at k = count - k
+check-fields-μ-loop incoming v n plan w count scope at₀ fields₀ k₀ at fields k = count - k
 
 check-fields-first-child-requires : (t : ℕ)
     → check-fields-lts.Need-first-child-requires (check-fields-claims t) (check-fields-at t) check-fields.Post check-fields-Inv-loop check-fields-μ-loop
@@ -226,58 +214,46 @@ check-fields-check-scoped-requires t c κs = (
   passing-asks (c .before .before .loop .inv) (c .before .loop-test .taken) (c .child-at .ensures),
 )
 
-check-fields-enum-told : (t : ℕ)
-    → check-fields-lts.Need-enum-told (check-fields-claims t) (check-fields-at t) check-fields.Post check-fields-Inv-loop check-fields-μ-loop
-check-fields-enum-told t c = search needs
+check-fields-enum-known-size : (t : ℕ) → check-fields-lts.Need-enum-known-size (check-fields-claims t) (check-fields-at t) check-fields.Post check-fields-Inv-loop check-fields-μ-loop
+check-fields-enum-known-size t c = search needs
 
-check-fields-skip-selector-requires : (t : ℕ)
-    → check-fields-lts.Need-skip-selector-requires (check-fields-claims t) (check-fields-at t) check-fields.Post check-fields-Inv-loop check-fields-μ-loop
-check-fields-skip-selector-requires t c κs = search needs
-
-check-fields-add-k : (t : ℕ)
-    → check-fields-lts.Need-add-k (check-fields-claims t) (check-fields-at t) check-fields.Post check-fields-Inv-loop check-fields-μ-loop
-check-fields-add-k t c = omega (
-  arith,
-  c .before .before .before .before .before .before .before .before .before .before .fits .count,
-  c .before .before .before .before .before .loop-test .taken,
+check-fields-add-field-requires : (t : ℕ) → check-fields-lts.Need-add-field-requires (check-fields-claims t) (check-fields-at t) check-fields.Post check-fields-Inv-loop check-fields-μ-loop
+check-fields-add-field-requires t c κs = (
+  passing-named (c .before .before .before .before .before .before .loop .inv) (c .before .before .before .before .before .loop-test .taken) (c .before .before .before .before .child-at .ensures) (c .before .before .before .check-scoped .ensures)
+      (c .before .size .given .1),
+  c .before .before .before .before .before .before .loop .inv .small,
 )
 
-check-fields-loop-less : (t : ℕ)
-    → check-fields-lts.Need-loop-less (check-fields-claims t) (check-fields-at t) check-fields.Post check-fields-Inv-loop check-fields-μ-loop
-check-fields-loop-less t c = omega (arith, c .before .before .before .before .before .loop-test .taken)
+check-fields-skip-selector-requires : (t : ℕ) → check-fields-lts.Need-skip-selector-requires (check-fields-claims t) (check-fields-at t) check-fields.Post check-fields-Inv-loop check-fields-μ-loop
+check-fields-skip-selector-requires t c κs = search needs
 
-check-fields-loop-again : (t : ℕ)
-    → check-fields-lts.Need-loop-again (check-fields-claims t) (check-fields-at t) check-fields.Post check-fields-Inv-loop check-fields-μ-loop
-check-fields-loop-again t c = passing-more (c .before .before .before .before .before .before .loop .inv)
-    (c .before .before .before .before .before .loop-test .taken) (c .before .before .before .before .child-at .ensures)
-    (c .before .before .before .check-scoped .ensures) (c .before .enum-told .given .1) (c .skip-selector .ensures)
+check-fields-add-k : (t : ℕ) → check-fields-lts.Need-add-k (check-fields-claims t) (check-fields-at t) check-fields.Post check-fields-Inv-loop check-fields-μ-loop
+check-fields-add-k t c = omega (arith, c .before .before .before .before .before .before .before .before .before .before .before .before .fits .count, c .before .before .before .before .before .before .before .loop-test .taken)
 
-check-fields-enum-known-j : (t : ℕ)
-    → check-fields-lts.Need-enum-known-j (check-fields-claims t) (check-fields-at t) check-fields.Post check-fields-Inv-loop check-fields-μ-loop
+check-fields-loop-less : (t : ℕ) → check-fields-lts.Need-loop-less (check-fields-claims t) (check-fields-at t) check-fields.Post check-fields-Inv-loop check-fields-μ-loop
+check-fields-loop-less t c = omega (arith, c .before .before .before .before .before .before .before .loop-test .taken)
+
+check-fields-loop-again : (t : ℕ) → check-fields-lts.Need-loop-again (check-fields-claims t) (check-fields-at t) check-fields.Post check-fields-Inv-loop check-fields-μ-loop
+check-fields-loop-again t c = passing-more (c .before .before .before .before .before .before .before .before .loop .inv)
+    (c .before .before .before .before .before .before .before .loop-test .taken) (c .before .before .before .before .before .before .child-at .ensures)
+    (c .before .before .before .before .before .check-scoped .ensures) (c .before .before .before .size .given .1) (c .before .add-field .ensures) (c .skip-selector .ensures)
+
+check-fields-enum-known-j : (t : ℕ) → check-fields-lts.Need-enum-known-j (check-fields-claims t) (check-fields-at t) check-fields.Post check-fields-Inv-loop check-fields-μ-loop
 check-fields-enum-known-j t c = search needs
 
-check-fields-returns : (t : ℕ)
-    → check-fields-lts.Need-returns (check-fields-claims t) (check-fields-at t) check-fields.Post check-fields-Inv-loop check-fields-μ-loop
+check-fields-returns : (t : ℕ) → check-fields-lts.Need-returns (check-fields-claims t) (check-fields-at t) check-fields.Post check-fields-Inv-loop check-fields-μ-loop
 check-fields-returns t c = passing-refused (c .before .before .before .before .before .before .loop .inv)
     (c .before .before .before .before .before .loop-test .taken) (c .before .before .before .before .child-at .ensures)
     (c .before .before .before .check-scoped .ensures) (c .before .j .given .1)
 
-check-fields-found-in-requires : (t : ℕ)
-    → check-fields-lts.Need-found-in-requires (check-fields-claims t) (check-fields-at t) check-fields.Post check-fields-Inv-loop check-fields-μ-loop
-check-fields-found-in-requires t c κs = search needs
+check-fields-around-requires : (t : ℕ) → check-fields-lts.Need-around-requires (check-fields-claims t) (check-fields-at t) check-fields.Post check-fields-Inv-loop check-fields-μ-loop
+check-fields-around-requires t c κs = λ s d q. let (m, k) = c .before .loop .inv .small s d q in (omega (arith, k), omega (arith, m))
 
-check-fields-within-limits-requires : (t : ℕ)
-    → check-fields-lts.Need-within-limits-requires (check-fields-claims t) (check-fields-at t) check-fields.Post check-fields-Inv-loop check-fields-μ-loop
-check-fields-within-limits-requires t c κs = passing-limits (c .before .before .loop .inv) (c .before .loop-test .left) (c .found-in .ensures)
-
-check-fields-fitting-requires : (t : ℕ)
-    → check-fields-lts.Need-fitting-requires (check-fields-claims t) (check-fields-at t) check-fields.Post check-fields-Inv-loop check-fields-μ-loop
+check-fields-fitting-requires : (t : ℕ) → check-fields-lts.Need-fitting-requires (check-fields-claims t) (check-fields-at t) check-fields.Post check-fields-Inv-loop check-fields-μ-loop
 check-fields-fitting-requires t c κs = search needs
 
-check-fields-returns-2 : (t : ℕ)
-    → check-fields-lts.Need-returns-2 (check-fields-claims t) (check-fields-at t) check-fields.Post check-fields-Inv-loop check-fields-μ-loop
-check-fields-returns-2 t c = passing-end (c .before .before .before .before .loop .inv) (c .before .before .before .loop-test .left)
-    (c .before .before .found-in .ensures) (c .fitting .ensures) (c .before .within-limits .ensures)
+check-fields-returns-2 : (t : ℕ) → check-fields-lts.Need-returns-2 (check-fields-claims t) (check-fields-at t) check-fields.Post check-fields-Inv-loop check-fields-μ-loop
+check-fields-returns-2 t c = passing-end (c .before .before .before .loop .inv) (c .before .before .loop-test .left) (c .before .around .ensures) (c .fitting .ensures)
 
 check-scoped-is-transform-requires : (t : ℕ) → check-scoped-lts.Need-is-transform-requires (check-scoped-claims t) (check-scoped-at t) check-scoped.Post
 check-scoped-is-transform-requires t c κs = search needs
@@ -289,15 +265,15 @@ check-scoped-check-transform-requires t c κs = let (s, Δ, C, d) = c .before .b
 )
 
 check-scoped-returns : (t : ℕ) → check-scoped-lts.Need-returns (check-scoped-claims t) (check-scoped-at t) check-scoped.Post
-check-scoped-returns t c = λ s Δ C d. c .check-transform .ensures s Δ C d
-    (transform-is C (c .before .before .is-transform .ensures (C .standing .here)) (c .before .if1 .taken))
+check-scoped-returns t c = λ s Δ C d. let h = transform-is C (c .before .before .is-transform .ensures (C .standing .here)) (c .before .if1 .taken) in
+    c .check-transform .ensures s Δ C d h ∙ ap (λ b. measuredOf b (typeOf Δ s)) (sym h)
 
 check-scoped-check-source-requires : (t : ℕ) → check-scoped-lts.Need-check-source-requires (check-scoped-claims t) (check-scoped-at t) check-scoped.Post
 check-scoped-check-source-requires t c κs = search needs
 
 check-scoped-returns-2 : (t : ℕ) → check-scoped-lts.Need-returns-2 (check-scoped-claims t) (check-scoped-at t) check-scoped.Post
-check-scoped-returns-2 t c = λ s Δ C d. c .check-source .ensures _ _ _ s Δ C d
-    (transform-is C (c .before .before .is-transform .ensures (C .standing .here)) (c .before .if1 .left))
+check-scoped-returns-2 t c = λ s Δ C d. let h = transform-is C (c .before .before .is-transform .ensures (C .standing .here)) (c .before .if1 .left) in
+    c .check-source .ensures _ _ _ s Δ C d h ∙ ap (λ b. measuredOf b (typeOf Δ s)) (sym h)
 
 check-transform-to-input-requires : (t : ℕ) → check-transform-lts.Need-to-input-requires (check-transform-claims t) (check-transform-at t) check-transform.Post
 check-transform-to-input-requires t c κs = let (s, Δ, C, d, h) = c .before .before .pre .1 in checking-before C
@@ -308,20 +284,20 @@ check-transform-check-scoped-requires t c κs = let (s, Δ, C, d, h) = c .before
     let T = a-transform C h .transforms in
     (omega (arith, c .before .before .before .pre .0, input-falls C T (c .to-input .ensures)), input-asks C T (c .to-input .ensures) d)
 
-check-transform-enum-told : (t : ℕ) → check-transform-lts.Need-enum-told (check-transform-claims t) (check-transform-at t) check-transform.Post
-check-transform-enum-told t c = search needs
+check-transform-enum-known-size : (t : ℕ) → check-transform-lts.Need-enum-known-size (check-transform-claims t) (check-transform-at t) check-transform.Post
+check-transform-enum-known-size t c = search needs
 
 check-transform-check-input-requires : (t : ℕ)
     → check-transform-lts.Need-check-input-requires (check-transform-claims t) (check-transform-at t) check-transform.Post
-check-transform-check-input-requires t c κs = let (s, Δ, C, d, h) = c .before .before .before .before .before .before .pre .1 in (
+check-transform-check-input-requires t c κs = let (s, Δ, C, d, h) = c .before .before .before .before .before .before .before .pre .1 in (
   s,
   Δ,
-  (input-passed C (a-transform C h .transforms) (c .before .before .before .to-input .ensures) d (c .before .before .check-scoped .ensures)
-      (c .enum-told .given .1)),
+  input-passed C (a-transform C h .transforms) (c .before .before .before .before .to-input .ensures) d
+      (c .before .before .before .check-scoped .ensures) (c .before .size .given .1),
 )
 
-check-transform-enum-told-2 : (t : ℕ) → check-transform-lts.Need-enum-told-2 (check-transform-claims t) (check-transform-at t) check-transform.Post
-check-transform-enum-told-2 t c = search needs
+check-transform-enum-known-z : (t : ℕ) → check-transform-lts.Need-enum-known-z (check-transform-claims t) (check-transform-at t) check-transform.Post
+check-transform-enum-known-z t c = search needs
 
 check-transform-enum-known-k : (t : ℕ) → check-transform-lts.Need-enum-known-k (check-transform-claims t) (check-transform-at t) check-transform.Post
 check-transform-enum-known-k t c = search needs
@@ -331,57 +307,56 @@ check-transform-enum-known-count t c = search needs
 
 check-transform-check-fields-requires : (t : ℕ)
     → check-transform-lts.Need-check-fields-requires (check-transform-claims t) (check-transform-at t) check-transform.Post
-check-transform-check-fields-requires t c κs = let
-    (s, Δ, C, d, h) = c .before .before .before .before .before .before .before .before .before .before .pre .1 in
+check-transform-check-fields-requires t c κs = let (s, Δ, C, d, h) = c .before .before .before .before .before .before .before .before .before .before .before .pre .1 in
     let F = rest-of (c .before .before .before .check-input .ensures s Δ
-    (input-passed C (a-transform C h .transforms) (c .before .before .before .before .before .before .before .to-input .ensures) d
-    (c .before .before .before .before .before .before .check-scoped .ensures) (c .before .before .before .before .enum-told .given .1)))
-    (c .before .count .given .1) in (
-      omega (arith, c .before .before .before .before .before .before .before .before .before .before .pre .0),
-      (F .input, F .parts, F .scope, F .mapping, F .counted, F .columns),
-    )
+    (input-passed C (a-transform C h .transforms) (c .before .before .before .before .before .before .before .before .to-input .ensures) d
+    (c .before .before .before .before .before .before .before .check-scoped .ensures) (c .before .before .before .before .before .size .given .1)))
+    (c .before .count .given .1) in
+    (omega (arith, c .before .before .before .before .before .before .before .before .before .before .before .pre .0), (F .input, F .parts, F .scope, F .mapping, F .counted, F .columns))
 
-check-transform-enum-told-3 : (t : ℕ) → check-transform-lts.Need-enum-told-3 (check-transform-claims t) (check-transform-at t) check-transform.Post
-check-transform-enum-told-3 t c = search needs
+check-transform-enum-known-head : (t : ℕ) → check-transform-lts.Need-enum-known-head (check-transform-claims t) (check-transform-at t) check-transform.Post
+check-transform-enum-known-head t c = search needs
 
 check-transform-check-element-requires : (t : ℕ)
     → check-transform-lts.Need-check-element-requires (check-transform-claims t) (check-transform-at t) check-transform.Post
-check-transform-check-element-requires t c κs = let (s, Δ, C, d, h) = c .before .before .before .before .before .before .before .before .before .pre .1 in
-    let E = rest-of (c .before .before .check-input .ensures s Δ
-    (input-passed C (a-transform C h .transforms) (c .before .before .before .before .before .before .to-input .ensures) d
-    (c .before .before .before .before .before .check-scoped .ensures) (c .before .before .before .enum-told .given .1))) (c .enum-told3 .given .1) in
-    (omega (arith, c .before .before .before .before .before .before .before .before .before .pre .0), (E .element, E .selector, E .makes, E .elements))
+check-transform-check-element-requires t c κs = let (s, Δ, C, d, h) = c .before .before .before .before .before .before .before .before .before .before .before .pre .1 in
+    let E = rest-of (c .before .before .before .check-input .ensures s Δ
+    (input-passed C (a-transform C h .transforms) (c .before .before .before .before .before .before .before .before .to-input .ensures) d
+    (c .before .before .before .before .before .before .before .check-scoped .ensures) (c .before .before .before .before .before .size .given .1)))
+    (c .before .head .given .1) in
+    (omega (arith, c .before .before .before .before .before .before .before .before .before .before .before .pre .0), (E .element, E .selector, E .makes, E .elements))
 
 check-transform-enum-known-k-2 : (t : ℕ) → check-transform-lts.Need-enum-known-k-2 (check-transform-claims t) (check-transform-at t) check-transform.Post
 check-transform-enum-known-k-2 t c = search needs
 
 check-transform-returns : (t : ℕ) → check-transform-lts.Need-returns (check-transform-claims t) (check-transform-at t) check-transform.Post
 check-transform-returns t c = λ s Δ C d h. rest-of
-    (c .before .before .check-input .ensures s Δ
-    (input-passed C (a-transform C h .transforms) (c .before .before .before .before .before .before .to-input .ensures) d
-    (c .before .before .before .before .before .check-scoped .ensures) (c .before .before .before .enum-told .given .1))) (c .enum-told2 .given .1)
+    (c .before .before .before .check-input .ensures s Δ
+    (input-passed C (a-transform C h .transforms) (c .before .before .before .before .before .before .before .before .to-input .ensures) d
+    (c .before .before .before .before .before .before .before .check-scoped .ensures) (c .before .before .before .before .before .size .given .1)))
+    (c .before .z .given .1)
 
 check-transform-returns-2 : (t : ℕ) → check-transform-lts.Need-returns-2 (check-transform-claims t) (check-transform-at t) check-transform.Post
 check-transform-returns-2 t c = λ s Δ C d h. rest-of
     (c .before .before .before .check-input .ensures s Δ
-    (input-passed C (a-transform C h .transforms) (c .before .before .before .before .before .before .before .to-input .ensures) d
-    (c .before .before .before .before .before .before .check-scoped .ensures) (c .before .before .before .before .enum-told .given .1)))
+    (input-passed C (a-transform C h .transforms) (c .before .before .before .before .before .before .before .before .to-input .ensures) d
+    (c .before .before .before .before .before .before .before .check-scoped .ensures) (c .before .before .before .before .before .size .given .1)))
     (c .before .k .given .1)
 
 check-transform-returns-3 : (t : ℕ) → check-transform-lts.Need-returns-3 (check-transform-claims t) (check-transform-at t) check-transform.Post
 check-transform-returns-3 t c = λ s Δ C d h. let F = rest-of
     (c .before .before .before .before .check-input .ensures s Δ
-    (input-passed C (a-transform C h .transforms) (c .before .before .before .before .before .before .before .before .to-input .ensures) d
-    (c .before .before .before .before .before .before .before .check-scoped .ensures) (c .before .before .before .before .before .enum-told .given .1)))
+    (input-passed C (a-transform C h .transforms) (c .before .before .before .before .before .before .before .before .before .to-input .ensures) d
+    (c .before .before .before .before .before .before .before .before .check-scoped .ensures) (c .before .before .before .before .before .before .size .given .1)))
     (c .before .before .count .given .1) in c .check-fields .ensures (F .input) (F .parts) (F .scope) (F .name) (F .mapping) (F .counted) (F .columns)
     ∙ sym (F .left)
 
 check-transform-returns-4 : (t : ℕ) → check-transform-lts.Need-returns-4 (check-transform-claims t) (check-transform-at t) check-transform.Post
 check-transform-returns-4 t c = λ s Δ C d h. let E = rest-of
-    (c .before .before .before .check-input .ensures s Δ
-    (input-passed C (a-transform C h .transforms) (c .before .before .before .before .before .before .before .to-input .ensures) d
-    (c .before .before .before .before .before .before .check-scoped .ensures) (c .before .before .before .before .enum-told .given .1)))
-    (c .before .enum-told3 .given .1) in c .check-element .ensures (E .element) (E .selector) (E .makes) (E .name) (E .elements) ∙ sym (E .left)
+    (c .before .before .before .before .check-input .ensures s Δ
+    (input-passed C (a-transform C h .transforms) (c .before .before .before .before .before .before .before .before .before .to-input .ensures) d
+    (c .before .before .before .before .before .before .before .before .check-scoped .ensures) (c .before .before .before .before .before .before .size .given .1)))
+    (c .before .before .head .given .1) in c .check-element .ensures (E .element) (E .selector) (E .makes) (E .name) (E .elements) ∙ sym (E .left)
 
 check-transform-returns-5 : (t : ℕ) → check-transform-lts.Need-returns-5 (check-transform-claims t) (check-transform-at t) check-transform.Post
 check-transform-returns-5 t c = λ s Δ C d h. input-refused C (a-transform C h .transforms) (c .before .before .before .before .to-input .ensures) d
@@ -399,9 +374,8 @@ pub +check-element+check-fields+check-scoped+check-transform-spec : {M : Type 1}
     check-element.Post
     (check-element-child-requires t)
     (check-element-check-scoped-requires t)
-    (check-element-enum-told t)
-    (check-element-found-in-requires t)
-    (check-element-within-limits-requires t)
+    (check-element-enum-known-size t)
+    (check-element-list-fit-requires t)
     (check-element-fitting-requires t)
     (check-element-enum-known-k t)
     (check-element-returns t)
@@ -415,15 +389,15 @@ pub +check-element+check-fields+check-scoped+check-transform-spec : {M : Type 1}
     (check-fields-loop-holds t)
     (check-fields-child-at-requires t)
     (check-fields-check-scoped-requires t)
-    (check-fields-enum-told t)
+    (check-fields-enum-known-size t)
+    (check-fields-add-field-requires t)
     (check-fields-skip-selector-requires t)
     (check-fields-add-k t)
     (check-fields-loop-less t)
     (check-fields-loop-again t)
     (check-fields-enum-known-j t)
     (check-fields-returns t)
-    (check-fields-found-in-requires t)
-    (check-fields-within-limits-requires t)
+    (check-fields-around-requires t)
     (check-fields-fitting-requires t)
     (check-fields-returns-2 t))
     (λ t. check-scoped-lts.spec (check-scoped-claims t)
@@ -439,13 +413,13 @@ pub +check-element+check-fields+check-scoped+check-transform-spec : {M : Type 1}
     check-transform.Post
     (check-transform-to-input-requires t)
     (check-transform-check-scoped-requires t)
-    (check-transform-enum-told t)
+    (check-transform-enum-known-size t)
     (check-transform-check-input-requires t)
-    (check-transform-enum-told-2 t)
+    (check-transform-enum-known-z t)
     (check-transform-enum-known-k t)
     (check-transform-enum-known-count t)
     (check-transform-check-fields-requires t)
-    (check-transform-enum-told-3 t)
+    (check-transform-enum-known-head t)
     (check-transform-check-element-requires t)
     (check-transform-enum-known-k-2 t)
     (check-transform-returns t)
