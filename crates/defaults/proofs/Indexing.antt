@@ -1,7 +1,7 @@
 -- An index of entries: how a chain is followed, and what holds after each entry that is put in. Assumes nothing.
 use Prim.Native.Nat.{ℕ, zero, suc, _+_, _-_, _/_, _%_, _≤_, _<_}
 use mathlib.Core.Path.{_≡_, refl, sym, ap, ap₂, _∙_, subst}
-use mathlib.Core.List.{List}
+use mathlib.Core.List.{List, []}
 use mathlib.Core.Bool.{Bool, true, false, _&&_}
 use native.Mathlib.Omega.{arith}
 use native.Mathlib.Decide.{ℕ-discrete}
@@ -12,19 +12,20 @@ use lib.Seq.{getD-set-same, getD-set-other}
 use borrow.Author.Tests.{eqb-true, eq-eqb, ne-eqb, ltb-true, ltb-false}
 use Rattle.layout.specs.Bytes.{Bytes}
 use Rattle.layout.specs.Parser.{Res, refuse, ok, next, choose, u16, u32}
-use Rattle.layout.specs.Answers.{longRes}
+use Rattle.layout.specs.Answers.{longRes, movedOf}
 use Rattle.layout.specs.declared.columns.FieldId.{FieldId}
 use Rattle.layout.specs.declared.cursor.Cursor.{Cursor}
 use Rattle.layout.specs.declared.cursor.Long.{Long}
+use Rattle.layout.specs.declared.cursor.Moved.{Moved}
 use Rattle.layout.proofs.Ways.{clash}
 use Rattle.layout.proofs.View.{next-ok}
 use Rattle.layout.proofs.Whole.{u16-at}
 use Rattle.layout.proofs.OfBytes.{both}
 use Rattle.values.proofs.Inside.{renumber-ok}
 use Rattle.values.proofs.Stand.{byte-back}
-use Rattle.defaults.specs.Table.{Given, Entry, kindOf, countsFor, sameKind, sameOwner, entryKind, givenOf, tableNumber, entry, ownerOf}
+use Rattle.defaults.specs.Table.{Given, Entry, kindOf, countsFor, sameKind, sameOwner, entryKind, givenOf, tableNumber, entry, ownerOf, entries}
 use Rattle.defaults.specs.Answers.{kindRes, ownerRes, entryOf, entryAfter, entryRead}
-use Rattle.defaults.specs.Scan.{isOf, seekOn, seek}
+use Rattle.defaults.specs.Scan.{isOf, seekOn, seek, isFound}
 use Rattle.defaults.specs.Index.{EntryHead, entryHead, entryHeadRes, ownerIn, links, headOf, pushed, Cleared, foundOr, follow, followed, Inside, Indexed}
 use Rattle.defaults.specs.declared.read.Owner.{Owner}
 use Rattle.defaults.specs.declared.read.TableVersion.{TableVersion}
@@ -35,7 +36,7 @@ use Rattle.defaults.specs.declared.read.OwnerRead.{OwnerRead}
 use Rattle.defaults.specs.declared.read.EntryRead.{EntryRead}
 use Rattle.defaults.specs.declared.read.HeadRead.{HeadRead}
 use Rattle.defaults.specs.declared.read.EntryFound.{EntryFound}
-use Rattle.defaults.proofs.Reading.{u32-at, kind-at, given-kind}
+use Rattle.defaults.proofs.Reading.{u32-at, kind-at, given-kind, Reading, reading-none, reading-all, reading-broken, reading-repeated, reading-more}
 use Rattle.defaults.proofs.Growing.{given-ends}
 use Rattle.defaults.proofs.Seeking.{same-kind-eq}
 
@@ -283,6 +284,11 @@ own-sought Shared u i k n s at = shared n at
     shared zero at = refl
     shared (suc n) at = step n at (λ m. shared n m) (entry s at)
 
+-- what the index finds is what the scan finds
+pub own-found : {v : TableVersion} {s : Bytes} {n from : ℕ} {index : List ℕ} → Indexed v s n from index → (u : ℕ) (i : FieldId) (k : EntryKind) {o : Owner} {r : EntryFound}
+    → o ≡ ownerIn v u → r ≡ followed v o i k n s index → r ≡ seek v (Owner.Only u) i k n s from
+own-found {v} {s} {n} {from} {index} I u i k e f = f ∙ ap (λ (o : Owner). followed v o i k n s index) e ∙ I .finds u i k ∙ own-sought v u i k n s from
+
 -- ---- the numbers of an index
 
 pub cleared-start : (t : List ℕ) → Cleared 0 t
@@ -480,3 +486,57 @@ module _ {v : TableVersion} {s : Bytes} {from : ℕ} {index : List ℕ} where
             ap (orElse (seek v p i k n s from)) (seek-read p i k r)
             ∙ or-chosen (seek v p i k n s from) (isOf p i k o j l) g (seek v p i k r s (m .at))
             ∙ ap (λ (x : EntryFound). orElse x (seek v p i k r s (m .at))) (sym (one p i k))
+
+-- ---- the loop that reads the entries
+
+absent-of : (x : EntryFound) → isFound x ≡ false → x ≡ EntryFound.Absent
+absent-of (EntryFound.At c) h = clash (cc)
+absent-of EntryFound.Absent h = refl
+
+-- of n entries the first i are read and in their chains
+pub record Filling (v : TableVersion) (s : Bytes) (n from i at : ℕ) (index : List ℕ) : Type 0 where
+  pub reading : Reading v s n from i at
+  pub chained : Chained v s i from at index
+
+module _ {v : TableVersion} {s : Bytes} {n from : ℕ} {index : List ℕ} where
+  pub filling-start : links (length s) < length index → 0 < from → Cleared (length index) index → Filling v s n from 0 from index
+  filling-start long pos C = record { reading = reading-none v s n from; chained = chained-start long pos C }
+
+  module _ {i at : ℕ} (a : Filling v s n from i at index) where
+    pub filling-all : n ≤ i → Moved.To (record { at = at }) ≡ movedOf (entries v n [] s from)
+    filling-all le = reading-all v s n from i at (a .reading) le
+
+    pub filling-end : n ≤ i → Indexed v s n from index
+    filling-end le =
+        let w = a .reading .within in
+        subst (λ (k : ℕ). Indexed v s k from index) (let z : i ≡ n = omega arith in z) (chained-end (a .chained))
+
+    module _ (lt : i < n) {r : EntryRead} (e : r ≡ entryRead v s at) where
+      pub filling-broken : {k : ℕ} → r ≡ EntryRead.Refused k → Moved.Refused k ≡ movedOf (entries v n [] s from)
+      filling-broken f = reading-broken v s n from i at (a .reading) lt e f
+
+      module _ {o : Owner} {j : FieldId} {k : EntryKind} {g m : Cursor} (f : r ≡ EntryRead.Is o j k g m) where
+        pub filling-inside : at < length s
+        filling-inside = entry-span v s at e f .inside
+
+        module _ {q : EntryFound} {b : Bool} (w : q ≡ followed v o j k i s index) (x : b ≡ isFound q) where
+          sought : q ≡ seek v o j k i s from
+          sought =
+              let E = entry-span v s at e f in
+              w ∙ ap (λ (p : Owner). followed v p j k i s index) (E .owner) ∙ a .chained .finds (E .number) j k i (omega arith)
+              ∙ ap (λ (p : Owner). seek v p j k i s from) (sym (E .owner))
+
+          pub filling-repeated : b ≡ true → Moved.Refused 5 ≡ movedOf (entries v n [] s from)
+          filling-repeated y = reading-repeated v s n from i at (a .reading) lt e f sought x y
+
+          pub filling-more : b ≡ false → {t : List ℕ} → t ≡ pushed (length s) at j index → Filling v s n from (i + 1) (m .at) t
+          filling-more y h = record {
+            reading = reading-more v s n from i at (a .reading) lt e f sought x y;
+            chained = subst (λ (t : List ℕ). Chained v s (i + 1) from (m .at) t) (sym h)
+                (chained-more (a .chained) (sym e ∙ f) (entry-span v s at e f) (sym sought ∙ absent-of q (sym x ∙ y)));
+          }
+
+pub pushed-length : (len at : ℕ) (i : FieldId) (index : List ℕ) → length (pushed len at i index) ≡ length index
+pushed-length len at i index =
+    length-set (set index (at / 6) (getD index (headOf len (length index) i) 0)) (headOf len (length index) i) at
+    ∙ length-set index (at / 6) (getD index (headOf len (length index) i) 0)
