@@ -12,7 +12,7 @@ ghost use Rattle.values.specs.Value.{vnull};
 ghost use Rattle.values.specs.Encode.{encodeValue};
 ghost use Rattle.values.specs.Stands.{ValueAt};
 ghost use Rattle.defaults.specs.Lookup.{getDefaultValue};
-ghost use Rattle.defaults.specs.Stands.{TableAt};
+ghost use Rattle.defaults.specs.Stands.{TableAt, DefaultsAt};
 ghost use Rattle.plan.specs.Result.{gives, demand};
 ghost use Rattle.matching.specs.Default.{some, leafDefault};
 ghost use Rattle.builder.specs.Answers.{MakesDefault, anyFilled, isDefaultRefused, isSomeMade, valueLen, fillsMade, failedDefault, constantMade};
@@ -162,6 +162,7 @@ fn put_taken(
 // The default of a field of the leaf type `u`.
 fn put_leaf_default(
     table: &[u8],
+    index: &[u16],
     defaults: DefaultFieldValues,
     id: FieldId,
     target: &[u8],
@@ -169,12 +170,12 @@ fn put_leaf_default(
     out: &mut [u8],
     k: usize,
 ) -> DefaultMade
-    requires { ⌜ TableAt (now table) defaults ⌝ }
+    requires { ⌜ DefaultsAt (now table) (now index) defaults ⌝ }
     requires { ⌜ spanIn (now target) (u .zone) ⌝ }
     requires { ⌜ (length (now table) ≤ 16384) × (k + 16384 < 2 ^ 64) ⌝ }
     ensures { λ r. ⌜ ((b e : ℕ) (T : TableAt (now (table .entry)) defaults) → b < e → MakesDefault anyFilled b e (now (out .entry)) k (leafDefault (leafAt (now (target .entry)) u) (getDefaultValue (T .entries) (defaults .«source_index») id)) r (now (out .exit))) ⌝ }
 {
-    match get_default_value(table, defaults, id) {
+    match get_default_value(table, index, defaults, id) {
         DefaultValue::Failed => DefaultMade::Refused(26),
         DefaultValue::Nothing => put_none(out, k),
         DefaultValue::At(m, c) => put_taken(table, m, c, target, u, out, k),
@@ -186,6 +187,7 @@ pub fn build_iceberg_default_value(
     build: Build,
     depth: u8,
     table: &[u8],
+    index: &[u16],
     target: &[u8],
     id: FieldId,
     b: Cursor,
@@ -193,17 +195,17 @@ pub fn build_iceberg_default_value(
     k: usize,
 ) -> DefaultMade
     requires { ⌜ TypeAt (build .target) depth (now target) (b .at) ⌝ }
-    requires { ⌜ TableAt (now table) (build .defaults) ⌝ }
+    requires { ⌜ DefaultsAt (now table) (now index) (build .defaults) ⌝ }
     requires { ⌜ (length (now table) ≤ 16384) × (k + 16384 * length (now target) < 2 ^ 64 + 16384 * b .at) ⌝ }
     ensures { λ r. ⌜ FieldDefault build depth (now (table .entry)) (now (target .entry)) id b (now (out .entry)) k r (now (out .exit)) ⌝ }
 {
     let defaults = build.defaults;
     match b.head(target) {
-        Head::Leaf(u, _) => put_leaf_default(table, defaults, id, target, u, out, k),
+        Head::Leaf(u, _) => put_leaf_default(table, index, defaults, id, target, u, out, k),
         Head::Struct(count, first) => {
             put(out, k, 1);
             let fields = Fields { count, first };
-            match put_defaults(build, depth - 1, table, target, fields, out, k + 1) {
+            match put_defaults(build, depth - 1, table, index, target, fields, out, k + 1) {
                 DefaultsMade::Failed(m) => DefaultMade::Refused(m),
                 DefaultsMade::Done(any, filled, len) => {
                     if any {
@@ -224,13 +226,14 @@ fn put_defaults(
     build: Build,
     depth: u8,
     table: &[u8],
+    index: &[u16],
     target: &[u8],
     fields: Fields,
     out: &mut [u8],
     k: usize,
 ) -> DefaultsMade
     requires { ⌜ ColumnsAt (build .target) depth (now target) (fields .count) (fields .first .at) ⌝ }
-    requires { ⌜ TableAt (now table) (build .defaults) ⌝ }
+    requires { ⌜ DefaultsAt (now table) (now index) (build .defaults) ⌝ }
     requires { ⌜ (length (now table) ≤ 16384) × (k + 16384 * length (now target) < 2 ^ 64 + 16384 * fields .first .at) ⌝ }
     ensures { λ r. ⌜ FieldsDefaults build depth (now (table .entry)) (now (target .entry)) fields (now (out .entry)) k r (now (out .exit)) ⌝ }
 {
@@ -246,7 +249,17 @@ fn put_defaults(
         match d.label(target, v) {
             Labelled::Is(l, b) => {
                 let id = l.id;
-                let made = build_iceberg_default_value(build, depth, table, target, id, b, out, to);
+                let made = build_iceberg_default_value(
+                    build,
+                    depth,
+                    table,
+                    index,
+                    target,
+                    id,
+                    b,
+                    out,
+                    to,
+                );
                 if is_default_refused(made) {
                     return failed_default(made);
                 }
@@ -282,6 +295,7 @@ pub fn put_missing(
     build: Build,
     depth: u8,
     table: &[u8],
+    index: &[u16],
     target: &[u8],
     column: Column,
     out: &mut [u8],
@@ -289,7 +303,7 @@ pub fn put_missing(
 ) -> Made
     requires { ⌜ spanIn (now target) (column .label .name) × (column .label .name .len ≤ 63) ⌝ }
     requires { ⌜ TypeAt (build .target) depth (now target) (column .cursor .at) ⌝ }
-    requires { ⌜ TableAt (now table) (build .defaults) ⌝ }
+    requires { ⌜ DefaultsAt (now table) (now index) (build .defaults) ⌝ }
     requires { ⌜ (length (now target) ≤ 16384) × (length (now table) ≤ 16384) × (k ≤ 65536 * column .cursor .at) ⌝ }
     ensures { λ r. ⌜ PutMissing missing build depth (now (table .entry)) (now (target .entry)) column (now (out .entry)) k r (now (out .exit)) ⌝ }
 {
@@ -301,7 +315,17 @@ pub fn put_missing(
     let id = column.label.id;
     let b = column.cursor;
     let head = put_constant_head(target, v, depth, name, b, out, k);
-    let made = build_iceberg_default_value(build, depth, table, target, id, b, out, k + head);
+    let made = build_iceberg_default_value(
+        build,
+        depth,
+        table,
+        index,
+        target,
+        id,
+        b,
+        out,
+        k + head,
+    );
     if !fills_required(made, column.label.required) {
         return Made::Refused(54);
     }

@@ -1,5 +1,7 @@
 pub mod Ways
 pub mod Reading
+pub mod Growing
+pub mod Indexing
 pub mod Top
 pub mod Taking
 pub mod Seeking

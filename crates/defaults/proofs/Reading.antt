@@ -64,7 +64,7 @@ unfolding givenOf
 given-kind Initial s at q = initial-kind s at q
 given-kind Partition s at q = partition-kind s at q
 
-kind-at : (s : Bytes) (at : ℕ) {k : EntryKind} {m : ℕ} → entryKind s at ≡ ok k m → m ≡ at + 1
+pub kind-at : (s : Bytes) (at : ℕ) {k : EntryKind} {m : ℕ} → entryKind s at ≡ ok k m → m ≡ at + 1
 unfolding entryKind choose
 kind-at s at {k} {m} q = let (b, i, a, h) = next-ok _ _ q in go i (eqb b 0) (eqb b 1) h ∙ byte-at s at a
   where

@@ -35,7 +35,7 @@ isEntryOf i k e = eqb (i .0) (e .id .0) && sameKind k (kindOf (e .given))
 abbrev sought : FieldId → EntryKind → List Entry → First
 sought i k es = firstEntry (isEntryOf i k) first es absent
 
-same-kind-eq : (a b : EntryKind) → sameKind a b ≡ true → a ≡ b
+pub same-kind-eq : (a b : EntryKind) → sameKind a b ≡ true → a ≡ b
 unfolding sameKind
 same-kind-eq Initial Initial e = refl
 same-kind-eq Initial Partition e = clash (cc)

@@ -17,7 +17,7 @@ use Rattle.layout.specs.declared.cursor.Moved.{Moved}
 use Rattle.layout.specs.declared.cursor.Short.{Short}
 use Rattle.layout.proofs.Ways.{moved-to, moved-refused}
 use Rattle.layout.proofs.View.{next-ok}
-use Rattle.layout.proofs.Whole.{tested}
+use Rattle.layout.proofs.Whole.{tested, u16-at}
 use Rattle.defaults.specs.Table.{OwnedEntry, repeatsAnyEntry, ownedEntry, entries, tableMark, tableVersion, countedTable, tableFrom, table}
 use Rattle.defaults.specs.Table.{countsFor, sameKind, sameOwner}
 use Rattle.defaults.specs.Answers.{versionRes, tableOf}
@@ -146,6 +146,9 @@ module _ (s : Bytes) (v : TableVersion) {q : Short} (g : shortRes q ≡ u16 s 5)
   pub table-uncounted : {k : ℕ} → q ≡ Short.Refused k → TableRead.Refused k ≡ tableOf (countedTable v s 5)
   unfolding countedTable tableOf next
   table-uncounted h = rw (← g, h)
+
+  pub counted-at : {n : ℕ} {c : Cursor} → q ≡ Short.Is n c → 0 < c .at
+  counted-at {n} {c} h = let z : u16 s 5 ≡ ok n (c .at) = sym g ∙ ap shortRes h in let w = u16-at s 5 z in omega arith
 
   module _ {n : ℕ} {c : Cursor} {o : Moved} (h : q ≡ Short.Is n c) (i : o ≡ movedOf (entries v n [] s (c .at))) where
     pub table-broken : {k : ℕ} → o ≡ Moved.Refused k → TableRead.Refused k ≡ tableOf (countedTable v s 5)

@@ -2,4 +2,5 @@ pub mod Table
 pub mod Lookup
 pub mod Answers
 pub mod Scan
+pub mod Index
 pub mod Stands

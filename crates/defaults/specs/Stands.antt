@@ -1,7 +1,8 @@
 -- What stands at an offset of a table that was read before, and what the functions that look for a default answer of it.
-use Prim.Native.Nat.{ℕ}
+use Prim.Native.Nat.{ℕ, _<_}
 use mathlib.Core.Path.{_≡_}
 use mathlib.Core.List.{List, []}
+use lib.ListN.{length}
 use Rattle.layout.specs.Bytes.{Bytes}
 use Rattle.layout.specs.Parser.{ok}
 use Rattle.layout.specs.Tree.{LeafType, leaf}
@@ -11,6 +12,7 @@ use Rattle.layout.specs.declared.types.LeafType.{LeafType as LeafSpan}
 use Rattle.values.specs.Value.{Value}
 use Rattle.values.specs.Reading.{value}
 use Rattle.defaults.specs.Table.{Given, givenOf, Entry, OwnedEntry, entriesOf, loadedEntry, entries as readEntries}
+use Rattle.defaults.specs.Index.{Indexed}
 use Rattle.defaults.specs.Lookup.{Taken, refused, nothing, taken}
 use Rattle.defaults.specs.declared.lookup.DefaultValue.{DefaultValue}
 use Rattle.defaults.specs.declared.lookup.DefaultFieldValues.{DefaultFieldValues}
@@ -24,6 +26,14 @@ pub record TableAt (s : Bytes) (d : DefaultFieldValues) : Type 0 where
   pub reads : readEntries (d .version) (d .count) [] s (d .entries .at) ≡ ok all end
   pub entries : List Entry
   pub owned : entries ≡ entriesOf (d .owner) all
+
+-- an index of its entries; an empty one says nothing
+abbrev pub IndexOf : Bytes → DefaultFieldValues → List ℕ → Type 0
+IndexOf s d index = 0 < length index → Indexed (d .version) s (d .count) (d .entries .at) index
+
+-- a table and its index
+abbrev pub DefaultsAt : Bytes → List ℕ → DefaultFieldValues → Type 0
+DefaultsAt s index d = TableAt s d × IndexOf s d index
 
 -- what an entry of the kind k gives
 pub record GivenAt (k : EntryKind) (s : Bytes) (at : ℕ) : Type 0 where

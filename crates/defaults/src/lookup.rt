@@ -1,12 +1,13 @@
 // Finding an id's default in a table that was read, as source 003's `get_default_value` does.
 ghost use mathlib.Core.Path.{_≡_};
-ghost use Prim.Native.Nat.{ℕ};
+ghost use Prim.Native.Nat.{ℕ, _≤_, _<_};
+ghost use lib.ListN.{length, take};
 ghost use Rattle.layout.specs.Tree.{leaf};
 ghost use Rattle.layout.specs.Answers.{leafAt, spanIn};
 ghost use Rattle.values.specs.Stands.{ValueAt, EachAt};
 ghost use Rattle.defaults.specs.Lookup.{unlessNull, ofSource, givenTo, getDefaultValue};
 ghost use Rattle.defaults.specs.Scan.{seek};
-ghost use Rattle.defaults.specs.Stands.{TableAt, GivenAt, LoadedAt, Answers};
+ghost use Rattle.defaults.specs.Stands.{TableAt, IndexOf, DefaultsAt, GivenAt, LoadedAt, Answers};
 ghost use Rattle.defaults.specs.declared.read.Owner.{Owner};
 ghost use Rattle.defaults.specs.declared.read.EntryKind.the-variants.{Initial, Partition};
 use crate::read::EntryFound;
@@ -14,6 +15,9 @@ use crate::read::EntryKind;
 use crate::read::Owner;
 use crate::read::TableVersion;
 use crate::read::find_entry;
+use crate::read::find_indexed;
+use crate::read::owner_in;
+use crate::read::read_entries;
 use crate::types::LeafRead;
 use crate::types::read_leaf_type;
 use crate::types::read_leaf_values;
@@ -110,31 +114,72 @@ fn partition_value(s: &[u8], c: Cursor, source_index: u32) -> DefaultValue
     }
 }
 
-// The first entry of the owner with this id and kind.
-fn find_own(s: &[u8], defaults: DefaultFieldValues, id: FieldId, kind: EntryKind) -> EntryFound
+// Where a scan would take longer, fills an index of the entries at the start of a slice, and answers its length. 0 where there is none: few entries are
+// scanned sooner, or there is no room.
+pub fn fill_index(s: &[u8], defaults: DefaultFieldValues, room: &mut [u16]) -> usize
+    requires { ⌜ length (now s) ≤ 16384 ⌝ }
+    ensures { λ r. ⌜ r ≤ length (now (room .exit)) ⌝ }
+    ensures { λ r. ⌜ IndexOf (now (s .entry)) defaults (take r (now (room .exit))) ⌝ }
+{
+    if defaults.count <= 16 {
+        return 0;
+    }
+    let c = defaults.entries;
+    if c.at == 0 {
+        return 0;
+    }
+    let len = room.len();
+    if len <= s.len() / 6 + 1 {
+        return 0;
+    }
+    let version = defaults.version;
+    match read_entries(s, version, defaults.count, c, room) {
+        Moved::To(_) => len,
+        Moved::Refused(_) => 0,
+    }
+}
+
+// The first entry of the owner with this id and kind. The index may be empty: then the entries are scanned.
+fn find_own(
+    s: &[u8],
+    index: &[u16],
+    defaults: DefaultFieldValues,
+    id: FieldId,
+    kind: EntryKind,
+) -> EntryFound
+    requires { ⌜ IndexOf (now s) defaults (now index) ⌝ }
     ensures { λ r. ⌜ r ≡ seek (defaults .version) (Owner.Only (defaults .owner)) id kind (defaults .count) (now (s .entry)) (defaults .entries .at) ⌝ }
 {
     let version = defaults.version;
-    let entries = defaults.entries;
-    find_entry(
-        s,
-        version,
-        defaults.count,
-        entries,
-        Owner::Only(defaults.owner),
-        id,
-        kind,
-    )
+    if index.len() == 0 {
+        let entries = defaults.entries;
+        return find_entry(
+            s,
+            version,
+            defaults.count,
+            entries,
+            Owner::Only(defaults.owner),
+            id,
+            kind,
+        );
+    }
+    let owner = owner_in(version, defaults.owner);
+    find_indexed(s, version, defaults.count, owner, id, kind, index)
 }
 
 // A partition entry wins, and where it gives nothing no initial one is tried.
-pub fn get_default_value(s: &[u8], defaults: DefaultFieldValues, id: FieldId) -> DefaultValue
-    requires { ⌜ TableAt (now s) defaults ⌝ }
+pub fn get_default_value(
+    s: &[u8],
+    index: &[u16],
+    defaults: DefaultFieldValues,
+    id: FieldId,
+) -> DefaultValue
+    requires { ⌜ DefaultsAt (now s) (now index) defaults ⌝ }
     ensures { λ r. ⌜ ((P : TableAt (now (s .entry)) defaults) → Answers (now (s .entry)) (getDefaultValue (P .entries) (defaults .«source_index») id) r) ⌝ }
 {
-    match find_own(s, defaults, id, EntryKind::Partition) {
+    match find_own(s, index, defaults, id, EntryKind::Partition) {
         EntryFound::At(c) => partition_value(s, c, defaults.source_index),
-        EntryFound::Absent => match find_own(s, defaults, id, EntryKind::Initial) {
+        EntryFound::Absent => match find_own(s, index, defaults, id, EntryKind::Initial) {
             EntryFound::At(c) => initial_value(s, c),
             EntryFound::Absent => DefaultValue::Nothing,
         },

@@ -1,16 +1,25 @@
 // Reading the table of defaults.
 ghost use mathlib.Core.Path.{_≡_};
 ghost use mathlib.Core.List.{[]};
+ghost use Prim.Native.Nat.{_≤_, _<_};
+ghost use lib.ListN.{length};
 ghost use Rattle.layout.specs.Answers.{movedOf};
+ghost use Rattle.layout.specs.declared.cursor.Cursor.{Cursor};
+ghost use Rattle.layout.specs.declared.cursor.Moved.{Moved};
 ghost use Rattle.defaults.specs.Table.{sameKind, sameOwner, initialEntry, loadedEntry, partitionEntry, entryKind, givenOf};
 ghost use Rattle.defaults.specs.Table.{tableNumber, entry, ownerOf, entries, tableVersion, countedTable, table};
 ghost use Rattle.defaults.specs.Answers.{kindRes, ownerRes, versionRes, entryOf, entryRead, tableOf};
 ghost use Rattle.defaults.specs.Scan.{isOf, seek, isFound};
+ghost use Rattle.defaults.specs.Index.{entryHead, entryHeadRes, ownerIn, links, followed, Inside, Indexed};
+use crate::index::clear;
+use crate::index::head_of;
+use crate::index::push;
 use crate::types::LeafRead;
 use crate::types::read_leaf_type;
 use crate::types::read_leaf_value;
 use crate::types::read_leaf_values;
 use layout::bytes::same_bytes;
+use layout::bytes::wide;
 use layout::columns::FieldId;
 use layout::cursor::Cursor;
 use layout::cursor::Long;
@@ -53,6 +62,12 @@ pub enum OwnerRead {
 // An entry's owner, id and kind, where that begins which it gives, and where it ends.
 pub enum EntryRead {
     Is(Owner, FieldId, EntryKind, Cursor, Cursor),
+    Refused(u8),
+}
+
+// An entry's owner, id and kind, and where that begins which it gives.
+pub enum HeadRead {
+    Is(Owner, FieldId, EntryKind, Cursor),
     Refused(u8),
 }
 
@@ -183,6 +198,22 @@ pub fn read_entry(s: &[u8], version: TableVersion, c: Cursor) -> EntryRead
     }
 }
 
+// What stands of an entry before that which it gives.
+fn read_head(s: &[u8], version: TableVersion, c: Cursor) -> HeadRead
+    ensures { λ r. ⌜ entryHeadRes r ≡ entryHead version (now (s .entry)) (c .at) ⌝ }
+{
+    match read_owner(s, version, c) {
+        OwnerRead::Is(owner, d) => match d.long(s) {
+            Long::Is(i, e) => match read_kind(s, e) {
+                KindRead::Is(kind, g) => HeadRead::Is(owner, FieldId(i), kind, g),
+                KindRead::Refused(k) => HeadRead::Refused(k),
+            },
+            Long::Refused(k) => HeadRead::Refused(k),
+        },
+        OwnerRead::Refused(k) => HeadRead::Refused(k),
+    }
+}
+
 fn same_kind(a: EntryKind, b: EntryKind) -> bool
     ensures { λ r. ⌜ r ≡ sameKind a b ⌝ }
 {
@@ -256,6 +287,52 @@ pub fn find_entry(
     EntryFound::Absent
 }
 
+// Whose the entries are that count for an owner.
+pub fn owner_in(version: TableVersion, owner: u16) -> Owner
+    ensures { λ r. ⌜ r ≡ ownerIn version owner ⌝ }
+{
+    match version {
+        TableVersion::Shared => Owner::Every,
+        TableVersion::ByOwner => Owner::Only(owner),
+    }
+}
+
+// The same by an index of `n` entries: no value is read, and of the entries only those whose ids are in one chain.
+pub fn find_indexed(
+    s: &[u8],
+    version: TableVersion,
+    n: u16,
+    owner: Owner,
+    id: FieldId,
+    kind: EntryKind,
+    index: &[u16],
+) -> EntryFound
+    requires { ⌜ Inside (now s) (now index) ⌝ }
+    ensures { λ r. ⌜ r ≡ followed version owner id kind n (now (s .entry)) (now (index .entry)) ⌝ }
+{
+    let h = head_of(s.len(), index.len(), id);
+    let mut x = wide(index[h]);
+    let mut i: u16 = 0;
+    while i < n {
+        if x == 0 {
+            return EntryFound::Absent;
+        }
+        let d = Cursor { at: x };
+        match read_head(s, version, d) {
+            HeadRead::Is(o, j, k, g) => {
+                if is_of(owner, id, kind, o, j, k) {
+                    return EntryFound::At(g);
+                }
+            }
+            HeadRead::Refused(_) => return EntryFound::Absent,
+        }
+        let y = x / 6;
+        x = wide(index[y]);
+        i += 1;
+    }
+    EntryFound::Absent
+}
+
 fn is_found(found: EntryFound) -> bool
     ensures { λ r. ⌜ r ≡ isFound found ⌝ }
 {
@@ -265,20 +342,24 @@ fn is_found(found: EntryFound) -> bool
     }
 }
 
-// `n` entries, of which none may have the id and the kind of an earlier one that counts for the same owner.
-fn read_entries(s: &[u8], version: TableVersion, n: u16, c: Cursor) -> Moved
+// `n` entries, of which none may have the id and the kind of an earlier one that counts for the same owner. An index of them is left behind.
+pub fn read_entries(s: &[u8], version: TableVersion, n: u16, c: Cursor, index: &mut [u16]) -> Moved
+    requires { ⌜ (length (now s) ≤ 16384) × (0 < c .at) × (links (length (now s)) < length (now index)) ⌝ }
     ensures { λ r. ⌜ r ≡ movedOf (entries version n [] (now (s .entry)) (c .at)) ⌝ }
+    ensures { λ r. ⌜ ((e : Cursor) → r ≡ Moved.To e → Indexed version (now (s .entry)) n (c .at) (now (index .exit))) ⌝ }
 {
+    clear(index);
     let mut at = c.at;
     let mut i: u16 = 0;
     while i < n {
         let d = Cursor { at };
         match read_entry(s, version, d) {
             EntryRead::Is(owner, id, kind, _, e) => {
-                let earlier = find_entry(s, version, i, c, owner, id, kind);
+                let earlier = find_indexed(s, version, i, owner, id, kind, index);
                 if is_found(earlier) {
                     return Moved::Refused(5);
                 }
+                push(s.len(), at, id, index);
                 at = e.at;
             }
             EntryRead::Refused(k) => return Moved::Refused(k),
@@ -304,12 +385,13 @@ fn read_version(s: &[u8]) -> VersionRead
 }
 
 // The rest of a table of this version, from the number of its entries on.
-fn read_counted(s: &[u8], version: TableVersion) -> TableRead
+fn read_counted(s: &[u8], version: TableVersion, index: &mut [u16]) -> TableRead
+    requires { ⌜ (length (now s) ≤ 16384) × (links (length (now s)) < length (now index)) ⌝ }
     ensures { λ r. ⌜ r ≡ tableOf (countedTable version (now (s .entry)) 5) ⌝ }
 {
     let c = Cursor { at: 5 };
     match c.short(s) {
-        Short::Is(n, d) => match read_entries(s, version, n, d) {
+        Short::Is(n, d) => match read_entries(s, version, n, d, index) {
             Moved::To(e) => {
                 if e.at == s.len() {
                     TableRead::Read {
@@ -327,6 +409,38 @@ fn read_counted(s: &[u8], version: TableVersion) -> TableRead
     }
 }
 
+// With an index that takes less time to clear.
+fn read_small(s: &[u8], version: TableVersion) -> TableRead
+    requires { ⌜ length (now s) ≤ 1024 ⌝ }
+    ensures { λ r. ⌜ r ≡ tableOf (countedTable version (now (s .entry)) 5) ⌝ }
+{
+    let mut index = [0u16; 256];
+    read_counted(s, version, &mut index)
+}
+
+fn read_large(s: &[u8], version: TableVersion) -> TableRead
+    requires { ⌜ length (now s) ≤ 16384 ⌝ }
+    ensures { λ r. ⌜ r ≡ tableOf (countedTable version (now (s .entry)) 5) ⌝ }
+{
+    let mut index = [0u16; 3384];
+    read_counted(s, version, &mut index)
+}
+
+// The rest of a table of this version. That `read_large` is called twice keeps it a function of its own: called once, it would be compiled into its
+// caller, and its index would stand beside a build's buffer.
+fn read_rest(s: &[u8], version: TableVersion) -> TableRead
+    requires { ⌜ length (now s) ≤ 16384 ⌝ }
+    ensures { λ r. ⌜ r ≡ tableOf (countedTable version (now (s .entry)) 5) ⌝ }
+{
+    if s.len() <= 1024 {
+        return read_small(s, version);
+    }
+    match version {
+        TableVersion::Shared => read_large(s, version),
+        TableVersion::ByOwner => read_large(s, version),
+    }
+}
+
 pub fn read_table(s: &[u8]) -> TableRead
     ensures { λ r. ⌜ r ≡ tableOf (table (now (s .entry))) ⌝ }
 {
@@ -334,7 +448,7 @@ pub fn read_table(s: &[u8]) -> TableRead
         return TableRead::Refused(4);
     }
     match read_version(s) {
-        VersionRead::Is(v) => read_counted(s, v),
+        VersionRead::Is(v) => read_rest(s, v),
         VersionRead::Refused(k) => TableRead::Refused(k),
     }
 }

@@ -39,31 +39,31 @@ use Rattle.store.proofs.put.Reads as put-reads
 use Rattle.builder.proofs.default.+build_iceberg_default_value+put_defaults.{statement}
 use Rattle.builder.proofs.default.+build_iceberg_default_value+put_defaults.Tie.{close}
 
-abbrev μ-build-iceberg-default-value : Measures 3 build-iceberg-default-value-kinds.ps ℕ
+abbrev μ-build-iceberg-default-value : Measures 4 build-iceberg-default-value-kinds.ps ℕ
 μ-build-iceberg-default-value κs a = 2 * (a .1 .0)
 
-abbrev μ-put-defaults : Measures 3 put-defaults-kinds.ps ℕ
+abbrev μ-put-defaults : Measures 4 put-defaults-kinds.ps ℕ
 μ-put-defaults κs a = 2 * (a .1 .0) + 1
 
-abbrev build-iceberg-default-value-at : ℕ → In 3 build-iceberg-default-value-kinds.ps
+abbrev build-iceberg-default-value-at : ℕ → In 4 build-iceberg-default-value-kinds.ps
 build-iceberg-default-value-at t =
-    and 3 build-iceberg-default-value-kinds.ps (is 3 build-iceberg-default-value-kinds.ps μ-build-iceberg-default-value t) build-iceberg-default-value.Pre
+    and 4 build-iceberg-default-value-kinds.ps (is 4 build-iceberg-default-value-kinds.ps μ-build-iceberg-default-value t) build-iceberg-default-value.Pre
 
-abbrev build-iceberg-default-value-below : ℕ → In 3 build-iceberg-default-value-kinds.ps
+abbrev build-iceberg-default-value-below : ℕ → In 4 build-iceberg-default-value-kinds.ps
 build-iceberg-default-value-below t =
-    and 3 build-iceberg-default-value-kinds.ps (falls 3 build-iceberg-default-value-kinds.ps _<_ μ-build-iceberg-default-value t)
+    and 4 build-iceberg-default-value-kinds.ps (falls 4 build-iceberg-default-value-kinds.ps _<_ μ-build-iceberg-default-value t)
     build-iceberg-default-value.Pre
 
-abbrev put-defaults-at : ℕ → In 3 put-defaults-kinds.ps
+abbrev put-defaults-at : ℕ → In 4 put-defaults-kinds.ps
 put-defaults-at t =
-    and 3 put-defaults-kinds.ps (is 3 put-defaults-kinds.ps μ-put-defaults t) put-defaults.Pre
+    and 4 put-defaults-kinds.ps (is 4 put-defaults-kinds.ps μ-put-defaults t) put-defaults.Pre
 
-abbrev put-defaults-below : ℕ → In 3 put-defaults-kinds.ps
+abbrev put-defaults-below : ℕ → In 4 put-defaults-kinds.ps
 put-defaults-below t =
     and
-    3
+    4
     put-defaults-kinds.ps
-    (falls 3 put-defaults-kinds.ps _<_ μ-put-defaults t)
+    (falls 4 put-defaults-kinds.ps _<_ μ-put-defaults t)
     put-defaults.Pre
 
 abbrev build-iceberg-default-value-claims : ℕ → build-iceberg-default-value-lts.Claims
@@ -105,12 +105,12 @@ put-defaults-claims t = (
 )
 
 abbrev put-defaults-Inv-loop : put-defaults-lts.InvT-loop
-put-defaults-Inv-loop build depth table target out₀ k v n at₀ to₀ any₀ filled₀ i₀ out at to any filled i =
+put-defaults-Inv-loop build depth table index target out₀ k v n at₀ to₀ any₀ filled₀ i₀ out at to any filled i =
     (T : TableAt table (build .defaults)) → Defaulting (getDefaultValue (T .entries) (build .defaults .«source_index»)) v depth target n at₀ out₀ k out at to
     any filled i
 
 abbrev put-defaults-μ-loop : put-defaults-lts.MeasureT-loop
-put-defaults-μ-loop build depth table target out₀ k v n at₀ to₀ any₀ filled₀ i₀ out at to any filled i = n - i
+put-defaults-μ-loop build depth table index target out₀ k v n at₀ to₀ any₀ filled₀ i₀ out at to any filled i = n - i
 
 put-defaults-is-default-refused-requires :
     (t : ℕ) → put-defaults-lts.Need-is-default-refused-requires (put-defaults-claims t) (put-defaults-at t) put-defaults.Post put-defaults-Inv-loop
@@ -125,7 +125,7 @@ pub +build-iceberg-default-value+put-defaults-spec : {M : Type 1} → statement 
     (λ c κs. search needs)
     (λ c. search needs)
     (λ c κs.
-    let c2 = c .before .before in let c4 = c2 .before .before in let c9 = c4 .before .before .before .before .before in
+    let c2 = c .before .before in let c4 = c2 .before .before in let c9 = c4 .before .before .before .before .before .before in
     let P = c9 .pre .1 .0 in (
       c9 .pre .1 .1 .0,
       (
@@ -144,14 +144,14 @@ pub +build-iceberg-default-value+put-defaults-spec : {M : Type 1} → statement 
     (λ c. search needs)
     (λ c κs. search needs)
     (λ c.
-    let c12 = c .before .before .before .before .before .before .before .before .before .before .before .before in
+    let c12 = c .before .before .before .before .before .before .before .before .before .before .before .before .before in
     let z = deep (c12 .pre .1 .0) in omega arith)
     (λ c.
-    let c13 = c .before .before .before .before .before .before .before .before .before .before .before .before .before in
+    let c13 = c .before .before .before .before .before .before .before .before .before .before .before .before .before .before in
     let P = c13 .pre .1 .0 in
     omega (arith, type-after P, extent P, c13 .pre .1 .1 .1 .1))
     (λ c κs.
-    let c6 = c .before .before .before .before .before .before in let c8 = c6 .before .before in let c13 = c8 .before .before .before .before .before in
+    let c6 = c .before .before .before .before .before .before in let c8 = c6 .before .before in let c13 = c8 .before .before .before .before .before .before in
     let P = c13 .pre .1 .0 in
     let z = deep P in (
       omega arith,
@@ -175,9 +175,9 @@ pub +build-iceberg-default-value+put-defaults-spec : {M : Type 1} → statement 
     (λ c. search needs)
     (λ c.
     let c2 = c .before .before in let c6 = c2 .before .before .before .before in let c13 = c6 .before .before .before .before .before .before .before in let
-    c15 = c13 .before .before in let c20 = c15 .before .before .before .before .before in
+    c15 = c13 .before .before in let c20 = c15 .before .before .before .before .before .before in
     let P = c20 .pre .1 .0 in
-    let T = c20 .pre .1 .1 .0 in
+    let T = c20 .pre .1 .1 .0 .0 in
     let S = struct-at P (c15 .head .ensures .0) (c13 .count .given .1) in
     omega (
       arith,
@@ -191,7 +191,7 @@ pub +build-iceberg-default-value+put-defaults-spec : {M : Type 1} → statement 
     (λ c. search needs)
     (λ c.
     let c2 = c .before .before in let c6 = c2 .before .before .before .before in let c10 = c6 .before .before .before .before in let c13 =
-    c10 .before .before .before in let c15 = c13 .before .before in let c20 = c15 .before .before .before .before .before in
+    c10 .before .before .before in let c15 = c13 .before .before in let c20 = c15 .before .before .before .before .before .before in
     λ T Q.
     let S = struct-at Q (c15 .head .ensures .0) (c13 .count .given .1) in
     struct-as (getDefaultValue (T .entries) (c20 .args .build .defaults .«source_index»)) (c20 .args .id) Q S _ _ _ _ _ (struct-some _ _ _ _ _
@@ -206,14 +206,14 @@ pub +build-iceberg-default-value+put-defaults-spec : {M : Type 1} → statement 
     (λ c. search needs)
     (λ c. search needs)
     (λ c.
-    let c2 = c .before .before in let c5 = c2 .before .before .before in let c7 = c5 .before .before in let c12 = c7 .before .before .before .before .before
+    let c2 = c .before .before in let c5 = c2 .before .before .before in let c7 = c5 .before .before in let c12 = c7 .before .before .before .before .before .before
     in
     λ T Q. of-leaf (getDefaultValue (T .entries) (c12 .args .build .defaults .«source_index»)) (c12 .args .id) Q (c7 .head .ensures .0) (c5 .u .given .1) _ _
     _ _ (c2 .put-leaf-default .ensures _ _ T (type-after Q)))
     (λ c. search needs)
     (λ c.
     let c1 = c .before in let c5 = c1 .before .before .before .before in let c12 = c5 .before .before .before .before .before .before .before in let c14 =
-    c12 .before .before in let c19 = c14 .before .before .before .before .before in
+    c12 .before .before in let c19 = c14 .before .before .before .before .before .before in
     λ T Q.
     let S = struct-at Q (c14 .head .ensures .0) (c12 .count .given .1) in
     struct-as (getDefaultValue (T .entries) (c19 .args .build .defaults .«source_index»)) (c19 .args .id) Q S _ _ _ _ _ (struct-refused _ _ _ _ _ (defaultsOf
@@ -223,21 +223,21 @@ pub +build-iceberg-default-value+put-defaults-spec : {M : Type 1} → statement 
     (λ c.
     let c2 = c .before .before in let c4 = c2 .before .before in let c6 = c4 .before .before in let c10 = c6 .before .before .before .before in let c14 =
     c10 .before .before .before .before in let c17 = c14 .before .before .before in let c19 = c17 .before .before in let c24 =
-    c19 .before .before .before .before .before in
+    c19 .before .before .before .before .before .before in
     λ T Q.
     let S = struct-at Q (c19 .head .ensures .0) (c17 .count .given .1) in
     struct-as (getDefaultValue (T .entries) (c24 .args .build .defaults .«source_index»)) (c24 .args .id) Q S _ _ _ _ _ (struct-none _ _ _ _ _
     (c6 .any .given .1) (defaultsOf (getDefaultValue (T .entries) (c24 .args .build .defaults .«source_index»)) (S .inner .columns)) _
-    (c10 .put-defaults .ensures T (S .inner)) (c4 .if1 .left) (c10 .put-defaults .kept .1 .1 .1 .1 .1 .0 ∙ c14 .put .kept .0) (c14 .put .ensures)
+    (c10 .put-defaults .ensures T (S .inner)) (c4 .if1 .left) (c10 .put-defaults .kept .1 .1 .1 .1 .1 .1 .0 ∙ c14 .put .kept .0) (c14 .put .ensures)
     (c2 .put-none .ensures .0) (c2 .put-none .ensures .1) (omega (arith, S .ends, type-after Q))))
     (λ c. search needs)
     (λ c.
-    let c2 = c .before .before in let c4 = c2 .before .before in let c6 = c4 .before .before in let c11 = c6 .before .before .before .before .before in
+    let c2 = c .before .before in let c4 = c2 .before .before in let c6 = c4 .before .before in let c11 = c6 .before .before .before .before .before .before in
     λ T Q. none-made _ _ (of-list (getDefaultValue (T .entries) (c11 .args .build .defaults .«source_index»)) (c11 .args .id) Q (c6 .head .ensures .0)
     (c4 .enum-told .given .1)) (c2 .put-none2 .ensures .0) (c2 .put-none2 .ensures .1) (type-after Q))
     (λ c. search needs)
     (λ c.
-    let c2 = c .before .before in let c4 = c2 .before .before in let c6 = c4 .before .before in let c11 = c6 .before .before .before .before .before in
+    let c2 = c .before .before in let c4 = c2 .before .before in let c6 = c4 .before .before in let c11 = c6 .before .before .before .before .before .before in
     λ T Q. none-made _ _ (of-array (getDefaultValue (T .entries) (c11 .args .build .defaults .«source_index»)) (c11 .args .id) Q (c6 .head .ensures .0)
     (c4 .enum-told2 .given .1)) (c2 .put-none3 .ensures .0) (c2 .put-none3 .ensures .1) (type-after Q))
     (λ c. λ T Q. never-headless Q (c .before .before .before .head .ensures .0) (c .before .n .given .1)))
@@ -247,14 +247,14 @@ pub +build-iceberg-default-value+put-defaults-spec : {M : Type 1} → statement 
     put-defaults-Inv-loop
     put-defaults-μ-loop
     (λ c.
-    let c3 = c .before .before .before in
+    let c3 = c .before .before .before .before in
     λ T. defaulting-none (getDefaultValue (T .entries) (c3 .args .build .defaults .«source_index»)) (c3 .pre .1 .0) (c3 .pre .1 .1 .1 .1))
     (λ c κs. search needs)
     (λ c. search needs)
     (λ c κs.
     let c3 = c .before .before .before in let c5 = c3 .before .before in let c6 = c5 .before in let c7 = c6 .before in let c11 =
-    c7 .before .before .before .before in
-    let W = c7 .loop .inv (c11 .pre .1 .1 .0) in (
+    c7 .before .before .before .before .before in
+    let W = c7 .loop .inv (c11 .pre .1 .1 .0 .0) in (
       omega arith,
       (
         field _ W (c6 .loop-test .taken) (c5 .label .ensures .0) (c3 .l .given .1) .head,
@@ -272,8 +272,8 @@ pub +build-iceberg-default-value+put-defaults-spec : {M : Type 1} → statement 
     (λ c κs. search needs)
     (λ c.
     let c5 = c .before .before .before .before .before in let c13 = c5 .before .before .before .before .before .before .before .before in let c17 =
-    c13 .before .before .before .before in
-    c5 .build-iceberg-default-value .kept .1 .1 .1 .1 .1 .1 .0 ∙ c13 .loop .inv (c17 .pre .1 .1 .0) .kept)
+    c13 .before .before .before .before .before in
+    c5 .build-iceberg-default-value .kept .1 .1 .1 .1 .1 .1 .1 .0 ∙ c13 .loop .inv (c17 .pre .1 .1 .0 .0) .kept)
     (λ c.
     let c1 = c .before in let c2 = c1 .before in let c5 = c2 .before .before .before in let c9 = c5 .before .before .before .before in let c11 =
     c9 .before .before in let c12 = c11 .before in let c13 = c12 .before in
@@ -284,14 +284,14 @@ pub +build-iceberg-default-value+put-defaults-spec : {M : Type 1} → statement 
     (c .failed-default .ensures) Q)
     (λ c κs.
     let c8 = c .before .before .before .before .before .before .before .before in let c10 = c8 .before .before in let c11 = c10 .before in let c12 =
-    c11 .before in let c16 = c12 .before .before .before .before in
-    let W = c12 .loop .inv (c16 .pre .1 .1 .0) in
+    c11 .before in let c16 = c12 .before .before .before .before .before in
+    let W = c12 .loop .inv (c16 .pre .1 .1 .0 .0) in
     field _ W (c11 .loop-test .taken) (c10 .label .ensures .0) (c8 .l .given .1) .head)
     (λ c κs. search needs)
     (λ c.
     let c2 = c .before .before in let c3 = c2 .before in let c6 = c3 .before .before .before in let c10 = c6 .before .before .before .before in let c12 =
-    c10 .before .before in let c13 = c12 .before in let c14 = c13 .before in let c18 = c14 .before .before .before .before in
-    let T = c18 .pre .1 .1 .0 in
+    c10 .before .before in let c13 = c12 .before in let c14 = c13 .before in let c18 = c14 .before .before .before .before .before in
+    let T = c18 .pre .1 .1 .0 .0 in
     let W = c14 .loop .inv T in
     omega (
       arith,
@@ -305,30 +305,30 @@ pub +build-iceberg-default-value+put-defaults-spec : {M : Type 1} → statement 
     (λ c κs. search needs)
     (λ c. search needs)
     (λ c.
-    let c5 = c .before .before .before .before .before in let c9 = c5 .before .before .before .before in
-    c5 .loop .inv (c9 .pre .1 .1 .0) .kept)
+    let c5 = c .before .before .before .before .before in let c9 = c5 .before .before .before .before .before in
+    c5 .loop .inv (c9 .pre .1 .1 .0 .0) .kept)
     (λ c.
     let c1 = c .before in let c3 = c1 .before .before in let c4 = c3 .before in let c5 = c4 .before in
     λ T Q. defaulting-unlabelled _ (c5 .loop .inv T) (c4 .loop-test .taken) (c3 .label .ensures .0) (c1 .m .given .1))
     (λ c.
     let c17 = c .before .before .before .before .before .before .before .before .before .before .before .before .before .before .before .before .before in
-    let c22 = c17 .before .before .before .before .before in
-    omega (arith, c22 .good .1 .1 .1 .1 .0, c17 .loop-test .taken))
+    let c22 = c17 .before .before .before .before .before .before in
+    omega (arith, c22 .good .1 .1 .1 .1 .1 .0, c17 .loop-test .taken))
     (λ c. omega arith)
     (λ c.
     let c1 = c .before in let c2 = c1 .before in let c3 = c2 .before in let c4 = c3 .before in let c5 = c4 .before in let c6 = c5 .before in let c7 =
     c6 .before in let c10 = c7 .before .before .before in let c14 = c10 .before .before .before .before in let c16 = c14 .before .before in let c17 =
-    c16 .before in let c18 = c17 .before in let c22 = c18 .before .before .before .before in
+    c16 .before in let c18 = c17 .before in let c22 = c18 .before .before .before .before .before in
     λ T.
     let W = c18 .loop .inv T in
     defaulting-more _ W (c17 .loop-test .taken) (c16 .label .ensures .0) (c14 .l .given .1) (c10 .build-iceberg-default-value .ensures T (field _ W
     (c17 .loop-test .taken) (c16 .label .ensures .0) (c14 .l .given .1) .head)) (c7 .is-default-refused .ensures) (c6 .if1 .left) (table-present
     (T .entries) (c22 .args .build .defaults .«source_index»)) (c5 .skip-type .ensures) (c4 .value-len .ensures) (c3 .is-some .ensures)
-    (c2 .either .ensures) (c1 .fills-required .ensures) (c .both .ensures) (c10 .build-iceberg-default-value .kept .1 .1 .1 .1 .1 .1 .0))
+    (c2 .either .ensures) (c1 .fills-required .ensures) (c .both .ensures) (c10 .build-iceberg-default-value .kept .1 .1 .1 .1 .1 .1 .1 .0))
     (λ c.
-    let c1 = c .before in let c5 = c1 .before .before .before .before in
-    omega (arith, c1 .loop .inv (c5 .pre .1 .1 .0) .over))
+    let c1 = c .before in let c5 = c1 .before .before .before .before .before in
+    omega (arith, c1 .loop .inv (c5 .pre .1 .1 .0 .0) .over))
     (λ c.
-    let c1 = c .before in let c5 = c1 .before .before .before .before in
-    c1 .loop .inv (c5 .pre .1 .1 .0) .kept)
+    let c1 = c .before in let c5 = c1 .before .before .before .before .before in
+    c1 .loop .inv (c5 .pre .1 .1 .0 .0) .kept)
     (λ c. λ T Q. defaulting-all _ (c .before .loop .inv T) (c .loop-test .left) Q)

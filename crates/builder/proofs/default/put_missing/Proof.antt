@@ -1,3 +1,4 @@
+
 -- `builder::default::put_missing` meets its contract. Assumes nothing.
 use Rattle.builder.proofs.Missing.{missing-unfilled, missing-filled, head-short, value-short, constant-makes, missing-inserted, missing-refused}
 use Rattle.builder.proofs.Matching.{makes-as, makes-refused}
@@ -18,14 +19,14 @@ put-missing-spec =
     tie.close
     (tie.spec
     (λ c.
-    let c5 = c .before .before .before .before .before in
+    let c5 = c .before .before .before .before .before .before in
     λ from T Q lt. makes-refused _ _ _ _ _ (missing-refused (getDefaultValue (T .entries) (c5 .args .build .defaults .«source_index»))
     (c5 .args .missing .insert) (c5 .args .missing .number) (labelAt (now (c5 .args .target)) (c5 .args .column .label)) (Q .tree) (c .if1 .taken)))
     (λ c κs.
-    let c9 = c .before .before .before .before .before .before .before .before .before in
+    let c9 = c .before .before .before .before .before .before .before .before .before .before in
     (c9 .pre .0, (c9 .pre .1 .0, omega (arith, extent (c9 .pre .1 .0), c9 .pre .1 .1 .1))))
     (λ c.
-    let c3 = c .before .before .before in let c13 = c3 .before .before .before .before .before .before .before .before .before .before in
+    let c3 = c .before .before .before in let c13 = c3 .before .before .before .before .before .before .before .before .before .before .before in
     omega (
       arith,
       head-short (c13 .pre .1 .0) (c13 .args .column .label .name) (c13 .pre .0 .0) (c13 .pre .0 .1) (c3 .put-constant-head .ensures .0
@@ -34,7 +35,7 @@ put-missing-spec =
       c13 .pre .1 .1 .1,
     ))
     (λ c κs.
-    let c3 = c .before .before .before in let c13 = c3 .before .before .before .before .before .before .before .before .before .before in (
+    let c3 = c .before .before .before in let c13 = c3 .before .before .before .before .before .before .before .before .before .before .before in (
       c13 .pre .1 .0,
       (
         c13 .pre .1 .1 .0,
@@ -54,7 +55,7 @@ put-missing-spec =
     (λ c. search needs)
     (λ c.
     let c1 = c .before in let c4 = c1 .before .before .before in let c13 = c4 .before .before .before .before .before .before .before .before .before in let
-    c18 = c13 .before .before .before .before .before in
+    c18 = c13 .before .before .before .before .before .before in
     λ from T Q lt. makes-refused _ _ _ _ _ ((missing-inserted (getDefaultValue (T .entries) (c18 .args .build .defaults .«source_index»))
     (c18 .args .missing .insert) (c18 .args .missing .number) (labelAt (now (c18 .args .target)) (c18 .args .column .label)) (Q .tree) (c13 .if1 .left))
     ∙ missing-unfilled (labelAt (now (c18 .args .target)) (c18 .args .column .label)) (Q .tree) (buildIcebergDefaultValue (getDefaultValue (T .entries)
@@ -63,9 +64,9 @@ put-missing-spec =
     (c18 .args .build .defaults .«source_index»)) (c18 .args .column .label .id) (Q .tree) v e) (c1 .fills-required .ensures) (c .if2 .taken)))
     (λ c κs.
     let c4 = c .before .before .before .before in let c8 = c4 .before .before .before .before in let c18 =
-    c8 .before .before .before .before .before .before .before .before .before .before in
+    c8 .before .before .before .before .before .before .before .before .before .before .before in
     let Q = c18 .pre .1 .0 in
-    let T = c18 .pre .1 .1 .0 in
+    let T = c18 .pre .1 .1 .0 .0 in
     omega (
       arith,
       value-short (buildIcebergDefaultValue (getDefaultValue (T .entries) (c18 .args .build .defaults .«source_index»))
@@ -78,7 +79,7 @@ put-missing-spec =
     (λ c. search needs)
     (λ c.
     let c1 = c .before in let c2 = c1 .before in let c5 = c2 .before .before .before in let c9 = c5 .before .before .before .before in let c14 =
-    c9 .before .before .before .before .before in let c19 = c14 .before .before .before .before .before in
+    c9 .before .before .before .before .before in let c19 = c14 .before .before .before .before .before .before in
     λ from T Q lt. makes-as _ _ _ _ _ _ ((missing-inserted (getDefaultValue (T .entries) (c19 .args .build .defaults .«source_index»))
     (c19 .args .missing .insert) (c19 .args .missing .number) (labelAt (now (c19 .args .target)) (c19 .args .column .label)) (Q .tree) (c14 .if1 .left))
     ∙ missing-filled (labelAt (now (c19 .args .target)) (c19 .args .column .label)) (Q .tree) (buildIcebergDefaultValue (getDefaultValue (T .entries)

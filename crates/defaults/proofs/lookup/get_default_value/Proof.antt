@@ -8,27 +8,27 @@ pub get-default-value-spec : {M : Type 1} → statement M
 get-default-value-spec =
     tie.close
     (tie.spec
-    (λ c κs. search needs)
+    (λ c κs. c .before .before .pre .1)
     (λ c. search needs)
-    (λ c κs. partition-found (c .before .before .before .before .before .pre) _ (c .before .before .before .find-own .ensures) (c .before .c .given .1))
+    (λ c κs. partition-found (c .before .before .before .before .before .before .pre .0) _ (c .before .before .before .find-own .ensures) (c .before .c .given .1))
     (λ c. search needs)
-    (λ c κs. search needs)
+    (λ c κs. c .before .before .before .before .before .pre .1)
     (λ c. search needs)
     (λ c κs.
     let a = c .before .before .before in
-    initial-found (a .before .before .before .before .before .pre) _ (a .before .before .before .find-own .ensures) (a .before .enum-told .given .1)
+    initial-found (a .before .before .before .before .before .before .pre .0) _ (a .before .before .before .find-own .ensures) (a .before .enum-told .given .1)
     (a .find-own2 .ensures) (c .before .c2 .given .1))
     (λ c. search needs)
     (λ c. λ P.
     let a = c .before .before .before .before in
-    partition-wins P _ (a .find-own .ensures) (a .before .before .args .defaults .«source_index») (c .partition-value .result) (c .before .before .c .given .1)
+    partition-wins P _ (a .find-own .ensures) (a .before .before .before .args .defaults .«source_index») (c .partition-value .result) (c .before .before .c .given .1)
     (c .partition-value .ensures))
     (λ c. λ P.
     let a = c .before .before .before .before in
     initial-wins P _ (a .before .before .before .find-own .ensures) (a .before .enum-told .given .1) (a .find-own2 .ensures)
-    (a .before .before .before .before .before .args .defaults .«source_index») (c .initial-value .result) (c .before .before .c2 .given .1)
+    (a .before .before .before .before .before .before .args .defaults .«source_index») (c .initial-value .result) (c .before .before .c2 .given .1)
     (c .initial-value .ensures))
     (λ c. λ P.
     let a = c .before .before in
     no-entry P _ (a .before .before .before .find-own .ensures) (a .before .enum-told .given .1) (a .find-own2 .ensures)
-    (a .before .before .before .before .before .args .defaults .«source_index») (c .enum-told2 .given .1)))
+    (a .before .before .before .before .before .before .args .defaults .«source_index») (c .enum-told2 .given .1)))

@@ -1,20 +1,66 @@
 -- `defaults::read::read_counted` meets its contract: each way has its rule in `Top`. Assumes nothing.
+use Rattle.defaults.proofs.Top.{counted-at, counted-ways}
 use borrow.Author.Needs.{needs}
-use Rattle.defaults.proofs.Top.{counted-ways}
 use Rattle.defaults.proofs.read.read_counted.Statement.{statement}
 use Rattle.defaults.proofs.read.read_counted.Tie as tie
+use Rattle.defaults.proofs.read.read_counted.Reads as reads
+use Rattle.defaults.proofs.read.read_counted.Lts as lts
+use Rattle.defaults.proofs.read.read_entries.Reads as read-entries-reads
+use Rattle.layout.proofs.cursor.Cursor.short.Reads as short-reads
+
+short-requires : tie.Need-short-requires
+short-requires c κs = search needs
+
+enum-known-n : tie.Need-enum-known-n
+enum-known-n c = search needs
+
+read-entries-requires : tie.Need-read-entries-requires
+read-entries-requires c κs = (c .before .before .before .before .before .before .before .pre .0, counted-at _ (c .before .before .before .before .before .before .before .args .version) (c .before .before .before .before .short .ensures) (c .before .before .n .given .1), c .before .before .before .before .before .before .before .pre .1)
+
+enum-known-e : tie.Need-enum-known-e
+enum-known-e c = search needs
+
+enum-known-k : tie.Need-enum-known-k
+enum-known-k c = search needs
+
+enum-known-k-2 : tie.Need-enum-known-k-2
+enum-known-k-2 c = search needs
+
+same-length : tie.Need-same-length
+same-length c = search needs
+
+returns : tie.Need-returns
+returns c = search (counted-ways, needs)
+
+same-length-2 : tie.Need-same-length-2
+same-length-2 c = search needs
+
+returns-2 : tie.Need-returns-2
+returns-2 c = search (counted-ways, needs)
+
+same-length-3 : tie.Need-same-length-3
+same-length-3 c = search needs
+
+returns-3 : tie.Need-returns-3
+returns-3 c = search (counted-ways, needs)
+
+returns-4 : tie.Need-returns-4
+returns-4 c = search (counted-ways, needs)
 
 pub read-counted-spec : {M : Type 1} → statement M
 read-counted-spec =
     tie.close
     (tie.spec
-    (λ c κs. search needs)
-    (λ c. search needs)
-    (λ c κs. search needs)
-    (λ c. search needs)
-    (λ c. search needs)
-    (λ c. search needs)
-    (λ c. search (counted-ways, needs))
-    (λ c. search (counted-ways, needs))
-    (λ c. search (counted-ways, needs))
-    (λ c. search (counted-ways, needs)))
+    short-requires
+    enum-known-n
+    read-entries-requires
+    enum-known-e
+    enum-known-k
+    enum-known-k-2
+    same-length
+    returns
+    same-length-2
+    returns-2
+    same-length-3
+    returns-3
+    returns-4)

@@ -1,16 +1,79 @@
--- `defaults::read::read_entries` meets its contract: the loop keeps `Reading`. Assumes nothing.
-use borrow.Author.Needs.{needs}
+-- `defaults::read::read_entries` meets its contract: the loop keeps `Filling`. Assumes nothing.
+use Prim.Native.Nat.{ℕ, _-_}
+use mathlib.Core.Path.{_≡_, refl, ap, _∙_}
+use mathlib.Core.List.{List}
 use native.Mathlib.Omega.{arith}
-use Prim.Native.Nat.{_-_}
-use Rattle.defaults.proofs.Reading.{Reading, reading-none, reading-all, reading-broken, reading-repeated, reading-more}
+use lib.ListN.{length}
+use denote.Ref.{now}
+use Rattle.layout.proofs.Ways.{clash}
+use Rattle.defaults.proofs.Indexing.{Filling, filling-start, filling-all, filling-end, filling-broken, filling-inside, filling-repeated, filling-more, pushed-length}
+use borrow.Author.Needs.{needs}
 use Rattle.defaults.proofs.read.read_entries.Statement.{statement}
 use Rattle.defaults.proofs.read.read_entries.Tie as tie
+use Rattle.defaults.proofs.read.read_entries.Reads as reads
+use Rattle.defaults.proofs.read.read_entries.Lts as lts
+use Rattle.defaults.proofs.index.clear.Reads as clear-reads
+use Rattle.defaults.proofs.index.push.Reads as push-reads
+use Rattle.defaults.proofs.read.find_indexed.Reads as find-indexed-reads
+use Rattle.defaults.proofs.read.is_found.Reads as is-found-reads
+use Rattle.defaults.proofs.read.read_entry.Reads as read-entry-reads
 
 abbrev Inv-loop : tie.InvT-loop
-Inv-loop s version n c at₀ i₀ at i = Reading version s n (c .at) i at
+Inv-loop s version n index₀ at₀ i₀ index at i = (length index ≡ length index₀) × Filling version s n at₀ i at index
 
 abbrev μ-loop : tie.MeasureT-loop
-μ-loop s version n c at₀ i₀ at i = n - i
+μ-loop s version n index₀ at₀ i₀ index at i = n - i
+
+clear-requires : tie.Need-clear-requires Inv-loop μ-loop
+clear-requires c κs = search needs
+
+loop-holds : tie.Need-loop-holds Inv-loop μ-loop
+loop-holds c = (refl, filling-start (let a = c .before .before .clear .ensures .0 in let p = c .before .before .before .before .before .before .pre in omega arith) (c .before .before .before .before .before .before .pre .1) (c .before .before .clear .ensures .1))
+
+read-entry-requires : tie.Need-read-entry-requires Inv-loop μ-loop
+read-entry-requires c κs = search needs
+
+enum-known-owner : tie.Need-enum-known-owner Inv-loop μ-loop
+enum-known-owner c = search needs
+
+find-indexed-requires : tie.Need-find-indexed-requires Inv-loop μ-loop
+find-indexed-requires c κs = c .before .before .before .before .before .before .loop .inv .1 .chained .inside
+
+is-found-requires : tie.Need-is-found-requires Inv-loop μ-loop
+is-found-requires c κs = search needs
+
+same-length : tie.Need-same-length Inv-loop μ-loop
+same-length c = search needs
+
+returns : tie.Need-returns Inv-loop μ-loop
+returns c = (filling-repeated (c .before .before .before .before .before .before .before .before .before .loop .inv .1) (c .before .before .before .before .before .before .before .before .loop-test .taken) (c .before .before .before .before .before .before .before .read-entry .ensures) (c .before .before .before .before .before .owner .given .1) (c .before .before .find-indexed .ensures) (c .before .is-found .ensures) (c .if1 .taken), λ e h. clash (cc))
+
+push-requires : tie.Need-push-requires Inv-loop μ-loop
+push-requires c κs = let a = filling-inside (c .before .before .before .before .before .before .before .before .before .before .loop .inv .1) (c .before .before .before .before .before .before .before .before .before .loop-test .taken) (c .before .before .before .before .before .before .before .before .read-entry .ensures) (c .before .before .before .before .before .before .owner .given .1) in let p = c .before .before .before .before .before .before .before .before .before .before .before .before .before .before .before .before .before .pre .0 in (c .before .before .before .before .before .before .before .before .before .before .loop .inv .1 .chained .inside .long, omega arith, omega arith)
+
+enum-known-k : tie.Need-enum-known-k Inv-loop μ-loop
+enum-known-k c = search needs
+
+same-length-2 : tie.Need-same-length-2 Inv-loop μ-loop
+same-length-2 c = search needs
+
+returns-2 : tie.Need-returns-2 Inv-loop μ-loop
+returns-2 c = (filling-broken (c .before .before .before .before .before .loop .inv .1) (c .before .before .before .before .loop-test .taken) (c .before .before .before .read-entry .ensures) (c .before .k .given .1), λ e h. clash (cc))
+
+add-i : tie.Need-add-i Inv-loop μ-loop
+add-i c = omega (arith, c .before .before .before .before .before .before .before .before .before .before .before .before .loop-test .taken, c .before .before .before .before .before .before .before .before .before .before .before .before .before .before .before .before .before .before .before .before .fits)
+
+loop-less : tie.Need-loop-less Inv-loop μ-loop
+loop-less c = omega arith
+
+loop-again : tie.Need-loop-again Inv-loop μ-loop
+loop-again c = (ap (λ (l : List ℕ). length l) (c .before .before .push .ensures) ∙ pushed-length (length (now (c .before .before .before .before .before .before .before .before .before .before .before .before .before .before .before .before .before .before .before .before .args .s))) (c .before .before .before .before .before .before .before .before .before .before .before .before .before .loop .at) (c .before .before .before .before .before .before .before .before .before .owner .given .0 .1 .0) (c .before .before .before .before .before .before .before .before .before .before .before .before .before .loop .index) ∙ c .before .before .before .before .before .before .before .before .before .before .before .before .before .loop .inv .0, filling-more (c .before .before .before .before .before .before .before .before .before .before .before .before .before .loop .inv .1) (c .before .before .before .before .before .before .before .before .before .before .before .before .loop-test .taken) (c .before .before .before .before .before .before .before .before .before .before .before .read-entry .ensures) (c .before .before .before .before .before .before .before .before .before .owner .given .1) (c .before .before .before .before .before .before .find-indexed .ensures) (c .before .before .before .before .before .is-found .ensures) (c .before .before .before .before .if1 .left) (c .before .before .push .ensures))
+
+same-length-3 : tie.Need-same-length-3 Inv-loop μ-loop
+same-length-3 c = search needs
+
+returns-3 : tie.Need-returns-3 Inv-loop μ-loop
+returns-3 c = (filling-all (c .before .loop .inv .1) (c .loop-test .left), λ e h. filling-end (c .before .loop .inv .1) (c .loop-test .left))
 
 pub read-entries-spec : {M : Type 1} → statement M
 read-entries-spec =
@@ -18,15 +81,20 @@ read-entries-spec =
     (tie.spec
     Inv-loop
     μ-loop
-    (λ c. search (reading-none, needs))
-    (λ c κs. search needs)
-    (λ c. search needs)
-    (λ c κs. search needs)
-    (λ c κs. search needs)
-    (λ c. search reading-repeated)
-    (λ c. search needs)
-    (λ c. search reading-broken)
-    (λ c. omega arith)
-    (λ c. omega arith)
-    (λ c. search reading-more)
-    (λ c. search reading-all))
+    clear-requires
+    loop-holds
+    read-entry-requires
+    enum-known-owner
+    find-indexed-requires
+    is-found-requires
+    same-length
+    returns
+    push-requires
+    enum-known-k
+    same-length-2
+    returns-2
+    add-i
+    loop-less
+    loop-again
+    same-length-3
+    returns-3)
