@@ -1,3 +1,4 @@
 pub mod Places
 pub mod Stops
 pub mod Marked
+pub mod Nulls

@@ -9,8 +9,10 @@ ghost use Rattle.plan.specs.Nullness.{topOf, insideOf, nullnessAt, nullnessOf, 
 ghost use Rattle.plan.specs.Marks.{allowed, givens, meets, meetsAll};
 ghost use Rattle.index.specs.Indexed.{strideOf, Indexed};
 ghost use Rattle.overflow.specs.Overflows.{PlanAt};
+ghost use Rattle.nullness.specs.Nulls.{Nulls};
 ghost use Rattle.nullness.specs.Places.{nullnessIn};
 ghost use Rattle.nullness.specs.Stops.{PlaceAt, ElementAt};
+use crate::fill::fill_selectors;
 use crate::follow::follow;
 use index::columns::index_columns;
 use index::columns::stride_of;
@@ -30,12 +32,13 @@ fn meets_place(
     n: u16,
     index: &[u16],
     plan: &[u8],
+    nulls: &[u8],
     top: usize,
     required: bool,
     path: [u16; 64],
     len: usize,
 ) -> bool
-    requires { ⌜ Indexed v (now incoming) n 7 (strideOf n) (now index) ⌝ }
+    requires { ⌜ Indexed v (now incoming) n 7 (strideOf n) (now index) × Nulls (now plan) (now nulls) ⌝ }
     requires { ⌜ ((P : ColumnsAt v 16 (now incoming) n 7) × (u : DataType) × PlaceAt (now plan) top (fieldsOf (P .columns)) (slice 0 len path) u) ⌝ }
     requires { ⌜ (len ≤ 64) × (length path ≡ 64) ⌝ }
     ensures { λ r. ⌜ ((P : ColumnsAt v 16 (now (incoming .entry)) n 7) (u : DataType) (S : PlaceAt (now (plan .entry)) top (fieldsOf (P .columns)) (slice 0 len path) u) → r ≡ allowed (topOf (nullnessIn (nullnessOf (givens (P .columns)) (S .top .here .tree)) (slice 0 len path))) required) ⌝ }
@@ -49,6 +52,7 @@ fn meets_place(
         n,
         index,
         plan,
+        nulls,
         start(top, plan.len(), path, len),
     )
 }
@@ -60,6 +64,7 @@ fn meets_type(
     n: u16,
     index: &[u16],
     plan: &[u8],
+    nulls: &[u8],
     top: usize,
     tgt: &[u8],
     y: Edition,
@@ -69,12 +74,12 @@ fn meets_type(
     path: [u16; 64],
     len: usize,
 ) -> bool
-    requires { ⌜ Indexed v (now incoming) n 7 (strideOf n) (now index) ⌝ }
+    requires { ⌜ Indexed v (now incoming) n 7 (strideOf n) (now index) × Nulls (now plan) (now nulls) ⌝ }
     requires { ⌜ ((P : ColumnsAt v 16 (now incoming) n 7) × (Q : TypeAt y depth (now tgt) (t .at)) × PlaceAt (now plan) top (fieldsOf (P .columns)) (slice 0 len path) (dtypeOf (Q .tree))) ⌝ }
     requires { ⌜ (len + depth ≤ 16) × (length path ≡ 64) ⌝ }
     ensures { λ r. ⌜ ((P : ColumnsAt v 16 (now (incoming .entry)) n 7) (Q : TypeAt y depth (now (tgt .entry)) (t .at)) (S : PlaceAt (now (plan .entry)) top (fieldsOf (P .columns)) (slice 0 len path) (dtypeOf (Q .tree))) → r ≡ meets (nullnessIn (nullnessOf (givens (P .columns)) (S .top .here .tree)) (slice 0 len path)) required (Q .tree)) ⌝ }
 {
-    if !meets_place(incoming, v, n, index, plan, top, required, path, len) {
+    if !meets_place(incoming, v, n, index, plan, nulls, top, required, path, len) {
         return false;
     }
     match t.head(tgt) {
@@ -85,6 +90,7 @@ fn meets_type(
             n,
             index,
             plan,
+            nulls,
             top,
             tgt,
             y,
@@ -101,6 +107,7 @@ fn meets_type(
                 n,
                 index,
                 plan,
+                nulls,
                 top,
                 tgt,
                 y,
@@ -119,6 +126,7 @@ fn meets_type(
                 n,
                 index,
                 plan,
+                nulls,
                 top,
                 tgt,
                 y,
@@ -141,6 +149,7 @@ fn meets_element(
     n: u16,
     index: &[u16],
     plan: &[u8],
+    nulls: &[u8],
     top: usize,
     tgt: &[u8],
     y: Edition,
@@ -150,7 +159,7 @@ fn meets_element(
     path: [u16; 64],
     len: usize,
 ) -> bool
-    requires { ⌜ Indexed v (now incoming) n 7 (strideOf n) (now index) ⌝ }
+    requires { ⌜ Indexed v (now incoming) n 7 (strideOf n) (now index) × Nulls (now plan) (now nulls) ⌝ }
     requires { ⌜ ((P : ColumnsAt v 16 (now incoming) n 7) × (Q : TypeAt y depth (now tgt) (t .at)) × ElementAt (now plan) top (fieldsOf (P .columns)) (slice 0 len path) (dtypeOf (Q .tree))) ⌝ }
     requires { ⌜ (len + 1 + depth ≤ 16) × (length path ≡ 64) ⌝ }
     ensures { λ r. ⌜ ((P : ColumnsAt v 16 (now (incoming .entry)) n 7) (Q : TypeAt y depth (now (tgt .entry)) (t .at)) (S : ElementAt (now (plan .entry)) top (fieldsOf (P .columns)) (slice 0 len path) (dtypeOf (Q .tree))) → r ≡ meets (nullnessAt (insideOf (nullnessIn (nullnessOf (givens (P .columns)) (S .top .here .tree)) (slice 0 len path))) 0) required (Q .tree)) ⌝ }
@@ -162,6 +171,7 @@ fn meets_element(
         n,
         index,
         plan,
+        nulls,
         top,
         tgt,
         y,
@@ -180,6 +190,7 @@ fn meets_fields(
     n: u16,
     index: &[u16],
     plan: &[u8],
+    nulls: &[u8],
     top: usize,
     tgt: &[u8],
     y: Edition,
@@ -189,7 +200,7 @@ fn meets_fields(
     path: [u16; 64],
     len: usize,
 ) -> bool
-    requires { ⌜ Indexed v (now incoming) n 7 (strideOf n) (now index) ⌝ }
+    requires { ⌜ Indexed v (now incoming) n 7 (strideOf n) (now index) × Nulls (now plan) (now nulls) ⌝ }
     requires { ⌜ ((P : ColumnsAt v 16 (now incoming) n 7) × (Q : ColumnsAt y depth (now tgt) m (c .at)) × PlaceAt (now plan) top (fieldsOf (P .columns)) (slice 0 len path) (struct (fieldsOf (Q .columns)))) ⌝ }
     requires { ⌜ (len + 1 + depth ≤ 16) × (length path ≡ 64) ⌝ }
     ensures { λ r. ⌜ ((P : ColumnsAt v 16 (now (incoming .entry)) n 7) (Q : ColumnsAt y depth (now (tgt .entry)) m (c .at)) (S : PlaceAt (now (plan .entry)) top (fieldsOf (P .columns)) (slice 0 len path) (struct (fieldsOf (Q .columns)))) → r ≡ meetsAll (insideOf (nullnessIn (nullnessOf (givens (P .columns)) (S .top .here .tree)) (slice 0 len path))) (Q .columns)) ⌝ }
@@ -207,6 +218,7 @@ fn meets_fields(
                     n,
                     index,
                     plan,
+                    nulls,
                     top,
                     tgt,
                     y,
@@ -236,11 +248,12 @@ fn meets_columns(
     n: u16,
     index: &[u16],
     plan: &[u8],
+    nulls: &[u8],
     tgt: &[u8],
     y: Edition,
     m: u16,
 ) -> bool
-    requires { ⌜ Indexed v (now incoming) n 7 (strideOf n) (now index) ⌝ }
+    requires { ⌜ Indexed v (now incoming) n 7 (strideOf n) (now index) × Nulls (now plan) (now nulls) ⌝ }
     requires { ⌜ ((P : ColumnsAt v 16 (now incoming) n 7) × (D : ColumnsAt y 16 (now tgt) m 7) × PlanAt (now plan) 7 (fieldsOf (P .columns)) (fieldsOf (D .columns))) ⌝ }
     ensures { λ r. ⌜ ((P : ColumnsAt v 16 (now (incoming .entry)) n 7) (D : ColumnsAt y 16 (now (tgt .entry)) m 7) (S : PlanAt (now (plan .entry)) 7 (fieldsOf (P .columns)) (fieldsOf (D .columns))) → r ≡ meetsAll (nullnessesOf (givens (P .columns)) (S .selectors .trees)) (D .columns)) ⌝ }
 {
@@ -257,6 +270,7 @@ fn meets_columns(
                     n,
                     index,
                     plan,
+                    nulls,
                     at,
                     tgt,
                     y,
@@ -281,6 +295,26 @@ fn meets_columns(
     true
 }
 
+// The same of plans that are worth a table of the nulls in their constants.
+fn meets_by_table(
+    incoming: &[u8],
+    v: Edition,
+    n: u16,
+    index: &[u16],
+    plan: &[u8],
+    tgt: &[u8],
+    y: Edition,
+    m: u16,
+) -> bool
+    requires { ⌜ Indexed v (now incoming) n 7 (strideOf n) (now index) ⌝ }
+    requires { ⌜ ((P : ColumnsAt v 16 (now incoming) n 7) × (D : ColumnsAt y 16 (now tgt) m 7) × PlanAt (now plan) 7 (fieldsOf (P .columns)) (fieldsOf (D .columns))) ⌝ }
+    ensures { λ r. ⌜ ((P : ColumnsAt v 16 (now (incoming .entry)) n 7) (D : ColumnsAt y 16 (now (tgt .entry)) m 7) (S : PlanAt (now (plan .entry)) 7 (fieldsOf (P .columns)) (fieldsOf (D .columns))) → r ≡ meetsAll (nullnessesOf (givens (P .columns)) (S .selectors .trees)) (D .columns)) ⌝ }
+{
+    let mut nulls = [1u8; 65536];
+    fill_selectors(plan, 64, m, Cursor { at: 7 }, &mut nulls);
+    meets_columns(incoming, v, n, index, plan, &nulls, tgt, y, m)
+}
+
 // Of a plan that passed the check between the two layouts up to 33.
 pub fn meets_marks(
     incoming: &[u8],
@@ -296,5 +330,9 @@ pub fn meets_marks(
 {
     let mut starts = [0u16; 256];
     let j = index_columns(incoming, v, n, Cursor { at: 7 }, stride_of(n), &mut starts);
-    meets_columns(incoming, v, n, &starts[..j], plan, tgt, y, m)
+    if plan.len() < 1024 {
+        let none = [0u8; 1];
+        return meets_columns(incoming, v, n, &starts[..j], plan, &none[..0], tgt, y, m);
+    }
+    meets_by_table(incoming, v, n, &starts[..j], plan, tgt, y, m)
 }

@@ -13,8 +13,10 @@ ghost use Rattle.walk.specs.Standing.{WalkAt};
 ghost use Rattle.overflow.specs.Some.{someSought};
 ghost use Rattle.overflow.specs.Seek.{RawIn};
 ghost use Rattle.overflow.specs.declared.scan.Sought.{Sought as SoughtOf};
+ghost use Rattle.nullness.specs.Nulls.{Nulls};
 ghost use Rattle.nullness.specs.Stops.{answered, inputStop, stopOf};
 use crate::column::incoming_filled;
+use crate::nulls::may_be_null;
 use layout::columns::Position;
 use layout::cursor::Cursor;
 use layout::edition::Edition;
@@ -51,13 +53,17 @@ fn at_position(incoming: &[u8], v: Edition, n: u16, index: &[u16], k: Position, 
 }
 
 // Whose type stands at `t`: no null may stand among the values at the path.
-fn at_constant(plan: &[u8], t: Cursor, w: Walk) -> Stop
+fn at_constant(plan: &[u8], nulls: &[u8], t: Cursor, w: Walk) -> Stop
+    requires { ⌜ Nulls (now plan) (now nulls) ⌝ }
     requires { ⌜ RawIn (now plan) (t .at) × ((x : State) × WalkAt (now plan) w x) ⌝ }
     ensures { λ r. ⌜ ((X : RawIn (now (plan .entry)) (t .at)) (x : State) → WalkAt (now (plan .entry)) w x → r ≡ answered (not (someSought SoughtOf.Null (x .path) (X .value .tree)))) ⌝ }
 {
     let path = w.path;
     let from = w.deep;
     let len = w.len;
+    if !may_be_null(plan, t, path, from, len, nulls) {
+        return Stop::Passes;
+    }
     if in_constant(plan, t, path, from, len, Sought::Null) {
         Stop::Fails
     } else {
@@ -76,16 +82,16 @@ fn at_transform(w: Walk) -> Stop
     }
 }
 
-pub fn at_stop(incoming: &[u8], v: Edition, n: u16, index: &[u16], plan: &[u8], w: Walk) -> Stop
+pub fn at_stop(incoming: &[u8], v: Edition, n: u16, index: &[u16], plan: &[u8], nulls: &[u8], w: Walk) -> Stop
     requires { ⌜ ColumnsAt v 16 (now incoming) n 7 ⌝ }
-    requires { ⌜ Indexed v (now incoming) n 7 (strideOf n) (now index) ⌝ }
+    requires { ⌜ Indexed v (now incoming) n 7 (strideOf n) (now index) × Nulls (now plan) (now nulls) ⌝ }
     requires { ⌜ ((x : State) × WalkAt (now plan) w x) ⌝ }
     ensures { λ r. ⌜ ((P : ColumnsAt v 16 (now (incoming .entry)) n 7) (x : State) → WalkAt (now (plan .entry)) w x → r ≡ stopOf (givens (P .columns)) x) ⌝ }
 {
     let c = Cursor { at: w.at };
     match head(plan, c) {
         SelectorHead::Position(k) => at_position(incoming, v, n, index, k, w),
-        SelectorHead::Constant(_, t) => at_constant(plan, t, w),
+        SelectorHead::Constant(_, t) => at_constant(plan, nulls, t, w),
         SelectorHead::Cast(_) => at_transform(w),
         SelectorHead::Rename(_) => at_transform(w),
         SelectorHead::Struct(_) => at_transform(w),

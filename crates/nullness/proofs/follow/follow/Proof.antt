@@ -7,10 +7,10 @@ use Rattle.nullness.proofs.follow.follow.Statement.{statement}
 use Rattle.nullness.proofs.follow.follow.Tie as tie
 
 abbrev Inv-loop : tie.InvT-loop
-Inv-loop incoming v n index plan x₀ x = Followings v incoming n plan x₀ x
+Inv-loop incoming v n index plan nulls x₀ x = Followings v incoming n plan x₀ x
 
 abbrev μ-loop : tie.MeasureT-loop
-μ-loop incoming v n index plan x₀ x = rank x
+μ-loop incoming v n index plan nulls x₀ x = rank x
 
 pub follow-spec : {M : Type 1} → statement M
 follow-spec =
@@ -18,18 +18,18 @@ follow-spec =
     (tie.spec
     Inv-loop
     μ-loop
-    (λ c. following-start _ _ _ _ _ (λ i. omega (arith, c .shared-slice-known3 .given i)))
-    (λ c κs. let F = c .loop .inv (c .before .before .before .before .pre .1 .0) (c .before .before .before .before .pre .1 .1) in (F .state, F .standing))
+    (λ c. following-start _ _ _ _ _ (λ i. omega (arith, c .before .shared-slice-known3 .given i)))
+    (λ c κs. let F = c .loop .inv (c .before .before .before .before .before .pre .1 .0) (c .before .before .before .before .before .pre .1 .1) in (F .state, F .standing))
     (λ c κs.
-    let L = following-located (c .before .loop .inv (c .before .before .before .before .before .pre .1 .0) (c .before .before .before .before .before .pre .1 .1)) (c .locate .ensures) in
-    (c .before .before .before .before .before .pre .1 .0, (c .before .before .before .before .before .pre .0, (L .state, L .standing))))
+    let L = following-located (c .before .loop .inv (c .before .before .before .before .before .before .pre .1 .0) (c .before .before .before .before .before .before .pre .1 .1)) (c .locate .ensures) in
+    (c .before .before .before .before .before .before .pre .1 .0, (c .before .before .before .before .before .before .pre .0, (L .state, L .standing))))
     (λ c. search needs)
     (λ c. λ P F. following-passes (c .before .before .before .before .loop .inv P F) (c .before .before .before .locate .ensures) (c .before .before .at-stop .ensures P) (c .enum-told .given .1))
     (λ c. search needs)
     (λ c. λ P F. following-fails (c .before .before .before .before .loop .inv P F) (c .before .before .before .locate .ensures) (c .before .before .at-stop .ensures P) (c .enum-told2 .given .1))
     (λ c. search needs)
-    (λ c κs. input-starts (c .before .before .before .before .loop .inv (c .before .before .before .before .before .before .before .before .pre .1 .0) (c .before .before .before .before .before .before .before .before .pre .1 .1)) (c .before .before .before .locate .ensures))
+    (λ c κs. input-starts (c .before .before .before .before .loop .inv (c .before .before .before .before .before .before .before .before .before .pre .1 .0) (c .before .before .before .before .before .before .before .before .before .pre .1 .1)) (c .before .before .before .locate .ensures))
     (λ c.
-    let F = c .before .before .before .before .before .loop .inv (c .before .before .before .before .before .before .before .before .before .pre .1 .0) (c .before .before .before .before .before .before .before .before .before .pre .1 .1) in
-    following-input F (c .before .before .before .before .locate .ensures) (c .before .before .before .at-stop .ensures (c .before .before .before .before .before .before .before .before .before .pre .1 .0)) (c .before .enum-told3 .given .1) (c .to-input .ensures) .1)
+    let F = c .before .before .before .before .before .loop .inv (c .before .before .before .before .before .before .before .before .before .before .pre .1 .0) (c .before .before .before .before .before .before .before .before .before .before .pre .1 .1) in
+    following-input F (c .before .before .before .before .locate .ensures) (c .before .before .before .at-stop .ensures (c .before .before .before .before .before .before .before .before .before .before .pre .1 .0)) (c .before .enum-told3 .given .1) (c .to-input .ensures) .1)
     (λ c. λ P F. following-input (c .before .before .before .before .before .loop .inv P F) (c .before .before .before .before .locate .ensures) (c .before .before .before .at-stop .ensures P) (c .before .enum-told3 .given .1) (c .to-input .ensures) .0))

@@ -12,5 +12,5 @@ meets-place-spec =
     (tie.spec
     (λ c. λ P u S. place-optional _ (untold _ (c .if1 .taken)))
     (λ c κs. search needs)
-    (λ c κs. (c .before .before .before .before .before .pre .0, (c .before .before .before .before .before .pre .1 .0 .0, place-follows _ _ (c .before .before .before .before .before .pre .1 .0 .2) (c .before .before .before .before .before .pre .1 .1 .1) (c .before .before .before .before .before .pre .1 .1 .0) (c .start .ensures))))
-    (λ c. λ P u S. place-filled _ _ S (c .before .before .before .before .before .before .pre .1 .1 .1) (c .before .before .before .before .before .before .pre .1 .1 .0) (c .before .start .ensures) _ (told _ (c .before .before .if1 .left)) (c .follow .ensures P)))
+    (λ c κs. (c .before .before .before .before .before .before .pre .0, (c .before .before .before .before .before .before .pre .1 .0 .0, place-follows _ _ (c .before .before .before .before .before .before .pre .1 .0 .2) (c .before .before .before .before .before .before .pre .1 .1 .1) (c .before .before .before .before .before .before .pre .1 .1 .0) (c .start .ensures))))
+    (λ c. λ P u S. place-filled _ _ S (c .before .before .before .before .before .before .before .pre .1 .1 .1) (c .before .before .before .before .before .before .before .pre .1 .1 .0) (c .before .start .ensures) _ (told _ (c .before .before .if1 .left)) (c .follow .ensures P)))

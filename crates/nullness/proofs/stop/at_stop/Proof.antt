@@ -12,9 +12,9 @@ at-stop-spec =
     (tie.spec
     (λ c κs. search needs)
     (λ c. search needs)
-    (λ c κs. (c .before .before .before .before .before .before .before .pre .0, (c .before .before .before .before .before .before .before .pre .1 .0, path-room (c .before .before .before .before .before .before .before .pre .1 .1 .1))))
+    (λ c κs. (c .before .before .before .before .before .before .before .before .pre .0, (c .before .before .before .before .before .before .before .before .pre .1 .0 .0, path-room (c .before .before .before .before .before .before .before .before .pre .1 .1 .1))))
     (λ c. search needs)
-    (λ c κs. (constant-raw (c .before .before .before .before .before .before .before .pre .1 .1 .1) (c .before .before .before .head .ensures (c .before .before .before .before .before .before .before .pre .1 .1 .1 .here)) (c .before .t .given .1), c .before .before .before .before .before .before .before .pre .1 .1))
+    (λ c κs. (c .before .before .before .before .before .before .before .before .pre .1 .0 .1, (constant-raw (c .before .before .before .before .before .before .before .before .pre .1 .1 .1) (c .before .before .before .head .ensures (c .before .before .before .before .before .before .before .before .pre .1 .1 .1 .here)) (c .before .t .given .1), c .before .before .before .before .before .before .before .before .pre .1 .1)))
     (λ c. search needs)
     (λ c κs. search needs)
     (λ c. search needs)

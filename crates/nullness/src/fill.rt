@@ -1,0 +1,281 @@
+// Filling the table of nulls, in one pass over the plan's constants.
+ghost use mathlib.Core.Bool.{true};
+ghost use mathlib.Core.Path.{_≡_};
+ghost use Rattle.layout.specs.Stands.{TypeAt};
+ghost use Rattle.layout.specs.declared.edition.Edition.{Edition as EditionOf};
+ghost use Rattle.ends.specs.Ends.{Ends};
+ghost use Rattle.values.specs.Value.{vlist, Values};
+ghost use Rattle.nodes.specs.Raw.{RawAt, RowAt, ElementsAt, ListOf, PresentAt};
+ghost use Rattle.nullness.specs.Nulls.{NullsOf, EachOf, RowOf, Nulls, Grown};
+use crate::nulls::keep_constant;
+use crate::nulls::keep_null;
+use layout::columns::Labelled;
+use layout::cursor::Cursor;
+use layout::cursor::Moved;
+use layout::cursor::Short;
+use layout::cursor::Step;
+use layout::cursor::Text;
+use layout::edition::Edition;
+use layout::pass::pass_type;
+use layout::types::Head;
+use plan::read::read_selector;
+use values::leaf::Presence;
+use values::leaf::read_presence;
+use values::read::ValueRead;
+use values::read::read_element;
+use values::read::read_value;
+
+// ---- a value of a constant. The answer is whether all of its nulls were put into the table.
+
+// The value at `c` of the type at `t`, of at most `depth` levels.
+fn fill_value(
+    plan: &[u8],
+    depth: u8,
+    t: Cursor,
+    c: Cursor,
+    ends: &[u16],
+    nulls: &mut [u8],
+) -> bool
+    requires { ⌜ Ends EditionOf.One (now plan) (now ends) ⌝ }
+    requires { ⌜ RawAt EditionOf.One (now plan) (t .at) (now plan) (c .at) ⌝ }
+    ensures { λ _. ⌜ Grown (now (nulls .entry)) (now (nulls .exit)) ⌝ }
+    ensures { λ r. ⌜ (r ≡ true → (X : RawAt EditionOf.One (now (plan .entry)) (t .at) (now (plan .entry)) (c .at)) → NullsOf (now (plan .entry)) (now (nulls .exit)) (t .at) (X .value .tree)) ⌝ }
+{
+    if depth == 0 {
+        return false;
+    }
+    match read_presence(plan, c) {
+        Presence::Null(_) => {
+            keep_null(nulls, t.at);
+            true
+        }
+        Presence::Present(d) => fill_content(plan, depth - 1, t, d, ends, nulls),
+        Presence::Refused(_) => false,
+    }
+}
+
+// What follows the presence byte of a value that is present.
+fn fill_content(
+    plan: &[u8],
+    depth: u8,
+    t: Cursor,
+    c: Cursor,
+    ends: &[u16],
+    nulls: &mut [u8],
+) -> bool
+    requires { ⌜ Ends EditionOf.One (now plan) (now ends) ⌝ }
+    requires { ⌜ PresentAt EditionOf.One (now plan) (t .at) (now plan) (c .at) ⌝ }
+    ensures { λ _. ⌜ Grown (now (nulls .entry)) (now (nulls .exit)) ⌝ }
+    ensures { λ r. ⌜ (r ≡ true → (X : PresentAt EditionOf.One (now (plan .entry)) (t .at) (now (plan .entry)) (c .at)) → NullsOf (now (plan .entry)) (now (nulls .exit)) (t .at) (X .content .tree)) ⌝ }
+{
+    match t.head(plan) {
+        Head::Leaf(_, _) => true,
+        Head::Struct(n, e) => fill_fields(plan, depth, n, e, c, ends, nulls),
+        Head::List(e) => match e.element_label(plan, Edition::One) {
+            Labelled::Is(_, f) => fill_list(plan, depth, f, c, ends, nulls),
+            Labelled::Refused(_) => false,
+        },
+        Head::Array(w, e) => match e.element_label(plan, Edition::One) {
+            Labelled::Is(_, f) => fill_elements(plan, depth, w, f, c, ends, nulls),
+            Labelled::Refused(_) => false,
+        },
+        Head::Refused(_) => false,
+    }
+}
+
+// A value for each of `n` columns.
+fn fill_fields(
+    plan: &[u8],
+    depth: u8,
+    n: u16,
+    t: Cursor,
+    c: Cursor,
+    ends: &[u16],
+    nulls: &mut [u8],
+) -> bool
+    requires { ⌜ Ends EditionOf.One (now plan) (now ends) ⌝ }
+    requires { ⌜ RowAt EditionOf.One (now plan) n (t .at) (now plan) (c .at) ⌝ }
+    ensures { λ _. ⌜ Grown (now (nulls .entry)) (now (nulls .exit)) ⌝ }
+    ensures { λ r. ⌜ (r ≡ true → (X : RowAt EditionOf.One (now (plan .entry)) n (t .at) (now (plan .entry)) (c .at)) → RowOf (now (plan .entry)) (now (nulls .exit)) n (t .at) (X .values .values)) ⌝ }
+{
+    let mut at = t.at;
+    let mut to = c.at;
+    let mut i: u16 = 0;
+    while i < n {
+        let d = Cursor { at };
+        let b = Cursor { at: to };
+        match d.label(plan, Edition::One) {
+            Labelled::Is(_, e) => {
+                if !fill_value(plan, depth, e, b, ends, nulls) {
+                    return false;
+                }
+                match read_value(plan, Edition::One, 16, e, plan, b, ends) {
+                    ValueRead::To(f, g) => {
+                        at = f.at;
+                        to = g.at;
+                    }
+                    ValueRead::Refused(_) => return false,
+                }
+            }
+            Labelled::Refused(_) => return false,
+        }
+        i += 1;
+    }
+    true
+}
+
+// A count and as many values of the type at `t`.
+fn fill_list(plan: &[u8], depth: u8, t: Cursor, c: Cursor, ends: &[u16], nulls: &mut [u8]) -> bool
+    requires { ⌜ Ends EditionOf.One (now plan) (now ends) ⌝ }
+    requires { ⌜ ListOf EditionOf.One (now plan) (t .at) (now plan) (c .at) ⌝ }
+    ensures { λ _. ⌜ Grown (now (nulls .entry)) (now (nulls .exit)) ⌝ }
+    ensures { λ r. ⌜ (r ≡ true → (X : ListOf EditionOf.One (now (plan .entry)) (t .at) (now (plan .entry)) (c .at)) (vs : Values) → X .content .tree ≡ vlist vs → EachOf (now (plan .entry)) (now (nulls .exit)) (t .at) vs) ⌝ }
+{
+    match c.short(plan) {
+        Short::Is(n, d) => fill_elements(plan, depth, n as u32, t, d, ends, nulls),
+        Short::Refused(_) => false,
+    }
+}
+
+// `n` values of the type at `t`.
+fn fill_elements(
+    plan: &[u8],
+    depth: u8,
+    n: u32,
+    t: Cursor,
+    c: Cursor,
+    ends: &[u16],
+    nulls: &mut [u8],
+) -> bool
+    requires { ⌜ Ends EditionOf.One (now plan) (now ends) ⌝ }
+    requires { ⌜ ElementsAt EditionOf.One (now plan) n (t .at) (now plan) (c .at) ⌝ }
+    ensures { λ _. ⌜ Grown (now (nulls .entry)) (now (nulls .exit)) ⌝ }
+    ensures { λ r. ⌜ (r ≡ true → (X : ElementsAt EditionOf.One (now (plan .entry)) n (t .at) (now (plan .entry)) (c .at)) → EachOf (now (plan .entry)) (now (nulls .exit)) (t .at) (X .values .values)) ⌝ }
+{
+    let mut at = c.at;
+    let mut i: u32 = 0;
+    while i < n {
+        let d = Cursor { at };
+        if !fill_value(plan, depth, t, d, ends, nulls) {
+            return false;
+        }
+        match read_element(plan, Edition::One, 16, t, plan, d, ends) {
+            Moved::To(e) => {
+                at = e.at;
+            }
+            Moved::Refused(_) => return false,
+        }
+        i += 1;
+    }
+    true
+}
+
+// ---- a plan's selectors. The answer is where a selector ends; a refusal leaves the rest to scans.
+
+// The constant of the type at `t`, whose value stands at `c`.
+fn fill_known(plan: &[u8], t: Cursor, c: Cursor, nulls: &mut [u8]) -> Moved
+    requires { ⌜ ((T : TypeAt EditionOf.One 16 (now plan) (t .at)) × (c .at ≡ T .end)) ⌝ }
+    requires { ⌜ Nulls (now plan) (now nulls) ⌝ }
+    ensures { λ _. ⌜ Nulls (now (plan .entry)) (now (nulls .exit)) ⌝ }
+{
+    let none: [u16; 1] = [0; 1];
+    match read_element(plan, Edition::One, 16, t, plan, c, &none[..0]) {
+        Moved::To(d) => {
+            if fill_value(plan, 16, t, c, &none[..0], nulls) {
+                keep_constant(nulls, t.at);
+            }
+            Moved::To(d)
+        }
+        Moved::Refused(k) => Moved::Refused(k),
+    }
+}
+
+// A name, a type and a value of it.
+fn fill_constant(plan: &[u8], c: Cursor, nulls: &mut [u8]) -> Moved
+    requires { ⌜ Nulls (now plan) (now nulls) ⌝ }
+    ensures { λ _. ⌜ Nulls (now (plan .entry)) (now (nulls .exit)) ⌝ }
+{
+    match c.text(plan) {
+        Text::Is(_, t) => match pass_type(plan, Edition::One, 16, t) {
+            Moved::To(d) => fill_known(plan, t, d, nulls),
+            Moved::Refused(k) => Moved::Refused(k),
+        },
+        Text::Refused(k) => Moved::Refused(k),
+    }
+}
+
+// A selector of at most `depth` levels. What a cast takes is a leaf, which is scanned at once.
+fn fill_selector(plan: &[u8], depth: u8, c: Cursor, nulls: &mut [u8]) -> Moved
+    requires { ⌜ Nulls (now plan) (now nulls) ⌝ }
+    ensures { λ _. ⌜ Nulls (now (plan .entry)) (now (nulls .exit)) ⌝ }
+{
+    if depth == 0 {
+        return Moved::Refused(4);
+    }
+    match c.byte(plan) {
+        Step::Byte(code, d) => match code {
+            1 => fill_constant(plan, d, nulls),
+            3 => fill_rename(plan, depth - 1, d, nulls),
+            4 => fill_struct(plan, depth - 1, d, nulls),
+            5 | 6 => fill_mapping(plan, depth - 1, d, nulls),
+            _ => read_selector(plan, depth, c),
+        },
+        Step::Refused(k) => Moved::Refused(k),
+    }
+}
+
+fn fill_rename(plan: &[u8], depth: u8, c: Cursor, nulls: &mut [u8]) -> Moved
+    requires { ⌜ Nulls (now plan) (now nulls) ⌝ }
+    ensures { λ _. ⌜ Nulls (now (plan .entry)) (now (nulls .exit)) ⌝ }
+{
+    match fill_selector(plan, depth, c, nulls) {
+        Moved::To(d) => match d.text(plan) {
+            Text::Is(_, e) => Moved::To(e),
+            Text::Refused(k) => Moved::Refused(k),
+        },
+        Moved::Refused(k) => Moved::Refused(k),
+    }
+}
+
+fn fill_struct(plan: &[u8], depth: u8, c: Cursor, nulls: &mut [u8]) -> Moved
+    requires { ⌜ Nulls (now plan) (now nulls) ⌝ }
+    ensures { λ _. ⌜ Nulls (now (plan .entry)) (now (nulls .exit)) ⌝ }
+{
+    match fill_selector(plan, depth, c, nulls) {
+        Moved::To(d) => match d.short(plan) {
+            Short::Is(n, e) => fill_selectors(plan, depth, n, e, nulls),
+            Short::Refused(k) => Moved::Refused(k),
+        },
+        Moved::Refused(k) => Moved::Refused(k),
+    }
+}
+
+// A list or array mapping.
+fn fill_mapping(plan: &[u8], depth: u8, c: Cursor, nulls: &mut [u8]) -> Moved
+    requires { ⌜ Nulls (now plan) (now nulls) ⌝ }
+    ensures { λ _. ⌜ Nulls (now (plan .entry)) (now (nulls .exit)) ⌝ }
+{
+    match fill_selector(plan, depth, c, nulls) {
+        Moved::To(d) => fill_selector(plan, depth, d, nulls),
+        Moved::Refused(k) => Moved::Refused(k),
+    }
+}
+
+// `n` selectors, each of at most `depth` levels.
+pub fn fill_selectors(plan: &[u8], depth: u8, n: u16, c: Cursor, nulls: &mut [u8]) -> Moved
+    requires { ⌜ Nulls (now plan) (now nulls) ⌝ }
+    ensures { λ _. ⌜ Nulls (now (plan .entry)) (now (nulls .exit)) ⌝ }
+{
+    let mut at = c.at;
+    let mut i: u16 = 0;
+    while i < n {
+        match fill_selector(plan, depth, Cursor { at }, nulls) {
+            Moved::To(d) => {
+                at = d.at;
+            }
+            Moved::Refused(k) => return Moved::Refused(k),
+        }
+        i += 1;
+    }
+    Moved::To(Cursor { at })
+}
