@@ -17,7 +17,8 @@ use Rattle.layout.specs.Parser.{Res, refuse, ok, choose}
 use Rattle.layout.specs.Tree.{Label}
 use Rattle.layout.specs.Layout.{label, repeats}
 use Rattle.layout.specs.Answers.{labelAt, labelRes}
-use Rattle.layout.specs.Seen.{mixed, hashBytes, labelHash, far, firstSlot, slotAfter, slotAt, mayRepeat, Meets, Empty, Searched, Keeps, Begins, Noted, Notes}
+use Rattle.layout.specs.Seen.{mixed, hashBytes, labelHash, far, firstSlot, slotAfter, slotAt, mayRepeat}
+use Rattle.layout.specs.Seen.{Meets, Empty, Searched, Keeps, Begins, Noted, Notes}
 use Rattle.layout.specs.Scan.{found, scan}
 use Rattle.layout.specs.declared.edition.Edition.{Edition}
 use Rattle.layout.specs.declared.cursor.Cursor.{Cursor}
@@ -120,7 +121,8 @@ may-as : (v : Edition) (r : Siblings) (k l : Label) (s : Bytes) (x : ℕ) → re
 unfolding mayRepeat choose
 may-as v r k l s x e f = go (eqb x far) refl f
   where
-    go : (b : Bool) → eqb x far ≡ b → choose b true (found (label v s x) (λ m e. repeats r l m)) ≡ true → choose b true (found (label v s x) (λ m e. repeats r k m)) ≡ true
+    go : (b : Bool) → eqb x far ≡ b → choose b true (found (label v s x) (λ m e. repeats r l m)) ≡ true
+        → choose b true (found (label v s x) (λ m e. repeats r k m)) ≡ true
     go true q h = refl
     go false q h = found-as r k l (label v s x) e h
 
@@ -136,7 +138,10 @@ module _ (v : Edition) (r : Siblings) (l : Label) (s : Bytes) (t : List ℕ) (h 
 
   -- no slot at all
   pub searched-none : {k : ℕ} → length t ≡ 0 → Searched v r l s t h k
-  searched-none e = record { new = λ lt. absurd (omega arith); met = λ le. record { i = 0; filled = λ j lt. absurd (omega arith); told = λ lt. absurd (omega arith) } }
+  searched-none e = record {
+    new = λ lt. absurd (omega arith);
+    met = λ le. record { i = 0; filled = λ j lt. absurd (omega arith); told = λ lt. absurd (omega arith) };
+  }
 
   module _ (i : ℕ) (a : Searching v r l s t h i) where
     pub searching-full : {k : ℕ} → length t ≤ i → k ≡ length t → Searched v r l s t h k
@@ -199,7 +204,9 @@ module _ (v : Edition) (r : Siblings) (l : Label) (s : Bytes) (t : List ℕ) (h 
             below j o q n = omega arith
 
             go : (j : ℕ) → j < i + 1 → Dec (j ≡ i) → (0 < slotAt t h j) × (mayRepeat v r l s (slotAt t h j) ≡ false)
-            go j q (yes p) = subst (λ (o : ℕ). (0 < slotAt t h o) × (mayRepeat v r l s (slotAt t h o) ≡ false)) (sym p) (filled, ap (mayRepeat v r l s) (sym holds) ∙ sym y ∙ z)
+            go j q (yes p) =
+                subst (λ (o : ℕ). (0 < slotAt t h o) × (mayRepeat v r l s (slotAt t h o) ≡ false)) (sym p)
+                (filled, ap (mayRepeat v r l s) (sym holds) ∙ sym y ∙ z)
             go j q (no n) = a .passed j (below j i q n)
 
 -- ---- the table
@@ -225,7 +232,9 @@ pub meets-kept : {v : Edition} {r : Siblings} {l : Label} {s : Bytes} {t u : Lis
 meets-kept {v} {r} {l} {s} {t} {u} {h} a M = record {
   i = M .i;
   filled = λ j lt. filled-kept a h j (M .filled j lt);
-  told = λ lt. let y = M .told (subst (λ (n : ℕ). M .i < n) (sym (a .long)) lt) in (filled-kept a h (M .i) (y .0), ap (mayRepeat v r l s) (slot-kept a h (M .i) (y .0)) ∙ y .1);
+  told = λ lt.
+      let y = M .told (subst (λ (n : ℕ). M .i < n) (sym (a .long)) lt) in
+      (filled-kept a h (M .i) (y .0), ap (mayRepeat v r l s) (slot-kept a h (M .i) (y .0)) ∙ y .1);
 }
 
 -- a label that repeats another is looked for at the same slots
@@ -237,7 +246,8 @@ meets-as {v} {r} {k} {l} {s} {t} {h} e M = record {
 }
 
 -- a search that met a column
-pub notes-met : {v : Edition} {r : Siblings} {s : Bytes} {from : ℕ} {l : Label} {t : List ℕ} {h : ℕ} → h ≡ labelHash r from l → Meets v r l s t h → Notes v r s from l t
+pub notes-met : {v : Edition} {r : Siblings} {s : Bytes} {from : ℕ} {l : Label} {t : List ℕ} {h : ℕ} → h ≡ labelHash r from l → Meets v r l s t h
+    → Notes v r s from l t
 notes-met {v} {r} {s} {from} {l} {t} {h} e M = record {
   notes = λ k q. subst (λ (o : ℕ). Meets v r k s t o) (e ∙ sym (same-hash r from k l q)) (meets-as q M);
 }
@@ -273,7 +283,9 @@ module _ {v : Edition} {r : Siblings} {s : Bytes} {l : Label} {t : List ℕ} {h 
             (sym (ap (λ (y : Res Label). found y (λ o e. repeats r m o)) (ap (label v s) (is n) ∙ B .reads) ∙ q)))
 
     pub place-notes : {from : ℕ} → h ≡ labelHash r from l → Begins v s at l → Notes v r s from l (set t k x)
-    place-notes {from} e B = record { notes = λ m q. subst (λ (o : ℕ). Meets v r m s (set t k x) o) (e ∙ sym (same-hash r from m l q)) (met m q) }
+    place-notes {from} e B = record {
+      notes = λ m q. subst (λ (o : ℕ). Meets v r m s (set t k x) o) (e ∙ sym (same-hash r from m l q)) (met m q);
+    }
       where
         met : (m : Label) → repeats r m l ≡ true → Meets v r m s (set t k x) h
         met m q = record {

@@ -7,7 +7,8 @@ use native.Mathlib.Omega.{arith}
 use Rattle.layout.proofs.Ways.{label-in}
 use Rattle.layout.proofs.Passing.{not-plain, type-unruled, type-passed, rest-passed, element-passed}
 use Rattle.layout.proofs.Noting.{keeps-same}
-use Rattle.layout.proofs.Reading.{Reading, reading-none, reading-all, reading-no-label, reading-no-type, reading-begins, reading-noted, reading-repeated, reading-more}
+use Rattle.layout.proofs.Reading.{Reading, reading-none, reading-all, reading-no-label, reading-no-type, reading-repeated, reading-more}
+use Rattle.layout.proofs.Reading.{reading-begins, reading-noted}
 use borrow.Fn.Kinds.{In}
 use borrow.Fn.PlainCycle.{Measures, is, falls, and}
 use Rattle.layout.proofs.read.read_columns.Reads as read-columns
@@ -115,41 +116,66 @@ pub +read-columns+read-element+read-rest+read-type-spec : {M : Type 1} → state
     (λ c. search needs)
     (λ c κs. search needs)
     (λ c. search needs)
-    (λ c κs. let inv = c .before .before .before .before .before .before .before .before .before .before .before .before .before .loop .inv in
-    let lt = c .before .before .before .before .before .before .before .before .before .before .before .before .loop-test .taken in
-    let told = c .before .before .before .before .before .before .before .before .before .before .before .label .ensures in
-    let is = c .before .before .before .before .before .before .before .before .before .l .given .1 in
-    let typed = c .before .before .before .before .before .before .read-type .ensures in
-    (label-in _ (told .1) is, (reading-begins _ _ _ _ _ _ _ _ _ _ inv lt (told .0) is typed, reading-noted _ _ _ _ _ _ _ _ _ _ inv lt (told .0) is typed)))
-    (λ c. sym (c .before .before .before .before .before .before .before .before .before .before .before .before .before .before .before .before .before .loop .inv .kept .long ∙ c .before .before .before .before .before .before .before .before .before .before .read-type .ensures .1 .long ∙ c .before .before .before .is-repeated .ensures .1 .0 .long))
-    (λ c. let inv = c .before .before .before .before .before .before .before .before .before .before .before .before .before .before .before .before .before .loop .inv in
-    let lt = c .before .before .before .before .before .before .before .before .before .before .before .before .before .before .before .before .loop-test .taken in
-    let told = c .before .before .before .before .before .before .before .before .before .before .before .before .before .before .before .label .ensures in
-    let is = c .before .before .before .before .before .before .before .before .before .before .before .before .before .l .given .1 in
-    let typed = c .before .before .before .before .before .before .before .before .before .before .read-type .ensures in
-    reading-repeated _ _ _ _ _ _ _ _ _ _ inv lt (told .0) is typed (c .before .before .before .before .before .before .e .given .1) (c .before .before .before .is-repeated .ensures) (c .if1 .taken))
+    (λ c κs.
+    let ct = c .before .before .before .before .before .before in
+    let typed = ct .read-type .ensures in
+    let is = ct .before .before .before .l .given .1 in
+    let cl = ct .before .before .before .before .before in
+    let told = cl .label .ensures in
+    let lt = cl .before .loop-test .taken in
+    let inv = cl .before .before .loop .inv in (
+      label-in _ (told .1) is,
+      (reading-begins _ _ _ _ _ _ _ _ _ _ inv lt (told .0) is typed, reading-noted _ _ _ _ _ _ _ _ _ _ inv lt (told .0) is typed),
+    ))
+    (λ c.
+    let ct = c .before .before .before .before .before .before .before .before .before .before in
+    let kept = ct .before .before .before .before .before .before .before .loop .inv .kept .long in
+    sym (kept ∙ ct .read-type .ensures .1 .long ∙ c .before .before .before .is-repeated .ensures .1 .0 .long))
+    (λ c.
+    let ct = c .before .before .before .before .before .before .before .before .before .before in
+    let typed = ct .read-type .ensures in
+    let is = ct .before .before .before .l .given .1 in
+    let cl = ct .before .before .before .before .before in
+    let told = cl .label .ensures in
+    let lt = cl .before .loop-test .taken in
+    let inv = cl .before .before .loop .inv in
+    reading-repeated _ _ _ _ _ _ _ _ _ _ inv lt (told .0) is typed (c .before .before .before .before .before .before .e .given .1)
+    (c .before .before .before .is-repeated .ensures) (c .if1 .taken))
     (λ c. search needs)
-    (λ c. sym (c .before .before .before .before .before .before .before .before .before .before .before .before .loop .inv .kept .long ∙ c .before .before .before .before .before .read-type .ensures .1 .long))
-    (λ c. let inv = c .before .before .before .before .before .before .before .before .before .before .before .before .loop .inv in
-    let lt = c .before .before .before .before .before .before .before .before .before .before .before .loop-test .taken in
-    let told = c .before .before .before .before .before .before .before .before .before .before .label .ensures in
-    let is = c .before .before .before .before .before .before .before .before .l .given .1 in
-    let typed = c .before .before .before .before .before .read-type .ensures in
+    (λ c.
+    let ct = c .before .before .before .before .before in
+    sym (ct .before .before .before .before .before .before .before .loop .inv .kept .long ∙ ct .read-type .ensures .1 .long))
+    (λ c.
+    let ct = c .before .before .before .before .before in
+    let typed = ct .read-type .ensures in
+    let is = ct .before .before .before .l .given .1 in
+    let cl = ct .before .before .before .before .before in
+    let told = cl .label .ensures in
+    let lt = cl .before .loop-test .taken in
+    let inv = cl .before .before .loop .inv in
     reading-no-type _ _ _ _ _ _ _ _ _ _ inv lt (told .0) is typed (c .before .k .given .1))
     (λ c. search needs)
     (λ c. sym (c .before .before .before .before .before .loop .inv .kept .long))
-    (λ c. let inv = c .before .before .before .before .before .loop .inv in
-    let lt = c .before .before .before .before .loop-test .taken in
-    let told = c .before .before .before .label .ensures in
+    (λ c.
+    let cl = c .before .before .before in
+    let told = cl .label .ensures in
+    let lt = cl .before .loop-test .taken in
+    let inv = cl .before .before .loop .inv in
     reading-no-label _ _ _ _ _ _ _ _ _ _ inv lt (told .0) (c .before .k2 .given .1))
-    (λ c. omega (arith, c .before .before .before .before .before .before .before .before .before .before .before .before .before .before .before .before .before .before .before .before .fits .n, c .before .before .before .before .before .before .before .before .before .before .before .before .before .before .before .before .loop-test .taken))
+    (λ c.
+    let test = c .before .before .before .before .before .before .before .before .before .before .before .before .before .before .before .before in
+    omega (arith, test .before .before .before .before .fits .n, test .loop-test .taken))
     (λ c. omega arith)
-    (λ c. let inv = c .before .before .before .before .before .before .before .before .before .before .before .before .before .before .before .before .before .loop .inv in
-    let lt = c .before .before .before .before .before .before .before .before .before .before .before .before .before .before .before .before .loop-test .taken in
-    let told = c .before .before .before .before .before .before .before .before .before .before .before .before .before .before .before .label .ensures in
-    let is = c .before .before .before .before .before .before .before .before .before .before .before .before .before .l .given .1 in
-    let typed = c .before .before .before .before .before .before .before .before .before .before .read-type .ensures in
-    reading-more _ _ _ _ _ _ _ _ _ _ inv lt (told .0) is typed (c .before .before .before .before .before .before .e .given .1) (c .before .before .before .is-repeated .ensures) (c .if1 .left))
+    (λ c.
+    let ct = c .before .before .before .before .before .before .before .before .before .before in
+    let typed = ct .read-type .ensures in
+    let is = ct .before .before .before .l .given .1 in
+    let cl = ct .before .before .before .before .before in
+    let told = cl .label .ensures in
+    let lt = cl .before .loop-test .taken in
+    let inv = cl .before .before .loop .inv in
+    reading-more _ _ _ _ _ _ _ _ _ _ inv lt (told .0) is typed (c .before .before .before .before .before .before .e .given .1)
+    (c .before .before .before .is-repeated .ensures) (c .if1 .left))
     (λ c. sym (c .before .loop .inv .kept .long))
     (λ c. reading-all _ _ _ _ _ _ _ _ _ _ (c .before .loop .inv) (c .loop-test .left)))
     (λ t. read-element-lts.spec (read-element-claims t)

@@ -19,9 +19,9 @@ read-counted-spec =
     (λ c. search needs)
     (λ c. sym (c .before .before .before .before .before .before .before .read-columns .ensures .1 .long))
     (λ c.
-    let counted = c .before .before .before .before .before .before .before .before .before .before .before .before in
-    layout-read _ _ (counted .short .ensures) (c .before .before .before .before .before .before .before .before .before .before .n .given .1) (counted .before .before .top-rule .ensures) (counted .before .inner-rule .ensures)
-    (c .before .before .before .before .before .before .before .read-columns .ensures .0) (c .before .before .before .e .given .1) (c .if1 .taken))
+    let c7 = c .before .before .before .before .before .before .before in let c10 = c7 .before .before .before in let c12 = c10 .before .before in
+    layout-read _ _ (c12 .short .ensures) (c10 .n .given .1) (c12 .before .before .top-rule .ensures) (c12 .before .inner-rule .ensures)
+    (c7 .read-columns .ensures .0) (c .before .before .before .e .given .1) (c .if1 .taken))
     (λ c. sym (c .before .before .before .before .before .before .before .read-columns .ensures .1 .long))
     (λ c. search layout-longer)
     (λ c. sym (c .before .before .before .before .before .read-columns .ensures .1 .long))
