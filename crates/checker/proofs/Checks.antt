@@ -52,7 +52,8 @@ pub cast-no : (t : DataType) (o : CastOption) (a : Column) → castFits (a .type
 unfolding checkCast demand
 cast-no t o a e = rw e
 
-pub cast-yes : (t : DataType) (o : CastOption) (a : Column) → castFits (a .type) t o ≡ true → {r : Measured} → r ≡ fittingOf (typeFit t 16 16384) → r ≡ measuredOf true (checkCast t o a)
+pub cast-yes : (t : DataType) (o : CastOption) (a : Column) → castFits (a .type) t o ≡ true → {r : Measured} → r ≡ fittingOf (typeFit t 16 16384)
+    → r ≡ measuredOf true (checkCast t o a)
 unfolding checkCast demand
 cast-yes t o a e f = rw e (f ∙ result-is (a .name) t)
 

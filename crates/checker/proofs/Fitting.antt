@@ -104,11 +104,13 @@ fit-as l r p q = rw (p, q) refl
 
 -- a head of h bytes
 pub fit-around : (h d s l r : ℕ) → 0 < l → h ≤ r → aroundOf h (fitOf d s (l - 1) (r - h)) ≡ fitOf (d + 1) (h + s) l r
-fit-around h d s l r p k = fit-same (aroundOf h) d s (l - 1) (r - h) (d + 1) (h + s) l r refl refl (λ a b. (omega arith, omega arith)) (λ a b. (omega arith, omega arith))
+fit-around h d s l r p k = fit-same (aroundOf h) d s (l - 1) (r - h) (d + 1) (h + s) l r refl refl (λ a b. (omega arith, omega arith)) (λ a b.
+    (omega arith, omega arith))
 
 -- behind b bytes of m levels
 pub fit-joined : (b m d s l r : ℕ) → m ≤ l → b ≤ r → joinedOf b m (fitOf d s l (r - b)) ≡ fitOf (max m d) (b + s) l r
-fit-joined b m d s l r p k = fit-same (joinedOf b m) d s l (r - b) (max m d) (b + s) l r refl refl (λ a c. (omega arith, omega arith)) (λ a c. (omega arith, omega arith))
+fit-joined b m d s l r p k = fit-same (joinedOf b m) d s l (r - b) (max m d) (b + s) l r refl refl (λ a c. (omega arith, omega arith)) (λ a c.
+    (omega arith, omega arith))
 
 joined-joined : (a m b n : ℕ) (f : Fit) → joinedOf a m (joinedOf b n f) ≡ joinedOf (a + b) (max m n) f
 joined-joined a m b n (Fit.Within s d) = within-as (omega arith) (omega arith)
@@ -164,7 +166,8 @@ fit-none t l r h = fit-deep (depthOf t) (length (form t)) l r (let z = depth-som
 -- a field's name and its type
 module _ (n d s l r : ℕ) where
   pub fit-name : n < r → joinedOf (n + 1) 0 (fitOf d s l (r - n - 1)) ≡ fitOf d (n + 1 + s) l r
-  fit-name h = fit-same (joinedOf (n + 1) 0) d s l (r - n - 1) d (n + 1 + s) l r refl (within-as refl (omega arith)) (λ a b. (a, omega arith)) (λ a b. (a, omega arith))
+  fit-name h = fit-same (joinedOf (n + 1) 0) d s l (r - n - 1) d (n + 1 + s) l r refl (within-as refl (omega arith)) (λ a b. (a, omega arith)) (λ a b.
+      (a, omega arith))
 
   pub fit-name-long : r ≤ n → Fit.Over ≡ fitOf d (n + 1 + s) l r
   fit-name-long h = fit-long d (n + 1 + s) l r (omega arith)
@@ -185,7 +188,8 @@ module _ (a : Column) (fs : Fields) (l r : ℕ) where
       ∙ sym (fit-joined s d (depthOfFields fs) (length (formFields fs)) l r (omega (arith, A .deep)) (omega (arith, A .long)))
 
   pub fit-field-over : columnFit a l r ≡ Fit.Over → Fit.Over ≡ fieldsFit (fcons (a .name) (a .type) fs) l r
-  fit-field-over e = go (fitOf (max (depthOf (a .type)) (depthOfFields fs)) (length (a .name) + 1 + length (form (a .type)) + length (formFields fs)) l r) refl ∙ fields-as
+  fit-field-over e = go (fitOf (max (depthOf (a .type)) (depthOfFields fs)) (length (a .name) + 1 + length (form (a .type)) + length
+      (formFields fs)) l r) refl ∙ fields-as
     where
       go : (y : Fit) → fitOf (max (depthOf (a .type)) (depthOfFields fs)) (length (a .name) + 1 + length (form (a .type)) + length (formFields fs)) l r ≡ y
           → Fit.Over ≡ fitOf (max (depthOf (a .type)) (depthOfFields fs)) (length (a .name) + 1 + length (form (a .type)) + length (formFields fs)) l r
@@ -243,7 +247,8 @@ bounded-sum r B h s d e = let (m, n) = B s d e in omega arith
 pub sized-as : {v : Edition} {s : Bytes} {at : ℕ} {t : DataType} (T : TypeIs v s at t) {z : FormSize} → SizeOf (dtypeOf (T .type .tree)) (T .type .end) z → SizeOf t (T .type .end) z
 sized-as T {z} Z = subst (λ (u : DataType). SizeOf u (T .type .end) z) (T .is) Z
 
-pub raw-is : {v : Edition} {s : Bytes} {at : ℕ} {t : DataType} (T : TypeIs v s at t) {z : FormSize} → SizeOf (dtypeOf (T .type .tree)) (T .type .end) z → (l r : ℕ) {f : Fit}
+pub raw-is : {v : Edition} {s : Bytes} {at : ℕ} {t : DataType} (T : TypeIs v s at t) {z : FormSize} → SizeOf (dtypeOf (T .type .tree)) (T .type .end) z →
+    (l r : ℕ) {f : Fit}
     → f ≡ fitOf (z .deep) (z .size) l r → f ≡ typeFit t l r
 raw-is T Z l r e = let S = sized-as T Z in e ∙ fit-as l r (S .deep) (S .size)
 
@@ -316,16 +321,19 @@ module _ {incoming plan : Bytes} {t : DataType} {h : TypeHead} (H : TypeHeadIs i
     c,
   )
 
-  module _ {v : Edition} {m : ℕ} {q : Resolved} {n : ℕ} {f : Fit} (l r : ℕ) (R : ResolvedAt incoming v m plan q t) (y : q .source ≡ Source.Mapped) (e : h ≡ TypeHead.Struct n)
+  module _ {v : Edition} {m : ℕ} {q : Resolved} {n : ℕ} {f : Fit} (l r : ℕ) (R : ResolvedAt incoming v m plan q t) (y : q .source ≡ Source.Mapped)
+      (e : h ≡ TypeHead.Struct n)
       (g : (fs : Fields) → MappedAt incoming v m plan (q .walk) (struct fs) → countFields fs ≡ n → f ≡ fieldsFit fs (l - 1) (r - 3)) where
     struct-fields : f ≡ fieldsFit (is-struct e .0) (l - 1) (r - 3)
     struct-fields = let (fs, (p, c)) = is-struct e in g fs (subst (λ (u : DataType). MappedAt incoming v m plan (q .walk) u) p (from-mapping R y)) c
 
     pub struct-bounded : Bounded (l - 1) (r - 3) f
-    struct-bounded = let fs = is-struct e .0 in fit-bounded (depthOfFields (is-struct e .0)) (length (formFields (is-struct e .0))) (l - 1) (r - 3) struct-fields
+    struct-bounded = let fs = is-struct e .0 in fit-bounded (depthOfFields (is-struct e .0)) (length (formFields (is-struct e .0))) (l - 1)
+        (r - 3) struct-fields
 
     pub struct-fits : {x : Fit} → x ≡ aroundOf 3 f → 0 < l → 3 ≤ r → x ≡ typeFit t l r
-    struct-fits o z k = let (fs, (p, c)) = is-struct e in o ∙ ap (aroundOf 3) struct-fields ∙ fit-struct (is-struct e .0) l r z k ∙ ap (λ (u : DataType). typeFit u l r) (sym p)
+    struct-fits o z k = let (fs, (p, c)) = is-struct e in o ∙ ap (aroundOf 3) struct-fields ∙ fit-struct (is-struct e .0) l r z k ∙ ap (λ
+        (u : DataType). typeFit u l r) (sym p)
 
   module _ {v : Edition} {m : ℕ} {q : Resolved} (R : ResolvedAt incoming v m plan q t) where
     pub list-asks : h ≡ TypeHead.List → (u : DataType) × (a : Column) × ResolvedAt incoming v m plan q u × PartOf u 0 a
@@ -335,16 +343,20 @@ module _ {incoming plan : Bytes} {t : DataType} {h : TypeHead} (H : TypeHeadIs i
     array-asks {w} e = let (u, p) = is-array e in (t, column [] u, R, subst (λ (y : DataType). PartOf y 0 (column [] u)) (sym p) (array-element-part w u))
 
     pub list-fits : {f : Fit} (l r : ℕ) → h ≡ TypeHead.List
-        → ((u : DataType) (a : Column) → ResolvedAt incoming v m plan q u → PartOf u 0 a → f ≡ fitOf (depthOf (a .type) + 1) (1 + length (form (a .type))) l r) → f ≡ typeFit t l r
+        → ((u : DataType) (a : Column) → ResolvedAt incoming v m plan q u → PartOf u 0 a → f ≡ fitOf (depthOf (a .type) + 1) (1 + length (form
+        (a .type))) l r) → f ≡ typeFit t l r
     list-fits l r e g =
         let (u, p) = is-list e in
-        g t (column [] u) R (subst (λ (y : DataType). PartOf y 0 (column [] u)) (sym p) (element-part u)) ∙ fit-list u l r ∙ ap (λ (y : DataType). typeFit y l r) (sym p)
+        g t (column [] u) R (subst (λ (y : DataType). PartOf y 0 (column [] u)) (sym p) (element-part u)) ∙ fit-list u l r ∙ ap (λ
+        (y : DataType). typeFit y l r) (sym p)
 
     pub array-fits : {f : Fit} {w : ℕ} (l r : ℕ) → h ≡ TypeHead.Array w
-        → ((u : DataType) (a : Column) → ResolvedAt incoming v m plan q u → PartOf u 0 a → f ≡ fitOf (depthOf (a .type) + 1) (5 + length (form (a .type))) l r) → f ≡ typeFit t l r
+        → ((u : DataType) (a : Column) → ResolvedAt incoming v m plan q u → PartOf u 0 a → f ≡ fitOf (depthOf (a .type) + 1) (5 + length (form
+        (a .type))) l r) → f ≡ typeFit t l r
     array-fits {w = w} l r e g =
         let (u, p) = is-array e in
-        g t (column [] u) R (subst (λ (y : DataType). PartOf y 0 (column [] u)) (sym p) (array-element-part w u)) ∙ fit-array w u l r ∙ ap (λ (y : DataType). typeFit y l r) (sym p)
+        g t (column [] u) R (subst (λ (y : DataType). PartOf y 0 (column [] u)) (sym p) (array-element-part w u)) ∙ fit-array w u l r ∙ ap (λ
+        (y : DataType). typeFit y l r) (sym p)
 
 -- ---- the fields of a struct
 
@@ -374,7 +386,11 @@ name-long {incoming} {plan} {m} {b} N =
 
 -- what is known of a type
 size-known : (b : Bool) (t : DataType) {z : Size} {x y : ℕ} → z ≡ sizeOf b t → z ≡ Size.Is x y → (x ≡ length (form t)) × (y ≡ depthOf t)
-size-known true t {x = x} {y = y} e f = let q : Size.Is (length (form t)) (depthOf t) ≡ Size.Is x y = sym e ∙ f in (sym (let a : length (form t) ≡ x = cc in a), sym (let a : depthOf t ≡ y = cc in a))
+size-known true t {x = x} {y = y} e f = let q : Size.Is (length (form t)) (depthOf t) ≡ Size.Is x y = sym e ∙ f in (
+  sym (let a : length (form t) ≡ x = cc
+      in a),
+  sym (let a : depthOf t ≡ y = cc in a),
+)
 size-known false t {x = x} {y = y} e f = let q : Size.Unknown ≡ Size.Is x y = sym e ∙ f in clash (cc)
 
 pub sized-is : (b : Bool) (t : DataType) (l r : ℕ) {z : Size} {x y : ℕ} {f : Fit} → z ≡ sizeOf b t → z ≡ Size.Is x y → f ≡ fitOf y x l r → f ≡ typeFit t l r
@@ -422,7 +438,8 @@ module _ {incoming : Bytes} {v : Edition} {n : ℕ} {plan : Bytes} {w : Walk} {c
     pub fitting-end : count ≤ k → (fs : Fields) → MappedAt incoming v n plan w (struct fs) → countFields fs ≡ count
         → Fit.Within size deep ≡ fieldsFit fs levels room
     fitting-end h fs M c =
-        sym (rest-none levels room (Fit.Within size deep)) ∙ ap (λ (gs : Fields). restFit levels room (Fit.Within size deep) gs) (sym (drop-all fs k (omega arith)))
+        sym (rest-none levels room (Fit.Within size deep)) ∙ ap (λ (gs : Fields). restFit levels room (Fit.Within size deep) gs) (sym (drop-all fs k
+        (omega arith)))
         ∙ sym (O .keeps fs M c)
 
     module _ (h : k < count) {x : Walk} (g : ChildAt w k at x) where
@@ -432,7 +449,8 @@ module _ {incoming : Bytes} {v : Edition} {n : ℕ} {plan : Bytes} {w : Walk} {c
       pub fitting-asks : (a : Column) × NamedAt incoming v n plan x a
       fitting-asks = let (a, e) = column-there (O .some) k below in (a, made-named (O .start) (O .passed) below g (O .start) e)
 
-      module _ {f : Fit} (F : (b : Bool) (a : Column) → NamedAt incoming v n plan x a → Size.Unknown ≡ sizeOf b (a .type) → f ≡ columnFit a levels (room - size)) where
+      module _ {f : Fit} (F : (b : Bool) (a : Column) → NamedAt incoming v n plan x a → Size.Unknown ≡ sizeOf b (a .type) → f ≡ columnFit a levels
+          (room - size)) where
         -- the field k of any reading of the type
         record Here (fs : Fields) : Type 0 where
           field : Column

@@ -55,12 +55,14 @@ abbrev ToChild : Bytes → Walk → ℕ → Walk → Type 0
 ToChild plan w k x = (z : State) (f : Frame) (s : Selector) → WalkAt plan w z → z .path ≡ [] → Part (z .selector) k f s → StepsTo plan (state s (f ∷ z .frames) []) w x
 
 abbrev Answers : Bytes → Edition → ℕ → Bytes → Walk → ℕ → Measured → Type 0
-Answers incoming v n plan x m r = (s : Selector) (Δ : Fields) → CheckingAt incoming v n plan x s Δ → countFields Δ ≡ m → r ≡ measuredOf (isTransform s) (typeOf Δ s)
+Answers incoming v n plan x m r = (s : Selector) (Δ : Fields) → CheckingAt incoming v n plan x s Δ → countFields Δ ≡ m → r ≡ measuredOf (isTransform s)
+    (typeOf Δ s)
 
 -- ---- the selector where the walk stands
 
 -- once it has passed
-pub checking-named : {incoming : Bytes} {v : Edition} {n : ℕ} {plan : Bytes} {w : Walk} {s : Selector} {Δ : Fields} → CheckingAt incoming v n plan w s Δ → {a : Column}
+pub checking-named : {incoming : Bytes} {v : Edition} {n : ℕ} {plan : Bytes} {w : Walk} {s : Selector} {Δ : Fields} → CheckingAt incoming v n plan w s Δ
+    → {a : Column}
     → typeOf Δ s ≡ gives a → NamedAt incoming v n plan w a
 checking-named {s = s} {Δ = Δ} C e = record {
   columns = C .columns;
@@ -94,7 +96,8 @@ module _ {incoming : Bytes} {v : Edition} {n : ℕ} {plan : Bytes} {w : Walk} {s
   no-transform f e h = absurd (true≢false (sym h ∙ ap isTransform (sym (stands-for e)) ∙ f))
 
   module _ {r : SelectorHead} (h : HeadIs plan (w .at) (C .standing .here) r) where
-    pub checks-position : {k : Position} {q : Measured} → r ≡ SelectorHead.Position k → q ≡ measuredOf false (columnAt Δ (k .0)) → q ≡ measuredOf false (typeOf Δ s)
+    pub checks-position : {k : Position} {q : Measured} → r ≡ SelectorHead.Position k → q ≡ measuredOf false (columnAt Δ (k .0)) → q ≡ measuredOf false
+        (typeOf Δ s)
     unfolding typeOf
     checks-position e f = f ∙ ap (measuredOf false) (sym (typed-for (is-position h e .1)))
 
@@ -185,7 +188,16 @@ module _ {incoming : Bytes} {v : Edition} {n : ℕ} {plan : Bytes} {w : Walk} {s
       pub input-passed : {z : Size} → r ≡ Measured.Passed z → PassedInput incoming v n plan w x z s Δ
       input-passed e =
           let P = passed-gives (isTransform i) (typeOf Δ i) (sym answer ∙ e) in
-          record { checking = C; input = i; takes = T .takes; column = P .column; passes = P .is; sized = P .sized; named = checking-named checking-input (P .is) }
+          record {
+            checking = C;
+            input = i;
+            takes = T .takes;
+            column = P .column;
+            passes = P .is;
+            sized = P .sized;
+            named = checking-named checking-input
+                (P .is);
+          }
 
 -- ---- a transform has one input
 
@@ -203,7 +215,8 @@ takes-input i-struct = refl
 takes-input i-list = refl
 takes-input i-array = refl
 
-module _ {incoming : Bytes} {v : Edition} {n : ℕ} {plan : Bytes} {w x : Walk} {z : Size} {s : Selector} {Δ : Fields} (R : PassedInput incoming v n plan w x z s Δ) where
+module _ {incoming : Bytes} {v : Edition} {n : ℕ} {plan : Bytes} {w x : Walk} {z : Size} {s : Selector} {Δ : Fields}
+    (R : PassedInput incoming v n plan w x z s Δ) where
   abbrev C : CheckingAt incoming v n plan w s Δ
   C = R .checking
 
@@ -233,7 +246,8 @@ module _ (a : Column) where
   unfolding checkStruct structOf headOf _>>=_
   no-struct f h = go (a .type) h
     where
-      go : (t : DataType) → (codeOf (headOf t) .code ≡ 18 → ⊥) → Measured.Refused 32 ≡ measuredOf true (structOf t >>= λ fs. f fs >>= λ gs. resulting (a .name) (struct gs))
+      go : (t : DataType) → (codeOf (headOf t) .code ≡ 18 → ⊥) → Measured.Refused 32 ≡ measuredOf true (structOf t >>= λ fs. f fs >>= λ gs. resulting
+          (a .name) (struct gs))
       go (leaf l) h = refl
       go (struct fs) h = absurd (h refl)
       go (list t) h = refl
@@ -243,7 +257,8 @@ module _ (a : Column) where
   unfolding checkList listOf headOf _>>=_
   no-list f h = go (a .type) h
     where
-      go : (t : DataType) → (codeOf (headOf t) .code ≡ 19 → ⊥) → Measured.Refused 32 ≡ measuredOf true (listOf t >>= λ u. f (elementOf u) >>= λ d. resulting (a .name) (list (d .type)))
+      go : (t : DataType) → (codeOf (headOf t) .code ≡ 19 → ⊥) → Measured.Refused 32 ≡ measuredOf true (listOf t >>= λ u. f (elementOf u) >>= λ d. resulting
+          (a .name) (list (d .type)))
       go (leaf l) h = refl
       go (struct fs) h = refl
       go (list t) h = absurd (h refl)
@@ -253,7 +268,8 @@ module _ (a : Column) where
   unfolding checkArray arrayOf headOf _>>=_
   no-array f h = go (a .type) h
     where
-      go : (t : DataType) → (codeOf (headOf t) .code ≡ 20 → ⊥) → Measured.Refused 32 ≡ measuredOf true (arrayOf t >>= λ b. f (elementOf (b .element)) >>= λ d. resulting (a .name) (array (b .width) (d .type)))
+      go : (t : DataType) → (codeOf (headOf t) .code ≡ 20 → ⊥) → Measured.Refused 32 ≡ measuredOf true (arrayOf t >>= λ b. f (elementOf
+          (b .element)) >>= λ d. resulting (a .name) (array (b .width) (d .type)))
       go (leaf l) h = refl
       go (struct fs) h = refl
       go (list t) h = refl
@@ -263,20 +279,24 @@ module _ (a : Column) where
   unfolding checkRename
   a-rename n e = e
 
-  pub a-struct : (ss : Selectors) {fs : Fields} → a .type ≡ struct fs → {r : Measured} → r ≡ measuredOf true (fieldsResult fs ss (a .name)) → r ≡ measuredOf true (checkStruct (λ fs. typesOf fs ss) a)
+  pub a-struct : (ss : Selectors) {fs : Fields} → a .type ≡ struct fs → {r : Measured} → r ≡ measuredOf true (fieldsResult fs ss (a .name))
+      → r ≡ measuredOf true (checkStruct (λ fs. typesOf fs ss) a)
   unfolding checkStruct structOf _>>=_
   a-struct ss e f = rw e f
 
-  pub a-list : (e : Selector) {t : DataType} → a .type ≡ list t → {r : Measured} → r ≡ measuredOf true (elementResult t e (λ u. list u) (a .name)) → r ≡ measuredOf true (checkList (λ fs. typeOf fs e) a)
+  pub a-list : (e : Selector) {t : DataType} → a .type ≡ list t → {r : Measured} → r ≡ measuredOf true (elementResult t e (λ u. list u) (a .name))
+      → r ≡ measuredOf true (checkList (λ fs. typeOf fs e) a)
   unfolding checkList listOf _>>=_
   a-list s e f = rw e f
 
-  pub an-array : (e : Selector) {w : ℕ} {t : DataType} → a .type ≡ array w t → {r : Measured} → r ≡ measuredOf true (elementResult t e (λ u. array w u) (a .name)) → r ≡ measuredOf true (checkArray (λ fs. typeOf fs e) a)
+  pub an-array : (e : Selector) {w : ℕ} {t : DataType} → a .type ≡ array w t → {r : Measured} → r ≡ measuredOf true (elementResult t e (λ u. array w u)
+      (a .name)) → r ≡ measuredOf true (checkArray (λ fs. typeOf fs e) a)
   unfolding checkArray arrayOf _>>=_
   an-array s e f = rw e f
 
 module _ {incoming plan : Bytes} (a : Column) {h k : TypeHead} (H : TypeHeadIs incoming plan (a .type) h) (e : h ≡ k) where
-  pub head-no-struct : (f : Fields → Result Fields) → (codeOf (headKind incoming plan k) .code ≡ 18 → ⊥) → Measured.Refused 32 ≡ measuredOf true (checkStruct f a)
+  pub head-no-struct : (f : Fields → Result Fields) → (codeOf (headKind incoming plan k) .code ≡ 18 → ⊥) → Measured.Refused 32 ≡ measuredOf true
+      (checkStruct f a)
   head-no-struct f z = no-struct a f (λ q. z (sym (kind-code H e) ∙ q))
 
   pub head-no-list : (f : Fields → Result Column) → (codeOf (headKind incoming plan k) .code ≡ 19 → ⊥) → Measured.Refused 32 ≡ measuredOf true (checkList f a)
@@ -301,7 +321,8 @@ module _ {incoming : Bytes} {v : Edition} {n : ℕ} {plan : Bytes} {w : Walk} {s
       go (Measured.Passed z) e f = rest-as e f
       go (Measured.Refused k) e f = rest-as e f
 
-module _ {incoming : Bytes} {v : Edition} {n : ℕ} {plan : Bytes} {w x : Walk} {z : Size} {s : Selector} {Δ : Fields} (R : PassedInput incoming v n plan w x z s Δ) where
+module _ {incoming : Bytes} {v : Edition} {n : ℕ} {plan : Bytes} {w x : Walk} {z : Size} {s : Selector} {Δ : Fields}
+    (R : PassedInput incoming v n plan w x z s Δ) where
   abbrev D : CheckingAt incoming v n plan w s Δ
   D = R .checking
 
@@ -312,7 +333,8 @@ module _ {incoming : Bytes} {v : Edition} {n : ℕ} {plan : Bytes} {w x : Walk} 
       T : Transforms D (K .input .tree) (checkStruct (λ fs. typesOf fs (K .fields .selectors .trees)))
       T = by-struct D K
 
-      refused : {k : TypeHead} → TypeHeadIs incoming plan (R .column .type) k → (codeOf (headKind incoming plan k) .code ≡ 18 → ⊥) → Measured.Refused 32 ≡ measuredOf true (typeOf Δ s)
+      refused : {k : TypeHead} → TypeHeadIs incoming plan (R .column .type) k → (codeOf (headKind incoming plan k) .code ≡ 18 → ⊥)
+          → Measured.Refused 32 ≡ measuredOf true (typeOf Δ s)
       refused H z = input-given R T (head-no-struct (R .column) H refl _ z)
 
       go : (h : TypeHead) → TypeHeadIs incoming plan (R .column .type) h → r ≡ fieldsLeft h count → RestIs incoming v n plan w s Δ r
@@ -338,7 +360,8 @@ module _ {incoming : Bytes} {v : Edition} {n : ℕ} {plan : Bytes} {w x : Walk} 
       T : Transforms D (K .input .tree) (checkList (λ fs. typeOf fs (K .element .tree)))
       T = by-list D K
 
-      refused : {k : TypeHead} → TypeHeadIs incoming plan (R .column .type) k → (codeOf (headKind incoming plan k) .code ≡ 19 → ⊥) → Measured.Refused 32 ≡ measuredOf true (typeOf Δ s)
+      refused : {k : TypeHead} → TypeHeadIs incoming plan (R .column .type) k → (codeOf (headKind incoming plan k) .code ≡ 19 → ⊥)
+          → Measured.Refused 32 ≡ measuredOf true (typeOf Δ s)
       refused H z = input-given R T (head-no-list (R .column) H refl _ z)
 
       go : (h : TypeHead) → TypeHeadIs incoming plan (R .column .type) h → r ≡ listedLeft h → RestIs incoming v n plan w s Δ r
@@ -362,7 +385,8 @@ module _ {incoming : Bytes} {v : Edition} {n : ℕ} {plan : Bytes} {w x : Walk} 
       T : Transforms D (K .input .tree) (checkArray (λ fs. typeOf fs (K .element .tree)))
       T = by-array D K
 
-      refused : {k : TypeHead} → TypeHeadIs incoming plan (R .column .type) k → (codeOf (headKind incoming plan k) .code ≡ 20 → ⊥) → Measured.Refused 32 ≡ measuredOf true (typeOf Δ s)
+      refused : {k : TypeHead} → TypeHeadIs incoming plan (R .column .type) k → (codeOf (headKind incoming plan k) .code ≡ 20 → ⊥)
+          → Measured.Refused 32 ≡ measuredOf true (typeOf Δ s)
       refused H z = input-given R T (head-no-array (R .column) H refl _ z)
 
       go : (h : TypeHead) → TypeHeadIs incoming plan (R .column .type) h → r ≡ arrayedLeft h → RestIs incoming v n plan w s Δ r
@@ -405,13 +429,15 @@ pub record ElementStep (incoming : Bytes) (v : Edition) (n : ℕ) (plan : Bytes)
   pub falls : rank x < rank w
 
 module _ {incoming : Bytes} {v : Edition} {n : ℕ} {plan : Bytes} {w : Walk} where
-  pub element-child-asks : {t : DataType} {e : Selector} {f : DataType → DataType} {head : ℕ} → Elements incoming v n plan w t e f head → ((x : State) × WalkAt plan w x) × (w .deep < 64)
+  pub element-child-asks : {t : DataType} {e : Selector} {f : DataType → DataType} {head : ℕ} → Elements incoming v n plan w t e f head →
+      ((x : State) × WalkAt plan w x) × (w .deep < 64)
   element-child-asks (of-list {i = i} {e = e} M) =
       ((state (listMapping i e) (M .frames) [], M .standing), let a = entries-count (M .standing .entries) in let b = nests-list i e in omega (arith, M .shallow .here))
   element-child-asks (of-array {i = i} {e = e} M) =
       ((state (arrayMapping i e) (M .frames) [], M .standing), let a = entries-count (M .standing .entries) in let b = nests-array i e in omega (arith, M .shallow .here))
 
-  pub element-step : {t : DataType} {e : Selector} {f : DataType → DataType} {head : ℕ} {x : Walk} → Elements incoming v n plan w t e f head → ToChild plan w 0 x → ElementStep incoming v n plan w t e x
+  pub element-step : {t : DataType} {e : Selector} {f : DataType → DataType} {head : ℕ} {x : Walk} → Elements incoming v n plan w t e f head
+      → ToChild plan w 0 x → ElementStep incoming v n plan w t e x
   element-step (of-list {i = i} {e = e} M) g =
       let S = g (state (listMapping i e) (M .frames) []) (element i 0) e (M .standing) refl p-list in
       record { checking = record { columns = M .columns; frames = element i 0 ∷ M .frames; standing = S .standing; shallow = element-shallow (M .shallow); scoped = c-list (M .scoped) (M .passes) (M .kind) }; falls = S .falls }
@@ -429,14 +455,16 @@ module _ {incoming : Bytes} {v : Edition} {n : ℕ} {plan : Bytes} {w : Walk} wh
   element-fit (of-list M) u = fit-list u 16 16384
   element-fit (of-array {x = x} M) u = fit-array x u 16 16384
 
-  module _ {t : DataType} {e : Selector} {f : DataType → DataType} {head : ℕ} (E : Elements incoming v n plan w t e f head) {x : Walk} (g : ToChild plan w 0 x) {r : Measured}
+  module _ {t : DataType} {e : Selector} {f : DataType → DataType} {head : ℕ} (E : Elements incoming v n plan w t e f head) {x : Walk}
+      (g : ToChild plan w 0 x) {r : Measured}
       (h : Answers incoming v n plan x 1 r) where
     element-answer : r ≡ measuredOf (isTransform e) (typeOf (elementOf t) e)
     element-answer = h e (elementOf t) (element-step E g .checking) (one-element t)
 
     pub element-refused : {k : ℕ} (name : Bytes) → r ≡ Measured.Refused k → Measured.Refused k ≡ measuredOf true (elementResult t e f name)
     element-refused name p =
-        bind-refused (typeOf (elementOf t) e) (λ d. resulting name (f (d .type))) (refused-refuses (isTransform e) (typeOf (elementOf t) e) (sym element-answer ∙ p))
+        bind-refused (typeOf (elementOf t) e) (λ d. resulting name (f (d .type))) (refused-refuses (isTransform e) (typeOf (elementOf t) e)
+        (sym element-answer ∙ p))
 
     module _ {z : Size} (p : r ≡ Measured.Passed z) where
       pub element-passed : PassedAs (isTransform e) (typeOf (elementOf t) e) z
@@ -445,7 +473,8 @@ module _ {incoming : Bytes} {v : Edition} {n : ℕ} {plan : Bytes} {w : Walk} wh
       pub element-typed : TypedAt incoming v n plan x (element-passed .column .type)
       element-typed = named-typed (checking-named (element-step E g .checking) (element-passed .is))
 
-      pub element-given : {o : Fit} → ((b : Bool) (u : DataType) → TypedAt incoming v n plan x u → z ≡ sizeOf b u → o ≡ fitOf (depthOf u + 1) (head + length (form u)) 16 16384)
+      pub element-given : {o : Fit} → ((b : Bool) (u : DataType) → TypedAt incoming v n plan x u → z ≡ sizeOf b u → o ≡ fitOf (depthOf u + 1) (head + length
+          (form u)) 16 16384)
           → {q : Measured} → q ≡ fittingOf o → (name : Bytes) → q ≡ measuredOf true (elementResult t e f name)
       element-given l y name =
           let P = element-passed in
@@ -493,7 +522,8 @@ rest-begins (gives gs) name =
     sym (result-is name (struct gs)) ∙ ap fittingOf (sym (fit-struct gs 16 16384 (omega arith) (omega arith)) ∙ ap (aroundOf 3) (sym (rest-start 15 16381 gs)))
 rest-begins (refuses n) name = refl
 
-rest-refused : (f : Fit) (fs : Fields) (s : Selector) (ss : Selectors) {n : ℕ} → typeOf fs s ≡ refuses n → restResult f (typesOf fs (scons s ss)) ≡ Measured.Refused n
+rest-refused : (f : Fit) (fs : Fields) (s : Selector) (ss : Selectors) {n : ℕ} → typeOf fs s ≡ refuses n → restResult f (typesOf fs
+    (scons s ss)) ≡ Measured.Refused n
 unfolding typesOf _>>=_
 rest-refused f fs s ss e = rw e
 
@@ -593,7 +623,13 @@ module _ {incoming : Bytes} {v : Edition} {n : ℕ} {plan : Bytes} {w : Walk} {c
           given {fs = fs} M c d = let N = child M c in passed-gives (isTransform (N .part)) (typeOf fs (N .part)) (sym (f (N .part) fs (N .checking) d) ∙ e)
 
           pub passing-named : (b : Bool) × (a : Column) × NamedAt incoming v n plan x a × (z ≡ sizeOf b (a .type))
-          passing-named = let G = given (O .start) (O .counted) (O .columns) in (isTransform (child (O .start) (O .counted) .part), G .column, checking-named (child (O .start) (O .counted) .checking) (G .is), G .sized)
+          passing-named = let G = given (O .start) (O .counted) (O .columns) in (
+            isTransform (child (O .start)
+                (O .counted) .part),
+            G .column,
+            checking-named (child (O .start) (O .counted) .checking) (G .is),
+            G .sized,
+          )
 
           pub passing-more : {more : Fit} → ((b : Bool) (a : Column) → NamedAt incoming v n plan x a → z ≡ sizeOf b (a .type) → more ≡ addedOf 15 16381 fit a)
               → {y : ℕ} → ((P : SelectorAt plan at) → y ≡ P .end) → Passing incoming v n plan w count m y more (k + 1)

@@ -119,10 +119,30 @@ abbrev element-fit-claims : ℕ → element-fit-lts.Claims
 element-fit-claims t = (part-reads.Asked, part-reads.Learnt, type-fit-below t, type-fit.Post, around-reads.Asked, around-reads.Learnt)
 
 abbrev fields-fit-claims : ℕ → fields-fit-lts.Claims
-fields-fit-claims t = (first-child-reads.Asked, first-child-reads.Learnt, child-at-reads.Asked, child-at-reads.Learnt, column-fit-below t, column-fit.Post, larger-reads.Asked, larger-reads.Learnt, skip-selector-reads.Asked, skip-selector-reads.Learnt)
+fields-fit-claims t = (
+  first-child-reads.Asked,
+  first-child-reads.Learnt,
+  child-at-reads.Asked,
+  child-at-reads.Learnt,
+  column-fit-below t,
+  column-fit.Post,
+  larger-reads.Asked,
+  larger-reads.Learnt,
+  skip-selector-reads.Asked,
+  skip-selector-reads.Learnt,
+)
 
 abbrev mapped-fit-claims : ℕ → mapped-fit-lts.Claims
-mapped-fit-claims t = (type-head-reads.Asked, type-head-reads.Learnt, fields-fit-below t, fields-fit.Post, around-reads.Asked, around-reads.Learnt, element-fit-below t, element-fit.Post)
+mapped-fit-claims t = (
+  type-head-reads.Asked,
+  type-head-reads.Learnt,
+  fields-fit-below t,
+  fields-fit.Post,
+  around-reads.Asked,
+  around-reads.Learnt,
+  element-fit-below t,
+  element-fit.Post,
+)
 
 abbrev sized-fit-claims : ℕ → sized-fit-lts.Claims
 sized-fit-claims t = (size-fit-reads.Asked, size-fit-reads.Learnt, resolve-reads.Asked, resolve-reads.Learnt, type-fit-below t, type-fit.Post)
@@ -143,16 +163,27 @@ column-fit-sub-sized-fit-2 : (t : ℕ) → column-fit-lts.Need-sub-sized-fit-2 (
 column-fit-sub-sized-fit-2 t c = omega (arith, c .if1 .left)
 
 column-fit-sized-fit-requires : (t : ℕ) → column-fit-lts.Need-sized-fit-requires (column-fit-claims t) (column-fit-at t) column-fit.Post
-column-fit-sized-fit-requires t c κs = let (b, a, N, e) = c .before .before .before .before .pre .1 in (omega (arith, c .before .before .before .before .pre .0), (b, a .type, named-typed N, e))
+column-fit-sized-fit-requires t c κs = let (b, a, N, e) = c .before .before .before .before .pre .1 in (
+  omega
+      (arith, c .before .before .before .before .pre .0),
+  (b, a .type, named-typed N, e),
+)
 
 column-fit-add-joined : (t : ℕ) → column-fit-lts.Need-add-joined (column-fit-claims t) (column-fit-at t) column-fit.Post
 column-fit-add-joined t c = omega (arith, c .before .if1 .left, c .before .before .before .before .before .fits .room)
 
 column-fit-joined-requires : (t : ℕ) → column-fit-lts.Need-joined-requires (column-fit-claims t) (column-fit-at t) column-fit.Post
-column-fit-joined-requires t c κs = let (b, a, N, e) = c .before .before .before .before .before .pre .1 in λ s d q. omega (arith, fit-bounded _ _ _ _ (c .sized-fit .ensures b (a .type) (named-typed N) e) s d q .1, c .before .if1 .left, c .before .before .before .before .before .fits .room)
+column-fit-joined-requires t c κs = let (b, a, N, e) = c .before .before .before .before .before .pre .1 in λ s d q. omega (
+  arith,
+  fit-bounded _ _ _ _
+      (c .sized-fit .ensures b (a .type) (named-typed N) e) s d q .1,
+  c .before .if1 .left,
+  c .before .before .before .before .before .fits .room,
+)
 
 column-fit-returns-2 : (t : ℕ) → column-fit-lts.Need-returns-2 (column-fit-claims t) (column-fit-at t) column-fit.Post
-column-fit-returns-2 t c = λ b a N e. column-fits a (c .before .before .before .name-at .ensures a N) _ _ (c .before .before .if1 .left) (c .before .sized-fit .ensures b (a .type) (named-typed N) e) (c .joined .ensures)
+column-fit-returns-2 t c = λ b a N e. column-fits a (c .before .before .before .name-at .ensures a N) _ _ (c .before .before .if1 .left)
+    (c .before .sized-fit .ensures b (a .type) (named-typed N) e) (c .joined .ensures)
 
 element-fit-returns : (t : ℕ) → element-fit-lts.Need-returns (element-fit-claims t) (element-fit-at t) element-fit.Post
 element-fit-returns t c = λ u a R P. fit-long _ _ _ _ (omega (arith, c .if1 .taken))
@@ -164,13 +195,27 @@ element-fit-sub-type-fit : (t : ℕ) → element-fit-lts.Need-sub-type-fit (elem
 element-fit-sub-type-fit t c = omega (arith, c .before .before .before .before .pre .1 .1)
 
 element-fit-type-fit-requires : (t : ℕ) → element-fit-lts.Need-type-fit-requires (element-fit-claims t) (element-fit-at t) element-fit.Post
-element-fit-type-fit-requires t c κs = let (u, a, R, P) = c .before .before .before .before .pre .1 .0 in (omega (arith, c .before .before .before .before .pre .0, c .before .before .before .before .pre .1 .1), (_, c .part .ensures u a R P))
+element-fit-type-fit-requires t c κs = let (u, a, R, P) = c .before .before .before .before .pre .1 .0 in (
+  omega
+      (arith, c .before .before .before .before .pre .0, c .before .before .before .before .pre .1 .1),
+  (_, c .part .ensures u a R P),
+)
 
 element-fit-around-requires : (t : ℕ) → element-fit-lts.Need-around-requires (element-fit-claims t) (element-fit-at t) element-fit.Post
-element-fit-around-requires t c κs = let (u, a, R, P) = c .before .before .before .before .before .pre .1 .0 in λ s d q. let B = fit-bounded _ _ _ _ (c .type-fit .ensures (a .type) (c .before .part .ensures u a R P)) s d q in (omega (arith, B .1, c .before .before .if1 .left, c .before .before .before .before .before .fits .room), omega (arith, B .0, c .before .before .before .before .before .pre .1 .1, c .before .before .before .before .before .fits .levels))
+element-fit-around-requires t c κs = let (u, a, R, P) = c .before .before .before .before .before .pre .1 .0 in λ s d q. let B = fit-bounded _ _ _ _
+    (c .type-fit .ensures (a .type) (c .before .part .ensures u a R P)) s d q in (
+      omega
+          (arith, B .1, c .before .before .if1 .left, c .before .before .before .before .before .fits .room),
+      omega
+          (arith, B .0, c .before .before .before .before .before .pre .1 .1, c .before .before .before .before .before .fits .levels),
+    )
 
 element-fit-returns-2 : (t : ℕ) → element-fit-lts.Need-returns-2 (element-fit-claims t) (element-fit-at t) element-fit.Post
-element-fit-returns-2 t c = λ u a R P. c .around .ensures ∙ ap (aroundOf (c .before .before .before .before .before .before .args .head)) (c .before .type-fit .ensures (a .type) (c .before .before .part .ensures u a R P)) ∙ fit-around (c .before .before .before .before .before .before .args .head) _ _ (c .before .before .before .before .before .before .args .levels) (c .before .before .before .before .before .before .args .room) (c .before .before .before .before .before .before .pre .1 .1) (c .before .before .before .if1 .left)
+element-fit-returns-2 t c = λ u a R P. c .around .ensures ∙ ap (aroundOf (c .before .before .before .before .before .before .args .head))
+    (c .before .type-fit .ensures (a .type) (c .before .before .part .ensures u a R P)) ∙ fit-around
+    (c .before .before .before .before .before .before .args .head) _ _ (c .before .before .before .before .before .before .args .levels)
+    (c .before .before .before .before .before .before .args .room) (c .before .before .before .before .before .before .pre .1 .1)
+    (c .before .before .before .if1 .left)
 
 abbrev fields-fit-Inv-loop : fields-fit-lts.InvT-loop
 fields-fit-Inv-loop incoming v n plan w count levels room at₀ size₀ deep₀ k₀ at size deep k = Fitting incoming v n plan w count levels room at size deep k
@@ -178,47 +223,74 @@ fields-fit-Inv-loop incoming v n plan w count levels room at₀ size₀ deep₀ 
 abbrev fields-fit-μ-loop : fields-fit-lts.MeasureT-loop
 fields-fit-μ-loop incoming v n plan w count levels room at₀ size₀ deep₀ k₀ at size deep k = count - k
 
-fields-fit-first-child-requires : (t : ℕ) → fields-fit-lts.Need-first-child-requires (fields-fit-claims t) (fields-fit-at t) fields-fit.Post fields-fit-Inv-loop fields-fit-μ-loop
+fields-fit-first-child-requires : (t : ℕ) → fields-fit-lts.Need-first-child-requires (fields-fit-claims t)
+    (fields-fit-at t) fields-fit.Post fields-fit-Inv-loop fields-fit-μ-loop
 fields-fit-first-child-requires t c κs = let (fs, M, e) = c .before .before .pre .1 in made-asks M .0
 
 fields-fit-loop-holds : (t : ℕ) → fields-fit-lts.Need-loop-holds (fields-fit-claims t) (fields-fit-at t) fields-fit.Post fields-fit-Inv-loop fields-fit-μ-loop
 fields-fit-loop-holds t c = let (fs, M, e) = c .before .before .before .pre .1 in fitting-start M e (c .first-child .ensures)
 
-fields-fit-child-at-requires : (t : ℕ) → fields-fit-lts.Need-child-at-requires (fields-fit-claims t) (fields-fit-at t) fields-fit.Post fields-fit-Inv-loop fields-fit-μ-loop
+fields-fit-child-at-requires : (t : ℕ) → fields-fit-lts.Need-child-at-requires (fields-fit-claims t)
+    (fields-fit-at t) fields-fit.Post fields-fit-Inv-loop fields-fit-μ-loop
 fields-fit-child-at-requires t c κs = made-asks (c .before .loop .inv .start)
 
-fields-fit-sub-column-fit : (t : ℕ) → fields-fit-lts.Need-sub-column-fit (fields-fit-claims t) (fields-fit-at t) fields-fit.Post fields-fit-Inv-loop fields-fit-μ-loop
+fields-fit-sub-column-fit : (t : ℕ) → fields-fit-lts.Need-sub-column-fit (fields-fit-claims t)
+    (fields-fit-at t) fields-fit.Post fields-fit-Inv-loop fields-fit-μ-loop
 fields-fit-sub-column-fit t c = omega (arith, c .before .before .loop .inv .small)
 
-fields-fit-column-fit-requires : (t : ℕ) → fields-fit-lts.Need-column-fit-requires (fields-fit-claims t) (fields-fit-at t) fields-fit.Post fields-fit-Inv-loop fields-fit-μ-loop
-fields-fit-column-fit-requires t c κs = (omega (arith, c .before .before .before .before .before .before .pre .0), let (a, N) = fitting-asks (c .before .before .loop .inv) (c .before .loop-test .taken) (c .child-at .ensures) in (false, a, N, refl))
+fields-fit-column-fit-requires : (t : ℕ) → fields-fit-lts.Need-column-fit-requires (fields-fit-claims t)
+    (fields-fit-at t) fields-fit.Post fields-fit-Inv-loop fields-fit-μ-loop
+fields-fit-column-fit-requires t c κs = (
+  omega (arith, c .before .before .before .before .before .before .pre .0),
+  let (a, N) = fitting-asks
+      (c .before .before .loop .inv) (c .before .loop-test .taken) (c .child-at .ensures) in (false, a, N, refl),
+)
 
-fields-fit-enum-known-more : (t : ℕ) → fields-fit-lts.Need-enum-known-more (fields-fit-claims t) (fields-fit-at t) fields-fit.Post fields-fit-Inv-loop fields-fit-μ-loop
+fields-fit-enum-known-more : (t : ℕ) → fields-fit-lts.Need-enum-known-more (fields-fit-claims t)
+    (fields-fit-at t) fields-fit.Post fields-fit-Inv-loop fields-fit-μ-loop
 fields-fit-enum-known-more t c = search needs
 
 fields-fit-add-size : (t : ℕ) → fields-fit-lts.Need-add-size (fields-fit-claims t) (fields-fit-at t) fields-fit.Post fields-fit-Inv-loop fields-fit-μ-loop
-fields-fit-add-size t c = omega (arith, fitting-small (c .before .before .before .before .before .before .loop .inv) (c .before .before .before .before .before .loop-test .taken) (c .before .before .before .before .child-at .ensures) (c .before .before .before .column-fit .ensures) (c .before .more .given .1), c .before .before .before .before .before .before .before .before .before .before .fits .room)
+fields-fit-add-size t c = omega (
+  arith,
+  fitting-small (c .before .before .before .before .before .before .loop .inv)
+      (c .before .before .before .before .before .loop-test .taken) (c .before .before .before .before .child-at .ensures)
+      (c .before .before .before .column-fit .ensures)
+      (c .before .more .given .1),
+  c .before .before .before .before .before .before .before .before .before .before .fits .room,
+)
 
-fields-fit-larger-requires : (t : ℕ) → fields-fit-lts.Need-larger-requires (fields-fit-claims t) (fields-fit-at t) fields-fit.Post fields-fit-Inv-loop fields-fit-μ-loop
+fields-fit-larger-requires : (t : ℕ) → fields-fit-lts.Need-larger-requires (fields-fit-claims t)
+    (fields-fit-at t) fields-fit.Post fields-fit-Inv-loop fields-fit-μ-loop
 fields-fit-larger-requires t c κs = search needs
 
 fields-fit-enum-told : (t : ℕ) → fields-fit-lts.Need-enum-told (fields-fit-claims t) (fields-fit-at t) fields-fit.Post fields-fit-Inv-loop fields-fit-μ-loop
 fields-fit-enum-told t c = search needs
 
 fields-fit-returns : (t : ℕ) → fields-fit-lts.Need-returns (fields-fit-claims t) (fields-fit-at t) fields-fit.Post fields-fit-Inv-loop fields-fit-μ-loop
-fields-fit-returns t c = fitting-over (c .before .before .before .before .before .loop .inv) (c .before .before .before .before .loop-test .taken) (c .before .before .before .child-at .ensures) (c .before .before .column-fit .ensures) (c .enum-told .given .1)
+fields-fit-returns t c = fitting-over (c .before .before .before .before .before .loop .inv) (c .before .before .before .before .loop-test .taken)
+    (c .before .before .before .child-at .ensures) (c .before .before .column-fit .ensures) (c .enum-told .given .1)
 
-fields-fit-skip-selector-requires : (t : ℕ) → fields-fit-lts.Need-skip-selector-requires (fields-fit-claims t) (fields-fit-at t) fields-fit.Post fields-fit-Inv-loop fields-fit-μ-loop
+fields-fit-skip-selector-requires : (t : ℕ) → fields-fit-lts.Need-skip-selector-requires (fields-fit-claims t)
+    (fields-fit-at t) fields-fit.Post fields-fit-Inv-loop fields-fit-μ-loop
 fields-fit-skip-selector-requires t c κs = search needs
 
 fields-fit-add-k : (t : ℕ) → fields-fit-lts.Need-add-k (fields-fit-claims t) (fields-fit-at t) fields-fit.Post fields-fit-Inv-loop fields-fit-μ-loop
-fields-fit-add-k t c = omega (arith, c .before .before .before .before .before .before .before .before .before .before .before .before .fits .count, c .before .before .before .before .before .before .before .loop-test .taken)
+fields-fit-add-k t c = omega (
+  arith,
+  c .before .before .before .before .before .before .before .before .before .before .before .before .fits .count,
+  c .before .before .before
+      .before .before .before .before .loop-test .taken,
+)
 
 fields-fit-loop-less : (t : ℕ) → fields-fit-lts.Need-loop-less (fields-fit-claims t) (fields-fit-at t) fields-fit.Post fields-fit-Inv-loop fields-fit-μ-loop
 fields-fit-loop-less t c = omega (arith, c .before .before .before .before .before .before .before .loop-test .taken)
 
 fields-fit-loop-again : (t : ℕ) → fields-fit-lts.Need-loop-again (fields-fit-claims t) (fields-fit-at t) fields-fit.Post fields-fit-Inv-loop fields-fit-μ-loop
-fields-fit-loop-again t c = fitting-more (c .before .before .before .before .before .before .before .before .loop .inv) (c .before .before .before .before .before .before .before .loop-test .taken) (c .before .before .before .before .before .before .child-at .ensures) (c .before .before .before .before .before .column-fit .ensures) (c .before .before .before .more .given .1) refl (c .before .larger .ensures) (c .skip-selector .ensures)
+fields-fit-loop-again t c = fitting-more (c .before .before .before .before .before .before .before .before .loop .inv)
+    (c .before .before .before .before .before .before .before .loop-test .taken) (c .before .before .before .before .before .before .child-at .ensures)
+    (c .before .before .before .before .before .column-fit .ensures) (c .before .before .before .more .given .1) refl (c .before .larger .ensures)
+    (c .skip-selector .ensures)
 
 fields-fit-returns-2 : (t : ℕ) → fields-fit-lts.Need-returns-2 (fields-fit-claims t) (fields-fit-at t) fields-fit.Post fields-fit-Inv-loop fields-fit-μ-loop
 fields-fit-returns-2 t c = fitting-end (c .before .loop .inv) (c .loop-test .left)
@@ -236,40 +308,89 @@ mapped-fit-enum-known-count : (t : ℕ) → mapped-fit-lts.Need-enum-known-count
 mapped-fit-enum-known-count t c = search needs
 
 mapped-fit-returns-2 : (t : ℕ) → mapped-fit-lts.Need-returns-2 (mapped-fit-claims t) (mapped-fit-at t) mapped-fit.Post
-mapped-fit-returns-2 t c = λ u R. struct-short (c .before .before .before .before .type-head .ensures u R) _ _ (c .before .before .count .given .1) (c .if2 .taken)
+mapped-fit-returns-2 t c = λ u R. struct-short (c .before .before .before .before .type-head .ensures u R) _ _ (c .before .before .count .given .1)
+    (c .if2 .taken)
 
 mapped-fit-sub-fields-fit : (t : ℕ) → mapped-fit-lts.Need-sub-fields-fit (mapped-fit-claims t) (mapped-fit-at t) mapped-fit.Post
 mapped-fit-sub-fields-fit t c = omega (arith, c .before .before .before .before .before .before .if1 .left)
 
 mapped-fit-fields-fit-requires : (t : ℕ) → mapped-fit-lts.Need-fields-fit-requires (mapped-fit-claims t) (mapped-fit-at t) mapped-fit.Post
-mapped-fit-fields-fit-requires t c κs = let (u, R) = c .before .before .before .before .before .before .before .before .before .pre .1 .0 in (omega (arith, c .before .before .before .before .before .before .before .before .before .pre .0, c .before .before .before .before .before .before .if1 .left), struct-asks (c .before .before .before .before .before .type-head .ensures u R) R (c .before .before .before .before .before .before .before .before .before .pre .1 .1) (c .before .before .before .count .given .1))
+mapped-fit-fields-fit-requires t c κs = let (u, R) = c .before .before .before .before .before .before .before .before .before .pre .1 .0 in (
+  omega (
+    arith,
+    c .before .before .before .before .before .before .before .before .before .pre .0,
+    c .before .before .before .before .before .before .if1
+        .left,
+  ),
+  struct-asks (c .before .before .before .before .before .type-head .ensures u R) R
+      (c .before .before .before .before .before .before .before .before .before .pre .1 .1) (c .before .before .before .count .given .1),
+)
 
 mapped-fit-around-requires : (t : ℕ) → mapped-fit-lts.Need-around-requires (mapped-fit-claims t) (mapped-fit-at t) mapped-fit.Post
-mapped-fit-around-requires t c κs = let (u, R) = c .before .before .before .before .before .before .before .before .before .before .pre .1 .0 in λ s d q. let (m, k) = struct-bounded (c .before .before .before .before .before .before .type-head .ensures u R) (c .before .before .before .before .before .before .before .before .before .before .args .levels) (c .before .before .before .before .before .before .before .before .before .before .args .room) R (c .before .before .before .before .before .before .before .before .before .before .pre .1 .1) (c .before .before .before .before .count .given .1) (c .fields-fit .ensures) s d q in (omega (arith, k, c .before .before .if2 .left, c .before .before .before .before .before .before .before .before .before .before .fits .room), omega (arith, m, c .before .before .before .before .before .before .before .if1 .left, c .before .before .before .before .before .before .before .before .before .before .fits .levels))
+mapped-fit-around-requires t c κs = let (u, R) = c .before .before .before .before .before .before .before .before .before .before .pre .1 .0 in λ s d q.
+    let (m, k) = struct-bounded (c .before .before .before .before .before .before .type-head .ensures u R)
+    (c .before .before .before .before .before .before .before .before .before .before .args .levels)
+    (c .before .before .before .before .before .before .before .before .before .before .args .room) R
+    (c .before .before .before .before .before .before .before .before .before .before .pre .1 .1) (c .before .before .before .before .count .given .1)
+    (c .fields-fit .ensures) s d q in (
+      omega
+          (arith, k, c .before .before .if2 .left, c .before .before .before .before .before .before .before .before .before .before .fits .room),
+      omega (
+        arith,
+        m,
+        c .before .before .before .before .before .before .before .if1 .left,
+        c .before .before .before .before .before .before .before .before
+            .before .before .fits .levels,
+      ),
+    )
 
 mapped-fit-enum-told-2 : (t : ℕ) → mapped-fit-lts.Need-enum-told-2 (mapped-fit-claims t) (mapped-fit-at t) mapped-fit.Post
 mapped-fit-enum-told-2 t c = search needs
 
 mapped-fit-element-fit-requires : (t : ℕ) → mapped-fit-lts.Need-element-fit-requires (mapped-fit-claims t) (mapped-fit-at t) mapped-fit.Post
-mapped-fit-element-fit-requires t c κs = let (u, R) = c .before .before .before .before .before .before .pre .1 .0 in (omega (arith, c .before .before .before .before .before .before .pre .0), (list-asks (c .before .before .type-head .ensures u R) R (c .enum-told2 .given .1), omega (arith, c .before .before .before .if1 .left)))
+mapped-fit-element-fit-requires t c κs = let (u, R) = c .before .before .before .before .before .before .pre .1 .0 in (
+  omega
+      (arith, c .before .before .before .before .before .before .pre .0),
+  (
+    list-asks (c .before .before .type-head .ensures u R) R
+        (c .enum-told2 .given .1),
+    omega (arith, c .before .before .before .if1 .left),
+  ),
+)
 
 mapped-fit-enum-told-3 : (t : ℕ) → mapped-fit-lts.Need-enum-told-3 (mapped-fit-claims t) (mapped-fit-at t) mapped-fit.Post
 mapped-fit-enum-told-3 t c = search needs
 
 mapped-fit-element-fit-requires-2 : (t : ℕ) → mapped-fit-lts.Need-element-fit-requires-2 (mapped-fit-claims t) (mapped-fit-at t) mapped-fit.Post
-mapped-fit-element-fit-requires-2 t c κs = let (u, R) = c .before .before .before .before .before .before .pre .1 .0 in (omega (arith, c .before .before .before .before .before .before .pre .0), (array-asks (c .before .before .type-head .ensures u R) R (c .enum-told3 .given .1), omega (arith, c .before .before .before .if1 .left)))
+mapped-fit-element-fit-requires-2 t c κs = let (u, R) = c .before .before .before .before .before .before .pre .1 .0 in (
+  omega
+      (arith, c .before .before .before .before .before .before .pre .0),
+  (
+    array-asks (c .before .before .type-head .ensures u R) R
+        (c .enum-told3 .given .1),
+    omega (arith, c .before .before .before .if1 .left),
+  ),
+)
 
 mapped-fit-returns-3 : (t : ℕ) → mapped-fit-lts.Need-returns-3 (mapped-fit-claims t) (mapped-fit-at t) mapped-fit.Post
-mapped-fit-returns-3 t c = λ u R. made-no-leaf R (c .before .before .before .before .before .before .pre .1 .1) (c .before .before .type-head .ensures u R) (c .enum-told .given .1)
+mapped-fit-returns-3 t c = λ u R. made-no-leaf R (c .before .before .before .before .before .before .pre .1 .1) (c .before .before .type-head .ensures u R)
+    (c .enum-told .given .1)
 
 mapped-fit-returns-4 : (t : ℕ) → mapped-fit-lts.Need-returns-4 (mapped-fit-claims t) (mapped-fit-at t) mapped-fit.Post
-mapped-fit-returns-4 t c = λ u R. struct-fits (c .before .before .before .before .before .before .before .type-head .ensures u R) (c .before .before .before .before .before .before .before .before .before .before .before .args .levels) (c .before .before .before .before .before .before .before .before .before .before .before .args .room) R (c .before .before .before .before .before .before .before .before .before .before .before .pre .1 .1) (c .before .before .before .before .before .count .given .1) (c .before .fields-fit .ensures) (c .around .ensures) (omega (arith, c .before .before .before .before .before .before .before .before .if1 .left)) (c .before .before .before .if2 .left)
+mapped-fit-returns-4 t c = λ u R. struct-fits (c .before .before .before .before .before .before .before .type-head .ensures u R)
+    (c .before .before .before .before .before .before .before .before .before .before .before .args .levels)
+    (c .before .before .before .before .before .before .before .before .before .before .before .args .room) R
+    (c .before .before .before .before .before .before .before .before .before .before .before .pre .1 .1)
+    (c .before .before .before .before .before .count .given .1) (c .before .fields-fit .ensures) (c .around .ensures) (omega
+    (arith, c .before .before .before .before .before .before .before .before .if1 .left)) (c .before .before .before .if2 .left)
 
 mapped-fit-returns-5 : (t : ℕ) → mapped-fit-lts.Need-returns-5 (mapped-fit-claims t) (mapped-fit-at t) mapped-fit.Post
-mapped-fit-returns-5 t c = λ u R. list-fits (c .before .before .before .type-head .ensures u R) R _ _ (c .before .enum-told2 .given .1) (c .element-fit .ensures)
+mapped-fit-returns-5 t c = λ u R. list-fits (c .before .before .before .type-head .ensures u R) R _ _ (c .before .enum-told2 .given .1)
+    (c .element-fit .ensures)
 
 mapped-fit-returns-6 : (t : ℕ) → mapped-fit-lts.Need-returns-6 (mapped-fit-claims t) (mapped-fit-at t) mapped-fit.Post
-mapped-fit-returns-6 t c = λ u R. array-fits (c .before .before .before .type-head .ensures u R) R _ _ (c .before .enum-told3 .given .1) (c .element-fit2 .ensures)
+mapped-fit-returns-6 t c = λ u R. array-fits (c .before .before .before .type-head .ensures u R) R _ _ (c .before .enum-told3 .given .1)
+    (c .element-fit2 .ensures)
 
 sized-fit-enum-known-size : (t : ℕ) → sized-fit-lts.Need-enum-known-size (sized-fit-claims t) (sized-fit-at t) sized-fit.Post
 sized-fit-enum-known-size t c = search needs
@@ -284,7 +405,11 @@ sized-fit-resolve-requires : (t : ℕ) → sized-fit-lts.Need-resolve-requires (
 sized-fit-resolve-requires t c κs = let (b, u, X, e) = c .before .before .before .before .pre .1 in (u, X)
 
 sized-fit-type-fit-requires : (t : ℕ) → sized-fit-lts.Need-type-fit-requires (sized-fit-claims t) (sized-fit-at t) sized-fit.Post
-sized-fit-type-fit-requires t c κs = let (b, u, X, e) = c .before .before .before .before .before .pre .1 in (omega (arith, c .before .before .before .before .before .pre .0), (u, c .resolve .ensures u X .resolved))
+sized-fit-type-fit-requires t c κs = let (b, u, X, e) = c .before .before .before .before .before .pre .1 in (
+  omega
+      (arith, c .before .before .before .before .before .pre .0),
+  (u, c .resolve .ensures u X .resolved),
+)
 
 sized-fit-returns : (t : ℕ) → sized-fit-lts.Need-returns (sized-fit-claims t) (sized-fit-at t) sized-fit.Post
 sized-fit-returns t c = λ b u X e. sized-is b u _ _ e (c .before .before .size .given .1) (c .size-fit .ensures)
@@ -308,7 +433,10 @@ type-fit-enum-told-3 : (t : ℕ) → type-fit-lts.Need-enum-told-3 (type-fit-cla
 type-fit-enum-told-3 t c = search needs
 
 type-fit-mapped-fit-requires : (t : ℕ) → type-fit-lts.Need-mapped-fit-requires (type-fit-claims t) (type-fit-at t) type-fit.Post
-type-fit-mapped-fit-requires t c κs = (omega (arith, c .before .before .before .before .before .pre .0), (c .before .before .before .before .before .pre .1, c .enum-told3 .given .1))
+type-fit-mapped-fit-requires t c κs = (
+  omega (arith, c .before .before .before .before .before .pre .0),
+  (c .before .before .before .before .before .pre .1, c .enum-told3 .given .1),
+)
 
 type-fit-returns : (t : ℕ) → type-fit-lts.Need-returns (type-fit-claims t) (type-fit-at t) type-fit.Post
 type-fit-returns t c = λ u R. c .raw-fit .ensures u (from-incoming R (c .before .enum-told .given .1))

@@ -15,5 +15,6 @@ joined-spec =
     (λ c. omega (arith, c .before .before .before .pre _ _ (c .before .f .given .1)))
     (λ c κs. search needs)
     (λ c. search needs)
-    (λ c. joined-is (c .before .before .before .before .args .before) (c .before .before .before .before .args .levels) (c .larger .ensures) (c .before .before .f .given .1))
+    (λ c. joined-is (c .before .before .before .before .args .before) (c .before .before .before .before .args .levels) (c .larger .ensures)
+    (c .before .before .f .given .1))
     (λ c. sym (ap (joinedOf (c .before .before .args .before) (c .before .before .args .levels)) (c .enum-told .given .1))))

@@ -169,7 +169,9 @@ check-element-enum-known-size : (t : ℕ) → check-element-lts.Need-enum-known-
 check-element-enum-known-size t c = search needs
 
 check-element-list-fit-requires : (t : ℕ) → check-element-lts.Need-list-fit-requires (check-element-claims t) (check-element-at t) check-element.Post
-check-element-list-fit-requires t c κs = let (u, e, f, E) = c .before .before .before .before .before .before .before .pre .1 in let g = c .before .before .before .before .child .ensures in let h = c .before .before .before .check-scoped .ensures in let p = c .before .size .given .1 in
+check-element-list-fit-requires t c κs = let (u, e, f, E) = c .before .before .before .before .before .before .before .pre .1 in
+    let g = c .before .before .before .before .child .ensures in let h = c .before .before .before .check-scoped .ensures in
+    let p = c .before .size .given .1 in
     ((isTransform e, _, element-typed E g h p, element-passed E g h p .sized), element-small E)
 
 check-element-fitting-requires : (t : ℕ) → check-element-lts.Need-fitting-requires (check-element-claims t) (check-element-at t) check-element.Post
@@ -179,10 +181,13 @@ check-element-enum-known-k : (t : ℕ) → check-element-lts.Need-enum-known-k (
 check-element-enum-known-k t c = search needs
 
 check-element-returns : (t : ℕ) → check-element-lts.Need-returns (check-element-claims t) (check-element-at t) check-element.Post
-check-element-returns t c = λ u e f name E. element-given E (c .before .before .before .before .before .before .child .ensures) (c .before .before .before .before .before .check-scoped .ensures) (c .before .before .before .size .given .1) (c .before .list-fit .ensures) (c .fitting .ensures) name
+check-element-returns t c = λ u e f name E. element-given E (c .before .before .before .before .before .before .child .ensures)
+    (c .before .before .before .before .before .check-scoped .ensures) (c .before .before .before .size .given .1) (c .before .list-fit .ensures)
+    (c .fitting .ensures) name
 
 check-element-returns-2 : (t : ℕ) → check-element-lts.Need-returns-2 (check-element-claims t) (check-element-at t) check-element.Post
-check-element-returns-2 t c = λ u e f name E. element-refused E (c .before .before .before .before .child .ensures) (c .before .before .before .check-scoped .ensures) name (c .before .k .given .1)
+check-element-returns-2 t c = λ u e f name E. element-refused E (c .before .before .before .before .child .ensures)
+    (c .before .before .before .check-scoped .ensures) name (c .before .k .given .1)
 
 abbrev check-fields-Inv-loop : check-fields-lts.InvT-loop
 check-fields-Inv-loop incoming v n plan w count scope at₀ fields₀ k₀ at fields k = Passing incoming v n plan w count scope at fields k
@@ -214,46 +219,65 @@ check-fields-check-scoped-requires t c κs = (
   passing-asks (c .before .before .loop .inv) (c .before .loop-test .taken) (c .child-at .ensures),
 )
 
-check-fields-enum-known-size : (t : ℕ) → check-fields-lts.Need-enum-known-size (check-fields-claims t) (check-fields-at t) check-fields.Post check-fields-Inv-loop check-fields-μ-loop
+check-fields-enum-known-size : (t : ℕ) → check-fields-lts.Need-enum-known-size (check-fields-claims t)
+    (check-fields-at t) check-fields.Post check-fields-Inv-loop check-fields-μ-loop
 check-fields-enum-known-size t c = search needs
 
-check-fields-add-field-requires : (t : ℕ) → check-fields-lts.Need-add-field-requires (check-fields-claims t) (check-fields-at t) check-fields.Post check-fields-Inv-loop check-fields-μ-loop
+check-fields-add-field-requires : (t : ℕ) → check-fields-lts.Need-add-field-requires (check-fields-claims t)
+    (check-fields-at t) check-fields.Post check-fields-Inv-loop check-fields-μ-loop
 check-fields-add-field-requires t c κs = (
-  passing-named (c .before .before .before .before .before .before .loop .inv) (c .before .before .before .before .before .loop-test .taken) (c .before .before .before .before .child-at .ensures) (c .before .before .before .check-scoped .ensures)
+  passing-named (c .before .before .before .before .before .before .loop .inv) (c .before .before .before .before .before .loop-test .taken)
+      (c .before .before .before .before .child-at .ensures) (c .before .before .before .check-scoped .ensures)
       (c .before .size .given .1),
   c .before .before .before .before .before .before .loop .inv .small,
 )
 
-check-fields-skip-selector-requires : (t : ℕ) → check-fields-lts.Need-skip-selector-requires (check-fields-claims t) (check-fields-at t) check-fields.Post check-fields-Inv-loop check-fields-μ-loop
+check-fields-skip-selector-requires : (t : ℕ) → check-fields-lts.Need-skip-selector-requires (check-fields-claims t)
+    (check-fields-at t) check-fields.Post check-fields-Inv-loop check-fields-μ-loop
 check-fields-skip-selector-requires t c κs = search needs
 
-check-fields-add-k : (t : ℕ) → check-fields-lts.Need-add-k (check-fields-claims t) (check-fields-at t) check-fields.Post check-fields-Inv-loop check-fields-μ-loop
-check-fields-add-k t c = omega (arith, c .before .before .before .before .before .before .before .before .before .before .before .before .fits .count, c .before .before .before .before .before .before .before .loop-test .taken)
+check-fields-add-k : (t : ℕ) → check-fields-lts.Need-add-k (check-fields-claims t)
+    (check-fields-at t) check-fields.Post check-fields-Inv-loop check-fields-μ-loop
+check-fields-add-k t c = omega (
+  arith,
+  c .before .before .before .before .before .before .before .before .before .before .before .before .fits .count,
+  c .before .before .before
+      .before .before .before .before .loop-test .taken,
+)
 
-check-fields-loop-less : (t : ℕ) → check-fields-lts.Need-loop-less (check-fields-claims t) (check-fields-at t) check-fields.Post check-fields-Inv-loop check-fields-μ-loop
+check-fields-loop-less : (t : ℕ) → check-fields-lts.Need-loop-less (check-fields-claims t)
+    (check-fields-at t) check-fields.Post check-fields-Inv-loop check-fields-μ-loop
 check-fields-loop-less t c = omega (arith, c .before .before .before .before .before .before .before .loop-test .taken)
 
-check-fields-loop-again : (t : ℕ) → check-fields-lts.Need-loop-again (check-fields-claims t) (check-fields-at t) check-fields.Post check-fields-Inv-loop check-fields-μ-loop
+check-fields-loop-again : (t : ℕ) → check-fields-lts.Need-loop-again (check-fields-claims t)
+    (check-fields-at t) check-fields.Post check-fields-Inv-loop check-fields-μ-loop
 check-fields-loop-again t c = passing-more (c .before .before .before .before .before .before .before .before .loop .inv)
     (c .before .before .before .before .before .before .before .loop-test .taken) (c .before .before .before .before .before .before .child-at .ensures)
-    (c .before .before .before .before .before .check-scoped .ensures) (c .before .before .before .size .given .1) (c .before .add-field .ensures) (c .skip-selector .ensures)
+    (c .before .before .before .before .before .check-scoped .ensures) (c .before .before .before .size .given .1) (c .before .add-field .ensures)
+    (c .skip-selector .ensures)
 
-check-fields-enum-known-j : (t : ℕ) → check-fields-lts.Need-enum-known-j (check-fields-claims t) (check-fields-at t) check-fields.Post check-fields-Inv-loop check-fields-μ-loop
+check-fields-enum-known-j : (t : ℕ) → check-fields-lts.Need-enum-known-j (check-fields-claims t)
+    (check-fields-at t) check-fields.Post check-fields-Inv-loop check-fields-μ-loop
 check-fields-enum-known-j t c = search needs
 
-check-fields-returns : (t : ℕ) → check-fields-lts.Need-returns (check-fields-claims t) (check-fields-at t) check-fields.Post check-fields-Inv-loop check-fields-μ-loop
+check-fields-returns : (t : ℕ) → check-fields-lts.Need-returns (check-fields-claims t)
+    (check-fields-at t) check-fields.Post check-fields-Inv-loop check-fields-μ-loop
 check-fields-returns t c = passing-refused (c .before .before .before .before .before .before .loop .inv)
     (c .before .before .before .before .before .loop-test .taken) (c .before .before .before .before .child-at .ensures)
     (c .before .before .before .check-scoped .ensures) (c .before .j .given .1)
 
-check-fields-around-requires : (t : ℕ) → check-fields-lts.Need-around-requires (check-fields-claims t) (check-fields-at t) check-fields.Post check-fields-Inv-loop check-fields-μ-loop
+check-fields-around-requires : (t : ℕ) → check-fields-lts.Need-around-requires (check-fields-claims t)
+    (check-fields-at t) check-fields.Post check-fields-Inv-loop check-fields-μ-loop
 check-fields-around-requires t c κs = λ s d q. let (m, k) = c .before .loop .inv .small s d q in (omega (arith, k), omega (arith, m))
 
-check-fields-fitting-requires : (t : ℕ) → check-fields-lts.Need-fitting-requires (check-fields-claims t) (check-fields-at t) check-fields.Post check-fields-Inv-loop check-fields-μ-loop
+check-fields-fitting-requires : (t : ℕ) → check-fields-lts.Need-fitting-requires (check-fields-claims t)
+    (check-fields-at t) check-fields.Post check-fields-Inv-loop check-fields-μ-loop
 check-fields-fitting-requires t c κs = search needs
 
-check-fields-returns-2 : (t : ℕ) → check-fields-lts.Need-returns-2 (check-fields-claims t) (check-fields-at t) check-fields.Post check-fields-Inv-loop check-fields-μ-loop
-check-fields-returns-2 t c = passing-end (c .before .before .before .loop .inv) (c .before .before .loop-test .left) (c .before .around .ensures) (c .fitting .ensures)
+check-fields-returns-2 : (t : ℕ) → check-fields-lts.Need-returns-2 (check-fields-claims t)
+    (check-fields-at t) check-fields.Post check-fields-Inv-loop check-fields-μ-loop
+check-fields-returns-2 t c = passing-end (c .before .before .before .loop .inv) (c .before .before .loop-test .left) (c .before .around .ensures)
+    (c .fitting .ensures)
 
 check-scoped-is-transform-requires : (t : ℕ) → check-scoped-lts.Need-is-transform-requires (check-scoped-claims t) (check-scoped-at t) check-scoped.Post
 check-scoped-is-transform-requires t c κs = search needs
@@ -307,24 +331,30 @@ check-transform-enum-known-count t c = search needs
 
 check-transform-check-fields-requires : (t : ℕ)
     → check-transform-lts.Need-check-fields-requires (check-transform-claims t) (check-transform-at t) check-transform.Post
-check-transform-check-fields-requires t c κs = let (s, Δ, C, d, h) = c .before .before .before .before .before .before .before .before .before .before .before .pre .1 in
+check-transform-check-fields-requires t c κs = let
+    (s, Δ, C, d, h) = c .before .before .before .before .before .before .before .before .before .before .before .pre .1 in
     let F = rest-of (c .before .before .before .check-input .ensures s Δ
     (input-passed C (a-transform C h .transforms) (c .before .before .before .before .before .before .before .before .to-input .ensures) d
     (c .before .before .before .before .before .before .before .check-scoped .ensures) (c .before .before .before .before .before .size .given .1)))
-    (c .before .count .given .1) in
-    (omega (arith, c .before .before .before .before .before .before .before .before .before .before .before .pre .0), (F .input, F .parts, F .scope, F .mapping, F .counted, F .columns))
+    (c .before .count .given .1) in (
+      omega (arith, c .before .before .before .before .before .before .before .before .before .before .before .pre .0),
+      (F .input, F .parts, F .scope, F .mapping, F .counted, F .columns),
+    )
 
 check-transform-enum-known-head : (t : ℕ) → check-transform-lts.Need-enum-known-head (check-transform-claims t) (check-transform-at t) check-transform.Post
 check-transform-enum-known-head t c = search needs
 
 check-transform-check-element-requires : (t : ℕ)
     → check-transform-lts.Need-check-element-requires (check-transform-claims t) (check-transform-at t) check-transform.Post
-check-transform-check-element-requires t c κs = let (s, Δ, C, d, h) = c .before .before .before .before .before .before .before .before .before .before .before .pre .1 in
+check-transform-check-element-requires t c κs = let
+    (s, Δ, C, d, h) = c .before .before .before .before .before .before .before .before .before .before .before .pre .1 in
     let E = rest-of (c .before .before .before .check-input .ensures s Δ
     (input-passed C (a-transform C h .transforms) (c .before .before .before .before .before .before .before .before .to-input .ensures) d
     (c .before .before .before .before .before .before .before .check-scoped .ensures) (c .before .before .before .before .before .size .given .1)))
-    (c .before .head .given .1) in
-    (omega (arith, c .before .before .before .before .before .before .before .before .before .before .before .pre .0), (E .element, E .selector, E .makes, E .elements))
+    (c .before .head .given .1) in (
+      omega (arith, c .before .before .before .before .before .before .before .before .before .before .before .pre .0),
+      (E .element, E .selector, E .makes, E .elements),
+    )
 
 check-transform-enum-known-k-2 : (t : ℕ) → check-transform-lts.Need-enum-known-k-2 (check-transform-claims t) (check-transform-at t) check-transform.Post
 check-transform-enum-known-k-2 t c = search needs
@@ -347,7 +377,8 @@ check-transform-returns-3 : (t : ℕ) → check-transform-lts.Need-returns-3 (ch
 check-transform-returns-3 t c = λ s Δ C d h. let F = rest-of
     (c .before .before .before .before .check-input .ensures s Δ
     (input-passed C (a-transform C h .transforms) (c .before .before .before .before .before .before .before .before .before .to-input .ensures) d
-    (c .before .before .before .before .before .before .before .before .check-scoped .ensures) (c .before .before .before .before .before .before .size .given .1)))
+    (c .before .before .before .before .before .before .before .before .check-scoped .ensures)
+    (c .before .before .before .before .before .before .size .given .1)))
     (c .before .before .count .given .1) in c .check-fields .ensures (F .input) (F .parts) (F .scope) (F .name) (F .mapping) (F .counted) (F .columns)
     ∙ sym (F .left)
 
@@ -355,7 +386,8 @@ check-transform-returns-4 : (t : ℕ) → check-transform-lts.Need-returns-4 (ch
 check-transform-returns-4 t c = λ s Δ C d h. let E = rest-of
     (c .before .before .before .before .check-input .ensures s Δ
     (input-passed C (a-transform C h .transforms) (c .before .before .before .before .before .before .before .before .before .to-input .ensures) d
-    (c .before .before .before .before .before .before .before .before .check-scoped .ensures) (c .before .before .before .before .before .before .size .given .1)))
+    (c .before .before .before .before .before .before .before .before .check-scoped .ensures)
+    (c .before .before .before .before .before .before .size .given .1)))
     (c .before .before .head .given .1) in c .check-element .ensures (E .element) (E .selector) (E .makes) (E .name) (E .elements) ∙ sym (E .left)
 
 check-transform-returns-5 : (t : ℕ) → check-transform-lts.Need-returns-5 (check-transform-claims t) (check-transform-at t) check-transform.Post

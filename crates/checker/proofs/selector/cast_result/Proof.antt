@@ -17,6 +17,14 @@ cast-result-spec =
     (λ c κs. search needs)
     (λ c κs. let (a, P, T, O, X) = c .before .before .before .before .before .before .pre in (a .type, c .before .before .type-head .ensures (a .type) (c .before .before .before .resolve .ensures (a .type) X .resolved)))
     (λ c. λ a P T O X. let K = cast-type T O (c .before .before .before .skip-selector .ensures P) in cast-refused K a (c .before .before .cast-option .ensures (K .type) (K .option)) (c .before .cast-fits .ensures (a .type) (K .type) (c .before .before .before .before .type-head .ensures (a .type) (c .before .before .before .before .before .resolve .ensures (a .type) X .resolved))) (not-true _ (c .if1 .taken)))
-    (λ c κs. let (a, P, T, O, X) = c .before .before .before .before .before .before .before .before .pre in (_, cast-stands (cast-type T O (c .before .before .before .skip-selector .ensures P))))
+    (λ c κs. let (a, P, T, O, X) = c .before .before .before .before .before .before .before .before .pre in (
+      _,
+      cast-stands (cast-type T O
+          (c .before .before .before .skip-selector .ensures P)),
+    ))
     (λ c κs. search needs)
-    (λ c. λ a P T O X. let K = cast-type T O (c .before .before .before .before .before .skip-selector .ensures P) in cast-passed K a (c .before .before .before .before .cast-option .ensures (K .type) (K .option)) (c .before .before .before .cast-fits .ensures (a .type) (K .type) (c .before .before .before .before .before .before .type-head .ensures (a .type) (c .before .before .before .before .before .before .before .resolve .ensures (a .type) X .resolved))) (not-false _ (c .before .before .if1 .left)) (c .fitting .ensures ∙ ap fittingOf (c .before .raw-fit .ensures _ (cast-stands K)))))
+    (λ c. λ a P T O X. let K = cast-type T O (c .before .before .before .before .before .skip-selector .ensures P) in cast-passed K a
+    (c .before .before .before .before .cast-option .ensures (K .type) (K .option)) (c .before .before .before .cast-fits .ensures (a .type) (K .type)
+    (c .before .before .before .before .before .before .type-head .ensures (a .type)
+    (c .before .before .before .before .before .before .before .resolve .ensures (a .type) X .resolved))) (not-false _ (c .before .before .if1 .left))
+    (c .fitting .ensures ∙ ap fittingOf (c .before .raw-fit .ensures _ (cast-stands K)))))

@@ -15,4 +15,5 @@ check-selector-spec =
     (λ c κs. let (s, Δ, C) = c .before .before .pre in (Δ, checking-scope C))
     (λ c κs. let (s, Δ, C) = c .before .before .before .pre in (s, Δ, C, sym (c .scope-count .ensures Δ (checking-scope C))))
     (λ c κs. search needs)
-    (λ c. λ s Δ C. c .dropped .ensures ∙ ap droppedOf (c .before .check-scoped .ensures s Δ C (sym (c .before .before .scope-count .ensures Δ (checking-scope C)))) ∙ dropped-is (isTransform s) (typeOf Δ s)))
+    (λ c. λ s Δ C. c .dropped .ensures ∙ ap droppedOf (c .before .check-scoped .ensures s Δ C (sym (c .before .before .scope-count .ensures Δ
+    (checking-scope C)))) ∙ dropped-is (isTransform s) (typeOf Δ s)))
