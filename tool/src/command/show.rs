@@ -65,6 +65,9 @@ fn kind(input: &Input, layouts: usize) -> Result<File, Failure> {
     let (name, what) = (&input.name, kind.name());
     let takes = ["no layout", "one layout", "two layouts"][*allowed.end()];
     Err(Failure::Usage(match (kind, layouts) {
+        (File::Record, 0) if !matches!(input.bytes.first(), Some(0 | 1)) => format!(
+            "show: {name}: it begins with no mark, LAY, DEF or PLN, and is no record, which begins with 0 or 1"
+        ),
         (File::Record, 0) => {
             format!("show: {name}: a {what} needs its layout: selector show RECORD LAYOUT")
         }
