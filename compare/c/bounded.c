@@ -1,8 +1,9 @@
 /* Plans that ask for outputs far past any limit, some 10^33 bytes: nested list mappings over constant lists of hundreds of elements. A run must answer 44 or 45 at once. Tried are plans
  * with and without an overflow inside, with an empty list on the way (so that what is inside is never run), and driven by an incoming list. Then plans that no builder writes and that
  * cost the check the most of those tried: struct mappings one over another, each of which turns the fields of the one before round, at the top, and inside a list mapping's element, where
- * the general way decides. Then builds by number of columns that are all missing, with a table of as many entries as fit, of which none is theirs; the plans of slow_checks.h and slow_marks.h; and values
- * that pass over a long type for each of their bytes: empty arrays of a struct of lists, taken whole, and in front of a column that thousands of selectors take.
+ * the general way decides. Then builds by number of columns that are all missing, with a table of as many entries as fit, of which none is theirs: with ids in a row, and with ids that are
+ * all in one chain of the table's index; the plans of slow_checks.h and slow_marks.h; and values that pass over a long type for each of their bytes: empty arrays of a struct of lists, taken
+ * whole, and in front of a column that thousands of selectors take.
  * The exit status is 1 where an answer or an output is not the one due, or where it takes more than a second; more than five for the mappings. */
 #define _DEFAULT_SOURCE
 #include "selector.h"
@@ -12,7 +13,7 @@
 #include <string.h>
 #include <time.h>
 
-enum { LEVELS = 14, ELEMENTS = 300, FIELDS = 300, MISSING = 600, LISTS = 1160, SELECTORS = 2700 };
+enum { LEVELS = 14, ELEMENTS = 300, FIELDS = 300, MISSING = 600, HEADS = 653, LISTS = 1160, SELECTORS = 2700 };
 
 typedef struct {
     uint8_t bytes[SELECTOR_PLAN_MAX];
@@ -249,21 +250,22 @@ static void expect_turned(int listed, int mappings) {
         failed = 1;
 }
 
-/* A table of partitions that failed to load; in version 2 of seven owners in turn. */
-static void table_of(text *t, int version) {
+/* A table of partitions that failed to load, whose ids are `step` apart; in version 2 of seven owners in turn. */
+static void table_of(text *t, int version, uint32_t step) {
     uint32_t entries = (SELECTOR_LAYOUT_MAX - 7) / (version == 1 ? 6 : 8);
     mark(t, "DEF", entries);
     t->bytes[3] = (uint8_t)version;
     for (uint32_t i = 0; i < entries; i++) {
         if (version == 2)
             put(t, i % 7, 2);
-        put(t, MISSING + i, 4);
+        put(t, (MISSING + i) * step, 4);
         put(t, 0x0101, 2);
     }
 }
 
-/* Builds columns of bytes that are missing, each of which takes its default from the table: there is none. */
-static void expect_missing(int version) {
+/* Builds columns of bytes that are missing, each of which takes its default from the table: there is none. The index of the longest table has
+ * `HEADS` chains: with ids as far apart, all are in one. */
+static void expect_missing(int version, uint32_t step) {
     struct timespec from;
     mark(&incoming, "LAY", 0);
     mark(&target, "LAY", MISSING);
@@ -271,16 +273,16 @@ static void expect_missing(int version) {
     mark(&due, "PLN", MISSING);
     for (uint32_t i = 0; i < MISSING; i++) {
         put(&target, 0, 1);
-        put(&target, i, 4);
+        put(&target, i * step, 4);
         put(&target, 2, 1);
         put(&due, 0x00020001, 4); /* a constant without a name: int8, null */
     }
-    table_of(&record, version);
+    table_of(&record, version, step);
     clock_gettime(CLOCK_MONOTONIC, &from);
     uint64_t built = selector_build_by_number(SELECTOR_ALLOW_ALL, 0, 3, incoming.bytes, incoming.length, target.bytes, target.length, record.bytes, record.length, plan.bytes,
                                               sizeof plan.bytes);
     double taken = since(&from);
-    printf("%d missing columns, a table of version %d with %zu bytes: %u after %.2f ms\n", MISSING, version, record.length, SELECTOR_NUMBER(built), taken);
+    printf("%d missing columns, a table of version %d with %zu bytes, ids %u apart: %u after %.2f ms\n", MISSING, version, record.length, step, SELECTOR_NUMBER(built), taken);
     if (built != due.length || memcmp(plan.bytes, due.bytes, due.length) != 0 || taken > 1000)
         failed = 1;
 }
@@ -317,8 +319,10 @@ int main(void) {
         expect_turned(listed, 7);
         expect_turned(listed, 60);
     }
-    expect_missing(1);
-    expect_missing(2);
+    for (int version = 1; version <= 2; version++) {
+        expect_missing(version, 1);
+        expect_missing(version, HEADS);
+    }
     slow_checks();
     slow_marks();
     arrays_of(&incoming, 1);

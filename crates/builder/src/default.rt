@@ -12,7 +12,7 @@ ghost use Rattle.values.specs.Value.{vnull};
 ghost use Rattle.values.specs.Encode.{encodeValue};
 ghost use Rattle.values.specs.Stands.{ValueAt};
 ghost use Rattle.defaults.specs.Lookup.{getDefaultValue};
-ghost use Rattle.defaults.specs.Stands.{TableAt, DefaultsAt};
+ghost use Rattle.defaults.specs.Stands.{TableAt, IndexedTableAt};
 ghost use Rattle.plan.specs.Result.{gives, demand};
 ghost use Rattle.matching.specs.Default.{some, leafDefault};
 ghost use Rattle.builder.specs.Answers.{MakesDefault, anyFilled, isDefaultRefused, isSomeMade, valueLen, fillsMade, failedDefault, constantMade};
@@ -170,7 +170,7 @@ fn put_leaf_default(
     out: &mut [u8],
     k: usize,
 ) -> DefaultMade
-    requires { ⌜ DefaultsAt (now table) (now index) defaults ⌝ }
+    requires { ⌜ IndexedTableAt (now table) (now index) defaults ⌝ }
     requires { ⌜ spanIn (now target) (u .zone) ⌝ }
     requires { ⌜ (length (now table) ≤ 16384) × (k + 16384 < 2 ^ 64) ⌝ }
     ensures { λ r. ⌜ ((b e : ℕ) (T : TableAt (now (table .entry)) defaults) → b < e → MakesDefault anyFilled b e (now (out .entry)) k (leafDefault (leafAt (now (target .entry)) u) (getDefaultValue (T .entries) (defaults .«source_index») id)) r (now (out .exit))) ⌝ }
@@ -195,7 +195,7 @@ pub fn build_iceberg_default_value(
     k: usize,
 ) -> DefaultMade
     requires { ⌜ TypeAt (build .target) depth (now target) (b .at) ⌝ }
-    requires { ⌜ DefaultsAt (now table) (now index) (build .defaults) ⌝ }
+    requires { ⌜ IndexedTableAt (now table) (now index) (build .defaults) ⌝ }
     requires { ⌜ (length (now table) ≤ 16384) × (k + 16384 * length (now target) < 2 ^ 64 + 16384 * b .at) ⌝ }
     ensures { λ r. ⌜ FieldDefault build depth (now (table .entry)) (now (target .entry)) id b (now (out .entry)) k r (now (out .exit)) ⌝ }
 {
@@ -233,7 +233,7 @@ fn put_defaults(
     k: usize,
 ) -> DefaultsMade
     requires { ⌜ ColumnsAt (build .target) depth (now target) (fields .count) (fields .first .at) ⌝ }
-    requires { ⌜ DefaultsAt (now table) (now index) (build .defaults) ⌝ }
+    requires { ⌜ IndexedTableAt (now table) (now index) (build .defaults) ⌝ }
     requires { ⌜ (length (now table) ≤ 16384) × (k + 16384 * length (now target) < 2 ^ 64 + 16384 * fields .first .at) ⌝ }
     ensures { λ r. ⌜ FieldsDefaults build depth (now (table .entry)) (now (target .entry)) fields (now (out .entry)) k r (now (out .exit)) ⌝ }
 {
@@ -303,7 +303,7 @@ pub fn put_missing(
 ) -> Made
     requires { ⌜ spanIn (now target) (column .label .name) × (column .label .name .len ≤ 63) ⌝ }
     requires { ⌜ TypeAt (build .target) depth (now target) (column .cursor .at) ⌝ }
-    requires { ⌜ DefaultsAt (now table) (now index) (build .defaults) ⌝ }
+    requires { ⌜ IndexedTableAt (now table) (now index) (build .defaults) ⌝ }
     requires { ⌜ (length (now target) ≤ 16384) × (length (now table) ≤ 16384) × (k ≤ 65536 * column .cursor .at) ⌝ }
     ensures { λ r. ⌜ PutMissing missing build depth (now (table .entry)) (now (target .entry)) column (now (out .entry)) k r (now (out .exit)) ⌝ }
 {

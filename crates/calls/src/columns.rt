@@ -5,7 +5,7 @@ ghost use Prim.Native.Nat.{_*_, _≤_, _<_};
 ghost use lib.ListN.{length, take};
 ghost use Rattle.layout.specs.Layout.{deepest};
 ghost use Rattle.builder.specs.Bundles.{TableOf};
-ghost use Rattle.defaults.specs.Stands.{TableAt};
+ghost use Rattle.defaults.specs.Stands.{TableAt, IndexedTableAt};
 ghost use Rattle.calls.specs.Answers.{failedColumn, BothIn, BuiltColumns};
 use crate::layouts::Both;
 use builder::answer::Made;
@@ -16,10 +16,12 @@ use builder::build::Column;
 use builder::build::Missing;
 use builder::build::Sought;
 use builder::conditions::inserts;
+use defaults::lookup::fill_index;
 use labels::fill_in;
 use labels::find_in;
 use layout::columns::Labelled;
 use layout::cursor::Cursor;
+use layout::matching::Matching;
 use layout::walk::skip_type;
 use matcher::attach::attach_field;
 
@@ -45,6 +47,7 @@ fn build_each(
     incoming: &[u8],
     used: usize,
     table: &[u8],
+    index: &[u16],
     target: &[u8],
     both: Both,
     out: &mut [u8],
@@ -52,7 +55,7 @@ fn build_each(
     arena: &mut [u16],
 ) -> ColumnsMade
     requires { ⌜ BothIn build both (now incoming) (now target) ⌝ }
-    requires { ⌜ TableAt (now table) (build .defaults) ⌝ }
+    requires { ⌜ IndexedTableAt (now table) (now index) (build .defaults) ⌝ }
     requires { ⌜ (length (now target) ≤ 16384) × (length (now table) ≤ 16384) × (k ≤ 65536 * both .target .first .at) ⌝ }
     requires { ⌜ (used ≤ length (now arena)) × (0 < used → TableOf build (build .incoming) deepest (now incoming) (both .incoming) (take used (now arena))) ⌝ }
     ensures { λ r. ⌜ BuiltColumns build (now (table .entry)) (now (incoming .entry)) (now (target .entry)) both (now (out .entry)) k r (now (out .exit)) ⌝ }
@@ -87,6 +90,7 @@ fn build_each(
                     build,
                     incoming,
                     table,
+                    index,
                     target,
                     sought,
                     out,
@@ -112,6 +116,7 @@ fn build_in_arena(
     build: Build,
     incoming: &[u8],
     table: &[u8],
+    index: &[u16],
     target: &[u8],
     both: Both,
     out: &mut [u8],
@@ -119,7 +124,7 @@ fn build_in_arena(
     arena: &mut [u16],
 ) -> ColumnsMade
     requires { ⌜ BothIn build both (now incoming) (now target) ⌝ }
-    requires { ⌜ TableAt (now table) (build .defaults) ⌝ }
+    requires { ⌜ IndexedTableAt (now table) (now index) (build .defaults) ⌝ }
     requires { ⌜ (length (now target) ≤ 16384) × (length (now table) ≤ 16384) × (k ≤ 65536 * both .target .first .at) ⌝ }
     ensures { λ r. ⌜ BuiltColumns build (now (table .entry)) (now (incoming .entry)) (now (target .entry)) both (now (out .entry)) k r (now (out .exit)) ⌝ }
 {
@@ -136,10 +141,21 @@ fn build_in_arena(
         c,
         arena,
     );
-    build_each(build, incoming, used, table, target, both, out, k, arena)
+    build_each(
+        build,
+        incoming,
+        used,
+        table,
+        index,
+        target,
+        both,
+        out,
+        k,
+        arena,
+    )
 }
 
-// With an arena that takes less time to clear. Where it is too short for a table, the columns are scanned.
+// With an index and an arena that take less time to clear. Where one is too short, the entries or the columns are scanned.
 fn build_in_small(
     build: Build,
     incoming: &[u8],
@@ -154,13 +170,25 @@ fn build_in_small(
     requires { ⌜ (length (now target) ≤ 16384) × (length (now table) ≤ 16384) × (k ≤ 65536 * both .target .first .at) ⌝ }
     ensures { λ r. ⌜ BuiltColumns build (now (table .entry)) (now (incoming .entry)) (now (target .entry)) both (now (out .entry)) k r (now (out .exit)) ⌝ }
 {
+    let mut room = [0u16; 256];
+    let len = fill_index(table, build.defaults, &mut room);
     let mut arena = [0u16; 1024];
-    build_in_arena(build, incoming, table, target, both, out, k, &mut arena)
+    build_in_arena(
+        build,
+        incoming,
+        table,
+        &room[..len],
+        target,
+        both,
+        out,
+        k,
+        &mut arena,
+    )
 }
 
-// With an arena that has room for the tables of the incoming columns at every level: they share a layout's bytes, so that there are at most 5,116 with
-// names of their own.
-fn build_in_large(
+// By name there are no defaults, and an arena has room for the tables of the incoming columns at every level: they share a layout's bytes, so that there
+// are at most 5,116 with names of their own.
+fn build_named(
     build: Build,
     incoming: &[u8],
     table: &[u8],
@@ -174,8 +202,51 @@ fn build_in_large(
     requires { ⌜ (length (now target) ≤ 16384) × (length (now table) ≤ 16384) × (k ≤ 65536 * both .target .first .at) ⌝ }
     ensures { λ r. ⌜ BuiltColumns build (now (table .entry)) (now (incoming .entry)) (now (target .entry)) both (now (out .entry)) k r (now (out .exit)) ⌝ }
 {
+    let mut room = [0u16; 1];
+    let len = fill_index(table, build.defaults, &mut room);
     let mut arena = [0u16; 16384];
-    build_in_arena(build, incoming, table, target, both, out, k, &mut arena)
+    build_in_arena(
+        build,
+        incoming,
+        table,
+        &room[..len],
+        target,
+        both,
+        out,
+        k,
+        &mut arena,
+    )
+}
+
+// By number a column has at least six bytes, so that an arena of a build by name has room for an index of the longest table too.
+fn build_numbered(
+    build: Build,
+    incoming: &[u8],
+    table: &[u8],
+    target: &[u8],
+    both: Both,
+    out: &mut [u8],
+    k: usize,
+) -> ColumnsMade
+    requires { ⌜ BothIn build both (now incoming) (now target) ⌝ }
+    requires { ⌜ TableAt (now table) (build .defaults) ⌝ }
+    requires { ⌜ (length (now target) ≤ 16384) × (length (now table) ≤ 16384) × (k ≤ 65536 * both .target .first .at) ⌝ }
+    ensures { λ r. ⌜ BuiltColumns build (now (table .entry)) (now (incoming .entry)) (now (target .entry)) both (now (out .entry)) k r (now (out .exit)) ⌝ }
+{
+    let mut room = [0u16; 3384];
+    let len = fill_index(table, build.defaults, &mut room);
+    let mut arena = [0u16; 13000];
+    build_in_arena(
+        build,
+        incoming,
+        table,
+        &room[..len],
+        target,
+        both,
+        out,
+        k,
+        &mut arena,
+    )
 }
 
 // The selectors of the target columns, in order; the place of a refusal is the column's position.
@@ -195,8 +266,14 @@ pub fn build_columns(
 {
     if incoming.len() <= 1024 {
         if target.len() <= 1024 {
-            return build_in_small(build, incoming, table, target, both, out, k);
+            if table.len() <= 1024 {
+                return build_in_small(build, incoming, table, target, both, out, k);
+            }
         }
     }
-    build_in_large(build, incoming, table, target, both, out, k)
+    let how = build.matching;
+    match how {
+        Matching::ByName => build_named(build, incoming, table, target, both, out, k),
+        Matching::ByNumber => build_numbered(build, incoming, table, target, both, out, k),
+    }
 }

@@ -27,13 +27,13 @@ pub record TableAt (s : Bytes) (d : DefaultFieldValues) : Type 0 where
   pub entries : List Entry
   pub owned : entries ≡ entriesOf (d .owner) all
 
--- an index of its entries; an empty one says nothing
+-- an index of its entries; an empty one says nothing, nor does any of a table with no entries
 abbrev pub IndexOf : Bytes → DefaultFieldValues → List ℕ → Type 0
-IndexOf s d index = 0 < length index → Indexed (d .version) s (d .count) (d .entries .at) index
+IndexOf s d index = 0 < length index → 0 < d .count → Indexed (d .version) s (d .count) (d .entries .at) index
 
 -- a table and its index
-abbrev pub DefaultsAt : Bytes → List ℕ → DefaultFieldValues → Type 0
-DefaultsAt s index d = TableAt s d × IndexOf s d index
+abbrev pub IndexedTableAt : Bytes → List ℕ → DefaultFieldValues → Type 0
+IndexedTableAt s index d = TableAt s d × IndexOf s d index
 
 -- what an entry of the kind k gives
 pub record GivenAt (k : EntryKind) (s : Bytes) (at : ℕ) : Type 0 where

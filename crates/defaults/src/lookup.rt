@@ -7,7 +7,7 @@ ghost use Rattle.layout.specs.Answers.{leafAt, spanIn};
 ghost use Rattle.values.specs.Stands.{ValueAt, EachAt};
 ghost use Rattle.defaults.specs.Lookup.{unlessNull, ofSource, givenTo, getDefaultValue};
 ghost use Rattle.defaults.specs.Scan.{seek};
-ghost use Rattle.defaults.specs.Stands.{TableAt, IndexOf, DefaultsAt, GivenAt, LoadedAt, Answers};
+ghost use Rattle.defaults.specs.Stands.{TableAt, IndexOf, IndexedTableAt, GivenAt, LoadedAt, Answers};
 ghost use Rattle.defaults.specs.declared.read.Owner.{Owner};
 ghost use Rattle.defaults.specs.declared.read.EntryKind.the-variants.{Initial, Partition};
 use crate::read::EntryFound;
@@ -163,6 +163,9 @@ fn find_own(
             kind,
         );
     }
+    if defaults.count == 0 {
+        return EntryFound::Absent;
+    }
     let owner = owner_in(version, defaults.owner);
     find_indexed(s, version, defaults.count, owner, id, kind, index)
 }
@@ -174,7 +177,7 @@ pub fn get_default_value(
     defaults: DefaultFieldValues,
     id: FieldId,
 ) -> DefaultValue
-    requires { ⌜ DefaultsAt (now s) (now index) defaults ⌝ }
+    requires { ⌜ IndexedTableAt (now s) (now index) defaults ⌝ }
     ensures { λ r. ⌜ ((P : TableAt (now (s .entry)) defaults) → Answers (now (s .entry)) (getDefaultValue (P .entries) (defaults .«source_index») id) r) ⌝ }
 {
     match find_own(s, index, defaults, id, EntryKind::Partition) {

@@ -3,7 +3,7 @@
 ghost use Prim.Native.Nat.{_+_, _*_, _≤_, _<_};
 ghost use lib.ListN.{length, take};
 ghost use Rattle.layout.specs.Answers.{spanIn};
-ghost use Rattle.defaults.specs.Stands.{TableAt};
+ghost use Rattle.defaults.specs.Stands.{IndexedTableAt};
 ghost use Rattle.builder.specs.Bundles.{TableOf, TypesAt, RowsAt};
 ghost use Rattle.matcher.specs.Contracts.{FieldsOverAt, PairAt, PairNamed, SoughtAt, StructRoom};
 ghost use Rattle.matcher.specs.Contracts.{AttachedTypes, AttachedNested, AttachedStruct, AttachedRows, AttachedField};
@@ -64,6 +64,7 @@ pub fn attach_transforms(
     build: Build,
     incoming: &[u8],
     table: &[u8],
+    index: &[u16],
     target: &[u8],
     types: Types,
     out: &mut [u8],
@@ -71,7 +72,7 @@ pub fn attach_transforms(
     arena: &mut [u16],
 ) -> Made
     requires { ⌜ TypesAt build types (now incoming) (now target) ⌝ }
-    requires { ⌜ TableAt (now table) (build .defaults) ⌝ }
+    requires { ⌜ IndexedTableAt (now table) (now index) (build .defaults) ⌝ }
     requires { ⌜ (length (now target) ≤ 16384) × (length (now table) ≤ 16384) × (place .k ≤ 65536 * types .target .at + 1) ⌝ }
     ensures { λ r. ⌜ AttachedTypes build (now (incoming .entry)) (now (table .entry)) (now (target .entry)) types place (now (out .entry)) r (now (out .exit)) ⌝ }
 {
@@ -82,17 +83,29 @@ pub fn attach_transforms(
             build,
             incoming,
             table,
+            index,
             target,
             types,
             out,
             place,
             arena,
         ),
-        Head::List(_) => attach_nested(build, incoming, table, target, types, out, place, arena),
+        Head::List(_) => attach_nested(
+            build,
+            incoming,
+            table,
+            index,
+            target,
+            types,
+            out,
+            place,
+            arena,
+        ),
         Head::Array(_, _) => attach_nested(
             build,
             incoming,
             table,
+            index,
             target,
             types,
             out,
@@ -108,6 +121,7 @@ fn attach_nested(
     build: Build,
     incoming: &[u8],
     table: &[u8],
+    index: &[u16],
     target: &[u8],
     types: Types,
     out: &mut [u8],
@@ -115,7 +129,7 @@ fn attach_nested(
     arena: &mut [u16],
 ) -> Made
     requires { ⌜ TypesAt build types (now incoming) (now target) ⌝ }
-    requires { ⌜ TableAt (now table) (build .defaults) ⌝ }
+    requires { ⌜ IndexedTableAt (now table) (now index) (build .defaults) ⌝ }
     requires { ⌜ (length (now target) ≤ 16384) × (length (now table) ≤ 16384) × (place .k ≤ 65536 * types .target .at + 1) ⌝ }
     ensures { λ r. ⌜ AttachedNested build (now (incoming .entry)) (now (table .entry)) (now (target .entry)) types place (now (out .entry)) r (now (out .exit)) ⌝ }
 {
@@ -142,12 +156,23 @@ fn attach_nested(
                 incoming: c,
                 target: Fields { count, first },
             };
-            attach_struct(build, incoming, table, target, over, out, place, arena)
+            attach_struct(
+                build,
+                incoming,
+                table,
+                index,
+                target,
+                over,
+                out,
+                place,
+                arena,
+            )
         }
         StructPart::Mismatch => attach_inner(
             build,
             incoming,
             table,
+            index,
             target,
             types,
             out,
@@ -162,6 +187,7 @@ fn attach_struct(
     build: Build,
     incoming: &[u8],
     table: &[u8],
+    index: &[u16],
     target: &[u8],
     over: FieldsOver,
     out: &mut [u8],
@@ -169,7 +195,7 @@ fn attach_struct(
     arena: &mut [u16],
 ) -> Made
     requires { ⌜ FieldsOverAt build over (now incoming) (now target) ⌝ }
-    requires { ⌜ TableAt (now table) (build .defaults) ⌝ }
+    requires { ⌜ IndexedTableAt (now table) (now index) (build .defaults) ⌝ }
     requires { ⌜ StructRoom over place (now table) (now target) ⌝ }
     ensures { λ r. ⌜ AttachedStruct build (now (incoming .entry)) (now (table .entry)) (now (target .entry)) over place (now (out .entry)) r (now (out .exit)) ⌝ }
 {
@@ -193,6 +219,7 @@ fn attach_struct(
         build,
         incoming,
         table,
+        index,
         target,
         rows,
         out,
@@ -215,6 +242,7 @@ fn attach_row(
     build: Build,
     incoming: &[u8],
     table: &[u8],
+    index: &[u16],
     target: &[u8],
     rows: Rows,
     out: &mut [u8],
@@ -222,7 +250,7 @@ fn attach_row(
     arena: &mut [u16],
 ) -> Row
     requires { ⌜ RowsAt build rows (now incoming) (now target) ⌝ }
-    requires { ⌜ TableAt (now table) (build .defaults) ⌝ }
+    requires { ⌜ IndexedTableAt (now table) (now index) (build .defaults) ⌝ }
     requires { ⌜ (length (now target) ≤ 16384) × (length (now table) ≤ 16384) × (k ≤ 65536 * rows .target .first .at) ⌝ }
     ensures { λ r. ⌜ AttachedRows build (now (incoming .entry)) (now (table .entry)) (now (target .entry)) rows k (now (out .entry)) r (now (out .exit)) ⌝ }
 {
@@ -239,7 +267,18 @@ fn attach_row(
         c,
         arena,
     );
-    attach_fields(build, incoming, used, table, target, rows, out, k, arena)
+    attach_fields(
+        build,
+        incoming,
+        used,
+        table,
+        index,
+        target,
+        rows,
+        out,
+        k,
+        arena,
+    )
 }
 
 // The same, counterparts found through the table, the first `used` numbers of the arena, where there is one. A loop, so that 65,535 fields take no
@@ -249,6 +288,7 @@ fn attach_fields(
     incoming: &[u8],
     used: usize,
     table: &[u8],
+    index: &[u16],
     target: &[u8],
     rows: Rows,
     out: &mut [u8],
@@ -256,7 +296,7 @@ fn attach_fields(
     arena: &mut [u16],
 ) -> Row
     requires { ⌜ RowsAt build rows (now incoming) (now target) ⌝ }
-    requires { ⌜ TableAt (now table) (build .defaults) ⌝ }
+    requires { ⌜ IndexedTableAt (now table) (now index) (build .defaults) ⌝ }
     requires { ⌜ (length (now target) ≤ 16384) × (length (now table) ≤ 16384) × (k ≤ 65536 * rows .target .first .at) ⌝ }
     requires { ⌜ (used ≤ length (now arena)) × (0 < used → TableOf build (build .incoming) (rows .depth) (now incoming) (rows .incoming) (take used (now arena))) ⌝ }
     ensures { λ r. ⌜ AttachedRows build (now (incoming .entry)) (now (table .entry)) (now (target .entry)) rows k (now (out .entry)) r (now (out .exit)) ⌝ }
@@ -270,10 +310,10 @@ fn attach_fields(
     let insert = inserts(missing);
     let count = rows.target.count;
     let mut from = rows.target.first.at;
-    let mut index: u16 = 0;
+    let mut i: u16 = 0;
     let mut to = k;
     let mut same = true;
-    while index < count {
+    while i < count {
         let f = Cursor { at: from };
         match f.label(target, w) {
             Labelled::Is(l, next) => {
@@ -301,6 +341,7 @@ fn attach_fields(
                     build,
                     incoming,
                     table,
+                    index,
                     target,
                     sought,
                     out,
@@ -310,14 +351,14 @@ fn attach_fields(
                 if is_refused(first) {
                     return failed(first);
                 }
-                same = both(same, is_bare(first, index));
+                same = both(same, is_bare(first, i));
                 to += len_of(first);
                 let e = skip_type(target, w, rows.depth, next);
                 from = e.at;
             }
             Labelled::Refused(_) => return Row::Failed(0),
         }
-        index += 1;
+        i += 1;
     }
     Row::Done(same, to - k)
 }
@@ -328,6 +369,7 @@ pub fn attach_field(
     build: Build,
     incoming: &[u8],
     table: &[u8],
+    index: &[u16],
     target: &[u8],
     sought: Sought,
     out: &mut [u8],
@@ -335,7 +377,7 @@ pub fn attach_field(
     arena: &mut [u16],
 ) -> Made
     requires { ⌜ SoughtAt build sought (now incoming) (now target) ⌝ }
-    requires { ⌜ TableAt (now table) (build .defaults) ⌝ }
+    requires { ⌜ IndexedTableAt (now table) (now index) (build .defaults) ⌝ }
     requires { ⌜ spanIn (now target) (sought .column .label .name) × (sought .column .label .name .len ≤ 63) ⌝ }
     requires { ⌜ (length (now target) ≤ 16384) × (length (now table) ≤ 16384) × (k ≤ 65536 * sought .column .cursor .at) ⌝ }
     ensures { λ r. ⌜ AttachedField build (now (incoming .entry)) (now (table .entry)) (now (target .entry)) sought k (now (out .entry)) r (now (out .exit)) ⌝ }
@@ -351,9 +393,29 @@ pub fn attach_field(
                 target: column,
             };
             let place = Place { position, k };
-            attach_renamed(build, incoming, table, target, pair, out, place, arena)
+            attach_renamed(
+                build,
+                incoming,
+                table,
+                index,
+                target,
+                pair,
+                out,
+                place,
+                arena,
+            )
         }
-        Found::Absent => put_missing(missing, build, sought.depth, table, target, column, out, k),
+        Found::Absent => put_missing(
+            missing,
+            build,
+            sought.depth,
+            table,
+            index,
+            target,
+            column,
+            out,
+            k,
+        ),
     }
 }
 
@@ -362,6 +424,7 @@ fn attach_renamed(
     build: Build,
     incoming: &[u8],
     table: &[u8],
+    index: &[u16],
     target: &[u8],
     pair: Pair,
     out: &mut [u8],
@@ -369,7 +432,7 @@ fn attach_renamed(
     arena: &mut [u16],
 ) -> Made
     requires { ⌜ PairAt build pair (now incoming) (now target) ⌝ }
-    requires { ⌜ TableAt (now table) (build .defaults) ⌝ }
+    requires { ⌜ IndexedTableAt (now table) (now index) (build .defaults) ⌝ }
     requires { ⌜ PairNamed pair (now incoming) (now target) ⌝ }
     requires { ⌜ (length (now target) ≤ 16384) × (length (now table) ≤ 16384) × (place .k ≤ 65536 * pair .target .cursor .at) ⌝ }
     ensures { λ r. ⌜ AttachedPair build (now (incoming .entry)) (now (table .entry)) (now (target .entry)) pair place (now (out .entry)) r (now (out .exit)) ⌝ }
@@ -389,7 +452,17 @@ fn attach_renamed(
     let m = pair.incoming.label;
     let l = pair.target.label;
     if !needs_rename(how, incoming, m, target, l) {
-        return attach_transforms(build, incoming, table, target, types, out, place, arena);
+        return attach_transforms(
+            build,
+            incoming,
+            table,
+            index,
+            target,
+            types,
+            out,
+            place,
+            arena,
+        );
     }
     put(out, place.k, 3);
     let position = place.position;
@@ -397,7 +470,17 @@ fn attach_renamed(
         position,
         k: place.k + 1,
     };
-    let made = attach_transforms(build, incoming, table, target, types, out, inner, arena);
+    let made = attach_transforms(
+        build,
+        incoming,
+        table,
+        index,
+        target,
+        types,
+        out,
+        inner,
+        arena,
+    );
     if is_refused(made) {
         return made;
     }
@@ -413,6 +496,7 @@ fn attach_element(
     code: u8,
     incoming: &[u8],
     table: &[u8],
+    index: &[u16],
     target: &[u8],
     pair: Pair,
     out: &mut [u8],
@@ -444,7 +528,17 @@ fn attach_element(
         position: Position(0),
         k: place.k + 4,
     };
-    let made = attach_renamed(build, incoming, table, target, pair, out, first, arena);
+    let made = attach_renamed(
+        build,
+        incoming,
+        table,
+        index,
+        target,
+        pair,
+        out,
+        first,
+        arena,
+    );
     if is_refused(made) {
         return made;
     }
@@ -460,6 +554,7 @@ fn attach_inner(
     build: Build,
     incoming: &[u8],
     table: &[u8],
+    index: &[u16],
     target: &[u8],
     types: Types,
     out: &mut [u8],
@@ -488,7 +583,18 @@ fn attach_inner(
                     cursor: e,
                 },
             };
-            attach_element(build, 5, incoming, table, target, pair, out, place, arena)
+            attach_element(
+                build,
+                5,
+                incoming,
+                table,
+                index,
+                target,
+                pair,
+                out,
+                place,
+                arena,
+            )
         }
         ElementPart::Array(width, l, e) => {
             let InnerPart::Is(m, d) = array_part(incoming, v, width, types.incoming) else {
@@ -505,7 +611,18 @@ fn attach_inner(
                     cursor: e,
                 },
             };
-            attach_element(build, 6, incoming, table, target, pair, out, place, arena)
+            attach_element(
+                build,
+                6,
+                incoming,
+                table,
+                index,
+                target,
+                pair,
+                out,
+                place,
+                arena,
+            )
         }
         ElementPart::Mismatch => Made::Refused(24),
     }

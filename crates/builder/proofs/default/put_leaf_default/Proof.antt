@@ -1,4 +1,3 @@
-
 -- `builder::default::put_leaf_default` meets its contract. Assumes nothing.
 use Rattle.builder.proofs.Defaults.{none-made, default-refused, default-as, leaf-failed, leaf-nothing, leaf-taken}
 use Rattle.defaults.proofs.Whole.{default-failed, default-none, default-at}

@@ -1,4 +1,3 @@
-
 -- `builder::default::put_missing` meets its contract. Assumes nothing.
 use Rattle.builder.proofs.Missing.{missing-unfilled, missing-filled, head-short, value-short, constant-makes, missing-inserted, missing-refused}
 use Rattle.builder.proofs.Matching.{makes-as, makes-refused}

@@ -27,14 +27,14 @@ use Rattle.layout.proofs.walk.skip_type.Reads as skip-type-reads
 use Rattle.matcher.proofs.attach.attach_field.Reads as attach-field-reads
 
 abbrev Inv-loop : tie.InvT-loop
-Inv-loop build incoming used table target out₀ k arena₀ how v w insert n c m at₀ to₀ i₀ out arena at to i =
+Inv-loop build incoming used table index target out₀ k arena₀ how v w insert n c m at₀ to₀ i₀ out arena at to i =
     ((T : TableAt table (build .defaults)) (P : ColumnsAt (build .incoming) deepest incoming n (c .at))
     → Building (build .policy) (getDefaultValue (T .entries) (build .defaults .«source_index»)) (P .columns) (build .matching) w target m at₀ out₀ k out
     at to i)
     × (take used arena ≡ take used arena₀) × (length arena ≡ length arena₀)
 
 abbrev μ-loop : tie.MeasureT-loop
-μ-loop build incoming used table target out₀ k arena₀ how v w insert n c m at₀ to₀ i₀ out arena at to i =
+μ-loop build incoming used table index target out₀ k arena₀ how v w insert n c m at₀ to₀ i₀ out arena at to i =
     m - i
 
 inserts-requires : tie.Need-inserts-requires Inv-loop μ-loop
@@ -42,10 +42,10 @@ inserts-requires c κs = search needs
 
 loop-holds : tie.Need-loop-holds Inv-loop μ-loop
 loop-holds c =
-    let c8 = c .before .before .before .before .before .before .before .before in (
-      λ T P. building-none (c8 .args .build .policy) (getDefaultValue (T .entries) (c8 .args .build .defaults .«source_index»)) (P .columns)
-          (c8 .args .build .matching)
-          (c8 .pre .0 .1 .0) (c8 .pre .1 .1 .0 .2),
+    let c9 = c .before .before .before .before .before .before .before .before .before in (
+      λ T P. building-none (c9 .args .build .policy) (getDefaultValue (T .entries) (c9 .args .build .defaults .«source_index»)) (P .columns)
+          (c9 .args .build .matching)
+          (c9 .pre .0 .1 .0) (c9 .pre .1 .1 .0 .2),
       refl,
       refl,
     )
@@ -58,63 +58,65 @@ enum-known-l c = search needs
 
 slice-reshare-prefix-find-in : tie.Need-slice-reshare-prefix-find-in Inv-loop μ-loop
 slice-reshare-prefix-find-in c =
-    let c5 = c .before .before .before .before .before in let c14 = c5 .before .before .before .before .before .before .before .before .before in
-    let a = c5 .loop .inv .2 in let b = c14 .pre .1 .1 .1 .0 in omega arith
+    let c5 = c .before .before .before .before .before in let c15 = c5 .before .before .before .before .before .before .before .before .before .before in
+    let a = c5 .loop .inv .2 in let b = c15 .pre .1 .1 .1 .0 in omega arith
 
 slice-aggregate-find-in : tie.Need-slice-aggregate-find-in Inv-loop μ-loop
 slice-aggregate-find-in c =
-    let c6 = c .before .before .before .before .before .before in let c15 = c6 .before .before .before .before .before .before .before .before .before in
-    sym (length-take-le (c15 .args .used) (c6 .loop .arena) (let a = c6 .loop .inv .2 in let b = c15 .pre .1 .1 .1 .0 in omega arith))
+    let c6 = c .before .before .before .before .before .before in let c16 = c6 .before .before .before .before .before .before .before .before .before .before
+    in
+    sym (length-take-le (c16 .args .used) (c6 .loop .arena) (let a = c6 .loop .inv .2 in let b = c16 .pre .1 .1 .1 .0 in omega arith))
 
 find-in-requires : tie.Need-find-in-requires Inv-loop μ-loop
 find-in-requires c κs =
-    let c2 = c .before .before in let c4 = c2 .before .before in let c5 = c4 .before in let c6 = c5 .before in let c15 =
-    c6 .before .before .before .before .before .before .before .before .before in
-    let P = c15 .pre .0 .0 in (
+    let c2 = c .before .before in let c4 = c2 .before .before in let c5 = c4 .before in let c6 = c5 .before in let c16 =
+    c6 .before .before .before .before .before .before .before .before .before .before in
+    let P = c16 .pre .0 .0 in (
       P,
       (
-        table-kept (c15 .args .arena .now) (c6 .loop .arena) (c15 .pre .1 .1 .1 .0) (c6 .loop .inv .1) (c15 .pre .1 .1 .1 .1),
+        table-kept (c16 .args .arena .now) (c6 .loop .arena) (c16 .pre .1 .1 .1 .0) (c6 .loop .inv .1) (c16 .pre .1 .1 .1 .1),
         column-name (c6 .loop .inv .0
-            (c15 .pre .1 .0) P) (c5 .loop-test .taken) (c4 .label .ensures .0) (c2 .l .given .1) (c4 .label .ensures .1) .0,
+            (c16 .pre .1 .0 .0) P) (c5 .loop-test .taken) (c4 .label .ensures .0) (c2 .l .given .1) (c4 .label .ensures .1) .0,
       ),
     )
 
 mul-attach-field : tie.Need-mul-attach-field Inv-loop μ-loop
 mul-attach-field c =
-    let c17 = c .before .before .before .before .before .before .before .before .before .before .before .before .before .before .before .before .before in
-    omega (arith, c17 .pre .1 .1 .1 .0, c17 .good .1 .1 .1 .1 .1 .1 .1 .1 .0 .1)
+    let c18 = c .before .before .before .before .before .before .before .before .before .before .before .before .before .before .before .before .before .before
+    in
+    omega (arith, c18 .pre .1 .1 .1 .0, c18 .good .1 .1 .1 .1 .1 .1 .1 .1 .1 .0 .1)
 
 sub-attach-field : tie.Need-sub-attach-field Inv-loop μ-loop
 sub-attach-field c =
-    let c8 = c .before .before .before .before .before .before .before .before in let c17 =
-    c8 .before .before .before .before .before .before .before .before .before in
-    let a = c8 .loop .inv .2 in let b = c17 .pre .1 .1 .1 .0 in omega arith
+    let c8 = c .before .before .before .before .before .before .before .before in let c18 =
+    c8 .before .before .before .before .before .before .before .before .before .before in
+    let a = c8 .loop .inv .2 in let b = c18 .pre .1 .1 .1 .0 in omega arith
 
 part-attach-field-start : tie.Need-part-attach-field-start Inv-loop μ-loop
 part-attach-field-start c =
-    let c8 = c .before .before .before .before .before .before .before .before in let c17 =
-    c8 .before .before .before .before .before .before .before .before .before in
-    let a = c8 .loop .inv .2 in let b = c17 .pre .1 .1 .1 .0 in omega arith
+    let c8 = c .before .before .before .before .before .before .before .before in let c18 =
+    c8 .before .before .before .before .before .before .before .before .before .before in
+    let a = c8 .loop .inv .2 in let b = c18 .pre .1 .1 .1 .0 in omega arith
 
 part-attach-field-end : tie.Need-part-attach-field-end Inv-loop μ-loop
 part-attach-field-end c = omega arith
 
 attach-field-requires : tie.Need-attach-field-requires Inv-loop μ-loop
 attach-field-requires c κs =
-    let c2 = c .before .before in let c5 = c2 .before .before .before in let c7 = c5 .before .before in let c8 = c7 .before in let c9 = c8 .before in let c18
-    = c9 .before .before .before .before .before .before .before .before .before in
-    let P = c18 .pre .0 .0 in
-    let T = c18 .pre .1 .0 in
+    let c2 = c .before .before in let c5 = c2 .before .before .before in let c7 = c5 .before .before in let c8 = c7 .before in let c9 = c8 .before in let c19
+    = c9 .before .before .before .before .before .before .before .before .before .before in
+    let P = c19 .pre .0 .0 in
+    let T = c19 .pre .1 .0 .0 in
     let W = c9 .loop .inv .0 T P in (
-      ((P .columns, c2 .find-in .ensures P), (column W (c8 .loop-test .taken) (c7 .label .ensures .0) (c5 .l .given .1) .head, c18 .pre .0 .1 .1)),
+      ((P .columns, c2 .find-in .ensures P), (column W (c8 .loop-test .taken) (c7 .label .ensures .0) (c5 .l .given .1) .head, c19 .pre .0 .1 .1)),
       (
-        T,
+        c19 .pre .1 .0,
         (
           column-name W
               (c8 .loop-test .taken) (c7 .label .ensures .0) (c5 .l .given .1) (c7 .label .ensures .1),
           (
-            c18 .pre .1 .1 .0 .0,
-            c18 .pre .1 .1 .0 .1,
+            c19 .pre .1 .1 .0 .0,
+            c19 .pre .1 .1 .0 .1,
             column-room W
                 (c8 .loop-test .taken) (c7 .label .ensures .0) (c5 .l .given .1),
           ),
@@ -131,17 +133,17 @@ failed-column-requires c κs = search needs
 same-length : tie.Need-same-length Inv-loop μ-loop
 same-length c =
     let c7 = c .before .before .before .before .before .before .before in let c17 =
-    c7 .before .before .before .before .before .before .before .before .before .before in let c26 =
-    c17 .before .before .before .before .before .before .before .before .before in
-    c7 .attach-field .kept .1 .1 .1 .1 .1 .0 ∙ c17 .loop .inv .0 (c26 .pre .1 .0) (c26 .pre .0 .0) .kept
+    c7 .before .before .before .before .before .before .before .before .before .before in let c27 =
+    c17 .before .before .before .before .before .before .before .before .before .before in
+    c7 .attach-field .kept .1 .1 .1 .1 .1 .1 .0 ∙ c17 .loop .inv .0 (c27 .pre .1 .0 .0) (c27 .pre .0 .0) .kept
 
 same-length-2 : tie.Need-same-length-2 Inv-loop μ-loop
 same-length-2 c =
     let c7 = c .before .before .before .before .before .before .before in let c17 =
-    c7 .before .before .before .before .before .before .before .before .before .before in let c26 =
-    c17 .before .before .before .before .before .before .before .before .before in
-    same-len-mid (c26 .args .used) (length (c17 .loop .arena) - c26 .args .used) (c17 .loop .arena) (c7 .attach-field .last .1 .1 .1 .1 .1 .1 .1 .0)
-    (c7 .attach-field .kept .1 .1 .1 .1 .1 .1 .1 .0) ∙ c17 .loop .inv .2
+    c7 .before .before .before .before .before .before .before .before .before .before in let c27 =
+    c17 .before .before .before .before .before .before .before .before .before .before in
+    same-len-mid (c27 .args .used) (length (c17 .loop .arena) - c27 .args .used) (c17 .loop .arena) (c7 .attach-field .last .1 .1 .1 .1 .1 .1 .1 .1 .0)
+    (c7 .attach-field .kept .1 .1 .1 .1 .1 .1 .1 .1 .0) ∙ c17 .loop .inv .2
 
 returns : tie.Need-returns Inv-loop μ-loop
 returns c =
@@ -158,8 +160,8 @@ returns c =
 skip-type-requires : tie.Need-skip-type-requires Inv-loop μ-loop
 skip-type-requires c κs =
     let c12 = c .before .before .before .before .before .before .before .before .before .before .before .before in let c14 = c12 .before .before in let c15 =
-    c14 .before in let c16 = c15 .before in let c25 = c16 .before .before .before .before .before .before .before .before .before in
-    let W = c16 .loop .inv .0 (c25 .pre .1 .0) (c25 .pre .0 .0) in
+    c14 .before in let c16 = c15 .before in let c26 = c16 .before .before .before .before .before .before .before .before .before .before in
+    let W = c16 .loop .inv .0 (c26 .pre .1 .0 .0) (c26 .pre .0 .0) in
     column W (c15 .loop-test .taken) (c14 .label .ensures .0) (c12 .l .given .1) .head
 
 len-of-requires : tie.Need-len-of-requires Inv-loop μ-loop
@@ -169,9 +171,9 @@ add-to : tie.Need-add-to Inv-loop μ-loop
 add-to c =
     let c2 = c .before .before in let c3 = c2 .before in let c8 = c3 .before .before .before .before .before in let c11 = c8 .before .before .before in let
     c14 = c11 .before .before .before in let c16 = c14 .before .before in let c17 = c16 .before in let c18 = c17 .before in let c20 = c18 .before .before
-    in let c27 = c20 .before .before .before .before .before .before .before in
-    let T = c27 .pre .1 .0 in
-    let P = c27 .pre .0 .0 in
+    in let c28 = c20 .before .before .before .before .before .before .before .before in
+    let T = c28 .pre .1 .0 .0 in
+    let P = c28 .pre .0 .0 in
     let W = c18 .loop .inv .0 T P in
     let A = column-made W (c17 .loop-test .taken) (c16 .label .ensures .0) (c14 .l .given .1) _ _ (c20 .inserts .ensures) (c8 .attach-field .ensures _ T
     (P .columns) (column W (c17 .loop-test .taken) (c16 .label .ensures .0) (c14 .l .given .1) .head) (c11 .find-in .ensures P) (column-after W
@@ -180,7 +182,7 @@ add-to c =
       arith,
       column-fits W (c17 .loop-test .taken) (c16 .label .ensures .0) (c14 .l .given .1) A (c3 .is-refused .ensures) (c2 .if1 .left)
           (c .len-of .ensures),
-      c27 .pre .1 .1 .0,
+      c28 .pre .1 .1 .0,
     )
 
 enum-known-x : tie.Need-enum-known-x Inv-loop μ-loop
@@ -188,8 +190,8 @@ enum-known-x c = search needs
 
 same-length-3 : tie.Need-same-length-3 Inv-loop μ-loop
 same-length-3 c =
-    let c5 = c .before .before .before .before .before in let c14 = c5 .before .before .before .before .before .before .before .before .before in
-    c5 .loop .inv .0 (c14 .pre .1 .0) (c14 .pre .0 .0) .kept
+    let c5 = c .before .before .before .before .before in let c15 = c5 .before .before .before .before .before .before .before .before .before .before in
+    c5 .loop .inv .0 (c15 .pre .1 .0 .0) (c15 .pre .0 .0) .kept
 
 same-length-4 : tie.Need-same-length-4 Inv-loop μ-loop
 same-length-4 c = c .before .before .before .before .before .loop .inv .2
@@ -202,8 +204,8 @@ returns-2 c =
 add-i : tie.Need-add-i Inv-loop μ-loop
 add-i c =
     let c17 = c .before .before .before .before .before .before .before .before .before .before .before .before .before .before .before .before .before in
-    let c27 = c17 .before .before .before .before .before .before .before .before .before .before in
-    omega (arith, c27 .good .1 .1 .1 .1 .1 .0, c17 .loop-test .taken)
+    let c28 = c17 .before .before .before .before .before .before .before .before .before .before .before in
+    omega (arith, c28 .good .1 .1 .1 .1 .1 .1 .0, c17 .loop-test .taken)
 
 loop-less : tie.Need-loop-less Inv-loop μ-loop
 loop-less c = omega arith
@@ -212,29 +214,29 @@ loop-again : tie.Need-loop-again Inv-loop μ-loop
 loop-again c =
     let c1 = c .before in let c2 = c1 .before in let c3 = c2 .before in let c8 = c3 .before .before .before .before .before in let c11 =
     c8 .before .before .before in let c14 = c11 .before .before .before in let c16 = c14 .before .before in let c17 = c16 .before in let c18 =
-    c17 .before in let c20 = c18 .before .before in let c27 = c20 .before .before .before .before .before .before .before in (
+    c17 .before in let c20 = c18 .before .before in let c28 = c20 .before .before .before .before .before .before .before .before in (
       λ T P.
           let W = c18 .loop .inv .0 T P in
           let A = column-made W (c17 .loop-test .taken) (c16 .label .ensures .0) (c14 .l .given .1) _ _ (c20 .inserts .ensures) (c8 .attach-field .ensures _ T
           (P .columns) (column W (c17 .loop-test .taken) (c16 .label .ensures .0) (c14 .l .given .1) .head) (c11 .find-in .ensures P) (column-after W
           (c17 .loop-test .taken) (c16 .label .ensures .0) (c14 .l .given .1))) in
           building-more W (c17 .loop-test .taken) (c16 .label .ensures .0) (c14 .l .given .1) A (c3 .is-refused .ensures) (c2 .if1 .left)
-          (c1 .skip-type .ensures) (c .len-of .ensures) (c8 .attach-field .kept .1 .1 .1 .1 .1 .0),
-      take-put (c27 .args .used) (length (c18 .loop .arena) - c27 .args .used) (c18 .loop .arena) (c8 .attach-field .last .1 .1 .1 .1 .1 .1 .1 .0) (let a =
-          c18 .loop .inv .2 in let b = c27 .pre .1 .1 .1 .0 in omega arith) ∙ c18 .loop .inv .1,
-      same-len-mid (c27 .args .used) (length (c18 .loop .arena) - c27 .args .used) (c18 .loop .arena) (c8 .attach-field .last .1 .1 .1 .1 .1 .1 .1 .0)
-          (c8 .attach-field .kept .1 .1 .1 .1 .1 .1 .1 .0) ∙ c18 .loop .inv .2,
+          (c1 .skip-type .ensures) (c .len-of .ensures) (c8 .attach-field .kept .1 .1 .1 .1 .1 .1 .0),
+      take-put (c28 .args .used) (length (c18 .loop .arena) - c28 .args .used) (c18 .loop .arena) (c8 .attach-field .last .1 .1 .1 .1 .1 .1 .1 .1 .0) (let a =
+          c18 .loop .inv .2 in let b = c28 .pre .1 .1 .1 .0 in omega arith) ∙ c18 .loop .inv .1,
+      same-len-mid (c28 .args .used) (length (c18 .loop .arena) - c28 .args .used) (c18 .loop .arena) (c8 .attach-field .last .1 .1 .1 .1 .1 .1 .1 .1 .0)
+          (c8 .attach-field .kept .1 .1 .1 .1 .1 .1 .1 .1 .0) ∙ c18 .loop .inv .2,
     )
 
-sub-t44 : tie.Need-sub-t44 Inv-loop μ-loop
-sub-t44 c =
-    let c1 = c .before in let c10 = c1 .before .before .before .before .before .before .before .before .before in
-    omega (arith, c1 .loop .inv .0 (c10 .pre .1 .0) (c10 .pre .0 .0) .over)
+sub-t45 : tie.Need-sub-t45 Inv-loop μ-loop
+sub-t45 c =
+    let c1 = c .before in let c11 = c1 .before .before .before .before .before .before .before .before .before .before in
+    omega (arith, c1 .loop .inv .0 (c11 .pre .1 .0 .0) (c11 .pre .0 .0) .over)
 
 same-length-5 : tie.Need-same-length-5 Inv-loop μ-loop
 same-length-5 c =
-    let c1 = c .before in let c10 = c1 .before .before .before .before .before .before .before .before .before in
-    c1 .loop .inv .0 (c10 .pre .1 .0) (c10 .pre .0 .0) .kept
+    let c1 = c .before in let c11 = c1 .before .before .before .before .before .before .before .before .before .before in
+    c1 .loop .inv .0 (c11 .pre .1 .0 .0) (c11 .pre .0 .0) .kept
 
 same-length-6 : tie.Need-same-length-6 Inv-loop μ-loop
 same-length-6 c = c .before .loop .inv .2
@@ -275,7 +277,7 @@ build-each-spec =
     add-i
     loop-less
     loop-again
-    sub-t44
+    sub-t45
     same-length-5
     same-length-6
     returns-3)

@@ -9,8 +9,8 @@ build-in-arena-spec =
     (tie.spec
     (λ c κs. search needs)
     (λ c κs.
-    let c4 = c .before .before .before .before in let c12 = c4 .before .before .before .before .before .before .before .before in
-    let w = c12 .pre in
+    let c4 = c .before .before .before .before in let c13 = c4 .before .before .before .before .before .before .before .before .before in
+    let w = c13 .pre in
     (w .0, (w .1 .0, (w .1 .1, (c4 .fill-in .ensures .0, c4 .fill-in .ensures .1)))))
     (λ c. search needs)
     (λ c. search needs)

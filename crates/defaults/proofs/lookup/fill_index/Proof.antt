@@ -15,16 +15,16 @@ use Rattle.defaults.proofs.lookup.fill_index.Lts as lts
 use Rattle.defaults.proofs.read.read_entries.Reads as read-entries-reads
 
 returns : tie.Need-returns
-returns c = (omega arith, λ h. absurd (omega arith))
+returns c = (omega arith, λ h n. absurd (omega arith))
 
 returns-2 : tie.Need-returns-2
-returns-2 c = (omega arith, λ h. absurd (omega arith))
+returns-2 c = (omega arith, λ h n. absurd (omega arith))
 
 add-if3 : tie.Need-add-if3
 add-if3 c = search needs
 
 returns-3 : tie.Need-returns-3
-returns-3 c = (omega arith, λ h. absurd (omega arith))
+returns-3 c = (omega arith, λ h n. absurd (omega arith))
 
 read-entries-requires : tie.Need-read-entries-requires
 read-entries-requires c κs = search needs
@@ -39,13 +39,13 @@ same-length : tie.Need-same-length
 same-length c = search needs
 
 returns-4 : tie.Need-returns-4
-returns-4 c = let l = c .before .before .before .before .read-entries .last .1 .1 .1 .1 .0 in let k = c .before .before .before .before .read-entries .kept .1 .1 .1 .1 .0 in let a = c .before .before .before .before .before .before .before .before .before .before .before .before .before .before .args in (omega arith, λ h. subst (λ (t : List ℕ). Indexed (a .defaults .version) (now (a .s)) (a .defaults .count) (a .defaults .entries .at) t) (sym (take-all (length (a .room .now)) l (omega arith))) (c .before .before .before .before .read-entries .ensures .1 _ (c .enum-told .given .1)))
+returns-4 c = let l = c .before .before .before .before .read-entries .last .1 .1 .1 .1 .0 in let k = c .before .before .before .before .read-entries .kept .1 .1 .1 .1 .0 in let a = c .before .before .before .before .before .before .before .before .before .before .before .before .before .before .args in (omega arith, λ h n. subst (λ (t : List ℕ). Indexed (a .defaults .version) (now (a .s)) (a .defaults .count) (a .defaults .entries .at) t) (sym (take-all (length (a .room .now)) l (omega arith))) (c .before .before .before .before .read-entries .ensures .1 _ (c .enum-told .given .1)))
 
 same-length-2 : tie.Need-same-length-2
 same-length-2 c = search needs
 
 returns-5 : tie.Need-returns-5
-returns-5 c = (omega arith, λ h. absurd (omega arith))
+returns-5 c = (omega arith, λ h n. absurd (omega arith))
 
 pub fill-index-spec : {M : Type 1} → statement M
 fill-index-spec =

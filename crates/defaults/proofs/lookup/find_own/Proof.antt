@@ -1,5 +1,6 @@
 -- `defaults::lookup::find_own` meets its contract. Assumes nothing.
 use native.Mathlib.Omega.{arith}
+use Rattle.defaults.specs.Scan.{seek}
 use Rattle.defaults.proofs.Indexing.{own-found}
 use borrow.Author.Needs.{needs}
 use Rattle.defaults.proofs.lookup.find_own.Statement.{statement}
@@ -16,16 +17,30 @@ find-entry-requires c κs = search needs
 returns : tie.Need-returns
 returns c = search needs
 
+returns-2 : tie.Need-returns-2
+unfolding seek
+returns-2 c = rw (c .if2 .taken)
+
 owner-in-requires : tie.Need-owner-in-requires
 owner-in-requires c κs = search needs
 
 find-indexed-requires : tie.Need-find-indexed-requires
-find-indexed-requires c κs = c .before .before .before .before .pre (let a = c .before .if1 .left in omega arith) .inside
+find-indexed-requires c κs =
+    let a = c .before .before .before .if1 .left in let b = c .before .if2 .left in
+    c .before .before .before .before .before .before .pre (omega arith) (omega arith) .inside
 
-returns-2 : tie.Need-returns-2
-returns-2 c = let a = c .before .before .before .before .before .args in own-found (c .before .before .before .before .before .pre (let b = c .before .before .if1 .left in omega arith)) (a .defaults .owner) (a .id) (a .kind) (c .before .owner-in .ensures) (c .find-indexed .ensures)
+returns-3 : tie.Need-returns-3
+returns-3 c =
+    let a = c .before .before .before .before .if1 .left in let b = c .before .before .if2 .left in let d = c .before .before .before .before .before .before .before .args in
+    own-found (c .before .before .before .before .before .before .before .pre (omega arith) (omega arith)) (d .defaults .owner) (d .id) (d .kind) (c .before .owner-in .ensures) (c .find-indexed .ensures)
 
 pub find-own-spec : {M : Type 1} → statement M
 find-own-spec =
     tie.close
-    (tie.spec find-entry-requires returns owner-in-requires find-indexed-requires returns-2)
+    (tie.spec
+    find-entry-requires
+    returns
+    returns-2
+    owner-in-requires
+    find-indexed-requires
+    returns-3)

@@ -90,147 +90,147 @@ use Rattle.matcher.proofs.attach.+attach_element+attach_field+attach_fi
   close,
 }
 
-abbrev μ-attach-element : Measures 5 attach-element-kinds.ps ℕ
-μ-attach-element κs a = 7 * (a .1 .1 .1 .1 .1 .0 .depth) + 4
+abbrev μ-attach-element : Measures 6 attach-element-kinds.ps ℕ
+μ-attach-element κs a = 7 * (a .1 .1 .1 .1 .1 .1 .0 .depth) + 4
 
-abbrev μ-attach-field : Measures 5 attach-field-kinds.ps ℕ
-μ-attach-field κs a = 7 * (a .1 .1 .1 .1 .0 .depth) + 4
+abbrev μ-attach-field : Measures 6 attach-field-kinds.ps ℕ
+μ-attach-field κs a = 7 * (a .1 .1 .1 .1 .1 .0 .depth) + 4
 
-abbrev μ-attach-fields : Measures 5 attach-fields-kinds.ps ℕ
-μ-attach-fields κs a = 7 * (a .1 .1 .1 .1 .1 .0 .depth) + 5
+abbrev μ-attach-fields : Measures 6 attach-fields-kinds.ps ℕ
+μ-attach-fields κs a = 7 * (a .1 .1 .1 .1 .1 .1 .0 .depth) + 5
 
-abbrev μ-attach-inner : Measures 5 attach-inner-kinds.ps ℕ
-μ-attach-inner κs a = 7 * (a .1 .1 .1 .1 .0 .depth)
+abbrev μ-attach-inner : Measures 6 attach-inner-kinds.ps ℕ
+μ-attach-inner κs a = 7 * (a .1 .1 .1 .1 .1 .0 .depth)
 
-abbrev μ-attach-nested : Measures 5 attach-nested-kinds.ps ℕ
-μ-attach-nested κs a = 7 * (a .1 .1 .1 .1 .0 .depth) + 1
+abbrev μ-attach-nested : Measures 6 attach-nested-kinds.ps ℕ
+μ-attach-nested κs a = 7 * (a .1 .1 .1 .1 .1 .0 .depth) + 1
 
-abbrev μ-attach-renamed : Measures 5 attach-renamed-kinds.ps ℕ
-μ-attach-renamed κs a = 7 * (a .1 .1 .1 .1 .0 .depth) + 3
+abbrev μ-attach-renamed : Measures 6 attach-renamed-kinds.ps ℕ
+μ-attach-renamed κs a = 7 * (a .1 .1 .1 .1 .1 .0 .depth) + 3
 
-abbrev μ-attach-row : Measures 5 attach-row-kinds.ps ℕ
-μ-attach-row κs a = 7 * (a .1 .1 .1 .1 .0 .depth) + 6
+abbrev μ-attach-row : Measures 6 attach-row-kinds.ps ℕ
+μ-attach-row κs a = 7 * (a .1 .1 .1 .1 .1 .0 .depth) + 6
 
-abbrev μ-attach-struct : Measures 5 attach-struct-kinds.ps ℕ
-μ-attach-struct κs a = 7 * (a .1 .1 .1 .1 .0 .depth)
+abbrev μ-attach-struct : Measures 6 attach-struct-kinds.ps ℕ
+μ-attach-struct κs a = 7 * (a .1 .1 .1 .1 .1 .0 .depth)
 
-abbrev μ-attach-transforms : Measures 5 attach-transforms-kinds.ps ℕ
-μ-attach-transforms κs a = 7 * (a .1 .1 .1 .1 .0 .depth) + 2
+abbrev μ-attach-transforms : Measures 6 attach-transforms-kinds.ps ℕ
+μ-attach-transforms κs a = 7 * (a .1 .1 .1 .1 .1 .0 .depth) + 2
 
-abbrev attach-element-at : ℕ → In 5 attach-element-kinds.ps
+abbrev attach-element-at : ℕ → In 6 attach-element-kinds.ps
 attach-element-at t =
     and
-    5
+    6
     attach-element-kinds.ps
-    (is 5 attach-element-kinds.ps μ-attach-element t)
+    (is 6 attach-element-kinds.ps μ-attach-element t)
     attach-element.Pre
 
-abbrev attach-element-below : ℕ → In 5 attach-element-kinds.ps
+abbrev attach-element-below : ℕ → In 6 attach-element-kinds.ps
 attach-element-below t =
     and
-    5
+    6
     attach-element-kinds.ps
-    (falls 5 attach-element-kinds.ps _<_ μ-attach-element t)
+    (falls 6 attach-element-kinds.ps _<_ μ-attach-element t)
     attach-element.Pre
 
-abbrev attach-field-at : ℕ → In 5 attach-field-kinds.ps
+abbrev attach-field-at : ℕ → In 6 attach-field-kinds.ps
 attach-field-at t =
-    and 5 attach-field-kinds.ps (is 5 attach-field-kinds.ps μ-attach-field t) attach-field.Pre
+    and 6 attach-field-kinds.ps (is 6 attach-field-kinds.ps μ-attach-field t) attach-field.Pre
 
-abbrev attach-field-below : ℕ → In 5 attach-field-kinds.ps
+abbrev attach-field-below : ℕ → In 6 attach-field-kinds.ps
 attach-field-below t =
     and
-    5
+    6
     attach-field-kinds.ps
-    (falls 5 attach-field-kinds.ps _<_ μ-attach-field t)
+    (falls 6 attach-field-kinds.ps _<_ μ-attach-field t)
     attach-field.Pre
 
-abbrev attach-fields-at : ℕ → In 5 attach-fields-kinds.ps
+abbrev attach-fields-at : ℕ → In 6 attach-fields-kinds.ps
 attach-fields-at t =
-    and 5 attach-fields-kinds.ps (is 5 attach-fields-kinds.ps μ-attach-fields t) attach-fields.Pre
+    and 6 attach-fields-kinds.ps (is 6 attach-fields-kinds.ps μ-attach-fields t) attach-fields.Pre
 
-abbrev attach-fields-below : ℕ → In 5 attach-fields-kinds.ps
+abbrev attach-fields-below : ℕ → In 6 attach-fields-kinds.ps
 attach-fields-below t =
     and
-    5
+    6
     attach-fields-kinds.ps
-    (falls 5 attach-fields-kinds.ps _<_ μ-attach-fields t)
+    (falls 6 attach-fields-kinds.ps _<_ μ-attach-fields t)
     attach-fields.Pre
 
-abbrev attach-inner-at : ℕ → In 5 attach-inner-kinds.ps
+abbrev attach-inner-at : ℕ → In 6 attach-inner-kinds.ps
 attach-inner-at t =
-    and 5 attach-inner-kinds.ps (is 5 attach-inner-kinds.ps μ-attach-inner t) attach-inner.Pre
+    and 6 attach-inner-kinds.ps (is 6 attach-inner-kinds.ps μ-attach-inner t) attach-inner.Pre
 
-abbrev attach-inner-below : ℕ → In 5 attach-inner-kinds.ps
+abbrev attach-inner-below : ℕ → In 6 attach-inner-kinds.ps
 attach-inner-below t =
     and
-    5
+    6
     attach-inner-kinds.ps
-    (falls 5 attach-inner-kinds.ps _<_ μ-attach-inner t)
+    (falls 6 attach-inner-kinds.ps _<_ μ-attach-inner t)
     attach-inner.Pre
 
-abbrev attach-nested-at : ℕ → In 5 attach-nested-kinds.ps
+abbrev attach-nested-at : ℕ → In 6 attach-nested-kinds.ps
 attach-nested-at t =
-    and 5 attach-nested-kinds.ps (is 5 attach-nested-kinds.ps μ-attach-nested t) attach-nested.Pre
+    and 6 attach-nested-kinds.ps (is 6 attach-nested-kinds.ps μ-attach-nested t) attach-nested.Pre
 
-abbrev attach-nested-below : ℕ → In 5 attach-nested-kinds.ps
+abbrev attach-nested-below : ℕ → In 6 attach-nested-kinds.ps
 attach-nested-below t =
     and
-    5
+    6
     attach-nested-kinds.ps
-    (falls 5 attach-nested-kinds.ps _<_ μ-attach-nested t)
+    (falls 6 attach-nested-kinds.ps _<_ μ-attach-nested t)
     attach-nested.Pre
 
-abbrev attach-renamed-at : ℕ → In 5 attach-renamed-kinds.ps
+abbrev attach-renamed-at : ℕ → In 6 attach-renamed-kinds.ps
 attach-renamed-at t =
     and
-    5
+    6
     attach-renamed-kinds.ps
-    (is 5 attach-renamed-kinds.ps μ-attach-renamed t)
+    (is 6 attach-renamed-kinds.ps μ-attach-renamed t)
     attach-renamed.Pre
 
-abbrev attach-renamed-below : ℕ → In 5 attach-renamed-kinds.ps
+abbrev attach-renamed-below : ℕ → In 6 attach-renamed-kinds.ps
 attach-renamed-below t =
     and
-    5
+    6
     attach-renamed-kinds.ps
-    (falls 5 attach-renamed-kinds.ps _<_ μ-attach-renamed t)
+    (falls 6 attach-renamed-kinds.ps _<_ μ-attach-renamed t)
     attach-renamed.Pre
 
-abbrev attach-row-at : ℕ → In 5 attach-row-kinds.ps
+abbrev attach-row-at : ℕ → In 6 attach-row-kinds.ps
 attach-row-at t =
-    and 5 attach-row-kinds.ps (is 5 attach-row-kinds.ps μ-attach-row t) attach-row.Pre
+    and 6 attach-row-kinds.ps (is 6 attach-row-kinds.ps μ-attach-row t) attach-row.Pre
 
-abbrev attach-row-below : ℕ → In 5 attach-row-kinds.ps
+abbrev attach-row-below : ℕ → In 6 attach-row-kinds.ps
 attach-row-below t =
-    and 5 attach-row-kinds.ps (falls 5 attach-row-kinds.ps _<_ μ-attach-row t) attach-row.Pre
+    and 6 attach-row-kinds.ps (falls 6 attach-row-kinds.ps _<_ μ-attach-row t) attach-row.Pre
 
-abbrev attach-struct-at : ℕ → In 5 attach-struct-kinds.ps
+abbrev attach-struct-at : ℕ → In 6 attach-struct-kinds.ps
 attach-struct-at t =
-    and 5 attach-struct-kinds.ps (is 5 attach-struct-kinds.ps μ-attach-struct t) attach-struct.Pre
+    and 6 attach-struct-kinds.ps (is 6 attach-struct-kinds.ps μ-attach-struct t) attach-struct.Pre
 
-abbrev attach-struct-below : ℕ → In 5 attach-struct-kinds.ps
+abbrev attach-struct-below : ℕ → In 6 attach-struct-kinds.ps
 attach-struct-below t =
     and
-    5
+    6
     attach-struct-kinds.ps
-    (falls 5 attach-struct-kinds.ps _<_ μ-attach-struct t)
+    (falls 6 attach-struct-kinds.ps _<_ μ-attach-struct t)
     attach-struct.Pre
 
-abbrev attach-transforms-at : ℕ → In 5 attach-transforms-kinds.ps
+abbrev attach-transforms-at : ℕ → In 6 attach-transforms-kinds.ps
 attach-transforms-at t =
     and
-    5
+    6
     attach-transforms-kinds.ps
-    (is 5 attach-transforms-kinds.ps μ-attach-transforms t)
+    (is 6 attach-transforms-kinds.ps μ-attach-transforms t)
     attach-transforms.Pre
 
-abbrev attach-transforms-below : ℕ → In 5 attach-transforms-kinds.ps
+abbrev attach-transforms-below : ℕ → In 6 attach-transforms-kinds.ps
 attach-transforms-below t =
     and
-    5
+    6
     attach-transforms-kinds.ps
-    (falls 5 attach-transforms-kinds.ps _<_ μ-attach-transforms t)
+    (falls 6 attach-transforms-kinds.ps _<_ μ-attach-transforms t)
     attach-transforms.Pre
 
 abbrev attach-element-claims : ℕ → attach-element-lts.Claims
@@ -361,29 +361,30 @@ attach-element-same-element-requires t c κs = search needs
 
 attach-element-returns : (t : ℕ) → attach-element-lts.Need-returns (attach-element-claims t) (attach-element-at t) attach-element.Post
 attach-element-returns t c =
-    let c1 = c .before in let c9 = c1 .before .before .before .before .before .before .before .before in
+    let c1 = c .before in let c10 = c1 .before .before .before .before .before .before .before .before .before in
     λ from f g M P Q lt nm.
-    let a = c9 .args in
+    let a = c10 .args in
     makes-refused _ _ _ _ _ (element-unlike (a .build .matching) (a .build .policy) f (labelAt (now (a .target)) (a .pair .target .label)) (Q .tree) (labelAt
     (now (a .incoming)) (a .pair .incoming .label)) (P .tree) (c1 .same-element .ensures (labelAt (now (a .incoming)) (a .pair .incoming .label))
     (labelAt (now (a .target)) (a .pair .target .label)) refl refl) (c .if1 .taken))
 
 attach-element-put-head-requires : (t : ℕ) → attach-element-lts.Need-put-head-requires (attach-element-claims t) (attach-element-at t) attach-element.Post
 attach-element-put-head-requires t c κs =
-    let c11 = c .before .before .before .before .before .before .before .before .before .before .before in
-    omega (arith, extent (c11 .pre .1 .0 .1 .0), c11 .pre .1 .1 .1)
+    let c12 = c .before .before .before .before .before .before .before .before .before .before .before .before in
+    omega (arith, extent (c12 .pre .1 .0 .1 .0), c12 .pre .1 .1 .1)
 
-attach-element-add-t25 : (t : ℕ) → attach-element-lts.Need-add-t25 (attach-element-claims t) (attach-element-at t) attach-element.Post
-attach-element-add-t25 t c =
-    let c15 = c .before .before .before .before .before .before .before .before .before .before .before .before .before .before .before in
-    omega (arith, extent (c15 .pre .1 .0 .1 .0), c15 .pre .1 .1 .1)
+attach-element-add-t26 : (t : ℕ) → attach-element-lts.Need-add-t26 (attach-element-claims t) (attach-element-at t) attach-element.Post
+attach-element-add-t26 t c =
+    let c16 = c .before .before .before .before .before .before .before .before .before .before .before .before .before .before .before .before in
+    omega (arith, extent (c16 .pre .1 .0 .1 .0), c16 .pre .1 .1 .1)
 
 attach-element-attach-renamed-requires : (t : ℕ) → attach-element-lts.Need-attach-renamed-requires (attach-element-claims t) (attach-element-at t)
     attach-element.Post
 attach-element-attach-renamed-requires t c κs =
-    let c17 = c .before .before .before .before .before .before .before .before .before .before .before .before .before .before .before .before .before in
-    let w = c17 .pre .1 in
-    (omega (arith, c17 .pre .0), (w .0, (none-at (now (c17 .args .table)), (w .1 .0, w .1 .1))))
+    let c18 = c .before .before .before .before .before .before .before .before .before .before .before .before .before .before .before .before .before .before
+    in
+    let w = c18 .pre .1 in
+    (omega (arith, c18 .pre .0), (w .0, ((none-at (now (c18 .args .table)), λ l n. absurd (omega (arith, n))), (w .1 .0, w .1 .1))))
 
 attach-element-is-refused-requires : (t : ℕ) → attach-element-lts.Need-is-refused-requires (attach-element-claims t) (attach-element-at t) attach-element.Post
 attach-element-is-refused-requires t c κs = search needs
@@ -397,9 +398,9 @@ attach-element-same-length-2 t c = search needs
 attach-element-returns-2 : (t : ℕ) → attach-element-lts.Need-returns-2 (attach-element-claims t) (attach-element-at t) attach-element.Post
 attach-element-returns-2 t c =
     let c1 = c .before in let c6 = c1 .before .before .before .before .before in let c12 = c6 .before .before .before .before .before .before in let c15 =
-    c12 .before .before .before in let c16 = c15 .before in let c24 = c16 .before .before .before .before .before .before .before .before in
+    c12 .before .before .before in let c16 = c15 .before in let c25 = c16 .before .before .before .before .before .before .before .before .before in
     λ from f g M P Q lt nm.
-    let a = c24 .args in
+    let a = c25 .args in
     element-stopped (a .build .matching) (a .build .policy) f g (labelAt (now (a .target)) (a .pair .target .label)) (Q .tree) (labelAt (now (a .incoming))
     (a .pair .incoming .label)) (P .tree) M (c16 .same-element .ensures (labelAt (now (a .incoming)) (a .pair .incoming .label)) (labelAt (now
     (a .target)) (a .pair .target .label)) refl refl) (c15 .if1 .left) _ _ from _ (c12 .put-head .ensures) (none-is (now (a .table)) 0) _
@@ -411,9 +412,9 @@ attach-element-is-bare-requires t c κs = search needs
 attach-element-put-position-requires : (t : ℕ) → attach-element-lts.Need-put-position-requires (attach-element-claims t) (attach-element-at t)
     attach-element.Post
 attach-element-put-position-requires t c κs =
-    let c27 = c .before .before .before .before .before .before .before .before .before .before .before .before .before .before .before .before .before
-    .before .before .before .before .before .before .before .before .before .before in
-    omega (arith, extent (c27 .pre .1 .0 .1 .0), c27 .pre .1 .1 .1)
+    let c28 = c .before .before .before .before .before .before .before .before .before .before .before .before .before .before .before .before .before
+    .before .before .before .before .before .before .before .before .before .before .before in
+    omega (arith, extent (c28 .pre .1 .0 .1 .0), c28 .pre .1 .1 .1)
 
 attach-element-same-length-3 : (t : ℕ) → attach-element-lts.Need-same-length-3 (attach-element-claims t) (attach-element-at t) attach-element.Post
 attach-element-same-length-3 t c = search needs
@@ -425,27 +426,28 @@ attach-element-returns-3 : (t : ℕ) → attach-element-lts.Need-returns-3 (atta
 attach-element-returns-3 t c =
     let c2 = c .before .before in let c4 = c2 .before .before in let c5 = c4 .before in let c6 = c5 .before in let c7 = c6 .before in let c12 =
     c7 .before .before .before .before .before in let c18 = c12 .before .before .before .before .before .before in let c21 = c18 .before .before .before
-    in let c22 = c21 .before in let c30 = c22 .before .before .before .before .before .before .before .before in
+    in let c22 = c21 .before in let c31 = c22 .before .before .before .before .before .before .before .before .before in
     λ from f g M P Q lt nm.
-    let a = c30 .args in
+    let a = c31 .args in
     element-left-out (a .build .matching) (a .build .policy) f g (labelAt (now (a .target)) (a .pair .target .label)) (Q .tree) (labelAt (now (a .incoming))
     (a .pair .incoming .label)) (P .tree) M (c22 .same-element .ensures (labelAt (now (a .incoming)) (a .pair .incoming .label)) (labelAt (now
     (a .target)) (a .pair .target .label)) refl refl) (c21 .if1 .left) _ _ from _ (c18 .put-head .ensures) (none-is (now (a .table)) 0) _
     (c12 .attach-renamed .ensures (from + 1) (none-at (now (a .table))) P Q (omega (arith, lt)) nm) (sym (c7 .is-refused .ensures) ∙ c6 .if2 .left) (sym
-    (c5 .is-bare .ensures) ∙ c4 .if3 .taken) (c12 .attach-renamed .kept .1 .1 .1 .1 .1 .0 ∙ c18 .put-head .kept .0) (c2 .put-position .ensures) (omega
+    (c5 .is-bare .ensures) ∙ c4 .if3 .taken) (c12 .attach-renamed .kept .1 .1 .1 .1 .1 .1 .0 ∙ c18 .put-head .kept .0) (c2 .put-position .ensures) (omega
     (arith, lt, extent Q))
 
 attach-element-len-of-requires : (t : ℕ) → attach-element-lts.Need-len-of-requires (attach-element-claims t) (attach-element-at t) attach-element.Post
 attach-element-len-of-requires t c κs = search needs
 
-attach-element-add-t35 : (t : ℕ) → attach-element-lts.Need-add-t35 (attach-element-claims t) (attach-element-at t) attach-element.Post
-attach-element-add-t35 t c =
-    let c3 = c .before .before .before in let c4 = c3 .before in let c9 = c4 .before .before .before .before .before in let c27 =
-    c9 .before .before .before .before .before .before .before .before .before .before .before .before .before .before .before .before .before .before in
-    let w = c27 .pre .1 in
+attach-element-add-t36 : (t : ℕ) → attach-element-lts.Need-add-t36 (attach-element-claims t) (attach-element-at t) attach-element.Post
+attach-element-add-t36 t c =
+    let c3 = c .before .before .before in let c4 = c3 .before in let c9 = c4 .before .before .before .before .before in let c28 =
+    c9 .before .before .before .before .before .before .before .before .before .before .before .before .before .before .before .before .before .before .before
+    in
+    let w = c28 .pre .1 in
     omega (
       arith,
-      makes-room _ (c9 .attach-renamed .ensures 0 (none-at (now (c27 .args .table))) (w .0 .0) (w .0 .1 .0) (omega (arith, w .1 .1)) (λ n. omega
+      makes-room _ (c9 .attach-renamed .ensures 0 (none-at (now (c28 .args .table))) (w .0 .0) (w .0 .1 .0) (omega (arith, w .1 .1)) (λ n. omega
           (arith, w .1 .1))) (sym (c4 .is-refused .ensures) ∙ c3 .if2 .left),
       c .len-of .ensures,
       extent (w .0 .1 .0),
@@ -461,10 +463,10 @@ attach-element-same-length-6 t c = search needs
 attach-element-returns-4 : (t : ℕ) → attach-element-lts.Need-returns-4 (attach-element-claims t) (attach-element-at t) attach-element.Post
 attach-element-returns-4 t c =
     let c1 = c .before in let c2 = c1 .before in let c3 = c2 .before in let c4 = c3 .before in let c9 = c4 .before .before .before .before .before in let c15
-    = c9 .before .before .before .before .before .before in let c18 = c15 .before .before .before in let c19 = c18 .before in let c27 =
-    c19 .before .before .before .before .before .before .before .before in
+    = c9 .before .before .before .before .before .before in let c18 = c15 .before .before .before in let c19 = c18 .before in let c28 =
+    c19 .before .before .before .before .before .before .before .before .before in
     λ from f g M P Q lt nm.
-    let a = c27 .args in
+    let a = c28 .args in
     element-kept (a .build .matching) (a .build .policy) f g (labelAt (now (a .target)) (a .pair .target .label)) (Q .tree) (labelAt (now (a .incoming))
     (a .pair .incoming .label)) (P .tree) M (c19 .same-element .ensures (labelAt (now (a .incoming)) (a .pair .incoming .label)) (labelAt (now
     (a .target)) (a .pair .target .label)) refl refl) (c18 .if1 .left) _ _ from _ (c15 .put-head .ensures) (none-is (now (a .table)) 0) _
@@ -476,21 +478,21 @@ attach-field-enum-known-found t c = search needs
 
 attach-field-attach-renamed-requires : (t : ℕ) → attach-field-lts.Need-attach-renamed-requires (attach-field-claims t) (attach-field-at t) attach-field.Post
 attach-field-attach-renamed-requires t c κs =
-    let c3 = c .before .before .before in let c12 = c3 .before .before .before .before .before .before .before .before .before in
-    let a = c12 .args in
-    let w = c12 .pre .1 in
+    let c3 = c .before .before .before in let c13 = c3 .before .before .before .before .before .before .before .before .before .before in
+    let a = c13 .args in
+    let w = c13 .pre .1 in
     let fs = w .0 .0 .0 in
     let H = found-here (a .build .incoming) (a .sought .depth) (now (a .incoming)) (counterpart (a .build .matching) (labelAt (now (a .target))
     (a .sought .column .label)) fs) (w .0 .0 .1) (c3 .found .given .1) in
-    (omega (arith, c12 .pre .0), ((H .inner, w .0 .1), (w .1 .0, ((H .inside, w .1 .1 .0 .0, w .1 .1 .0 .1), w .1 .1 .1))))
+    (omega (arith, c13 .pre .0), ((H .inner, w .0 .1), (w .1 .0, ((H .inside, w .1 .1 .0 .0, w .1 .1 .0 .1), w .1 .1 .1))))
 
 attach-field-enum-told : (t : ℕ) → attach-field-lts.Need-enum-told (attach-field-claims t) (attach-field-at t) attach-field.Post
 attach-field-enum-told t c = search needs
 
 attach-field-put-missing-requires : (t : ℕ) → attach-field-lts.Need-put-missing-requires (attach-field-claims t) (attach-field-at t) attach-field.Post
 attach-field-put-missing-requires t c κs =
-    let c10 = c .before .before .before .before .before .before .before .before .before .before in
-    let w = c10 .pre .1 in
+    let c11 = c .before .before .before .before .before .before .before .before .before .before .before in
+    let w = c11 .pre .1 in
     (w .1 .1 .0, (w .0 .1 .0, (w .1 .0, w .1 .1 .1)))
 
 attach-field-same-length : (t : ℕ) → attach-field-lts.Need-same-length (attach-field-claims t) (attach-field-at t) attach-field.Post
@@ -501,10 +503,10 @@ attach-field-same-length-2 t c = search needs
 
 attach-field-returns : (t : ℕ) → attach-field-lts.Need-returns (attach-field-claims t) (attach-field-at t) attach-field.Post
 attach-field-returns t c =
-    let c4 = c .before .before .before .before in let c8 = c4 .before .before .before .before in let c17 =
-    c8 .before .before .before .before .before .before .before .before .before in
+    let c4 = c .before .before .before .before in let c8 = c4 .before .before .before .before in let c18 =
+    c8 .before .before .before .before .before .before .before .before .before .before in
     λ from T fs Q F lt.
-    let a = c17 .args in
+    let a = c18 .args in
     let H = found-here (a .build .incoming) (a .sought .depth) (now (a .incoming)) (counterpart (a .build .matching) (labelAt (now (a .target))
     (a .sought .column .label)) fs) F (c8 .found .given .1) in
     makes-as _ _ _ _ _ _ (sought-at (a .build .matching) (a .build .policy) (defaultsAt (a .build .defaults) T) (a .sought .missing .insert)
@@ -516,23 +518,23 @@ attach-field-same-length-3 t c = search needs
 
 attach-field-returns-2 : (t : ℕ) → attach-field-lts.Need-returns-2 (attach-field-claims t) (attach-field-at t) attach-field.Post
 attach-field-returns-2 t c =
-    let c2 = c .before .before in let c4 = c2 .before .before in let c13 = c4 .before .before .before .before .before .before .before .before .before in
+    let c2 = c .before .before in let c4 = c2 .before .before in let c14 = c4 .before .before .before .before .before .before .before .before .before .before in
     λ from T fs Q F lt.
-    let a = c13 .args in
+    let a = c14 .args in
     let X = counterpart (a .build .matching) (labelAt (now (a .target)) (a .sought .column .label)) fs in
     makes-as _ _ _ _ _ _ (sought-absent (a .build .matching) (a .build .policy) (defaultsAt (a .build .defaults) T) (a .sought .missing .insert)
     (a .sought .missing .number) (labelAt (now (a .target)) (a .sought .column .label)) (Q .tree) X (found-absent (a .build .incoming) (a .sought .depth)
     (now (a .incoming)) X F (c4 .enum-told .given .1))) (c2 .put-missing .ensures from T Q lt)
 
 abbrev attach-fields-Inv-loop : attach-fields-lts.InvT-loop
-attach-fields-Inv-loop build incoming used table target rows out₀ k arena₀ how v w c insert count from₀ index₀ to₀ same₀ out arena from index to same =
+attach-fields-Inv-loop build incoming used table index target rows out₀ k arena₀ how v w c insert count from₀ i₀ to₀ same₀ out arena from i to same =
     Remaining (build .policy) (build .matching) (build .incoming) (build .target) (rows .depth) incoming (rows .incoming .count) (rows .incoming .first .at)
-    table (build .defaults) target (rows .target .count) from₀ out₀ k out from index to same
+    table (build .defaults) target (rows .target .count) from₀ out₀ k out from i to same
     × (take used arena ≡ take used arena₀) × (length arena ≡ length arena₀)
 
 abbrev attach-fields-μ-loop : attach-fields-lts.MeasureT-loop
-attach-fields-μ-loop build incoming used table target rows out₀ k arena₀ how v w c insert count from₀ index₀ to₀ same₀ out arena from index to same =
-    rows .target .count - index
+attach-fields-μ-loop build incoming used table index target rows out₀ k arena₀ how v w c insert count from₀ i₀ to₀ same₀ out arena from i to same =
+    rows .target .count - i
 
 attach-fields-inserts-requires : (t : ℕ) → attach-fields-lts.Need-inserts-requires (attach-fields-claims t) (attach-fields-at t) attach-fields.Post
     attach-fields-Inv-loop attach-fields-μ-loop
@@ -541,8 +543,8 @@ attach-fields-inserts-requires t c κs = search needs
 attach-fields-loop-holds : (t : ℕ) → attach-fields-lts.Need-loop-holds (attach-fields-claims t) (attach-fields-at t) attach-fields.Post
     attach-fields-Inv-loop attach-fields-μ-loop
 attach-fields-loop-holds t c =
-    let c8 = c .before .before .before .before .before .before .before .before in
-    (remaining-all (c8 .pre .1 .0 .1 .0) (c8 .pre .1 .1 .1 .0 .2), refl, refl)
+    let c9 = c .before .before .before .before .before .before .before .before .before in
+    (remaining-all (c9 .pre .1 .0 .1 .0) (c9 .pre .1 .1 .1 .0 .2), refl, refl)
 
 attach-fields-label-requires : (t : ℕ) → attach-fields-lts.Need-label-requires (attach-fields-claims t) (attach-fields-at t) attach-fields.Post
     attach-fields-Inv-loop attach-fields-μ-loop
@@ -556,23 +558,24 @@ attach-fields-slice-reshare-prefix-find-in :
     (t : ℕ) → attach-fields-lts.Need-slice-reshare-prefix-find-in (attach-fields-claims t) (attach-fields-at t) attach-fields.Post attach-fields-Inv-loop
     attach-fields-μ-loop
 attach-fields-slice-reshare-prefix-find-in t c =
-    let c5 = c .before .before .before .before .before in let c14 = c5 .before .before .before .before .before .before .before .before .before in
-    let a = c5 .loop .inv .2 in let b = c14 .pre .1 .1 .1 .1 .0 in omega arith
+    let c5 = c .before .before .before .before .before in let c15 = c5 .before .before .before .before .before .before .before .before .before .before in
+    let a = c5 .loop .inv .2 in let b = c15 .pre .1 .1 .1 .1 .0 in omega arith
 
 attach-fields-slice-aggregate-find-in : (t : ℕ) → attach-fields-lts.Need-slice-aggregate-find-in (attach-fields-claims t) (attach-fields-at t)
     attach-fields.Post attach-fields-Inv-loop attach-fields-μ-loop
 attach-fields-slice-aggregate-find-in t c =
-    let c6 = c .before .before .before .before .before .before in let c15 = c6 .before .before .before .before .before .before .before .before .before in
-    sym (length-take-le (c15 .args .used) (c6 .loop .arena) (let a = c6 .loop .inv .2 in let b = c15 .pre .1 .1 .1 .1 .0 in omega arith))
+    let c6 = c .before .before .before .before .before .before in let c16 = c6 .before .before .before .before .before .before .before .before .before .before
+    in
+    sym (length-take-le (c16 .args .used) (c6 .loop .arena) (let a = c6 .loop .inv .2 in let b = c16 .pre .1 .1 .1 .1 .0 in omega arith))
 
 attach-fields-find-in-requires : (t : ℕ) → attach-fields-lts.Need-find-in-requires (attach-fields-claims t) (attach-fields-at t) attach-fields.Post
     attach-fields-Inv-loop attach-fields-μ-loop
 attach-fields-find-in-requires t c κs =
-    let c2 = c .before .before in let c4 = c2 .before .before in let c5 = c4 .before in let c6 = c5 .before in let c15 =
-    c6 .before .before .before .before .before .before .before .before .before in (
-      c15 .pre .1 .0 .0,
+    let c2 = c .before .before in let c4 = c2 .before .before in let c5 = c4 .before in let c6 = c5 .before in let c16 =
+    c6 .before .before .before .before .before .before .before .before .before .before in (
+      c16 .pre .1 .0 .0,
       (
-        table-kept (c15 .args .arena .now) (c6 .loop .arena) (c15 .pre .1 .1 .1 .1 .0) (c6 .loop .inv .1) (c15 .pre .1 .1 .1 .1 .1),
+        table-kept (c16 .args .arena .now) (c6 .loop .arena) (c16 .pre .1 .1 .1 .1 .0) (c6 .loop .inv .1) (c16 .pre .1 .1 .1 .1 .1),
         field-name (c6 .loop .inv .0) (c5 .loop-test .taken) (c4 .label .ensures .0) (c2 .l .given .1) (c4 .label .ensures .1) .0,
       ),
     )
@@ -580,22 +583,23 @@ attach-fields-find-in-requires t c κs =
 attach-fields-mul-attach-field : (t : ℕ) → attach-fields-lts.Need-mul-attach-field (attach-fields-claims t) (attach-fields-at t) attach-fields.Post
     attach-fields-Inv-loop attach-fields-μ-loop
 attach-fields-mul-attach-field t c =
-    let c17 = c .before .before .before .before .before .before .before .before .before .before .before .before .before .before .before .before .before in
-    omega (arith, c17 .pre .1 .1 .1 .1 .0, c17 .good .1 .1 .1 .1 .1 .1 .1 .1 .0 .1)
+    let c18 = c .before .before .before .before .before .before .before .before .before .before .before .before .before .before .before .before .before .before
+    in
+    omega (arith, c18 .pre .1 .1 .1 .1 .0, c18 .good .1 .1 .1 .1 .1 .1 .1 .1 .1 .0 .1)
 
 attach-fields-sub-attach-field : (t : ℕ) → attach-fields-lts.Need-sub-attach-field (attach-fields-claims t) (attach-fields-at t) attach-fields.Post
     attach-fields-Inv-loop attach-fields-μ-loop
 attach-fields-sub-attach-field t c =
-    let c8 = c .before .before .before .before .before .before .before .before in let c17 =
-    c8 .before .before .before .before .before .before .before .before .before in
-    let a = c8 .loop .inv .2 in let b = c17 .pre .1 .1 .1 .1 .0 in omega arith
+    let c8 = c .before .before .before .before .before .before .before .before in let c18 =
+    c8 .before .before .before .before .before .before .before .before .before .before in
+    let a = c8 .loop .inv .2 in let b = c18 .pre .1 .1 .1 .1 .0 in omega arith
 
 attach-fields-part-attach-field-start : (t : ℕ) → attach-fields-lts.Need-part-attach-field-start (attach-fields-claims t) (attach-fields-at t)
     attach-fields.Post attach-fields-Inv-loop attach-fields-μ-loop
 attach-fields-part-attach-field-start t c =
-    let c8 = c .before .before .before .before .before .before .before .before in let c17 =
-    c8 .before .before .before .before .before .before .before .before .before in
-    let a = c8 .loop .inv .2 in let b = c17 .pre .1 .1 .1 .1 .0 in omega arith
+    let c8 = c .before .before .before .before .before .before .before .before in let c18 =
+    c8 .before .before .before .before .before .before .before .before .before .before in
+    let a = c8 .loop .inv .2 in let b = c18 .pre .1 .1 .1 .1 .0 in omega arith
 
 attach-fields-part-attach-field-end : (t : ℕ) → attach-fields-lts.Need-part-attach-field-end (attach-fields-claims t) (attach-fields-at t) attach-fields.Post
     attach-fields-Inv-loop attach-fields-μ-loop
@@ -604,10 +608,10 @@ attach-fields-part-attach-field-end t c = omega arith
 attach-fields-attach-field-requires : (t : ℕ) → attach-fields-lts.Need-attach-field-requires (attach-fields-claims t) (attach-fields-at t) attach-fields.Post
     attach-fields-Inv-loop attach-fields-μ-loop
 attach-fields-attach-field-requires t c κs =
-    let c2 = c .before .before in let c5 = c2 .before .before .before in let c7 = c5 .before .before in let c8 = c7 .before in let c9 = c8 .before in let c18
-    = c9 .before .before .before .before .before .before .before .before .before in
-    let w = c18 .pre .1 in (
-      omega (arith, c18 .pre .0),
+    let c2 = c .before .before in let c5 = c2 .before .before .before in let c7 = c5 .before .before in let c8 = c7 .before in let c9 = c8 .before in let c19
+    = c9 .before .before .before .before .before .before .before .before .before .before in
+    let w = c19 .pre .1 in (
+      omega (arith, c19 .pre .0),
       (
         (
           (w .0 .0 .columns, c2 .find-in .ensures (w .0 .0)),
@@ -650,16 +654,16 @@ attach-fields-same-length : (t : ℕ) → attach-fields-lts.Need-same-length (at
 attach-fields-same-length t c =
     let c7 = c .before .before .before .before .before .before .before in let c17 =
     c7 .before .before .before .before .before .before .before .before .before .before in
-    c7 .attach-field .kept .1 .1 .1 .1 .1 .0 ∙ c17 .loop .inv .0 .kept
+    c7 .attach-field .kept .1 .1 .1 .1 .1 .1 .0 ∙ c17 .loop .inv .0 .kept
 
 attach-fields-same-length-2 : (t : ℕ) → attach-fields-lts.Need-same-length-2 (attach-fields-claims t) (attach-fields-at t) attach-fields.Post
     attach-fields-Inv-loop attach-fields-μ-loop
 attach-fields-same-length-2 t c =
     let c7 = c .before .before .before .before .before .before .before in let c17 =
-    c7 .before .before .before .before .before .before .before .before .before .before in let c26 =
-    c17 .before .before .before .before .before .before .before .before .before in
-    same-len-mid (c26 .args .used) (length (c17 .loop .arena) - c26 .args .used) (c17 .loop .arena) (c7 .attach-field .last .1 .1 .1 .1 .1 .1 .1 .0)
-    (c7 .attach-field .kept .1 .1 .1 .1 .1 .1 .1 .0) ∙ c17 .loop .inv .2
+    c7 .before .before .before .before .before .before .before .before .before .before in let c27 =
+    c17 .before .before .before .before .before .before .before .before .before .before in
+    same-len-mid (c27 .args .used) (length (c17 .loop .arena) - c27 .args .used) (c17 .loop .arena) (c7 .attach-field .last .1 .1 .1 .1 .1 .1 .1 .1 .0)
+    (c7 .attach-field .kept .1 .1 .1 .1 .1 .1 .1 .1 .0) ∙ c17 .loop .inv .2
 
 attach-fields-returns : (t : ℕ) → attach-fields-lts.Need-returns (attach-fields-claims t) (attach-fields-at t) attach-fields.Post attach-fields-Inv-loop
     attach-fields-μ-loop
@@ -688,14 +692,14 @@ attach-fields-add-to : (t : ℕ) → attach-fields-lts.Need-add-to (attach-field
 attach-fields-add-to t c =
     let c3 = c .before .before .before in let c4 = c3 .before in let c9 = c4 .before .before .before .before .before in let c12 = c9 .before .before .before
     in let c15 = c12 .before .before .before in let c17 = c15 .before .before in let c18 = c17 .before in let c19 = c18 .before in let c20 = c19 .before
-    in let c28 = c20 .before .before .before .before .before .before .before .before in
-    let w = c28 .pre .1 in
+    in let c29 = c20 .before .before .before .before .before .before .before .before .before in
+    let w = c29 .pre .1 in
     omega (
       arith,
       remaining-room (c19 .loop .inv .0) (c18 .loop-test .taken) (c17 .label .ensures .0) (c15 .l .given .1) (c20 .inserts .ensures) _ (λ T P.
           c9 .attach-field .ensures (c19 .loop .from) T (P .columns) (field (c19 .loop .inv .0) (c18 .loop-test .taken) (c17 .label .ensures .0)
           (c15 .l .given .1) .head) (c12 .find-in .ensures P) (field-after (c19 .loop .inv .0) (c18 .loop-test .taken) (c17 .label .ensures .0)
-          (c15 .l .given .1))) (sym (c4 .is-refused .ensures) ∙ c3 .if1 .left) (w .1 .0) (w .0 .0),
+          (c15 .l .given .1))) (sym (c4 .is-refused .ensures) ∙ c3 .if1 .left) (w .1 .0 .0) (w .0 .0),
       extent (field (c19 .loop .inv .0) (c18 .loop-test .taken)
           (c17 .label .ensures .0) (c15 .l .given .1) .head),
       w .1 .1 .0,
@@ -727,12 +731,12 @@ attach-fields-returns-2 t c =
     let c2 = c .before .before in let c3 = c2 .before in let c4 = c3 .before in
     λ T P Q. remaining-unlabelled (c4 .loop .inv .0) (c3 .loop-test .taken) (c2 .label .ensures .0) (c .enum-told .given .1)
 
-attach-fields-add-index : (t : ℕ) → attach-fields-lts.Need-add-index (attach-fields-claims t) (attach-fields-at t) attach-fields.Post attach-fields-Inv-loop
+attach-fields-add-i : (t : ℕ) → attach-fields-lts.Need-add-i (attach-fields-claims t) (attach-fields-at t) attach-fields.Post attach-fields-Inv-loop
     attach-fields-μ-loop
-attach-fields-add-index t c =
+attach-fields-add-i t c =
     let c19 = c .before .before .before .before .before .before .before .before .before .before .before .before .before .before .before .before .before
-    .before .before in let c29 = c19 .before .before .before .before .before .before .before .before .before .before in
-    omega (arith, c29 .good .1 .1 .1 .1 .1 .0, c19 .loop-test .taken)
+    .before .before in let c30 = c19 .before .before .before .before .before .before .before .before .before .before .before in
+    omega (arith, c30 .good .1 .1 .1 .1 .1 .1 .0, c19 .loop-test .taken)
 
 attach-fields-loop-less : (t : ℕ) → attach-fields-lts.Need-loop-less (attach-fields-claims t) (attach-fields-at t) attach-fields.Post attach-fields-Inv-loop
     attach-fields-μ-loop
@@ -743,24 +747,24 @@ attach-fields-loop-again : (t : ℕ) → attach-fields-lts.Need-loop-again (atta
 attach-fields-loop-again t c =
     let c1 = c .before in let c2 = c1 .before in let c3 = c2 .before in let c4 = c3 .before in let c5 = c4 .before in let c10 =
     c5 .before .before .before .before .before in let c13 = c10 .before .before .before in let c16 = c13 .before .before .before in let c18 =
-    c16 .before .before in let c19 = c18 .before in let c20 = c19 .before in let c21 = c20 .before in let c29 =
-    c21 .before .before .before .before .before .before .before .before in (
-      let w = c29 .pre .1 in remaining-more (c20 .loop .inv .0) (c19 .loop-test .taken) (c18 .label .ensures .0) (c16 .l .given .1) (c21 .inserts .ensures) _
+    c16 .before .before in let c19 = c18 .before in let c20 = c19 .before in let c21 = c20 .before in let c30 =
+    c21 .before .before .before .before .before .before .before .before .before in (
+      let w = c30 .pre .1 in remaining-more (c20 .loop .inv .0) (c19 .loop-test .taken) (c18 .label .ensures .0) (c16 .l .given .1) (c21 .inserts .ensures) _
           (λ T P. c10 .attach-field .ensures (c20 .loop .from) T (P .columns) (field (c20 .loop .inv .0) (c19 .loop-test .taken) (c18 .label .ensures .0)
           (c16 .l .given .1) .head) (c13 .find-in .ensures P) (field-after (c20 .loop .inv .0) (c19 .loop-test .taken) (c18 .label .ensures .0)
-          (c16 .l .given .1))) (sym (c5 .is-refused .ensures) ∙ c4 .if1 .left) (w .1 .0) (w .0 .0) (c10 .attach-field .kept .1 .1 .1 .1 .1 .0)
+          (c16 .l .given .1))) (sym (c5 .is-refused .ensures) ∙ c4 .if1 .left) (w .1 .0 .0) (w .0 .0) (c10 .attach-field .kept .1 .1 .1 .1 .1 .1 .0)
           (c .skip-type .ensures (field (c20 .loop .inv .0) (c19 .loop-test .taken) (c18 .label .ensures .0) (c16 .l .given .1) .head)) (c1 .len-of .ensures)
           (c2 .both .ensures ∙ ap (λ (b : Bool). c20 .loop .same && b) (c3 .is-bare .ensures)),
-      take-put (c29 .args .used) (length (c20 .loop .arena) -
-          c29 .args .used) (c20 .loop .arena) (c10 .attach-field .last .1 .1 .1 .1 .1 .1 .1 .0) (let a = c20 .loop .inv .2 in let b = c29 .pre .1 .1 .1 .1 .0
+      take-put (c30 .args .used) (length (c20 .loop .arena) -
+          c30 .args .used) (c20 .loop .arena) (c10 .attach-field .last .1 .1 .1 .1 .1 .1 .1 .1 .0) (let a = c20 .loop .inv .2 in let b = c30 .pre .1 .1 .1 .1 .0
           in omega arith) ∙ c20 .loop .inv .1,
-      same-len-mid (c29 .args .used) (length (c20 .loop .arena) - c29 .args .used) (c20 .loop .arena)
-          (c10 .attach-field .last .1 .1 .1 .1 .1 .1 .1 .0) (c10 .attach-field .kept .1 .1 .1 .1 .1 .1 .1 .0) ∙ c20 .loop .inv .2,
+      same-len-mid (c30 .args .used) (length (c20 .loop .arena) - c30 .args .used) (c20 .loop .arena)
+          (c10 .attach-field .last .1 .1 .1 .1 .1 .1 .1 .1 .0) (c10 .attach-field .kept .1 .1 .1 .1 .1 .1 .1 .1 .0) ∙ c20 .loop .inv .2,
     )
 
-attach-fields-sub-t44 : (t : ℕ) → attach-fields-lts.Need-sub-t44 (attach-fields-claims t) (attach-fields-at t) attach-fields.Post attach-fields-Inv-loop
+attach-fields-sub-t45 : (t : ℕ) → attach-fields-lts.Need-sub-t45 (attach-fields-claims t) (attach-fields-at t) attach-fields.Post attach-fields-Inv-loop
     attach-fields-μ-loop
-attach-fields-sub-t44 t c = search needs
+attach-fields-sub-t45 t c = search needs
 
 attach-fields-same-length-5 : (t : ℕ) → attach-fields-lts.Need-same-length-5 (attach-fields-claims t) (attach-fields-at t) attach-fields.Post
     attach-fields-Inv-loop attach-fields-μ-loop
@@ -791,27 +795,28 @@ attach-inner-enum-told t c = search needs
 
 attach-inner-returns : (t : ℕ) → attach-inner-lts.Need-returns (attach-inner-claims t) (attach-inner-at t) attach-inner.Post
 attach-inner-returns t c =
-    let c2 = c .before .before in let c4 = c2 .before .before in let c6 = c4 .before .before in let c12 = c6 .before .before .before .before .before .before
+    let c2 = c .before .before in let c4 = c2 .before .before in let c6 = c4 .before .before in let c13 = c6 .before .before .before .before .before .before
+    .before
     in
     λ P Q.
-    let a = c12 .args in
+    let a = c13 .args in
     let E = part-list (a .build .target) (a .types .depth) (now (a .target)) (a .types .target .at) (elementOf (Q .tree)) (Q .end) (c6 .element-part .ensures
     (a .types .depth) Q) (c4 .l .given .1) in
     makes-refused _ _ _ _ _ (inner-list-other (a .build .matching) (a .build .policy) (E .label) (E .type) (a .place .position) (P .tree) (E .is)
     (part-no-inner (a .build .incoming) (a .types .depth) (now (a .incoming)) (a .types .incoming .at) (listPart (P .tree)) (P .end)
     (c2 .list-part .ensures (a .types .depth) P) (c .enum-told .given .1)))
 
-attach-inner-sub-t25 : (t : ℕ) → attach-inner-lts.Need-sub-t25 (attach-inner-claims t) (attach-inner-at t) attach-inner.Post
-attach-inner-sub-t25 t c =
-    let c14 = c .before .before .before .before .before .before .before .before .before .before .before .before .before .before in
-    let z = deep (c14 .pre .1 .0 .0) in omega arith
+attach-inner-sub-t26 : (t : ℕ) → attach-inner-lts.Need-sub-t26 (attach-inner-claims t) (attach-inner-at t) attach-inner.Post
+attach-inner-sub-t26 t c =
+    let c15 = c .before .before .before .before .before .before .before .before .before .before .before .before .before .before .before in
+    let z = deep (c15 .pre .1 .0 .0) in omega arith
 
 attach-inner-attach-element-requires : (t : ℕ) → attach-inner-lts.Need-attach-element-requires (attach-inner-claims t) (attach-inner-at t) attach-inner.Post
 attach-inner-attach-element-requires t c κs =
-    let c4 = c .before .before .before .before in let c6 = c4 .before .before in let c8 = c6 .before .before in let c10 = c8 .before .before in let c16 =
-    c10 .before .before .before .before .before .before in
-    let a = c16 .args in
-    let w = c16 .pre .1 in
+    let c4 = c .before .before .before .before in let c6 = c4 .before .before in let c8 = c6 .before .before in let c10 = c8 .before .before in let c17 =
+    c10 .before .before .before .before .before .before .before in
+    let a = c17 .args in
+    let w = c17 .pre .1 in
     let P = w .0 .0 in
     let Q = w .0 .1 .0 in
     let z = deep P in
@@ -819,7 +824,7 @@ attach-inner-attach-element-requires t c κs =
     (c10 .element-part .ensures (a .types .depth) Q) (c8 .l .given .1) in
     let I = part-inner (a .build .incoming) (a .types .depth) (now (a .incoming)) (a .types .incoming .at) (listPart (P .tree)) (P .end)
     (c6 .list-part .ensures (a .types .depth) P) (c4 .m .given .1) in (
-      omega (arith, c16 .pre .0),
+      omega (arith, c17 .pre .0),
       (
         (I .element .inner, (E .element .inner, w .0 .1 .1)),
         (
@@ -843,28 +848,29 @@ attach-inner-enum-told-2 t c = search needs
 
 attach-inner-returns-2 : (t : ℕ) → attach-inner-lts.Need-returns-2 (attach-inner-claims t) (attach-inner-at t) attach-inner.Post
 attach-inner-returns-2 t c =
-    let c2 = c .before .before in let c4 = c2 .before .before in let c6 = c4 .before .before in let c12 = c6 .before .before .before .before .before .before
+    let c2 = c .before .before in let c4 = c2 .before .before in let c6 = c4 .before .before in let c13 = c6 .before .before .before .before .before .before
+    .before
     in
     λ P Q.
-    let a = c12 .args in
+    let a = c13 .args in
     let E = part-array (a .build .target) (a .types .depth) (now (a .target)) (a .types .target .at) (elementOf (Q .tree)) (Q .end)
     (c6 .element-part .ensures (a .types .depth) Q) (c4 .width .given .1) in
     makes-refused _ _ _ _ _ (inner-array-other (a .build .matching) (a .build .policy) (E .label) (E .type) (a .place .position) (P .tree)
     (c4 .width .given .0 .0) (E .is) (part-no-inner (a .build .incoming) (a .types .depth) (now (a .incoming)) (a .types .incoming .at) (arrayPart
     (c4 .width .given .0 .0) (P .tree)) (P .end) (c2 .array-part .ensures (a .types .depth) P) (c .enum-told2 .given .1)))
 
-attach-inner-sub-t33 : (t : ℕ) → attach-inner-lts.Need-sub-t33 (attach-inner-claims t) (attach-inner-at t) attach-inner.Post
-attach-inner-sub-t33 t c =
-    let c14 = c .before .before .before .before .before .before .before .before .before .before .before .before .before .before in
-    let z = deep (c14 .pre .1 .0 .0) in omega arith
+attach-inner-sub-t34 : (t : ℕ) → attach-inner-lts.Need-sub-t34 (attach-inner-claims t) (attach-inner-at t) attach-inner.Post
+attach-inner-sub-t34 t c =
+    let c15 = c .before .before .before .before .before .before .before .before .before .before .before .before .before .before .before in
+    let z = deep (c15 .pre .1 .0 .0) in omega arith
 
 attach-inner-attach-element-requires-2 : (t : ℕ) → attach-inner-lts.Need-attach-element-requires-2 (attach-inner-claims t) (attach-inner-at t)
     attach-inner.Post
 attach-inner-attach-element-requires-2 t c κs =
-    let c4 = c .before .before .before .before in let c6 = c4 .before .before in let c8 = c6 .before .before in let c10 = c8 .before .before in let c16 =
-    c10 .before .before .before .before .before .before in
-    let a = c16 .args in
-    let w = c16 .pre .1 in
+    let c4 = c .before .before .before .before in let c6 = c4 .before .before in let c8 = c6 .before .before in let c10 = c8 .before .before in let c17 =
+    c10 .before .before .before .before .before .before .before in
+    let a = c17 .args in
+    let w = c17 .pre .1 in
     let P = w .0 .0 in
     let Q = w .0 .1 .0 in
     let z = deep P in
@@ -872,7 +878,7 @@ attach-inner-attach-element-requires-2 t c κs =
     (c10 .element-part .ensures (a .types .depth) Q) (c8 .width .given .1) in
     let I = part-inner (a .build .incoming) (a .types .depth) (now (a .incoming)) (a .types .incoming .at) (arrayPart (c8 .width .given .0 .0) (P .tree))
     (P .end) (c6 .array-part .ensures (a .types .depth) P) (c4 .m2 .given .1) in (
-      omega (arith, c16 .pre .0),
+      omega (arith, c17 .pre .0),
       (
         (I .element .inner, (E .element .inner, w .0 .1 .1)),
         (
@@ -894,9 +900,9 @@ attach-inner-same-length-2 t c = search needs
 attach-inner-returns-3 : (t : ℕ) → attach-inner-lts.Need-returns-3 (attach-inner-claims t) (attach-inner-at t) attach-inner.Post
 attach-inner-returns-3 t c =
     let c4 = c .before .before .before .before in let c9 = c4 .before .before .before .before .before in let c11 = c9 .before .before in let c13 =
-    c11 .before .before in let c15 = c13 .before .before in let c21 = c15 .before .before .before .before .before .before in
+    c11 .before .before in let c15 = c13 .before .before in let c22 = c15 .before .before .before .before .before .before .before in
     λ P Q.
-    let a = c21 .args in
+    let a = c22 .args in
     let E = part-list (a .build .target) (a .types .depth) (now (a .target)) (a .types .target .at) (elementOf (Q .tree)) (Q .end)
     (c15 .element-part .ensures (a .types .depth) Q) (c13 .l .given .1) in
     let I = part-inner (a .build .incoming) (a .types .depth) (now (a .incoming)) (a .types .incoming .at) (listPart (P .tree)) (P .end)
@@ -905,7 +911,7 @@ attach-inner-returns-3 t c =
     (I .is) ∙ element-names (a .build .matching) (a .build .policy) (listSelector (a .place .position)) (E .element .label) (E .element .tree)
     (I .element .label) (I .element .tree))
     (c4 .attach-element .ensures (a .types .target .at) (listSelector (a .place .position)) (λ s. listMapping (position (a .place .position)) s) (list-maps
-    (a .place .position)) (I .element .inner) (E .element .inner) (E .element .after) (E .element .named (a .build .matching) _ _ (c21 .pre .1 .0 .1 .1)))
+    (a .place .position)) (I .element .inner) (E .element .inner) (E .element .after) (E .element .named (a .build .matching) _ _ (c22 .pre .1 .0 .1 .1)))
 
 attach-inner-same-length-3 : (t : ℕ) → attach-inner-lts.Need-same-length-3 (attach-inner-claims t) (attach-inner-at t) attach-inner.Post
 attach-inner-same-length-3 t c = search needs
@@ -916,9 +922,9 @@ attach-inner-same-length-4 t c = search needs
 attach-inner-returns-4 : (t : ℕ) → attach-inner-lts.Need-returns-4 (attach-inner-claims t) (attach-inner-at t) attach-inner.Post
 attach-inner-returns-4 t c =
     let c4 = c .before .before .before .before in let c9 = c4 .before .before .before .before .before in let c11 = c9 .before .before in let c13 =
-    c11 .before .before in let c15 = c13 .before .before in let c21 = c15 .before .before .before .before .before .before in
+    c11 .before .before in let c15 = c13 .before .before in let c22 = c15 .before .before .before .before .before .before .before in
     λ P Q.
-    let a = c21 .args in
+    let a = c22 .args in
     let E = part-array (a .build .target) (a .types .depth) (now (a .target)) (a .types .target .at) (elementOf (Q .tree)) (Q .end)
     (c15 .element-part .ensures (a .types .depth) Q) (c13 .width .given .1) in
     let I = part-inner (a .build .incoming) (a .types .depth) (now (a .incoming)) (a .types .incoming .at) (arrayPart (c13 .width .given .0 .0) (P .tree))
@@ -928,13 +934,13 @@ attach-inner-returns-4 t c =
     (E .element .label) (E .element .tree) (I .element .label) (I .element .tree))
     (c4 .attach-element2 .ensures (a .types .target .at) (arraySelector (a .place .position)) (λ s. arrayMapping (position (a .place .position)) s)
     (array-maps (a .place .position)) (I .element .inner) (E .element .inner) (E .element .after) (E .element .named (a .build .matching) _ _
-    (c21 .pre .1 .0 .1 .1)))
+    (c22 .pre .1 .0 .1 .1)))
 
 attach-inner-returns-5 : (t : ℕ) → attach-inner-lts.Need-returns-5 (attach-inner-claims t) (attach-inner-at t) attach-inner.Post
 attach-inner-returns-5 t c =
-    let c2 = c .before .before in let c8 = c2 .before .before .before .before .before .before in
+    let c2 = c .before .before in let c9 = c2 .before .before .before .before .before .before .before in
     λ P Q.
-    let a = c8 .args in
+    let a = c9 .args in
     makes-refused _ _ _ _ _ (inner-none (a .build .matching) (a .build .policy) (a .place .position) (P .tree) (part-no-element (a .build .target)
     (a .types .depth) (now (a .target)) (a .types .target .at) (elementOf (Q .tree)) (Q .end) (c2 .element-part .ensures (a .types .depth) Q)
     (c .enum-told3 .given .1)))
@@ -952,10 +958,10 @@ attach-nested-same-length t c = search needs
 
 attach-nested-returns : (t : ℕ) → attach-nested-lts.Need-returns (attach-nested-claims t) (attach-nested-at t) attach-nested.Post
 attach-nested-returns t c =
-    let c2 = c .before .before in let c4 = c2 .before .before in let c5 = c4 .before in let c13 =
-    c5 .before .before .before .before .before .before .before .before in
+    let c2 = c .before .before in let c4 = c2 .before .before in let c5 = c4 .before in let c14 =
+    c5 .before .before .before .before .before .before .before .before .before in
     λ T P Q.
-    let a = c13 .args in
+    let a = c14 .args in
     makes-as _ _ _ _ _ _ (nested-null (a .build .matching) (a .build .policy) (a .place .position) (Q .tree) (P .tree) _ (c5 .is-null-incoming .ensures
     (a .build .incoming) (a .types .depth) P) (c4 .if1 .taken)) (c2 .put-null-cast .ensures Q)
 
@@ -968,14 +974,14 @@ attach-nested-enum-known-count t c = search needs
 attach-nested-attach-struct-requires : (t : ℕ) → attach-nested-lts.Need-attach-struct-requires (attach-nested-claims t) (attach-nested-at t)
     attach-nested.Post
 attach-nested-attach-struct-requires t c κs =
-    let c3 = c .before .before .before in let c5 = c3 .before .before in let c15 =
-    c5 .before .before .before .before .before .before .before .before .before .before in
-    let a = c15 .args in
-    let w = c15 .pre .1 in
+    let c3 = c .before .before .before in let c5 = c3 .before .before in let c16 =
+    c5 .before .before .before .before .before .before .before .before .before .before .before in
+    let a = c16 .args in
+    let w = c16 .pre .1 in
     let Q = w .0 .1 .0 in
     let S = part-struct (a .build .target) (a .types .depth) (now (a .target)) (a .types .target .at) (structPart (Q .tree)) (Q .end)
     (c5 .struct-part .ensures (a .build .target) (a .types .depth) Q) (c3 .count .given .1) in
-    (omega (arith, c15 .pre .0), ((w .0 .0, (S .inner, w .0 .1 .1)), (w .1 .0, (w .1 .1 .0, w .1 .1 .1, S .within, omega (arith, S .after, w .1 .1)))))
+    (omega (arith, c16 .pre .0), ((w .0 .0, (S .inner, w .0 .1 .1)), (w .1 .0, (w .1 .1 .0, w .1 .1 .1, S .within, omega (arith, S .after, w .1 .1)))))
 
 attach-nested-enum-told : (t : ℕ) → attach-nested-lts.Need-enum-told (attach-nested-claims t) (attach-nested-at t) attach-nested.Post
 attach-nested-enum-told t c = search needs
@@ -992,9 +998,9 @@ attach-nested-same-length-3 t c = search needs
 attach-nested-returns-2 : (t : ℕ) → attach-nested-lts.Need-returns-2 (attach-nested-claims t) (attach-nested-at t) attach-nested.Post
 attach-nested-returns-2 t c =
     let c4 = c .before .before .before .before in let c8 = c4 .before .before .before .before in let c10 = c8 .before .before in let c11 = c10 .before in let
-    c12 = c11 .before in let c20 = c12 .before .before .before .before .before .before .before .before in
+    c12 = c11 .before in let c21 = c12 .before .before .before .before .before .before .before .before .before in
     λ T P Q.
-    let a = c20 .args in
+    let a = c21 .args in
     let S = part-struct (a .build .target) (a .types .depth) (now (a .target)) (a .types .target .at) (structPart (Q .tree)) (Q .end)
     (c10 .struct-part .ensures (a .build .target) (a .types .depth) Q) (c8 .count .given .1) in
     makes-to _ _ _ _ (S .ends) (nested-other (a .build .matching) (a .build .policy) (a .place .position) (Q .tree) (P .tree) _
@@ -1011,9 +1017,9 @@ attach-nested-same-length-5 t c = search needs
 attach-nested-returns-3 : (t : ℕ) → attach-nested-lts.Need-returns-3 (attach-nested-claims t) (attach-nested-at t) attach-nested.Post
 attach-nested-returns-3 t c =
     let c4 = c .before .before .before .before in let c7 = c4 .before .before .before in let c9 = c7 .before .before in let c10 = c9 .before in let c11 =
-    c10 .before in let c19 = c11 .before .before .before .before .before .before .before .before in
+    c10 .before in let c20 = c11 .before .before .before .before .before .before .before .before .before in
     λ T P Q.
-    let a = c19 .args in
+    let a = c20 .args in
     let n = part-no-struct (a .build .target) (a .types .depth) (now (a .target)) (a .types .target .at) (structPart (Q .tree)) (Q .end)
     (c9 .struct-part .ensures (a .build .target) (a .types .depth) Q) (c7 .enum-told .given .1) in
     makes-as _ _ _ _ _ _ (nested-other (a .build .matching) (a .build .policy) (a .place .position) (Q .tree) (P .tree) _ (c11 .is-null-incoming .ensures
@@ -1026,9 +1032,9 @@ attach-renamed-keeps-required-requires t c κs = search needs
 
 attach-renamed-returns : (t : ℕ) → attach-renamed-lts.Need-returns (attach-renamed-claims t) (attach-renamed-at t) attach-renamed.Post
 attach-renamed-returns t c =
-    let c1 = c .before in let c8 = c1 .before .before .before .before .before .before .before in
+    let c1 = c .before in let c9 = c1 .before .before .before .before .before .before .before .before in
     λ from T P Q le lt.
-    let a = c8 .args in
+    let a = c9 .args in
     makes-refused _ _ _ _ _ (required-unkept (a .build .matching) (a .build .policy) (defaultsAt (a .build .defaults) T) (labelAt (now (a .target))
     (a .pair .target .label)) (Q .tree) (a .place .position) (labelAt (now (a .incoming)) (a .pair .incoming .label)) (P .tree)
     (c1 .keeps-required .ensures (a .build .incoming) (a .pair .depth) P _ refl) (c .if1 .taken))
@@ -1040,9 +1046,9 @@ attach-renamed-needs-rename-requires t c κs = search needs
 attach-renamed-attach-transforms-requires :
     (t : ℕ) → attach-renamed-lts.Need-attach-transforms-requires (attach-renamed-claims t) (attach-renamed-at t) attach-renamed.Post
 attach-renamed-attach-transforms-requires t c κs =
-    let c16 = c .before .before .before .before .before .before .before .before .before .before .before .before .before .before .before .before in
-    let w = c16 .pre .1 in
-    (omega (arith, c16 .pre .0), (w .0, (w .1 .0, (w .1 .1 .1 .0, w .1 .1 .1 .1, omega (arith, w .1 .1 .1)))))
+    let c17 = c .before .before .before .before .before .before .before .before .before .before .before .before .before .before .before .before .before in
+    let w = c17 .pre .1 in
+    (omega (arith, c17 .pre .0), (w .0, (w .1 .0, (w .1 .1 .1 .0, w .1 .1 .1 .1, omega (arith, w .1 .1 .1)))))
 
 attach-renamed-same-length : (t : ℕ) → attach-renamed-lts.Need-same-length (attach-renamed-claims t) (attach-renamed-at t) attach-renamed.Post
 attach-renamed-same-length t c = search needs
@@ -1053,9 +1059,9 @@ attach-renamed-same-length-2 t c = search needs
 attach-renamed-returns-2 : (t : ℕ) → attach-renamed-lts.Need-returns-2 (attach-renamed-claims t) (attach-renamed-at t) attach-renamed.Post
 attach-renamed-returns-2 t c =
     let c4 = c .before .before .before .before in let c7 = c4 .before .before .before in let c8 = c7 .before in let c13 =
-    c8 .before .before .before .before .before in let c14 = c13 .before in let c21 = c14 .before .before .before .before .before .before .before in
+    c8 .before .before .before .before .before in let c14 = c13 .before in let c22 = c14 .before .before .before .before .before .before .before .before in
     λ from T P Q le lt.
-    let a = c21 .args in
+    let a = c22 .args in
     renamed-plain (a .build .matching) (a .build .policy) (defaultsAt (a .build .defaults) T) (labelAt (now (a .target)) (a .pair .target .label)) (Q .tree)
     (a .place .position) (labelAt (now (a .incoming)) (a .pair .incoming .label)) (P .tree) (c14 .keeps-required .ensures (a .build .incoming)
     (a .pair .depth) P _ refl) (c13 .if1 .left) (c8 .needs-rename .ensures) _ _ from (c7 .if2 .taken) le (c4 .attach-transforms .ensures T P Q)
@@ -1065,17 +1071,17 @@ attach-renamed-put-requires t c κs = search needs
 
 attach-renamed-add-write-text : (t : ℕ) → attach-renamed-lts.Need-add-write-text (attach-renamed-claims t) (attach-renamed-at t) attach-renamed.Post
 attach-renamed-add-write-text t c =
-    let c20 = c .before .before .before .before .before .before .before .before .before .before .before .before .before .before .before .before .before
-    .before .before .before in
-    omega (arith, extent (c20 .pre .1 .0 .1 .0), c20 .pre .1 .1 .1 .1)
+    let c21 = c .before .before .before .before .before .before .before .before .before .before .before .before .before .before .before .before .before
+    .before .before .before .before in
+    omega (arith, extent (c21 .pre .1 .0 .1 .0), c21 .pre .1 .1 .1 .1)
 
 attach-renamed-attach-transforms-requires-2 :
     (t : ℕ) → attach-renamed-lts.Need-attach-transforms-requires-2 (attach-renamed-claims t) (attach-renamed-at t) attach-renamed.Post
 attach-renamed-attach-transforms-requires-2 t c κs =
-    let c22 = c .before .before .before .before .before .before .before .before .before .before .before .before .before .before .before .before .before
-    .before .before .before .before .before in
-    let w = c22 .pre .1 in
-    (omega (arith, c22 .pre .0), (w .0, (w .1 .0, (w .1 .1 .1 .0, w .1 .1 .1 .1, omega (arith, w .1 .1 .1)))))
+    let c23 = c .before .before .before .before .before .before .before .before .before .before .before .before .before .before .before .before .before
+    .before .before .before .before .before .before in
+    let w = c23 .pre .1 in
+    (omega (arith, c23 .pre .0), (w .0, (w .1 .0, (w .1 .1 .1 .0, w .1 .1 .1 .1, omega (arith, w .1 .1 .1)))))
 
 attach-renamed-is-refused-requires : (t : ℕ) → attach-renamed-lts.Need-is-refused-requires (attach-renamed-claims t) (attach-renamed-at t) attach-renamed.Post
 attach-renamed-is-refused-requires t c κs = search needs
@@ -1090,9 +1096,9 @@ attach-renamed-returns-3 : (t : ℕ) → attach-renamed-lts.Need-returns-3 (atta
 attach-renamed-returns-3 t c =
     let c1 = c .before in let c6 = c1 .before .before .before .before .before in let c16 =
     c6 .before .before .before .before .before .before .before .before .before .before in let c21 = c16 .before .before .before .before .before in let
-    c22 = c21 .before in let c29 = c22 .before .before .before .before .before .before .before in
+    c22 = c21 .before in let c30 = c22 .before .before .before .before .before .before .before .before in
     λ from T P Q le lt.
-    let a = c29 .args in
+    let a = c30 .args in
     renamed-stopped (a .build .matching) (a .build .policy) (defaultsAt (a .build .defaults) T) (labelAt (now (a .target)) (a .pair .target .label))
     (Q .tree) (a .place .position) (labelAt (now (a .incoming)) (a .pair .incoming .label)) (P .tree) (c22 .keeps-required .ensures (a .build .incoming)
     (a .pair .depth) P _ refl) (c21 .if1 .left) (c16 .needs-rename .ensures) _ _ from (c6 .attach-transforms2 .ensures T P Q) (sym
@@ -1103,19 +1109,19 @@ attach-renamed-len-of-requires t c κs = search needs
 
 attach-renamed-add-write-text-2 : (t : ℕ) → attach-renamed-lts.Need-add-write-text-2 (attach-renamed-claims t) (attach-renamed-at t) attach-renamed.Post
 attach-renamed-add-write-text-2 t c =
-    let c33 = c .before .before .before .before .before .before .before .before .before .before .before .before .before .before .before .before .before
-    .before .before .before .before .before .before .before .before .before .before .before .before .before .before .before .before in
-    omega (arith, extent (c33 .pre .1 .0 .1 .0), c33 .pre .1 .1 .1 .1)
+    let c34 = c .before .before .before .before .before .before .before .before .before .before .before .before .before .before .before .before .before
+    .before .before .before .before .before .before .before .before .before .before .before .before .before .before .before .before .before in
+    omega (arith, extent (c34 .pre .1 .0 .1 .0), c34 .pre .1 .1 .1 .1)
 
 attach-renamed-add-write-text-3 : (t : ℕ) → attach-renamed-lts.Need-add-write-text-3 (attach-renamed-claims t) (attach-renamed-at t) attach-renamed.Post
 attach-renamed-add-write-text-3 t c =
-    let c3 = c .before .before .before in let c4 = c3 .before in let c5 = c4 .before in let c10 = c5 .before .before .before .before .before in let c33 =
+    let c3 = c .before .before .before in let c4 = c3 .before in let c5 = c4 .before in let c10 = c5 .before .before .before .before .before in let c34 =
     c10 .before .before .before .before .before .before .before .before .before .before .before .before .before .before .before .before .before .before
-    .before .before .before .before .before in
-    let w = c33 .pre .1 in
+    .before .before .before .before .before .before in
+    let w = c34 .pre .1 in
     omega (
       arith,
-      makes-room _ (c10 .attach-transforms2 .ensures (w .1 .0) (w .0 .0) (w .0 .1 .0)) (sym (c5 .is-refused .ensures) ∙ c4 .if3 .left),
+      makes-room _ (c10 .attach-transforms2 .ensures (w .1 .0 .0) (w .0 .0) (w .0 .1 .0)) (sym (c5 .is-refused .ensures) ∙ c4 .if3 .left),
       c3 .len-of .ensures,
       extent (w .0 .1 .0),
       w .1 .1 .1,
@@ -1123,14 +1129,14 @@ attach-renamed-add-write-text-3 t c =
 
 attach-renamed-write-text-requires : (t : ℕ) → attach-renamed-lts.Need-write-text-requires (attach-renamed-claims t) (attach-renamed-at t) attach-renamed.Post
 attach-renamed-write-text-requires t c κs =
-    let c3 = c .before .before .before in let c4 = c3 .before in let c5 = c4 .before in let c10 = c5 .before .before .before .before .before in let c33 =
+    let c3 = c .before .before .before in let c4 = c3 .before in let c5 = c4 .before in let c10 = c5 .before .before .before .before .before in let c34 =
     c10 .before .before .before .before .before .before .before .before .before .before .before .before .before .before .before .before .before .before
-    .before .before .before .before .before in
-    let w = c33 .pre .1 in (
+    .before .before .before .before .before .before in
+    let w = c34 .pre .1 in (
       (w .1 .1 .0 .1, w .1 .1 .0 .2),
       omega (
         arith,
-        makes-room _ (c10 .attach-transforms2 .ensures (w .1 .0) (w .0 .0) (w .0 .1 .0)) (sym
+        makes-room _ (c10 .attach-transforms2 .ensures (w .1 .0 .0) (w .0 .0) (w .0 .1 .0)) (sym
             (c5 .is-refused .ensures) ∙ c4 .if3 .left),
         c3 .len-of .ensures,
         extent (w .0 .1 .0),
@@ -1138,37 +1144,37 @@ attach-renamed-write-text-requires t c κs =
       ),
     )
 
-attach-renamed-add-t31 : (t : ℕ) → attach-renamed-lts.Need-add-t31 (attach-renamed-claims t) (attach-renamed-at t) attach-renamed.Post
-attach-renamed-add-t31 t c =
+attach-renamed-add-t32 : (t : ℕ) → attach-renamed-lts.Need-add-t32 (attach-renamed-claims t) (attach-renamed-at t) attach-renamed.Post
+attach-renamed-add-t32 t c =
     let c6 = c .before .before .before .before .before .before in let c7 = c6 .before in let c8 = c7 .before in let c13 =
-    c8 .before .before .before .before .before in let c36 =
+    c8 .before .before .before .before .before in let c37 =
     c13 .before .before .before .before .before .before .before .before .before .before .before .before .before .before .before .before .before .before
-    .before .before .before .before .before in
-    let w = c36 .pre .1 in
+    .before .before .before .before .before .before in
+    let w = c37 .pre .1 in
     omega (
       arith,
-      makes-room _ (c13 .attach-transforms2 .ensures (w .1 .0) (w .0 .0) (w .0 .1 .0)) (sym (c8 .is-refused .ensures) ∙ c7 .if3 .left),
+      makes-room _ (c13 .attach-transforms2 .ensures (w .1 .0 .0) (w .0 .0) (w .0 .1 .0)) (sym (c8 .is-refused .ensures) ∙ c7 .if3 .left),
       c6 .len-of .ensures,
       extent (w .0 .1 .0),
       w .1 .1 .1,
     )
 
-attach-renamed-add-t39 : (t : ℕ) → attach-renamed-lts.Need-add-t39 (attach-renamed-claims t) (attach-renamed-at t) attach-renamed.Post
-attach-renamed-add-t39 t c =
+attach-renamed-add-t40 : (t : ℕ) → attach-renamed-lts.Need-add-t40 (attach-renamed-claims t) (attach-renamed-at t) attach-renamed.Post
+attach-renamed-add-t40 t c =
     let c2 = c .before .before in let c6 = c2 .before .before .before .before in let c7 = c6 .before in let c8 = c7 .before in let c13 =
-    c8 .before .before .before .before .before in let c36 =
+    c8 .before .before .before .before .before in let c37 =
     c13 .before .before .before .before .before .before .before .before .before .before .before .before .before .before .before .before .before .before
-    .before .before .before .before .before in
-    let w = c36 .pre .1 in
+    .before .before .before .before .before .before in
+    let w = c37 .pre .1 in
     omega (
       arith,
-      makes-room _ (c13 .attach-transforms2 .ensures (w .1 .0) (w .0 .0) (w .0 .1 .0)) (sym (c8 .is-refused .ensures) ∙ c7 .if3 .left),
+      makes-room _ (c13 .attach-transforms2 .ensures (w .1 .0 .0) (w .0 .0) (w .0 .1 .0)) (sym (c8 .is-refused .ensures) ∙ c7 .if3 .left),
       c6 .len-of .ensures,
       extent (w .0 .1 .0),
       w .1 .1 .1,
       c2 .write-text .ensures .0,
-      text-long (now (c36 .args .target))
-          (c36 .args .pair .target .label .name) (w .1 .1 .0 .1),
+      text-long (now (c37 .args .target))
+          (c37 .args .pair .target .label .name) (w .1 .1 .0 .1),
       w .1 .1 .0 .2,
     )
 
@@ -1182,19 +1188,19 @@ attach-renamed-returns-4 : (t : ℕ) → attach-renamed-lts.Need-returns-4 (atta
 attach-renamed-returns-4 t c =
     let c2 = c .before .before in let c6 = c2 .before .before .before .before in let c7 = c6 .before in let c8 = c7 .before in let c13 =
     c8 .before .before .before .before .before in let c20 = c13 .before .before .before .before .before .before .before in let c22 = c20 .before .before
-    in let c23 = c22 .before in let c28 = c23 .before .before .before .before .before in let c29 = c28 .before in let c36 =
-    c29 .before .before .before .before .before .before .before in
+    in let c23 = c22 .before in let c28 = c23 .before .before .before .before .before in let c29 = c28 .before in let c37 =
+    c29 .before .before .before .before .before .before .before .before in
     λ from T P Q le lt.
-    let a = c36 .args in
-    let w = c36 .pre .1 in
+    let a = c37 .args in
+    let w = c37 .pre .1 in
     renamed-made (a .build .matching) (a .build .policy) (defaultsAt (a .build .defaults) T) (labelAt (now (a .target)) (a .pair .target .label)) (Q .tree)
     (a .place .position) (labelAt (now (a .incoming)) (a .pair .incoming .label)) (P .tree) (c29 .keeps-required .ensures (a .build .incoming)
     (a .pair .depth) P _ refl) (c28 .if1 .left) (c23 .needs-rename .ensures) _ _ from _ _ (c22 .if2 .left) (c20 .put .kept .0)
-    (c13 .attach-transforms2 .kept .1 .1 .1 .1 .1 .0 ∙ c20 .put .kept .0) (c20 .put .ensures) (c13 .attach-transforms2 .ensures T P Q)
+    (c13 .attach-transforms2 .kept .1 .1 .1 .1 .1 .1 .0 ∙ c20 .put .kept .0) (c20 .put .ensures) (c13 .attach-transforms2 .ensures T P Q)
     (sym (c8 .is-refused .ensures) ∙ c7 .if3 .left) (c6 .len-of .ensures) (c2 .write-text .ensures .0) (c2 .write-text .ensures .1) (omega (
       arith,
       c2 .write-text .ensures .0,
-      text-long (now (c36 .args .target)) (c36 .args .pair .target .label .name) (w .1 .1 .0 .1),
+      text-long (now (c37 .args .target)) (c37 .args .pair .target .label .name) (w .1 .1 .0 .1),
       w .1 .1 .0 .2,
     ))
     (lt (rename-on (a .build .matching) (labelAt (now (a .target)) (a .pair .target .label)) (labelAt (now (a .incoming)) (a .pair .incoming .label))
@@ -1205,9 +1211,9 @@ attach-row-fill-in-requires t c κs = search needs
 
 attach-row-attach-fields-requires : (t : ℕ) → attach-row-lts.Need-attach-fields-requires (attach-row-claims t) (attach-row-at t) attach-row.Post
 attach-row-attach-fields-requires t c κs =
-    let c4 = c .before .before .before .before in let c12 = c4 .before .before .before .before .before .before .before .before in
-    let w = c12 .pre .1 in
-    (omega (arith, c12 .pre .0), (w .0, (w .1 .0, (w .1 .1, (c4 .fill-in .ensures .0, c4 .fill-in .ensures .1)))))
+    let c4 = c .before .before .before .before in let c13 = c4 .before .before .before .before .before .before .before .before .before in
+    let w = c13 .pre .1 in
+    (omega (arith, c13 .pre .0), (w .0, (w .1 .0, (w .1 .1, (c4 .fill-in .ensures .0, c4 .fill-in .ensures .1)))))
 
 attach-row-same-length : (t : ℕ) → attach-row-lts.Need-same-length (attach-row-claims t) (attach-row-at t) attach-row.Post
 attach-row-same-length t c = search needs
@@ -1229,36 +1235,36 @@ attach-struct-enum-told t c = search needs
 
 attach-struct-returns : (t : ℕ) → attach-struct-lts.Need-returns (attach-struct-claims t) (attach-struct-at t) attach-struct.Post
 attach-struct-returns t c =
-    let c2 = c .before .before in let c8 = c2 .before .before .before .before .before .before in
+    let c2 = c .before .before in let c9 = c2 .before .before .before .before .before .before .before in
     λ from T P Q lt.
-    let a = c8 .args in
+    let a = c9 .args in
     makes-refused _ _ _ _ _ (struct-other (a .build .matching) (a .build .policy) (defaultsAt (a .build .defaults) T) (Q .columns) (a .place .position)
     (P .tree) (part-no-struct (a .build .incoming) (a .over .depth) (now (a .incoming)) (a .over .incoming .at) (structPart (P .tree)) (P .end)
     (c2 .struct-part .ensures (a .build .incoming) (a .over .depth) P) (c .enum-told .given .1)))
 
-attach-struct-sub-t19 : (t : ℕ) → attach-struct-lts.Need-sub-t19 (attach-struct-claims t) (attach-struct-at t) attach-struct.Post
-attach-struct-sub-t19 t c =
-    let c11 = c .before .before .before .before .before .before .before .before .before .before .before in
-    let z = deep (c11 .pre .1 .0 .0) in omega arith
+attach-struct-sub-t20 : (t : ℕ) → attach-struct-lts.Need-sub-t20 (attach-struct-claims t) (attach-struct-at t) attach-struct.Post
+attach-struct-sub-t20 t c =
+    let c12 = c .before .before .before .before .before .before .before .before .before .before .before .before in
+    let z = deep (c12 .pre .1 .0 .0) in omega arith
 
 attach-struct-struct-fault-requires : (t : ℕ) → attach-struct-lts.Need-struct-fault-requires (attach-struct-claims t) (attach-struct-at t) attach-struct.Post
 attach-struct-struct-fault-requires t c κs =
-    let c4 = c .before .before .before .before in let c6 = c4 .before .before in let c12 = c6 .before .before .before .before .before .before in
-    let a = c12 .args in
-    let P = c12 .pre .1 .0 .0 in
+    let c4 = c .before .before .before .before in let c6 = c4 .before .before in let c13 = c6 .before .before .before .before .before .before .before in
+    let a = c13 .args in
+    let P = c13 .pre .1 .0 .0 in
     let S = part-struct (a .build .incoming) (a .over .depth) (now (a .incoming)) (a .over .incoming .at) (structPart (P .tree)) (P .end)
     (c6 .struct-part .ensures (a .build .incoming) (a .over .depth) P) (c4 .n .given .1) in
-    (S .inner, c12 .pre .1 .0 .1)
+    (S .inner, c13 .pre .1 .0 .1)
 
 attach-struct-same-length : (t : ℕ) → attach-struct-lts.Need-same-length (attach-struct-claims t) (attach-struct-at t) attach-struct.Post
 attach-struct-same-length t c = search needs
 
 attach-struct-returns-2 : (t : ℕ) → attach-struct-lts.Need-returns-2 (attach-struct-claims t) (attach-struct-at t) attach-struct.Post
 attach-struct-returns-2 t c =
-    let c3 = c .before .before .before in let c8 = c3 .before .before .before .before .before in let c10 = c8 .before .before in let c16 =
-    c10 .before .before .before .before .before .before in
+    let c3 = c .before .before .before in let c8 = c3 .before .before .before .before .before in let c10 = c8 .before .before in let c17 =
+    c10 .before .before .before .before .before .before .before in
     λ from T P Q lt.
-    let a = c16 .args in
+    let a = c17 .args in
     let S = part-struct (a .build .incoming) (a .over .depth) (now (a .incoming)) (a .over .incoming .at) (structPart (P .tree)) (P .end)
     (c10 .struct-part .ensures (a .build .incoming) (a .over .depth) P) (c8 .n .given .1) in
     makes-refused _ _ _ _ _ (struct-faulted (a .build .matching) (a .build .policy) (defaultsAt (a .build .defaults) T) (Q .columns) (a .place .position)
@@ -1266,39 +1272,39 @@ attach-struct-returns-2 t c =
 
 attach-struct-put-head-requires : (t : ℕ) → attach-struct-lts.Need-put-head-requires (attach-struct-claims t) (attach-struct-at t) attach-struct.Post
 attach-struct-put-head-requires t c κs =
-    let c18 = c .before .before .before .before .before .before .before .before .before .before .before .before .before .before .before .before .before
-    .before in
-    omega (arith, c18 .pre .1 .1 .1)
+    let c19 = c .before .before .before .before .before .before .before .before .before .before .before .before .before .before .before .before .before
+    .before .before in
+    omega (arith, c19 .pre .1 .1 .1)
 
 attach-struct-add-put-short : (t : ℕ) → attach-struct-lts.Need-add-put-short (attach-struct-claims t) (attach-struct-at t) attach-struct.Post
 attach-struct-add-put-short t c =
-    let c23 = c .before .before .before .before .before .before .before .before .before .before .before .before .before .before .before .before .before
-    .before .before .before .before .before .before in
-    omega (arith, c23 .pre .1 .1 .1)
+    let c24 = c .before .before .before .before .before .before .before .before .before .before .before .before .before .before .before .before .before
+    .before .before .before .before .before .before .before in
+    omega (arith, c24 .pre .1 .1 .1)
 
 attach-struct-put-short-requires : (t : ℕ) → attach-struct-lts.Need-put-short-requires (attach-struct-claims t) (attach-struct-at t) attach-struct.Post
 attach-struct-put-short-requires t c κs =
-    let c23 = c .before .before .before .before .before .before .before .before .before .before .before .before .before .before .before .before .before
-    .before .before .before .before .before .before in
-    omega (arith, c23 .pre .1 .1 .1)
+    let c24 = c .before .before .before .before .before .before .before .before .before .before .before .before .before .before .before .before .before
+    .before .before .before .before .before .before .before in
+    omega (arith, c24 .pre .1 .1 .1)
 
 attach-struct-add-attach-row : (t : ℕ) → attach-struct-lts.Need-add-attach-row (attach-struct-claims t) (attach-struct-at t) attach-struct.Post
 attach-struct-add-attach-row t c =
-    let c28 = c .before .before .before .before .before .before .before .before .before .before .before .before .before .before .before .before .before
-    .before .before .before .before .before .before .before .before .before .before .before in
-    omega (arith, c28 .pre .1 .1 .1)
+    let c29 = c .before .before .before .before .before .before .before .before .before .before .before .before .before .before .before .before .before
+    .before .before .before .before .before .before .before .before .before .before .before .before in
+    omega (arith, c29 .pre .1 .1 .1)
 
 attach-struct-attach-row-requires : (t : ℕ) → attach-struct-lts.Need-attach-row-requires (attach-struct-claims t) (attach-struct-at t) attach-struct.Post
 attach-struct-attach-row-requires t c κs =
     let c21 = c .before .before .before .before .before .before .before .before .before .before .before .before .before .before .before .before .before
-    .before .before .before .before in let c23 = c21 .before .before in let c29 = c23 .before .before .before .before .before .before in
-    let a = c29 .args in
-    let w = c29 .pre .1 in
+    .before .before .before .before in let c23 = c21 .before .before in let c30 = c23 .before .before .before .before .before .before .before in
+    let a = c30 .args in
+    let w = c30 .pre .1 in
     let P = w .0 .0 in
     let z = deep P in
     let S = part-struct (a .build .incoming) (a .over .depth) (now (a .incoming)) (a .over .incoming .at) (structPart (P .tree)) (P .end)
     (c23 .struct-part .ensures (a .build .incoming) (a .over .depth) P) (c21 .n .given .1) in
-    (omega (arith, c29 .pre .0), ((S .inner, w .0 .1), (w .1 .0, (w .1 .1 .0, w .1 .1 .1, w .1 .1 .3))))
+    (omega (arith, c30 .pre .0), ((S .inner, w .0 .1), (w .1 .0, (w .1 .1 .0, w .1 .1 .1, w .1 .1 .3))))
 
 attach-struct-enum-known-row : (t : ℕ) → attach-struct-lts.Need-enum-known-row (attach-struct-claims t) (attach-struct-at t) attach-struct.Post
 attach-struct-enum-known-row t c = search needs
@@ -1319,10 +1325,10 @@ attach-struct-returns-3 : (t : ℕ) → attach-struct-lts.Need-returns-3 (attach
 attach-struct-returns-3 t c =
     let c1 = c .before in let c7 = c1 .before .before .before .before .before .before in let c21 =
     c7 .before .before .before .before .before .before .before .before .before .before .before .before .before .before in let c24 =
-    c21 .before .before .before in let c29 = c24 .before .before .before .before .before in let c31 = c29 .before .before in let c37 =
-    c31 .before .before .before .before .before .before in
+    c21 .before .before .before in let c29 = c24 .before .before .before .before .before in let c31 = c29 .before .before in let c38 =
+    c31 .before .before .before .before .before .before .before in
     λ from T P Q lt.
-    let a = c37 .args in
+    let a = c38 .args in
     let S = part-struct (a .build .incoming) (a .over .depth) (now (a .incoming)) (a .over .incoming .at) (structPart (P .tree)) (P .end)
     (c31 .struct-part .ensures (a .build .incoming) (a .over .depth) P) (c29 .n .given .1) in
     struct-stops (a .build .matching) (a .build .policy) (defaultsAt (a .build .defaults) T) (Q .columns) (a .place .position) (P .tree) (S .inner .columns)
@@ -1334,10 +1340,10 @@ attach-struct-unchanged-requires t c κs = search needs
 
 attach-struct-put-position-requires : (t : ℕ) → attach-struct-lts.Need-put-position-requires (attach-struct-claims t) (attach-struct-at t) attach-struct.Post
 attach-struct-put-position-requires t c κs =
-    let c40 = c .before .before .before .before .before .before .before .before .before .before .before .before .before .before .before .before .before
+    let c41 = c .before .before .before .before .before .before .before .before .before .before .before .before .before .before .before .before .before
     .before .before .before .before .before .before .before .before .before .before .before .before .before .before .before .before .before .before
-    .before .before .before .before .before in
-    omega (arith, c40 .pre .1 .1 .1)
+    .before .before .before .before .before .before in
+    omega (arith, c41 .pre .1 .1 .1)
 
 attach-struct-same-length-4 : (t : ℕ) → attach-struct-lts.Need-same-length-4 (attach-struct-claims t) (attach-struct-at t) attach-struct.Post
 attach-struct-same-length-4 t c = search needs
@@ -1346,41 +1352,41 @@ attach-struct-same-length-5 : (t : ℕ) → attach-struct-lts.Need-same-length-5
 attach-struct-same-length-5 t c =
     let c13 = c .before .before .before .before .before .before .before .before .before .before .before .before .before in let c30 =
     c13 .before .before .before .before .before .before .before .before .before .before .before .before .before .before .before .before .before in
-    c13 .attach-row .kept .1 .1 .1 .1 .1 .1 .1 .0 ∙ c30 .struct-fault .kept .1 .1 .1 .1 .0
+    c13 .attach-row .kept .1 .1 .1 .1 .1 .1 .1 .1 .0 ∙ c30 .struct-fault .kept .1 .1 .1 .1 .0
 
 attach-struct-returns-4 : (t : ℕ) → attach-struct-lts.Need-returns-4 (attach-struct-claims t) (attach-struct-at t) attach-struct.Post
 attach-struct-returns-4 t c =
     let c2 = c .before .before in let c4 = c2 .before .before in let c5 = c4 .before in let c7 = c5 .before .before in let c13 =
     c7 .before .before .before .before .before .before in let c19 = c13 .before .before .before .before .before .before in let c24 =
     c19 .before .before .before .before .before in let c27 = c24 .before .before .before in let c30 = c27 .before .before .before in let c35 =
-    c30 .before .before .before .before .before in let c37 = c35 .before .before in let c43 = c37 .before .before .before .before .before .before in
+    c30 .before .before .before .before .before in let c37 = c35 .before .before in let c44 = c37 .before .before .before .before .before .before .before in
     λ from T P Q lt.
-    let a = c43 .args in
+    let a = c44 .args in
     let S = part-struct (a .build .incoming) (a .over .depth) (now (a .incoming)) (a .over .incoming .at) (structPart (P .tree)) (P .end)
     (c37 .struct-part .ensures (a .build .incoming) (a .over .depth) P) (c35 .n .given .1) in
     struct-left-out (a .build .matching) (a .build .policy) (defaultsAt (a .build .defaults) T) (Q .columns) (a .place .position) (P .tree)
     (S .inner .columns) (S .is) (c30 .struct-fault .ensures (S .inner) Q) (c27 .if1 .left) _ _ from (count-at (S .inner)) (count-at Q)
     (c7 .row .given .1) _ _ _ (c24 .put-head .ensures) (c19 .put-short .ensures) (c13 .attach-row .ensures T (S .inner) Q) (c5 .unchanged .ensures)
     (c4 .if2 .taken)
-    (c13 .attach-row .kept .1 .1 .1 .1 .1 .0 ∙ c19 .put-short .kept .0 ∙ c24 .put-head .kept .0) (c2 .put-position .ensures) (omega (
+    (c13 .attach-row .kept .1 .1 .1 .1 .1 .1 .0 ∙ c19 .put-short .kept .0 ∙ c24 .put-head .kept .0) (c2 .put-position .ensures) (omega (
       arith,
       lt,
-      columns-within Q (c43 .pre .1 .1 .1 .2),
+      columns-within Q (c44 .pre .1 .1 .1 .2),
     ))
 
-attach-struct-add-t29 : (t : ℕ) → attach-struct-lts.Need-add-t29 (attach-struct-claims t) (attach-struct-at t) attach-struct.Post
-attach-struct-add-t29 t c =
+attach-struct-add-t30 : (t : ℕ) → attach-struct-lts.Need-add-t30 (attach-struct-claims t) (attach-struct-at t) attach-struct.Post
+attach-struct-add-t30 t c =
     let c3 = c .before .before .before in let c9 = c3 .before .before .before .before .before .before in let c31 =
     c9 .before .before .before .before .before .before .before .before .before .before .before .before .before .before .before .before .before .before
-    .before .before .before .before in let c33 = c31 .before .before in let c39 = c33 .before .before .before .before .before .before in
-    let a = c39 .args in
-    let w = c39 .pre .1 in
+    .before .before .before .before in let c33 = c31 .before .before in let c40 = c33 .before .before .before .before .before .before .before in
+    let a = c40 .args in
+    let w = c40 .pre .1 in
     let P = w .0 .0 in
     let S = part-struct (a .build .incoming) (a .over .depth) (now (a .incoming)) (a .over .incoming .at) (structPart (P .tree)) (P .end)
     (c33 .struct-part .ensures (a .build .incoming) (a .over .depth) P) (c31 .n .given .1) in
     omega (
       arith,
-      row-room _ (c9 .attach-row .ensures (w .1 .0) (S .inner) (w .0 .1 .0)) (c3 .row .given .1),
+      row-room _ (c9 .attach-row .ensures (w .1 .0 .0) (S .inner) (w .0 .1 .0)) (c3 .row .given .1),
       columns-within (w .0 .1 .0) (w .1 .1 .2),
       w .1 .1,
     )
@@ -1395,10 +1401,10 @@ attach-struct-returns-5 : (t : ℕ) → attach-struct-lts.Need-returns-5 (attach
 attach-struct-returns-5 t c =
     let c1 = c .before in let c3 = c1 .before .before in let c9 = c3 .before .before .before .before .before .before in let c15 =
     c9 .before .before .before .before .before .before in let c20 = c15 .before .before .before .before .before in let c23 = c20 .before .before .before
-    in let c26 = c23 .before .before .before in let c31 = c26 .before .before .before .before .before in let c33 = c31 .before .before in let c39 =
-    c33 .before .before .before .before .before .before in
+    in let c26 = c23 .before .before .before in let c31 = c26 .before .before .before .before .before in let c33 = c31 .before .before in let c40 =
+    c33 .before .before .before .before .before .before .before in
     λ from T P Q lt.
-    let a = c39 .args in
+    let a = c40 .args in
     let S = part-struct (a .build .incoming) (a .over .depth) (now (a .incoming)) (a .over .incoming .at) (structPart (P .tree)) (P .end)
     (c33 .struct-part .ensures (a .build .incoming) (a .over .depth) P) (c31 .n .given .1) in
     struct-kept (a .build .matching) (a .build .policy) (defaultsAt (a .build .defaults) T) (Q .columns) (a .place .position) (P .tree) (S .inner .columns)
@@ -1417,8 +1423,8 @@ attach-transforms-enum-known-u t c = search needs
 attach-transforms-attach-leaf-requires : (t : ℕ) → attach-transforms-lts.Need-attach-leaf-requires (attach-transforms-claims t) (attach-transforms-at t)
     attach-transforms.Post
 attach-transforms-attach-leaf-requires t c κs =
-    let c2 = c .before .before in let c4 = c2 .before .before in let c11 = c4 .before .before .before .before .before .before .before in
-    let w = c11 .pre .1 in
+    let c2 = c .before .before in let c4 = c2 .before .before in let c12 = c4 .before .before .before .before .before .before .before .before in
+    let w = c12 .pre .1 in
     (w .0, ((w .1 .1 .0, w .1 .1 .2), (head-in _ (c4 .head .ensures .1) (c2 .u .given .1), λ Q. leaf-at Q (c4 .head .ensures .0) (c2 .u .given .1) .0)))
 
 attach-transforms-enum-told : (t : ℕ) → attach-transforms-lts.Need-enum-told (attach-transforms-claims t) (attach-transforms-at t) attach-transforms.Post
@@ -1450,8 +1456,8 @@ attach-transforms-same-length t c = search needs
 
 attach-transforms-returns : (t : ℕ) → attach-transforms-lts.Need-returns (attach-transforms-claims t) (attach-transforms-at t) attach-transforms.Post
 attach-transforms-returns t c =
-    let c2 = c .before .before in let c14 = c2 .before .before .before .before .before .before .before .before .before .before .before .before in
-    λ T P Q. c2 .attach-leaf .ensures (defaultsAt (c14 .args .build .defaults) T) P Q
+    let c2 = c .before .before in let c15 = c2 .before .before .before .before .before .before .before .before .before .before .before .before .before in
+    λ T P Q. c2 .attach-leaf .ensures (defaultsAt (c15 .args .build .defaults) T) P Q
 
 attach-transforms-same-length-2 : (t : ℕ) → attach-transforms-lts.Need-same-length-2 (attach-transforms-claims t) (attach-transforms-at t)
     attach-transforms.Post
@@ -1463,10 +1469,10 @@ attach-transforms-same-length-3 t c = search needs
 
 attach-transforms-returns-2 : (t : ℕ) → attach-transforms-lts.Need-returns-2 (attach-transforms-claims t) (attach-transforms-at t) attach-transforms.Post
 attach-transforms-returns-2 t c =
-    let c4 = c .before .before .before .before in let c7 = c4 .before .before .before in let c9 = c7 .before .before in let c16 =
-    c9 .before .before .before .before .before .before .before in
+    let c4 = c .before .before .before .before in let c7 = c4 .before .before .before in let c9 = c7 .before .before in let c17 =
+    c9 .before .before .before .before .before .before .before .before in
     λ T P Q.
-    let a = c16 .args in
+    let a = c17 .args in
     makes-as _ _ _ _ _ _ (nested-is (a .build .matching) (a .build .policy) (defaultsAt (a .build .defaults) T) (Q .tree) (a .place .position) (P .tree)
     (leaf-none Q _ (sym (c9 .head .ensures .0) ∙ ap (headRes _) (c7 .enum-told .given .1)) refl)) (c4 .attach-nested .ensures T P Q)
 
@@ -1480,10 +1486,10 @@ attach-transforms-same-length-5 t c = search needs
 
 attach-transforms-returns-3 : (t : ℕ) → attach-transforms-lts.Need-returns-3 (attach-transforms-claims t) (attach-transforms-at t) attach-transforms.Post
 attach-transforms-returns-3 t c =
-    let c4 = c .before .before .before .before in let c7 = c4 .before .before .before in let c9 = c7 .before .before in let c16 =
-    c9 .before .before .before .before .before .before .before in
+    let c4 = c .before .before .before .before in let c7 = c4 .before .before .before in let c9 = c7 .before .before in let c17 =
+    c9 .before .before .before .before .before .before .before .before in
     λ T P Q.
-    let a = c16 .args in
+    let a = c17 .args in
     makes-as _ _ _ _ _ _ (nested-is (a .build .matching) (a .build .policy) (defaultsAt (a .build .defaults) T) (Q .tree) (a .place .position) (P .tree)
     (leaf-none Q _ (sym (c9 .head .ensures .0) ∙ ap (headRes _) (c7 .enum-told2 .given .1)) refl)) (c4 .attach-nested2 .ensures T P Q)
 
@@ -1497,10 +1503,10 @@ attach-transforms-same-length-7 t c = search needs
 
 attach-transforms-returns-4 : (t : ℕ) → attach-transforms-lts.Need-returns-4 (attach-transforms-claims t) (attach-transforms-at t) attach-transforms.Post
 attach-transforms-returns-4 t c =
-    let c4 = c .before .before .before .before in let c7 = c4 .before .before .before in let c9 = c7 .before .before in let c16 =
-    c9 .before .before .before .before .before .before .before in
+    let c4 = c .before .before .before .before in let c7 = c4 .before .before .before in let c9 = c7 .before .before in let c17 =
+    c9 .before .before .before .before .before .before .before .before in
     λ T P Q.
-    let a = c16 .args in
+    let a = c17 .args in
     makes-as _ _ _ _ _ _ (nested-is (a .build .matching) (a .build .policy) (defaultsAt (a .build .defaults) T) (Q .tree) (a .place .position) (P .tree)
     (leaf-none Q _ (sym (c9 .head .ensures .0) ∙ ap (headRes _) (c7 .enum-told3 .given .1)) refl)) (c4 .attach-nested3 .ensures T P Q)
 
@@ -1526,7 +1532,7 @@ pub +attach-element+attach-field+attach-fields+attach-inner+attach-nested+attach
     (attach-element-same-element-requires t)
     (attach-element-returns t)
     (attach-element-put-head-requires t)
-    (attach-element-add-t25 t)
+    (attach-element-add-t26 t)
     (attach-element-attach-renamed-requires t)
     (attach-element-is-refused-requires t)
     (attach-element-same-length t)
@@ -1538,7 +1544,7 @@ pub +attach-element+attach-field+attach-fields+attach-inner+attach-nested+attach
     (attach-element-same-length-4 t)
     (attach-element-returns-3 t)
     (attach-element-len-of-requires t)
-    (attach-element-add-t35 t)
+    (attach-element-add-t36 t)
     (attach-element-same-length-5 t)
     (attach-element-same-length-6 t)
     (attach-element-returns-4 t))
@@ -1585,10 +1591,10 @@ pub +attach-element+attach-field+attach-fields+attach-inner+attach-nested+attach
     (attach-fields-same-length-3 t)
     (attach-fields-same-length-4 t)
     (attach-fields-returns-2 t)
-    (attach-fields-add-index t)
+    (attach-fields-add-i t)
     (attach-fields-loop-less t)
     (attach-fields-loop-again t)
-    (attach-fields-sub-t44 t)
+    (attach-fields-sub-t45 t)
     (attach-fields-same-length-5 t)
     (attach-fields-same-length-6 t)
     (attach-fields-returns-3 t))
@@ -1601,14 +1607,14 @@ pub +attach-element+attach-field+attach-fields+attach-inner+attach-nested+attach
     (attach-inner-enum-known-m t)
     (attach-inner-enum-told t)
     (attach-inner-returns t)
-    (attach-inner-sub-t25 t)
+    (attach-inner-sub-t26 t)
     (attach-inner-attach-element-requires t)
     (attach-inner-enum-known-width t)
     (attach-inner-array-part-requires t)
     (attach-inner-enum-known-m-2 t)
     (attach-inner-enum-told-2 t)
     (attach-inner-returns-2 t)
-    (attach-inner-sub-t33 t)
+    (attach-inner-sub-t34 t)
     (attach-inner-attach-element-requires-2 t)
     (attach-inner-enum-told-3 t)
     (attach-inner-same-length t)
@@ -1657,8 +1663,8 @@ pub +attach-element+attach-field+attach-fields+attach-inner+attach-nested+attach
     (attach-renamed-add-write-text-2 t)
     (attach-renamed-add-write-text-3 t)
     (attach-renamed-write-text-requires t)
-    (attach-renamed-add-t31 t)
-    (attach-renamed-add-t39 t)
+    (attach-renamed-add-t32 t)
+    (attach-renamed-add-t40 t)
     (attach-renamed-same-length-5 t)
     (attach-renamed-same-length-6 t)
     (attach-renamed-returns-4 t))
@@ -1677,7 +1683,7 @@ pub +attach-element+attach-field+attach-fields+attach-inner+attach-nested+attach
     (attach-struct-enum-known-n t)
     (attach-struct-enum-told t)
     (attach-struct-returns t)
-    (attach-struct-sub-t19 t)
+    (attach-struct-sub-t20 t)
     (attach-struct-struct-fault-requires t)
     (attach-struct-same-length t)
     (attach-struct-returns-2 t)
@@ -1697,7 +1703,7 @@ pub +attach-element+attach-field+attach-fields+attach-inner+attach-nested+attach
     (attach-struct-same-length-4 t)
     (attach-struct-same-length-5 t)
     (attach-struct-returns-4 t)
-    (attach-struct-add-t29 t)
+    (attach-struct-add-t30 t)
     (attach-struct-same-length-6 t)
     (attach-struct-same-length-7 t)
     (attach-struct-returns-5 t))
