@@ -5,7 +5,6 @@ use mathlib.Core.Bool.{Bool, true, false}
 use mathlib.Core.List.{List, [], _∷_}
 use native.Mathlib.Decide.{ℕ-discrete}
 use native.Mathlib.Omega.{arith}
-use lib.ListN.{length, getD}
 use Rattle.layout.specs.Bytes.{Bytes}
 use Rattle.layout.specs.Parser.{ok, next, u16}
 use Rattle.layout.specs.Tree.{Label, Columns, cnil, dtypeOf, fieldsOf}
@@ -36,7 +35,7 @@ use Rattle.overflow.specs.declared.scan.Sought.{Sought}
 use Rattle.overflow.proofs.Asking.{raw-of}
 use Rattle.overflow.proofs.Raw.{LeafValue}
 use Rattle.overflow.proofs.Scanning.{Scanning, list-elements, scanning-none, scanning-all, scanning-raw, scanning-more}
-use Rattle.nullness.specs.Nulls.{FieldStart, ElementStart, PartStart, p-field, p-list, p-array, Inside, i-here, i-part, NullsOf, EachOf, RowOf, Grown}
+use Rattle.nullness.specs.Nulls.{FieldStart, ElementStart, PartStart, p-field, p-list, p-array, Inside, i-here, i-part, IsNull, NullsOf, EachOf, RowOf, Grown}
 use Rattle.nullness.proofs.Table.{nulls-of-more}
 
 -- ---- one value
@@ -55,22 +54,22 @@ module _ {s : Bytes} {nulls : List ℕ} {t : ℕ} where
   each-as {us = us} {vs} e f E = let z : us ≡ vs = cc in subst (λ (ws : Values). EachOf s nulls t ws) z E
 
 module _ {s : Bytes} {nulls : List ℕ} {t : ℕ} {x : Value} where
-  pub null-nulls : x ≡ vnull → getD nulls t 0 ≡ 0 → NullsOf s nulls t x
+  pub null-nulls : x ≡ vnull → IsNull nulls t → NullsOf s nulls t x
   unfolding someSought somePart
   null-nulls e h = record { clean = λ p o I u. go p o I u }
     where
-      go : (p : List ℕ) (o : ℕ) → Inside s t p o → (getD nulls o 0 ≡ 0 → ⊥) → someSought Sought.Null p x ≡ false
+      go : (p : List ℕ) (o : ℕ) → Inside s t p o → (IsNull nulls o → ⊥) → someSought Sought.Null p x ≡ false
       go [] o i-here u = absurd (u h)
       go (k ∷ p) o I u = ap (λ (y : Value). somePart k (λ z. someSought Sought.Null p z) y) e
 
   -- of a value that is present, by its parts
   parts-nulls : isNullValue x ≡ false
-      → ((k b : ℕ) → PartStart s t k b → (p : List ℕ) (o : ℕ) → Inside s b p o → (getD nulls o 0 ≡ 0 → ⊥) → somePart k (λ z. someSought Sought.Null p z) x ≡ false)
+      → ((k b : ℕ) → PartStart s t k b → (p : List ℕ) (o : ℕ) → Inside s b p o → (IsNull nulls o → ⊥) → somePart k (λ z. someSought Sought.Null p z) x ≡ false)
       → NullsOf s nulls t x
   unfolding someSought
   parts-nulls e h = record { clean = λ p o I u. go p o I u }
     where
-      go : (p : List ℕ) (o : ℕ) → Inside s t p o → (getD nulls o 0 ≡ 0 → ⊥) → someSought Sought.Null p x ≡ false
+      go : (p : List ℕ) (o : ℕ) → Inside s t p o → (IsNull nulls o → ⊥) → someSought Sought.Null p x ≡ false
       go [] o I u = e
       go (k ∷ p) o (i-part {m = b} P I) u = h k b P p o I u
 
@@ -132,7 +131,7 @@ module _ {s : Bytes} {nulls : List ℕ} {t : ℕ} {x : Value} where
 
 pub record Elements (s : Bytes) (n t c : ℕ) (nulls : List ℕ) (i at : ℕ) : Type 0 where
   pub all : Scanning One s n t s c (λ x. false) i at
-  pub clean : (p : List ℕ) (o : ℕ) → Inside s t p o → (getD nulls o 0 ≡ 0 → ⊥) → Scanning One s n t s c (λ x. someSought Sought.Null p x) i at
+  pub clean : (p : List ℕ) (o : ℕ) → Inside s t p o → (IsNull nulls o → ⊥) → Scanning One s n t s c (λ x. someSought Sought.Null p x) i at
 
 module _ {s : Bytes} {n t c : ℕ} {nulls : List ℕ} where
   pub elements-none : ElementsAt One s n t s c → Elements s n t c nulls 0 c
@@ -220,7 +219,6 @@ value-first vs e = rw e
 
 module _ {s : Bytes} {n t c : ℕ} {nulls : List ℕ} where
   pub row-none : RowAt One s n t s c → Row s n t c nulls 0 t c
-  unfolding row-as
   row-none X = record {
     within = omega arith;
     whole = X;
@@ -287,8 +285,9 @@ pub type-read : {s : Bytes} {at : ℕ} {r : Moved} {d : Cursor} → r ≡ movedO
 type-read {s} {at} {d = d} e f = let (t, p) = moved-to (typeOf One Free deepest s at) e f in (record { tree = t; end = d .at; reads = p }, refl)
 
 module _ {s : Bytes} {t c : ℕ} (T : TypeAt One deepest s t) where
-  pub value-read : {r : Moved} {d : Cursor} → ((P : TypeAt One deepest s t) → r ≡ movedOf (value (dtypeOf (P .tree)) s c)) → r ≡ Moved.To d → RawAt One s t s c
-  value-read {d = d} g f = let (x, p) = moved-to (value (dtypeOf (T .tree)) s c) (g T) f in record { type = T; value = record { tree = x; end = d .at; reads = p } }
+  pub value-read : {r : Moved} {d : Cursor} → ((P : TypeAt One deepest s t) → r ≡ movedOf (value (dtypeOf (P .tree)) s c)) → r ≡ Moved.To d → c ≡ T .end
+      → (X : RawAt One s t s c) × (c ≡ X .type .end)
+  value-read {d = d} g f e = let (x, p) = moved-to (value (dtypeOf (T .tree)) s c) (g T) f in (record { type = T; value = record { tree = x; end = d .at; reads = p } }, e)
 
   pub constant-nulls : {nulls : List ℕ} → c ≡ T .end → ((X : RawAt One s t s c) → NullsOf s nulls t (X .value .tree)) → (X : RawIn s t) → NullsOf s nulls t (X .value .tree)
   constant-nulls e N X = let R = raw-of X (e ∙ same-type T (X .type) .1) in nulls-as (R .is) (N (R .raw))

@@ -22,7 +22,7 @@ use Rattle.overflow.specs.Some.{someSought}
 use Rattle.overflow.specs.Seek.{RawIn}
 use Rattle.overflow.specs.declared.scan.Sought.{Sought}
 use Rattle.overflow.proofs.Scanning.{path-end, path-cons}
-use Rattle.nullness.specs.Nulls.{FieldStart, ElementStart, PartStart, p-field, p-list, p-array, Inside, i-here, i-part, Nulls}
+use Rattle.nullness.specs.Nulls.{FieldStart, ElementStart, PartStart, p-field, p-list, p-array, Inside, i-here, i-part, IsNull, KnownAt, Nulls}
 use Rattle.nullness.specs.declared.nulls.TypePart.{TypePart}
 
 -- ---- a part
@@ -74,6 +74,6 @@ module _ {s : Bytes} {t : ℕ} {path : List ℕ} {from len at i : ℕ} (L : Look
   looking-end : len ≤ i → Inside s t (slice from len path) at
   looking-end h = L .inside at (subst (λ (p : List ℕ). Inside s at p at) (sym (path-end i len path (let w = L .within in omega arith))) i-here)
 
-  pub looking-clean : {nulls : List ℕ} → Nulls s nulls → getD nulls t 0 ≡ 2 → len ≤ i → (getD nulls at 0 ≡ 0 → ⊥) → (X : RawIn s t)
+  pub looking-clean : {nulls : List ℕ} → Nulls s nulls → KnownAt nulls t → len ≤ i → (IsNull nulls at → ⊥) → (X : RawIn s t)
       → someSought Sought.Null (slice from len path) (X .value .tree) ≡ false
   looking-clean N e h u X = N .holds t e X .clean (slice from len path) at (looking-end h) u

@@ -1,7 +1,7 @@
 -- The nulls of a plan's constants, by where the types of their places stand; and what a table of them says.
-use Prim.Native.Nat.{ℕ, _<_}
+use Prim.Native.Nat.{ℕ, _+_, _/_, _%_, _^_, _<_}
 use mathlib.Core.Path.{_≡_}
-use mathlib.Core.Bool.{false}
+use mathlib.Core.Bool.{Bool, true, false}
 use mathlib.Core.List.{List, [], _∷_}
 use lib.ListN.{getD}
 use Rattle.layout.specs.Bytes.{Bytes}
@@ -44,28 +44,36 @@ pub data Inside (s : Bytes) : ℕ → List ℕ → ℕ → Type 0 where
 
 -- ---- the table
 
+-- the bit of the offset o is set
+abbrev pub IsNull : List ℕ → ℕ → Type 0
+IsNull nulls o = o < 65536 → getD nulls (o / 64) 0 / 2 ^ (o % 64) % 2 ≡ 1
+
+-- the constant whose type stands at t is known
+abbrev pub KnownAt : List ℕ → ℕ → Type 0
+KnownAt nulls t = getD nulls (1024 + t / 1024) 0 ≡ t + 1
+
 -- the value x, of the type at t, has nulls only at places that the table has
 pub record NullsOf (s : Bytes) (nulls : List ℕ) (t : ℕ) (x : Value) : Type 0 where
-  pub clean : (p : List ℕ) (o : ℕ) → Inside s t p o → (getD nulls o 0 ≡ 0 → ⊥) → someSought Sought.Null p x ≡ false
+  pub clean : (p : List ℕ) (o : ℕ) → Inside s t p o → (IsNull nulls o → ⊥) → someSought Sought.Null p x ≡ false
 
 -- the same of each of some values
 pub record EachOf (s : Bytes) (nulls : List ℕ) (t : ℕ) (vs : Values) : Type 0 where
-  pub clean : (p : List ℕ) (o : ℕ) → Inside s t p o → (getD nulls o 0 ≡ 0 → ⊥) → anyOf (λ x. someSought Sought.Null p x) vs ≡ false
+  pub clean : (p : List ℕ) (o : ℕ) → Inside s t p o → (IsNull nulls o → ⊥) → anyOf (λ x. someSought Sought.Null p x) vs ≡ false
 
 -- the same of the values of n fields, which begin at t
 pub record RowOf (s : Bytes) (nulls : List ℕ) (n t : ℕ) (vs : Values) : Type 0 where
   pub field : (k to : ℕ) → k < n → FieldStart s t k to → NullsOf s nulls to (valueAt vs k)
 
--- 2 stands where the type of a constant begins, all of whose nulls are in the table
+-- the table has all nulls of the constants that are known
 pub record Nulls (plan : Bytes) (nulls : List ℕ) : Type 0 where
-  pub holds : (t : ℕ) → getD nulls t 0 ≡ 2 → (X : RawIn plan t) → NullsOf plan nulls t (X .value .tree)
+  pub holds : (t : ℕ) → KnownAt nulls t → (X : RawIn plan t) → NullsOf plan nulls t (X .value .tree)
 
 -- nulls were put into a table, and nothing else
 pub record Grown (nulls next : List ℕ) : Type 0 where
-  pub keeps : (o : ℕ) → getD nulls o 0 ≡ 0 → getD next o 0 ≡ 0
-  pub known : (o : ℕ) → getD next o 0 ≡ 2 → getD nulls o 0 ≡ 2
+  pub keeps : (o : ℕ) → IsNull nulls o → IsNull next o
+  pub known : (t : ℕ) → KnownAt next t → KnownAt nulls t
 
--- the same, and one at the place whose type stands at `at`
-pub record NullKept (nulls : List ℕ) (at : ℕ) (next : List ℕ) : Type 0 where
+-- the same, and by the answer r one at the place whose type stands at `at`
+pub record NullKept (nulls : List ℕ) (at : ℕ) (r : Bool) (next : List ℕ) : Type 0 where
   pub grown : Grown nulls next
-  pub kept : getD next at 0 ≡ 0
+  pub kept : r ≡ true → IsNull next at

@@ -34,7 +34,7 @@ fn fill_value(
     t: Cursor,
     c: Cursor,
     ends: &[u16],
-    nulls: &mut [u8],
+    nulls: &mut [u64],
 ) -> bool
     requires { ⌜ Ends EditionOf.One (now plan) (now ends) ⌝ }
     requires { ⌜ RawAt EditionOf.One (now plan) (t .at) (now plan) (c .at) ⌝ }
@@ -45,10 +45,7 @@ fn fill_value(
         return false;
     }
     match read_presence(plan, c) {
-        Presence::Null(_) => {
-            keep_null(nulls, t.at);
-            true
-        }
+        Presence::Null(_) => keep_null(nulls, t.at),
         Presence::Present(d) => fill_content(plan, depth - 1, t, d, ends, nulls),
         Presence::Refused(_) => false,
     }
@@ -61,7 +58,7 @@ fn fill_content(
     t: Cursor,
     c: Cursor,
     ends: &[u16],
-    nulls: &mut [u8],
+    nulls: &mut [u64],
 ) -> bool
     requires { ⌜ Ends EditionOf.One (now plan) (now ends) ⌝ }
     requires { ⌜ PresentAt EditionOf.One (now plan) (t .at) (now plan) (c .at) ⌝ }
@@ -91,7 +88,7 @@ fn fill_fields(
     t: Cursor,
     c: Cursor,
     ends: &[u16],
-    nulls: &mut [u8],
+    nulls: &mut [u64],
 ) -> bool
     requires { ⌜ Ends EditionOf.One (now plan) (now ends) ⌝ }
     requires { ⌜ RowAt EditionOf.One (now plan) n (t .at) (now plan) (c .at) ⌝ }
@@ -125,7 +122,7 @@ fn fill_fields(
 }
 
 // A count and as many values of the type at `t`.
-fn fill_list(plan: &[u8], depth: u8, t: Cursor, c: Cursor, ends: &[u16], nulls: &mut [u8]) -> bool
+fn fill_list(plan: &[u8], depth: u8, t: Cursor, c: Cursor, ends: &[u16], nulls: &mut [u64]) -> bool
     requires { ⌜ Ends EditionOf.One (now plan) (now ends) ⌝ }
     requires { ⌜ ListOf EditionOf.One (now plan) (t .at) (now plan) (c .at) ⌝ }
     ensures { λ _. ⌜ Grown (now (nulls .entry)) (now (nulls .exit)) ⌝ }
@@ -145,7 +142,7 @@ fn fill_elements(
     t: Cursor,
     c: Cursor,
     ends: &[u16],
-    nulls: &mut [u8],
+    nulls: &mut [u64],
 ) -> bool
     requires { ⌜ Ends EditionOf.One (now plan) (now ends) ⌝ }
     requires { ⌜ ElementsAt EditionOf.One (now plan) n (t .at) (now plan) (c .at) ⌝ }
@@ -172,8 +169,28 @@ fn fill_elements(
 
 // ---- a plan's selectors. The answer is where a selector ends; a refusal leaves the rest to scans.
 
+// Whether a constant is worth a pass.
+fn is_large(from: usize, to: usize) -> bool {
+    if to < 1024 {
+        return false;
+    }
+    from <= to - 1024
+}
+
 // The constant of the type at `t`, whose value stands at `c`.
-fn fill_known(plan: &[u8], t: Cursor, c: Cursor, nulls: &mut [u8]) -> Moved
+fn fill_large(plan: &[u8], t: Cursor, c: Cursor, nulls: &mut [u64])
+    requires { ⌜ ((X : RawAt EditionOf.One (now plan) (t .at) (now plan) (c .at)) × (c .at ≡ X .type .end)) ⌝ }
+    requires { ⌜ Nulls (now plan) (now nulls) ⌝ }
+    ensures { λ _. ⌜ Nulls (now (plan .entry)) (now (nulls .exit)) ⌝ }
+{
+    let none: [u16; 1] = [0; 1];
+    if fill_value(plan, 16, t, c, &none[..0], nulls) {
+        keep_constant(nulls, t.at);
+    }
+}
+
+// The same, where its value is not read yet.
+fn fill_known(plan: &[u8], t: Cursor, c: Cursor, nulls: &mut [u64]) -> Moved
     requires { ⌜ ((T : TypeAt EditionOf.One 16 (now plan) (t .at)) × (c .at ≡ T .end)) ⌝ }
     requires { ⌜ Nulls (now plan) (now nulls) ⌝ }
     ensures { λ _. ⌜ Nulls (now (plan .entry)) (now (nulls .exit)) ⌝ }
@@ -181,8 +198,8 @@ fn fill_known(plan: &[u8], t: Cursor, c: Cursor, nulls: &mut [u8]) -> Moved
     let none: [u16; 1] = [0; 1];
     match read_element(plan, Edition::One, 16, t, plan, c, &none[..0]) {
         Moved::To(d) => {
-            if fill_value(plan, 16, t, c, &none[..0], nulls) {
-                keep_constant(nulls, t.at);
+            if is_large(t.at, d.at) {
+                fill_large(plan, t, c, nulls);
             }
             Moved::To(d)
         }
@@ -191,7 +208,7 @@ fn fill_known(plan: &[u8], t: Cursor, c: Cursor, nulls: &mut [u8]) -> Moved
 }
 
 // A name, a type and a value of it.
-fn fill_constant(plan: &[u8], c: Cursor, nulls: &mut [u8]) -> Moved
+fn fill_constant(plan: &[u8], c: Cursor, nulls: &mut [u64]) -> Moved
     requires { ⌜ Nulls (now plan) (now nulls) ⌝ }
     ensures { λ _. ⌜ Nulls (now (plan .entry)) (now (nulls .exit)) ⌝ }
 {
@@ -205,7 +222,7 @@ fn fill_constant(plan: &[u8], c: Cursor, nulls: &mut [u8]) -> Moved
 }
 
 // A selector of at most `depth` levels. What a cast takes is a leaf, which is scanned at once.
-fn fill_selector(plan: &[u8], depth: u8, c: Cursor, nulls: &mut [u8]) -> Moved
+fn fill_selector(plan: &[u8], depth: u8, c: Cursor, nulls: &mut [u64]) -> Moved
     requires { ⌜ Nulls (now plan) (now nulls) ⌝ }
     ensures { λ _. ⌜ Nulls (now (plan .entry)) (now (nulls .exit)) ⌝ }
 {
@@ -224,7 +241,7 @@ fn fill_selector(plan: &[u8], depth: u8, c: Cursor, nulls: &mut [u8]) -> Moved
     }
 }
 
-fn fill_rename(plan: &[u8], depth: u8, c: Cursor, nulls: &mut [u8]) -> Moved
+fn fill_rename(plan: &[u8], depth: u8, c: Cursor, nulls: &mut [u64]) -> Moved
     requires { ⌜ Nulls (now plan) (now nulls) ⌝ }
     ensures { λ _. ⌜ Nulls (now (plan .entry)) (now (nulls .exit)) ⌝ }
 {
@@ -237,7 +254,7 @@ fn fill_rename(plan: &[u8], depth: u8, c: Cursor, nulls: &mut [u8]) -> Moved
     }
 }
 
-fn fill_struct(plan: &[u8], depth: u8, c: Cursor, nulls: &mut [u8]) -> Moved
+fn fill_struct(plan: &[u8], depth: u8, c: Cursor, nulls: &mut [u64]) -> Moved
     requires { ⌜ Nulls (now plan) (now nulls) ⌝ }
     ensures { λ _. ⌜ Nulls (now (plan .entry)) (now (nulls .exit)) ⌝ }
 {
@@ -251,7 +268,7 @@ fn fill_struct(plan: &[u8], depth: u8, c: Cursor, nulls: &mut [u8]) -> Moved
 }
 
 // A list or array mapping.
-fn fill_mapping(plan: &[u8], depth: u8, c: Cursor, nulls: &mut [u8]) -> Moved
+fn fill_mapping(plan: &[u8], depth: u8, c: Cursor, nulls: &mut [u64]) -> Moved
     requires { ⌜ Nulls (now plan) (now nulls) ⌝ }
     ensures { λ _. ⌜ Nulls (now (plan .entry)) (now (nulls .exit)) ⌝ }
 {
@@ -262,7 +279,7 @@ fn fill_mapping(plan: &[u8], depth: u8, c: Cursor, nulls: &mut [u8]) -> Moved
 }
 
 // `n` selectors, each of at most `depth` levels.
-pub fn fill_selectors(plan: &[u8], depth: u8, n: u16, c: Cursor, nulls: &mut [u8]) -> Moved
+pub fn fill_selectors(plan: &[u8], depth: u8, n: u16, c: Cursor, nulls: &mut [u64]) -> Moved
     requires { ⌜ Nulls (now plan) (now nulls) ⌝ }
     ensures { λ _. ⌜ Nulls (now (plan .entry)) (now (nulls .exit)) ⌝ }
 {

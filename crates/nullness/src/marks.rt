@@ -32,7 +32,7 @@ fn meets_place(
     n: u16,
     index: &[u16],
     plan: &[u8],
-    nulls: &[u8],
+    nulls: &[u64],
     top: usize,
     required: bool,
     path: [u16; 64],
@@ -64,7 +64,7 @@ fn meets_type(
     n: u16,
     index: &[u16],
     plan: &[u8],
-    nulls: &[u8],
+    nulls: &[u64],
     top: usize,
     tgt: &[u8],
     y: Edition,
@@ -149,7 +149,7 @@ fn meets_element(
     n: u16,
     index: &[u16],
     plan: &[u8],
-    nulls: &[u8],
+    nulls: &[u64],
     top: usize,
     tgt: &[u8],
     y: Edition,
@@ -190,7 +190,7 @@ fn meets_fields(
     n: u16,
     index: &[u16],
     plan: &[u8],
-    nulls: &[u8],
+    nulls: &[u64],
     top: usize,
     tgt: &[u8],
     y: Edition,
@@ -248,7 +248,7 @@ fn meets_columns(
     n: u16,
     index: &[u16],
     plan: &[u8],
-    nulls: &[u8],
+    nulls: &[u64],
     tgt: &[u8],
     y: Edition,
     m: u16,
@@ -310,7 +310,7 @@ fn meets_by_table(
     requires { ⌜ ((P : ColumnsAt v 16 (now incoming) n 7) × (D : ColumnsAt y 16 (now tgt) m 7) × PlanAt (now plan) 7 (fieldsOf (P .columns)) (fieldsOf (D .columns))) ⌝ }
     ensures { λ r. ⌜ ((P : ColumnsAt v 16 (now (incoming .entry)) n 7) (D : ColumnsAt y 16 (now (tgt .entry)) m 7) (S : PlanAt (now (plan .entry)) 7 (fieldsOf (P .columns)) (fieldsOf (D .columns))) → r ≡ meetsAll (nullnessesOf (givens (P .columns)) (S .selectors .trees)) (D .columns)) ⌝ }
 {
-    let mut nulls = [1u8; 65536];
+    let mut nulls = [0u64; 1088];
     fill_selectors(plan, 64, m, Cursor { at: 7 }, &mut nulls);
     meets_columns(incoming, v, n, index, plan, &nulls, tgt, y, m)
 }
@@ -331,7 +331,7 @@ pub fn meets_marks(
     let mut starts = [0u16; 256];
     let j = index_columns(incoming, v, n, Cursor { at: 7 }, stride_of(n), &mut starts);
     if plan.len() < 1024 {
-        let none = [0u8; 1];
+        let none = [0u64; 1];
         return meets_columns(incoming, v, n, &starts[..j], plan, &none[..0], tgt, y, m);
     }
     meets_by_table(incoming, v, n, &starts[..j], plan, tgt, y, m)

@@ -1,49 +1,92 @@
-// A table of the nulls in a plan's constants, by the offset in the plan at which the type of a place stands: 0 where one of
-// the values at that place is null; 2 where the type of a constant begins, all of whose nulls are in the table; 1 elsewhere.
-// It is a help, never needed: what the table does not have is found by a scan of the constant.
-ghost use mathlib.Core.Bool.{false};
+// A table of the nulls in a plan's constants. The first 1,024 words have a bit for each offset of the plan: set where a type
+// stands of a place at which one of the values is null. The 64 words behind them have the constants all of whose nulls are in
+// the table, by the offset of their type, one more than it, each in the word of its offset by 1,024: a constant of so many bytes
+// has that word for itself, and smaller ones are not worth a pass. The table is a help, never needed: what it does not have is
+// found by a scan of the constant.
+ghost use mathlib.Core.Bool.{true, false};
 ghost use mathlib.Core.Path.{_≡_};
-ghost use Prim.Native.Nat.{_≤_};
-ghost use lib.ListN.{length, getD};
+ghost use Prim.Native.Nat.{_/_, _%_, _^_, _≤_, _<_};
+ghost use lib.Dec.{eqb};
+ghost use lib.ListN.{length};
 ghost use lib.Seq.{slice};
 ghost use Rattle.layout.specs.Bytes.{Bytes};
 ghost use Rattle.overflow.specs.Some.{someSought};
 ghost use Rattle.overflow.specs.Seek.{RawIn};
 ghost use Rattle.overflow.specs.declared.scan.Sought.{Sought as SoughtOf};
-ghost use Rattle.nullness.specs.Nulls.{FieldStart, ElementStart, PartStart, NullsOf, Nulls, NullKept};
+ghost use Rattle.nullness.specs.Nulls.{FieldStart, ElementStart, PartStart, IsNull, KnownAt, NullsOf, Nulls, NullKept};
 use layout::columns::Labelled;
 use layout::cursor::Cursor;
 use layout::cursor::Moved;
 use layout::edition::Edition;
 use layout::pass::pass_columns;
 use layout::types::Head;
+use numeric::round::power;
 
-// The entry of an offset; past the end of the table as if a null were there.
-fn entry_at(nulls: &[u8], at: usize) -> u8
-    ensures { λ r. ⌜ r ≡ getD (now (nulls .entry)) at 0 ⌝ }
+// Whether a bit of a word is set.
+fn is_set(w: u64, j: u64) -> bool
+    requires { ⌜ j < 64 ⌝ }
+    ensures { λ r. ⌜ r ≡ eqb (w / 2 ^ j % 2) 1 ⌝ }
 {
-    if at < nulls.len() { nulls[at] } else { 0 }
+    (w >> j) % 2 == 1
 }
 
-// A null at a place whose type stands at `at`.
-pub fn keep_null(nulls: &mut [u8], at: usize)
-    ensures { λ _. ⌜ NullKept (now (nulls .entry)) at (now (nulls .exit)) ⌝ }
+// Whether a null may stand at a place whose type stands at `at`.
+fn is_null(nulls: &[u64], at: usize) -> bool
+    ensures { λ r. ⌜ (r ≡ false → IsNull (now (nulls .entry)) at → ⊥) ⌝ }
 {
-    if at < nulls.len() {
-        nulls[at] = 0;
+    if 65535 < at {
+        return true;
     }
+    let word = at / 64;
+    if nulls.len() <= word {
+        return true;
+    }
+    is_set(nulls[word], (at % 64) as u64)
+}
+
+// A null at a place whose type stands at `at`; or the table has no bit for it.
+pub fn keep_null(nulls: &mut [u64], at: usize) -> bool
+    ensures { λ r. ⌜ NullKept (now (nulls .entry)) at r (now (nulls .exit)) ⌝ }
+{
+    if 65535 < at {
+        return false;
+    }
+    let word = at / 64;
+    if nulls.len() <= word {
+        return false;
+    }
+    let b = power((at % 64) as u64);
+    let old = nulls[word];
+    nulls[word] = old | b;
+    true
+}
+
+// Whether the table has all nulls of the constant whose type stands at `at`.
+fn is_known(nulls: &[u64], at: usize) -> bool
+    ensures { λ r. ⌜ (r ≡ true → KnownAt (now (nulls .entry)) at) ⌝ }
+{
+    if 65535 < at {
+        return false;
+    }
+    let slot = 1024 + at / 1024;
+    if nulls.len() <= slot {
+        return false;
+    }
+    nulls[slot] == (at as u64) + 1
 }
 
 // A constant whose type stands at `at`, and whose nulls are in the table.
-pub fn keep_constant(nulls: &mut [u8], at: usize)
+pub fn keep_constant(nulls: &mut [u64], at: usize)
     ensures { λ _. ⌜ ((plan : Bytes) → Nulls plan (now (nulls .entry)) → ((X : RawIn plan at) → NullsOf plan (now (nulls .entry)) at (X .value .tree)) → Nulls plan (now (nulls .exit))) ⌝ }
 {
-    if nulls.len() <= at {
+    if 65535 < at {
         return;
     }
-    if nulls[at] == 1 {
-        nulls[at] = 2;
+    let slot = 1024 + at / 1024;
+    if nulls.len() <= slot {
+        return;
     }
+    nulls[slot] = (at as u64) + 1;
 }
 
 // Where the type of a part stands.
@@ -101,13 +144,13 @@ pub fn may_be_null(
     path: [u16; 64],
     from: usize,
     len: usize,
-    nulls: &[u8],
+    nulls: &[u64],
 ) -> bool
     requires { ⌜ Nulls (now plan) (now nulls) ⌝ }
     requires { ⌜ (from ≤ len) × (len ≤ length path) ⌝ }
     ensures { λ r. ⌜ (r ≡ false → (X : RawIn (now (plan .entry)) (t .at)) → someSought SoughtOf.Null (slice from len path) (X .value .tree) ≡ false) ⌝ }
 {
-    if entry_at(nulls, t.at) != 2 {
+    if !is_known(nulls, t.at) {
         return true;
     }
     let mut at = t.at;
@@ -121,5 +164,5 @@ pub fn may_be_null(
         }
         i += 1;
     }
-    entry_at(nulls, at) == 0
+    is_null(nulls, at)
 }

@@ -53,7 +53,7 @@ fn at_position(incoming: &[u8], v: Edition, n: u16, index: &[u16], k: Position, 
 }
 
 // Whose type stands at `t`: no null may stand among the values at the path.
-fn at_constant(plan: &[u8], nulls: &[u8], t: Cursor, w: Walk) -> Stop
+fn at_constant(plan: &[u8], nulls: &[u64], t: Cursor, w: Walk) -> Stop
     requires { ⌜ Nulls (now plan) (now nulls) ⌝ }
     requires { ⌜ RawIn (now plan) (t .at) × ((x : State) × WalkAt (now plan) w x) ⌝ }
     ensures { λ r. ⌜ ((X : RawIn (now (plan .entry)) (t .at)) (x : State) → WalkAt (now (plan .entry)) w x → r ≡ answered (not (someSought SoughtOf.Null (x .path) (X .value .tree)))) ⌝ }
@@ -82,7 +82,7 @@ fn at_transform(w: Walk) -> Stop
     }
 }
 
-pub fn at_stop(incoming: &[u8], v: Edition, n: u16, index: &[u16], plan: &[u8], nulls: &[u8], w: Walk) -> Stop
+pub fn at_stop(incoming: &[u8], v: Edition, n: u16, index: &[u16], plan: &[u8], nulls: &[u64], w: Walk) -> Stop
     requires { ⌜ ColumnsAt v 16 (now incoming) n 7 ⌝ }
     requires { ⌜ Indexed v (now incoming) n 7 (strideOf n) (now index) × Nulls (now plan) (now nulls) ⌝ }
     requires { ⌜ ((x : State) × WalkAt (now plan) w x) ⌝ }

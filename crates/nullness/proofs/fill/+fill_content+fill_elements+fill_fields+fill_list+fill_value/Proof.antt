@@ -349,7 +349,7 @@ fill-value-same-length : (t : ℕ) → fill-value-lts.Need-same-length (read-pre
 fill-value-same-length t c = search needs
 
 fill-value-returns-2 : (t : ℕ) → fill-value-lts.Need-returns-2 (read-presence-reads.Asked, read-presence-reads.Learnt, keep-null-reads.Asked, keep-null-reads.Learnt, fill-content-below t, fill-content.Post) (fill-value-at t) fill-value.Post
-fill-value-returns-2 t c = (c .before .before .keep-null .ensures .grown, λ e X. null-nulls (null-at (X .value) (c .before .before .before .before .before .before .read-presence .ensures) (c .before .before .before .before .enum-told .given .1) .0) (c .before .before .keep-null .ensures .kept))
+fill-value-returns-2 t c = (c .before .before .keep-null .ensures .grown, λ e X. null-nulls (null-at (X .value) (c .before .before .before .before .before .before .read-presence .ensures) (c .before .before .before .before .enum-told .given .1) .0) (c .before .before .keep-null .ensures .kept e))
 
 fill-value-same-length-2 : (t : ℕ) → fill-value-lts.Need-same-length-2 (read-presence-reads.Asked, read-presence-reads.Learnt, keep-null-reads.Asked, keep-null-reads.Learnt, fill-content-below t, fill-content.Post) (fill-value-at t) fill-value.Post
 fill-value-same-length-2 t c = search needs

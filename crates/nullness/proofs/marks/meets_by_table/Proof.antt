@@ -1,4 +1,4 @@
-use Rattle.nullness.proofs.Table.{nulls-ones}
+use Rattle.nullness.proofs.Table.{nulls-zeros}
 use borrow.Author.Needs.{needs}
 use Rattle.nullness.proofs.marks.meets_by_table.Statement.{statement}
 use Rattle.nullness.proofs.marks.meets_by_table.Tie as tie
@@ -11,7 +11,7 @@ slice-aggregate-fill-selectors : tie.Need-slice-aggregate-fill-selectors
 slice-aggregate-fill-selectors c = search needs
 
 fill-selectors-requires : tie.Need-fill-selectors-requires
-fill-selectors-requires c κs = nulls-ones 65536
+fill-selectors-requires c κs = nulls-zeros 1088
 
 slice-aggregate-meets-columns : tie.Need-slice-aggregate-meets-columns
 slice-aggregate-meets-columns c = search needs

@@ -8,8 +8,17 @@ use Rattle.nullness.proofs.nulls.keep_constant.Lts as lts
 returns : tie.Need-returns
 returns c = λ plan N C. N
 
-slice-read-if2 : tie.Need-slice-read-if2
-slice-read-if2 c = search needs
+add-slot : tie.Need-add-slot
+add-slot c = search needs
+
+returns-2 : tie.Need-returns-2
+returns-2 c = λ plan N C. N
+
+add-nulls : tie.Need-add-nulls
+add-nulls c = search needs
+
+mul-nulls : tie.Need-mul-nulls
+mul-nulls c = search needs
 
 slice-write-nulls : tie.Need-slice-write-nulls
 slice-write-nulls c = search needs
@@ -17,12 +26,18 @@ slice-write-nulls c = search needs
 same-length : tie.Need-same-length
 same-length c = search needs
 
-returns-2 : tie.Need-returns-2
-returns-2 c = λ plan N C. nulls-constant N (c .before .before .if1 .left) (c .if2 .taken) C
-
 returns-3 : tie.Need-returns-3
-returns-3 c = λ plan N C. N
+returns-3 c = λ plan N C. nulls-constant N (c .if2 .left) C
 
 pub keep-constant-spec : {M : Type 1} → statement M
 keep-constant-spec =
-    tie.close (tie.spec returns slice-read-if2 slice-write-nulls same-length returns-2 returns-3)
+    tie.close
+    (tie.spec
+    returns
+    add-slot
+    returns-2
+    add-nulls
+    mul-nulls
+    slice-write-nulls
+    same-length
+    returns-3)

@@ -1,5 +1,4 @@
-use borrow.Author.Tests.{eqb-false}
-use mathlib.Core.Path.{sym, _∙_}
+use Rattle.walk.proofs.Ending.{told}
 use Rattle.layout.proofs.Ways.{clash}
 use Rattle.nullness.proofs.Looking.{Looking, looking-start, looking-more, looking-clean}
 use native.Mathlib.Omega.{arith}
@@ -9,7 +8,8 @@ use Rattle.nullness.proofs.nulls.may_be_null.Statement.{statement}
 use Rattle.nullness.proofs.nulls.may_be_null.Tie as tie
 use Rattle.nullness.proofs.nulls.may_be_null.Reads as reads
 use Rattle.nullness.proofs.nulls.may_be_null.Lts as lts
-use Rattle.nullness.proofs.nulls.entry_at.Reads as entry-at-reads
+use Rattle.nullness.proofs.nulls.is_known.Reads as is-known-reads
+use Rattle.nullness.proofs.nulls.is_null.Reads as is-null-reads
 use Rattle.nullness.proofs.nulls.part_start.Reads as part-start-reads
 
 abbrev Inv-loop : tie.InvT-loop
@@ -18,8 +18,8 @@ Inv-loop plan from len nulls path at₀ i₀ at i = Looking plan at₀ path from
 abbrev μ-loop : tie.MeasureT-loop
 μ-loop plan from len nulls path at₀ i₀ at i = len - i
 
-entry-at-requires : tie.Need-entry-at-requires Inv-loop μ-loop
-entry-at-requires c κs = search needs
+is-known-requires : tie.Need-is-known-requires Inv-loop μ-loop
+is-known-requires c κs = search needs
 
 returns : tie.Need-returns Inv-loop μ-loop
 returns c = λ e. clash (cc)
@@ -54,11 +54,11 @@ loop-less c = search needs
 loop-again : tie.Need-loop-again Inv-loop μ-loop
 loop-again c = looking-more (c .before .before .before .before .before .loop .inv) (c .before .before .before .before .loop-test .taken) (c .before .before .before .before .before .before .before .before .before .before .pre .1 .1) (c .before .before .before .part-start .ensures) (c .before .e .given .1)
 
-entry-at-requires-2 : tie.Need-entry-at-requires-2 Inv-loop μ-loop
-entry-at-requires-2 c κs = search needs
+is-null-requires : tie.Need-is-null-requires Inv-loop μ-loop
+is-null-requires c κs = search needs
 
 returns-3 : tie.Need-returns-3 Inv-loop μ-loop
-returns-3 c = λ e. looking-clean (c .before .before .loop .inv) (c .before .before .before .before .before .before .before .pre .0) (sym (c .before .before .before .before .entry-at .ensures) ∙ c .before .before .before .if1 .left) (c .before .loop-test .left) (λ z. eqb-false _ 0 e (c .entry-at2 .ensures ∙ z))
+returns-3 c = λ e. looking-clean (c .before .before .loop .inv) (c .before .before .before .before .before .before .before .pre .0) (c .before .before .before .before .is-known .ensures (told _ (c .before .before .before .if1 .left))) (c .before .loop-test .left) (c .is-null .ensures e)
 
 pub may-be-null-spec : {M : Type 1} → statement M
 may-be-null-spec =
@@ -66,7 +66,7 @@ may-be-null-spec =
     (tie.spec
     Inv-loop
     μ-loop
-    entry-at-requires
+    is-known-requires
     returns
     loop-holds
     mul-part-start
@@ -78,5 +78,5 @@ may-be-null-spec =
     add-i
     loop-less
     loop-again
-    entry-at-requires-2
+    is-null-requires
     returns-3)
