@@ -11,7 +11,7 @@ fill-local-requires : tie.Need-fill-local-requires
 fill-local-requires c κs = (c .before .before .pre, clear-zeros 4098)
 
 slice-aggregate-read-value : tie.Need-slice-aggregate-read-value
-slice-aggregate-read-value c = search needs
+slice-aggregate-read-value c = search (needs, c .before .fill-local .ensures .1)
 
 read-value-requires : tie.Need-read-value-requires
 read-value-requires c κs = search needs
