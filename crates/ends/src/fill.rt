@@ -1,5 +1,6 @@
 // Filling the table, in one pass over columns that were read before.
 ghost use mathlib.Core.Path.{_≡_};
+ghost use lib.ListN.{length};
 ghost use Rattle.layout.specs.Stands.{TypeAt, ColumnsAt};
 ghost use Rattle.ends.specs.Ends.{Ends};
 use crate::plain::plain_end;
@@ -11,11 +12,12 @@ use layout::edition::Edition;
 use layout::types::Head;
 
 // The end of a type; the ends of the structs in it are kept.
-fn fill_type(s: &[u8], v: Edition, depth: u8, c: Cursor, ends: &mut [u16]) -> Cursor
+pub fn fill_type(s: &[u8], v: Edition, depth: u8, c: Cursor, ends: &mut [u16; 4098]) -> Cursor
     requires { ⌜ TypeAt v depth (now s) (c .at) ⌝ }
     requires { ⌜ Ends v (now s) (now ends) ⌝ }
     ensures { λ r. ⌜ ((P : TypeAt v depth (now (s .entry)) (c .at)) → r .at ≡ P .end) ⌝ }
     ensures { λ _. ⌜ Ends v (now (s .entry)) (now (ends .exit)) ⌝ }
+    ensures { λ _. ⌜ length (now (ends .exit)) ≡ length (now (ends .entry)) ⌝ }
 {
     match plain_end(s, c) {
         EndFound::At(end) => return Cursor { at: end },
@@ -41,11 +43,19 @@ fn fill_type(s: &[u8], v: Edition, depth: u8, c: Cursor, ends: &mut [u16]) -> Cu
 }
 
 // The end of `n` columns; the ends of the structs in them are kept.
-pub fn fill_columns(s: &[u8], v: Edition, depth: u8, n: u16, c: Cursor, ends: &mut [u16]) -> Cursor
+pub fn fill_columns(
+    s: &[u8],
+    v: Edition,
+    depth: u8,
+    n: u16,
+    c: Cursor,
+    ends: &mut [u16; 4098],
+) -> Cursor
     requires { ⌜ ColumnsAt v depth (now s) n (c .at) ⌝ }
     requires { ⌜ Ends v (now s) (now ends) ⌝ }
     ensures { λ r. ⌜ ((P : ColumnsAt v depth (now (s .entry)) n (c .at)) → r .at ≡ P .end) ⌝ }
     ensures { λ _. ⌜ Ends v (now (s .entry)) (now (ends .exit)) ⌝ }
+    ensures { λ _. ⌜ length (now (ends .exit)) ≡ length (now (ends .entry)) ⌝ }
 {
     let mut at = c.at;
     let mut i: u16 = 0;

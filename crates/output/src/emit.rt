@@ -4,6 +4,7 @@ ghost use mathlib.Core.List.{List};
 ghost use Prim.Native.Nat.{_+_, _^_, _≤_, _<_};
 ghost use lib.ListN.{length};
 ghost use Rattle.ends.specs.Ends.{Ends};
+ghost use Rattle.layout.specs.declared.edition.Edition.{Edition as EditionOf};
 ghost use Rattle.layout.specs.declared.leaf.Leaf.{Leaf as LeafOf};
 ghost use Rattle.values.specs.Value.{countValues};
 ghost use Rattle.values.specs.Encode.{encodeValue, encodeValues};
@@ -11,7 +12,7 @@ ghost use Rattle.plan.specs.Reach.{parts};
 ghost use Rattle.walk.specs.State.{State};
 ghost use Rattle.walk.specs.Standing.{WalkAt};
 ghost use Rattle.walk.specs.Values.{stateValue};
-ghost use Rattle.nodes.specs.Raw.{RowAt};
+ghost use Rattle.nodes.specs.Raw.{RawAt, RowAt};
 ghost use Rattle.output.specs.Chain.{Passed, castAll};
 ghost use Rattle.raw.specs.Stored.{Stores};
 ghost use Rattle.output.specs.Output.{Emits};
@@ -25,6 +26,7 @@ use crate::source::source_at;
 use layout::cursor::Cursor;
 use layout::edition::Edition;
 use nodes::raw::Parts;
+use raw::copy::copy_constant;
 use raw::copy::is_null;
 use raw::copy::put_lead;
 use raw::copy::put_null;
@@ -32,6 +34,40 @@ use walk::child::child_at;
 use walk::child::first_part;
 use walk::child::next_part;
 use walk::walk::Walk;
+
+// Stores a part of a constant through the casts that `w` passes; behind a cast it is a leaf.
+fn put_part(
+    plan: &[u8],
+    t: Cursor,
+    c: Cursor,
+    w: Walk,
+    casts: usize,
+    out: &mut [u8],
+    k: usize,
+) -> usize
+    requires { ⌜ RawAt EditionOf.One (now plan) (t .at) (now plan) (c .at) ⌝ }
+    requires { ⌜ ((x : State) × WalkAt (now plan) w x) ⌝ }
+    requires { ⌜ k + 9 + length (now plan) < 2 ^ 64 ⌝ }
+    ensures { λ r. ⌜ ((X : RawAt EditionOf.One (now (plan .entry)) (t .at) (now (plan .entry)) (c .at)) (x z : State) (ks : List LeafOf) → WalkAt (now (plan .entry)) w x → Passed x ks z → length ks ≡ casts → Stores (now (out .entry)) k (encodeValue (castAll ks (X .value .tree))) r (now (out .exit))) ⌝ }
+{
+    if casts == 0 {
+        return copy_constant(plan, t, c, out, k);
+    }
+    let none: [u16; 1] = [0; 1];
+    put_raw(
+        plan,
+        Edition::One,
+        t,
+        plan,
+        c,
+        plan,
+        w,
+        casts,
+        out,
+        k,
+        &none[..0],
+    )
+}
 
 // The constant at `t` and `c` where `at` stands, through the casts that `w` passes; null if it is not run.
 fn emit_constant(
@@ -56,24 +92,11 @@ fn emit_constant(
     requires { ⌜ k ≤ 16384 ⌝ }
     ensures { λ r. ⌜ ((X : RowAt v (now (lay .entry)) n (columns .at) (now (rec .entry)) 0) (x z : State) (ks : List LeafOf) → WalkAt (now (plan .entry)) w x → WalkAt (now (plan .entry)) at z → ConstantIs (X .values .values) (now (plan .entry)) z (t .at) (c .at) → Passed x ks z → length ks ≡ casts → Stores (now (out .entry)) k (encodeValue (castAll ks (stateValue (X .values .values) z))) r (now (out .exit))) ⌝ }
 {
-    let none: [u16; 1] = [0; 1];
     if is_null(plan, c) {
         return put_null(out, k);
     }
     if is_run(lay, v, n, columns, rec, plan, at, table) {
-        return put_raw(
-            plan,
-            Edition::One,
-            t,
-            plan,
-            c,
-            plan,
-            w,
-            casts,
-            out,
-            k,
-            &none[..0],
-        );
+        return put_part(plan, t, c, w, casts, out, k);
     }
     put_null(out, k)
 }

@@ -15,12 +15,14 @@ ghost use Rattle.nodes.specs.Raw.{RowAt, NodeOf};
 ghost use Rattle.raw.specs.Constant.{ConstantRaw};
 ghost use Rattle.output.specs.Chain.{ends, next};
 ghost use Rattle.output.specs.Answers.{recordSource, constantSource, StructSource, SourceIs};
+use ends::local::fill_local;
 use layout::cursor::Cursor;
 use layout::edition::Edition;
 use layout::walk::skip_type;
 use nodes::raw::NodeAt;
 use nodes::raw::column_value;
 use nodes::raw::value_at;
+use values::constant::needs_table;
 use walk::head::SelectorHead;
 use walk::head::head;
 use walk::head::struct_fields;
@@ -78,15 +80,30 @@ fn column_node(
     }
 }
 
+// The constant whose type begins at `t` and is long, at what is left of the path.
+fn long_constant_node(plan: &[u8], w: Walk, t: Cursor, c: Cursor) -> NodeAt
+    requires { ⌜ ConstantRaw (now plan) (t .at) ⌝ }
+    requires { ⌜ (w .deep ≤ w .len) × (w .len ≤ length (w .path)) ⌝ }
+    ensures { λ r. ⌜ ((X : ConstantRaw (now (plan .entry)) (t .at)) → NodeOf EditionOf.One (now (plan .entry)) (now (plan .entry)) (valueNode (X .value .tree) (slice (w .deep) (w .len) (w .path))) r) ⌝ }
+{
+    let mut ends = [0u16; 4098];
+    let path = w.path;
+    fill_local(plan, Edition::One, 16, t, c, &mut ends);
+    value_at(plan, Edition::One, t, plan, c, path, w.deep, w.len, &ends)
+}
+
 // The constant whose type begins at `t`, at what is left of the path.
 fn constant_node(plan: &[u8], w: Walk, t: Cursor) -> NodeAt
     requires { ⌜ ConstantRaw (now plan) (t .at) ⌝ }
     requires { ⌜ (w .deep ≤ w .len) × (w .len ≤ length (w .path)) ⌝ }
     ensures { λ r. ⌜ ((X : ConstantRaw (now (plan .entry)) (t .at)) → NodeOf EditionOf.One (now (plan .entry)) (now (plan .entry)) (valueNode (X .value .tree) (slice (w .deep) (w .len) (w .path))) r) ⌝ }
 {
-    let none: [u16; 1] = [0; 1];
     let path = w.path;
     let c = skip_type(plan, Edition::One, 16, t);
+    if needs_table(plan, t, c, c) {
+        return long_constant_node(plan, w, t, c);
+    }
+    let none: [u16; 1] = [0; 1];
     value_at(
         plan,
         Edition::One,

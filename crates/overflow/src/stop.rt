@@ -23,6 +23,7 @@ use crate::want::Timed;
 use crate::want::Want;
 use crate::want::bounds_before;
 use crate::want::time_of;
+use ends::local::fill_local;
 use layout::columns::Position;
 use layout::cursor::Cursor;
 use layout::edition::Edition;
@@ -30,6 +31,7 @@ use layout::types::Head;
 use layout::walk::skip_type;
 use nodes::raw::NodeAt;
 use nodes::raw::column_value;
+use values::constant::needs_table;
 use walk::head::SelectorHead;
 use walk::head::head;
 use walk::head::skip_selector;
@@ -84,6 +86,36 @@ fn in_column(
     }
 }
 
+// In a constant, whose type stands at `t` and is long, at a path.
+fn in_long_constant(
+    plan: &[u8],
+    t: Cursor,
+    c: Cursor,
+    path: [u16; 64],
+    from: usize,
+    len: usize,
+    sought: Sought,
+) -> bool
+    requires { ⌜ RawIn (now plan) (t .at) ⌝ }
+    requires { ⌜ (from ≤ len) × (len ≤ length path) × SmallSought sought ⌝ }
+    ensures { λ r. ⌜ ((X : RawIn (now (plan .entry)) (t .at)) → r ≡ someSought sought (slice from len path) (X .value .tree)) ⌝ }
+{
+    let mut ends = [0u16; 4098];
+    fill_local(plan, Edition::One, 16, t, c, &mut ends);
+    some_at(
+        plan,
+        Edition::One,
+        t,
+        plan,
+        c,
+        path,
+        from,
+        len,
+        sought,
+        &ends,
+    )
+}
+
 // In a constant, whose type stands at `t`, at a path.
 pub fn in_constant(
     plan: &[u8],
@@ -97,8 +129,11 @@ pub fn in_constant(
     requires { ⌜ (from ≤ len) × (len ≤ length path) × SmallSought sought ⌝ }
     ensures { λ r. ⌜ ((X : RawIn (now (plan .entry)) (t .at)) → r ≡ someSought sought (slice from len path) (X .value .tree)) ⌝ }
 {
-    let none: [u16; 1] = [0; 1];
     let c = skip_type(plan, Edition::One, 16, t);
+    if needs_table(plan, t, c, c) {
+        return in_long_constant(plan, t, c, path, from, len, sought);
+    }
+    let none: [u16; 1] = [0; 1];
     some_at(
         plan,
         Edition::One,

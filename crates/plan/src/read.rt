@@ -17,8 +17,8 @@ use layout::edition::Edition;
 use layout::pass::pass_type;
 use rules::outcome::OptionCode;
 use rules::outcome::option_of_code;
+use values::constant::read_constant_value;
 use values::read::ValueRead;
-use values::read::read_value;
 
 // A plan's number of selectors, and where they begin.
 pub enum PlanRead {
@@ -76,10 +76,9 @@ fn value_end(r: ValueRead) -> Moved
 fn read_constant(s: &[u8], c: Cursor) -> Moved
     ensures { λ r. ⌜ r ≡ movedOf (constantRest (now (s .entry)) (c .at)) ⌝ }
 {
-    let none: [u16; 1] = [0; 1];
     match c.text(s) {
         Text::Is(_, d) => match pass_type(s, Edition::One, 16, d) {
-            Moved::To(e) => value_end(read_value(s, Edition::One, 16, d, s, e, &none[..0])),
+            Moved::To(e) => value_end(read_constant_value(s, d, e, e)),
             Moved::Refused(k) => Moved::Refused(k),
         },
         Text::Refused(k) => Moved::Refused(k),

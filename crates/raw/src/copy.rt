@@ -5,6 +5,7 @@ ghost use Prim.Native.Nat.{_+_, _^_, _<_};
 ghost use lib.ListN.{length};
 ghost use Rattle.ends.specs.Ends.{Ends};
 ghost use Rattle.layout.specs.Tree.{DataType};
+ghost use Rattle.layout.specs.declared.edition.Edition.{Edition as EditionOf};
 ghost use Rattle.values.specs.Value.{vnull};
 ghost use Rattle.values.specs.Encode.{encodeValue};
 ghost use Rattle.values.specs.Stands.{ValueAt};
@@ -12,7 +13,9 @@ ghost use Rattle.nodes.specs.Raw.{RawAt};
 ghost use Rattle.raw.specs.Stored.{Stores, lead};
 use layout::cursor::Cursor;
 use layout::edition::Edition;
+use layout::walk::skip_type;
 use store::put;
+use values::constant::read_constant_value;
 use values::copy::copy_value;
 use values::leaf::Presence;
 use values::leaf::read_presence;
@@ -46,6 +49,21 @@ pub fn copy_raw(
 {
     match copy_value(lay, v, 16, t, rec, c, out, k, ends) {
         ValueRead::To(_, e) => k + (e.at - c.at),
+        ValueRead::Refused(_) => k,
+    }
+}
+
+// Stores a part of a constant, whose type and value stand in the plan.
+pub fn copy_constant(plan: &[u8], t: Cursor, c: Cursor, out: &mut [u8], k: usize) -> usize
+    requires { ⌜ RawAt EditionOf.One (now plan) (t .at) (now plan) (c .at) ⌝ }
+    requires { ⌜ k + length (now plan) < 2 ^ 64 ⌝ }
+    ensures { λ r. ⌜ ((X : RawAt EditionOf.One (now (plan .entry)) (t .at) (now (plan .entry)) (c .at)) → Stores (now (out .entry)) k (encodeValue (X .value .tree)) r (now (out .exit))) ⌝ }
+{
+    match read_constant_value(plan, t, skip_type(plan, Edition::One, 16, t), c) {
+        ValueRead::To(_, e) => {
+            store::copy(plan, c.at, e.at, out, k);
+            k + (e.at - c.at)
+        }
         ValueRead::Refused(_) => k,
     }
 }

@@ -93,7 +93,7 @@ fn run_filled(
     requires { ⌜ ((P : PassedAt (now incoming) v n (now plan) count (now target) vt m) × RecordFilled (P .columns .columns) (now rec)) ⌝ }
     ensures { λ r. ⌜ ((P : PassedAt (now (incoming .entry)) v n (now (plan .entry)) count (now (target .entry)) vt m) → RecordFilled (P .columns .columns) (now (rec .entry)) → (r ≡ writeResult (recordRun (P .columns .columns) (P .selectors .trees) (now (rec .entry)) (length (now (output .entry))))) × (now (output .exit) ≡ bufferAfter (recordRun (P .columns .columns) (P .selectors .trees) (now (rec .entry)) (length (now (output .entry)))) (now (output .entry)))) ⌝ }
 {
-    let mut ends = [0u16; 4096];
+    let mut ends = [0u16; 4098];
     fill_columns(incoming, v, 16, n, Cursor { at: 7 }, &mut ends);
     run_general(
         incoming,
@@ -212,7 +212,7 @@ fn run_tabled(
     requires { ⌜ PassedAt (now incoming) v n (now plan) count (now target) vt m ⌝ }
     ensures { λ r. ⌜ ((P : PassedAt (now (incoming .entry)) v n (now (plan .entry)) count (now (target .entry)) vt m) → (r ≡ writeResult (recordRun (P .columns .columns) (P .selectors .trees) (now (rec .entry)) (length (now (output .entry))))) × (now (output .exit) ≡ bufferAfter (recordRun (P .columns .columns) (P .selectors .trees) (now (rec .entry)) (length (now (output .entry)))) (now (output .entry)))) ⌝ }
 {
-    let mut ends = [0u16; 4096];
+    let mut ends = [0u16; 4098];
     fill_columns(incoming, v, 16, n, Cursor { at: 7 }, &mut ends);
     run_record(
         incoming,

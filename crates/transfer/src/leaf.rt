@@ -24,6 +24,7 @@ use layout::leaf::Leaf;
 use layout::types::Head;
 use layout::walk::skip_type;
 use nodes::raw::NodeAt;
+use raw::copy::copy_constant;
 use raw::copy::copy_raw;
 use raw::copy::put_null;
 use raw::leaf::LeafValue;
@@ -100,9 +101,8 @@ pub fn put_constant(plan: &[u8], t: Cursor, end: Cursor, out: &mut [u8], k: usiz
     requires { ⌜ (length (now plan) ≤ 65536) × (k ≤ 16384) ⌝ }
     ensures { λ r. ⌜ ((X : ConstantRaw (now (plan .entry)) (t .at)) → ReachedIs (clean (X .value .tree)) (encodeValue (X .value .tree)) (end .at) (now (out .entry)) k r (now (out .exit))) ⌝ }
 {
-    let none: [u16; 1] = [0; 1];
     let c = skip_type(plan, Edition::One, 16, t);
-    put_value(plan, Edition::One, t, plan, c, end, out, k, &none[..0])
+    limited(end, copy_constant(plan, t, c, out, k))
 }
 
 // The number `n` of the kind `kind`, cast to the kind `to`.

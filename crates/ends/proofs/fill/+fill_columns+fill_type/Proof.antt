@@ -67,57 +67,72 @@ pub +fill-columns+fill-type-spec : {M : Type 1} → statement M
     fill-columns.Post
     fill-columns-Inv-loop
     fill-columns-μ-loop
-    (λ c. (skipping-none (c .before .before .pre .1 .0), c .before .before .pre .1 .1, refl))
+    (λ c. (skipping-none (c .before .pre .1 .0), c .before .pre .1 .1, refl))
     (λ c κs. search needs)
     (λ c. search needs)
-    (λ c κs. (omega (arith, c .before .before .before .before .before .before .before .before .before .pre .0), (skipping-first (c .before .before .before .before .before .before .loop .inv .0) (c .before .before .before .before .before .loop-test .taken) (c .before .before .before .before .label .ensures .0) (c .before .before .e .given .1) .head, c .before .before .before .before .before .before .loop .inv .1)))
-    (λ c. search needs)
+    (λ c κs.
+    let I = c .before .before .before .before .before .before .loop .inv in
+    let F = skipping-first (I .0) (c .before .before .before .before .before .loop-test .taken) (c .before .before .before .before .label .ensures .0) (c .before .before .e .given .1) in
+    (omega (arith, c .before .before .before .before .before .before .before .before .pre .0), (F .head, I .1)))
     (λ c. search needs)
     (λ c. skipping-unlabelled (c .before .before .before .before .loop .inv .0) (c .before .before .before .loop-test .taken) (c .before .before .label .ensures .0) (c .enum-told .given .1))
     (λ c. omega arith)
     (λ c. omega arith)
-    (λ c. (skipping-more (c .before .before .before .before .before .before .before .before .before .loop .inv .0) (c .before .before .before .before .before .before .before .before .loop-test .taken) (c .before .before .before .before .before .before .before .label .ensures .0) (c .before .before .before .before .before .e .given .1) (c .before .before .fill-type .ensures .0), c .before .before .fill-type .ensures .1, c .before .before .fill-type .kept .1 .1 .1 .1 .0 ∙ c .before .before .before .before .before .before .before .before .before .loop .inv .2))
-    (λ c. search needs)
-    (λ c. (skipping-all (c .before .loop .inv .0) (c .loop-test .left), c .before .loop .inv .1)))
+    (λ c.
+    let F = c .fill-type .ensures in
+    (skipping-more (c .before .before .before .before .before .before .before .loop .inv .0) (c .before .before .before .before .before .before .loop-test .taken) (c .before .before .before .before .before .label .ensures .0) (c .before .before .before .e .given .1) (F .0), F .1 .0, F .1 .1 ∙ c .before .before .before .before .before .before .before .loop .inv .2))
+    (λ c. (skipping-all (c .before .loop .inv .0) (c .loop-test .left), (c .before .loop .inv .1, c .before .loop .inv .2))))
     λ t. fill-type-lts.spec (fill-type-claims t)
     (fill-type-at t)
     fill-type.Post
     (λ c κs. search needs)
     (λ c. search needs)
-    (λ c. ((λ P. found-is _ _ _ _ (c .before .before .before .plain-end .ensures _ _ P) (c .before .end .given .1) P), c .before .before .before .before .before .before .pre .1 .1))
+    (λ c. ((λ P. found-is _ _ _ _ (c .before .before .before .plain-end .ensures _ _ P) (c .before .end .given .1) P), (c .before .before .before .before .before .pre .1 .1, refl)))
     (λ c. search needs)
     (λ c κs. search needs)
     (λ c. search needs)
     (λ c. search needs)
-    (λ c. let z = deep (c .before .before .before .before .before .before .before .before .before .pre .1 .0) in omega arith)
-    (λ c κs. let z = deep (c .before .before .before .before .before .before .before .before .before .before .pre .1 .0) in
-    (omega (arith, c .before .before .before .before .before .before .before .before .before .before .pre .0), (struct-at (c .before .before .before .before .before .before .before .before .before .before .pre .1 .0) (c .before .before .before .before .head .ensures .0) (c .before .before .n .given .1) .inner, c .before .before .before .before .before .before .before .before .before .before .pre .1 .1)))
+    (λ c. let z = deep (c .before .before .before .before .before .before .before .before .pre .1 .0) in omega arith)
+    (λ c κs.
+    let p = c .before .before .before .before .before .before .before .before .before .pre in
+    let z = deep (p .1 .0) in
+    (omega (arith, p .0), (struct-at (p .1 .0) (c .before .before .before .before .head .ensures .0) (c .before .before .n .given .1) .inner, p .1 .1)))
     (λ c κs. search needs)
     (λ c. search needs)
     (λ c κs. search needs)
     (λ c. search needs)
-    (λ c. let z = deep (c .before .before .before .before .before .before .before .before .before .before .before .before .before .pre .1 .0) in omega arith)
-    (λ c κs. let z = deep (c .before .before .before .before .before .before .before .before .before .before .before .before .before .before .pre .1 .0) in
-    (omega (arith, c .before .before .before .before .before .before .before .before .before .before .before .before .before .before .pre .0), (list-at (c .before .before .before .before .before .before .before .before .before .before .before .before .before .before .pre .1 .0) (c .before .before .before .before .before .before .before .before .head .ensures .0) (c .before .before .before .before .element-label .ensures .0) (c .before .before .before .before .before .before .d2 .given .1) (c .before .before .e .given .1) .inner, c .before .before .before .before .before .before .before .before .before .before .before .before .before .before .pre .1 .1)))
+    (λ c. let z = deep (c .before .before .before .before .before .before .before .before .before .before .before .before .pre .1 .0) in omega arith)
+    (λ c κs.
+    let p = c .before .before .before .before .before .before .before .before .before .before .before .before .before .pre in
+    let z = deep (p .1 .0) in
+    let L = list-at (p .1 .0) (c .before .before .before .before .before .before .before .before .head .ensures .0) (c .before .before .before .before .element-label .ensures .0) (c .before .before .before .before .before .before .d2 .given .1) (c .before .before .e .given .1) in
+    (omega (arith, p .0), (L .inner, p .1 .1)))
     (λ c. search needs)
     (λ c. search needs)
     (λ c κs. search needs)
     (λ c. search needs)
-    (λ c. let z = deep (c .before .before .before .before .before .before .before .before .before .before .before .before .before .pre .1 .0) in omega arith)
-    (λ c κs. let z = deep (c .before .before .before .before .before .before .before .before .before .before .before .before .before .before .pre .1 .0) in
-    (omega (arith, c .before .before .before .before .before .before .before .before .before .before .before .before .before .before .pre .0), (array-at (c .before .before .before .before .before .before .before .before .before .before .before .before .before .before .pre .1 .0) (c .before .before .before .before .before .before .before .before .head .ensures .0) (c .before .before .before .before .element-label2 .ensures .0) (c .before .before .before .before .before .before .d3 .given .1) (c .before .before .e2 .given .1) .inner, c .before .before .before .before .before .before .before .before .before .before .before .before .before .before .pre .1 .1)))
+    (λ c. let z = deep (c .before .before .before .before .before .before .before .before .before .before .before .before .pre .1 .0) in omega arith)
+    (λ c κs.
+    let p = c .before .before .before .before .before .before .before .before .before .before .before .before .before .pre in
+    let z = deep (p .1 .0) in
+    let L = array-at (p .1 .0) (c .before .before .before .before .before .before .before .before .head .ensures .0) (c .before .before .before .before .element-label2 .ensures .0) (c .before .before .before .before .before .before .d3 .given .1) (c .before .before .e2 .given .1) in
+    (omega (arith, p .0), (L .inner, p .1 .1)))
     (λ c. search needs)
     (λ c. search needs)
-    (λ c. ((λ P. leaf-at P (c .before .before .before .head .ensures .0) (c .before .d .given .1) .1), c .before .before .before .before .before .before .before .before .before .pre .1 .1))
-    (λ c. search needs)
-    (λ c. let S = struct-at (c .before .before .before .before .before .before .before .before .before .before .before .before .before .before .before .before .before .pre .1 .0) (c .before .before .before .before .before .before .before .before .before .before .before .head .ensures .0) (c .before .before .before .before .before .before .before .before .before .n .given .1) in (
-      (λ P. let S = struct-at P (c .before .before .before .before .before .before .before .before .before .before .before .head .ensures .0) (c .before .before .before .before .before .before .before .before .before .n .given .1) in c .before .before .before .before .before .before .fill-columns .ensures .0 (S .inner) ∙ S .ends),
-      c .before .before .keep-end .ensures _ _ (c .before .before .before .before .before .before .fill-columns .ensures .1) (end-of (c .before .before .before .before .before .before .before .before .before .before .before .before .before .before .before .before .before .pre .1 .0) (c .before .before .before .before .before .before .fill-columns .ensures .0 (S .inner) ∙ S .ends)),
-    ))
-    (λ c. search needs)
-    (λ c. ((λ P. let L = list-at P (c .before .before .before .before .before .before .before .before .before .before .before .head .ensures .0) (c .before .before .before .before .before .before .before .element-label .ensures .0) (c .before .before .before .before .before .before .before .before .before .d2 .given .1) (c .before .before .before .before .before .e .given .1) in c .before .before .fill-type .ensures .0 (L .inner) ∙ L .ends), c .before .before .fill-type .ensures .1))
-    (λ c. list-labelled (c .before .before .before .before .before .before .before .before .before .before .before .before .pre .1 .0) (c .before .before .before .before .before .before .head .ensures .0) (c .before .before .element-label .ensures .0) (c .before .before .before .before .d2 .given .1) (c .enum-told2 .given .1))
-    (λ c. search needs)
-    (λ c. ((λ P. let L = array-at P (c .before .before .before .before .before .before .before .before .before .before .before .head .ensures .0) (c .before .before .before .before .before .before .before .element-label2 .ensures .0) (c .before .before .before .before .before .before .before .before .before .d3 .given .1) (c .before .before .before .before .before .e2 .given .1) in c .before .before .fill-type2 .ensures .0 (L .inner) ∙ L .ends), c .before .before .fill-type2 .ensures .1))
-    (λ c. array-labelled (c .before .before .before .before .before .before .before .before .before .before .before .before .pre .1 .0) (c .before .before .before .before .before .before .head .ensures .0) (c .before .before .element-label2 .ensures .0) (c .before .before .before .before .d3 .given .1) (c .enum-told3 .given .1))
-    (λ c. never-headless (c .before .before .before .before .before .before .before .before .pre .1 .0) (c .before .before .head .ensures .0) (c .enum-told4 .given .1))
+    (λ c. ((λ P. leaf-at P (c .before .before .before .head .ensures .0) (c .before .d .given .1) .1), (c .before .before .before .before .before .before .before .before .pre .1 .1, refl)))
+    (λ c.
+    let p = c .before .before .before .before .before .before .before .before .before .before .before .before .pre .1 .0 in
+    let h = c .before .before .before .before .before .before .before .head .ensures .0 in
+    let g = c .before .before .before .before .before .n .given .1 in
+    let F = c .before .before .fill-columns .ensures in
+    let S = struct-at p h g in
+    ((λ P. let Q = struct-at P h g in F .0 (Q .inner) ∙ Q .ends), (c .keep-end .ensures .0 _ _ (F .1 .0) (end-of p (F .0 (S .inner) ∙ S .ends)), c .keep-end .ensures .1 ∙ F .1 .1)))
+    (λ c.
+    let F = c .fill-type .ensures in
+    ((λ P. let L = list-at P (c .before .before .before .before .before .before .before .before .before .head .ensures .0) (c .before .before .before .before .before .element-label .ensures .0) (c .before .before .before .before .before .before .before .d2 .given .1) (c .before .before .before .e .given .1) in F .0 (L .inner) ∙ L .ends), F .1))
+    (λ c. list-labelled (c .before .before .before .before .before .before .before .before .before .before .before .pre .1 .0) (c .before .before .before .before .before .before .head .ensures .0) (c .before .before .element-label .ensures .0) (c .before .before .before .before .d2 .given .1) (c .enum-told2 .given .1))
+    (λ c.
+    let F = c .fill-type2 .ensures in
+    ((λ P. let L = array-at P (c .before .before .before .before .before .before .before .before .before .head .ensures .0) (c .before .before .before .before .before .element-label2 .ensures .0) (c .before .before .before .before .before .before .before .d3 .given .1) (c .before .before .before .e2 .given .1) in F .0 (L .inner) ∙ L .ends), F .1))
+    (λ c. array-labelled (c .before .before .before .before .before .before .before .before .before .before .before .pre .1 .0) (c .before .before .before .before .before .before .head .ensures .0) (c .before .before .element-label2 .ensures .0) (c .before .before .before .before .d3 .given .1) (c .enum-told3 .given .1))
+    (λ c. never-headless (c .before .before .before .before .before .before .before .pre .1 .0) (c .before .before .head .ensures .0) (c .enum-told4 .given .1))
