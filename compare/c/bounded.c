@@ -1,9 +1,10 @@
 /* Plans that ask for outputs far past any limit, some 10^33 bytes: nested list mappings over constant lists of hundreds of elements. A run must answer 44 or 45 at once. Tried are plans
  * with and without an overflow inside, with an empty list on the way (so that what is inside is never run), and driven by an incoming list. Then plans that no builder writes and that
  * cost the check the most of those tried: struct mappings one over another, each of which turns the fields of the one before round, at the top, and inside a list mapping's element, where
- * the general way decides. Then builds by number of columns that are all missing, with a table of as many entries as fit, of which none is theirs: with ids in a row, and with ids that are
- * all in one chain of the table's index; the plans of slow_checks.h and slow_marks.h; and values that pass over a long type for each of their bytes: empty arrays of a struct of lists, taken
- * whole, and in front of a column that thousands of selectors take.
+ * the general way decides. Then builds by number of columns that are all missing, with a table of as many entries as
+ * fit, of which none is theirs: with ids in a row, and with ids that are all in one chain of the table's index; the
+ * plans of slow_checks.h, slow_marks.h and slow_runs.h; and values that pass over a long type for each of their bytes:
+ * empty arrays of a struct of lists, taken whole, and in front of a column that thousands of selectors take.
  * The exit status is 1 where an answer or an output is not the one due, or where it takes more than a second; more than five for the mappings. */
 #define _DEFAULT_SOURCE
 #include "selector.h"
@@ -289,6 +290,7 @@ static void expect_missing(int version, uint32_t step) {
 
 #include "slow_checks.h"
 #include "slow_marks.h"
+#include "slow_runs.h"
 
 int main(void) {
     const int64_t fits = 9223372036854, exceeds = 9223372036855;
@@ -325,6 +327,7 @@ int main(void) {
     }
     slow_checks();
     slow_marks();
+    slow_runs();
     arrays_of(&incoming, 1);
     arrays_of(&target, 1);
     positions_of(&plan, 1, 0);

@@ -28,7 +28,7 @@ use Rattle.walk.specs.Values.{opened, given, givens, within, stateValue}
 use Rattle.walk.specs.declared.walk.Walk.{Walk}
 use Rattle.walk.specs.Children.{PartStands, Reached}
 use Rattle.walk.proofs.View.{nth-exists}
-use Rattle.walk.proofs.Standing.{walk-starts, walk-small}
+use Rattle.walk.proofs.Standing.{walk-small, walk-inside}
 use Rattle.walk.proofs.Children.{reached-stands}
 use Rattle.nodes.specs.Raw.{NodeIs, partsOf}
 use Rattle.nodes.specs.declared.raw.Parts.{Parts}
@@ -325,7 +325,7 @@ module _ {us : Values} {out₀ : Bytes} {k i at : ℕ} {out : Bytes} (R : Rowing
 
 -- what the walks to the parts ask
 pub parts-asks : {v : Edition} {lay : Bytes} {n t : ℕ} {rec plan : Bytes} {w : Walk} → EmitAt v lay n t rec plan w → (w .at < 65536) × (w .at < length plan)
-parts-asks A = (walk-small (A .standing), omega (arith, walk-starts (A .standing), A .standing .bound))
+parts-asks A = (walk-small (A .standing), walk-inside (A .standing))
 
 module _ {v : Edition} {lay : Bytes} {n t : ℕ} {rec plan : Bytes} {w : Walk} (A : EmitAt v lay n t rec plan w) (M : Mapped (A .state)) where
   abbrev σ : Values

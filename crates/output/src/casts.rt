@@ -11,6 +11,7 @@ ghost use Rattle.plan.specs.Selector.{Selector};
 ghost use Rattle.walk.specs.State.{State};
 ghost use Rattle.walk.specs.Moves.{Stopped, Input};
 ghost use Rattle.walk.specs.Standing.{WalkAt};
+ghost use Rattle.walk.specs.Ends.{EndsAt};
 ghost use Rattle.output.specs.Chain.{Passed, Kept};
 ghost use Rattle.output.specs.Answers.{castPass, PassIs, OnwardTo, OriginIs};
 use layout::cursor::Cursor;
@@ -18,7 +19,9 @@ use layout::leaf::Leaf;
 use layout::types::Head;
 use walk::head::SelectorHead;
 use walk::head::head;
-use walk::head::skip_selector;
+use walk::inputs::InputEnds;
+use walk::inputs::ends_with;
+use walk::inputs::no_ends;
 use walk::walk::Walk;
 
 // What a walk that no move is left of does next: it is where the value comes from, or goes on to the input, past a cast to a leaf kind or not.
@@ -50,7 +53,8 @@ fn pass_cast(plan: &[u8], t: Cursor) -> Pass
     }
 }
 
-fn next_pass(plan: &[u8], w: Walk) -> Pass
+fn next_pass(plan: &[u8], w: Walk, ends: InputEnds) -> Pass
+    requires { ⌜ EndsAt (now plan) ends ⌝ }
     ensures { λ r. ⌜ ((x : State) → WalkAt (now (plan .entry)) w x → Stopped x → PassIs x r) ⌝ }
 {
     let c = Cursor { at: w.at };
@@ -61,7 +65,7 @@ fn next_pass(plan: &[u8], w: Walk) -> Pass
             if w.deep < w.len {
                 return Pass::Goes;
             }
-            pass_cast(plan, skip_selector(plan, input))
+            pass_cast(plan, ends.end_of(plan, input))
         }
         SelectorHead::Rename(_) => Pass::Goes,
         SelectorHead::Struct(_) => Pass::Ends,
@@ -69,6 +73,19 @@ fn next_pass(plan: &[u8], w: Walk) -> Pass
         SelectorHead::Array(_) => Pass::Ends,
         SelectorHead::Refused => Pass::Ends,
     }
+}
+
+// The table of ends for the next pass. The type of a cast stands behind its input, so that a chain of casts is read from the innermost outwards once.
+fn ends_ahead(plan: &[u8], ends: InputEnds, w: Walk) -> InputEnds
+    requires { ⌜ ((x : State) × WalkAt (now plan) w x) ⌝ }
+    requires { ⌜ EndsAt (now plan) ends ⌝ }
+    ensures { λ r. ⌜ EndsAt (now (plan .entry)) r ⌝ }
+{
+    let at = w.at;
+    if plan[at] == 2 {
+        return ends_with(plan, ends, Cursor { at: at + 1 });
+    }
+    ends
 }
 
 // To the input of a transform, and on until no move is left.
@@ -85,9 +102,11 @@ pub fn find_origin(plan: &[u8], w: Walk) -> Origin
     ensures { λ r. ⌜ ((x : State) → WalkAt (now (plan .entry)) w x → OriginIs (now (plan .entry)) x w r) ⌝ }
 {
     let mut at = w.locate(plan);
+    let mut ends = no_ends(0);
     let mut casts: usize = 0;
     loop {
-        match next_pass(plan, at) {
+        ends = ends_ahead(plan, ends, at);
+        match next_pass(plan, at, ends) {
             Pass::Ends => {
                 break;
             }
@@ -110,9 +129,11 @@ pub fn last_kinds(plan: &[u8], w: Walk, i: usize) -> [Leaf; 256]
 {
     let mut kinds = [Leaf::Null; 256];
     let mut at = w.locate(plan);
+    let mut ends = no_ends(0);
     let mut left = i;
     while 0 < left {
-        match next_pass(plan, at) {
+        ends = ends_ahead(plan, ends, at);
+        match next_pass(plan, at, ends) {
             Pass::Ends => return kinds,
             Pass::Goes => {
                 at = onward(plan, at);

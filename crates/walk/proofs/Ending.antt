@@ -8,7 +8,10 @@ use lib.ListN.{length, getD, set, replicate, length-set}
 use lib.Seq.{getD-set-same, getD-set-other}
 use Rattle.layout.specs.Bytes.{Bytes}
 use Rattle.layout.specs.Parser.{refuse, ok, u16}
-use Rattle.layout.specs.Layout.{text}
+use Rattle.layout.specs.Layout.{text, type}
+use Rattle.layout.specs.Stands.{TypeAt}
+use Rattle.layout.specs.declared.columns.Siblings.the-variants.{Free}
+use Rattle.layout.specs.declared.edition.Edition.the-variants.{One}
 use Rattle.layout.specs.Answers.{shortRes, textRes, spanAt, movedOf}
 use Rattle.layout.specs.declared.bytes.Span.{Span}
 use Rattle.layout.specs.declared.cursor.Cursor.{Cursor}
@@ -18,7 +21,7 @@ use Rattle.layout.specs.declared.cursor.Text.{Text}
 use Rattle.layout.proofs.Ways.{clash, moved-to, moved-refused}
 use Rattle.plan.specs.Read.{selectors as selectorsOf, selector}
 use Rattle.walk.specs.Stands.{SelectorAt, SelectorsAt}
-use Rattle.walk.specs.Parts.{TextAt, CountedAt, RenameAt, StructAt, ListAt, ArrayAt}
+use Rattle.walk.specs.Parts.{TextAt, OptionAt, CountedAt, CastAt, RenameAt, StructAt, ListAt, ArrayAt}
 use Rattle.walk.specs.Ends.{EndsAt}
 use Rattle.walk.specs.declared.inputs.InputEnds.{InputEnds}
 use Rattle.walk.proofs.View.{selector-moved, selectors-moved}
@@ -88,6 +91,12 @@ module _ {s : Bytes} {at : ℕ} where
           clash (cc)
 
 module _ {s : Bytes} {at m d r : ℕ} {P : SelectorAt s at} (h : (I : SelectorAt s (at + 1)) → d ≡ I .end) where
+  pub behind-cast : CastAt s at P m → ((T : TypeAt One 16 s d) (O : OptionAt s (T .end)) → r ≡ O .end) → r ≡ P .end
+  behind-cast C g =
+      let e = h (selector-moved (C .starts) (C .input)) in
+      let T = C .type in
+      g (record { tree = T .tree; end = T .end; reads = ap (λ (o : ℕ). type One Free 16 s o) e ∙ T .reads }) (C .option) ∙ C .ends .1
+
   pub behind-rename : RenameAt s at P m → ((N : TextAt s d) → r ≡ N .end) → r ≡ P .end
   behind-rename R g =
       let e = h (selector-moved (R .starts) (R .input)) in

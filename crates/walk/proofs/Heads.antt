@@ -155,6 +155,14 @@ module _ {s : Bytes} {at : ℕ} (T : TypeAt One 16 s at) (O : OptionAt s (T .end
       unfolding knownOption
       option-unknown j = let z : knownOption OptionCode.Unknown s (c .at) ≡ ok (O .option) (O .end) = ap (λ (x : OptionCode). knownOption x s (c .at)) (sym j ∙ i) ∙ known in clash (cc)
 
+      pub option-end : c .at ≡ O .end
+      unfolding knownOption
+      option-end = go (optionAt b) known
+        where
+          go : (x : OptionCode) → knownOption x s (c .at) ≡ ok (O .option) (O .end) → c .at ≡ O .end
+          go (OptionCode.Known o) e = cc
+          go OptionCode.Unknown e = clash (cc)
+
 -- ---- what stands behind an input
 
 module _ {s : Bytes} {at : ℕ} {m : ℕ} (y : m ≡ at) where

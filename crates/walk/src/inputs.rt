@@ -1,5 +1,5 @@
 // The ends of a chain of inputs. A transform's input begins one byte after its code, so that the selectors at an offset and at those behind it are each the input of the one before, up
-// to the first that is a position, a constant or a cast. One pass from there outwards finds all their ends. The table is a help, never needed: what it does not have is found by
+// to the first that is a position or a constant. One pass from there outwards finds all their ends. The table is a help, never needed: what it does not have is found by
 // skipping.
 ghost use mathlib.Core.Path.{_≡_};
 ghost use mathlib.Core.Bool.{true};
@@ -7,7 +7,9 @@ ghost use Prim.Native.Nat.{ℕ, _+_, _<_, _≤_};
 ghost use lib.ListN.{length};
 ghost use Rattle.layout.specs.Bytes.{Bytes};
 ghost use Rattle.walk.specs.Stands.{SelectorAt};
-ghost use Rattle.walk.specs.Parts.{TextAt, CountedAt};
+ghost use Rattle.layout.specs.Stands.{TypeAt};
+ghost use Rattle.layout.specs.declared.edition.Edition.{Edition as EditionOf};
+ghost use Rattle.walk.specs.Parts.{TextAt, OptionAt, CountedAt};
 ghost use Rattle.walk.specs.Ends.{EndsAt};
 use crate::head::SelectorHead;
 use crate::head::head;
@@ -15,7 +17,10 @@ use crate::head::skip_selector;
 use layout::cursor::Cursor;
 use layout::cursor::Moved;
 use layout::cursor::Short;
+use layout::cursor::Step;
 use layout::cursor::Text;
+use layout::edition::Edition;
+use layout::pass::pass_type;
 use plan::read::read_selectors;
 
 // Of the selector at `first + i` the end, or 0 where it is not known.
@@ -59,6 +64,31 @@ impl InputEnds {
         let i = at - self.first;
         if i < 64 { self.ends[i] as usize } else { 0 }
     }
+
+    // The end of the selector at `c`, found by skipping where it is not known.
+    pub fn end_of(self, plan: &[u8], c: Cursor) -> Cursor
+        requires { ⌜ EndsAt (now plan) self ⌝ }
+        ensures { λ r. ⌜ ((P : SelectorAt (now (plan .entry)) (c .at)) → r .at ≡ P .end) ⌝ }
+    {
+        let at = self.known(c.at);
+        if at == 0 {
+            return skip_selector(plan, c);
+        }
+        Cursor { at }
+    }
+}
+
+// Of a cast's type and option.
+fn option_end(plan: &[u8], c: Cursor) -> Cursor
+    ensures { λ r. ⌜ ((T : TypeAt EditionOf.One 16 (now (plan .entry)) (c .at)) (O : OptionAt (now (plan .entry)) (T .end)) → r .at ≡ O .end) ⌝ }
+{
+    match pass_type(plan, Edition::One, 16, c) {
+        Moved::To(d) => match d.byte(plan) {
+            Step::Byte(_, e) => e,
+            Step::Refused(_) => c,
+        },
+        Moved::Refused(_) => c,
+    }
 }
 
 // Of a name.
@@ -91,7 +121,7 @@ fn end_behind(plan: &[u8], c: Cursor, d: Cursor) -> Cursor
     match head(plan, c) {
         SelectorHead::Position(_) => skip_selector(plan, c),
         SelectorHead::Constant(_, _) => skip_selector(plan, c),
-        SelectorHead::Cast(_) => skip_selector(plan, c),
+        SelectorHead::Cast(_) => option_end(plan, d),
         SelectorHead::Rename(_) => name_end(plan, d),
         SelectorHead::Struct(_) => fields_end(plan, d),
         SelectorHead::List(_) => skip_selector(plan, d),
@@ -100,7 +130,7 @@ fn end_behind(plan: &[u8], c: Cursor, d: Cursor) -> Cursor
     }
 }
 
-// Whether there is a rename or a mapping at `at`. A cast takes leaves alone, so that no mapping stands inside.
+// Whether there is a transform at `at`.
 fn goes_on(plan: &[u8], at: usize) -> bool
     ensures { λ r. ⌜ (r ≡ true → at < length (now (plan .entry))) ⌝ }
 {
@@ -109,7 +139,7 @@ fn goes_on(plan: &[u8], at: usize) -> bool
     }
     let code = plan[at];
     match code {
-        3..=6 => true,
+        2..=6 => true,
         _ => false,
     }
 }
@@ -147,6 +177,18 @@ pub fn input_ends(plan: &[u8], c: Cursor) -> InputEnds
     ends
 }
 
+// A table that has the end of the selector at `c`.
+pub fn ends_with(plan: &[u8], ends: InputEnds, c: Cursor) -> InputEnds
+    requires { ⌜ c .at ≤ length (now plan) ⌝ }
+    requires { ⌜ EndsAt (now plan) ends ⌝ }
+    ensures { λ r. ⌜ EndsAt (now (plan .entry)) r ⌝ }
+{
+    if ends.known(c.at) != 0 {
+        return ends;
+    }
+    input_ends(plan, c)
+}
+
 // A table that has the end of the input of the mapping at `c`, if a mapping stands there.
 pub fn ends_for(plan: &[u8], ends: InputEnds, c: Cursor) -> InputEnds
     requires { ⌜ c .at < length (now plan) ⌝ }
@@ -157,8 +199,5 @@ pub fn ends_for(plan: &[u8], ends: InputEnds, c: Cursor) -> InputEnds
     if plan[at] < 4 {
         return ends;
     }
-    if ends.known(at + 1) != 0 {
-        return ends;
-    }
-    input_ends(plan, Cursor { at: at + 1 })
+    ends_with(plan, ends, Cursor { at: at + 1 })
 }

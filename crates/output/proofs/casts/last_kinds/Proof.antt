@@ -1,6 +1,7 @@
 use Rattle.output.proofs.Passing.{is-ends, is-goes, is-casts, Ahead, Keeping}
 use Rattle.output.proofs.Passing.{ahead-all, ahead-ends, keeping-none, keeping-all, keeping-goes, keeping-casts}
 use Rattle.walk.specs.Standing.{WalkAt, rank}
+use Rattle.walk.specs.Ends.{EndsAt}
 use Rattle.walk.specs.Moves.{Stopped}
 use Rattle.walk.specs.State.{State}
 use Rattle.layout.specs.declared.leaf.Leaf.{Leaf}
@@ -11,12 +12,12 @@ use Rattle.output.proofs.casts.last_kinds.Statement.{statement}
 use Rattle.output.proofs.casts.last_kinds.Tie as tie
 
 abbrev Inv-loop : tie.InvT-loop
-Inv-loop plan i kinds₀ at₀ left₀ kinds at left =
-    ((y : State) × WalkAt plan at y × Stopped y)
+Inv-loop plan i kinds₀ at₀ ends₀ left₀ kinds at ends left =
+    EndsAt plan ends × ((y : State) × WalkAt plan at y × Stopped y)
     × ((x z : State) (ks : List Leaf) → WalkAt plan at₀ x → Stopped x → Ahead z ks i i x → Keeping plan z ks i left kinds at)
 
 abbrev μ-loop : tie.MeasureT-loop
-μ-loop plan i kinds₀ at₀ left₀ kinds at left = rank at
+μ-loop plan i kinds₀ at₀ ends₀ left₀ kinds at ends left = rank at
 
 pub last-kinds-spec : {M : Type 1} → statement M
 last-kinds-spec =
@@ -25,51 +26,55 @@ last-kinds-spec =
     Inv-loop
     μ-loop
     (λ c κs. search needs)
+    (λ c κs. search needs)
     (λ c.
-    let L = c .locate .ensures (c .before .before .pre .0) (c .before .before .pre .1) in
-    ((L .state, L .standing, L .stopped), λ x z ks W S A. keeping-none refl W S A))
+    let L = c .before .locate .ensures (c .before .before .before .pre .0) (c .before .before .before .pre .1) in
+    (c .no-ends .ensures .0 _, (L .state, L .standing, L .stopped), λ x z ks W S A. keeping-none refl W S A))
+    (λ c κs. let (E, (y, W, S), f) = c .before .loop .inv in ((y, W), E))
     (λ c κs. search needs)
     (λ c. search needs)
     (λ c. λ x z ks W p h.
-    let L = c .before .before .before .before .before .locate .ensures x W in
-    let Q = c .before .before .before .before .loop .inv .1 (L .state) z ks (L .standing) (L .stopped) (ahead-all (L .moves) p h) in
+    let L = c .before .before .before .before .before .before .before .locate .ensures x W in
+    let Q = c .before .before .before .before .before .loop .inv .2 (L .state) z ks (L .standing) (L .stopped) (ahead-all (L .moves) p h) in
     let e = is-ends (c .before .before .next-pass .ensures _ (Q .standing) (Q .stopped)) (c .enum-told .given .1) in
-    ahead-ends (Q .ahead) (c .before .before .before .loop-test .taken) e)
+    ahead-ends (Q .ahead) (c .before .before .before .before .loop-test .taken) e)
     (λ c. search needs)
-    (λ c κs. let (y, W, S) = c .before .before .before .before .loop .inv .0 in
+    (λ c κs. let (y, W, S) = c .before .before .before .before .before .loop .inv .1 in
     let G = is-goes (c .before .before .next-pass .ensures y W S) (c .enum-told2 .given .1) in
     (y, G .input, W, G .is))
-    (λ c. let (y, W, S) = c .before .before .before .before .before .loop .inv .0 in
+    (λ c. let (y, W, S) = c .before .before .before .before .before .before .loop .inv .1 in
     let G = is-goes (c .before .before .before .next-pass .ensures y W S) (c .before .enum-told2 .given .1) in
     c .onward .ensures y (G .input) W (G .is) .falls)
-    (λ c. let (y, W, S) = c .before .before .before .before .before .loop .inv .0 in
+    (λ c. let (y, W, S) = c .before .before .before .before .before .before .loop .inv .1 in
     let G = is-goes (c .before .before .before .next-pass .ensures y W S) (c .before .enum-told2 .given .1) in
     let O = c .onward .ensures y (G .input) W (G .is) in (
+      c .before .before .before .before .ends-ahead .ensures,
       (O .state, O .standing, O .stopped),
       λ x z ks W S A.
-          let Q = c .before .before .before .before .before .loop .inv .1 x z ks W S A in
+          let Q = c .before .before .before .before .before .before .loop .inv .2 x z ks W S A in
           let H = is-goes (c .before .before .before .next-pass .ensures _ (Q .standing) (Q .stopped)) (c .before .enum-told2 .given .1) in
-          keeping-goes Q (c .before .before .before .before .loop-test .taken) H (c .onward .ensures (Q .state) (H .input) (Q .standing) (H .is)),
+          keeping-goes Q (c .before .before .before .before .before .loop-test .taken) H (c .onward .ensures (Q .state) (H .input) (Q .standing) (H .is)),
     ))
     (λ c. search needs)
     (λ c. search needs)
     (λ c. search needs)
     (λ c. search needs)
-    (λ c κs. let (y, W, S) = c .before .before .before .before .before .loop .inv .0 in
+    (λ c κs. let (y, W, S) = c .before .before .before .before .before .before .loop .inv .1 in
     let G = is-casts (c .before .before .before .next-pass .ensures y W S) (c .before .kind .given .1) in
     (y, G .input, W, G .is))
-    (λ c. let (y, W, S) = c .before .before .before .before .before .before .loop .inv .0 in
+    (λ c. let (y, W, S) = c .before .before .before .before .before .before .before .loop .inv .1 in
     let G = is-casts (c .before .before .before .before .next-pass .ensures y W S) (c .before .before .kind .given .1) in
     c .onward2 .ensures y (G .input) W (G .is) .falls)
-    (λ c. let (y, W, S) = c .before .before .before .before .before .before .loop .inv .0 in
+    (λ c. let (y, W, S) = c .before .before .before .before .before .before .before .loop .inv .1 in
     let G = is-casts (c .before .before .before .before .next-pass .ensures y W S) (c .before .before .kind .given .1) in
     let O = c .onward2 .ensures y (G .input) W (G .is) in (
+      c .before .before .before .before .before .ends-ahead .ensures,
       (O .state, O .standing, O .stopped),
       λ x z ks W S A.
-          let Q = c .before .before .before .before .before .before .loop .inv .1 x z ks W S A in
+          let Q = c .before .before .before .before .before .before .before .loop .inv .2 x z ks W S A in
           let H = is-casts (c .before .before .before .before .next-pass .ensures _ (Q .standing) (Q .stopped)) (c .before .before .kind .given .1) in
-          keeping-casts Q (c .before .before .before .before .before .loop-test .taken) H (c .onward2 .ensures (Q .state) (H .input) (Q .standing) (H .is)),
+          keeping-casts Q (c .before .before .before .before .before .before .loop-test .taken) H (c .onward2 .ensures (Q .state) (H .input) (Q .standing) (H .is)),
     ))
     (λ c. λ x z ks W p h.
-    let L = c .before .before .locate .ensures x W in
-    keeping-all (c .before .loop .inv .1 (L .state) z ks (L .standing) (L .stopped) (ahead-all (L .moves) p h)) (c .loop-test .left)))
+    let L = c .before .before .before .locate .ensures x W in
+    keeping-all (c .before .loop .inv .2 (L .state) z ks (L .standing) (L .stopped) (ahead-all (L .moves) p h)) (c .loop-test .left)))

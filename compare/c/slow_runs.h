@@ -1,0 +1,76 @@
+/* Part of bounded.c: plans within the limits whose run once took seconds, since each cast of a chain was looked up from the chain's start. */
+
+enum { CHAINED = 60, OVER = 10, EACH = 46, ELEMENT = 0x4700 /* 7 as a float of 16 bits */ };
+
+/* One column, a list of leaves of that kind. */
+static void leaves_of(text *t, int kind) {
+    mark(t, "LAY", 1);
+    put(t, 0, 1);
+    put(t, 19, 1);
+    put(t, (uint64_t)kind, 1);
+}
+
+static void cast_to(text *t, int kind, int option) {
+    put(t, (uint64_t)kind, 1);
+    put(t, (uint64_t)option, 1);
+}
+
+/* Casts over position 0, an even number of them: from int8 or, in a later mapping, from float16 up to float64, back and forth, and to float16. */
+static void casts_of(text *t, int casts, int first) {
+    for (int i = 0; i < casts; i++)
+        put(t, 2, 1);
+    position(t, 0);
+    int i = 0;
+    if (first)
+        for (; i < 3; i++)
+            cast_to(t, 3 + i, 2); /* int16, int32, int64: Overflowing */
+    for (; i < casts - 1; i++)
+        if (i == 3 && first)
+            cast_to(t, 11, 2);
+        else
+            cast_to(t, i % 2 == 0 ? 12 : 11, 0);
+    cast_to(t, 10, 0);
+}
+
+/* List mappings, each of which is the input of the next; every element goes through so many casts in each. */
+static void chain_of(text *t, int mappings, int casts) {
+    mark(t, "PLN", 1);
+    for (int i = 0; i < mappings; i++)
+        put(t, 5, 1);
+    position(t, 0);
+    for (int i = 0; i < mappings; i++)
+        casts_of(t, casts, i == 0);
+}
+
+static void sevens_of(text *t, int elements) {
+    t->length = 0;
+    put(t, 1, 1);
+    put(t, (uint64_t)elements, 2);
+    for (int i = 0; i < elements; i++)
+        put(t, 0x0701, 2);
+}
+
+/* A list of so many sevens, all of which are to become floats of 16 bits. */
+static void expect_sevens(int elements) {
+    uint32_t length = 3 + 3 * (uint32_t)elements;
+    sevens_of(&record, elements);
+    char name[80];
+    snprintf(name, sizeof name, "a plan of %zu bytes, mostly casts, over %d elements", plan.length, elements);
+    expect(name, length > SELECTOR_RECORD_MAX ? 45 : 0);
+    if (length > SELECTOR_RECORD_MAX)
+        return;
+    for (int i = 0; i < elements; i++)
+        if (output[3 + 3 * i] != 1 || output[4 + 3 * i] != (ELEMENT & 255) || output[5 + 3 * i] != ELEMENT >> 8)
+            failed = 1;
+}
+
+static void slow_runs(void) {
+    leaves_of(&incoming, 2);
+    leaves_of(&target, 10);
+    chain_of(&plan, 1, CHAINED);
+    expect_sevens(8190);
+    expect_sevens(5460);
+    chain_of(&plan, OVER, EACH);
+    expect_sevens(30);
+    expect_sevens(2000);
+}

@@ -1,0 +1,15 @@
+use Rattle.walk.proofs.Standing.{walk-small, walk-inside}
+use native.Mathlib.Omega.{arith}
+use borrow.Author.Needs.{needs}
+use Rattle.output.proofs.casts.ends_ahead.Statement.{statement}
+use Rattle.output.proofs.casts.ends_ahead.Tie as tie
+
+pub ends-ahead-spec : {M : Type 1} → statement M
+ends-ahead-spec =
+    tie.close
+    (tie.spec
+    (λ c. walk-inside (c .before .before .pre .0 .1))
+    (λ c. omega (arith, walk-small (c .before .before .before .pre .0 .1)))
+    (λ c κs. let p = c .before .before .before .pre in (omega (arith, walk-inside (p .0 .1)), p .1))
+    (λ c. search needs)
+    (λ c. search needs))
