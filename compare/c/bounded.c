@@ -5,7 +5,7 @@
  * fit, of which none is theirs: with ids in a row, and with ids that are all in one chain of the table's index; the
  * plans of slow_checks.h, slow_marks.h and slow_runs.h; and values that pass over a long type for each of their bytes:
  * empty arrays of a struct of lists, taken whole, and in front of a column that thousands of selectors take.
- * The exit status is 1 where an answer or an output is not the one due, or where it takes more than a second; more than five for the mappings. */
+ * The exit status is 1 where an answer or an output is not the one due, or where it takes more than a second of processor time; more than five for the mappings. */
 #define _DEFAULT_SOURCE
 #include "selector.h"
 
@@ -217,13 +217,13 @@ static int failed;
 
 static double since(const struct timespec *from) {
     struct timespec to;
-    clock_gettime(CLOCK_MONOTONIC, &to);
+    clock_gettime(CLOCK_PROCESS_CPUTIME_ID, &to);
     return (double)(to.tv_sec - from->tv_sec) * 1e3 + (double)(to.tv_nsec - from->tv_nsec) / 1e6;
 }
 
 static void expect(const char *name, uint32_t number) {
     struct timespec from;
-    clock_gettime(CLOCK_MONOTONIC, &from);
+    clock_gettime(CLOCK_PROCESS_CPUTIME_ID, &from);
     uint64_t answer = selector_run(incoming.bytes, incoming.length, target.bytes, target.length, plan.bytes, plan.length, record.bytes, record.length, output, sizeof output);
     double taken = since(&from);
     printf("%s: %u after %.2f ms\n", name, SELECTOR_NUMBER(answer), taken);
@@ -240,10 +240,10 @@ static void expect_turned(int listed, int mappings) {
     turning_of(&plan, listed, mappings, FIELDS);
     fields_of(&record, listed, FIELDS, 0);
     fields_of(&due, listed, FIELDS, turned);
-    clock_gettime(CLOCK_MONOTONIC, &from);
+    clock_gettime(CLOCK_PROCESS_CPUTIME_ID, &from);
     uint64_t checked = selector_check_plan(incoming.bytes, incoming.length, target.bytes, target.length, plan.bytes, plan.length);
     double check = since(&from);
-    clock_gettime(CLOCK_MONOTONIC, &from);
+    clock_gettime(CLOCK_PROCESS_CPUTIME_ID, &from);
     uint64_t ran = selector_run(incoming.bytes, incoming.length, target.bytes, target.length, plan.bytes, plan.length, record.bytes, record.length, output, sizeof output);
     double run = since(&from);
     printf("%d mappings of %d fields one over another%s: check %u after %.2f ms, run %u after %.2f ms\n", mappings, FIELDS, listed ? " in an element" : "", SELECTOR_NUMBER(checked), check, SELECTOR_NUMBER(ran), run);
@@ -279,7 +279,7 @@ static void expect_missing(int version, uint32_t step) {
         put(&due, 0x00020001, 4); /* a constant without a name: int8, null */
     }
     table_of(&record, version, step);
-    clock_gettime(CLOCK_MONOTONIC, &from);
+    clock_gettime(CLOCK_PROCESS_CPUTIME_ID, &from);
     uint64_t built = selector_build_by_number(SELECTOR_ALLOW_ALL, 0, 3, incoming.bytes, incoming.length, target.bytes, target.length, record.bytes, record.length, plan.bytes,
                                               sizeof plan.bytes);
     double taken = since(&from);

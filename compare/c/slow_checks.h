@@ -10,7 +10,7 @@ static void position(text *t, int k) {
 
 static void expect_check_within(const char *name, uint32_t number, double limit) {
     struct timespec from;
-    clock_gettime(CLOCK_MONOTONIC, &from);
+    clock_gettime(CLOCK_PROCESS_CPUTIME_ID, &from);
     uint64_t answer = selector_check_plan(incoming.bytes, incoming.length, target.bytes, target.length, plan.bytes, plan.length);
     double taken = since(&from);
     printf("%s, a plan of %zu bytes: check %u after %.2f ms\n", name, plan.length, SELECTOR_NUMBER(answer), taken);
