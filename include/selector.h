@@ -146,9 +146,9 @@ extern "C" {
 #define SELECTOR_ALLOW_ALL UINT32_C(0xFFFF)
 
 /* Reads a layout of version 1, 2 or 3 to its end. The answer is 0 where it is accepted. Refusals: 1 to 6, 50. The place
- * of 1 to 6 is 1. Stack: SELECTOR_READ_STACK. Time: grows with the bytes; earlier siblings are scanned for a repeated
- * name or id only where a table of bits says that there may be one, so that only layouts made for it take the square of
- * the number of columns. */
+ * of 1 to 6 is 1. Stack: SELECTOR_READ_STACK. Time: grows with the bytes; a name or id is held against those
+ * before it that fall beside it in a table, so that only layouts made for it take the square of the number of
+ * columns. */
 uint64_t selector_read_layout(const uint8_t *layout, size_t length);
 
 /* Builds the plan that takes records of the incoming layout to the target layout, columns matched by name. Both are of

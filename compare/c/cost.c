@@ -137,13 +137,13 @@ static void widest(uint32_t version, int lists, uint32_t count) {
 
 /* As many columns as there may be whose names have one hash: from any hash on, either block leads to the same one. */
 static void colliding(void) {
-    static const uint8_t blocks[2][5] = {{0x05, 0x34, 0x6C, 0xC7, 0xAC}, {0xF5, 0x8A, 0x1B, 0x40, 0xBA}};
-    const uint32_t columns = (LIMIT - 7) / 47;
+    static const uint8_t blocks[2][4] = {{0, 0, 0, 0}, {0xCE, 0xD8, 0x1A, 0x52}};
+    const uint32_t columns = (LIMIT - 7) / 38;
     head(1, columns);
     for (uint32_t n = 0; n < columns; n++) {
-        put(45, 1);
+        put(36, 1);
         for (int bit = 0; bit < 9; bit++)
-            for (int i = 0; i < 5; i++)
+            for (int i = 0; i < 4; i++)
                 put(blocks[n >> bit & 1][i], 1);
         put(2, 1);
     }

@@ -1,5 +1,6 @@
 /* Builds whose labels were chosen to share one chain of a table, as one who reads crates/layout/src/seen.rt and crates/labels/src/lib.rt would choose them: names that are all found, names
- * that are all missing, types that take long to pass over, at the top, in a struct, and in a struct inside two others. The hash is worked out here again.
+ * that are all missing, types that take long to pass over, at the top, in a struct, and in a struct inside two others; and labels that are all looked for from one slot of the table of
+ * labels that were read. The hash is worked out here again.
  * The exit status is 1 where a build is refused or takes more than a second of processor time. */
 #define _DEFAULT_SOURCE
 #include "selector.h"
@@ -28,13 +29,25 @@ static int failed;
 
 static uint32_t mix(uint32_t hash, uint32_t value) { return (hash + value) * UINT32_C(0x5BD1E995); }
 
-static uint32_t hash_of(uint32_t label, int size) {
-    uint32_t hash = 0;
+/* Among siblings that begin at an offset. */
+static uint32_t hash_from(uint32_t from, uint32_t label, int size) {
+    uint32_t hash = from;
     if (size == 0)
-        return mix(mix(0, 0), label);
-    for (int i = 0; i < size; i++)
-        hash = mix(hash, label >> (8 * i) & 255);
+        return mix(mix(0, from), label);
+    for (int i = 0; i < size; i += 2)
+        hash = mix(hash, label >> (8 * i) & (i + 1 < size ? 65535 : 255));
     return hash;
+}
+
+static uint32_t hash_of(uint32_t label, int size) { return hash_from(0, label, size); }
+
+/* So many labels that are looked for from the first slot of a long layout's table on. */
+static labels crowded(int count, int size, uint32_t from) {
+    labels l = {.count = count, .size = size};
+    for (uint32_t next = 0, i = 0; i < (uint32_t)count; next++)
+        if ((uint64_t)hash_from(from, next, size) * 4224 >> 32 == 0)
+            l.of[i++] = next;
+    return l;
 }
 
 /* How many chains the table of so many columns has. */
@@ -112,6 +125,41 @@ static void against(const char *name, int around, const labels *in, int lists, c
     expect(name);
 }
 
+/* Names that are looked for from one slot, behind columns of lists. */
+static void behind_lists(void) {
+    labels lists = {.count = 409, .size = 3}, names = crowded(1637, 3, 7);
+    for (int i = 0; i < lists.count; i++)
+        lists.of[i] = 0xFF0000 + (uint32_t)i;
+    head(&target, 1, lists.count + names.count);
+    columns(&target, &lists, 0, 15);
+    columns(&target, &names, 0, 0);
+    incoming = target;
+    expect("1,637 names looked for from one slot, behind 409 columns of lists");
+}
+
+/* Ids of a struct's fields once more outside it, behind lists. Its fields begin at 26, where an id's slot is two before its slot at the top. */
+static void outside(void) {
+    labels ids = crowded(680, 0, 26);
+    head(&target, 2, 1 + 83 + ids.count);
+    put(&target, 11, 1);
+    for (int i = 0; i < 11; i++)
+        put(&target, 'a', 1);
+    put(&target, UINT32_C(0xFFFFFFFF), 4);
+    put(&target, 18, 1);
+    put(&target, (uint64_t)ids.count, 2);
+    columns(&target, &ids, 0, 0);
+    for (uint32_t i = 0; i < 83; i++) {
+        put(&target, 0, 1);
+        put(&target, UINT32_C(0xF0000000) + i, 4);
+        for (int k = 0; k < 15; k++)
+            put(&target, 19, 6); /* its element has no name, and the id 0 */
+        put(&target, 2, 1);
+    }
+    columns(&target, &ids, 0, 0);
+    incoming = target;
+    expect("680 ids of a struct's fields once more outside it, behind 83 columns of lists");
+}
+
 int main(void) {
     static const char *const places[] = {"at the top", "in a struct", "in a struct inside another", "in a struct inside two others"};
     char name[120];
@@ -138,5 +186,7 @@ int main(void) {
     labels out = sharing(2729, 0, heads(2729), 1, &next);
     against("2,729 ids in one chain, all found", -1, &in, 0, &in);
     against("2,729 ids in one chain, all missing", -1, &in, 0, &out);
+    behind_lists();
+    outside();
     return failed;
 }

@@ -39,9 +39,20 @@ module _ (from : ℕ) (b : Bytes) where
   hashing-none = record { within = omega arith; rest = refl }
 
   module _ (h i : ℕ) (a : Hashing from b h i) where
-    pub hashing-more : {k : ℕ} → i < length b → k ≡ mixed h (getD b i 0) → Hashing from b k (i + 1)
+    pub hashing-more : {k x : ℕ} → i + 1 < length b → x ≡ getD b i 0 + 256 * getD b (i + 1) 0 → k ≡ mixed h x → Hashing from b k (i + 2)
     unfolding hashBytes
-    hashing-more lt e = record { within = omega arith; rest = a .rest ∙ rw (add-one, drop-cons b i 0 lt, e) }
+    hashing-more lt y e =
+        let one : i + 1 ≡ suc i = omega arith in
+        let two : i + 2 ≡ suc (suc i) = omega arith in
+        let first = drop-cons b i 0 (let z : i < length b = omega arith in z) in
+        let second = drop-cons b (suc i) 0 (let z : suc i < length b = omega arith in z) in
+        record { within = omega arith; rest = a .rest ∙ rw (two, first, second, e, y, one) }
+
+    pub hashing-last : {k x : ℕ} → i < length b → length b ≤ i + 1 → x ≡ getD b i 0 + 256 * 0 → k ≡ mixed h x → k ≡ hashBytes from b
+    unfolding hashBytes
+    hashing-last {x = x} lt le y e =
+        let z : x ≡ getD b i 0 = omega arith in
+        rw (e, z, a .rest, drop-cons b i 0 lt, drop-of-length-le b (let z : length b ≤ suc i = omega arith in z))
 
     pub hashing-all : length b ≤ i → h ≡ hashBytes from b
     unfolding hashBytes
@@ -208,6 +219,13 @@ module _ (v : Edition) (r : Siblings) (l : Label) (s : Bytes) (t : List ℕ) (h 
                 subst (λ (o : ℕ). (0 < slotAt t h o) × (mayRepeat v r l s (slotAt t h o) ≡ false)) (sym p)
                 (filled, ap (mayRepeat v r l s) (sym holds) ∙ sym y ∙ z)
             go j q (no n) = a .passed j (below j i q n)
+
+  -- the first slot is empty
+  pub searched-first : {first : ℕ} → first ≡ firstSlot (length t) h → first < length t → getD t first 0 ≡ 0 → Searched v r l s t h first
+  searched-first {first} e lt z = searching-empty 0 searching-none (omega arith) e here refl lt z
+    where
+      here : first ≡ slotAfter (length t) first 0
+      here = (let y : first ≡ first + 0 = omega arith in y) ∙ slot-on (length t) first 0 (omega arith)
 
 -- ---- the table
 

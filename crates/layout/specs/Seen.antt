@@ -20,7 +20,8 @@ mixed h x = (h + x) * 0x5BD1E995 % 4294967296
 
 unfoldable pub hashBytes : ℕ → Bytes → ℕ
 hashBytes h [] = h
-hashBytes h (b ∷ bs) = hashBytes (mixed h b) bs
+hashBytes h (a ∷ []) = mixed h a
+hashBytes h (a ∷ (b ∷ bs)) = hashBytes (mixed h (a + 256 * b)) bs
 
 -- of what a rule compares, among the siblings that begin at an offset
 abbrev pub labelHash : Siblings → ℕ → Label → ℕ

@@ -2,7 +2,7 @@
 // first, the others follow in turn, and the label is new where one is empty. Nothing is asked of what a table holds: where it was not cleared,
 // or is full, more is compared.
 ghost use mathlib.Core.Path.{_≡_};
-ghost use Prim.Native.Nat.{_≤_, _<_};
+ghost use Prim.Native.Nat.{_+_, _*_, _≤_, _<_};
 ghost use lib.ListN.{length};
 ghost use Rattle.layout.specs.Answers.{labelAt, spanIn};
 ghost use Rattle.layout.specs.Seen.{mixed, hashBytes, labelHash, far, firstSlot, slotAfter, mayRepeat, Searched};
@@ -23,14 +23,24 @@ fn mix(h: u32, x: u32) -> u32
     (((h as u64) + (x as u64)) * 0x5BD1_E995 % 0x1_0000_0000) as u32
 }
 
+fn pair(a: u8, b: u8) -> u32
+    ensures { λ r. ⌜ r ≡ a + 256 * b ⌝ }
+{
+    (a as u32) + 256 * (b as u32)
+}
+
+// Two bytes at a time.
 fn hash_bytes(from: u32, b: &[u8]) -> u32
     ensures { λ r. ⌜ r ≡ hashBytes from (now (b .entry)) ⌝ }
 {
     let mut h = from;
     let mut i = 0;
-    while i < b.len() {
-        h = mix(h, b[i] as u32);
-        i += 1;
+    while i + 1 < b.len() {
+        h = mix(h, pair(b[i], b[i + 1]));
+        i += 2;
+    }
+    if i < b.len() {
+        return mix(h, pair(b[i], 0));
     }
     h
 }
@@ -88,7 +98,8 @@ fn may_repeat(s: &[u8], v: Edition, rule: Siblings, l: Label, x: u16) -> bool
     }
 }
 
-// The empty slot for a label of a hash, which is then new; the table's length where it may be repeated.
+// The empty slot for a label of a hash, which is then new; the table's length where it may be repeated. The first slot, most often empty, stands
+// in line.
 pub fn find_slot(s: &[u8], v: Edition, rule: Siblings, l: Label, h: u32, seen: &[u16]) -> usize
     requires { ⌜ spanIn (now s) (l .name) ⌝ }
     ensures { λ r. ⌜ Searched v rule (labelAt (now (s .entry)) l) (now (s .entry)) (now (seen .entry)) h r ⌝ }
@@ -98,6 +109,9 @@ pub fn find_slot(s: &[u8], v: Edition, rule: Siblings, l: Label, h: u32, seen: &
         return 0;
     }
     let first = first_slot(n, h);
+    if seen[first] == 0 {
+        return first;
+    }
     let mut i = 0;
     while i < n {
         let k = slot_after(n, first, i);

@@ -28,13 +28,19 @@ fn inverse(odd: u32) -> u32 {
     (0..4).fold(odd, step)
 }
 
+/// A name's bytes, two at a time.
+fn pairs(bytes: [u8; 4]) -> [u32; 2] {
+    let [a, b, c, d] = bytes;
+    [[a, b], [c, d]].map(|pair| u32::from(u16::from_le_bytes(pair)))
+}
+
 /// Two blocks with the same hash. From any hash on they lead to the same one.
-fn equal_blocks() -> [[u8; 5]; 2] {
+fn equal_blocks() -> [[u8; 4]; 2] {
     let mut random = Random::new(1);
     let mut seen = HashMap::new();
     loop {
-        let [block @ .., _, _, _] = random.next().to_le_bytes();
-        match seen.insert(hash(0, block.map(u32::from)), block) {
+        let [block @ .., _, _, _, _] = random.next().to_le_bytes();
+        match seen.insert(hash(0, pairs(block)), block) {
             Some(other) if other != block => return [block, other],
             _ => (),
         }
@@ -165,21 +171,18 @@ impl Trials<'_> {
     pub(super) fn collisions(&mut self) {
         let names = equal_names();
         self.siblings(1, &names);
-        // The table of bits leaves the lowest 5 bits of a hash out, the table of labels all but the lowest.
-        let bits = numbered(
-            hash(0, [TOP]),
-            (0..COUNT).map(|n| n % 32 + n / 32 * 0x0100_0000),
-        );
+        // The table of slots goes by the highest bits of a hash, the table of labels by the lowest.
+        let slots = numbered(hash(0, [TOP]), 0..COUNT);
         let labels = numbered(0, (1..=COUNT).map(|n| n << 16));
-        self.siblings(2, &bits);
+        self.siblings(2, &slots);
         self.siblings(2, &labels);
         for levels in 0..4 {
             self.turned_round(Call::BuildByName, 1, &names, levels);
-            self.turned_round(Call::BuildByNumber, 2, &bits, levels);
+            self.turned_round(Call::BuildByNumber, 2, &slots, levels);
             self.turned_round(Call::BuildByNumber, 2, &labels, levels);
         }
         self.extra_columns(Call::BuildByName, 1, &names);
-        self.extra_columns(Call::BuildByNumber, 2, &bits);
+        self.extra_columns(Call::BuildByNumber, 2, &slots);
         self.extra_columns(Call::BuildByNumber, 2, &labels);
         let few: Vec<Column> = within(Vec::new(), 1);
         for levels in 1..4 {

@@ -6,4 +6,11 @@ use Rattle.builder.proofs.fields.distinct.Tie as tie
 
 pub distinct-spec : {M : Type 1} → statement M
 distinct-spec =
-    tie.close (tie.spec (λ c. search needs) (λ c κs. search needs) (λ c. search needs) (λ c. λ P. distinct-name (P .columns) (c .before .enum-told .given .1) (c .distinct-names .ensures P)) (λ c. λ P. distinct-number (P .columns) (c .enum-told2 .given .1)))
+    tie.close
+    (tie.spec
+    (λ c. search needs)
+    (λ c κs. search needs)
+    (λ c. search needs)
+    (λ c. search needs)
+    (λ c. λ P. distinct-name (P .columns) (c .before .before .before .before .enum-told .given .1) (c .before .before .distinct-names .ensures P))
+    (λ c. λ P. distinct-number (P .columns) (c .enum-told2 .given .1)))

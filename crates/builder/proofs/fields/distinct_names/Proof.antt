@@ -1,4 +1,6 @@
 -- `builder::fields::distinct_names` meets its contract. Assumes nothing.
+use mathlib.Core.Path.{sym}
+use lib.Seq.{length-take-le}
 use Rattle.builder.proofs.Repeated.{names-read, names-refused}
 use borrow.Author.Needs.{needs}
 use Rattle.builder.proofs.fields.distinct_names.Statement.{statement}
@@ -12,6 +14,11 @@ distinct-names-spec =
     (λ c. c .distinct-few .ensures)
     (λ c κs. search needs)
     (λ c. search needs)
+    (λ c. sym (length-take-le _ _ (c .before .before .before .clear-slots .ensures)))
+    (λ c κs. search needs)
     (λ c. search needs)
-    (λ c. λ P. names-read (c .before .before .read-columns .ensures .0) P (c .enum-told .given .1))
-    (λ c. λ P. names-refused (c .before .before .read-columns .ensures .0) P (c .enum-told2 .given .1)))
+    (λ c. search needs)
+    (λ c. search needs)
+    (λ c. λ P. names-read (c .before .before .before .before .read-columns .ensures .0) P (c .enum-told .given .1))
+    (λ c. search needs)
+    (λ c. λ P. names-refused (c .before .before .before .before .read-columns .ensures .0) P (c .enum-told2 .given .1)))

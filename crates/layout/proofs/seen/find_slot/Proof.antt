@@ -4,6 +4,7 @@ use native.Mathlib.Omega.{arith}
 use Prim.Native.Nat.{_-_}
 use Rattle.layout.specs.Answers.{labelAt}
 use Rattle.layout.proofs.Noting.{Searching, searching-none, searched-none, searching-full, searching-empty, searching-met, searching-more}
+use Rattle.layout.proofs.Noting.{searched-first}
 use borrow.Author.Needs.{needs}
 use Rattle.layout.proofs.seen.find_slot.Statement.{statement}
 use Rattle.layout.proofs.seen.find_slot.Tie as tie
@@ -22,23 +23,26 @@ find-slot-spec =
     μ-loop
     (λ c. searched-none _ _ _ _ _ _ (c .if1 .taken))
     (λ c κs. search needs)
+    (λ c. search needs)
+    (λ c. search needs)
+    (λ c. let first = c .before .before .first-slot .ensures in searched-first _ _ _ _ _ _ (first .0) (first .1) (c .if2 .taken))
     (λ c. searching-none _ _ _ _ _ _)
-    (λ c κs. (c .before .before .first-slot .ensures .1, c .loop-test .taken))
+    (λ c κs. (c .before .before .before .before .first-slot .ensures .1, c .loop-test .taken))
     (λ c. search needs)
     (λ c. search needs)
     (λ c.
     let c2 = c .before .before in let c3 = c2 .before in let c4 = c3 .before in
-    searching-empty _ _ _ _ _ _ _ (c4 .loop .inv) (c3 .loop-test .taken) (c4 .before .first-slot .ensures .0) (c2 .slot-after .ensures .0) refl
-    (c2 .slot-after .ensures .1) (c .if2 .taken))
+    searching-empty _ _ _ _ _ _ _ (c4 .loop .inv) (c3 .loop-test .taken) (c4 .before .before .before .first-slot .ensures .0) (c2 .slot-after .ensures .0)
+    refl (c2 .slot-after .ensures .1) (c .if3 .taken))
     (λ c κs. search needs)
     (λ c.
     let c2 = c .before .before in let c4 = c2 .before .before in let c5 = c4 .before in let c6 = c5 .before in
-    searching-met _ _ _ _ _ _ _ (c6 .loop .inv) (c5 .loop-test .taken) (c6 .before .first-slot .ensures .0) (c4 .slot-after .ensures .0) refl (c2 .if2 .left)
-    (c .before .may-repeat .ensures) (c .if3 .taken) refl)
+    searching-met _ _ _ _ _ _ _ (c6 .loop .inv) (c5 .loop-test .taken) (c6 .before .before .before .first-slot .ensures .0) (c4 .slot-after .ensures .0)
+    refl (c2 .if3 .left) (c .before .may-repeat .ensures) (c .if4 .taken) refl)
     (λ c. omega arith)
     (λ c. omega arith)
     (λ c.
     let c2 = c .before .before in let c4 = c2 .before .before in let c5 = c4 .before in let c6 = c5 .before in
-    searching-more _ _ _ _ _ _ _ (c6 .loop .inv) (c5 .loop-test .taken) (c6 .before .first-slot .ensures .0) (c4 .slot-after .ensures .0) refl (c2 .if2 .left)
-    (c .before .may-repeat .ensures) (c .if3 .left))
+    searching-more _ _ _ _ _ _ _ (c6 .loop .inv) (c5 .loop-test .taken) (c6 .before .before .before .first-slot .ensures .0) (c4 .slot-after .ensures .0)
+    refl (c2 .if3 .left) (c .before .may-repeat .ensures) (c .if4 .left))
     (λ c. searching-full _ _ _ _ _ _ _ (c .before .loop .inv) (c .loop-test .left) refl))

@@ -3,7 +3,7 @@ use borrow.Author.Needs.{needs}
 use Prim.Native.Nat.{_-_}
 use lib.ListN.{length}
 use native.Mathlib.Omega.{arith}
-use Rattle.layout.proofs.Noting.{Hashing, hashing-none, hashing-more, hashing-all}
+use Rattle.layout.proofs.Noting.{Hashing, hashing-none, hashing-more, hashing-last, hashing-all}
 use Rattle.layout.proofs.seen.hash_bytes.Statement.{statement}
 use Rattle.layout.proofs.seen.hash_bytes.Tie as tie
 
@@ -21,9 +21,16 @@ hash-bytes-spec =
     μ-loop
     (λ c. hashing-none _ _)
     (λ c. search needs)
-    (λ c. omega (arith, c .shared-slice-known2 .given (c .before .before .loop .i)))
+    (λ c. search needs)
+    (λ c. search needs)
+    (λ c. search needs)
+    (λ c κs. search needs)
     (λ c κs. search needs)
     (λ c. omega arith)
     (λ c. omega arith)
     (λ c. search hashing-more)
+    (λ c. search needs)
+    (λ c κs. search needs)
+    (λ c κs. search needs)
+    (λ c. search hashing-last)
     (λ c. search hashing-all))
