@@ -17,14 +17,14 @@ use Rattle.layout.proofs.Ways.{clash}
 use Rattle.forms.specs.Form.{u16Bytes, u32Bytes, textBytes, kindForm, form, formFields, headOf}
 use Rattle.forms.specs.Readable.{depthOf, depthOfFields}
 use Rattle.plan.specs.Result.{gives}
-use Rattle.plan.specs.Check.{Column, column, columnAt, withinLimits}
+use Rattle.plan.specs.Check.{Column, column, columnAt}
 use Rattle.plan.proofs.Results.{never-refused, gives-eq}
 use Rattle.walk.specs.Stands.{SelectorAt}
 use Rattle.walk.specs.declared.walk.Walk.{Walk}
 use Rattle.nodes.specs.Typed.{TypeIs, SizeOf}
 use Rattle.nodes.specs.declared.types.FormSize.{FormSize}
 use Rattle.direct.specs.Places.{bytesOf, NameAt}
-use Rattle.checker.specs.Standing.{partsOf, PartOf, TypedAt, NamedAt, Made, made-struct, made-list, made-array, MappedAt, ResolvedAt, Resolves, headKind, TypeHeadIs}
+use Rattle.checker.specs.Standing.{partsOf, PartOf, NamedAt, Made, made-struct, made-list, made-array, MappedAt, ResolvedAt, headKind, TypeHeadIs}
 use Rattle.checker.specs.Children.{PassedTo}
 use Rattle.checker.specs.Limits.{fitOf, typeFit, fieldsFit, columnFit, aroundOf, joinedOf, addedOf, restFit, Bounded, sizeOf}
 use Rattle.checker.specs.declared.limits.Fit.{Fit}
@@ -35,7 +35,6 @@ use Rattle.checker.specs.declared.place.TypeHead.{TypeHead}
 use Rattle.checker.specs.declared.resolve.Source.{Source}
 use Rattle.checker.specs.declared.resolve.Resolved.{Resolved}
 use Rattle.checker.proofs.Fields.{column-there}
-use Rattle.checker.proofs.Resolving.{named-typed}
 use Rattle.checker.proofs.Headed.{from-mapping}
 use Rattle.checker.proofs.Children.{ChildAt, made-more, made-named}
 

@@ -17,7 +17,7 @@ use Rattle.forms.specs.Readable.{depthOf}
 use Rattle.plan.specs.Result.{Result, gives, refuses, _>>=_}
 use Rattle.rules.specs.declared.outcome.CastOption.{CastOption}
 use Rattle.plan.specs.Selector.{Selector, position, constant, cast, rename, structMapping, listMapping, arrayMapping, Selectors, snil, scons, countSelectors, nesting}
-use Rattle.plan.specs.Check.{Column, columnAt, elementOf, structOf, listOf, arrayOf, withinLimits, resulting, checkCast, checkRename, checkStruct, checkList, checkArray, typeOf, typesOf}
+use Rattle.plan.specs.Check.{Column, columnAt, elementOf, structOf, listOf, arrayOf, resulting, checkCast, checkRename, checkStruct, checkList, checkArray, typeOf, typesOf}
 use Rattle.plan.specs.Reach.{SelectorAt as Nth, s-here, s-there}
 use Rattle.walk.specs.State.{Frame, fields, element, State, state}
 use Rattle.walk.specs.Moves.{Input, i-cast, i-rename, i-struct, i-list, i-array, Part, p-field, p-list, p-array}

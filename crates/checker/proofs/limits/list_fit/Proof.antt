@@ -3,7 +3,6 @@ use native.Mathlib.Omega.{arith}
 use mathlib.Core.Path.{ap, _∙_}
 use Rattle.checker.specs.Limits.{aroundOf}
 use Rattle.checker.proofs.Fitting.{fit-bounded, fit-around}
-use borrow.Author.Needs.{needs}
 use Rattle.checker.proofs.limits.list_fit.Statement.{statement}
 use Rattle.checker.proofs.limits.list_fit.Tie as tie
 

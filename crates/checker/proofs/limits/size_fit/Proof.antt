@@ -1,6 +1,5 @@
 -- `checker::limits::size_fit` meets its contract. Assumes nothing.
 use Rattle.checker.proofs.Fitting.{fit-deep, fit-long, fit-within}
-use borrow.Author.Needs.{needs}
 use Rattle.checker.proofs.limits.size_fit.Statement.{statement}
 use Rattle.checker.proofs.limits.size_fit.Tie as tie
 
