@@ -89,7 +89,7 @@ module _ {ks : List Leaf} {v₀ : Value} {i m : ℕ} {kinds : List Leaf} {k : Le
   pub block-all : m ≤ count → count ≤ m → Casting ks v₀ (i - count) (vnumber k x)
   block-all a b = casting-to (omega arith) C
 
-  module _ (b : count ≤ 256) (l : m < count) (r : Converted) (f : valueOf (getD kinds m Null) r ≡ convert k (getD kinds m Null) x) where
+  module _ (b : count ≤ 1024) (l : m < count) (r : Converted) (f : valueOf (getD kinds m Null) r ≡ convert k (getD kinds m Null) x) where
     kind-is : getD kinds m Null ≡ getD ks (i - m - 1) Null
     kind-is = let q : i - 1 - m ≡ i - m - 1 = omega arith in K .right m (omega arith) (omega arith) (omega arith) ∙ ap (λ (j : ℕ). getD ks j Null) q
 

@@ -296,19 +296,19 @@ module _ {z : State} {ks : List Leaf} {i n : ℕ} {y : State} (A : Ahead z ks i 
             let q : suc (n - 1 - 1 - m) ≡ n - 1 - m = omega arith in
             ap (λ (j : ℕ). getD (k ∷ past .rest) j Null) q ∙ ap (λ (l : List Leaf). getD l (n - 1 - m) Null) (sym (past .is)) ∙ A .same m (omega arith)
 
--- One kind more, at its place; where it is not among the last 256, what it takes the place of is not either.
+-- One kind more, at its place; where it is not among the last 1,024, what it takes the place of is not either.
 kept-more : {ks : List Leaf} {i left : ℕ} {kinds : List Leaf} {kind : Leaf} → Kept ks i (left + 1) kinds → kind ≡ getD ks (i - 1 - left) Null
-    → Kept ks i left (set kinds (left % 256) kind)
-kept-more {ks} {i} {left} {kinds} {kind} K e = record { room = length-set kinds (left % 256) kind ∙ K .room; right = λ m a b c. go m a b c (ℕ-discrete m left) }
+    → Kept ks i left (set kinds (left % 1024) kind)
+kept-more {ks} {i} {left} {kinds} {kind} K e = record { room = length-set kinds (left % 1024) kind ∙ K .room; right = λ m a b c. go m a b c (ℕ-discrete m left) }
   where
-    go : (m : ℕ) → left ≤ m → m < i → m < 256 → Dec (m ≡ left) → getD (set kinds (left % 256) kind) m Null ≡ getD ks (i - 1 - m) Null
+    go : (m : ℕ) → left ≤ m → m < i → m < 1024 → Dec (m ≡ left) → getD (set kinds (left % 1024) kind) m Null ≡ getD ks (i - 1 - m) Null
     go m a b c (yes q) =
-        let p : m ≡ left % 256 = omega arith in
-        ap (λ (j : ℕ). getD (set kinds (left % 256) kind) j Null) p ∙ getD-set-same kinds (left % 256) kind Null (omega (arith, K .room)) ∙ e
+        let p : m ≡ left % 1024 = omega arith in
+        ap (λ (j : ℕ). getD (set kinds (left % 1024) kind) j Null) p ∙ getD-set-same kinds (left % 1024) kind Null (omega (arith, K .room)) ∙ e
         ∙ ap (λ (j : ℕ). getD ks (i - 1 - j) Null) (sym q)
     go m a b c (no q) =
-        let p : m ≡ left % 256 → ⊥ = λ z. q (omega arith) in
-        getD-set-other kinds (left % 256) m kind Null p ∙ K .right m (omega (arith, q)) b c
+        let p : m ≡ left % 1024 → ⊥ = λ z. q (omega arith) in
+        getD-set-other kinds (left % 1024) m kind Null p ∙ K .right m (omega (arith, q)) b c
 
 -- from where w stands n of the first i casts are left, and the kinds of those before them are kept
 pub record Keeping (plan : Bytes) (z : State) (ks : List Leaf) (i n : ℕ) (kinds : List Leaf) (w : Walk) : Type 0 where
@@ -321,7 +321,7 @@ pub record Keeping (plan : Bytes) (z : State) (ks : List Leaf) (i n : ℕ) (kind
 pub ahead-all : {x y z : State} {ks : List Leaf} {i : ℕ} → Moves x y → Passed x ks z → i ≤ length ks → Ahead z ks i i y
 ahead-all {ks = ks} m p h = record { kinds = ks; passed = λ l. passed-from (omega arith) m p; more = h; same = λ m l. refl }
 
-pub keeping-none : {plan : Bytes} {x z : State} {ks : List Leaf} {i : ℕ} {w : Walk} {kinds : List Leaf} → length kinds ≡ 256 → WalkAt plan w x → Stopped x
+pub keeping-none : {plan : Bytes} {x z : State} {ks : List Leaf} {i : ℕ} {w : Walk} {kinds : List Leaf} → length kinds ≡ 1024 → WalkAt plan w x → Stopped x
     → Ahead z ks i i x → Keeping plan z ks i i kinds w
 keeping-none {x = x} e W S A = record { state = x; standing = W; stopped = S; ahead = A; kept = record { room = e; right = λ m a b c. absurd (omega arith) } }
 
@@ -340,7 +340,7 @@ module _ {plan : Bytes} {z : State} {ks : List Leaf} {i n : ℕ} {kinds : List L
     }
 
     pub keeping-casts : {k : Leaf} (G : CastsOn (Q .state) k) → OnwardTo plan (Q .state) (G .input) w r
-        → Keeping plan z ks i (n - 1) (set kinds ((n - 1) % 256) k) r
+        → Keeping plan z ks i (n - 1) (set kinds ((n - 1) % 1024) k) r
     keeping-casts G O =
         let K : Kept ks i (n - 1 + 1) kinds = record { room = Q .kept .room; right = λ m a b c. Q .kept .right m (omega arith) b c } in
         record {

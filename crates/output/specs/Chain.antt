@@ -75,8 +75,8 @@ castAll (k ∷ ks) v = castLeaf k (castAll ks v)
 
 -- of the first i of the casts ks, counted from the innermost on, those from `left` on are among the kinds, as far as there is room
 pub record Kept (ks : List Leaf) (i left : ℕ) (kinds : List Leaf) : Type 0 where
-  pub room : length kinds ≡ 256
-  pub right : (m : ℕ) → left ≤ m → m < i → m < 256 → getD kinds m Null ≡ getD ks (i - 1 - m) Null
+  pub room : length kinds ≡ 1024
+  pub right : (m : ℕ) → left ≤ m → m < i → m < 1024 → getD kinds m Null ≡ getD ks (i - 1 - m) Null
 
 -- the casts ks of v₀ are the first i of them of v
 pub record Casting (ks : List Leaf) (v₀ : Value) (i : ℕ) (v : Value) : Type 0 where

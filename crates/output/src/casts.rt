@@ -122,12 +122,12 @@ pub fn find_origin(plan: &[u8], w: Walk) -> Origin
     Origin { casts, walk: at }
 }
 
-// Of the first `i` casts passed the kinds of the last 256, from the innermost on.
-pub fn last_kinds(plan: &[u8], w: Walk, i: usize) -> [Leaf; 256]
+// Of the first `i` casts passed the kinds of the last 1,024, from the innermost on.
+pub fn last_kinds(plan: &[u8], w: Walk, i: usize) -> [Leaf; 1024]
     requires { ⌜ ((x : State) × WalkAt (now plan) w x) ⌝ }
     ensures { λ r. ⌜ ((x z : State) (ks : List LeafOf) → WalkAt (now (plan .entry)) w x → Passed x ks z → i ≤ length ks → Kept ks i 0 r) ⌝ }
 {
-    let mut kinds = [Leaf::Null; 256];
+    let mut kinds = [Leaf::Null; 1024];
     let mut at = w.locate(plan);
     let mut ends = no_ends(0);
     let mut left = i;
@@ -140,7 +140,7 @@ pub fn last_kinds(plan: &[u8], w: Walk, i: usize) -> [Leaf; 256]
             }
             Pass::Casts(kind) => {
                 left -= 1;
-                let place = left % 256;
+                let place = left % 1024;
                 kinds[place] = kind;
                 at = onward(plan, at);
             }

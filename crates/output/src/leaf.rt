@@ -32,8 +32,8 @@ pub enum CastValue {
 }
 
 // The number of the kind `kind` through casts to the first `count` of the kinds, one after the other.
-fn cast_block(kinds: [Leaf; 256], count: usize, kind: Leaf, n: u64) -> CastValue
-    requires { ⌜ count ≤ 256 ⌝ }
+fn cast_block(kinds: [Leaf; 1024], count: usize, kind: Leaf, n: u64) -> CastValue
+    requires { ⌜ count ≤ 1024 ⌝ }
     ensures { λ r. ⌜ ((ks : List LeafOf) (u : Value) (i : ℕ) → Kept ks i 0 kinds → Casting ks u i (vnumber kind n) → count ≤ i → Casting ks u (i - count) (castValueOf r)) ⌝ }
 {
     let mut k = kind;
@@ -55,12 +55,12 @@ fn cast_block(kinds: [Leaf; 256], count: usize, kind: Leaf, n: u64) -> CastValue
 
 // So many of the casts that are left are looked up at once.
 fn block_of(left: usize) -> usize
-    ensures { λ r. ⌜ (r ≤ 256) × (r ≤ left) × (0 < left → 0 < r) ⌝ }
+    ensures { λ r. ⌜ (r ≤ 1024) × (r ≤ left) × (0 < left → 0 < r) ⌝ }
 {
-    if left < 256 { left } else { 256 }
+    if left < 1024 { left } else { 1024 }
 }
 
-// The number of the kind `kind` through the casts that a walk passes, from the innermost outward. They are walked past once for each 256 of them.
+// The number of the kind `kind` through the casts that a walk passes, from the innermost outward. They are walked past once for each 1,024 of them.
 fn cast_number(plan: &[u8], w: Walk, casts: usize, kind: Leaf, n: u64) -> CastValue
     requires { ⌜ ((x : State) × WalkAt (now plan) w x) ⌝ }
     ensures { λ r. ⌜ ((x z : State) (ks : List LeafOf) → WalkAt (now (plan .entry)) w x → Passed x ks z → length ks ≡ casts → castValueOf r ≡ castAll ks (vnumber kind n)) ⌝ }

@@ -148,7 +148,7 @@ module _ {plan : Bytes} {at : ℕ} where
     pub reached-same : (getD plan at 0 ≡ 4 → ⊥) → Reached plan at (k + 1) m
     reached-same n = reached-element (k + 1) n (R .element n)
 
-pub reached-child : {plan : Bytes} {w : Walk} {k m : ℕ} {r : Walk} → Reached plan (w .at) k m → ChildAt w k m r → (x : State) (f : Frame) (s : Selector) → WalkAt plan w x
-    → x .path ≡ [] → Part (x .selector) k f s → StepsTo plan (state s (f ∷ x .frames) []) w r
+pub reached-child : {plan : Bytes} {w : Walk} {k m : ℕ} {r : Walk} → Reached plan (w .at) k m → ChildAt w k m r
+    → (x : State) (f : Frame) (s : Selector) → WalkAt plan w x → x .path ≡ [] → Part (x .selector) k f s → StepsTo plan (state s (f ∷ x .frames) []) w r
 reached-child {plan} {k = k} R g x f s W h p =
     g plan (reached-stands R (W .here) (subst (λ (y : Selector). Part y k f s) (sym (W .selector)) p)) x f s W h p

@@ -73,7 +73,8 @@ last-kinds-spec =
       λ x z ks W S A.
           let Q = c .before .before .before .before .before .before .before .loop .inv .2 x z ks W S A in
           let H = is-casts (c .before .before .before .before .next-pass .ensures _ (Q .standing) (Q .stopped)) (c .before .before .kind .given .1) in
-          keeping-casts Q (c .before .before .before .before .before .before .loop-test .taken) H (c .onward2 .ensures (Q .state) (H .input) (Q .standing) (H .is)),
+          let O = c .onward2 .ensures (Q .state) (H .input) (Q .standing) (H .is) in
+          keeping-casts Q (c .before .before .before .before .before .before .loop-test .taken) H O,
     ))
     (λ c. λ x z ks W p h.
     let L = c .before .before .before .locate .ensures x W in

@@ -24,7 +24,11 @@ next-pass-spec =
     (λ c. search needs)
     (λ c. λ x W S. pass-ends x (sym (is-position (c .before .before .head .ensures (W .here)) (c .enum-told .given .1) .1) ∙ W .selector) S tt)
     (λ c. λ x W S. pass-ends x (sym (is-constant (c .before .before .head .ensures (W .here)) (c .enum-told2 .given .1) .is) ∙ W .selector) S tt)
-    (λ c. λ x W S. let A = is-cast (c .before .before .before .before .before .before .before .head .ensures (W .here)) (c .before .before .before .before .before .input .given .1) in pass-at-end x (W .selector) (A .is) (path-none W (c .before .before .if1 .left)) (type-as (A .type) (c .before .end-of .ensures (A .input)) (c .pass-cast .ensures)))
+    (λ c. λ x W S.
+    let h = c .before .before .before .before .before .before .before .head .ensures (W .here) in
+    let A = is-cast h (c .before .before .before .before .before .input .given .1) in
+    let e = c .before .end-of .ensures (A .input) in
+    pass-at-end x (W .selector) (A .is) (path-none W (c .before .before .if1 .left)) (type-as (A .type) e (c .pass-cast .ensures)))
     (λ c. λ x W S. pass-rename x (W .selector) (is-rename (c .before .before .head .ensures (W .here)) (c .enum-told3 .given .1) .is))
     (λ c. λ x W S. pass-ends x (sym (is-struct (c .before .before .head .ensures (W .here)) (c .enum-told4 .given .1) .is) ∙ W .selector) S tt)
     (λ c. λ x W S. pass-ends x (sym (is-list (c .before .before .head .ensures (W .here)) (c .enum-told5 .given .1) .is) ∙ W .selector) S tt)

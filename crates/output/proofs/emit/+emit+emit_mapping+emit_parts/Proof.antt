@@ -83,8 +83,16 @@ abbrev emit-mapping-claims : ℕ → emit-mapping-lts.Claims
 emit-mapping-claims t = (parts-count-reads.Asked, parts-count-reads.Learnt, put-null-reads.Asked, put-null-reads.Learnt, put-lead-reads.Asked, put-lead-reads.Learnt, emit-parts-below t, emit-parts.Post)
 
 abbrev emit-parts-claims : ℕ → emit-parts-lts.Claims
-emit-parts-claims t =
-    (first-part-reads.Asked, first-part-reads.Learnt, child-at-reads.Asked, child-at-reads.Learnt, emit-below t, emit.Post, next-part-reads.Asked, next-part-reads.Learnt)
+emit-parts-claims t = (
+  first-part-reads.Asked,
+  first-part-reads.Learnt,
+  child-at-reads.Asked,
+  child-at-reads.Learnt,
+  emit-below t,
+  emit.Post,
+  next-part-reads.Asked,
+  next-part-reads.Learnt,
+)
 
 -- how many parts there are
 abbrev count : {v : Edition} {lay : Bytes} {n t : ℕ} {rec plan : Bytes} {w : Walk} → EmitAt v lay n t rec plan w → ℕ
@@ -93,7 +101,8 @@ count A = countValues (parts (stateValue (A .row .values .values) (A .state)))
 abbrev emit-parts-Inv-loop : emit-parts-lts.InvT-loop
 emit-parts-Inv-loop lay v n columns rec plan w m out₀ k table at₀ c₀ i₀ out at c i =
     ((A : EmitAt v lay n (columns .at) rec plan w) × Mapped (A .state) × (m ≡ count A)) × Reached plan (w .at) i (c .at) × (length out ≡ length out₀)
-    × ((A : EmitAt v lay n (columns .at) rec plan w) → Mapped (A .state) → m ≡ count A → Rowing (parts (stateValue (A .row .values .values) (A .state))) out₀ k i at out)
+    × ((A : EmitAt v lay n (columns .at) rec plan w) → Mapped (A .state) → m ≡ count A
+    → Rowing (parts (stateValue (A .row .values .values) (A .state))) out₀ k i at out)
 
 abbrev emit-parts-μ-loop : emit-parts-lts.MeasureT-loop
 emit-parts-μ-loop lay v n columns rec plan w m out₀ k table at₀ c₀ i₀ out at c i = m - i
@@ -199,7 +208,9 @@ pub +emit+emit-mapping+emit-parts-spec : {M : Type 1} → statement M
     let p = c .before .before .before .before .before .before .before .before .before .before .before .pre in
     (omega (arith, part-falls A M i F, p .0), (p .1 .0, (part-emit A M i F, c .before .before .if1 .left))))
     (λ c κs. let ((A, M, h), R, l, f) = c .before .before .before .before .before .before .before .loop .inv in parts-asks A .1)
-    (λ c. omega (arith, c .before .before .before .before .before .before .before .loop-test .taken, c .before .before .before .before .before .before .before .before .before .before .before .before .before .before .before .fits .m))
+    (λ c.
+    let l = c .before .before .before .before .before .before .before .before .before .before .before .before .before .before .before .fits .m in
+    omega (arith, c .before .before .before .before .before .before .before .loop-test .taken, l))
     (λ c. omega (arith, c .before .before .before .before .before .before .before .loop-test .taken))
     (λ c. let (S, R, l, f) = c .before .before .before .before .before .before .before .before .loop .inv in
     let t = c .before .before .before .before .before .before .before .loop-test .taken in
@@ -210,7 +221,8 @@ pub +emit+emit-mapping+emit-parts-spec : {M : Type 1} → statement M
       λ A M h.
           let i : c .before .before .before .before .before .before .before .before .loop .i < count A = omega (arith, h, t) in
           let F = reached-child R (c .before .before .before .before .before .child-at .ensures) in
-          rowing-more (f A M h) (c .before .before .before .before .before .before .if1 .left) i kept (part-emits A M i F (c .before .before .before .emit .ensures)),
+          let E = part-emits A M i F (c .before .before .before .emit .ensures) in
+          rowing-more (f A M h) (c .before .before .before .before .before .before .if1 .left) i kept E,
     ))
     (λ c. c .before .loop .inv .2)
     (λ c. λ A M h. rowing-all (c .before .loop .inv .3 A M h) (omega (arith, h, c .loop-test .left)))

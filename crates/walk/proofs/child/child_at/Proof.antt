@@ -14,4 +14,6 @@ child-at-spec =
     (λ c. search needs)
     (λ c. search needs)
     (λ c κs. search needs)
-    (λ c. λ plan S x f t M h p. child-in M h p {q = PartFound.At (c .before .args .c)} (λ P m. record { answer = S .stands P m }) (c .before .pre .1) refl (c .enter .ensures)))
+    (λ c. λ plan S x f t M h p.
+    let q = PartFound.At (c .before .args .c) in
+    child-in M h p {q = q} (λ P m. record { answer = S .stands P m }) (c .before .pre .1) refl (c .enter .ensures)))
