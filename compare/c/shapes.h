@@ -81,6 +81,7 @@ struct type {
 static type types[TYPES];
 static int type_count;
 
+/* Where there are too many, earlier ones are written over, and the input is not finished. */
 static type *new_type(uint8_t code) {
     if (type_count == TYPES) {
         overfull = 1;
@@ -157,6 +158,8 @@ static const type *some_type(int depth, int structs) {
 static void say_row(const row *r);
 
 static void say_type(const type *t) {
+    if (overfull)
+        return;
     static const char *const names[] = {"null", "boolean", "int8", "int16", "int32", "int64", "", "", "", "", "",
                                         "float32", "float64", "", "clock", "string", "binary", "category", "struct",
                                         "list", "array", "decimal"};
@@ -285,7 +288,13 @@ static uint32_t columns_of(const row *r) {
     return count;
 }
 
+/* Somewhat deeper than a type may be, so that this is tried too. */
+enum { DEEPEST = 20 };
+
 static void put_type(text *t, const edition *e, const type *of, int depth) {
+    overfull |= depth > DEEPEST;
+    if (overfull)
+        return;
     put(t, of->code, 1);
     if (of->code == 14) {
         put(t, of->unit, 1);
@@ -347,6 +356,8 @@ static void put_values(text *t, const row *r, content *c, int depth) {
 }
 
 static void put_value(text *t, const type *of, content *c, int depth) {
+    if (overfull)
+        return;
     static const uint8_t widths[] = {0, 1, 1, 2, 4, 8, 1, 2, 4, 8, 2, 4, 8, 4, 8};
     if (depth > 17 || of->code == 0 || c->null >> depth & 1) {
         put(t, 0, 1);

@@ -5,7 +5,7 @@ use super::*;
 /// Every third value is null, at each level.
 fn write_nulls(bytes: &mut Vec<u8>, type_: &Type, turn: &mut usize) {
     *turn += 1;
-    if *turn % 3 == 0 {
+    if turn.is_multiple_of(3) {
         bytes.push(0);
         return;
     }
