@@ -7,9 +7,6 @@ enum { MARKED = 2330, DEFAULTED = 2040, NESTED_STRUCTS = 14 };
 
 enum { OPTIONAL, REQUIRED };
 
-/* Milliseconds, for the plans that docs/ARCHITECTURE.md lists as slower than the aim. */
-enum { OVER_THE_AIM = 5000 };
-
 static void head_of_three(text *t, uint32_t columns) {
     mark(t, "LAY", columns);
     t->bytes[3] = 3;
@@ -84,10 +81,10 @@ static void large_constants(void) {
     for (int null = 0; null < 2; null++) {
         mark(&plan, "PLN", 1);
         many_values(&plan, 0, MARKED, null);
-        expect_check_within("2,330 required fields in each element of a constant", null ? 55 : 0, OVER_THE_AIM);
+        expect_check("2,330 required fields in each element of a constant", null ? 55 : 0);
         mark(&plan, "PLN", 1);
         many_values(&plan, 50000, MARKED, null);
-        expect_check_within("the same behind 50,000 null elements", null ? 55 : 0, OVER_THE_AIM);
+        expect_check("the same behind 50,000 null elements", null ? 55 : 0);
     }
 }
 
@@ -139,7 +136,7 @@ static void marked_turns(void) {
         wide_of(&incoming, 1, FIELDS, REQUIRED, optional ? OPTIONAL : REQUIRED);
         wide_of(&target, 1, FIELDS, REQUIRED, REQUIRED);
         turning_of(&plan, 1, 60, FIELDS);
-        expect_check_within("the same in an element", optional ? 55 : 0, OVER_THE_AIM);
+        expect_check("the same in an element", optional ? 55 : 0);
     }
 }
 

@@ -28,14 +28,7 @@ use values::read::read_value;
 // ---- a value of a constant. The answer is whether all of its nulls were put into the table.
 
 // The value at `c` of the type at `t`, of at most `depth` levels.
-fn fill_value(
-    plan: &[u8],
-    depth: u8,
-    t: Cursor,
-    c: Cursor,
-    ends: &[u16],
-    nulls: &mut [u64],
-) -> bool
+fn fill_value(plan: &[u8], depth: u8, t: Cursor, c: Cursor, ends: &[u16], nulls: &mut [u64]) -> bool
     requires { ⌜ Ends EditionOf.One (now plan) (now ends) ⌝ }
     requires { ⌜ RawAt EditionOf.One (now plan) (t .at) (now plan) (c .at) ⌝ }
     ensures { λ _. ⌜ Grown (now (nulls .entry)) (now (nulls .exit)) ⌝ }

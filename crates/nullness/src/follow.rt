@@ -14,7 +14,15 @@ use crate::stop::at_stop;
 use layout::edition::Edition;
 use walk::walk::Walk;
 
-pub fn follow(incoming: &[u8], v: Edition, n: u16, index: &[u16], plan: &[u8], nulls: &[u64], w: Walk) -> bool
+pub fn follow(
+    incoming: &[u8],
+    v: Edition,
+    n: u16,
+    index: &[u16],
+    plan: &[u8],
+    nulls: &[u64],
+    w: Walk,
+) -> bool
     requires { ⌜ Indexed v (now incoming) n 7 (strideOf n) (now index) × Nulls (now plan) (now nulls) ⌝ }
     requires { ⌜ ((P : ColumnsAt v 16 (now incoming) n 7) × Follows (now plan) w (fieldsOf (P .columns))) ⌝ }
     ensures { λ r. ⌜ ((P : ColumnsAt v 16 (now (incoming .entry)) n 7) (F : Follows (now (plan .entry)) w (fieldsOf (P .columns))) → r ≡ fillsAt (nullnessOf (givens (P .columns)) (F .selector)) (F .path)) ⌝ }

@@ -82,7 +82,15 @@ fn at_transform(w: Walk) -> Stop
     }
 }
 
-pub fn at_stop(incoming: &[u8], v: Edition, n: u16, index: &[u16], plan: &[u8], nulls: &[u64], w: Walk) -> Stop
+pub fn at_stop(
+    incoming: &[u8],
+    v: Edition,
+    n: u16,
+    index: &[u16],
+    plan: &[u8],
+    nulls: &[u64],
+    w: Walk,
+) -> Stop
     requires { ⌜ ColumnsAt v 16 (now incoming) n 7 ⌝ }
     requires { ⌜ Indexed v (now incoming) n 7 (strideOf n) (now index) × Nulls (now plan) (now nulls) ⌝ }
     requires { ⌜ ((x : State) × WalkAt (now plan) w x) ⌝ }
