@@ -69,7 +69,8 @@ module _ (s : Bytes) where
   unit-ends : (at : ℕ) → Ends at (unit s at)
   unfolding unit
   unit-ends at =
-      ends-next (one-byte at) (λ u i. ends-choose _ (ends-ok (omega arith)) (ends-choose _ (ends-ok (omega arith)) (ends-choose _ (ends-ok (omega arith)) ends-refuse)))
+      ends-next (one-byte at)
+      (λ u i. ends-choose _ (ends-ok (omega arith)) (ends-choose _ (ends-ok (omega arith)) (ends-choose _ (ends-ok (omega arith)) ends-refuse)))
 
   leaf-kind-ends : (l : PlainLeaf) (at : ℕ) → Ends at (leafKind l s at)
   unfolding leafKind
@@ -97,7 +98,8 @@ module _ (s : Bytes) where
   unfolding defaultType
   type-ends at =
       ends-next (byte-ends at)
-      (λ c i. ends-next (ends-choose _ (datetime-kind-ends i) (ends-choose _ (decimal-kind-ends i) (leaf-kind-ends (plainLeaf c) i))) (λ k j. only-leaf-ends k j))
+      (λ c i. ends-next (ends-choose _ (datetime-kind-ends i) (ends-choose _ (decimal-kind-ends i) (leaf-kind-ends (plainLeaf c) i)))
+      (λ k j. only-leaf-ends k j))
 
   -- ---- a value of a leaf type
 
@@ -106,7 +108,8 @@ module _ (s : Bytes) where
   content-ends Nothing k at = ends-refuse
   content-ends Flag k at = ends-next (ends-next (one-byte at) (λ b i. ends-choose _ (ends-ok (omega arith)) ends-refuse)) (λ b i. ends-ok (omega arith))
   content-ends (Number w) k at = ends-next (chunk-ends w at) (λ bs i. ends-ok (omega arith))
-  content-ends (Decimal p) k at = ends-next (ends-next (chunk-ends 8 at) (λ bs i. ends-choose _ (ends-ok (omega arith)) ends-refuse)) (λ n i. ends-ok (omega arith))
+  content-ends (Decimal p) k at =
+      ends-next (ends-next (chunk-ends 8 at) (λ bs i. ends-choose _ (ends-ok (omega arith)) ends-refuse)) (λ n i. ends-ok (omega arith))
   content-ends Text k at = ends-next (ends-next (u16-ends at) (λ n i. chunk-ends n i)) (λ bs i. ends-ok (omega arith))
 
   value-ends : (l : LeafType) (at : ℕ) → Ends at (value (leaf l) s at)

@@ -151,7 +151,8 @@ entry-span v s at {r} e {o} {i} {k} {g} {m} f = go (ownerOf v s at) refl e
         let y : d + 5 ≡ g .at = cc in
         let z : l ≡ m .at = cc in
         record {
-          head = head-of-parts v s at a (P .numbered) (P .kinded) ∙ ap₂ ok (ap₂ (λ (p : Owner) (j : FieldId). record { owner = p; id = j; kind = kindOf (t .given) }) q j) y
+          head = head-of-parts v s at a (P .numbered) (P .kinded)
+              ∙ ap₂ ok (ap₂ (λ (p : Owner) (j : FieldId). record { owner = p; id = j; kind = kindOf (t .given) }) q j) y
               ∙ ap (λ (c : EntryKind). ok (record { owner = o; id = i; kind = c }) (g .at)) c;
           number = O .number;
           owner = sym q ∙ O .is;
@@ -181,7 +182,8 @@ module _ (v : TableVersion) (o : Owner) (i : FieldId) (k : EntryKind) (s : Bytes
       → Following v o i k s index n 0 x
   following-none f {h} {x} p q = record {
     within = omega arith;
-    rest = ap (follow v o i k n s index) (sym (q ∙ ap (λ (l : ℕ). getD index l 0) p)) ∙ ap (λ (l : ℕ). follow v o i k l s index x) (let e : n ≡ n - 0 = omega arith in e);
+    rest = ap (follow v o i k n s index) (sym (q ∙ ap (λ (l : ℕ). getD index l 0) p))
+        ∙ ap (λ (l : ℕ). follow v o i k l s index x) (let e : n ≡ n - 0 = omega arith in e);
     inside = subst (λ (m : ℕ). m ≤ length s) (sym q) (f h);
   }
 
@@ -278,14 +280,16 @@ own-sought Shared u i k n s at = shared n at
         → seekOn Owner.Every i k (entryOf Owner.Every at r) (λ m. seek Shared Owner.Every i k n s m)
         ≡ seekOn (Owner.Only u) i k (entryOf Owner.Every at r) (λ m. seek Shared (Owner.Only u) i k n s m)
     step n at h (refuse m) = refl
-    step n at h (ok e m) = ap (λ (r : EntryFound). choose (isOf Owner.Every i k Owner.Every (e .id) (kindOf (e .given))) (EntryFound.At (record { at = at + 5 })) r) (h m)
+    step n at h (ok e m) =
+        ap (λ (r : EntryFound). choose (isOf Owner.Every i k Owner.Every (e .id) (kindOf (e .given))) (EntryFound.At (record { at = at + 5 })) r) (h m)
 
     shared : (n at : ℕ) → seek Shared Owner.Every i k n s at ≡ seek Shared (Owner.Only u) i k n s at
     shared zero at = refl
     shared (suc n) at = step n at (λ m. shared n m) (entry s at)
 
 -- what the index finds is what the scan finds
-pub own-found : {v : TableVersion} {s : Bytes} {n from : ℕ} {index : List ℕ} → Indexed v s n from index → (u : ℕ) (i : FieldId) (k : EntryKind) {o : Owner} {r : EntryFound}
+pub own-found : {v : TableVersion} {s : Bytes} {n from : ℕ} {index : List ℕ} → Indexed v s n from index
+    → (u : ℕ) (i : FieldId) (k : EntryKind) {o : Owner} {r : EntryFound}
     → o ≡ ownerIn v u → r ≡ followed v o i k n s index → r ≡ seek v (Owner.Only u) i k n s from
 own-found {v} {s} {n} {from} {index} I u i k e f = f ∙ ap (λ (o : Owner). followed v o i k n s index) e ∙ I .finds u i k ∙ own-sought v u i k n s from
 
@@ -462,7 +466,8 @@ module _ {v : TableVersion} {s : Bytes} {from : ℕ} {index : List ℕ} where
     found u i k (suc f) le (no q) =
         let p = head-place (length s) (length index) i (a .inside .long) in
         let r = y-place in
-        ap (follow v (ownerIn v u) i k (suc f) s twice) (elsewhere (headOf (length s) (length index) i) q (λ z. omega arith)) ∙ unreached u i k (suc f) q (omega arith)
+        ap (follow v (ownerIn v u) i k (suc f) s twice) (elsewhere (headOf (length s) (length index) i) q (λ z. omega arith))
+        ∙ unreached u i k (suc f) q (omega arith)
 
     pub chained-more : Chained v s (n + 1) from (m .at) (pushed (length s) at j index)
     unfolding twice once y h

@@ -31,8 +31,9 @@ find-indexed-requires c κs =
 
 returns-3 : tie.Need-returns-3
 returns-3 c =
-    let a = c .before .before .before .before .if1 .left in let b = c .before .before .if2 .left in let d = c .before .before .before .before .before .before .before .args in
-    own-found (c .before .before .before .before .before .before .before .pre (omega arith) (omega arith)) (d .defaults .owner) (d .id) (d .kind) (c .before .owner-in .ensures) (c .find-indexed .ensures)
+    let c1 = c .before in let c2 = c1 .before in let c4 = c2 .before .before in let c7 = c4 .before .before .before in
+    let a = c4 .if1 .left in let b = c2 .if2 .left in let d = c7 .args in own-found (c7 .pre (omega arith) (omega arith)) (d .defaults .owner) (d .id)
+    (d .kind) (c1 .owner-in .ensures) (c .find-indexed .ensures)
 
 pub find-own-spec : {M : Type 1} → statement M
 find-own-spec =

@@ -10,7 +10,9 @@ get-default-value-spec =
     (tie.spec
     (λ c κs. c .before .before .pre .1)
     (λ c. search needs)
-    (λ c κs. partition-found (c .before .before .before .before .before .before .pre .0) _ (c .before .before .before .find-own .ensures) (c .before .c .given .1))
+    (λ c κs.
+    let c1 = c .before in let c3 = c1 .before .before in let c6 = c3 .before .before .before in
+    partition-found (c6 .pre .0) _ (c3 .find-own .ensures) (c1 .c .given .1))
     (λ c. search needs)
     (λ c κs. c .before .before .before .before .before .pre .1)
     (λ c. search needs)
@@ -19,9 +21,11 @@ get-default-value-spec =
     initial-found (a .before .before .before .before .before .before .pre .0) _ (a .before .before .before .find-own .ensures) (a .before .enum-told .given .1)
     (a .find-own2 .ensures) (c .before .c2 .given .1))
     (λ c. search needs)
-    (λ c. λ P.
-    let a = c .before .before .before .before in
-    partition-wins P _ (a .find-own .ensures) (a .before .before .before .args .defaults .«source_index») (c .partition-value .result) (c .before .before .c .given .1)
+    (λ c.
+    let c2 = c .before .before in let c4 = c2 .before .before in
+    λ P.
+    let a = c4 in
+    partition-wins P _ (a .find-own .ensures) (a .before .before .before .args .defaults .«source_index») (c .partition-value .result) (c2 .c .given .1)
     (c .partition-value .ensures))
     (λ c. λ P.
     let a = c .before .before .before .before in

@@ -15,7 +15,9 @@ enum-known-n : tie.Need-enum-known-n
 enum-known-n c = search needs
 
 read-entries-requires : tie.Need-read-entries-requires
-read-entries-requires c κs = (c .before .before .before .before .before .before .before .pre .0, counted-at _ (c .before .before .before .before .before .before .before .args .version) (c .before .before .before .before .short .ensures) (c .before .before .n .given .1), c .before .before .before .before .before .before .before .pre .1)
+read-entries-requires c κs =
+    let c2 = c .before .before in let c4 = c2 .before .before in let c7 = c4 .before .before .before in
+    (c7 .pre .0, counted-at _ (c7 .args .version) (c4 .short .ensures) (c2 .n .given .1), c7 .pre .1)
 
 enum-known-e : tie.Need-enum-known-e
 enum-known-e c = search needs

@@ -28,7 +28,9 @@ clear-requires : tie.Need-clear-requires Inv-loop μ-loop
 clear-requires c κs = search needs
 
 loop-holds : tie.Need-loop-holds Inv-loop μ-loop
-loop-holds c = (refl, filling-start (let a = c .before .before .clear .ensures .0 in let p = c .before .before .before .before .before .before .pre in omega arith) (c .before .before .before .before .before .before .pre .1) (c .before .before .clear .ensures .1))
+loop-holds c =
+    let c2 = c .before .before in let c6 = c2 .before .before .before .before in
+    (refl, filling-start (let a = c2 .clear .ensures .0 in let p = c6 .pre in omega arith) (c6 .pre .1) (c2 .clear .ensures .1))
 
 read-entry-requires : tie.Need-read-entry-requires Inv-loop μ-loop
 read-entry-requires c κs = search needs
@@ -46,10 +48,18 @@ same-length : tie.Need-same-length Inv-loop μ-loop
 same-length c = search needs
 
 returns : tie.Need-returns Inv-loop μ-loop
-returns c = (filling-repeated (c .before .before .before .before .before .before .before .before .before .loop .inv .1) (c .before .before .before .before .before .before .before .before .loop-test .taken) (c .before .before .before .before .before .before .before .read-entry .ensures) (c .before .before .before .before .before .owner .given .1) (c .before .before .find-indexed .ensures) (c .before .is-found .ensures) (c .if1 .taken), λ e h. clash (cc))
+returns c =
+    let c1 = c .before in let c2 = c1 .before in let c5 = c2 .before .before .before in let c7 = c5 .before .before in let c8 = c7 .before in
+    let c9 = c8 .before in
+    (filling-repeated (c9 .loop .inv .1) (c8 .loop-test .taken) (c7 .read-entry .ensures) (c5 .owner .given .1) (c2 .find-indexed .ensures)
+    (c1 .is-found .ensures) (c .if1 .taken), λ e h. clash (cc))
 
 push-requires : tie.Need-push-requires Inv-loop μ-loop
-push-requires c κs = let a = filling-inside (c .before .before .before .before .before .before .before .before .before .before .loop .inv .1) (c .before .before .before .before .before .before .before .before .before .loop-test .taken) (c .before .before .before .before .before .before .before .before .read-entry .ensures) (c .before .before .before .before .before .before .owner .given .1) in let p = c .before .before .before .before .before .before .before .before .before .before .before .before .before .before .before .before .before .pre .0 in (c .before .before .before .before .before .before .before .before .before .before .loop .inv .1 .chained .inside .long, omega arith, omega arith)
+push-requires c κs =
+    let c6 = c .before .before .before .before .before .before in let c8 = c6 .before .before in let c9 = c8 .before in let c10 = c9 .before in
+    let c17 = c10 .before .before .before .before .before .before .before in
+    let a = filling-inside (c10 .loop .inv .1) (c9 .loop-test .taken) (c8 .read-entry .ensures) (c6 .owner .given .1) in let p = c17 .pre .0 in
+    (c10 .loop .inv .1 .chained .inside .long, omega arith, omega arith)
 
 enum-known-k : tie.Need-enum-known-k Inv-loop μ-loop
 enum-known-k c = search needs
@@ -58,16 +68,26 @@ same-length-2 : tie.Need-same-length-2 Inv-loop μ-loop
 same-length-2 c = search needs
 
 returns-2 : tie.Need-returns-2 Inv-loop μ-loop
-returns-2 c = (filling-broken (c .before .before .before .before .before .loop .inv .1) (c .before .before .before .before .loop-test .taken) (c .before .before .before .read-entry .ensures) (c .before .k .given .1), λ e h. clash (cc))
+returns-2 c =
+    let c1 = c .before in let c3 = c1 .before .before in let c4 = c3 .before in let c5 = c4 .before in
+    (filling-broken (c5 .loop .inv .1) (c4 .loop-test .taken) (c3 .read-entry .ensures) (c1 .k .given .1), λ e h. clash (cc))
 
 add-i : tie.Need-add-i Inv-loop μ-loop
-add-i c = omega (arith, c .before .before .before .before .before .before .before .before .before .before .before .before .loop-test .taken, c .before .before .before .before .before .before .before .before .before .before .before .before .before .before .before .before .before .before .before .before .fits)
+add-i c =
+    let c12 = c .before .before .before .before .before .before .before .before .before .before .before .before in
+    let c20 = c12 .before .before .before .before .before .before .before .before in
+    omega (arith, c12 .loop-test .taken, c20 .fits)
 
 loop-less : tie.Need-loop-less Inv-loop μ-loop
 loop-less c = omega arith
 
 loop-again : tie.Need-loop-again Inv-loop μ-loop
-loop-again c = (ap (λ (l : List ℕ). length l) (c .before .before .push .ensures) ∙ pushed-length (length (now (c .before .before .before .before .before .before .before .before .before .before .before .before .before .before .before .before .before .before .before .before .args .s))) (c .before .before .before .before .before .before .before .before .before .before .before .before .before .loop .at) (c .before .before .before .before .before .before .before .before .before .owner .given .0 .1 .0) (c .before .before .before .before .before .before .before .before .before .before .before .before .before .loop .index) ∙ c .before .before .before .before .before .before .before .before .before .before .before .before .before .loop .inv .0, filling-more (c .before .before .before .before .before .before .before .before .before .before .before .before .before .loop .inv .1) (c .before .before .before .before .before .before .before .before .before .before .before .before .loop-test .taken) (c .before .before .before .before .before .before .before .before .before .before .before .read-entry .ensures) (c .before .before .before .before .before .before .before .before .before .owner .given .1) (c .before .before .before .before .before .before .find-indexed .ensures) (c .before .before .before .before .before .is-found .ensures) (c .before .before .before .before .if1 .left) (c .before .before .push .ensures))
+loop-again c =
+    let c2 = c .before .before in let c4 = c2 .before .before in let c5 = c4 .before in let c6 = c5 .before in let c9 = c6 .before .before .before in
+    let c11 = c9 .before .before in let c12 = c11 .before in let c13 = c12 .before in let c20 = c13 .before .before .before .before .before .before .before in
+    (ap (λ (l : List ℕ). length l) (c2 .push .ensures) ∙ pushed-length (length (now (c20 .args .s))) (c13 .loop .at) (c9 .owner .given .0 .1 .0)
+    (c13 .loop .index) ∙ c13 .loop .inv .0, filling-more (c13 .loop .inv .1) (c12 .loop-test .taken) (c11 .read-entry .ensures) (c9 .owner .given .1)
+    (c6 .find-indexed .ensures) (c5 .is-found .ensures) (c4 .if1 .left) (c2 .push .ensures))
 
 same-length-3 : tie.Need-same-length-3 Inv-loop μ-loop
 same-length-3 c = search needs
