@@ -149,21 +149,41 @@ pub +fill-content+fill-elements+fill-fields+fill-list+fill-value-spec : {M : Typ
     (λ c κs. search needs)
     (λ c. search needs)
     (λ c. search needs)
-    (λ c κs. (omega (arith, c .before .before .before .before .before .before .before .before .pre .0), (c .before .before .before .before .before .before .before .before .pre .1 .0, struct-value (c .before .before .before .before .before .before .before .before .pre .1 .1) (c .before .before .before .before .head .ensures .0) (c .before .before .n .given .1) .row)))
+    (λ c κs.
+    let c2 = c .before .before in
+    let c4 = c2 .before .before in
+    let c8 = c4 .before .before .before .before in
+    (omega (arith, c8 .pre .0), (c8 .pre .1 .0, struct-value (c8 .pre .1 .1) (c4 .head .ensures .0) (c2 .n .given .1) .row)))
     (λ c. search needs)
     (λ c κs. search needs)
     (λ c. search needs)
-    (λ c κs. (omega (arith, c .before .before .before .before .before .before .before .before .before .before .before .before .pre .0), (c .before .before .before .before .before .before .before .before .before .before .before .before .pre .1 .0, list-is (c .before .before .before .before .before .before .before .before .before .before .before .before .pre .1 .1) (c .before .before .before .before .before .before .before .before .head .ensures .0) (c .before .before .before .before .element-label .ensures .0) (c .before .before .f .given .1) (c .before .before .before .before .before .before .e .given .1) .inner)))
+    (λ c κs.
+    let c2 = c .before .before in
+    let c4 = c2 .before .before in
+    let c6 = c4 .before .before in
+    let c8 = c6 .before .before in
+    let c12 = c8 .before .before .before .before in
+    (omega (arith, c12 .pre .0), (c12 .pre .1 .0, list-is (c12 .pre .1 .1) (c8 .head .ensures .0) (c4 .element-label .ensures .0) (c2 .f .given .1) (c6 .e .given .1) .inner)))
     (λ c. search needs)
     (λ c. search needs)
     (λ c κs. search needs)
     (λ c. search needs)
-    (λ c κs. (omega (arith, c .before .before .before .before .before .before .before .before .before .before .before .before .pre .0), (c .before .before .before .before .before .before .before .before .before .before .before .before .pre .1 .0, array-value (c .before .before .before .before .before .before .before .before .before .before .before .before .pre .1 .1) (c .before .before .before .before .before .before .before .before .head .ensures .0) (c .before .before .before .before .element-label2 .ensures .0) (c .before .before .f2 .given .1) (c .before .before .before .before .before .before .w .given .1) .elements)))
+    (λ c κs.
+    let c2 = c .before .before in
+    let c4 = c2 .before .before in
+    let c6 = c4 .before .before in
+    let c8 = c6 .before .before in
+    let c12 = c8 .before .before .before .before in
+    (omega (arith, c12 .pre .0), (c12 .pre .1 .0, array-value (c12 .pre .1 .1) (c8 .head .ensures .0) (c4 .element-label2 .ensures .0) (c2 .f2 .given .1) (c6 .w .given .1) .elements)))
     (λ c. search needs)
     (λ c. search needs)
     (λ c. (grown-same _, λ e X. leaf-nulls (leaf-value X (c .before .before .head .ensures .0) (c .enum-told .given .1))))
     (λ c. search needs)
-    (λ c. (c .before .before .fill-fields .ensures .0, λ e X. let S = struct-value X (c .before .before .before .before .before .before .before .head .ensures .0) (c .before .before .before .before .before .n .given .1) in struct-nulls (c .before .before .before .before .before .before .before .head .ensures .0) (c .before .before .before .before .before .n .given .1) (S .is) (c .before .before .fill-fields .ensures .1 e (S .row))))
+    (λ c.
+    let c2 = c .before .before in
+    let c5 = c2 .before .before .before in
+    let c7 = c5 .before .before in
+    (c2 .fill-fields .ensures .0, λ e X. let S = struct-value X (c7 .head .ensures .0) (c5 .n .given .1) in struct-nulls (c7 .head .ensures .0) (c5 .n .given .1) (S .is) (c2 .fill-fields .ensures .1 e (S .row))))
     (λ c. search needs)
     (λ c. (
       c .before .before .fill-list .ensures .0,
@@ -188,17 +208,31 @@ pub +fill-content+fill-elements+fill-fields+fill-list+fill-value-spec : {M : Typ
     fill-elements-Inv-loop
     fill-elements-μ-loop
     (λ c. (elements-none (c .before .before .before .pre .1 .1), grown-same _, refl))
-    (λ c κs. (omega (arith, c .before .before .before .before .before .before .pre .0), (c .before .before .before .before .before .before .pre .1 .0, elements-raw (c .before .before .loop .inv .0) (c .before .loop-test .taken))))
+    (λ c κs.
+    let c2 = c .before .before in
+    let c6 = c2 .before .before .before .before in
+    (omega (arith, c6 .pre .0), (c6 .pre .1 .0, elements-raw (c2 .loop .inv .0) (c .before .loop-test .taken))))
     (λ c. search needs)
     (λ c. (grown-then (c .before .before .before .before .before .before .loop .inv .1) (c .before .before .before .fill-value .ensures .0), λ e. clash (cc)))
-    (λ c κs. (c .before .before .before .before .before .before .before .before .before .before .pre .1 .1 .type, c .before .before .before .before .before .before .before .before .before .before .pre .1 .0))
+    (λ c κs.
+    let c10 = c .before .before .before .before .before .before .before .before .before .before in
+    (c10 .pre .1 .1 .type, c10 .pre .1 .0))
     (λ c. search needs)
     (λ c. search needs)
     (λ c. search needs)
-    (λ c. (grown-then (c .before .before .before .before .before .before .before .before .before .loop .inv .1) (c .before .before .before .before .before .before .fill-value .ensures .0), λ e. clash (cc)))
+    (λ c.
+    let c6 = c .before .before .before .before .before .before in
+    let c9 = c6 .before .before .before in
+    (grown-then (c9 .loop .inv .1) (c6 .fill-value .ensures .0), λ e. clash (cc)))
     (λ c. search needs)
     (λ c. search needs)
-    (λ c. (elements-more (c .before .before .before .before .before .before .before .before .before .before .loop .inv .0) (c .before .before .before .before .before .before .before .before .before .loop-test .taken) (c .before .before .before .before .before .before .before .fill-value .ensures .0) (c .before .before .before .before .before .before .before .fill-value .ensures .1 (told _ (c .before .before .before .before .if1 .left))) (c .before .before .before .read-element .ensures) (c .before .e .given .1), grown-then (c .before .before .before .before .before .before .before .before .before .before .loop .inv .1) (c .before .before .before .before .before .before .before .fill-value .ensures .0), c .before .before .before .before .before .before .before .fill-value .kept .1 .1 .1 .1 .1 .0 ∙ c .before .before .before .before .before .before .before .before .before .before .loop .inv .2))
+    (λ c.
+    let c3 = c .before .before .before in
+    let c4 = c3 .before in
+    let c7 = c4 .before .before .before in
+    let c9 = c7 .before .before in
+    let c10 = c9 .before in
+    (elements-more (c10 .loop .inv .0) (c9 .loop-test .taken) (c7 .fill-value .ensures .0) (c7 .fill-value .ensures .1 (told _ (c4 .if1 .left))) (c3 .read-element .ensures) (c .before .e .given .1), grown-then (c10 .loop .inv .1) (c7 .fill-value .ensures .0), c7 .fill-value .kept .1 .1 .1 .1 .1 .0 ∙ c10 .loop .inv .2))
     (λ c. search needs)
     (λ c. (c .before .loop .inv .1, λ e X. elements-all (c .before .loop .inv .0) (c .loop-test .left) X)))
     (λ t. fill-fields-lts.spec (fill-fields-claims t)
@@ -209,20 +243,49 @@ pub +fill-content+fill-elements+fill-fields+fill-list+fill-value-spec : {M : Typ
     (λ c. (row-none (c .before .before .before .pre .1 .1), grown-same _, refl))
     (λ c κs. search needs)
     (λ c. search needs)
-    (λ c κs. (omega (arith, c .before .before .before .before .before .before .before .before .before .before .pre .0), (c .before .before .before .before .before .before .before .before .before .before .pre .1 .0, row-raw (c .before .before .before .before .before .before .loop .inv .0) (c .before .before .before .before .before .loop-test .taken) (c .before .before .before .before .label .ensures .0) (c .before .before .e .given .1))))
+    (λ c κs.
+    let c2 = c .before .before in
+    let c4 = c2 .before .before in
+    let c5 = c4 .before in
+    let c6 = c5 .before in
+    let c10 = c6 .before .before .before .before in
+    (omega (arith, c10 .pre .0), (c10 .pre .1 .0, row-raw (c6 .loop .inv .0) (c5 .loop-test .taken) (c4 .label .ensures .0) (c2 .e .given .1))))
     (λ c. search needs)
-    (λ c. (grown-then (c .before .before .before .before .before .before .before .before .before .before .loop .inv .1) (c .before .before .before .fill-value .ensures .0), λ e. clash (cc)))
-    (λ c κs. (row-raw (c .before .before .before .before .before .before .before .before .before .before .loop .inv .0) (c .before .before .before .before .before .before .before .before .before .loop-test .taken) (c .before .before .before .before .before .before .before .before .label .ensures .0) (c .before .before .before .before .before .before .e .given .1) .type, c .before .before .before .before .before .before .before .before .before .before .before .before .before .before .pre .1 .0))
+    (λ c.
+    let c3 = c .before .before .before in
+    let c10 = c3 .before .before .before .before .before .before .before in
+    (grown-then (c10 .loop .inv .1) (c3 .fill-value .ensures .0), λ e. clash (cc)))
+    (λ c κs.
+    let c6 = c .before .before .before .before .before .before in
+    let c8 = c6 .before .before in
+    let c9 = c8 .before in
+    let c10 = c9 .before in
+    let c14 = c10 .before .before .before .before in
+    (row-raw (c10 .loop .inv .0) (c9 .loop-test .taken) (c8 .label .ensures .0) (c6 .e .given .1) .type, c14 .pre .1 .0))
     (λ c. search needs)
     (λ c. search needs)
     (λ c. search needs)
-    (λ c. (grown-then (c .before .before .before .before .before .before .before .before .before .before .before .before .before .loop .inv .1) (c .before .before .before .before .before .before .fill-value .ensures .0), λ e. clash (cc)))
+    (λ c.
+    let c6 = c .before .before .before .before .before .before in
+    let c13 = c6 .before .before .before .before .before .before .before in
+    (grown-then (c13 .loop .inv .1) (c6 .fill-value .ensures .0), λ e. clash (cc)))
     (λ c. search needs)
     (λ c. search needs)
     (λ c. (c .before .before .before .before .loop .inv .1, λ e. clash (cc)))
-    (λ c. omega (arith, c .before .before .before .before .before .before .before .before .before .before .before .before .before .loop-test .taken, c .before .before .before .before .before .before .before .before .before .before .before .before .before .before .before .before .before .before .fits))
+    (λ c.
+    let c13 = c .before .before .before .before .before .before .before .before .before .before .before .before .before in
+    let c18 = c13 .before .before .before .before .before in
+    omega (arith, c13 .loop-test .taken, c18 .fits))
     (λ c. search needs)
-    (λ c. (row-more (c .before .before .before .before .before .before .before .before .before .before .before .before .before .before .loop .inv .0) (c .before .before .before .before .before .before .before .before .before .before .before .before .before .loop-test .taken) (c .before .before .before .before .before .before .before .before .before .before .before .before .label .ensures .0) (c .before .before .before .before .before .before .before .before .before .before .e .given .1) (c .before .before .before .before .before .before .before .fill-value .ensures .0) (c .before .before .before .before .before .before .before .fill-value .ensures .1 (told _ (c .before .before .before .before .if1 .left))) (c .before .before .before .read-value .ensures) (c .before .f .given .1), grown-then (c .before .before .before .before .before .before .before .before .before .before .before .before .before .before .loop .inv .1) (c .before .before .before .before .before .before .before .fill-value .ensures .0), c .before .before .before .before .before .before .before .fill-value .kept .1 .1 .1 .1 .1 .0 ∙ c .before .before .before .before .before .before .before .before .before .before .before .before .before .before .loop .inv .2))
+    (λ c.
+    let c3 = c .before .before .before in
+    let c4 = c3 .before in
+    let c7 = c4 .before .before .before in
+    let c10 = c7 .before .before .before in
+    let c12 = c10 .before .before in
+    let c13 = c12 .before in
+    let c14 = c13 .before in
+    (row-more (c14 .loop .inv .0) (c13 .loop-test .taken) (c12 .label .ensures .0) (c10 .e .given .1) (c7 .fill-value .ensures .0) (c7 .fill-value .ensures .1 (told _ (c4 .if1 .left))) (c3 .read-value .ensures) (c .before .f .given .1), grown-then (c14 .loop .inv .1) (c7 .fill-value .ensures .0), c7 .fill-value .kept .1 .1 .1 .1 .1 .0 ∙ c14 .loop .inv .2))
     (λ c. search needs)
     (λ c. (c .before .loop .inv .1, λ e X. row-all (c .before .loop .inv .0) (c .loop-test .left) X)))
     (λ t. fill-list-lts.spec (fill-list-claims t)
@@ -231,10 +294,18 @@ pub +fill-content+fill-elements+fill-fields+fill-list+fill-value-spec : {M : Typ
     (λ c κs. search needs)
     (λ c. search needs)
     (λ c. search needs)
-    (λ c κs. (omega (arith, c .before .before .before .before .before .before .before .before .pre .0), (c .before .before .before .before .before .before .before .before .pre .1 .0, list-elements (c .before .before .before .before .before .before .before .before .pre .1 .1) (c .before .before .before .before .short .ensures) (c .before .before .n .given .1) .elements)))
+    (λ c κs.
+    let c2 = c .before .before in
+    let c4 = c2 .before .before in
+    let c8 = c4 .before .before .before .before in
+    (omega (arith, c8 .pre .0), (c8 .pre .1 .0, list-elements (c8 .pre .1 .1) (c4 .short .ensures) (c2 .n .given .1) .elements)))
     (λ c. search needs)
     (λ c. search needs)
-    (λ c. (c .before .before .fill-elements .ensures .0, λ e X vs q. let L = list-elements X (c .before .before .before .before .before .before .before .short .ensures) (c .before .before .before .before .before .n .given .1) in each-as (L .is) q (c .before .before .fill-elements .ensures .1 e (L .elements))))
+    (λ c.
+    let c2 = c .before .before in
+    let c5 = c2 .before .before .before in
+    let c7 = c5 .before .before in
+    (c2 .fill-elements .ensures .0, λ e X vs q. let L = list-elements X (c7 .short .ensures) (c5 .n .given .1) in each-as (L .is) q (c2 .fill-elements .ensures .1 e (L .elements))))
     (λ c. (grown-same _, λ e. clash (cc))))
     λ t. fill-value-lts.spec (fill-value-claims t)
     (fill-value-at t)
@@ -245,10 +316,23 @@ pub +fill-content+fill-elements+fill-fields+fill-list+fill-value-spec : {M : Typ
     (λ c κs. search needs)
     (λ c. search needs)
     (λ c. omega (arith, c .before .before .before .before .if1 .left))
-    (λ c κs. (omega (arith, c .before .before .before .before .before .before .before .before .before .pre .0, c .before .before .before .before .before .if1 .left), (c .before .before .before .before .before .before .before .before .before .pre .1 .0, raw-present (c .before .before .before .before .before .before .before .before .before .pre .1 .1) (c .before .before .before .before .read-presence .ensures) (c .before .before .d .given .1) .inner)))
+    (λ c κs.
+    let c2 = c .before .before in
+    let c4 = c2 .before .before in
+    let c5 = c4 .before in
+    let c9 = c5 .before .before .before .before in
+    (omega (arith, c9 .pre .0, c5 .if1 .left), (c9 .pre .1 .0, raw-present (c9 .pre .1 .1) (c4 .read-presence .ensures) (c2 .d .given .1) .inner)))
     (λ c. search needs)
     (λ c. search needs)
-    (λ c. (c .before .before .keep-null .ensures .grown, λ e X. null-nulls (null-at (X .value) (c .before .before .before .before .before .before .read-presence .ensures) (c .before .before .before .before .enum-told .given .1) .0) (c .before .before .keep-null .ensures .kept e)))
+    (λ c.
+    let c2 = c .before .before in
+    let c4 = c2 .before .before in
+    let c6 = c4 .before .before in
+    (c2 .keep-null .ensures .grown, λ e X. null-nulls (null-at (X .value) (c6 .read-presence .ensures) (c4 .enum-told .given .1) .0) (c2 .keep-null .ensures .kept e)))
     (λ c. search needs)
-    (λ c. (c .before .before .fill-content .ensures .0, λ e X. let I = raw-present X (c .before .before .before .before .before .before .before .read-presence .ensures) (c .before .before .before .before .before .d .given .1) in nulls-as (I .is) (c .before .before .fill-content .ensures .1 e (I .inner))))
+    (λ c.
+    let c2 = c .before .before in
+    let c5 = c2 .before .before .before in
+    let c7 = c5 .before .before in
+    (c2 .fill-content .ensures .0, λ e X. let I = raw-present X (c7 .read-presence .ensures) (c5 .d .given .1) in nulls-as (I .is) (c2 .fill-content .ensures .1 e (I .inner))))
     (λ c. (grown-same _, λ e. clash (cc)))

@@ -15,7 +15,11 @@ fill-known-spec =
     (λ c κs. (c .before .before .before .pre .0 .0, ends-none refl))
     (λ c. search needs)
     (λ c κs. search needs)
-    (λ c κs. (value-read (c .before .before .before .before .before .before .before .before .before .before .pre .0 .0) (c .before .before .before .before .before .before .read-element .ensures) (c .before .before .before .before .d .given .1) (c .before .before .before .before .before .before .before .before .before .before .pre .0 .1), c .before .before .before .before .before .before .before .before .before .before .pre .1))
+    (λ c κs.
+    let c4 = c .before .before .before .before in
+    let c6 = c4 .before .before in
+    let c10 = c6 .before .before .before .before in
+    (value-read (c10 .pre .0 .0) (c6 .read-element .ensures) (c4 .d .given .1) (c10 .pre .0 .1), c10 .pre .1))
     (λ c. search needs)
     (λ c. search needs)
     (λ c. search needs)

@@ -16,6 +16,11 @@ fill-large-spec =
     (λ c κs. (ends-none refl, c .before .before .before .before .pre .0 .0))
     (λ c κs. search needs)
     (λ c. search needs)
-    (λ c. c .before .before .keep-constant .ensures _ (nulls-grown (c .before .before .before .before .before .before .before .fill-value .ensures .0) (c .before .before .before .before .before .before .before .before .before .before .before .before .pre .1)) (constant-nulls (c .before .before .before .before .before .before .before .before .before .before .before .before .pre .0 .0 .type) (c .before .before .before .before .before .before .before .before .before .before .before .before .pre .0 .1) (c .before .before .before .before .before .before .before .fill-value .ensures .1 (c .before .before .before .before .if1 .taken))))
+    (λ c.
+    let c2 = c .before .before in
+    let c4 = c2 .before .before in
+    let c7 = c4 .before .before .before in
+    let c12 = c7 .before .before .before .before .before in
+    c2 .keep-constant .ensures _ (nulls-grown (c7 .fill-value .ensures .0) (c12 .pre .1)) (constant-nulls (c12 .pre .0 .0 .type) (c12 .pre .0 .1) (c7 .fill-value .ensures .1 (c4 .if1 .taken))))
     (λ c. search needs)
     (λ c. nulls-grown (c .before .before .before .fill-value .ensures .0) (c .before .before .before .before .before .before .before .before .pre .1)))

@@ -11,5 +11,8 @@ meets-by-table-spec =
     (λ c. search needs)
     (λ c κs. nulls-zeros 1088)
     (λ c. search needs)
-    (λ c κs. ((c .before .before .before .before .before .before .before .before .pre .0, c .before .before .fill-selectors .ensures), c .before .before .before .before .before .before .before .before .pre .1))
+    (λ c κs.
+    let c2 = c .before .before in
+    let c8 = c2 .before .before .before .before .before .before in
+    ((c8 .pre .0, c2 .fill-selectors .ensures), c8 .pre .1))
     (λ c. λ P D S. c .meets-columns .ensures P D S))

@@ -14,6 +14,10 @@ field-start-spec =
     (λ c. search needs)
     (λ c. search needs)
     (λ c. search needs)
-    (λ c. at-field (c .before .before .before .before .before .before .before .pass-columns .ensures) (c .before .before .before .before .before .d .given .1) (c .before .before .before .label .ensures .0) (c .before .e .given .1))
+    (λ c.
+    let c3 = c .before .before .before in
+    let c5 = c3 .before .before in
+    let c7 = c5 .before .before in
+    at-field (c7 .pass-columns .ensures) (c5 .d .given .1) (c3 .label .ensures .0) (c .before .e .given .1))
     (λ c. λ e q. no-part e q)
     (λ c. λ e q. no-part e q))

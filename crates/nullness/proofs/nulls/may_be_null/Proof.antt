@@ -30,6 +30,16 @@ may-be-null-spec =
     (λ c. λ e. clash (cc))
     (λ c. search needs)
     (λ c. search needs)
-    (λ c. looking-more (c .before .before .before .before .before .loop .inv) (c .before .before .before .before .loop-test .taken) (c .before .before .before .before .before .before .before .before .before .before .pre .1 .1) (c .before .before .before .part-start .ensures) (c .before .e .given .1))
+    (λ c.
+    let c3 = c .before .before .before in
+    let c4 = c3 .before in
+    let c5 = c4 .before in
+    let c10 = c5 .before .before .before .before .before in
+    looking-more (c5 .loop .inv) (c4 .loop-test .taken) (c10 .pre .1 .1) (c3 .part-start .ensures) (c .before .e .given .1))
     (λ c κs. search needs)
-    (λ c. λ e. looking-clean (c .before .before .loop .inv) (c .before .before .before .before .before .before .before .pre .0) (c .before .before .before .before .is-known .ensures (told _ (c .before .before .before .if1 .left))) (c .before .loop-test .left) (c .is-null .ensures e)))
+    (λ c.
+    let c2 = c .before .before in
+    let c3 = c2 .before in
+    let c4 = c3 .before in
+    let c7 = c4 .before .before .before in
+    λ e. looking-clean (c2 .loop .inv) (c7 .pre .0) (c4 .is-known .ensures (told _ (c3 .if1 .left))) (c .before .loop-test .left) (c .is-null .ensures e)))

@@ -19,7 +19,10 @@ part-start-spec =
     (λ c. search needs)
     (λ c. λ e q. no-part e q)
     (λ c. λ e q. no-part e q)
-    (λ c. λ e q. part-field (c .before .before .before .before .before .head .ensures .0) (c .before .before .before .n .given .1) (c .before .if1 .left) (c .field-start .ensures e q))
+    (λ c.
+    let c3 = c .before .before .before in
+    let c5 = c3 .before .before in
+    λ e q. part-field (c5 .head .ensures .0) (c3 .n .given .1) (c .before .if1 .left) (c .field-start .ensures e q))
     (λ c. λ e q. part-list (c .before .before .before .before .head .ensures .0) (c .before .before .d .given .1) (c .element-start .ensures e q))
     (λ c. λ e q. part-array (c .before .before .before .before .head .ensures .0) (c .before .before .d2 .given .1) (c .element-start2 .ensures e q))
     (λ c. λ e q. no-part e q))
