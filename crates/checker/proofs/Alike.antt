@@ -33,7 +33,7 @@ use Rattle.walk.specs.declared.walk.Walk.{Walk}
 use Rattle.plan.proofs.Results.{true≠false}
 use Rattle.nodes.specs.Typed.{TypeIs}
 use Rattle.checker.specs.Standing.{PartOf, NamedAt, MappedAt, ResolvedAt, headKind, TypeHeadIs}
-use Rattle.checker.specs.Children.{PassedTo}
+use Rattle.walk.specs.Children.{PassedTo}
 use Rattle.checker.specs.Same.{endsFrom, endsOf, codeOf}
 use Rattle.checker.specs.declared.same.Ends.{Ends}
 use Rattle.checker.specs.declared.same.HeadCode.{HeadCode}
@@ -42,7 +42,8 @@ use Rattle.checker.specs.declared.resolve.Source.{Source}
 use Rattle.checker.specs.declared.resolve.Resolved.{Resolved}
 use Rattle.checker.proofs.Fields.{column-there}
 use Rattle.checker.proofs.Headed.{from-mapping}
-use Rattle.checker.proofs.Children.{ChildAt, made-more, made-named}
+use Rattle.walk.proofs.Children.{ChildAt}
+use Rattle.checker.proofs.Children.{made-more, made-named}
 use Rattle.checker.proofs.Fitting.{is-struct, is-list, is-array, element-part, array-element-part, dropFields, drop-next, drop-all}
 
 -- ---- answers

@@ -25,7 +25,7 @@ use Rattle.nodes.specs.Typed.{TypeIs, SizeOf}
 use Rattle.nodes.specs.declared.types.FormSize.{FormSize}
 use Rattle.direct.specs.Places.{bytesOf, NameAt}
 use Rattle.checker.specs.Standing.{partsOf, PartOf, NamedAt, Made, made-struct, made-list, made-array, MappedAt, ResolvedAt, headKind, TypeHeadIs}
-use Rattle.checker.specs.Children.{PassedTo}
+use Rattle.walk.specs.Children.{PassedTo}
 use Rattle.checker.specs.Limits.{fitOf, typeFit, fieldsFit, columnFit, aroundOf, joinedOf, addedOf, restFit, Bounded, sizeOf}
 use Rattle.checker.specs.declared.limits.Fit.{Fit}
 use Rattle.checker.specs.declared.limits.Size.{Size}
@@ -36,7 +36,8 @@ use Rattle.checker.specs.declared.resolve.Source.{Source}
 use Rattle.checker.specs.declared.resolve.Resolved.{Resolved}
 use Rattle.checker.proofs.Fields.{column-there}
 use Rattle.checker.proofs.Headed.{from-mapping}
-use Rattle.checker.proofs.Children.{ChildAt, made-more, made-named}
+use Rattle.walk.proofs.Children.{ChildAt}
+use Rattle.checker.proofs.Children.{made-more, made-named}
 
 -- ---- numbers
 

@@ -32,7 +32,7 @@ use Rattle.walk.proofs.Standing.{walk-small}
 use Rattle.checker.specs.Shallow.{Shallow}
 use Rattle.checker.specs.Same.{codeOf}
 use Rattle.checker.specs.Standing.{headKind, TypeHeadIs, TypedAt, NamedAt, ScopedAt}
-use Rattle.checker.specs.Children.{PartStands, PassedTo}
+use Rattle.walk.specs.Children.{PartStands, PassedTo}
 use Rattle.checker.specs.Limits.{fitOf, typeFit, aroundOf, addedOf, restFit, Bounded, sizeOf}
 use Rattle.checker.specs.Checking.{measuredOf, fittingOf, isTransform, CheckingAt, PassedInput, nothingLeft, fieldsLeft, listedLeft, arrayedLeft, restAnswer, RestIs, MappingAt, Elements, of-list, of-array, fieldsResult, elementResult}
 use Rattle.checker.specs.declared.limits.Fit.{Fit}
@@ -43,7 +43,7 @@ use Rattle.checker.specs.declared.place.TypeHead.{TypeHead}
 use Rattle.checker.proofs.Room.{cast-shallow, rename-shallow, struct-shallow, list-shallow, array-shallow, field-shallow, element-shallow, array-element-shallow, entries-count}
 use Rattle.checker.proofs.Resolving.{selected, named-typed}
 use Rattle.checker.proofs.Making.{nth-there}
-use Rattle.checker.proofs.Children.{ChildAt, part-stands, passed-more}
+use Rattle.walk.proofs.Children.{ChildAt, part-stands, passed-more}
 use Rattle.checker.proofs.Checks.{result-is, bind-refused, bind-gives, PassedAs, passed-gives, refused-refuses}
 use Rattle.checker.proofs.Outer.{behind}
 use Rattle.checker.proofs.Fitting.{is-struct, is-list, is-array, fit-struct, fit-list, fit-array, rest-start, rest-none, rest-more, added-bounded}

@@ -12,8 +12,6 @@ ghost use Rattle.checker.specs.declared.limits.Fit.{Fit as FitOf};
 ghost use Rattle.checker.specs.declared.resolve.Source.{Source as SourceOf};
 ghost use Rattle.checker.specs.Standing.{PartOf, TypedAt, NamedAt, MappedAt, ResolvedAt};
 ghost use Rattle.checker.specs.Limits.{fitOf, typeFit, fieldsFit, columnFit, aroundOf, joinedOf, addedOf, Bounded, sizeOf};
-use crate::child::child_at;
-use crate::child::first_child;
 use crate::head::type_head;
 use crate::name::name_at;
 use crate::part::part;
@@ -24,6 +22,8 @@ use crate::resolve::resolve;
 use layout::cursor::Cursor;
 use layout::edition::Edition;
 use nodes::types::form_size;
+use walk::child::child_at;
+use walk::child::first_child;
 use walk::head::skip_selector;
 use walk::walk::Walk;
 

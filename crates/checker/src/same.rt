@@ -13,8 +13,6 @@ ghost use Rattle.plan.specs.Check.{Column};
 ghost use Rattle.checker.specs.declared.resolve.Source.{Source as SourceOf};
 ghost use Rattle.checker.specs.Standing.{PartOf, NamedAt, MappedAt, ResolvedAt, headKind};
 ghost use Rattle.checker.specs.Same.{endsFrom, endsOf, codeOf};
-use crate::child::child_at;
-use crate::child::first_child;
 use crate::head::type_head;
 use crate::name::name_at;
 use crate::part::part;
@@ -30,6 +28,8 @@ use layout::columns::Labelled;
 use layout::cursor::Cursor;
 use layout::edition::Edition;
 use layout::types::Head;
+use walk::child::child_at;
+use walk::child::first_child;
 use walk::head::skip_selector;
 use walk::walk::Walk;
 

@@ -15,8 +15,6 @@ ghost use Rattle.checker.specs.Standing.{TypeHeadIs, ScopedAt, TypedAt, 
 ghost use Rattle.checker.specs.Limits.{sizeOf};
 ghost use Rattle.checker.specs.Checking.{checkedOf, droppedOf, measuredOf, fittingOf, isTransform, CheckingAt, PassedInput, nothingLeft, fieldsLeft, listedLeft, arrayedLeft, RestIs, MappingAt, Elements, fieldsResult, elementResult};
 use crate::cast::cast_fits;
-use crate::child::child_at;
-use crate::child::first_child;
 use crate::head::type_head;
 use crate::limits::Fit;
 use crate::limits::Size;
@@ -31,6 +29,8 @@ use crate::resolve::resolve;
 use layout::columns::Position;
 use layout::cursor::Cursor;
 use layout::edition::Edition;
+use walk::child::child_at;
+use walk::child::first_child;
 use walk::head::SelectorHead;
 use walk::head::cast_option;
 use walk::head::head;

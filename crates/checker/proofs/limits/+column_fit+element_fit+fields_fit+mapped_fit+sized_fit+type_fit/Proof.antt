@@ -29,8 +29,8 @@ use Rattle.checker.proofs.limits.+column_fit+element_fit+fields_fit+map
 use Rattle.checker.proofs.limits.type_fit.Reads as type-fit
 use Rattle.checker.proofs.limits.type_fit.Kinds as type-fit-kinds
 use Rattle.checker.proofs.limits.+column_fit+element_fit+fields_fit+mapped_fit+sized_fit+type_fit.Lts-type_fit as type-fit-lts
-use Rattle.checker.proofs.child.child_at.Reads as child-at-reads
-use Rattle.checker.proofs.child.first_child.Reads as first-child-reads
+use Rattle.walk.proofs.child.child_at.Reads as child-at-reads
+use Rattle.walk.proofs.child.first_child.Reads as first-child-reads
 use Rattle.checker.proofs.head.type_head.Reads as type-head-reads
 use Rattle.checker.proofs.limits.around.Reads as around-reads
 use Rattle.checker.proofs.limits.joined.Reads as joined-reads

@@ -29,8 +29,8 @@ use Rattle.checker.proofs.same.+same_as+same_column+same_element+same_f
 use Rattle.checker.proofs.same.same_mapped.Reads as same-mapped
 use Rattle.checker.proofs.same.same_mapped.Kinds as same-mapped-kinds
 use Rattle.checker.proofs.same.+same_as+same_column+same_element+same_fields+same_mapped.Lts-same_mapped as same-mapped-lts
-use Rattle.checker.proofs.child.child_at.Reads as child-at-reads
-use Rattle.checker.proofs.child.first_child.Reads as first-child-reads
+use Rattle.walk.proofs.child.child_at.Reads as child-at-reads
+use Rattle.walk.proofs.child.first_child.Reads as first-child-reads
 use Rattle.checker.proofs.head.type_head.Reads as type-head-reads
 use Rattle.checker.proofs.name.name_at.Reads as name-at-reads
 use Rattle.checker.proofs.part.part.Reads as part-reads

@@ -21,8 +21,8 @@ use Rattle.checker.proofs.selector.+check_element+check_fields+check_sc
 use Rattle.checker.proofs.selector.check_transform.Reads as check-transform
 use Rattle.checker.proofs.selector.check_transform.Kinds as check-transform-kinds
 use Rattle.checker.proofs.selector.+check_element+check_fields+check_scoped+check_transform.Lts-check_transform as check-transform-lts
-use Rattle.checker.proofs.child.child_at.Reads as child-at-reads
-use Rattle.checker.proofs.child.first_child.Reads as first-child-reads
+use Rattle.walk.proofs.child.child_at.Reads as child-at-reads
+use Rattle.walk.proofs.child.first_child.Reads as first-child-reads
 use Rattle.checker.proofs.limits.add_field.Reads as add-field-reads
 use Rattle.checker.proofs.limits.around.Reads as around-reads
 use Rattle.checker.proofs.limits.list_fit.Reads as list-fit-reads

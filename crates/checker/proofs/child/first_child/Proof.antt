@@ -1,9 +1,0 @@
--- `checker::child::first_child` meets its contract. Assumes nothing.
-use Rattle.checker.proofs.Children.{passed-none}
-use native.Mathlib.Omega.{arith}
-use borrow.Author.Needs.{needs}
-use Rattle.checker.proofs.child.first_child.Statement.{statement}
-use Rattle.checker.proofs.child.first_child.Tie as tie
-
-pub first-child-spec : {M : Type 1} → statement M
-first-child-spec = tie.close (tie.spec (λ c. search needs) (λ c κs. search needs) (λ c. passed-none (c .before .struct-fields .ensures)))
