@@ -41,9 +41,12 @@ same-length c = search needs
 returns-4 : tie.Need-returns-4
 returns-4 c =
     let c4 = c .before .before .before .before in let c14 = c4 .before .before .before .before .before .before .before .before .before .before in
-    let l = c4 .read-entries .last .1 .1 .1 .1 .0 in let k = c4 .read-entries .kept .1 .1 .1 .1 .0 in let a = c14 .args in (omega arith, λ h n. subst (λ
-    (t : List ℕ). Indexed (a .defaults .version) (now (a .s)) (a .defaults .count) (a .defaults .entries .at) t) (sym (take-all (length (a .room .now)) l
-    (omega arith))) (c4 .read-entries .ensures .1 _ (c .enum-told .given .1)))
+    let l = c4 .read-entries .last .1 .1 .1 .1 .0 in let k = c4 .read-entries .kept .1 .1 .1 .1 .0 in let a = c14 .args in (
+      omega arith,
+      λ h n. subst (λ
+          (t : List ℕ). Indexed (a .defaults .version) (now (a .s)) (a .defaults .count) (a .defaults .entries .at) t) (sym (take-all (length (a .room .now)) l
+          (omega arith))) (c4 .read-entries .ensures .1 _ (c .enum-told .given .1)),
+    )
 
 same-length-2 : tie.Need-same-length-2
 same-length-2 c = search needs

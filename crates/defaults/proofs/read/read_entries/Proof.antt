@@ -50,9 +50,11 @@ same-length c = search needs
 returns : tie.Need-returns Inv-loop μ-loop
 returns c =
     let c1 = c .before in let c2 = c1 .before in let c5 = c2 .before .before .before in let c7 = c5 .before .before in let c8 = c7 .before in
-    let c9 = c8 .before in
-    (filling-repeated (c9 .loop .inv .1) (c8 .loop-test .taken) (c7 .read-entry .ensures) (c5 .owner .given .1) (c2 .find-indexed .ensures)
-    (c1 .is-found .ensures) (c .if1 .taken), λ e h. clash (cc))
+    let c9 = c8 .before in (
+      filling-repeated (c9 .loop .inv .1) (c8 .loop-test .taken) (c7 .read-entry .ensures) (c5 .owner .given .1) (c2 .find-indexed .ensures)
+          (c1 .is-found .ensures) (c .if1 .taken),
+      λ e h. clash (cc),
+    )
 
 push-requires : tie.Need-push-requires Inv-loop μ-loop
 push-requires c κs =
@@ -84,10 +86,12 @@ loop-less c = omega arith
 loop-again : tie.Need-loop-again Inv-loop μ-loop
 loop-again c =
     let c2 = c .before .before in let c4 = c2 .before .before in let c5 = c4 .before in let c6 = c5 .before in let c9 = c6 .before .before .before in
-    let c11 = c9 .before .before in let c12 = c11 .before in let c13 = c12 .before in let c20 = c13 .before .before .before .before .before .before .before in
-    (ap (λ (l : List ℕ). length l) (c2 .push .ensures) ∙ pushed-length (length (now (c20 .args .s))) (c13 .loop .at) (c9 .owner .given .0 .1 .0)
-    (c13 .loop .index) ∙ c13 .loop .inv .0, filling-more (c13 .loop .inv .1) (c12 .loop-test .taken) (c11 .read-entry .ensures) (c9 .owner .given .1)
-    (c6 .find-indexed .ensures) (c5 .is-found .ensures) (c4 .if1 .left) (c2 .push .ensures))
+    let c11 = c9 .before .before in let c12 = c11 .before in let c13 = c12 .before in let c20 = c13 .before .before .before .before .before .before .before in (
+      ap (λ (l : List ℕ). length l) (c2 .push .ensures) ∙ pushed-length (length (now (c20 .args .s))) (c13 .loop .at) (c9 .owner .given .0 .1 .0)
+          (c13 .loop .index) ∙ c13 .loop .inv .0,
+      filling-more (c13 .loop .inv .1) (c12 .loop-test .taken) (c11 .read-entry .ensures) (c9 .owner .given .1)
+          (c6 .find-indexed .ensures) (c5 .is-found .ensures) (c4 .if1 .left) (c2 .push .ensures),
+    )
 
 same-length-3 : tie.Need-same-length-3 Inv-loop μ-loop
 same-length-3 c = search needs
