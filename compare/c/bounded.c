@@ -4,8 +4,9 @@
  * the general way decides. Then builds by number of columns that are all missing, with a table of as many entries as
  * fit, of which none is theirs: with ids in a row, and with ids that are all in one chain of the table's index; the
  * plans of slow_checks.h, slow_marks.h and slow_runs.h; and values that pass over a long type for each of their bytes:
- * empty arrays of a struct of lists, taken whole, and in front of a column that thousands of selectors take.
- * The exit status is 1 where an answer or an output is not the one due, or where it takes more than a second of processor time; more than five for the mappings. */
+ * empty arrays of a struct of lists, taken whole, in front of a column that thousands of selectors take, and in
+ * constants. The exit status is 1 where an answer or an output is not the one due, or where it takes more than a second
+ * of processor time; more than five for the mappings. */
 #define _DEFAULT_SOURCE
 #include "selector.h"
 
@@ -158,25 +159,33 @@ static void turning_of(text *t, int listed, int mappings, int fields) {
     }
 }
 
-/* A list of arrays of width 0, whose element is a struct of lists in lists. */
-static void empty_arrays(text *t) {
+/* A list of arrays of width 0, whose element is a struct of so many lists in lists. */
+static void empty_arrays(text *t, int fields, int lists) {
     put(t, 0x1413, 2);
     put(t, 0, 4);
     put(t, 18, 1);
-    put(t, LISTS, 2);
-    for (int i = 0; i < LISTS; i++) {
+    put(t, (uint64_t)fields, 2);
+    for (int i = 0; i < fields; i++) {
         put(t, 0, 1);
-        for (int k = 0; k < 12; k++)
+        for (int k = 0; k < lists; k++)
             put(t, 19, 1);
         put(t, 2, 1);
     }
+}
+
+/* So many of them, each a byte. */
+static void present_arrays(text *t, int elements) {
+    put(t, 1, 1);
+    put(t, (uint64_t)elements, 2);
+    for (int i = 0; i < elements; i++)
+        put(t, 1, 1);
 }
 
 /* One column of them, and behind it an int8 where it is asked for. */
 static void arrays_of(text *t, int columns) {
     mark(t, "LAY", (uint32_t)columns);
     put(t, 0x6801, 2);
-    empty_arrays(t);
+    empty_arrays(t, LISTS, 12);
     if (columns == 2)
         put(t, 0x0200, 2);
 }
@@ -184,10 +193,7 @@ static void arrays_of(text *t, int columns) {
 /* So many arrays, each a byte, and behind them an int8 where it is asked for. */
 static void arrays_record(text *t, int elements, int columns) {
     t->length = 0;
-    put(t, 1, 1);
-    put(t, (uint64_t)elements, 2);
-    for (int i = 0; i < elements; i++)
-        put(t, 1, 1);
+    present_arrays(t, elements);
     if (columns == 2)
         put(t, 0x0701, 2);
 }
@@ -326,6 +332,7 @@ int main(void) {
         expect_missing(version, HEADS);
     }
     slow_checks();
+    slow_constants();
     slow_marks();
     slow_runs();
     arrays_of(&incoming, 1);

@@ -38,8 +38,15 @@ static void renamed_of(text *t, int renames, int fields) {
         put(t, 0, 1); /* no name */
 }
 
-/* A mapping over a mapping; its first selector is a constant list, the others take the one field. */
-static void constant_first(text *t, int elements, int positions) {
+/* A constant of empty arrays, without a name. */
+static void constant_arrays(text *t, int elements, int fields, int lists) {
+    put(t, 0x0001, 2);
+    empty_arrays(t, fields, lists);
+    present_arrays(t, elements);
+}
+
+/* What stands before the selectors of a mapping over a mapping of one field, in an element, and how many they are. */
+static void mapping_over(text *t, int selectors) {
     mark(t, "PLN", 1);
     put(t, 5, 1);
     position(t, 0);
@@ -48,8 +55,21 @@ static void constant_first(text *t, int elements, int positions) {
     position(t, 0);
     put(t, 1, 2);
     position(t, 0);
-    put(t, (uint64_t)positions + 1, 2);
+    put(t, (uint64_t)selectors, 2);
+}
+
+/* Its first selector is a constant list, the others take the one field. */
+static void constant_first(text *t, int elements, int positions) {
+    mapping_over(t, positions + 1);
     constant_list(t, elements);
+    for (int k = 0; k < positions; k++)
+        position(t, 0);
+}
+
+/* The first is a constant of empty arrays of a struct of 1,000 lists. */
+static void arrays_first(text *t, int elements, int positions) {
+    mapping_over(t, positions + 1);
+    constant_arrays(t, elements, 1000, 10);
     for (int k = 0; k < positions; k++)
         position(t, 0);
 }
@@ -76,4 +96,26 @@ static void slow_checks(void) {
     taken_of(&target, TAKEN, 1);
     constant_first(&plan, CONSTANT, TAKEN);
     expect_check("a constant before positions in an element", 0);
+}
+
+/* Constants whose values pass over a long type for each of their bytes. */
+static void slow_constants(void) {
+    taken_of(&incoming, 1, 0);
+    mark(&target, "LAY", 1);
+    put(&target, 0, 1);
+    put(&target, 0x1213, 2);
+    put(&target, 701, 2);
+    put(&target, 0, 1);
+    empty_arrays(&target, 1000, 10);
+    for (int k = 0; k < 700; k++)
+        put(&target, 0x0200, 2);
+    arrays_first(&plan, 20000, 700);
+    expect_check("a constant of 20,000 empty arrays of a long struct before positions", 0);
+    record.length = 0;
+    put(&record, 0x01000101, 4); /* a list of one struct */
+    put(&record, 0x0701, 2);
+    expect("the same, run", 45);
+    mark(&plan, "PLN", 1);
+    constant_arrays(&plan, 32000, 16300, 0);
+    expect_check("a constant of 32,000 empty arrays of a struct of 32,000 bytes", 33);
 }

@@ -11,7 +11,7 @@ ghost use Rattle.walk.specs.Stands.{SelectorAt};
 ghost use Rattle.walk.specs.Parts.{StructAt};
 ghost use Rattle.walk.specs.Standing.{WalkAt};
 ghost use Rattle.walk.specs.Values.{valueNode};
-ghost use Rattle.nodes.specs.Raw.{RowAt, NodeOf};
+ghost use Rattle.nodes.specs.Raw.{RawAt, RowAt, NodeOf};
 ghost use Rattle.raw.specs.Constant.{ConstantRaw};
 ghost use Rattle.output.specs.Chain.{ends, next};
 ghost use Rattle.output.specs.Answers.{recordSource, constantSource, StructSource, SourceIs};
@@ -80,11 +80,11 @@ fn column_node(
     }
 }
 
-// The constant whose type begins at `t` and is long, at what is left of the path.
+// The constant whose long type begins at `t` and its value at `c`, at what is left of the path.
 fn long_constant_node(plan: &[u8], w: Walk, t: Cursor, c: Cursor) -> NodeAt
-    requires { ⌜ ConstantRaw (now plan) (t .at) ⌝ }
+    requires { ⌜ RawAt EditionOf.One (now plan) (t .at) (now plan) (c .at) ⌝ }
     requires { ⌜ (w .deep ≤ w .len) × (w .len ≤ length (w .path)) ⌝ }
-    ensures { λ r. ⌜ ((X : ConstantRaw (now (plan .entry)) (t .at)) → NodeOf EditionOf.One (now (plan .entry)) (now (plan .entry)) (valueNode (X .value .tree) (slice (w .deep) (w .len) (w .path))) r) ⌝ }
+    ensures { λ r. ⌜ ((X : RawAt EditionOf.One (now (plan .entry)) (t .at) (now (plan .entry)) (c .at)) → NodeOf EditionOf.One (now (plan .entry)) (now (plan .entry)) (valueNode (X .value .tree) (slice (w .deep) (w .len) (w .path))) r) ⌝ }
 {
     let mut ends = [0u16; 4098];
     let path = w.path;

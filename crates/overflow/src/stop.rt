@@ -11,7 +11,7 @@ ghost use Rattle.layout.specs.declared.edition.Edition.{Edition as EditionOf};
 ghost use Rattle.layout.specs.Bytes.{Bytes};
 ghost use Rattle.plan.specs.Run.{valueAt};
 ghost use Rattle.plan.specs.Selector.{position};
-ghost use Rattle.nodes.specs.Raw.{RowAt};
+ghost use Rattle.nodes.specs.Raw.{RawAt, RowAt};
 ghost use Rattle.walk.specs.State.{State};
 ghost use Rattle.walk.specs.Standing.{WalkAt};
 ghost use Rattle.overflow.specs.Want.{SmallWant};
@@ -86,7 +86,7 @@ fn in_column(
     }
 }
 
-// In a constant, whose type stands at `t` and is long, at a path.
+// In a constant, whose long type stands at `t` and its value at `c`, at a path.
 fn in_long_constant(
     plan: &[u8],
     t: Cursor,
@@ -96,9 +96,9 @@ fn in_long_constant(
     len: usize,
     sought: Sought,
 ) -> bool
-    requires { ⌜ RawIn (now plan) (t .at) ⌝ }
+    requires { ⌜ RawAt EditionOf.One (now plan) (t .at) (now plan) (c .at) ⌝ }
     requires { ⌜ (from ≤ len) × (len ≤ length path) × SmallSought sought ⌝ }
-    ensures { λ r. ⌜ ((X : RawIn (now (plan .entry)) (t .at)) → r ≡ someSought sought (slice from len path) (X .value .tree)) ⌝ }
+    ensures { λ r. ⌜ ((X : RawAt EditionOf.One (now (plan .entry)) (t .at) (now (plan .entry)) (c .at)) → r ≡ someSought sought (slice from len path) (X .value .tree)) ⌝ }
 {
     let mut ends = [0u16; 4098];
     fill_local(plan, Edition::One, 16, t, c, &mut ends);

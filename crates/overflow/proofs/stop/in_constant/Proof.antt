@@ -8,4 +8,14 @@ use Rattle.overflow.proofs.stop.in_constant.Statement.{statement}
 use Rattle.overflow.proofs.stop.in_constant.Tie as tie
 
 pub in-constant-spec : {M : Type 1} → statement M
-in-constant-spec = tie.close (tie.spec (λ c κs. search needs) (λ c. search needs) (λ c. search needs) (λ c κs. (ends-none refl, (raw-of (c .before .before .before .pre .0) (c .before .skip-type .ensures (c .before .before .before .pre .0 .type)) .raw, c .before .before .before .pre .1))) (λ c. λ X. let R = raw-of X (c .before .before .skip-type .ensures (X .type)) in same-node _ _ (R .is) (c .some-at .ensures (R .raw))))
+in-constant-spec =
+    tie.close
+    (tie.spec
+    (λ c κs. search needs)
+    (λ c κs. search needs)
+    (λ c κs. let X = c .before .before .before .before .pre .0 in (raw-of X (c .before .before .skip-type .ensures (X .type)) .raw, c .before .before .before .before .pre .1))
+    (λ c. λ X. let R = raw-of X (c .before .before .before .skip-type .ensures (X .type)) in same-node _ _ (R .is) (c .in-long-constant .ensures (R .raw)))
+    (λ c. search needs)
+    (λ c. search needs)
+    (λ c κs. let X = c .before .before .before .before .before .pre .0 in (ends-none refl, (raw-of X (c .before .before .before .skip-type .ensures (X .type)) .raw, c .before .before .before .before .before .pre .1)))
+    (λ c. λ X. let R = raw-of X (c .before .before .before .before .skip-type .ensures (X .type)) in same-node _ _ (R .is) (c .some-at .ensures (R .raw))))

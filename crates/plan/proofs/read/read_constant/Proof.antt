@@ -1,7 +1,5 @@
-use Rattle.plan.proofs.Moves.{type-stands, constant-to, constant-untyped, constant-stopped}
 -- `plan::read::read_constant` meets its contract: its name, its type and a value of that. Assumes nothing.
-use Rattle.ends.proofs.Entries.{ends-none}
-use mathlib.Core.Path.{refl}
+use Rattle.plan.proofs.Moves.{type-stands, constant-to, constant-untyped, constant-stopped}
 use borrow.Author.Needs.{needs}
 use Rattle.plan.proofs.read.read_constant.Statement.{statement}
 use Rattle.plan.proofs.read.read_constant.Tie as tie
@@ -14,12 +12,14 @@ read-constant-spec =
     (λ c. search needs)
     (λ c κs. search needs)
     (λ c. search needs)
-    (λ c. search needs)
-    (λ c. search needs)
-    (λ c κs. (type-stands _ (c .before .before .before .before .pass-type .ensures) (c .before .before .e .given .1), ends-none refl))
+    (λ c κs. type-stands _ (c .before .before .before .pass-type .ensures) (c .before .e .given .1))
     (λ c κs. search needs)
     (λ c. search needs)
     (λ c. search needs)
-    (λ c. constant-to _ _ (c .before .before .before .before .before .before .before .before .before .before .text .ensures .0) (c .before .before .before .before .before .before .before .before .d .given .1) (c .before .before .before .before .before .before .pass-type .ensures) (c .before .before .before .before .e .given .1) (c .before .read-value .ensures) (c .value-end .ensures))
+    (λ c.
+    let name = c .before .before .before .before .before .before .before .before .before .text .ensures .0 in
+    let d = c .before .before .before .before .before .before .before .d .given .1 in
+    let type = c .before .before .before .before .before .pass-type .ensures in
+    constant-to _ _ name d type (c .before .before .before .e .given .1) (c .before .read-constant-value .ensures) (c .value-end .ensures))
     (λ c. constant-untyped _ _ (c .before .before .before .before .before .before .before .text .ensures .0) (c .before .before .before .before .before .d .given .1) (c .before .before .before .pass-type .ensures) (c .before .k .given .1))
     (λ c. constant-stopped _ _ (c .before .before .before .text .ensures .0) (c .before .k2 .given .1)))

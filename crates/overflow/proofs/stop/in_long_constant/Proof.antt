@@ -1,0 +1,14 @@
+-- `overflow::stop::in_long_constant` meets its contract: the table is true. Assumes nothing.
+use Rattle.ends.proofs.Entries.{clear-zeros}
+use borrow.Author.Needs.{needs}
+use Rattle.overflow.proofs.stop.in_long_constant.Statement.{statement}
+use Rattle.overflow.proofs.stop.in_long_constant.Tie as tie
+
+pub in-long-constant-spec : {M : Type 1} → statement M
+in-long-constant-spec =
+    tie.close
+    (tie.spec
+    (λ c κs. (c .before .before .pre .0 .type, clear-zeros 4098))
+    (λ c. search (needs, c .before .fill-local .ensures .1))
+    (λ c κs. (c .before .fill-local .ensures .0, (c .before .before .before .before .pre .0, c .before .before .before .before .pre .1)))
+    (λ c. λ X. c .some-at .ensures X))
