@@ -186,8 +186,8 @@ fn build_in_small(
     )
 }
 
-// By name there are no defaults, and an arena has room for the tables of the incoming columns at every level: they share a layout's bytes, so that there
-// are at most 5,116 with names of their own.
+// By name there are no defaults, and the arena has room for the tables of 4,360 incoming columns at all levels: of 4,094 top columns, which are all that
+// a layout can have.
 fn build_named(
     build: Build,
     incoming: &[u8],
@@ -204,7 +204,7 @@ fn build_named(
 {
     let mut room = [0u16; 1];
     let len = fill_index(table, build.defaults, &mut room);
-    let mut arena = [0u16; 16384];
+    let mut arena = [0u16; 10900];
     build_in_arena(
         build,
         incoming,
@@ -218,7 +218,7 @@ fn build_named(
     )
 }
 
-// By number a column has at least six bytes, so that an arena of a build by name has room for an index of the longest table too.
+// By number a column has at least six bytes, so that the tables of all levels take at most 6,825 numbers, and there is room for an index of the longest table.
 fn build_numbered(
     build: Build,
     incoming: &[u8],
@@ -235,7 +235,7 @@ fn build_numbered(
 {
     let mut room = [0u16; 3384];
     let len = fill_index(table, build.defaults, &mut room);
-    let mut arena = [0u16; 13000];
+    let mut arena = [0u16; 7400];
     build_in_arena(
         build,
         incoming,
