@@ -9,7 +9,7 @@ run-tabled-spec =
     tie.close
     (tie.spec
     (λ c κs. (c .before .before .before .before .before .before .pre .columns, ends-clear (clear-zeros 4098)))
-    (λ c. search (needs, c .before .fill-columns .ensures .1 .1))
+    (λ c. search (needs, c .before .before .fill-columns .ensures .1 .1))
     (λ c κs. search needs)
     (λ c. search needs)
     (λ c. search needs))
