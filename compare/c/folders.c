@@ -3,7 +3,8 @@
  *
  *   folders FOLDER..
  *
- * The exit status is 1 where a call takes more than a second of processor time. */
+ * The exit status is 1 where a call takes more than two seconds of processor time: the slowest of ../shared/hostile
+ * takes 0.8 s on one machine, and machines differ. */
 #define _DEFAULT_SOURCE
 #include "timed.h"
 
@@ -48,7 +49,7 @@ int main(int count, char **words) {
                 printf("%s, %s: broken off after %.1f s\n", words[i], call_names[call], taken);
             else
                 printf("%s, %s: %u after %.2f ms\n", words[i], call_names[call], SELECTOR_NUMBER(answer), taken * 1e3);
-            failed |= taken > 1;
+            failed |= taken > 2;
         }
     }
     return failed;
