@@ -1,10 +1,9 @@
 /* The time of each call over the files of folders, as ./apply has them: incoming.lay, target.lay and, where they are
  * there, plan.pln, record.bin and defaults.def. What `search` writes can be tried so, and what others found.
  *
- *   folders FOLDER..
+ *   folders SECONDS FOLDER..
  *
- * The exit status is 1 where a call takes more than two seconds of processor time: the slowest of ../shared/hostile
- * takes 0.8 s on one machine, and machines differ. */
+ * The exit status is 1 where a call takes more than so many seconds of processor time. */
 #define _DEFAULT_SOURCE
 #include "timed.h"
 
@@ -30,7 +29,12 @@ static int asked(enum call call) {
 int main(int count, char **words) {
     const double most = 20;
     int failed = 0;
-    for (int i = 1; i < count; i++) {
+    const double allowed = count < 2 ? 0 : atof(words[1]);
+    if (allowed <= 0) {
+        fprintf(stderr, "usage: folders SECONDS FOLDER..\n");
+        return 2;
+    }
+    for (int i = 2; i < count; i++) {
         read_input(words[i], &in);
         if (in.parts[INCOMING].length == 0) {
             fprintf(stderr, "%s: no incoming.lay\n", words[i]);
@@ -49,7 +53,7 @@ int main(int count, char **words) {
                 printf("%s, %s: broken off after %.1f s\n", words[i], call_names[call], taken);
             else
                 printf("%s, %s: %u after %.2f ms\n", words[i], call_names[call], SELECTOR_NUMBER(answer), taken * 1e3);
-            failed |= taken > 2;
+            failed |= taken > allowed;
         }
     }
     return failed;

@@ -299,26 +299,21 @@ fn differs(name: &str) -> String {
 }
 
 fn reading(name: &str, count: usize, layout: &[u8]) -> Result<(), String> {
-    let ours = library::read_layout(layout);
-    if ours != Ok(0) || form::read_layout(layout).is_err() {
-        return Err(differs(name));
-    }
-    line(
-        name,
-        count,
-        || {
-            black_box(library::read_layout(black_box(layout))).ok();
-        },
-        || {
-            black_box(form::read_layout(black_box(layout))).ok();
-        },
-    );
-    Ok(())
+    reading_beside(name, count, layout, form::read_layout)
 }
 
 /// Beside Rust that only says whether the layout can be read.
 fn validating(name: &str, count: usize, layout: &[u8]) -> Result<(), String> {
-    if library::read_layout(layout) != Ok(0) || validate::layout(layout).is_err() {
+    reading_beside(name, count, layout, validate::layout)
+}
+
+fn reading_beside<T, E>(
+    name: &str,
+    count: usize,
+    layout: &[u8],
+    theirs: impl Fn(&[u8]) -> Result<T, E>,
+) -> Result<(), String> {
+    if library::read_layout(layout) != Ok(0) || theirs(layout).is_err() {
         return Err(differs(name));
     }
     line(
@@ -328,7 +323,7 @@ fn validating(name: &str, count: usize, layout: &[u8]) -> Result<(), String> {
             black_box(library::read_layout(black_box(layout))).ok();
         },
         || {
-            black_box(validate::layout(black_box(layout))).ok();
+            black_box(theirs(black_box(layout))).ok();
         },
     );
     Ok(())
