@@ -426,8 +426,7 @@ fn read_large(s: &[u8], version: TableVersion) -> TableRead
     read_counted(s, version, &mut index)
 }
 
-// The rest of a table of this version. That `read_large` is called twice keeps it a function of its own: called once, it would be compiled into its
-// caller, and its index would stand beside a build's buffer.
+// The rest of a table of this version. A small index takes less time to clear.
 fn read_rest(s: &[u8], version: TableVersion) -> TableRead
     requires { ⌜ length (now s) ≤ 16384 ⌝ }
     ensures { λ r. ⌜ r ≡ tableOf (countedTable version (now (s .entry)) 5) ⌝ }
