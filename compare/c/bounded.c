@@ -332,6 +332,7 @@ int main(void) {
         expect_missing(version, HEADS);
     }
     slow_checks();
+    slow_renames();
     slow_constants();
     slow_marks();
     slow_runs();

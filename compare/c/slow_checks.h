@@ -1,7 +1,7 @@
 /* Part of bounded.c: plans within the limits whose check once took seconds, since a type was measured or a selector passed over again and again. One is refused with 33, in the
  * other the selector of a list mapping has a transform over a transform, so that the general way decides. */
 
-enum { RENAMES = 60, RENAMED = 3900, CONSTANT = 40000, TAKEN = 7500 };
+enum { RENAMES = 60, RENAMED = 3900, CONSTANT = 40000, TAKEN = 7500, FIELDS_MADE = 3000, RENAMES_MADE = 11000, COLUMNS = 1000, RENAMES_LAST = 13000 };
 
 static void position(text *t, int k) {
     put(t, 0, 1);
@@ -84,6 +84,74 @@ static void taken_of(text *t, int fields, int listed) {
         put(t, 0x021300, 3);
     for (int k = 0; k < fields; k++)
         put(t, 0x0200, 2);
+}
+
+/* A list of structs of one field, a struct of so many int8 fields, all without names. */
+static void inner_of(text *t, int fields) {
+    mark(t, "LAY", 1);
+    put(t, 0, 1);
+    put(t, 0x1213, 2);
+    put(t, 1, 2);
+    put(t, 0x1200, 2);
+    put(t, (uint64_t)fields, 2);
+    for (int k = 0; k < fields; k++)
+        put(t, 0x0200, 2);
+}
+
+static void rename_position(text *t, int k) {
+    put(t, 3, 1);
+    position(t, k);
+    put(t, 0, 1); /* no name */
+}
+
+/* In an element, renames of what a mapping of so many fields makes, each by a position. */
+static void renamed_made(text *t, int renames, int fields) {
+    mark(t, "PLN", 1);
+    put(t, 5, 1);
+    position(t, 0);
+    put(t, 4, 1);
+    put(t, 4, 1);
+    position(t, 0);
+    put(t, 1, 2);
+    put(t, 4, 1);
+    position(t, 0);
+    put(t, (uint64_t)fields, 2);
+    for (int k = 0; k < fields; k++)
+        position(t, k);
+    put(t, (uint64_t)renames, 2);
+    for (int k = 0; k < renames; k++)
+        rename_position(t, 0);
+}
+
+/* So many columns of twelve lists in lists. */
+static void lists_of(text *t, int columns) {
+    mark(t, "LAY", (uint32_t)columns);
+    for (int k = 0; k < columns; k++) {
+        put(t, 2, 1);
+        put(t, (uint64_t)k, 2);
+        for (int i = 0; i < 12; i++)
+            put(t, 19, 1);
+        put(t, 2, 1);
+    }
+}
+
+/* Renames of one column. */
+static void renamed_last(text *t, int renames, int last) {
+    mark(t, "PLN", (uint32_t)renames);
+    for (int k = 0; k < renames; k++)
+        rename_position(t, last);
+}
+
+/* Renames of positions: what is known to be within the limits is not measured again. */
+static void slow_renames(void) {
+    inner_of(&incoming, FIELDS_MADE);
+    taken_of(&target, 1, 0);
+    renamed_made(&plan, RENAMES_MADE, FIELDS_MADE);
+    expect_check("renames of what a mapping makes in an element", 32);
+    lists_of(&incoming, COLUMNS);
+    taken_of(&target, 1, 0);
+    renamed_last(&plan, RENAMES_LAST, COLUMNS - 1);
+    expect_check("renames of the last column", 33);
 }
 
 static void slow_checks(void) {

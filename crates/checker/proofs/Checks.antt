@@ -48,6 +48,11 @@ result-is n t = go (leb (depthOf t) 16 && leb (length (form t)) 16384)
     go true = refl
     go false = refl
 
+-- within the limits
+pub result-kept : (b : Bool) (n : Bytes) (t : DataType) → withinLimits t ≡ true → Measured.Passed (sizeOf b t) ≡ measuredOf b (resulting n t)
+unfolding resulting demand
+result-kept b n t e = rw e
+
 pub cast-no : (t : DataType) (o : CastOption) (a : Column) → castFits (a .type) t o ≡ false → Measured.Refused 32 ≡ measuredOf true (checkCast t o a)
 unfolding checkCast demand
 cast-no t o a e = rw e
@@ -65,6 +70,11 @@ module _ {A : Type 0} (x : Result A) (f : A → Result Column) where
   pub bind-gives : {a : A} {r : Measured} → x ≡ gives a → r ≡ measuredOf true (f a) → r ≡ measuredOf true (x >>= f)
   unfolding _>>=_
   bind-gives e g = rw e g
+
+pub bind-known : (b : Bool) {A : Type 0} (x : Result A) (f : A → Result Column) {a : A} {r : Measured} → x ≡ gives a → r ≡ measuredOf b (f a)
+    → r ≡ measuredOf b (x >>= f)
+unfolding _>>=_
+bind-known b x f e g = rw e g
 
 pub record PassedAs (b : Bool) (x : Result Column) (z : Size) : Type 0 where
   pub column : Column

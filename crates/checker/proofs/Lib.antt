@@ -14,6 +14,7 @@ pub mod Fitting
 pub mod Alike
 pub mod Casting
 pub mod Checks
+pub mod Within
 pub mod Selecting
 pub mod Topping
 pub mod Required

@@ -11,13 +11,16 @@ use Rattle.layout.specs.declared.bytes.Span.{Span}
 use Rattle.layout.specs.declared.columns.Position.{Position}
 use Rattle.layout.specs.declared.cursor.Cursor.{Cursor}
 use Rattle.layout.specs.declared.edition.Edition.{Edition}
+use Rattle.layout.specs.declared.edition.Edition.the-variants.{One}
+use Rattle.nodes.specs.Typed.{TypeIs}
+use Rattle.plan.proofs.Results.{gives-eq}
 use lib.ListN.{length}
 use Rattle.forms.specs.Form.{form, headOf}
 use Rattle.forms.specs.Readable.{depthOf}
 use Rattle.plan.specs.Result.{Result, gives, refuses, _>>=_}
 use Rattle.rules.specs.declared.outcome.CastOption.{CastOption}
 use Rattle.plan.specs.Selector.{Selector, position, constant, cast, rename, structMapping, listMapping, arrayMapping, Selectors, snil, scons, countSelectors, nesting}
-use Rattle.plan.specs.Check.{Column, columnAt, elementOf, structOf, listOf, arrayOf, resulting, checkCast, checkRename, checkStruct, checkList, checkArray, typeOf, typesOf}
+use Rattle.plan.specs.Check.{Column, columnAt, elementOf, structOf, listOf, arrayOf, withinLimits, resulting, checkCast, checkRename, checkStruct, checkList, checkArray, typeOf, typesOf}
 use Rattle.plan.specs.Reach.{SelectorAt as Nth, s-here, s-there}
 use Rattle.walk.specs.State.{Frame, fields, element, State, state}
 use Rattle.walk.specs.Moves.{Input, i-cast, i-rename, i-struct, i-list, i-array, Part, p-field, p-list, p-array}
@@ -33,19 +36,21 @@ use Rattle.checker.specs.Shallow.{Shallow}
 use Rattle.checker.specs.Same.{codeOf}
 use Rattle.checker.specs.Standing.{headKind, TypeHeadIs, TypedAt, NamedAt, ScopedAt}
 use Rattle.walk.specs.Children.{PartStands, PassedTo}
-use Rattle.checker.specs.Limits.{fitOf, typeFit, aroundOf, addedOf, restFit, Bounded, sizeOf}
-use Rattle.checker.specs.Checking.{measuredOf, fittingOf, isTransform, CheckingAt, PassedInput, nothingLeft, fieldsLeft, listedLeft, arrayedLeft, restAnswer, RestIs, MappingAt, Elements, of-list, of-array, fieldsResult, elementResult}
+use Rattle.checker.specs.Limits.{fitOf, typeFit, aroundOf, addedOf, restFit, Bounded, sizeOf, withinFit, Limited, ScopeIs}
+use Rattle.checker.specs.Checking.{measuredOf, MeasuredIs, fittingOf, isTransform, CheckingAt, PassedInput, nothingLeft, fieldsLeft, listedLeft, arrayedLeft, restAnswer, RestIs, MappingAt, Elements, of-list, of-array, fieldsResult, elementResult}
 use Rattle.checker.specs.declared.limits.Fit.{Fit}
 use Rattle.checker.specs.declared.limits.Size.{Size}
 use Rattle.checker.specs.declared.selector.Measured.{Measured}
 use Rattle.checker.specs.declared.selector.Rest.{Rest}
+use Rattle.checker.specs.declared.selector.ScopeColumns.{ScopeColumns}
 use Rattle.checker.specs.declared.place.TypeHead.{TypeHead}
 use Rattle.checker.proofs.Room.{cast-shallow, rename-shallow, struct-shallow, list-shallow, array-shallow, field-shallow, element-shallow, array-element-shallow, entries-count}
 use Rattle.checker.proofs.Resolving.{selected, named-typed}
 use Rattle.checker.proofs.Making.{nth-there}
 use Rattle.walk.proofs.Children.{ChildAt, part-stands, passed-more}
-use Rattle.checker.proofs.Checks.{result-is, bind-refused, bind-gives, PassedAs, passed-gives, refused-refuses}
+use Rattle.checker.proofs.Checks.{result-is, bind-refused, bind-gives, bind-known, PassedAs, passed-gives, refused-refuses}
 use Rattle.checker.proofs.Outer.{behind}
+use Rattle.checker.proofs.Within.{fields-limited, list-limited, array-limited, element-limited, within-fit, transform-within}
 use Rattle.checker.proofs.Fitting.{is-struct, is-list, is-array, fit-struct, fit-list, fit-array, rest-start, rest-none, rest-more, added-bounded}
 
 abbrev ToInput : Walk → Walk → Type 0
@@ -54,9 +59,13 @@ ToInput w x = (p : Bytes) (z : State) (s : Selector) → WalkAt p w z → Input 
 abbrev ToChild : Bytes → Walk → ℕ → Walk → Type 0
 ToChild plan w k x = (z : State) (f : Frame) (s : Selector) → WalkAt plan w z → z .path ≡ [] → Part (z .selector) k f s → StepsTo plan (state s (f ∷ z .frames) []) w x
 
-abbrev Answers : Bytes → Edition → ℕ → Bytes → Walk → ℕ → Measured → Type 0
-Answers incoming v n plan x m r = (s : Selector) (Δ : Fields) → CheckingAt incoming v n plan x s Δ → countFields Δ ≡ m → r ≡ measuredOf (isTransform s)
-    (typeOf Δ s)
+abbrev Answers : Bytes → Edition → ℕ → Bytes → Walk → ScopeColumns → Measured → Type 0
+Answers incoming v n plan x m r = (s : Selector) (Δ : Fields) → CheckingAt incoming v n plan x s Δ → ScopeIs m Δ → MeasuredIs r (typeOf Δ s)
+
+-- what the input where x stands gives is within the limits
+abbrev Limits : Bytes → Walk → ScopeColumns → Bool → Type 0
+Limits plan x m within = within ≡ true → (incoming : Bytes) (v : Edition) (n : ℕ) (s : Selector) (Δ : Fields) (a : Column) → CheckingAt incoming v n plan x s Δ
+    → ScopeIs m Δ → typeOf Δ s ≡ gives a → withinLimits (a .type) ≡ true
 
 -- ---- the selector where the walk stands
 
@@ -82,6 +91,11 @@ module _ {incoming : Bytes} {v : Edition} {n : ℕ} {plan : Bytes} {w : Walk} {s
   pub checking-scope : ScopedAt incoming v n plan w Δ
   checking-scope = record { columns = C .columns; place = state s (C .frames) []; standing = C .standing; shallow = C .shallow; scoped = C .scoped }
 
+  -- how many columns positions take from, and whether they are within the limits
+  pub scope-is : {k : ℕ} → ((Δ : Fields) → ScopedAt incoming v n plan w Δ → k ≡ countFields Δ) → {b : Bool}
+      → (b ≡ true → (v : Edition) (n : ℕ) (plan : Bytes) (Δ : Fields) → ScopedAt incoming v n plan w Δ → Limited Δ) → ScopeIs (record { count = k; within = b }) Δ
+  scope-is f g = record { count = sym (f Δ checking-scope); limited = λ b. g b v n plan Δ checking-scope }
+
   stands-for : {t : Selector} → C .standing .here .tree ≡ t → s ≡ t
   stands-for e = sym (C .standing .selector) ∙ e
 
@@ -104,6 +118,25 @@ module _ {incoming : Bytes} {v : Edition} {n : ℕ} {plan : Bytes} {w : Walk} {s
     pub checks-constant : {b : Span} {c : Cursor} → r ≡ SelectorHead.Constant b c → Measured.Passed Size.Unknown ≡ measuredOf false (typeOf Δ s)
     unfolding typeOf
     checks-constant e = ap (measuredOf false) (sym (typed-for (is-constant h e .is)))
+
+  -- ---- what it gives is within the limits
+
+  pub transform-limited : {a : Column} → typeOf Δ s ≡ gives a → {t : Selector} → C .standing .here .tree ≡ t → isTransform t ≡ true → withinLimits (a .type) ≡ true
+  transform-limited g e h = transform-within Δ s (ap isTransform (stands-for e) ∙ h) g
+
+  module _ {r : SelectorHead} (h : HeadIs plan (w .at) (C .standing .here) r) {a : Column} (g : typeOf Δ s ≡ gives a) where
+    pub position-limited : {k : Position} {m : ScopeColumns} → r ≡ SelectorHead.Position k → ScopeIs m Δ → m .within ≡ true → withinLimits (a .type) ≡ true
+    unfolding typeOf
+    position-limited {k} e S b = S .limited b .each (k .0) a (sym (typed-for (is-position h e .1)) ∙ g)
+
+    pub constant-limited : {b : Span} {c : Cursor} → r ≡ SelectorHead.Constant b c → {o : Fit} → ((t : DataType) → TypeIs One plan (c .at) t → o ≡ typeFit t 16 16384)
+        → {q : Bool} → q ≡ withinFit o → q ≡ true → withinLimits (a .type) ≡ true
+    unfolding typeOf
+    constant-limited e f p z =
+        let K = is-constant h e in
+        let t = dtypeOf (K .type .tree) in
+        ap (λ (x : Column). withinLimits (x .type)) (sym (gives-eq (sym (typed-for (K .is)) ∙ g)))
+        ∙ sym (within-fit (dtypeOf (K .type .tree))) ∙ ap withinFit (sym (f (dtypeOf (K .type .tree)) (record { type = K .type; is = refl }))) ∙ sym p ∙ z
 
   -- ---- its input
 
@@ -172,29 +205,40 @@ module _ {incoming : Bytes} {v : Edition} {n : ℕ} {plan : Bytes} {w : Walk} {s
     checking-input : CheckingAt incoming v n plan x i Δ
     checking-input = record { columns = C .columns; frames = C .frames; standing = steps .standing; shallow = T .shallow; scoped = C .scoped }
 
-    pub input-asks : {m : ℕ} → countFields Δ ≡ m → (i : Selector) × (Δ : Fields) × CheckingAt incoming v n plan x i Δ × (countFields Δ ≡ m)
+    pub input-asks : {m : ScopeColumns} → ScopeIs m Δ → (i : Selector) × (Δ : Fields) × CheckingAt incoming v n plan x i Δ × ScopeIs m Δ
     input-asks c = (i, Δ, checking-input, c)
+
+    pub input-stands : SelectorAt plan (x .at)
+    input-stands = checking-input .standing .here
 
     pub input-falls : rank x < rank w
     input-falls = steps .falls
 
-    module _ {m : ℕ} (c : countFields Δ ≡ m) {r : Measured} (h : Answers incoming v n plan x m r) where
-      answer : r ≡ measuredOf (isTransform i) (typeOf Δ i)
+    module _ {m : ScopeColumns} (c : ScopeIs m Δ) {r : Measured} (h : Answers incoming v n plan x m r) where
+      answer : MeasuredIs r (typeOf Δ i)
       answer = h i Δ checking-input c
 
-      pub input-refused : {k : ℕ} → r ≡ Measured.Refused k → Measured.Refused k ≡ measuredOf true (typeOf Δ s)
-      input-refused e = bind-refused (typeOf Δ i) f (refused-refuses (isTransform i) (typeOf Δ i) (sym answer ∙ e)) ∙ ap (measuredOf true) (sym (T .typed))
+      pub input-refused : {k : ℕ} → r ≡ Measured.Refused k → MeasuredIs (Measured.Refused k) (typeOf Δ s)
+      input-refused e =
+          let A = answer in
+          record {
+            known = true;
+            is = bind-refused (typeOf Δ i) f (refused-refuses (A .known) (typeOf Δ i) (sym (A .is) ∙ e)) ∙ ap (measuredOf true) (sym (T .typed));
+          }
 
-      pub input-passed : {z : Size} → r ≡ Measured.Passed z → PassedInput incoming v n plan w x z s Δ
-      input-passed e =
-          let P = passed-gives (isTransform i) (typeOf Δ i) (sym answer ∙ e) in
+      pub input-passed : {z : Size} {within : Bool} → r ≡ Measured.Passed z → Limits plan x m within → PassedInput incoming v n plan w x z within s Δ
+      input-passed e l =
+          let A = answer in
+          let P = passed-gives (A .known) (typeOf Δ i) (sym (A .is) ∙ e) in
           record {
             checking = C;
             input = i;
             takes = T .takes;
             column = P .column;
             passes = P .is;
+            known = A .known;
             sized = P .sized;
+            limited = λ b. l b incoming v n i Δ (P .column) checking-input c (P .is);
             named = checking-named checking-input
                 (P .is);
           }
@@ -215,8 +259,8 @@ takes-input i-struct = refl
 takes-input i-list = refl
 takes-input i-array = refl
 
-module _ {incoming : Bytes} {v : Edition} {n : ℕ} {plan : Bytes} {w x : Walk} {z : Size} {s : Selector} {Δ : Fields}
-    (R : PassedInput incoming v n plan w x z s Δ) where
+module _ {incoming : Bytes} {v : Edition} {n : ℕ} {plan : Bytes} {w x : Walk} {z : Size} {within : Bool} {s : Selector} {Δ : Fields}
+    (R : PassedInput incoming v n plan w x z within s Δ) where
   abbrev C : CheckingAt incoming v n plan w s Δ
   C = R .checking
 
@@ -230,6 +274,12 @@ module _ {incoming : Bytes} {v : Edition} {n : ℕ} {plan : Bytes} {w x : Walk} 
 
     pub input-given : {q : Measured} → q ≡ measuredOf true (f (R .column)) → q ≡ measuredOf true (typeOf Δ s)
     input-given p = bind-gives (typeOf Δ i) f passes p ∙ ap (measuredOf true) (sym (T .typed))
+
+    pub input-measured : {q : Measured} → MeasuredIs q (f (R .column)) → MeasuredIs q (typeOf Δ s)
+    input-measured {q} M = record {
+      known = M .known;
+      is = bind-known (M .known) (typeOf Δ i) f passes (M .is) ∙ ap (measuredOf (M .known)) (sym (T .typed));
+    }
 
     -- the mapping t, once the kind of its input is known
     pub input-mapping : {t : Selector} {u : DataType} → C .standing .here .tree ≡ t → R .column .type ≡ u → MappingAt incoming v n plan w t i u
@@ -275,7 +325,7 @@ module _ (a : Column) where
       go (list t) h = refl
       go (array w t) h = absurd (h refl)
 
-  pub a-rename : (n : Bytes) {r : Measured} → r ≡ measuredOf true (resulting n (a .type)) → r ≡ measuredOf true (checkRename n a)
+  pub a-rename : (n : Bytes) {r : Measured} → MeasuredIs r (resulting n (a .type)) → MeasuredIs r (checkRename n a)
   unfolding checkRename
   a-rename n e = e
 
@@ -307,37 +357,37 @@ module _ {incoming plan : Bytes} (a : Column) {h k : TypeHead} (H : TypeHeadIs i
 
 -- ---- what is left once the input has passed
 
-module _ {incoming : Bytes} {v : Edition} {n : ℕ} {plan : Bytes} {w : Walk} {s : Selector} {Δ : Fields} where
-  rest-as : {r q : Rest} → r ≡ q → restAnswer incoming v n plan w s Δ q → RestIs incoming v n plan w s Δ r
-  rest-as e a = subst (λ (x : Rest). RestIs incoming v n plan w s Δ x) (sym e) (record { answer = a })
+module _ {incoming : Bytes} {v : Edition} {n : ℕ} {plan : Bytes} {w : Walk} {within : Bool} {s : Selector} {Δ : Fields} where
+  rest-as : {r q : Rest} → r ≡ q → restAnswer incoming v n plan w within s Δ q → RestIs incoming v n plan w within s Δ r
+  rest-as e a = subst (λ (x : Rest). RestIs incoming v n plan w within s Δ x) (sym e) (record { answer = a })
 
-  pub rest-of : {r q : Rest} → RestIs incoming v n plan w s Δ r → r ≡ q → restAnswer incoming v n plan w s Δ q
-  rest-of R e = subst (λ (x : Rest). restAnswer incoming v n plan w s Δ x) e (R .answer)
+  pub rest-of : {r q : Rest} → RestIs incoming v n plan w within s Δ r → r ≡ q → restAnswer incoming v n plan w within s Δ q
+  rest-of R e = subst (λ (x : Rest). restAnswer incoming v n plan w within s Δ x) e (R .answer)
 
-  pub none-left : {r : Rest} {q : Measured} → r ≡ nothingLeft q → q ≡ measuredOf true (typeOf Δ s) → RestIs incoming v n plan w s Δ r
+  pub none-left : {r : Rest} {q : Measured} → r ≡ nothingLeft q → MeasuredIs q (typeOf Δ s) → RestIs incoming v n plan w within s Δ r
   none-left {r} {q} e f = go q e f
     where
-      go : (q : Measured) → r ≡ nothingLeft q → q ≡ measuredOf true (typeOf Δ s) → RestIs incoming v n plan w s Δ r
+      go : (q : Measured) → r ≡ nothingLeft q → MeasuredIs q (typeOf Δ s) → RestIs incoming v n plan w within s Δ r
       go (Measured.Passed z) e f = rest-as e f
       go (Measured.Refused k) e f = rest-as e f
 
-module _ {incoming : Bytes} {v : Edition} {n : ℕ} {plan : Bytes} {w x : Walk} {z : Size} {s : Selector} {Δ : Fields}
-    (R : PassedInput incoming v n plan w x z s Δ) where
+module _ {incoming : Bytes} {v : Edition} {n : ℕ} {plan : Bytes} {w x : Walk} {z : Size} {within : Bool} {s : Selector} {Δ : Fields}
+    (R : PassedInput incoming v n plan w x z within s Δ) where
   abbrev D : CheckingAt incoming v n plan w s Δ
   D = R .checking
 
   pub some-fields : {m : ℕ} (K : StructAt plan (w .at) (D .standing .here) m) {h : TypeHead} {r : Rest} {count : ℕ} → TypeHeadIs incoming plan (R .column .type) h
-      → countSelectors (K .fields .selectors .trees) ≡ count → r ≡ fieldsLeft h count → RestIs incoming v n plan w s Δ r
+      → countSelectors (K .fields .selectors .trees) ≡ count → r ≡ fieldsLeft h count → RestIs incoming v n plan w within s Δ r
   some-fields K {h} {r} {count} H c e = go h H e
     where
       T : Transforms D (K .input .tree) (checkStruct (λ fs. typesOf fs (K .fields .selectors .trees)))
       T = by-struct D K
 
       refused : {k : TypeHead} → TypeHeadIs incoming plan (R .column .type) k → (codeOf (headKind incoming plan k) .code ≡ 18 → ⊥)
-          → Measured.Refused 32 ≡ measuredOf true (typeOf Δ s)
-      refused H z = input-given R T (head-no-struct (R .column) H refl _ z)
+          → MeasuredIs (Measured.Refused 32) (typeOf Δ s)
+      refused H z = record { known = true; is = input-given R T (head-no-struct (R .column) H refl _ z) }
 
-      go : (h : TypeHead) → TypeHeadIs incoming plan (R .column .type) h → r ≡ fieldsLeft h count → RestIs incoming v n plan w s Δ r
+      go : (h : TypeHead) → TypeHeadIs incoming plan (R .column .type) h → r ≡ fieldsLeft h count → RestIs incoming v n plan w within s Δ r
       go (TypeHead.Leaf p l) H e = rest-as e (refused H (λ z. omega arith))
       go (TypeHead.Struct k) H e =
           let (fs, (q, j)) = is-struct H refl in
@@ -348,23 +398,23 @@ module _ {incoming : Bytes} {v : Edition} {n : ℕ} {plan : Bytes} {w x : Walk} 
             name = R .column .name;
             mapping = input-mapping R T (K .is) q;
             counted = c;
-            columns = j;
+            columns = record { count = j; limited = λ b. fields-limited fs (ap withinLimits (sym q) ∙ R .limited b) };
             left = sym (input-given R T (a-struct (R .column) (K .fields .selectors .trees) q refl));
           })
       go TypeHead.List H e = rest-as e (refused H (λ z. omega arith))
       go (TypeHead.Array k) H e = rest-as e (refused H (λ z. omega arith))
 
-  pub some-list : {m : ℕ} (K : ListAt plan (w .at) (D .standing .here) m) {h : TypeHead} {r : Rest} → TypeHeadIs incoming plan (R .column .type) h → r ≡ listedLeft h → RestIs incoming v n plan w s Δ r
+  pub some-list : {m : ℕ} (K : ListAt plan (w .at) (D .standing .here) m) {h : TypeHead} {r : Rest} → TypeHeadIs incoming plan (R .column .type) h → r ≡ listedLeft h → RestIs incoming v n plan w within s Δ r
   some-list K {h} {r} H e = go h H e
     where
       T : Transforms D (K .input .tree) (checkList (λ fs. typeOf fs (K .element .tree)))
       T = by-list D K
 
       refused : {k : TypeHead} → TypeHeadIs incoming plan (R .column .type) k → (codeOf (headKind incoming plan k) .code ≡ 19 → ⊥)
-          → Measured.Refused 32 ≡ measuredOf true (typeOf Δ s)
-      refused H z = input-given R T (head-no-list (R .column) H refl _ z)
+          → MeasuredIs (Measured.Refused 32) (typeOf Δ s)
+      refused H z = record { known = true; is = input-given R T (head-no-list (R .column) H refl _ z) }
 
-      go : (h : TypeHead) → TypeHeadIs incoming plan (R .column .type) h → r ≡ listedLeft h → RestIs incoming v n plan w s Δ r
+      go : (h : TypeHead) → TypeHeadIs incoming plan (R .column .type) h → r ≡ listedLeft h → RestIs incoming v n plan w within s Δ r
       go (TypeHead.Leaf p l) H e = rest-as e (refused H (λ z. omega arith))
       go (TypeHead.Struct k) H e = rest-as e (refused H (λ z. omega arith))
       go TypeHead.List H e =
@@ -375,21 +425,22 @@ module _ {incoming : Bytes} {v : Edition} {n : ℕ} {plan : Bytes} {w x : Walk} 
             makes = λ t. list t;
             name = R .column .name;
             elements = of-list (input-mapping R T (K .is) q);
+            limited = λ b. list-limited u (ap withinLimits (sym q) ∙ R .limited b);
             left = sym (input-given R T (a-list (R .column) (K .element .tree) q refl));
           })
       go (TypeHead.Array k) H e = rest-as e (refused H (λ z. omega arith))
 
-  pub some-array : {m : ℕ} (K : ArrayAt plan (w .at) (D .standing .here) m) {h : TypeHead} {r : Rest} → TypeHeadIs incoming plan (R .column .type) h → r ≡ arrayedLeft h → RestIs incoming v n plan w s Δ r
+  pub some-array : {m : ℕ} (K : ArrayAt plan (w .at) (D .standing .here) m) {h : TypeHead} {r : Rest} → TypeHeadIs incoming plan (R .column .type) h → r ≡ arrayedLeft h → RestIs incoming v n plan w within s Δ r
   some-array K {h} {r} H e = go h H e
     where
       T : Transforms D (K .input .tree) (checkArray (λ fs. typeOf fs (K .element .tree)))
       T = by-array D K
 
       refused : {k : TypeHead} → TypeHeadIs incoming plan (R .column .type) k → (codeOf (headKind incoming plan k) .code ≡ 20 → ⊥)
-          → Measured.Refused 32 ≡ measuredOf true (typeOf Δ s)
-      refused H z = input-given R T (head-no-array (R .column) H refl _ z)
+          → MeasuredIs (Measured.Refused 32) (typeOf Δ s)
+      refused H z = record { known = true; is = input-given R T (head-no-array (R .column) H refl _ z) }
 
-      go : (h : TypeHead) → TypeHeadIs incoming plan (R .column .type) h → r ≡ arrayedLeft h → RestIs incoming v n plan w s Δ r
+      go : (h : TypeHead) → TypeHeadIs incoming plan (R .column .type) h → r ≡ arrayedLeft h → RestIs incoming v n plan w within s Δ r
       go (TypeHead.Leaf p l) H e = rest-as e (refused H (λ z. omega arith))
       go (TypeHead.Struct k) H e = rest-as e (refused H (λ z. omega arith))
       go TypeHead.List H e = rest-as e (refused H (λ z. omega arith))
@@ -401,6 +452,7 @@ module _ {incoming : Bytes} {v : Edition} {n : ℕ} {plan : Bytes} {w x : Walk} 
             makes = λ t. array k t;
             name = R .column .name;
             elements = of-array (input-mapping R T (K .is) q);
+            limited = λ b. array-limited k u (ap withinLimits (sym q) ∙ R .limited b);
             left = sym (input-given R T (an-array (R .column) (K .element .tree) q refl));
           })
 
@@ -420,9 +472,9 @@ nests-array i e = omega arith
 
 -- ---- list and array mappings
 
-pub one-element : (t : DataType) → countFields (elementOf t) ≡ 1
+pub one-element : (t : DataType) {within : Bool} → (within ≡ true → withinLimits t ≡ true) → ScopeIs (record { count = 1; within = within }) (elementOf t)
 unfolding countFields
-one-element t = refl
+one-element t l = record { count = refl; limited = λ b. element-limited t (l b) }
 
 pub record ElementStep (incoming : Bytes) (v : Edition) (n : ℕ) (plan : Bytes) (w : Walk) (t : DataType) (e : Selector) (x : Walk) : Type 0 where
   pub checking : CheckingAt incoming v n plan x e (elementOf t)
@@ -456,19 +508,19 @@ module _ {incoming : Bytes} {v : Edition} {n : ℕ} {plan : Bytes} {w : Walk} wh
   element-fit (of-array {x = x} M) u = fit-array x u 16 16384
 
   module _ {t : DataType} {e : Selector} {f : DataType → DataType} {head : ℕ} (E : Elements incoming v n plan w t e f head) {x : Walk}
-      (g : ToChild plan w 0 x) {r : Measured}
-      (h : Answers incoming v n plan x 1 r) where
-    element-answer : r ≡ measuredOf (isTransform e) (typeOf (elementOf t) e)
-    element-answer = h e (elementOf t) (element-step E g .checking) (one-element t)
+      (g : ToChild plan w 0 x) {m : ScopeColumns} (d : ScopeIs m (elementOf t)) {r : Measured}
+      (h : Answers incoming v n plan x m r) where
+    pub element-answer : MeasuredIs r (typeOf (elementOf t) e)
+    element-answer = h e (elementOf t) (element-step E g .checking) d
 
     pub element-refused : {k : ℕ} (name : Bytes) → r ≡ Measured.Refused k → Measured.Refused k ≡ measuredOf true (elementResult t e f name)
     element-refused name p =
-        bind-refused (typeOf (elementOf t) e) (λ d. resulting name (f (d .type))) (refused-refuses (isTransform e) (typeOf (elementOf t) e)
-        (sym element-answer ∙ p))
+        bind-refused (typeOf (elementOf t) e) (λ d. resulting name (f (d .type))) (refused-refuses (element-answer .known) (typeOf (elementOf t) e)
+        (sym (element-answer .is) ∙ p))
 
     module _ {z : Size} (p : r ≡ Measured.Passed z) where
-      pub element-passed : PassedAs (isTransform e) (typeOf (elementOf t) e) z
-      element-passed = passed-gives (isTransform e) (typeOf (elementOf t) e) (sym element-answer ∙ p)
+      pub element-passed : PassedAs (element-answer .known) (typeOf (elementOf t) e) z
+      element-passed = passed-gives (element-answer .known) (typeOf (elementOf t) e) (sym (element-answer .is) ∙ p)
 
       pub element-typed : TypedAt incoming v n plan x (element-passed .column .type)
       element-typed = named-typed (checking-named (element-step E g .checking) (element-passed .is))
@@ -480,7 +532,7 @@ module _ {incoming : Bytes} {v : Edition} {n : ℕ} {plan : Bytes} {w : Walk} wh
           let P = element-passed in
           let u = P .column .type in
           bind-gives (typeOf (elementOf t) e) (λ d. resulting name (f (d .type))) (P .is)
-          (y ∙ ap fittingOf (l (isTransform e) (element-passed .column .type) element-typed (P .sized) ∙ element-fit E (element-passed .column .type))
+          (y ∙ ap fittingOf (l (element-answer .known) (element-passed .column .type) element-typed (P .sized) ∙ element-fit E (element-passed .column .type))
           ∙ result-is name (f (element-passed .column .type)))
 
 -- ---- struct mappings
@@ -536,26 +588,26 @@ rest-passed f fs s ss {a} e = rw e (go (typesOf fs ss))
     go (gives gs) = ap (λ (y : Fit). fittingOf (aroundOf 3 y)) (rest-more 15 16381 a f gs)
     go (refuses n) = refl
 
-pub record Passing (incoming : Bytes) (v : Edition) (n : ℕ) (plan : Bytes) (w : Walk) (count m at : ℕ) (fit : Fit) (k : ℕ) : Type 0 where
+pub record Passing (incoming : Bytes) (v : Edition) (n : ℕ) (plan : Bytes) (w : Walk) (count : ℕ) (m : ScopeColumns) (at : ℕ) (fit : Fit) (k : ℕ) : Type 0 where
   pub input : Selector
   pub parts : Selectors
   pub scope : Fields
   pub start : MappingAt incoming v n plan w (structMapping input parts) input (struct scope)
   pub counted : countSelectors parts ≡ count
-  pub columns : countFields scope ≡ m
+  pub columns : ScopeIs m scope
   pub within : k ≤ count
   pub passed : PassedTo plan (w .at) k at
   pub small : Bounded 15 16381 fit
   pub keeps : (i : Selector) (ss : Selectors) (fs : Fields) (name : Bytes) → MappingAt incoming v n plan w (structMapping i ss) i (struct fs)
-      → countSelectors ss ≡ count → countFields fs ≡ m
+      → countSelectors ss ≡ count → ScopeIs m fs
       → measuredOf true (fieldsResult fs ss name) ≡ restResult fit (typesOf fs (dropSelectors k ss))
 
 none-bounded : Bounded 15 16381 (Fit.Within 0 0)
 none-bounded s d e = let a : 0 ≡ s = cc in let b : 0 ≡ d = cc in (omega arith, omega arith)
 
-module _ {incoming : Bytes} {v : Edition} {n : ℕ} {plan : Bytes} {w : Walk} {count m : ℕ} where
+module _ {incoming : Bytes} {v : Edition} {n : ℕ} {plan : Bytes} {w : Walk} {count : ℕ} {m : ScopeColumns} where
   pub passing-start : {i : Selector} {ss : Selectors} {fs : Fields} → MappingAt incoming v n plan w (structMapping i ss) i (struct fs)
-      → countSelectors ss ≡ count → countFields fs ≡ m
+      → countSelectors ss ≡ count → ScopeIs m fs
       → {at : ℕ} → PassedTo plan (w .at) 0 at → Passing incoming v n plan w count m at (Fit.Within 0 0) 0
   unfolding dropSelectors
   passing-start {i} {ss} {fs} M c f B = record {
@@ -596,7 +648,7 @@ module _ {incoming : Bytes} {v : Edition} {n : ℕ} {plan : Bytes} {w : Walk} {c
             falls = S .falls;
           }
 
-      pub passing-asks : (s : Selector) × (Δ : Fields) × CheckingAt incoming v n plan x s Δ × (countFields Δ ≡ m)
+      pub passing-asks : (s : Selector) × (Δ : Fields) × CheckingAt incoming v n plan x s Δ × ScopeIs m Δ
       passing-asks = let N = child (O .start) (O .counted) in (N .part, O .scope, N .checking, O .columns)
 
       pub passing-falls : rank x < rank w
@@ -604,28 +656,32 @@ module _ {incoming : Bytes} {v : Edition} {n : ℕ} {plan : Bytes} {w : Walk} {c
 
       module _ {r : Measured} (f : Answers incoming v n plan x m r) where
         rest-is : {i : Selector} {ss : Selectors} {fs : Fields} (M : MappingAt incoming v n plan w (structMapping i ss) i (struct fs))
-            (c : countSelectors ss ≡ count) → countFields fs ≡ m → (name : Bytes)
+            (c : countSelectors ss ≡ count) → ScopeIs m fs → (name : Bytes)
             → measuredOf true (fieldsResult fs ss name) ≡ restResult fit (typesOf fs (scons (child M c .part) (dropSelectors (suc k) ss)))
         rest-is {i} {ss} {fs} M c d name =
             O .keeps i ss fs name M c d ∙ ap (λ (rs : Selectors). restResult fit (typesOf fs rs)) (drop-nth (child M c .nth))
 
         pub passing-refused : {q : ℕ} → r ≡ Measured.Refused q → (i : Selector) (ss : Selectors) (fs : Fields) (name : Bytes)
-            → MappingAt incoming v n plan w (structMapping i ss) i (struct fs) → countSelectors ss ≡ count → countFields fs ≡ m
+            → MappingAt incoming v n plan w (structMapping i ss) i (struct fs) → countSelectors ss ≡ count → ScopeIs m fs
             → Measured.Refused q ≡ measuredOf true (fieldsResult fs ss name)
         passing-refused e i ss fs name M c d =
             let N = child M c in
+            let A = f (N .part) fs (N .checking) d in
             sym (rest-is M c d name ∙ rest-refused fit fs (N .part) (dropSelectors (suc k) ss)
-            (refused-refuses (isTransform (N .part)) (typeOf fs (N .part)) (sym (f (N .part) fs (N .checking) d) ∙ e)))
+            (refused-refuses (A .known) (typeOf fs (N .part)) (sym (A .is) ∙ e)))
 
         module _ {z : Size} (e : r ≡ Measured.Passed z) where
+          abbrev known : {i : Selector} {ss : Selectors} {fs : Fields} (M : MappingAt incoming v n plan w (structMapping i ss) i (struct fs))
+              (c : countSelectors ss ≡ count) → ScopeIs m fs → Bool
+          known {fs = fs} M c d = f (child M c .part) fs (child M c .checking) d .known
+
           given : {i : Selector} {ss : Selectors} {fs : Fields} (M : MappingAt incoming v n plan w (structMapping i ss) i (struct fs))
-              (c : countSelectors ss ≡ count) → countFields fs ≡ m → PassedAs (isTransform (child M c .part)) (typeOf fs (child M c .part)) z
-          given {fs = fs} M c d = let N = child M c in passed-gives (isTransform (N .part)) (typeOf fs (N .part)) (sym (f (N .part) fs (N .checking) d) ∙ e)
+              (c : countSelectors ss ≡ count) (d : ScopeIs m fs) → PassedAs (known M c d) (typeOf fs (child M c .part)) z
+          given {fs = fs} M c d = passed-gives (known M c d) (typeOf fs (child M c .part)) (sym (f (child M c .part) fs (child M c .checking) d .is) ∙ e)
 
           pub passing-named : (b : Bool) × (a : Column) × NamedAt incoming v n plan x a × (z ≡ sizeOf b (a .type))
           passing-named = let G = given (O .start) (O .counted) (O .columns) in (
-            isTransform (child (O .start)
-                (O .counted) .part),
+            known (O .start) (O .counted) (O .columns),
             G .column,
             checking-named (child (O .start) (O .counted) .checking) (G .is),
             G .sized,
@@ -654,12 +710,12 @@ module _ {incoming : Bytes} {v : Edition} {n : ℕ} {plan : Bytes} {w : Walk} {c
           }
             where
               added : {i : Selector} {ss : Selectors} {fs : Fields} (M : MappingAt incoming v n plan w (structMapping i ss) i (struct fs))
-                  (c : countSelectors ss ≡ count) (d : countFields fs ≡ m) → more ≡ addedOf 15 16381 fit (given M c d .column)
-              added M c d = let G = given M c d in A (isTransform (child M c .part)) (G .column) (checking-named (child M c .checking) (G .is)) (G .sized)
+                  (c : countSelectors ss ≡ count) (d : ScopeIs m fs) → more ≡ addedOf 15 16381 fit (given M c d .column)
+              added M c d = let G = given M c d in A (known M c d) (G .column) (checking-named (child M c .checking) (G .is)) (G .sized)
 
     pub passing-end : count ≤ k → {o : Fit} {r : Measured} → o ≡ aroundOf 3 fit → r ≡ fittingOf o
         → (i : Selector) (ss : Selectors) (fs : Fields) (name : Bytes) → MappingAt incoming v n plan w (structMapping i ss) i (struct fs)
-        → countSelectors ss ≡ count → countFields fs ≡ m → r ≡ measuredOf true (fieldsResult fs ss name)
+        → countSelectors ss ≡ count → ScopeIs m fs → r ≡ measuredOf true (fieldsResult fs ss name)
     unfolding typesOf
     passing-end h p q i ss fs name M c d =
         q ∙ ap fittingOf (p ∙ ap (aroundOf 3) (sym (rest-none 15 16381 fit)))

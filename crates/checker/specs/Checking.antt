@@ -4,13 +4,13 @@ use mathlib.Core.Path.{_≡_}
 use mathlib.Core.Bool.{Bool, true, false}
 use mathlib.Core.List.{List, []}
 use Rattle.layout.specs.Bytes.{Bytes}
-use Rattle.layout.specs.Tree.{DataType, struct, list, array, Fields, fieldsOf, countFields}
+use Rattle.layout.specs.Tree.{DataType, struct, list, array, Fields, fieldsOf}
 use Rattle.layout.specs.Layout.{deepest}
 use Rattle.layout.specs.Stands.{ColumnsAt}
 use Rattle.layout.specs.declared.edition.Edition.{Edition}
 use Rattle.plan.specs.Result.{Result, gives, refuses, _>>=_}
 use Rattle.plan.specs.Selector.{Selector, position, constant, cast, rename, structMapping, listMapping, arrayMapping, Selectors, countSelectors}
-use Rattle.plan.specs.Check.{Column, elementOf, typeOf, typesOf, resulting}
+use Rattle.plan.specs.Check.{Column, elementOf, withinLimits, typeOf, typesOf, resulting}
 use Rattle.walk.specs.State.{Frame, state}
 use Rattle.walk.specs.Moves.{Input}
 use Rattle.walk.specs.Types.{ScopeOf}
@@ -18,7 +18,7 @@ use Rattle.walk.specs.Standing.{WalkAt}
 use Rattle.walk.specs.declared.walk.Walk.{Walk}
 use Rattle.checker.specs.Shallow.{Shallow}
 use Rattle.checker.specs.Standing.{NamedAt}
-use Rattle.checker.specs.Limits.{sizeOf}
+use Rattle.checker.specs.Limits.{sizeOf, ScopeIs}
 use Rattle.checker.specs.declared.limits.Fit.{Fit}
 use Rattle.checker.specs.declared.limits.Size.{Size}
 use Rattle.checker.specs.declared.place.TypeHead.{TypeHead}
@@ -35,10 +35,15 @@ abbrev pub droppedOf : Measured → Checked
 droppedOf (Measured.Passed z) = Checked.Passed
 droppedOf (Measured.Refused n) = Checked.Refused n
 
--- with what is known of the type, of a transform or not
+-- with the size of the type, or without
 abbrev pub measuredOf : Bool → Result Column → Measured
 measuredOf b (gives a) = Measured.Passed (sizeOf b (a .type))
 measuredOf b (refuses n) = Measured.Refused n
+
+-- the size may be known or not
+pub record MeasuredIs (r : Measured) (x : Result Column) : Type 0 where
+  pub known : Bool
+  pub is : r ≡ measuredOf known x
 
 -- 32 past the limits
 abbrev pub fittingOf : Fit → Measured
@@ -63,14 +68,16 @@ isTransform (structMapping i ss) = true
 isTransform (listMapping i e) = true
 isTransform (arrayMapping i e) = true
 
--- at the transform s, whose input, at which x stands, has passed and gives a column of a type of which z is known
-pub record PassedInput (incoming : Bytes) (v : Edition) (n : ℕ) (plan : Bytes) (w x : Walk) (z : Size) (s : Selector) (Δ : Fields) : Type 0 where
+-- at the transform s, whose input, at which x stands, has passed and gives a column of a type of which z is known, and whether it is within the limits
+pub record PassedInput (incoming : Bytes) (v : Edition) (n : ℕ) (plan : Bytes) (w x : Walk) (z : Size) (within : Bool) (s : Selector) (Δ : Fields) : Type 0 where
   pub checking : CheckingAt incoming v n plan w s Δ
   pub input : Selector
   pub takes : Input s input
   pub column : Column
   pub passes : typeOf Δ input ≡ gives column
-  pub sized : z ≡ sizeOf (isTransform input) (column .type)
+  pub known : Bool
+  pub sized : z ≡ sizeOf known (column .type)
+  pub limited : within ≡ true → withinLimits (column .type) ≡ true
   pub named : NamedAt incoming v n plan x column
 
 -- at the mapping s, whose input i has passed and gives the type t
@@ -121,31 +128,32 @@ arrayedLeft (TypeHead.Struct n) = Rest.Refused 32
 arrayedLeft TypeHead.List = Rest.Refused 32
 arrayedLeft (TypeHead.Array w) = Rest.Element 5
 
--- the check of s is that of a struct mapping's count selectors, over m columns, and then of its result
-pub record FieldsLeft (incoming : Bytes) (v : Edition) (n : ℕ) (plan : Bytes) (w : Walk) (s : Selector) (Δ : Fields) (count m : ℕ) : Type 0 where
+-- the check of s is that of a struct mapping's count selectors, over m columns, within the limits or not, and then of its result
+pub record FieldsLeft (incoming : Bytes) (v : Edition) (n : ℕ) (plan : Bytes) (w : Walk) (within : Bool) (s : Selector) (Δ : Fields) (count m : ℕ) : Type 0 where
   pub input : Selector
   pub parts : Selectors
   pub scope : Fields
   pub name : Bytes
   pub mapping : MappingAt incoming v n plan w (structMapping input parts) input (struct scope)
   pub counted : countSelectors parts ≡ count
-  pub columns : countFields scope ≡ m
+  pub columns : ScopeIs (record { count = m; within = within }) scope
   pub left : measuredOf true (typeOf Δ s) ≡ measuredOf true (fieldsResult scope parts name)
 
 -- of the selector of a list or array mapping
-pub record ElementLeft (incoming : Bytes) (v : Edition) (n : ℕ) (plan : Bytes) (w : Walk) (s : Selector) (Δ : Fields) (head : ℕ) : Type 0 where
+pub record ElementLeft (incoming : Bytes) (v : Edition) (n : ℕ) (plan : Bytes) (w : Walk) (within : Bool) (s : Selector) (Δ : Fields) (head : ℕ) : Type 0 where
   pub element : DataType
   pub selector : Selector
   pub makes : DataType → DataType
   pub name : Bytes
   pub elements : Elements incoming v n plan w element selector makes head
+  pub limited : within ≡ true → withinLimits element ≡ true
   pub left : measuredOf true (typeOf Δ s) ≡ measuredOf true (elementResult element selector makes name)
 
-abbrev pub restAnswer : Bytes → Edition → ℕ → Bytes → Walk → Selector → Fields → Rest → Type 0
-restAnswer incoming v n plan w s Δ (Rest.Passed z) = Measured.Passed z ≡ measuredOf true (typeOf Δ s)
-restAnswer incoming v n plan w s Δ (Rest.Refused k) = Measured.Refused k ≡ measuredOf true (typeOf Δ s)
-restAnswer incoming v n plan w s Δ (Rest.Fields count m) = FieldsLeft incoming v n plan w s Δ count m
-restAnswer incoming v n plan w s Δ (Rest.Element head) = ElementLeft incoming v n plan w s Δ head
+abbrev pub restAnswer : Bytes → Edition → ℕ → Bytes → Walk → Bool → Selector → Fields → Rest → Type 0
+restAnswer incoming v n plan w within s Δ (Rest.Passed z) = MeasuredIs (Measured.Passed z) (typeOf Δ s)
+restAnswer incoming v n plan w within s Δ (Rest.Refused k) = MeasuredIs (Measured.Refused k) (typeOf Δ s)
+restAnswer incoming v n plan w within s Δ (Rest.Fields count m) = FieldsLeft incoming v n plan w within s Δ count m
+restAnswer incoming v n plan w within s Δ (Rest.Element head) = ElementLeft incoming v n plan w within s Δ head
 
-pub record RestIs (incoming : Bytes) (v : Edition) (n : ℕ) (plan : Bytes) (w : Walk) (s : Selector) (Δ : Fields) (r : Rest) : Type 0 where
-  pub answer : restAnswer incoming v n plan w s Δ r
+pub record RestIs (incoming : Bytes) (v : Edition) (n : ℕ) (plan : Bytes) (w : Walk) (within : Bool) (s : Selector) (Δ : Fields) (r : Rest) : Type 0 where
+  pub answer : restAnswer incoming v n plan w within s Δ r

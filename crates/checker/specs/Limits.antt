@@ -5,12 +5,14 @@ use mathlib.Core.Bool.{Bool, true, false, _&&_}
 use lib.Dec.{leb}
 use lib.ListN.{length}
 use Rattle.layout.specs.Parser.{choose}
-use Rattle.layout.specs.Tree.{DataType, Fields}
+use Rattle.layout.specs.Tree.{DataType, Fields, countFields}
 use Rattle.forms.specs.Form.{form, formFields}
 use Rattle.forms.specs.Readable.{depthOf, depthOfFields}
-use Rattle.plan.specs.Check.{Column}
+use Rattle.plan.specs.Result.{gives}
+use Rattle.plan.specs.Check.{Column, columnAt, withinLimits}
 use Rattle.checker.specs.declared.limits.Fit.{Fit}
 use Rattle.checker.specs.declared.limits.Size.{Size}
+use Rattle.checker.specs.declared.selector.ScopeColumns.{ScopeColumns}
 
 -- a depth and a number of bytes, if they are within so many levels and bytes
 unfoldable pub fitOf : ℕ → ℕ → ℕ → ℕ → Fit
@@ -54,3 +56,16 @@ Bounded levels room f = (size deep : ℕ) → f ≡ Fit.Within size deep → (de
 abbrev pub sizeOf : Bool → DataType → Size
 sizeOf true t = Size.Is (length (form t)) (depthOf t)
 sizeOf false t = Size.Unknown
+
+abbrev pub withinFit : Fit → Bool
+withinFit (Fit.Within size deep) = true
+withinFit Fit.Over = false
+
+-- the types of all columns are within the limits
+pub record Limited (Δ : Fields) : Type 0 where
+  pub each : (k : ℕ) (a : Column) → columnAt Δ k ≡ gives a → withinLimits (a .type) ≡ true
+
+-- what is known of the columns that positions take from
+pub record ScopeIs (scope : ScopeColumns) (Δ : Fields) : Type 0 where
+  pub count : countFields Δ ≡ scope .count
+  pub limited : scope .within ≡ true → Limited Δ

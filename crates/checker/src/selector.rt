@@ -8,12 +8,13 @@ ghost use Rattle.layout.specs.Tree.{Fields, struct, countFields, DataType, dtyp
 ghost use Rattle.layout.specs.Stands.{TypeAt};
 ghost use Rattle.layout.specs.declared.edition.Edition.{Edition as EditionOf};
 ghost use Rattle.plan.specs.Selector.{Selector, Selectors, countSelectors, structMapping};
-ghost use Rattle.plan.specs.Check.{Column, columnAt, typeOf, resulting, checkCast};
+ghost use Rattle.plan.specs.Result.{gives};
+ghost use Rattle.plan.specs.Check.{Column, columnAt, typeOf, withinLimits, resulting, checkCast};
 ghost use Rattle.walk.specs.Stands.{SelectorAt};
 ghost use Rattle.walk.specs.Parts.{OptionAt};
 ghost use Rattle.checker.specs.Standing.{TypeHeadIs, ScopedAt, TypedAt, NamedAt};
-ghost use Rattle.checker.specs.Limits.{sizeOf};
-ghost use Rattle.checker.specs.Checking.{checkedOf, droppedOf, measuredOf, fittingOf, isTransform, CheckingAt, PassedInput, nothingLeft, fieldsLeft, listedLeft, arrayedLeft, RestIs, MappingAt, Elements, fieldsResult, elementResult};
+ghost use Rattle.checker.specs.Limits.{sizeOf, withinFit, Limited, ScopeIs};
+ghost use Rattle.checker.specs.Checking.{checkedOf, droppedOf, measuredOf, MeasuredIs, fittingOf, isTransform, CheckingAt, PassedInput, nothingLeft, fieldsLeft, listedLeft, arrayedLeft, RestIs, MappingAt, Elements, fieldsResult, elementResult};
 use crate::cast::cast_fits;
 use crate::head::type_head;
 use crate::limits::Fit;
@@ -50,6 +51,12 @@ pub enum Measured {
     Refused(u8),
 }
 
+// The columns that positions take from: how many, and whether all their types are known to be within the limits.
+pub struct ScopeColumns {
+    pub count: u16,
+    pub within: bool,
+}
+
 fn dropped(m: Measured) -> Checked
     ensures { λ r. ⌜ r ≡ droppedOf m ⌝ }
 {
@@ -83,6 +90,47 @@ fn scope_count(incoming: &[u8], v: Edition, n: u16, plan: &[u8], w: Walk) -> u16
         TypeHead::Struct(count) => count,
         TypeHead::List => 1,
         TypeHead::Array(_) => 1,
+    }
+}
+
+// Whether the types of all columns that positions can take from are known to be within the limits: those of a layout that is no longer than a type may be.
+fn columns_within(incoming: &[u8], w: Walk) -> bool
+    ensures { λ r. ⌜ (r ≡ true → (v : EditionOf) (n : ℕ) (plan : Bytes) (Δ : Fields) → ScopedAt (now (incoming .entry)) v n plan w Δ → Limited Δ) ⌝ }
+{
+    if w.deep != 0 {
+        return false;
+    }
+    if 16384 < incoming.len() {
+        return false;
+    }
+    true
+}
+
+fn is_within(f: Fit) -> bool
+    ensures { λ r. ⌜ r ≡ withinFit f ⌝ }
+{
+    match f {
+        Fit::Within(_, _) => true,
+        Fit::Over => false,
+    }
+}
+
+// Whether the type of what the input at `x` gives, once it has passed, is known to be within the limits: a transform's result was measured, and
+// a position takes a column of the scope.
+fn input_within(plan: &[u8], x: Walk, scope: ScopeColumns) -> bool
+    requires { ⌜ SelectorAt (now plan) (x .at) ⌝ }
+    ensures { λ r. ⌜ (r ≡ true → (incoming : Bytes) (v : EditionOf) (n : ℕ) (s : Selector) (Δ : Fields) (a : Column) → CheckingAt incoming v n (now (plan .entry)) x s Δ → ScopeIs scope Δ → typeOf Δ s ≡ gives a → withinLimits (a .type) ≡ true) ⌝ }
+{
+    let c = Cursor { at: x.at };
+    match head(plan, c) {
+        SelectorHead::Position(_) => scope.within,
+        SelectorHead::Constant(_, d) => is_within(raw_fit(plan, Edition::One, d, 16, 16384)),
+        SelectorHead::Cast(_) => true,
+        SelectorHead::Rename(_) => true,
+        SelectorHead::Struct(_) => true,
+        SelectorHead::List(_) => true,
+        SelectorHead::Array(_) => true,
+        SelectorHead::Refused => false,
     }
 }
 
@@ -128,11 +176,22 @@ fn is_transform(plan: &[u8], c: Cursor) -> bool
     }
 }
 
-// A rename whose input, at which `x` stands, has passed.
-fn rename_result(incoming: &[u8], v: Edition, n: u16, plan: &[u8], x: Walk, size: Size) -> Measured
+// A rename whose input, at which `x` stands, has passed. What is within the limits is not measured again.
+fn rename_result(
+    incoming: &[u8],
+    v: Edition,
+    n: u16,
+    plan: &[u8],
+    x: Walk,
+    size: Size,
+    within: bool,
+) -> Measured
     requires { ⌜ ((b : Bool) × (a : Column) × NamedAt (now incoming) v n (now plan) x a × (size ≡ sizeOf b (a .type))) ⌝ }
-    ensures { λ r. ⌜ ((b : Bool) (a : Column) (name : Bytes) → NamedAt (now (incoming .entry)) v n (now (plan .entry)) x a → size ≡ sizeOf b (a .type) → r ≡ measuredOf true (resulting name (a .type))) ⌝ }
+    ensures { λ r. ⌜ ((b : Bool) (a : Column) (name : Bytes) → NamedAt (now (incoming .entry)) v n (now (plan .entry)) x a → size ≡ sizeOf b (a .type) → (within ≡ true → withinLimits (a .type) ≡ true) → MeasuredIs r (resulting name (a .type))) ⌝ }
 {
+    if within {
+        return Measured::Passed(size);
+    }
     fitting(sized_fit(incoming, v, n, plan, x, size, 16, 16384))
 }
 
@@ -216,7 +275,8 @@ fn arrayed_left(h: TypeHead) -> Rest
     }
 }
 
-// A transform whose input, at which `x` stands, has passed: the result of a cast or rename, the kind of a mapping's input.
+// A transform whose input, at which `x` stands, has passed and is within the limits, if that is known: the result of a cast or rename, the
+// kind of a mapping's input.
 fn check_input(
     incoming: &[u8],
     v: Edition,
@@ -225,16 +285,19 @@ fn check_input(
     w: Walk,
     x: Walk,
     size: Size,
+    within: bool,
 ) -> Rest
-    requires { ⌜ ((s : Selector) × (Δ : Fields) × PassedInput (now incoming) v n (now plan) w x size s Δ) ⌝ }
-    ensures { λ r. ⌜ ((s : Selector) (Δ : Fields) → PassedInput (now (incoming .entry)) v n (now (plan .entry)) w x size s Δ → RestIs (now (incoming .entry)) v n (now (plan .entry)) w s Δ r) ⌝ }
+    requires { ⌜ ((s : Selector) × (Δ : Fields) × PassedInput (now incoming) v n (now plan) w x size within s Δ) ⌝ }
+    ensures { λ r. ⌜ ((s : Selector) (Δ : Fields) → PassedInput (now (incoming .entry)) v n (now (plan .entry)) w x size within s Δ → RestIs (now (incoming .entry)) v n (now (plan .entry)) w within s Δ r) ⌝ }
 {
     let c = Cursor { at: w.at };
     match head(plan, c) {
         SelectorHead::Position(_) => Rest::Refused(32),
         SelectorHead::Constant(_, _) => Rest::Refused(32),
         SelectorHead::Cast(input) => nothing_left(cast_result(incoming, v, n, plan, x, input)),
-        SelectorHead::Rename(_) => { nothing_left(rename_result(incoming, v, n, plan, x, size)) }
+        SelectorHead::Rename(_) => {
+            nothing_left(rename_result(incoming, v, n, plan, x, size, within))
+        }
         SelectorHead::Struct(input) => {
             let f = struct_fields(plan, input);
             fields_left(input_head(incoming, v, n, plan, x), f.count)
@@ -245,15 +308,22 @@ fn check_input(
     }
 }
 
-// The selector at which the walk stands, where positions take from so many columns.
-fn check_scoped(incoming: &[u8], v: Edition, n: u16, plan: &[u8], w: Walk, scope: u16) -> Measured
-    requires { ⌜ ((s : Selector) × (Δ : Fields) × CheckingAt (now incoming) v n (now plan) w s Δ × (countFields Δ ≡ scope)) ⌝ }
-    ensures { λ r. ⌜ ((s : Selector) (Δ : Fields) → CheckingAt (now (incoming .entry)) v n (now (plan .entry)) w s Δ → countFields Δ ≡ scope → r ≡ measuredOf (isTransform s) (typeOf Δ s)) ⌝ }
+// The selector at which the walk stands, where positions take from the columns of `scope`.
+fn check_scoped(
+    incoming: &[u8],
+    v: Edition,
+    n: u16,
+    plan: &[u8],
+    w: Walk,
+    scope: ScopeColumns,
+) -> Measured
+    requires { ⌜ ((s : Selector) × (Δ : Fields) × CheckingAt (now incoming) v n (now plan) w s Δ × ScopeIs scope Δ) ⌝ }
+    ensures { λ r. ⌜ ((s : Selector) (Δ : Fields) → CheckingAt (now (incoming .entry)) v n (now (plan .entry)) w s Δ → ScopeIs scope Δ → MeasuredIs r (typeOf Δ s)) ⌝ }
 {
     if is_transform(plan, Cursor { at: w.at }) {
         return check_transform(incoming, v, n, plan, w, scope);
     }
-    check_source(plan, w, scope)
+    check_source(plan, w, scope.count)
 }
 
 // The input of a transform, then what is left. What a level of nesting keeps on the stack is here and in the two functions below; the
@@ -264,24 +334,30 @@ fn check_transform(
     n: u16,
     plan: &[u8],
     w: Walk,
-    scope: u16,
+    scope: ScopeColumns,
 ) -> Measured
-    requires { ⌜ ((s : Selector) × (Δ : Fields) × CheckingAt (now incoming) v n (now plan) w s Δ × (countFields Δ ≡ scope) × (isTransform s ≡ true)) ⌝ }
-    ensures { λ r. ⌜ ((s : Selector) (Δ : Fields) → CheckingAt (now (incoming .entry)) v n (now (plan .entry)) w s Δ → countFields Δ ≡ scope → isTransform s ≡ true → r ≡ measuredOf true (typeOf Δ s)) ⌝ }
+    requires { ⌜ ((s : Selector) × (Δ : Fields) × CheckingAt (now incoming) v n (now plan) w s Δ × ScopeIs scope Δ × (isTransform s ≡ true)) ⌝ }
+    ensures { λ r. ⌜ ((s : Selector) (Δ : Fields) → CheckingAt (now (incoming .entry)) v n (now (plan .entry)) w s Δ → ScopeIs scope Δ → isTransform s ≡ true → MeasuredIs r (typeOf Δ s)) ⌝ }
 {
     let x = w.to_input();
     match check_scoped(incoming, v, n, plan, x, scope) {
-        Measured::Passed(size) => match check_input(incoming, v, n, plan, w, x, size) {
-            Rest::Passed(z) => Measured::Passed(z),
-            Rest::Refused(k) => Measured::Refused(k),
-            Rest::Fields(count, m) => check_fields(incoming, v, n, plan, w, count, m),
-            Rest::Element(head) => check_element(incoming, v, n, plan, w, head),
-        },
+        Measured::Passed(size) => {
+            let within = input_within(plan, x, scope);
+            match check_input(incoming, v, n, plan, w, x, size, within) {
+                Rest::Passed(z) => Measured::Passed(z),
+                Rest::Refused(k) => Measured::Refused(k),
+                Rest::Fields(count, m) => {
+                    let inner = ScopeColumns { count: m, within };
+                    check_fields(incoming, v, n, plan, w, count, inner)
+                }
+                Rest::Element(head) => check_element(incoming, v, n, plan, w, head, within),
+            }
+        }
         Measured::Refused(k) => Measured::Refused(k),
     }
 }
 
-// The selectors of a struct mapping, whose positions take from so many columns, then its result, by the sizes of its fields.
+// The selectors of a struct mapping, whose positions take from the columns of `scope`, then its result, by the sizes of its fields.
 fn check_fields(
     incoming: &[u8],
     v: Edition,
@@ -289,10 +365,10 @@ fn check_fields(
     plan: &[u8],
     w: Walk,
     count: u16,
-    scope: u16,
+    scope: ScopeColumns,
 ) -> Measured
-    requires { ⌜ ((i : Selector) × (ss : Selectors) × (fs : Fields) × MappingAt (now incoming) v n (now plan) w (structMapping i ss) i (struct fs) × (countSelectors ss ≡ count) × (countFields fs ≡ scope)) ⌝ }
-    ensures { λ r. ⌜ ((i : Selector) (ss : Selectors) (fs : Fields) (name : Bytes) → MappingAt (now (incoming .entry)) v n (now (plan .entry)) w (structMapping i ss) i (struct fs) → countSelectors ss ≡ count → countFields fs ≡ scope → r ≡ measuredOf true (fieldsResult fs ss name)) ⌝ }
+    requires { ⌜ ((i : Selector) × (ss : Selectors) × (fs : Fields) × MappingAt (now incoming) v n (now plan) w (structMapping i ss) i (struct fs) × (countSelectors ss ≡ count) × ScopeIs scope fs) ⌝ }
+    ensures { λ r. ⌜ ((i : Selector) (ss : Selectors) (fs : Fields) (name : Bytes) → MappingAt (now (incoming .entry)) v n (now (plan .entry)) w (structMapping i ss) i (struct fs) → countSelectors ss ≡ count → ScopeIs scope fs → r ≡ measuredOf true (fieldsResult fs ss name)) ⌝ }
 {
     let first = first_child(plan, w);
     let mut at = first.at;
@@ -315,12 +391,21 @@ fn check_fields(
 }
 
 // The selector of a list or array mapping, then its result, whose head has so many bytes. Its positions take from the element alone.
-fn check_element(incoming: &[u8], v: Edition, n: u16, plan: &[u8], w: Walk, head: usize) -> Measured
-    requires { ⌜ ((t : DataType) × (e : Selector) × (f : DataType → DataType) × Elements (now incoming) v n (now plan) w t e f head) ⌝ }
-    ensures { λ r. ⌜ ((t : DataType) (e : Selector) (f : DataType → DataType) (name : Bytes) → Elements (now (incoming .entry)) v n (now (plan .entry)) w t e f head → r ≡ measuredOf true (elementResult t e f name)) ⌝ }
+fn check_element(
+    incoming: &[u8],
+    v: Edition,
+    n: u16,
+    plan: &[u8],
+    w: Walk,
+    head: usize,
+    within: bool,
+) -> Measured
+    requires { ⌜ ((t : DataType) × (e : Selector) × (f : DataType → DataType) × Elements (now incoming) v n (now plan) w t e f head × (within ≡ true → withinLimits t ≡ true)) ⌝ }
+    ensures { λ r. ⌜ ((t : DataType) (e : Selector) (f : DataType → DataType) (name : Bytes) → Elements (now (incoming .entry)) v n (now (plan .entry)) w t e f head → (within ≡ true → withinLimits t ≡ true) → r ≡ measuredOf true (elementResult t e f name)) ⌝ }
 {
     let x = w.child(plan, 0);
-    match check_scoped(incoming, v, n, plan, x, 1) {
+    let scope = ScopeColumns { count: 1, within };
+    match check_scoped(incoming, v, n, plan, x, scope) {
         Measured::Passed(size) => fitting(list_fit(incoming, v, n, plan, x, size, head)),
         Measured::Refused(k) => Measured::Refused(k),
     }
@@ -331,6 +416,8 @@ pub fn check_selector(incoming: &[u8], v: Edition, n: u16, plan: &[u8], w: Walk)
     requires { ⌜ ((s : Selector) × (Δ : Fields) × CheckingAt (now incoming) v n (now plan) w s Δ) ⌝ }
     ensures { λ r. ⌜ ((s : Selector) (Δ : Fields) → CheckingAt (now (incoming .entry)) v n (now (plan .entry)) w s Δ → r ≡ checkedOf (typeOf Δ s)) ⌝ }
 {
-    let scope = scope_count(incoming, v, n, plan, w);
+    let count = scope_count(incoming, v, n, plan, w);
+    let within = columns_within(incoming, w);
+    let scope = ScopeColumns { count, within };
     dropped(check_scoped(incoming, v, n, plan, w, scope))
 }

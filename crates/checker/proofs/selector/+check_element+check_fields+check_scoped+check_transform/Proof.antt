@@ -1,11 +1,10 @@
 -- `check_element`, `check_fields`, `check_scoped` and `check_transform` of `checker::selector` meet their contracts, by the falling measures below. Assumes nothing.
 use Prim.Native.Nat.{_+_, _*_, _-_, ℕ, _<_}
-use mathlib.Core.Path.{sym, ap, _∙_}
+use mathlib.Core.Path.{sym, _∙_}
+use mathlib.Core.Bool.{true, false}
 use native.Mathlib.Omega.{arith}
 use Rattle.walk.specs.Standing.{rank}
-use Rattle.plan.specs.Check.{typeOf}
-use Rattle.checker.specs.Checking.{measuredOf, isTransform}
-use Rattle.checker.proofs.Selecting.{checking-before, transform-is, a-transform, input-asks, input-falls, input-refused, input-passed, rest-of, one-element, element-child-asks, element-small, element-step, element-refused, element-passed, element-typed, element-given, mapping-asks, Passing, passing-start, passing-asks, passing-falls, passing-named, passing-refused, passing-more, passing-end}
+use Rattle.checker.proofs.Selecting.{checking-before, transform-is, a-transform, input-asks, input-stands, input-falls, input-refused, input-passed, rest-of, one-element, element-child-asks, element-small, element-step, element-answer, element-refused, element-passed, element-typed, element-given, mapping-asks, Passing, passing-start, passing-asks, passing-falls, passing-named, passing-refused, passing-more, passing-end}
 use borrow.Author.Needs.{needs}
 use borrow.Fn.Kinds.{In}
 use borrow.Fn.PlainCycle.{Measures, is, falls, and}
@@ -29,6 +28,7 @@ use Rattle.checker.proofs.limits.list_fit.Reads as list-fit-reads
 use Rattle.checker.proofs.selector.check_input.Reads as check-input-reads
 use Rattle.checker.proofs.selector.check_source.Reads as check-source-reads
 use Rattle.checker.proofs.selector.fitting.Reads as fitting-reads
+use Rattle.checker.proofs.selector.input_within.Reads as input-within-reads
 use Rattle.checker.proofs.selector.is_transform.Reads as is-transform-reads
 use Rattle.walk.proofs.head.skip_selector.Reads as skip-selector-reads
 use Rattle.walk.proofs.walk.Walk.child.Reads as child-reads
@@ -150,6 +150,8 @@ check-transform-claims t = (
   to-input-reads.Learnt,
   check-scoped-below t,
   check-scoped.Post,
+  input-within-reads.Asked,
+  input-within-reads.Learnt,
   check-input-reads.Asked,
   check-input-reads.Learnt,
   check-fields-below t,
@@ -159,20 +161,21 @@ check-transform-claims t = (
 )
 
 check-element-child-requires : (t : ℕ) → check-element-lts.Need-child-requires (check-element-claims t) (check-element-at t) check-element.Post
-check-element-child-requires t c κs = let (u, e, f, E) = c .before .before .pre .1 in element-child-asks E
+check-element-child-requires t c κs = let (u, e, f, E, l) = c .before .before .pre .1 in element-child-asks E
 
 check-element-check-scoped-requires : (t : ℕ) → check-element-lts.Need-check-scoped-requires (check-element-claims t) (check-element-at t) check-element.Post
-check-element-check-scoped-requires t c κs = let (u, e, f, E) = c .before .before .before .pre .1 in
-    let S = element-step E (c .child .ensures) in (omega (arith, c .before .before .before .pre .0, S .falls), (e, _, S .checking, one-element u))
+check-element-check-scoped-requires t c κs = let (u, e, f, E, l) = c .before .before .before .pre .1 in
+    let S = element-step E (c .child .ensures) in (omega (arith, c .before .before .before .pre .0, S .falls), (e, _, S .checking, one-element u l))
 
 check-element-enum-known-size : (t : ℕ) → check-element-lts.Need-enum-known-size (check-element-claims t) (check-element-at t) check-element.Post
 check-element-enum-known-size t c = search needs
 
 check-element-list-fit-requires : (t : ℕ) → check-element-lts.Need-list-fit-requires (check-element-claims t) (check-element-at t) check-element.Post
-check-element-list-fit-requires t c κs = let (u, e, f, E) = c .before .before .before .before .before .before .before .pre .1 in
+check-element-list-fit-requires t c κs = let (u, e, f, E, l) = c .before .before .before .before .before .before .before .pre .1 in
     let g = c .before .before .before .before .child .ensures in let h = c .before .before .before .check-scoped .ensures in
+    let d = one-element u l in
     let p = c .before .size .given .1 in
-    ((isTransform e, _, element-typed E g h p, element-passed E g h p .sized), element-small E)
+    ((element-answer E g d h .known, _, element-typed E g d h p, element-passed E g d h p .sized), element-small E)
 
 check-element-fitting-requires : (t : ℕ) → check-element-lts.Need-fitting-requires (check-element-claims t) (check-element-at t) check-element.Post
 check-element-fitting-requires t c κs = search needs
@@ -181,12 +184,12 @@ check-element-enum-known-k : (t : ℕ) → check-element-lts.Need-enum-known-k (
 check-element-enum-known-k t c = search needs
 
 check-element-returns : (t : ℕ) → check-element-lts.Need-returns (check-element-claims t) (check-element-at t) check-element.Post
-check-element-returns t c = λ u e f name E. element-given E (c .before .before .before .before .before .before .child .ensures)
+check-element-returns t c = λ u e f name E l. element-given E (c .before .before .before .before .before .before .child .ensures) (one-element u l)
     (c .before .before .before .before .before .check-scoped .ensures) (c .before .before .before .size .given .1) (c .before .list-fit .ensures)
     (c .fitting .ensures) name
 
 check-element-returns-2 : (t : ℕ) → check-element-lts.Need-returns-2 (check-element-claims t) (check-element-at t) check-element.Post
-check-element-returns-2 t c = λ u e f name E. element-refused E (c .before .before .before .before .child .ensures)
+check-element-returns-2 t c = λ u e f name E l. element-refused E (c .before .before .before .before .child .ensures) (one-element u l)
     (c .before .before .before .check-scoped .ensures) name (c .before .k .given .1)
 
 abbrev check-fields-Inv-loop : check-fields-lts.InvT-loop
@@ -290,14 +293,14 @@ check-scoped-check-transform-requires t c κs = let (s, Δ, C, d) = c .before .b
 
 check-scoped-returns : (t : ℕ) → check-scoped-lts.Need-returns (check-scoped-claims t) (check-scoped-at t) check-scoped.Post
 check-scoped-returns t c = λ s Δ C d. let h = transform-is C (c .before .before .is-transform .ensures (C .standing .here)) (c .before .if1 .taken) in
-    c .check-transform .ensures s Δ C d h ∙ ap (λ b. measuredOf b (typeOf Δ s)) (sym h)
+    c .check-transform .ensures s Δ C d h
 
 check-scoped-check-source-requires : (t : ℕ) → check-scoped-lts.Need-check-source-requires (check-scoped-claims t) (check-scoped-at t) check-scoped.Post
 check-scoped-check-source-requires t c κs = search needs
 
 check-scoped-returns-2 : (t : ℕ) → check-scoped-lts.Need-returns-2 (check-scoped-claims t) (check-scoped-at t) check-scoped.Post
 check-scoped-returns-2 t c = λ s Δ C d. let h = transform-is C (c .before .before .is-transform .ensures (C .standing .here)) (c .before .if1 .left) in
-    c .check-source .ensures _ _ _ s Δ C d h ∙ ap (λ b. measuredOf b (typeOf Δ s)) (sym h)
+    record { known = false; is = c .check-source .ensures _ _ _ s Δ C (d .count) h }
 
 check-transform-to-input-requires : (t : ℕ) → check-transform-lts.Need-to-input-requires (check-transform-claims t) (check-transform-at t) check-transform.Post
 check-transform-to-input-requires t c κs = let (s, Δ, C, d, h) = c .before .before .pre .1 in checking-before C
@@ -311,13 +314,18 @@ check-transform-check-scoped-requires t c κs = let (s, Δ, C, d, h) = c .before
 check-transform-enum-known-size : (t : ℕ) → check-transform-lts.Need-enum-known-size (check-transform-claims t) (check-transform-at t) check-transform.Post
 check-transform-enum-known-size t c = search needs
 
+check-transform-input-within-requires : (t : ℕ)
+    → check-transform-lts.Need-input-within-requires (check-transform-claims t) (check-transform-at t) check-transform.Post
+check-transform-input-within-requires t c κs = let (s, Δ, C, d, h) = c .before .before .before .before .before .before .before .pre .1 in
+    input-stands C (a-transform C h .transforms) (c .before .before .before .before .to-input .ensures)
+
 check-transform-check-input-requires : (t : ℕ)
     → check-transform-lts.Need-check-input-requires (check-transform-claims t) (check-transform-at t) check-transform.Post
-check-transform-check-input-requires t c κs = let (s, Δ, C, d, h) = c .before .before .before .before .before .before .before .pre .1 in (
+check-transform-check-input-requires t c κs = let (s, Δ, C, d, h) = c .before .before .before .before .before .before .before .before .pre .1 in (
   s,
   Δ,
-  input-passed C (a-transform C h .transforms) (c .before .before .before .before .to-input .ensures) d
-      (c .before .before .before .check-scoped .ensures) (c .before .size .given .1),
+  input-passed C (a-transform C h .transforms) (c .before .before .before .before .before .to-input .ensures) d
+      (c .before .before .before .before .check-scoped .ensures) (c .before .before .size .given .1) (c .input-within .ensures),
 )
 
 check-transform-enum-known-z : (t : ℕ) → check-transform-lts.Need-enum-known-z (check-transform-claims t) (check-transform-at t) check-transform.Post
@@ -331,66 +339,54 @@ check-transform-enum-known-count t c = search needs
 
 check-transform-check-fields-requires : (t : ℕ)
     → check-transform-lts.Need-check-fields-requires (check-transform-claims t) (check-transform-at t) check-transform.Post
-check-transform-check-fields-requires t c κs = let
-    (s, Δ, C, d, h) = c .before .before .before .before .before .before .before .before .before .before .before .pre .1 in
+check-transform-check-fields-requires t c κs = let (s, Δ, C, d, h) = c .before .before .before .before .before .before .before .before .before .before .before .before .pre .1 in
     let F = rest-of (c .before .before .before .check-input .ensures s Δ
-    (input-passed C (a-transform C h .transforms) (c .before .before .before .before .before .before .before .before .to-input .ensures) d
-    (c .before .before .before .before .before .before .before .check-scoped .ensures) (c .before .before .before .before .before .size .given .1)))
-    (c .before .count .given .1) in (
-      omega (arith, c .before .before .before .before .before .before .before .before .before .before .before .pre .0),
-      (F .input, F .parts, F .scope, F .mapping, F .counted, F .columns),
-    )
+    (input-passed C (a-transform C h .transforms) (c .before .before .before .before .before .before .before .before .before .to-input .ensures) d
+    (c .before .before .before .before .before .before .before .before .check-scoped .ensures) (c .before .before .before .before .before .before .size .given .1) (c .before .before .before .before .input-within .ensures))) (c .before .count .given .1) in
+    (omega (arith, c .before .before .before .before .before .before .before .before .before .before .before .before .pre .0), (F .input, F .parts, F .scope, F .mapping, F .counted, F .columns))
 
 check-transform-enum-known-head : (t : ℕ) → check-transform-lts.Need-enum-known-head (check-transform-claims t) (check-transform-at t) check-transform.Post
 check-transform-enum-known-head t c = search needs
 
 check-transform-check-element-requires : (t : ℕ)
     → check-transform-lts.Need-check-element-requires (check-transform-claims t) (check-transform-at t) check-transform.Post
-check-transform-check-element-requires t c κs = let
-    (s, Δ, C, d, h) = c .before .before .before .before .before .before .before .before .before .before .before .pre .1 in
+check-transform-check-element-requires t c κs = let (s, Δ, C, d, h) = c .before .before .before .before .before .before .before .before .before .before .before .before .pre .1 in
     let E = rest-of (c .before .before .before .check-input .ensures s Δ
-    (input-passed C (a-transform C h .transforms) (c .before .before .before .before .before .before .before .before .to-input .ensures) d
-    (c .before .before .before .before .before .before .before .check-scoped .ensures) (c .before .before .before .before .before .size .given .1)))
-    (c .before .head .given .1) in (
-      omega (arith, c .before .before .before .before .before .before .before .before .before .before .before .pre .0),
-      (E .element, E .selector, E .makes, E .elements),
-    )
+    (input-passed C (a-transform C h .transforms) (c .before .before .before .before .before .before .before .before .before .to-input .ensures) d
+    (c .before .before .before .before .before .before .before .before .check-scoped .ensures) (c .before .before .before .before .before .before .size .given .1) (c .before .before .before .before .input-within .ensures))) (c .before .head .given .1) in
+    (omega (arith, c .before .before .before .before .before .before .before .before .before .before .before .before .pre .0), (E .element, E .selector, E .makes, E .elements, E .limited))
 
 check-transform-enum-known-k-2 : (t : ℕ) → check-transform-lts.Need-enum-known-k-2 (check-transform-claims t) (check-transform-at t) check-transform.Post
 check-transform-enum-known-k-2 t c = search needs
 
-check-transform-returns : (t : ℕ) → check-transform-lts.Need-returns (check-transform-claims t) (check-transform-at t) check-transform.Post
-check-transform-returns t c = λ s Δ C d h. rest-of
-    (c .before .before .before .check-input .ensures s Δ
-    (input-passed C (a-transform C h .transforms) (c .before .before .before .before .before .before .before .before .to-input .ensures) d
-    (c .before .before .before .before .before .before .before .check-scoped .ensures) (c .before .before .before .before .before .size .given .1)))
-    (c .before .z .given .1)
-
-check-transform-returns-2 : (t : ℕ) → check-transform-lts.Need-returns-2 (check-transform-claims t) (check-transform-at t) check-transform.Post
-check-transform-returns-2 t c = λ s Δ C d h. rest-of
-    (c .before .before .before .check-input .ensures s Δ
-    (input-passed C (a-transform C h .transforms) (c .before .before .before .before .before .before .before .before .to-input .ensures) d
-    (c .before .before .before .before .before .before .before .check-scoped .ensures) (c .before .before .before .before .before .size .given .1)))
-    (c .before .k .given .1)
-
-check-transform-returns-3 : (t : ℕ) → check-transform-lts.Need-returns-3 (check-transform-claims t) (check-transform-at t) check-transform.Post
-check-transform-returns-3 t c = λ s Δ C d h. let F = rest-of
-    (c .before .before .before .before .check-input .ensures s Δ
+check-transform-returns : (t : ℕ)
+    → check-transform-lts.Need-returns (check-transform-claims t) (check-transform-at t) check-transform.Post
+check-transform-returns t c = λ s Δ C d h. rest-of (c .before .before .before .check-input .ensures s Δ
     (input-passed C (a-transform C h .transforms) (c .before .before .before .before .before .before .before .before .before .to-input .ensures) d
-    (c .before .before .before .before .before .before .before .before .check-scoped .ensures)
-    (c .before .before .before .before .before .before .size .given .1)))
-    (c .before .before .count .given .1) in c .check-fields .ensures (F .input) (F .parts) (F .scope) (F .name) (F .mapping) (F .counted) (F .columns)
-    ∙ sym (F .left)
+    (c .before .before .before .before .before .before .before .before .check-scoped .ensures) (c .before .before .before .before .before .before .size .given .1) (c .before .before .before .before .input-within .ensures))) (c .before .z .given .1)
 
-check-transform-returns-4 : (t : ℕ) → check-transform-lts.Need-returns-4 (check-transform-claims t) (check-transform-at t) check-transform.Post
-check-transform-returns-4 t c = λ s Δ C d h. let E = rest-of
-    (c .before .before .before .before .check-input .ensures s Δ
+check-transform-returns-2 : (t : ℕ)
+    → check-transform-lts.Need-returns-2 (check-transform-claims t) (check-transform-at t) check-transform.Post
+check-transform-returns-2 t c = λ s Δ C d h. rest-of (c .before .before .before .check-input .ensures s Δ
     (input-passed C (a-transform C h .transforms) (c .before .before .before .before .before .before .before .before .before .to-input .ensures) d
-    (c .before .before .before .before .before .before .before .before .check-scoped .ensures)
-    (c .before .before .before .before .before .before .size .given .1)))
-    (c .before .before .head .given .1) in c .check-element .ensures (E .element) (E .selector) (E .makes) (E .name) (E .elements) ∙ sym (E .left)
+    (c .before .before .before .before .before .before .before .before .check-scoped .ensures) (c .before .before .before .before .before .before .size .given .1) (c .before .before .before .before .input-within .ensures))) (c .before .k .given .1)
 
-check-transform-returns-5 : (t : ℕ) → check-transform-lts.Need-returns-5 (check-transform-claims t) (check-transform-at t) check-transform.Post
+check-transform-returns-3 : (t : ℕ)
+    → check-transform-lts.Need-returns-3 (check-transform-claims t) (check-transform-at t) check-transform.Post
+check-transform-returns-3 t c = λ s Δ C d h. let F = rest-of (c .before .before .before .before .check-input .ensures s Δ
+    (input-passed C (a-transform C h .transforms) (c .before .before .before .before .before .before .before .before .before .before .to-input .ensures) d
+    (c .before .before .before .before .before .before .before .before .before .check-scoped .ensures) (c .before .before .before .before .before .before .before .size .given .1) (c .before .before .before .before .before .input-within .ensures))) (c .before .before .count .given .1) in
+    record { known = true; is = c .check-fields .ensures (F .input) (F .parts) (F .scope) (F .name) (F .mapping) (F .counted) (F .columns) ∙ sym (F .left) }
+
+check-transform-returns-4 : (t : ℕ)
+    → check-transform-lts.Need-returns-4 (check-transform-claims t) (check-transform-at t) check-transform.Post
+check-transform-returns-4 t c = λ s Δ C d h. let E = rest-of (c .before .before .before .before .check-input .ensures s Δ
+    (input-passed C (a-transform C h .transforms) (c .before .before .before .before .before .before .before .before .before .before .to-input .ensures) d
+    (c .before .before .before .before .before .before .before .before .before .check-scoped .ensures) (c .before .before .before .before .before .before .before .size .given .1) (c .before .before .before .before .before .input-within .ensures))) (c .before .before .head .given .1) in
+    record { known = true; is = c .check-element .ensures (E .element) (E .selector) (E .makes) (E .name) (E .elements) (E .limited) ∙ sym (E .left) }
+
+check-transform-returns-5 : (t : ℕ)
+    → check-transform-lts.Need-returns-5 (check-transform-claims t) (check-transform-at t) check-transform.Post
 check-transform-returns-5 t c = λ s Δ C d h. input-refused C (a-transform C h .transforms) (c .before .before .before .before .to-input .ensures) d
     (c .before .before .before .check-scoped .ensures) (c .before .k2 .given .1)
 
@@ -446,6 +442,7 @@ pub +check-element+check-fields+check-scoped+check-transform-spec : {M : Type 1}
     (check-transform-to-input-requires t)
     (check-transform-check-scoped-requires t)
     (check-transform-enum-known-size t)
+    (check-transform-input-within-requires t)
     (check-transform-check-input-requires t)
     (check-transform-enum-known-z t)
     (check-transform-enum-known-k t)

@@ -1,8 +1,8 @@
 -- `checker::selector::check_selector` meets its contract. Assumes nothing.
-use mathlib.Core.Path.{sym, ap, _∙_}
+use mathlib.Core.Path.{ap, _∙_}
 use Rattle.plan.specs.Check.{typeOf}
-use Rattle.checker.specs.Checking.{droppedOf, isTransform}
-use Rattle.checker.proofs.Selecting.{checking-scope}
+use Rattle.checker.specs.Checking.{droppedOf}
+use Rattle.checker.proofs.Selecting.{checking-scope, scope-is}
 use Rattle.checker.proofs.Checks.{dropped-is}
 use borrow.Author.Needs.{needs}
 use Rattle.checker.proofs.selector.check_selector.Statement.{statement}
@@ -13,7 +13,10 @@ check-selector-spec =
     tie.close
     (tie.spec
     (λ c κs. let (s, Δ, C) = c .before .before .pre in (Δ, checking-scope C))
-    (λ c κs. let (s, Δ, C) = c .before .before .before .pre in (s, Δ, C, sym (c .scope-count .ensures Δ (checking-scope C))))
     (λ c κs. search needs)
-    (λ c. λ s Δ C. c .dropped .ensures ∙ ap droppedOf (c .before .check-scoped .ensures s Δ C (sym (c .before .before .scope-count .ensures Δ
-    (checking-scope C)))) ∙ dropped-is (isTransform s) (typeOf Δ s)))
+    (λ c κs. let (s, Δ, C) = c .before .before .before .before .pre in
+    (s, Δ, C, scope-is C (c .before .scope-count .ensures) (c .columns-within .ensures)))
+    (λ c κs. search needs)
+    (λ c. λ s Δ C.
+    let A = c .before .check-scoped .ensures s Δ C (scope-is C (c .before .before .before .scope-count .ensures) (c .before .before .columns-within .ensures)) in
+    c .dropped .ensures ∙ ap droppedOf (A .is) ∙ dropped-is (A .known) (typeOf Δ s)))
