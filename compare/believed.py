@@ -6,7 +6,11 @@ the statements of the theorems (STATEMENTS) cite, down to the last. The files of
 docs/ARCHITECTURE.md lists under "What a reader must believe", and no others; and they must have fewer lines than its
 limit. Prints the counts; exit status 1 where the document differs.
 
-usage: compare/believed.py [--list]
+They stand in specs/, and what only says how code works in specs/code/.
+
+usage: compare/believed.py [--list] [--beside]
+
+--beside prints the definitions that stand in a file with believed ones and are cited by neither.
 """
 import pathlib
 import re
@@ -24,9 +28,12 @@ STATEMENTS = [
     ("selector", "Decoded"),
 ]
 
+# Document 02's list as it is printed, to which a computed test holds the rule: cited by the test alone.
+PRINTED = "crates/rules/specs/PrintedList.antt"
+
 WORD = re.compile(r"[^\s(){}\[\],;.λ]+")
 USE = re.compile(
-    r"^(?:ghost )?use Rattle·([a-z]+)(?:·specs|·proofs)?\.(specs|proofs\.proofs|proofs)\.([\w.+-]+)\.\{([^}]*)\}",
+    r"^(?:ghost |pub )?use Rattle·([a-z]+)(?:·specs|·proofs)?\.(specs|proofs\.proofs|proofs)\.([\w.+-]+)\.\{([^}]*)\}",
     re.M,
 )
 HEAD = re.compile(
@@ -80,6 +87,8 @@ def modules():
     for kind in ("specs", "proofs"):
         for path in sorted(CRATES.glob(f"*/{kind}/*.antt")):
             found[(path.parts[-3], kind, path.stem)] = Module(path)
+    for path in sorted(CRATES.glob("*/specs/code/*.antt")):
+        found[(path.parts[-4], "specs", f"code.{path.stem}")] = Module(path)
     return found
 
 
@@ -149,7 +158,7 @@ def cited_by_theorems(all_modules):
 
 
 def files_of(items):
-    return {f"crates/{crate}/specs/{name}.antt" for (crate, kind, name), _ in items if kind == "specs"}
+    return {f"crates/{crate}/specs/{name.replace('.', '/')}.antt" for (crate, kind, name), _ in items if kind == "specs"}
 
 
 def listed():
@@ -167,16 +176,41 @@ def compare(what, need, have):
     return need == have
 
 
+def apart(believed):
+    """Whether specs/ has what is to be believed, and specs/code/ what only says how code works."""
+    roots = {"Lib.antt", "code.antt"}
+    stated = {str(p.relative_to(ROOT)) for p in CRATES.glob("*/specs/*.antt") if p.name not in roots} - {PRINTED}
+    for path in sorted(stated - believed):
+        print(f"{path} is cited by no contract of a call and by no theorem: it belongs into specs/code/")
+    for path in sorted(believed - stated):
+        print(f"{path} is to be believed and stands in specs/code/")
+    return stated == believed
+
+
+def unused(all_modules, items):
+    """The definitions that stand beside believed ones and are not cited."""
+    places = {place for place, _ in items if place[1] == "specs"}
+    for place in sorted(places):
+        for name in all_modules[place].words:
+            if (place, name) not in items:
+                print(f"{place[0]}/specs/{place[2]}: {name}")
+
+
 def main():
     all_modules = modules()
-    calls = files_of(followed(all_modules, cited_by_calls(all_modules)))
-    theorems = files_of(followed(all_modules, cited_by_theorems(all_modules))) - calls
+    by_calls = followed(all_modules, cited_by_calls(all_modules))
+    by_theorems = followed(all_modules, cited_by_theorems(all_modules))
+    calls = files_of(by_calls)
+    theorems = files_of(by_theorems) - calls
+    if "--beside" in sys.argv:
+        unused(all_modules, by_calls | by_theorems)
     count = {name: sum((ROOT / p).read_text().count("\n") for p in paths) for name, paths in
              (("calls", calls), ("theorems", theorems))}
     if "--list" in sys.argv:
         print("\n".join(sorted(calls)) + "\n--\n" + "\n".join(sorted(theorems)))
     tables = listed()
     good = len(tables) == 2 and all([compare("contracts", calls, tables[0]), compare("theorems", theorems, tables[1])])
+    good = apart(calls | theorems) and good
     print(f"to be believed: {len(calls)} files, {count['calls']} lines for the calls; "
           f"{len(theorems)} more, {count['theorems']} lines, for the theorems")
     if count["calls"] >= LIMIT:

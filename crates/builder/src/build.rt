@@ -17,11 +17,18 @@ pub struct Build {
     pub defaults: DefaultFieldValues,
 }
 
-// Two types that are matched, with the depth left to each.
+// What a selector takes, and where it is written.
+pub struct Place {
+    pub position: Position,
+    pub k: usize,
+}
+
+// Two types that are matched, with the depth left to each, and the place of the selector.
 pub struct Types {
     pub depth: u8,
     pub incoming: Cursor,
     pub target: Cursor,
+    pub place: Place,
 }
 
 // The columns of a layout or the fields of a struct: how many, and where the first stands.
@@ -30,18 +37,20 @@ pub struct Fields {
     pub first: Cursor,
 }
 
-// A struct's fields that are matched over a type, with the depth left to the two types.
+// A struct's fields that are matched over a type, with the depth left to the two types, and the place of the selector.
 pub struct FieldsOver {
     pub depth: u8,
     pub incoming: Cursor,
     pub target: Fields,
+    pub place: Place,
 }
 
-// The columns that are matched, with the depth left to each.
+// The columns that are matched, with the depth left to each, and where the selectors are written.
 pub struct Rows {
     pub depth: u8,
     pub incoming: Fields,
     pub target: Fields,
+    pub k: usize,
 }
 
 // A column or an element: its label, and where its type stands.
@@ -50,11 +59,12 @@ pub struct Column {
     pub cursor: Cursor,
 }
 
-// Two columns or elements that are matched, with the depth left to each.
+// Two columns or elements that are matched, with the depth left to each, and the place of the selector.
 pub struct Pair {
     pub depth: u8,
     pub incoming: Column,
     pub target: Column,
+    pub place: Place,
 }
 
 // What becomes of a target column with no counterpart: a constant, or this refusal (14 in a struct, 11 at the top).
@@ -63,16 +73,11 @@ pub struct Missing {
     pub number: u8,
 }
 
-// A target column, and what was found for it among the incoming columns.
+// A target column, what was found for it among the incoming columns, and where its selector is written.
 pub struct Sought {
     pub depth: u8,
     pub column: Column,
     pub found: Found,
     pub missing: Missing,
-}
-
-// What a selector takes, and where it is written.
-pub struct Place {
-    pub position: Position,
     pub k: usize,
 }

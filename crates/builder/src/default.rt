@@ -22,7 +22,7 @@ use crate::answer::both;
 use crate::build::Build;
 use crate::build::Column;
 use crate::build::Fields;
-use crate::build::Missing;
+use crate::build::Sought;
 use crate::leaf::leaf_rule;
 use crate::write::put_constant_head;
 use defaults::lookup::DefaultFieldValues;
@@ -182,24 +182,25 @@ fn put_leaf_default(
     }
 }
 
-// The default of a field of this id, whose type stands at `b`; where there is none, a null.
+// The default of a field; where there is none, a null.
 pub fn build_iceberg_default_value(
     build: Build,
     depth: u8,
     table: &[u8],
     index: &[u16],
     target: &[u8],
-    id: FieldId,
-    b: Cursor,
+    column: Column,
     out: &mut [u8],
     k: usize,
 ) -> DefaultMade
-    requires { ⌜ TypeAt (build .target) depth (now target) (b .at) ⌝ }
+    requires { ⌜ TypeAt (build .target) depth (now target) (column .cursor .at) ⌝ }
     requires { ⌜ IndexedTableAt (now table) (now index) (build .defaults) ⌝ }
-    requires { ⌜ (length (now table) ≤ 16384) × (k + 16384 * length (now target) < 2 ^ 64 + 16384 * b .at) ⌝ }
-    ensures { λ r. ⌜ FieldDefault build depth (now (table .entry)) (now (target .entry)) id b (now (out .entry)) k r (now (out .exit)) ⌝ }
+    requires { ⌜ (length (now table) ≤ 16384) × (k + 16384 * length (now target) < 2 ^ 64 + 16384 * column .cursor .at) ⌝ }
+    ensures { λ r. ⌜ FieldDefault build depth (now (table .entry)) (now (target .entry)) (column .label .id) (column .cursor) (now (out .entry)) k r (now (out .exit)) ⌝ }
 {
     let defaults = build.defaults;
+    let id = column.label.id;
+    let b = column.cursor;
     match b.head(target) {
         Head::Leaf(u, _) => put_leaf_default(table, index, defaults, id, target, u, out, k),
         Head::Struct(count, first) => {
@@ -248,15 +249,17 @@ fn put_defaults(
         let d = Cursor { at };
         match d.label(target, v) {
             Labelled::Is(l, b) => {
-                let id = l.id;
+                let column = Column {
+                    label: l,
+                    cursor: b,
+                };
                 let made = build_iceberg_default_value(
                     build,
                     depth,
                     table,
                     index,
                     target,
-                    id,
-                    b,
+                    column,
                     out,
                     to,
                 );
@@ -291,40 +294,36 @@ fn constant_made(head: usize, made: DefaultMade) -> Made
 // A target column with no counterpart: under Insert a constant of its default, or else of null; otherwise the refusal. 54 is tested once that default
 // is worked out.
 pub fn put_missing(
-    missing: Missing,
     build: Build,
-    depth: u8,
     table: &[u8],
     index: &[u16],
     target: &[u8],
-    column: Column,
+    sought: Sought,
     out: &mut [u8],
-    k: usize,
 ) -> Made
-    requires { ⌜ spanIn (now target) (column .label .name) × (column .label .name .len ≤ 63) ⌝ }
-    requires { ⌜ TypeAt (build .target) depth (now target) (column .cursor .at) ⌝ }
+    requires { ⌜ spanIn (now target) (sought .column .label .name) × (sought .column .label .name .len ≤ 63) ⌝ }
+    requires { ⌜ TypeAt (build .target) (sought .depth) (now target) (sought .column .cursor .at) ⌝ }
     requires { ⌜ IndexedTableAt (now table) (now index) (build .defaults) ⌝ }
-    requires { ⌜ (length (now target) ≤ 16384) × (length (now table) ≤ 16384) × (k ≤ 65536 * column .cursor .at) ⌝ }
-    ensures { λ r. ⌜ PutMissing missing build depth (now (table .entry)) (now (target .entry)) column (now (out .entry)) k r (now (out .exit)) ⌝ }
+    requires { ⌜ (length (now target) ≤ 16384) × (length (now table) ≤ 16384) × (sought .k ≤ 65536 * sought .column .cursor .at) ⌝ }
+    ensures { λ r. ⌜ PutMissing (sought .missing) build (sought .depth) (now (table .entry)) (now (target .entry)) (sought .column) (now (out .entry)) (sought .k) r (now (out .exit)) ⌝ }
 {
-    if !missing.insert {
-        return Made::Refused(missing.number);
+    if !sought.missing.insert {
+        return Made::Refused(sought.missing.number);
     }
     let v = build.target;
+    let column = sought.column;
     let name = column.label.name;
-    let id = column.label.id;
     let b = column.cursor;
-    let head = put_constant_head(target, v, depth, name, b, out, k);
+    let head = put_constant_head(target, v, sought.depth, name, b, out, sought.k);
     let made = build_iceberg_default_value(
         build,
-        depth,
+        sought.depth,
         table,
         index,
         target,
-        id,
-        b,
+        column,
         out,
-        k + head,
+        sought.k + head,
     );
     if !fills_required(made, column.label.required) {
         return Made::Refused(54);

@@ -11,6 +11,7 @@ ghost use Rattle.builder.specs.Bundles.{TableOf, RowsAt, HasCounterpart,
 use crate::build::Build;
 use crate::build::Fields;
 use crate::build::Rows;
+use labels::SiblingColumns;
 use labels::fill_in;
 use labels::find_in;
 use layout::bytes::Span;
@@ -124,10 +125,17 @@ fn has_counterpart(
     requires { ⌜ spanIn (now incoming) (l .name) ⌝ }
     ensures { λ r. ⌜ HasCounterpart build depth (now (target .entry)) fields (labelAt (now (incoming .entry)) l) r ⌝ }
 {
-    let how = build.matching;
-    let w = build.target;
-    let c = fields.first;
-    match find_in(target, w, how, depth, fields.count, c, chains, incoming, l) {
+    let matching = build.matching;
+    let edition = build.target;
+    let first = fields.first;
+    let columns = SiblingColumns {
+        edition,
+        matching,
+        depth,
+        count: fields.count,
+        first,
+    };
+    match find_in(target, columns, chains, incoming, l) {
         Found::At(_, _, _) => true,
         Found::Absent => false,
     }
@@ -165,18 +173,16 @@ pub fn no_extra(build: Build, incoming: &[u8], target: &[u8], rows: Rows, arena:
     requires { ⌜ RowsAt build rows (now incoming) (now target) ⌝ }
     ensures { λ r. ⌜ NoExtra build rows (now (incoming .entry)) (now (target .entry)) r ⌝ }
 {
-    let how = build.matching;
-    let w = build.target;
-    let b = rows.target.first;
-    let used = fill_in(
-        rows.incoming.count,
-        target,
-        w,
-        how,
-        rows.depth,
-        rows.target.count,
-        b,
-        arena,
-    );
+    let matching = build.matching;
+    let edition = build.target;
+    let first = rows.target.first;
+    let columns = SiblingColumns {
+        edition,
+        matching,
+        depth: rows.depth,
+        count: rows.target.count,
+        first,
+    };
+    let used = fill_in(rows.incoming.count, target, columns, arena);
     no_extra_in(build, incoming, target, rows, &arena[..used])
 }

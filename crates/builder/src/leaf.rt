@@ -10,7 +10,6 @@ ghost use Rattle.builder.specs.Answers.{Ruled};
 ghost use Rattle.builder.specs.Bundles.{TypesAt, LeafStands, AttachedLeaf};
 use crate::answer::Made;
 use crate::build::Build;
-use crate::build::Place;
 use crate::build::Types;
 use crate::parts::LeafPart;
 use crate::parts::leaf_part;
@@ -81,18 +80,18 @@ pub fn attach_leaf(
     types: Types,
     u: LeafType,
     out: &mut [u8],
-    place: Place,
 ) -> Made
     requires { ⌜ TypesAt build types (now incoming) (now target) ⌝ }
-    requires { ⌜ (length (now target) ≤ 16384) × (place .k ≤ 65536 * types .target .at + 1) ⌝ }
+    requires { ⌜ (length (now target) ≤ 16384) × (types .place .k ≤ 65536 * types .target .at + 1) ⌝ }
     requires { ⌜ spanIn (now target) (u .zone) × LeafStands build types (now target) u ⌝ }
-    ensures { λ r. ⌜ AttachedLeaf build types place (now (incoming .entry)) (now (target .entry)) (now (out .entry)) r (now (out .exit)) ⌝ }
+    ensures { λ r. ⌜ AttachedLeaf build types (types .place) (now (incoming .entry)) (now (target .entry)) (now (out .entry)) r (now (out .exit)) ⌝ }
 {
     let LeafPart::Is(l) = leaf_part(incoming, types.incoming) else {
         return Made::Refused(24);
     };
     let outcome = leaf_rule(build.policy, incoming, l, target, u);
     let v = build.target;
+    let place = types.place;
     apply_outcome(
         outcome,
         v,

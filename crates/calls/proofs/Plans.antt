@@ -38,6 +38,8 @@ use Rattle.defaults.specs.declared.read.TableVersion.the-variants.{Shared}
 use Rattle.defaults.specs.Table.{Entry, entriesOf, entries, table}
 use Rattle.defaults.specs.Lookup.{getDefaultValue, firstEntry}
 use Rattle.defaults.specs.Stands.{TableAt}
+use Rattle.defaults.specs.Index.{Indexed, IndexedTable}
+use Rattle.defaults.specs.declared.read.TableRead.{TableRead}
 use Rattle.defaults.proofs.Whole.{TableGot}
 use Rattle.plan.specs.Result.{Result, gives, refuses, demand, Answer, accepted, refusedAt, placed, answered}
 use Rattle.plan.specs.Selector.{Selector, Selectors, snil, scons, countSelectors}
@@ -325,6 +327,11 @@ module _ (p : Policy) (index owner : ℕ) (incoming target defaults : Bytes) (ro
         ∙ rw (G .reads)
         (ap (λ (es : List Entry). answered (build ByNumber p (getDefaultValue es index) (B .from .columns) (B .to .columns)) (writtenPlan room))
         (sym (G .owned)))
+
+-- the index that `read_table` left behind
+pub indexed-read : {s : Bytes} {index : List ℕ} (r : TableRead) {v : TableVersion} {n : ℕ} {c : Cursor} → IndexedTable s r index → r ≡ TableRead.Read v n c
+    → Indexed v s n (c .at) index
+indexed-read {s} {index} r h e = subst (λ (x : TableRead). IndexedTable s x index) e h
 
 -- an answer and a buffer, under another name of what they are
 pub plan-as : {X Y : Answer Bytes} {y : WriteResult} {o : Bytes} (out : Bytes) → X ≡ Y → (y ≡ writeResult Y) × (o ≡ bufferAfter Y out) → (y ≡ writeResult X) × (o ≡ bufferAfter X out)

@@ -1,4 +1,5 @@
-// Test 53 (document 02, L3): the first incoming column without a counterpart among the target's columns. Where there are many, by a table of these.
+// Test 53 (document 02, L3): the first incoming column without a counterpart among the target's columns. Where there
+// are many, by a table of these.
 ghost use mathlib.Core.Path.{_≡_};
 ghost use Prim.Native.Nat.{_<_};
 ghost use lib.ListN.{length};
@@ -9,6 +10,7 @@ ghost use Rattle.calls.specs.Answers.{BothIn, IsExtra, FoundExtra, Extra
 use crate::layouts::Both;
 use builder::build::Build;
 use builder::build::Fields;
+use labels::SiblingColumns;
 use labels::fill_in;
 use labels::find_in;
 use layout::columns::Label;
@@ -38,10 +40,17 @@ fn is_extra(
     requires { ⌜ spanIn (now incoming) (l .name) ⌝ }
     ensures { λ r. ⌜ IsExtra build (now (target .entry)) fields (labelAt (now (incoming .entry)) l) r ⌝ }
 {
-    let how = build.matching;
-    let w = build.target;
-    let c = fields.first;
-    match find_in(target, w, how, 16, fields.count, c, chains, incoming, l) {
+    let matching = build.matching;
+    let edition = build.target;
+    let first = fields.first;
+    let columns = SiblingColumns {
+        edition,
+        matching,
+        depth: 16,
+        count: fields.count,
+        first,
+    };
+    match find_in(target, columns, chains, incoming, l) {
         Found::At(_, _, _) => false,
         Found::Absent => true,
     }
@@ -74,15 +83,17 @@ fn first_extra(
                 let e = skip_type(incoming, v, 16, next);
                 at = e.at;
             }
-            Labelled::Refused(_) => return ExtraColumn::Nothing,
+            Labelled::Refused(_) => return ExtraColumn::At(i),
         }
         i += 1;
     }
     ExtraColumn::Nothing
 }
 
-// The same with an arena, in which a table of the target's columns is filled where many are looked for.
-fn extra_in_arena(
+// The extra column that refuses a build, under Raise. Where many are looked for, a table of the target's columns is
+// filled in the arena; where this is too short, the columns are scanned.
+pub fn extra_column(
+    policy: ExtraColumnsPolicy,
     build: Build,
     incoming: &[u8],
     target: &[u8],
@@ -90,61 +101,23 @@ fn extra_in_arena(
     arena: &mut [u16],
 ) -> ExtraColumn
     requires { ⌜ BothIn build both (now incoming) (now target) ⌝ }
-    ensures { λ r. ⌜ FoundExtra build both (now (incoming .entry)) (now (target .entry)) r ⌝ }
-{
-    let how = build.matching;
-    let w = build.target;
-    let b = both.target.first;
-    let used = fill_in(
-        both.incoming.count,
-        target,
-        w,
-        how,
-        16,
-        both.target.count,
-        b,
-        arena,
-    );
-    first_extra(build, incoming, target, both, &arena[..used])
-}
-
-// With an arena that takes less time to clear. Where it is too short for a table, the columns are scanned.
-fn extra_in_small(build: Build, incoming: &[u8], target: &[u8], both: Both) -> ExtraColumn
-    requires { ⌜ BothIn build both (now incoming) (now target) ⌝ }
-    ensures { λ r. ⌜ FoundExtra build both (now (incoming .entry)) (now (target .entry)) r ⌝ }
-{
-    let mut arena = [0u16; 1024];
-    extra_in_arena(build, incoming, target, both, &mut arena)
-}
-
-// With an arena that has room for a table of the most columns.
-fn extra_in_large(build: Build, incoming: &[u8], target: &[u8], both: Both) -> ExtraColumn
-    requires { ⌜ BothIn build both (now incoming) (now target) ⌝ }
-    ensures { λ r. ⌜ FoundExtra build both (now (incoming .entry)) (now (target .entry)) r ⌝ }
-{
-    let mut arena = [0u16; 10400];
-    extra_in_arena(build, incoming, target, both, &mut arena)
-}
-
-// The extra column that refuses a build, under Raise. That `extra_in_large` is called twice keeps it a function of its own: called once, it would be compiled
-// into its caller, and its table would stand beside the plan's buffer.
-pub fn extra_column(
-    policy: ExtraColumnsPolicy,
-    build: Build,
-    incoming: &[u8],
-    target: &[u8],
-    both: Both,
-) -> ExtraColumn
-    requires { ⌜ BothIn build both (now incoming) (now target) ⌝ }
     ensures { λ r. ⌜ ExtraFound policy build both (now (incoming .entry)) (now (target .entry)) r ⌝ }
 {
-    let count = both.target.count;
     match policy {
         ExtraColumnsPolicy::Ignore => ExtraColumn::Nothing,
-        ExtraColumnsPolicy::Raise => match count {
-            0..=256 => extra_in_small(build, incoming, target, both),
-            257 => extra_in_large(build, incoming, target, both),
-            _ => extra_in_large(build, incoming, target, both),
-        },
+        ExtraColumnsPolicy::Raise => {
+            let matching = build.matching;
+            let edition = build.target;
+            let first = both.target.first;
+            let columns = SiblingColumns {
+                edition,
+                matching,
+                depth: 16,
+                count: both.target.count,
+                first,
+            };
+            let used = fill_in(both.incoming.count, target, columns, arena);
+            first_extra(build, incoming, target, both, &arena[..used])
+        }
     }
 }

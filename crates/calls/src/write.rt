@@ -1,10 +1,11 @@
-// The plan's bytes. They are built in a local buffer, the room, and copied once, so that a refusal changes no lent buffer.
+// The plan's bytes. They are built in a local buffer, the room, and copied once, so that a refusal changes no lent
+// buffer.
 ghost use mathlib.Core.Path.{_≡_};
 ghost use Prim.Native.Nat.{_+_, _≤_, _<_};
 ghost use lib.ListN.{length, take};
 ghost use Rattle.store.specs.Overlay.{overlay};
 ghost use Rattle.layout.specs.Bytes.{Bytes};
-ghost use Rattle.defaults.specs.Stands.{TableAt};
+ghost use Rattle.defaults.specs.Stands.{IndexedTableAt};
 ghost use Rattle.calls.specs.Answers.{BothIn, Attempted, planHead, written, AttemptedIn, PlanMatched, PlanBuilt};
 use crate::columns::ColumnsMade;
 use crate::columns::build_columns;
@@ -54,19 +55,21 @@ fn build_in(
     build: Build,
     incoming: &[u8],
     table: &[u8],
+    index: &[u16],
     target: &[u8],
     both: Both,
     room: &mut [u8],
+    arena: &mut [u16],
     plan: &mut [u8],
 ) -> Attempt
     requires { ⌜ BothIn build both (now incoming) (now target) ⌝ }
-    requires { ⌜ TableAt (now table) (build .defaults) ⌝ }
+    requires { ⌜ IndexedTableAt (now table) (now index) (build .defaults) ⌝ }
     requires { ⌜ (length (now target) ≤ 16384) × (length (now table) ≤ 16384) × (both .target .first .at ≡ 7) ⌝ }
     requires { ⌜ length (now room) ≤ 65536 ⌝ }
     ensures { λ r. ⌜ AttemptedIn build both (length (now (room .entry))) (now (table .entry)) (now (incoming .entry)) (now (target .entry)) (now (plan .entry)) r (now (plan .exit)) ⌝ }
 {
     put_plan_head(room, both.target.count);
-    match build_columns(build, incoming, table, target, both, room, 7) {
+    match build_columns(build, incoming, table, index, target, both, room, arena) {
         ColumnsMade::Failed(x, i) => Attempt::Answer(WriteResult::Refused(x, i)),
         ColumnsMade::Done(len) => write_plan(room, 7 + len, plan),
     }
@@ -77,17 +80,29 @@ fn build_small(
     build: Build,
     incoming: &[u8],
     table: &[u8],
+    index: &[u16],
     target: &[u8],
     both: Both,
+    arena: &mut [u16],
     plan: &mut [u8],
 ) -> Attempt
     requires { ⌜ BothIn build both (now incoming) (now target) ⌝ }
-    requires { ⌜ TableAt (now table) (build .defaults) ⌝ }
+    requires { ⌜ IndexedTableAt (now table) (now index) (build .defaults) ⌝ }
     requires { ⌜ (length (now target) ≤ 16384) × (length (now table) ≤ 16384) × (both .target .first .at ≡ 7) ⌝ }
     ensures { λ r. ⌜ AttemptedIn build both 4096 (now (table .entry)) (now (incoming .entry)) (now (target .entry)) (now (plan .entry)) r (now (plan .exit)) ⌝ }
 {
     let mut room = [0u8; 4096];
-    build_in(build, incoming, table, target, both, &mut room, plan)
+    build_in(
+        build,
+        incoming,
+        table,
+        index,
+        target,
+        both,
+        &mut room,
+        arena,
+        plan,
+    )
 }
 
 // In a room as long as a plan may be: what is longer is refused with 27.
@@ -95,42 +110,66 @@ fn build_large(
     build: Build,
     incoming: &[u8],
     table: &[u8],
+    index: &[u16],
     target: &[u8],
     both: Both,
+    arena: &mut [u16],
     plan: &mut [u8],
 ) -> WriteResult
     requires { ⌜ BothIn build both (now incoming) (now target) ⌝ }
-    requires { ⌜ TableAt (now table) (build .defaults) ⌝ }
+    requires { ⌜ IndexedTableAt (now table) (now index) (build .defaults) ⌝ }
     requires { ⌜ (length (now target) ≤ 16384) × (length (now table) ≤ 16384) × (both .target .first .at ≡ 7) ⌝ }
     ensures { λ r. ⌜ PlanMatched build both (now (table .entry)) (now (incoming .entry)) (now (target .entry)) (now (plan .entry)) r (now (plan .exit)) ⌝ }
 {
     let mut room = [0u8; 65536];
-    match build_in(build, incoming, table, target, both, &mut room, plan) {
+    match build_in(
+        build,
+        incoming,
+        table,
+        index,
+        target,
+        both,
+        &mut room,
+        arena,
+        plan,
+    ) {
         Attempt::Answer(r) => r,
         Attempt::Short => WriteResult::Refused(27, 0),
     }
 }
 
-// The plan between two layouts that were read, once 53 was tested. For a small target the small room is tried first, and the large one where that was too short.
+// The plan between two layouts that were read, once 53 was tested. For a small target the small room is tried first,
+// and the large one where that was too short.
 fn build_matched(
     build: Build,
     incoming: &[u8],
     table: &[u8],
+    index: &[u16],
     target: &[u8],
     both: Both,
+    arena: &mut [u16],
     plan: &mut [u8],
 ) -> WriteResult
     requires { ⌜ BothIn build both (now incoming) (now target) ⌝ }
-    requires { ⌜ TableAt (now table) (build .defaults) ⌝ }
+    requires { ⌜ IndexedTableAt (now table) (now index) (build .defaults) ⌝ }
     requires { ⌜ (length (now target) ≤ 16384) × (length (now table) ≤ 16384) × (both .target .first .at ≡ 7) ⌝ }
     ensures { λ r. ⌜ PlanMatched build both (now (table .entry)) (now (incoming .entry)) (now (target .entry)) (now (plan .entry)) r (now (plan .exit)) ⌝ }
 {
     if target.len() <= 1024 {
-        if let Attempt::Answer(r) = build_small(build, incoming, table, target, both, plan) {
+        if let Attempt::Answer(r) = build_small(
+            build,
+            incoming,
+            table,
+            index,
+            target,
+            both,
+            arena,
+            plan,
+        ) {
             return r;
         }
     }
-    build_large(build, incoming, table, target, both, plan)
+    build_large(build, incoming, table, index, target, both, arena, plan)
 }
 
 // The plan between two layouts that were read: 53 is tested before the first target column.
@@ -138,19 +177,30 @@ pub fn build_plan(
     build: Build,
     incoming: &[u8],
     table: &[u8],
+    index: &[u16],
     target: &[u8],
     both: Both,
+    arena: &mut [u16],
     plan: &mut [u8],
 ) -> WriteResult
     requires { ⌜ BothIn build both (now incoming) (now target) ⌝ }
-    requires { ⌜ TableAt (now table) (build .defaults) ⌝ }
+    requires { ⌜ IndexedTableAt (now table) (now index) (build .defaults) ⌝ }
     requires { ⌜ (length (now target) ≤ 16384) × (length (now table) ≤ 16384) × (both .target .first .at ≡ 7) ⌝ }
     ensures { λ r. ⌜ PlanBuilt build both (now (table .entry)) (now (incoming .entry)) (now (target .entry)) (now (plan .entry)) r (now (plan .exit)) ⌝ }
 {
     let policy = build.policy;
     let extra = policy.extra_columns;
-    match extra_column(extra, build, incoming, target, both) {
+    match extra_column(extra, build, incoming, target, both, arena) {
         ExtraColumn::At(i) => WriteResult::Refused(53, i),
-        ExtraColumn::Nothing => build_matched(build, incoming, table, target, both, plan),
+        ExtraColumn::Nothing => build_matched(
+            build,
+            incoming,
+            table,
+            index,
+            target,
+            both,
+            arena,
+            plan,
+        ),
     }
 }

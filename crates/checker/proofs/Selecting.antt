@@ -93,7 +93,8 @@ module _ {incoming : Bytes} {v : Edition} {n : ℕ} {plan : Bytes} {w : Walk} {s
 
   -- how many columns positions take from, and whether they are within the limits
   pub scope-is : {k : ℕ} → ((Δ : Fields) → ScopedAt incoming v n plan w Δ → k ≡ countFields Δ) → {b : Bool}
-      → (b ≡ true → (v : Edition) (n : ℕ) (plan : Bytes) (Δ : Fields) → ScopedAt incoming v n plan w Δ → Limited Δ) → ScopeIs (record { count = k; within = b }) Δ
+      → (b ≡ true → (v : Edition) (n : ℕ) (plan : Bytes) (Δ : Fields) → ScopedAt incoming v n plan w Δ → Limited Δ)
+      → ScopeIs (record { count = k; within = b }) Δ
   scope-is f g = record { count = sym (f Δ checking-scope); limited = λ b. g b v n plan Δ checking-scope }
 
   stands-for : {t : Selector} → C .standing .here .tree ≡ t → s ≡ t
@@ -121,7 +122,8 @@ module _ {incoming : Bytes} {v : Edition} {n : ℕ} {plan : Bytes} {w : Walk} {s
 
   -- ---- what it gives is within the limits
 
-  pub transform-limited : {a : Column} → typeOf Δ s ≡ gives a → {t : Selector} → C .standing .here .tree ≡ t → isTransform t ≡ true → withinLimits (a .type) ≡ true
+  pub transform-limited : {a : Column} → typeOf Δ s ≡ gives a → {t : Selector} → C .standing .here .tree ≡ t → isTransform t ≡ true
+      → withinLimits (a .type) ≡ true
   transform-limited g e h = transform-within Δ s (ap isTransform (stands-for e) ∙ h) g
 
   module _ {r : SelectorHead} (h : HeadIs plan (w .at) (C .standing .here) r) {a : Column} (g : typeOf Δ s ≡ gives a) where
@@ -129,12 +131,12 @@ module _ {incoming : Bytes} {v : Edition} {n : ℕ} {plan : Bytes} {w : Walk} {s
     unfolding typeOf
     position-limited {k} e S b = S .limited b .each (k .0) a (sym (typed-for (is-position h e .1)) ∙ g)
 
-    pub constant-limited : {b : Span} {c : Cursor} → r ≡ SelectorHead.Constant b c → {o : Fit} → ((t : DataType) → TypeIs One plan (c .at) t → o ≡ typeFit t 16 16384)
+    pub constant-limited : {b : Span} {c : Cursor} → r ≡ SelectorHead.Constant b c
+        → {o : Fit} → ((t : DataType) → TypeIs One plan (c .at) t → o ≡ typeFit t 16 16384)
         → {q : Bool} → q ≡ withinFit o → q ≡ true → withinLimits (a .type) ≡ true
     unfolding typeOf
     constant-limited e f p z =
         let K = is-constant h e in
-        let t = dtypeOf (K .type .tree) in
         ap (λ (x : Column). withinLimits (x .type)) (sym (gives-eq (sym (typed-for (K .is)) ∙ g)))
         ∙ sym (within-fit (dtypeOf (K .type .tree))) ∙ ap withinFit (sym (f (dtypeOf (K .type .tree)) (record { type = K .type; is = refl }))) ∙ sym p ∙ z
 

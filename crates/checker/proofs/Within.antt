@@ -105,8 +105,8 @@ columns-limited {v} {s} {n} C b = record {
   each = λ k a h. column-limited b (columns→ v Free s deepest (λ at t e h. type→ v Free s deepest at h) n [] 7 (C .reads)) k h;
 }
 
-pub scope-limited : {incoming : Bytes} {v : Edition} {n : ℕ} {plan : Bytes} {w : Walk} {Δ : Fields} → ScopedAt incoming v n plan w Δ → w .deep ≡ 0 → length incoming ≤ longestType
-    → Limited Δ
+pub scope-limited : {incoming : Bytes} {v : Edition} {n : ℕ} {plan : Bytes} {w : Walk} {Δ : Fields} → ScopedAt incoming v n plan w Δ
+    → w .deep ≡ 0 → length incoming ≤ longestType → Limited Δ
 scope-limited {incoming} {v} {n} S z b =
     let l = entries-count (S .standing .entries) in
     go (S .columns) (S .scoped) (let q : length (S .place .frames) ≡ 0 = omega arith in q)

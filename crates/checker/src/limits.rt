@@ -225,13 +225,11 @@ fn fields_fit(
     requires { ⌜ ((fs : Fields) × MappedAt (now incoming) v n (now plan) w (struct fs) × (countFields fs ≡ count)) ⌝ }
     ensures { λ f. ⌜ ((fs : Fields) → MappedAt (now (incoming .entry)) v n (now (plan .entry)) w (struct fs) → countFields fs ≡ count → f ≡ fieldsFit fs levels room) ⌝ }
 {
-    let first = first_child(plan, w);
-    let mut at = first.at;
+    let mut c = first_child(plan, w);
     let mut size: usize = 0;
     let mut deep: u8 = 0;
     let mut k: u16 = 0;
     while k < count {
-        let c = Cursor { at };
         let x = child_at(w, k, c);
         match column_fit(incoming, v, n, plan, x, Size::Unknown, levels, room - size) {
             Fit::Within(more, inner) => {
@@ -240,8 +238,7 @@ fn fields_fit(
             }
             Fit::Over => return Fit::Over,
         }
-        let d = skip_selector(plan, c);
-        at = d.at;
+        c = skip_selector(plan, c);
         k += 1;
     }
     Fit::Within(size, deep)

@@ -28,6 +28,7 @@ use layout::columns::Labelled;
 use layout::cursor::Cursor;
 use layout::edition::Edition;
 use layout::types::Head;
+use nodes::places::TypePlace;
 use walk::child::child_at;
 use walk::child::first_child;
 use walk::head::skip_selector;
@@ -103,20 +104,21 @@ pub fn same_as(
     plan: &[u8],
     r: Resolved,
     target: &[u8],
-    vt: Edition,
-    depth: u8,
-    c: Cursor,
+    place: TypePlace,
 ) -> Ends
     requires { ⌜ ((t : DataType) × ResolvedAt (now incoming) v n (now plan) r t) ⌝ }
-    requires { ⌜ TypeAt vt depth (now target) (c .at) ⌝ }
-    ensures { λ e. ⌜ ((t : DataType) (Q : TypeAt vt depth (now (target .entry)) (c .at)) → ResolvedAt (now (incoming .entry)) v n (now (plan .entry)) r t → e ≡ endsOf (sameDtype t (dtypeOf (Q .tree))) (Q .end)) ⌝ }
+    requires { ⌜ TypeAt (place .edition) (place .depth) (now target) (place .at .at) ⌝ }
+    ensures { λ e. ⌜ ((t : DataType) (Q : TypeAt (place .edition) (place .depth) (now (target .entry)) (place .at .at)) → ResolvedAt (now (incoming .entry)) v n (now (plan .entry)) r t → e ≡ endsOf (sameDtype t (dtypeOf (Q .tree))) (Q .end)) ⌝ }
 {
     let source = r.source;
     let at = r.at;
+    let vt = place.edition;
+    let depth = place.depth;
+    let c = place.at;
     match source {
         Source::Incoming => target_end(same_type(incoming, v, 16, at, target, vt, depth, c)),
         Source::Plan => target_end(same_type(plan, Edition::One, 16, at, target, vt, depth, c)),
-        Source::Mapped => same_mapped(incoming, v, n, plan, r, target, vt, depth, c),
+        Source::Mapped => same_mapped(incoming, v, n, plan, r, target, place),
     }
 }
 
@@ -128,15 +130,14 @@ fn same_mapped(
     plan: &[u8],
     r: Resolved,
     target: &[u8],
-    vt: Edition,
-    depth: u8,
-    c: Cursor,
+    place: TypePlace,
 ) -> Ends
     requires { ⌜ ((t : DataType) × ResolvedAt (now incoming) v n (now plan) r t) ⌝ }
     requires { ⌜ r .source ≡ SourceOf.Mapped ⌝ }
-    requires { ⌜ TypeAt vt depth (now target) (c .at) ⌝ }
-    ensures { λ e. ⌜ ((t : DataType) (Q : TypeAt vt depth (now (target .entry)) (c .at)) → ResolvedAt (now (incoming .entry)) v n (now (plan .entry)) r t → e ≡ endsOf (sameDtype t (dtypeOf (Q .tree))) (Q .end)) ⌝ }
+    requires { ⌜ TypeAt (place .edition) (place .depth) (now target) (place .at .at) ⌝ }
+    ensures { λ e. ⌜ ((t : DataType) (Q : TypeAt (place .edition) (place .depth) (now (target .entry)) (place .at .at)) → ResolvedAt (now (incoming .entry)) v n (now (plan .entry)) r t → e ≡ endsOf (sameDtype t (dtypeOf (Q .tree))) (Q .end)) ⌝ }
 {
+    let c = place.at;
     let h = type_head(incoming, v, n, plan, r);
     let a = code(h);
     let b = target_code(target, c);
@@ -146,15 +147,18 @@ fn same_mapped(
     if a.number != b.number {
         return Ends::Differ;
     }
-    let e = head_end(target, c);
+    let edition = place.edition;
+    let depth = place.depth - 1;
+    let at = head_end(target, c);
+    let inner = TypePlace { edition, depth, at };
     match h {
         TypeHead::Leaf(_, _) => Ends::Differ,
         TypeHead::Struct(count) => {
             let w = r.walk;
-            same_fields(incoming, v, n, plan, w, count, target, vt, depth - 1, e)
+            same_fields(incoming, v, n, plan, w, count, target, inner)
         }
-        TypeHead::List => same_element(incoming, v, n, plan, r, target, vt, depth - 1, e),
-        TypeHead::Array(_) => same_element(incoming, v, n, plan, r, target, vt, depth - 1, e),
+        TypeHead::List => same_element(incoming, v, n, plan, r, target, inner),
+        TypeHead::Array(_) => same_element(incoming, v, n, plan, r, target, inner),
     }
 }
 
@@ -166,24 +170,26 @@ fn same_element(
     plan: &[u8],
     r: Resolved,
     target: &[u8],
-    vt: Edition,
-    depth: u8,
-    c: Cursor,
+    place: TypePlace,
 ) -> Ends
     requires { ⌜ ((t : DataType) × (a : Column) × ResolvedAt (now incoming) v n (now plan) r t × PartOf t 0 a) ⌝ }
-    requires { ⌜ ElementAt vt depth (now target) (c .at) ⌝ }
-    ensures { λ e. ⌜ ((t : DataType) (a : Column) (E : ElementAt vt depth (now (target .entry)) (c .at)) → ResolvedAt (now (incoming .entry)) v n (now (plan .entry)) r t → PartOf t 0 a → e ≡ endsOf (sameDtype (a .type) (dtypeOf (E .inner .tree))) (E .inner .end)) ⌝ }
+    requires { ⌜ ElementAt (place .edition) (place .depth) (now target) (place .at .at) ⌝ }
+    ensures { λ e. ⌜ ((t : DataType) (a : Column) (E : ElementAt (place .edition) (place .depth) (now (target .entry)) (place .at .at)) → ResolvedAt (now (incoming .entry)) v n (now (plan .entry)) r t → PartOf t 0 a → e ≡ endsOf (sameDtype (a .type) (dtypeOf (E .inner .tree))) (E .inner .end)) ⌝ }
 {
-    match c.element_label(target, vt) {
-        Labelled::Is(_, d) => {
+    let edition = place.edition;
+    let depth = place.depth;
+    let c = place.at;
+    match c.element_label(target, edition) {
+        Labelled::Is(_, at) => {
             let p = part(incoming, v, n, plan, r, 0);
-            same_as(incoming, v, n, plan, p, target, vt, depth, d)
+            let inner = TypePlace { edition, depth, at };
+            same_as(incoming, v, n, plan, p, target, inner)
         }
         Labelled::Refused(_) => Ends::Differ,
     }
 }
 
-// The column that the selector where the walk stands gives, and the target's column at `c`: names and types.
+// The column that the selector where the walk stands gives, and the target's column at `place`: names and types.
 pub fn same_column(
     incoming: &[u8],
     v: Edition,
@@ -191,23 +197,25 @@ pub fn same_column(
     plan: &[u8],
     w: Walk,
     target: &[u8],
-    vt: Edition,
-    depth: u8,
-    c: Cursor,
+    place: TypePlace,
 ) -> Ends
     requires { ⌜ ((a : Column) × NamedAt (now incoming) v n (now plan) w a) ⌝ }
-    requires { ⌜ ColumnAt vt depth (now target) (c .at) ⌝ }
-    ensures { λ e. ⌜ ((a : Column) (E : ColumnAt vt depth (now (target .entry)) (c .at)) → NamedAt (now (incoming .entry)) v n (now (plan .entry)) w a → e ≡ endsOf (sameBytes (a .name) (E .label .name) && sameDtype (a .type) (dtypeOf (E .inner .tree))) (E .inner .end)) ⌝ }
+    requires { ⌜ ColumnAt (place .edition) (place .depth) (now target) (place .at .at) ⌝ }
+    ensures { λ e. ⌜ ((a : Column) (E : ColumnAt (place .edition) (place .depth) (now (target .entry)) (place .at .at)) → NamedAt (now (incoming .entry)) v n (now (plan .entry)) w a → e ≡ endsOf (sameBytes (a .name) (E .label .name) && sameDtype (a .type) (dtypeOf (E .inner .tree))) (E .inner .end)) ⌝ }
 {
-    match c.label(target, vt) {
-        Labelled::Is(l, d) => {
+    let edition = place.edition;
+    let depth = place.depth;
+    let c = place.at;
+    match c.label(target, edition) {
+        Labelled::Is(l, at) => {
             let name = name_at(incoming, v, n, plan, w);
             let q = l.name;
             if !same_name(incoming, plan, name, target, q) {
                 return Ends::Differ;
             }
             let r = resolve(incoming, v, n, plan, w);
-            same_as(incoming, v, n, plan, r, target, vt, depth, d)
+            let inner = TypePlace { edition, depth, at };
+            same_as(incoming, v, n, plan, r, target, inner)
         }
         Labelled::Refused(_) => Ends::Differ,
     }
@@ -222,31 +230,31 @@ fn same_fields(
     w: Walk,
     count: u16,
     target: &[u8],
-    vt: Edition,
-    depth: u8,
-    c: Cursor,
+    place: TypePlace,
 ) -> Ends
     requires { ⌜ ((fs : Fields) × MappedAt (now incoming) v n (now plan) w (struct fs) × (countFields fs ≡ count)) ⌝ }
-    requires { ⌜ ColumnsAt vt depth (now target) count (c .at) ⌝ }
-    ensures { λ e. ⌜ ((fs : Fields) (Q : ColumnsAt vt depth (now (target .entry)) count (c .at)) → MappedAt (now (incoming .entry)) v n (now (plan .entry)) w (struct fs) → countFields fs ≡ count → e ≡ endsOf (sameFields fs (fieldsOf (Q .columns))) (Q .end)) ⌝ }
+    requires { ⌜ ColumnsAt (place .edition) (place .depth) (now target) count (place .at .at) ⌝ }
+    ensures { λ e. ⌜ ((fs : Fields) (Q : ColumnsAt (place .edition) (place .depth) (now (target .entry)) count (place .at .at)) → MappedAt (now (incoming .entry)) v n (now (plan .entry)) w (struct fs) → countFields fs ≡ count → e ≡ endsOf (sameFields fs (fieldsOf (Q .columns))) (Q .end)) ⌝ }
 {
-    let first = first_child(plan, w);
-    let mut from = first.at;
-    let mut at = c.at;
+    let mut c = first_child(plan, w);
+    let mut at = place.at;
     let mut k: u16 = 0;
     while k < count {
-        let p = Cursor { at: from };
-        let x = child_at(w, k, p);
-        let d = Cursor { at };
-        match same_column(incoming, v, n, plan, x, target, vt, depth, d) {
+        let x = child_at(w, k, c);
+        let edition = place.edition;
+        let column = TypePlace {
+            edition,
+            depth: place.depth,
+            at,
+        };
+        match same_column(incoming, v, n, plan, x, target, column) {
             Ends::At(e) => {
-                at = e.at;
+                at = e;
             }
             Ends::Differ => return Ends::Differ,
         }
-        let q = skip_selector(plan, p);
-        from = q.at;
+        c = skip_selector(plan, c);
         k += 1;
     }
-    Ends::At(Cursor { at })
+    Ends::At(at)
 }

@@ -370,18 +370,15 @@ fn check_fields(
     requires { ⌜ ((i : Selector) × (ss : Selectors) × (fs : Fields) × MappingAt (now incoming) v n (now plan) w (structMapping i ss) i (struct fs) × (countSelectors ss ≡ count) × ScopeIs scope fs) ⌝ }
     ensures { λ r. ⌜ ((i : Selector) (ss : Selectors) (fs : Fields) (name : Bytes) → MappingAt (now (incoming .entry)) v n (now (plan .entry)) w (structMapping i ss) i (struct fs) → countSelectors ss ≡ count → ScopeIs scope fs → r ≡ measuredOf true (fieldsResult fs ss name)) ⌝ }
 {
-    let first = first_child(plan, w);
-    let mut at = first.at;
+    let mut c = first_child(plan, w);
     let mut fields = Fit::Within(0, 0);
     let mut k: u16 = 0;
     while k < count {
-        let c = Cursor { at };
         let x = child_at(w, k, c);
         match check_scoped(incoming, v, n, plan, x, scope) {
             Measured::Passed(size) => {
                 fields = add_field(incoming, v, n, plan, x, size, fields);
-                let d = skip_selector(plan, c);
-                at = d.at;
+                c = skip_selector(plan, c);
                 k += 1;
             }
             Measured::Refused(j) => return Measured::Refused(j),

@@ -19,6 +19,7 @@ use layout::cursor::Cursor;
 use layout::edition::Edition;
 use layout::read::LayoutRead;
 use layout::read::read_layout;
+use nodes::places::TypePlace;
 use nullness::marks::meets_marks;
 use plan::read::PlanRead;
 use plan::read::read_plan;
@@ -43,15 +44,14 @@ fn check_tops(
     requires { ⌜ ((Γ : Fields) × (ss : Selectors) × TopsAt (now incoming) v n (now plan) count (c .at) Γ ss) ⌝ }
     ensures { λ r. ⌜ ((Γ : Fields) (ss : Selectors) → TopsAt (now (incoming .entry)) v n (now (plan .entry)) count (c .at) Γ ss → r ≡ planChecked (topTypes Γ ss 0)) ⌝ }
 {
-    let mut at = c.at;
+    let mut d = c;
     let mut k: u16 = 0;
     while k < count {
-        let d = Cursor { at };
         let e = skip_selector(plan, d);
-        let w = top(at, e.at);
+        let w = top(d.at, e.at);
         match check_selector(incoming, v, n, plan, w) {
             Checked::Passed => {
-                at = e.at;
+                d = e;
                 k += 1;
             }
             Checked::Refused(j) => return PlanChecked::Refused(j, k),
@@ -60,34 +60,36 @@ fn check_tops(
     PlanChecked::Passed
 }
 
-// As many selectors, which have passed, and columns of the target.
+// As many selectors, which have passed, and columns of the target; both begin at `c`.
 fn same_tops(
     incoming: &[u8],
     v: Edition,
     n: u16,
     plan: &[u8],
     count: u16,
-    c: Cursor,
     target: &[u8],
     vt: Edition,
-    b: Cursor,
+    c: Cursor,
 ) -> bool
     requires { ⌜ ((fs : Fields) × TypedTops (now incoming) v n (now plan) count (c .at) fs) ⌝ }
-    requires { ⌜ ColumnsAt vt 16 (now target) count (b .at) ⌝ }
-    ensures { λ r. ⌜ ((fs : Fields) (Q : ColumnsAt vt 16 (now (target .entry)) count (b .at)) → TypedTops (now (incoming .entry)) v n (now (plan .entry)) count (c .at) fs → r ≡ sameFields fs (fieldsOf (Q .columns))) ⌝ }
+    requires { ⌜ ColumnsAt vt 16 (now target) count (c .at) ⌝ }
+    ensures { λ r. ⌜ ((fs : Fields) (Q : ColumnsAt vt 16 (now (target .entry)) count (c .at)) → TypedTops (now (incoming .entry)) v n (now (plan .entry)) count (c .at) fs → r ≡ sameFields fs (fieldsOf (Q .columns))) ⌝ }
 {
-    let mut at = c.at;
-    let mut bt = b.at;
+    let mut d = c;
+    let mut b = c;
     let mut k: u16 = 0;
     while k < count {
-        let d = Cursor { at };
         let e = skip_selector(plan, d);
-        let w = top(at, e.at);
-        let f = Cursor { at: bt };
-        match same_column(incoming, v, n, plan, w, target, vt, 16, f) {
+        let w = top(d.at, e.at);
+        let column = TypePlace {
+            edition: vt,
+            depth: 16,
+            at: b,
+        };
+        match same_column(incoming, v, n, plan, w, target, column) {
             Ends::At(g) => {
-                at = e.at;
-                bt = g.at;
+                d = e;
+                b = g;
                 k += 1;
             }
             Ends::Differ => return false,
@@ -114,8 +116,7 @@ fn same_plan(
     if count != m {
         return false;
     }
-    let c = Cursor { at: 7 };
-    same_tops(incoming, v, n, plan, count, c, target, vt, c)
+    same_tops(incoming, v, n, plan, count, target, vt, Cursor { at: 7 })
 }
 
 // The types of a plan that was read, over two layouts that were read.

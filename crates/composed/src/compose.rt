@@ -9,13 +9,15 @@ ghost use Rattle.layout.specs.declared.edition.Edition.{Edition as EditionOf};
 ghost use Rattle.values.specs.Value.{Values};
 ghost use Rattle.plan.specs.Fits.{FitsAllOver};
 ghost use Rattle.walk.specs.Stands.{SelectorAt};
-ghost use Rattle.nodes.specs.Raw.{RawAt, RowAt};
-ghost use Rattle.index.specs.Indexed.{IndexedRow};
+ghost use Rattle.nodes.specs.Raw.{RawAt};
+ghost use Rattle.index.specs.Indexed.{RowIn, IndexedIn};
 ghost use Rattle.direct.specs.Inputs.{inputOf};
 ghost use Rattle.composed.specs.Composing.{Composed};
 use direct::input::Input;
 use direct::input::input_of;
 use direct::scope::Scope;
+use direct::scope::Source;
+use index::row::Row;
 use index::row::indexed_value;
 use infer::form::Inferred;
 use infer::over::infer_leaf;
@@ -23,6 +25,8 @@ use infer::over::infer_over;
 use layout::cursor::Cursor;
 use layout::edition::Edition;
 use nodes::raw::NodeAt;
+use transfer::leaf::Node;
+use transfer::leaf::Place;
 use transfer::leaf::Reached;
 use transfer::origin::taken_position;
 use transfer::row::transfer;
@@ -41,35 +45,46 @@ fn stored_within(r: Reached, len: usize) -> bool
 // A position or a constant at `c`: its type and its value.
 fn compose_leaf(
     lay: &[u8],
-    v: Edition,
-    n: u16,
-    t: Cursor,
     rec: &[u8],
-    d: Cursor,
+    row: Row,
     types: &[u16],
     values: &[u16],
-    stride: u16,
     plan: &[u8],
     c: Cursor,
     form: &mut [u8],
     value: &mut [u8],
     ends: &[u16],
 ) -> bool
-    requires { ⌜ Ends v (now lay) (now ends) ⌝ }
-    requires { ⌜ RowAt v (now lay) n (t .at) (now rec) (d .at) ⌝ }
-    requires { ⌜ IndexedRow v (now lay) n (t .at) (now rec) (d .at) stride (now types) (now values) × (0 < stride) ⌝ }
+    requires { ⌜ Ends (row .columns .edition) (now lay) (now ends) ⌝ }
+    requires { ⌜ RowIn (now lay) (now rec) row ⌝ }
+    requires { ⌜ IndexedIn (now lay) (now rec) row (now types) (now values) × (0 < row .stride) ⌝ }
     requires { ⌜ SelectorAt (now plan) (c .at) ⌝ }
     requires { ⌜ (length (now lay) ≤ 65536) × (length (now rec) ≤ 65536) × (length (now plan) ≤ 65536) ⌝ }
     requires { ⌜ (length (now form) ≤ 16384) × (length (now value) ≤ 16384) ⌝ }
-    ensures { λ r. ⌜ (r ≡ true → (X : RowAt v (now (lay .entry)) n (t .at) (now (rec .entry)) (d .at)) (P : SelectorAt (now (plan .entry)) (c .at)) → Composed (fieldsOf (X .columns .columns)) (X .values .values) (P .tree) (now (form .exit)) (now (value .exit))) ⌝ }
+    ensures { λ r. ⌜ (r ≡ true → (X : RowIn (now (lay .entry)) (now (rec .entry)) row) (P : SelectorAt (now (plan .entry)) (c .at)) → Composed (fieldsOf (X .columns .columns)) (X .values .values) (P .tree) (now (form .exit)) (now (value .exit))) ⌝ }
 {
-    let columns = Scope::Columns(n, t);
-    match infer_leaf(lay, v, columns, types, stride, plan, c, 16, form, 0) {
+    let range = row.columns;
+    let v = range.edition;
+    let n = range.count;
+    let t = range.first;
+    let scope = Scope::Columns(n, t);
+    let source = Source {
+        edition: v,
+        scope,
+        stride: row.stride,
+    };
+    match infer_leaf(lay, source, types, plan, c, 16, form, 0) {
         Inferred::Is(_) => {
             let p = taken_position(plan, c);
-            let node = indexed_value(lay, v, n, t, rec, d, types, values, stride, p, ends);
+            let at = indexed_value(lay, rec, row, types, values, p, ends);
+            let node = Node { edition: v, at };
+            let place = Place {
+                selector: c,
+                levels: 1,
+                k: 0,
+            };
             let len = value.len();
-            stored_within(transfer(lay, v, rec, node, plan, c, 1, value, 0, ends), len)
+            stored_within(transfer(lay, rec, node, plan, place, value, ends), len)
         }
         Inferred::Unknown => false,
     }
@@ -94,21 +109,17 @@ fn compose_over(
     let start = Cursor { at: 0 };
     match infer_over(lay, Edition::One, start, plan, c, 16, form, 0) {
         Inferred::Is(_) => {
-            let node = NodeAt::At(start, start);
+            let edition = Edition::One;
+            let at = NodeAt::At(start, start);
+            let node = Node { edition, at };
+            let place = Place {
+                selector: c,
+                levels: 64,
+                k: 0,
+            };
             let len = value.len();
             stored_within(
-                transfer_over(
-                    lay,
-                    Edition::One,
-                    rec,
-                    node,
-                    plan,
-                    c,
-                    64,
-                    value,
-                    0,
-                    &none[..0],
-                ),
+                transfer_over(lay, rec, node, plan, place, value, &none[..0]),
                 len,
             )
         }
@@ -119,14 +130,10 @@ fn compose_over(
 // The selector at `c` over a row: its type at the start of `form`, its value at the start of `value`. Its inputs take turns in the two pairs of buffers.
 pub fn compose_value(
     lay: &[u8],
-    v: Edition,
-    n: u16,
-    t: Cursor,
     rec: &[u8],
-    d: Cursor,
+    row: Row,
     types: &[u16],
     values: &[u16],
-    stride: u16,
     plan: &[u8],
     c: Cursor,
     levels: u8,
@@ -136,46 +143,27 @@ pub fn compose_value(
     other_value: &mut [u8],
     ends: &[u16],
 ) -> bool
-    requires { ⌜ Ends v (now lay) (now ends) ⌝ }
-    requires { ⌜ RowAt v (now lay) n (t .at) (now rec) (d .at) ⌝ }
-    requires { ⌜ IndexedRow v (now lay) n (t .at) (now rec) (d .at) stride (now types) (now values) × (0 < stride) ⌝ }
+    requires { ⌜ Ends (row .columns .edition) (now lay) (now ends) ⌝ }
+    requires { ⌜ RowIn (now lay) (now rec) row ⌝ }
+    requires { ⌜ IndexedIn (now lay) (now rec) row (now types) (now values) × (0 < row .stride) ⌝ }
     requires { ⌜ SelectorAt (now plan) (c .at) ⌝ }
     requires { ⌜ (length (now lay) ≤ 65536) × (length (now rec) ≤ 65536) × (length (now plan) ≤ 65536) ⌝ }
     requires { ⌜ (length (now form) ≤ 16384) × (length (now value) ≤ 16384) ⌝ }
     requires { ⌜ (length (now «other_form») ≤ 16384) × (length (now «other_value») ≤ 16384) ⌝ }
-    ensures { λ r. ⌜ (r ≡ true → (X : RowAt v (now (lay .entry)) n (t .at) (now (rec .entry)) (d .at)) (P : SelectorAt (now (plan .entry)) (c .at)) → Composed (fieldsOf (X .columns .columns)) (X .values .values) (P .tree) (now (form .exit)) (now (value .exit))) ⌝ }
+    ensures { λ r. ⌜ (r ≡ true → (X : RowIn (now (lay .entry)) (now (rec .entry)) row) (P : SelectorAt (now (plan .entry)) (c .at)) → Composed (fieldsOf (X .columns .columns)) (X .values .values) (P .tree) (now (form .exit)) (now (value .exit))) ⌝ }
 {
     if levels == 0 {
         return false;
     }
     match input_of(plan, c) {
-        Input::None => compose_leaf(
-            lay,
-            v,
-            n,
-            t,
-            rec,
-            d,
-            types,
-            values,
-            stride,
-            plan,
-            c,
-            form,
-            value,
-            ends,
-        ),
+        Input::None => compose_leaf(lay, rec, row, types, values, plan, c, form, value, ends),
         Input::At(input) => {
             if !compose_value(
                 lay,
-                v,
-                n,
-                t,
                 rec,
-                d,
+                row,
                 types,
                 values,
-                stride,
                 plan,
                 input,
                 levels - 1,

@@ -2,22 +2,23 @@
 ghost use Prim.Native.Nat.{_≤_, _<_};
 ghost use lib.ListN.{length};
 ghost use Rattle.ends.specs.Ends.{Ends};
-ghost use Rattle.values.specs.Encode.{encodeValue, encodeValues};
-ghost use Rattle.plan.specs.Run.{eval, evals, clean, cleanAll};
-ghost use Rattle.walk.specs.Stands.{SelectorAt, SelectorsAt};
-ghost use Rattle.nodes.specs.Raw.{RowAt};
-ghost use Rattle.index.specs.Indexed.{IndexedRow};
+ghost use Rattle.walk.specs.Stands.{SelectorAt};
+ghost use Rattle.index.specs.Indexed.{RowIn, IndexedIn};
 ghost use Rattle.direct.specs.Inputs.{InputAt};
-ghost use Rattle.transfer.specs.Reaching.{ReachedIs};
+ghost use Rattle.transfer.specs.Given.{SelectorsIn, SelectorReached, RowReached};
 use crate::compose::compose_value;
 use direct::input::Input;
 use direct::input::input_of;
 use direct::input::skip_renames;
+use index::row::Row;
 use index::row::indexed_value;
 use layout::cursor::Cursor;
 use layout::edition::Edition;
 use nodes::raw::NodeAt;
+use transfer::leaf::Node;
+use transfer::leaf::Place;
 use transfer::leaf::Reached;
+use transfer::leaf::Selectors;
 use transfer::leaf::limited;
 use transfer::origin::is_position;
 use transfer::origin::taken_position;
@@ -26,48 +27,45 @@ use transfer::row::transfer_over;
 use walk::head::SelectorHead;
 use walk::head::head;
 
+// A transform, and where its input stands.
+struct Transform {
+    place: Place,
+    input: Cursor,
+}
+
 // With buffers for all that a result can be.
 fn over_large(
     lay: &[u8],
-    v: Edition,
-    n: u16,
-    t: Cursor,
     rec: &[u8],
-    d: Cursor,
+    row: Row,
     types: &[u16],
     values: &[u16],
-    stride: u16,
     plan: &[u8],
-    c: Cursor,
-    input: Cursor,
+    transform: Transform,
     out: &mut [u8],
-    k: usize,
     ends: &[u16],
 ) -> Reached
-    requires { ⌜ Ends v (now lay) (now ends) ⌝ }
-    requires { ⌜ RowAt v (now lay) n (t .at) (now rec) (d .at) ⌝ }
-    requires { ⌜ IndexedRow v (now lay) n (t .at) (now rec) (d .at) stride (now types) (now values) × (0 < stride) ⌝ }
-    requires { ⌜ ((P : SelectorAt (now plan) (c .at)) × InputAt (now plan) (c .at) P (input .at)) ⌝ }
-    requires { ⌜ (length (now lay) ≤ 65536) × (length (now rec) ≤ 65536) × (length (now plan) ≤ 65536) × (k ≤ 16384) ⌝ }
-    ensures { λ r. ⌜ ((X : RowAt v (now (lay .entry)) n (t .at) (now (rec .entry)) (d .at)) (P : SelectorAt (now (plan .entry)) (c .at)) → InputAt (now (plan .entry)) (c .at) P (input .at) → ReachedIs (clean (eval (X .values .values) (P .tree))) (encodeValue (eval (X .values .values) (P .tree))) (P .end) (now (out .entry)) k r (now (out .exit))) ⌝ }
+    requires { ⌜ Ends (row .columns .edition) (now lay) (now ends) ⌝ }
+    requires { ⌜ RowIn (now lay) (now rec) row ⌝ }
+    requires { ⌜ IndexedIn (now lay) (now rec) row (now types) (now values) × (0 < row .stride) ⌝ }
+    requires { ⌜ ((P : SelectorAt (now plan) (transform .place .selector .at)) × InputAt (now plan) (transform .place .selector .at) P (transform .input .at)) ⌝ }
+    requires { ⌜ (length (now lay) ≤ 65536) × (length (now rec) ≤ 65536) × (length (now plan) ≤ 65536) × (transform .place .k ≤ 16384) ⌝ }
+    ensures { λ r. ⌜ ((X : RowIn (now (lay .entry)) (now (rec .entry)) row) (P : SelectorAt (now (plan .entry)) (transform .place .selector .at)) → InputAt (now (plan .entry)) (transform .place .selector .at) P (transform .input .at) → SelectorReached (X .values .values) P (now (out .entry)) (transform .place .k) r (now (out .exit))) ⌝ }
 {
     let none: [u16; 1] = [0; 1];
+    let place = transform.place;
     let mut form: [u8; 16384] = [0; 16384];
     let mut value: [u8; 16384] = [0; 16384];
     let mut other_form: [u8; 16384] = [0; 16384];
     let mut other_value: [u8; 16384] = [0; 16384];
     if !compose_value(
         lay,
-        v,
-        n,
-        t,
         rec,
-        d,
+        row,
         types,
         values,
-        stride,
         plan,
-        input,
+        transform.input,
         64,
         &mut form,
         &mut value,
@@ -78,63 +76,45 @@ fn over_large(
         return Reached::Unknown;
     }
     let start = Cursor { at: 0 };
-    let node = NodeAt::At(start, start);
-    transfer_over(
-        &form,
-        Edition::One,
-        &value,
-        node,
-        plan,
-        c,
-        64,
-        out,
-        k,
-        &none[..0],
-    )
+    let edition = Edition::One;
+    let at = NodeAt::At(start, start);
+    let node = Node { edition, at };
+    transfer_over(&form, &value, node, plan, place, out, &none[..0])
 }
 
 // The transform at `c` of the transform at `input`: with buffers that are cleared in no time, where these do.
 fn over_input(
     lay: &[u8],
-    v: Edition,
-    n: u16,
-    t: Cursor,
     rec: &[u8],
-    d: Cursor,
+    row: Row,
     types: &[u16],
     values: &[u16],
-    stride: u16,
     plan: &[u8],
-    c: Cursor,
-    input: Cursor,
+    transform: Transform,
     out: &mut [u8],
-    k: usize,
     ends: &[u16],
 ) -> Reached
-    requires { ⌜ Ends v (now lay) (now ends) ⌝ }
-    requires { ⌜ RowAt v (now lay) n (t .at) (now rec) (d .at) ⌝ }
-    requires { ⌜ IndexedRow v (now lay) n (t .at) (now rec) (d .at) stride (now types) (now values) × (0 < stride) ⌝ }
-    requires { ⌜ ((P : SelectorAt (now plan) (c .at)) × InputAt (now plan) (c .at) P (input .at)) ⌝ }
-    requires { ⌜ (length (now lay) ≤ 65536) × (length (now rec) ≤ 65536) × (length (now plan) ≤ 65536) × (k ≤ 16384) ⌝ }
-    ensures { λ r. ⌜ ((X : RowAt v (now (lay .entry)) n (t .at) (now (rec .entry)) (d .at)) (P : SelectorAt (now (plan .entry)) (c .at)) → InputAt (now (plan .entry)) (c .at) P (input .at) → ReachedIs (clean (eval (X .values .values) (P .tree))) (encodeValue (eval (X .values .values) (P .tree))) (P .end) (now (out .entry)) k r (now (out .exit))) ⌝ }
+    requires { ⌜ Ends (row .columns .edition) (now lay) (now ends) ⌝ }
+    requires { ⌜ RowIn (now lay) (now rec) row ⌝ }
+    requires { ⌜ IndexedIn (now lay) (now rec) row (now types) (now values) × (0 < row .stride) ⌝ }
+    requires { ⌜ ((P : SelectorAt (now plan) (transform .place .selector .at)) × InputAt (now plan) (transform .place .selector .at) P (transform .input .at)) ⌝ }
+    requires { ⌜ (length (now lay) ≤ 65536) × (length (now rec) ≤ 65536) × (length (now plan) ≤ 65536) × (transform .place .k ≤ 16384) ⌝ }
+    ensures { λ r. ⌜ ((X : RowIn (now (lay .entry)) (now (rec .entry)) row) (P : SelectorAt (now (plan .entry)) (transform .place .selector .at)) → InputAt (now (plan .entry)) (transform .place .selector .at) P (transform .input .at) → SelectorReached (X .values .values) P (now (out .entry)) (transform .place .k) r (now (out .exit))) ⌝ }
 {
     let none: [u16; 1] = [0; 1];
+    let place = transform.place;
     let mut form: [u8; 256] = [0; 256];
     let mut value: [u8; 256] = [0; 256];
     let mut other_form: [u8; 256] = [0; 256];
     let mut other_value: [u8; 256] = [0; 256];
     if !compose_value(
         lay,
-        v,
-        n,
-        t,
         rec,
-        d,
+        row,
         types,
         values,
-        stride,
         plan,
-        input,
+        transform.input,
         64,
         &mut form,
         &mut value,
@@ -142,54 +122,28 @@ fn over_input(
         &mut other_value,
         ends,
     ) {
-        return over_large(
-            lay,
-            v,
-            n,
-            t,
-            rec,
-            d,
-            types,
-            values,
-            stride,
-            plan,
-            c,
-            input,
-            out,
-            k,
-            ends,
-        );
+        return over_large(lay, rec, row, types, values, plan, transform, out, ends);
     }
     let start = Cursor { at: 0 };
-    let node = NodeAt::At(start, start);
-    transfer_over(
-        &form,
-        Edition::One,
-        &value,
-        node,
-        plan,
-        c,
-        64,
-        out,
-        k,
-        &none[..0],
-    )
+    let edition = Edition::One;
+    let at = NodeAt::At(start, start);
+    let node = Node { edition, at };
+    transfer_over(&form, &value, node, plan, place, out, &none[..0])
 }
 
 // Whether the selector at `c` is made of casts and renames of a position.
 fn is_chain(plan: &[u8], c: Cursor) -> bool
     requires { ⌜ SelectorAt (now plan) (c .at) ⌝ }
 {
-    let mut at = c.at;
+    let mut d = c;
     loop {
-        let d = Cursor { at };
         match head(plan, d) {
             SelectorHead::Position(_) => return true,
             SelectorHead::Cast(input) => {
-                at = input.at;
+                d = input;
             }
             SelectorHead::Rename(input) => {
-                at = input.at;
+                d = input;
             }
             _ => return false,
         }
@@ -212,36 +166,35 @@ fn is_direct(plan: &[u8], c: Cursor) -> bool
     }
 }
 
-// The top selector at `c`.
-fn transfer_top(
+// The top selector at `place`.
+pub fn transfer_top(
     lay: &[u8],
-    v: Edition,
-    n: u16,
-    t: Cursor,
     rec: &[u8],
-    d: Cursor,
+    row: Row,
     types: &[u16],
     values: &[u16],
-    stride: u16,
     plan: &[u8],
-    c: Cursor,
+    place: Place,
     out: &mut [u8],
-    k: usize,
     ends: &[u16],
 ) -> Reached
-    requires { ⌜ Ends v (now lay) (now ends) ⌝ }
-    requires { ⌜ RowAt v (now lay) n (t .at) (now rec) (d .at) ⌝ }
-    requires { ⌜ IndexedRow v (now lay) n (t .at) (now rec) (d .at) stride (now types) (now values) × (0 < stride) ⌝ }
-    requires { ⌜ SelectorAt (now plan) (c .at) ⌝ }
-    requires { ⌜ (length (now rec) ≤ 65536) × (length (now plan) ≤ 65536) × (k ≤ 16387) ⌝ }
-    ensures { λ r. ⌜ ((X : RowAt v (now (lay .entry)) n (t .at) (now (rec .entry)) (d .at)) (P : SelectorAt (now (plan .entry)) (c .at)) → ReachedIs (clean (eval (X .values .values) (P .tree))) (encodeValue (eval (X .values .values) (P .tree))) (P .end) (now (out .entry)) k r (now (out .exit))) ⌝ }
+    requires { ⌜ Ends (row .columns .edition) (now lay) (now ends) ⌝ }
+    requires { ⌜ RowIn (now lay) (now rec) row ⌝ }
+    requires { ⌜ IndexedIn (now lay) (now rec) row (now types) (now values) × (0 < row .stride) ⌝ }
+    requires { ⌜ SelectorAt (now plan) (place .selector .at) ⌝ }
+    requires { ⌜ (length (now rec) ≤ 65536) × (length (now plan) ≤ 65536) × (place .k ≤ 16387) ⌝ }
+    ensures { λ r. ⌜ ((X : RowIn (now (lay .entry)) (now (rec .entry)) row) (P : SelectorAt (now (plan .entry)) (place .selector .at)) → SelectorReached (X .values .values) P (now (out .entry)) (place .k) r (now (out .exit))) ⌝ }
 {
+    let c = place.selector;
     if is_direct(plan, c) {
         let p = taken_position(plan, c);
-        let node = indexed_value(lay, v, n, t, rec, d, types, values, stride, p, ends);
-        return transfer(lay, v, rec, node, plan, c, 64, out, k, ends);
+        let columns = row.columns;
+        let edition = columns.edition;
+        let at = indexed_value(lay, rec, row, types, values, p, ends);
+        let node = Node { edition, at };
+        return transfer(lay, rec, node, plan, place, out, ends);
     }
-    if 16384 < k {
+    if 16384 < place.k {
         return Reached::Unknown;
     }
     if 65536 < lay.len() {
@@ -249,79 +202,51 @@ fn transfer_top(
     }
     match input_of(plan, c) {
         Input::None => Reached::Unknown,
-        Input::At(input) => over_input(
-            lay,
-            v,
-            n,
-            t,
-            rec,
-            d,
-            types,
-            values,
-            stride,
-            plan,
-            c,
-            input,
-            out,
-            k,
-            ends,
-        ),
+        Input::At(input) => {
+            let transform = Transform { place, input };
+            over_input(lay, rec, row, types, values, plan, transform, out, ends)
+        }
     }
 }
 
-// The `count` top selectors from `first` on.
+// The top selectors.
 pub fn transfer_tops(
     lay: &[u8],
-    v: Edition,
-    n: u16,
-    t: Cursor,
     rec: &[u8],
-    d: Cursor,
+    row: Row,
     types: &[u16],
     values: &[u16],
-    stride: u16,
     plan: &[u8],
-    count: u16,
-    first: Cursor,
+    selectors: Selectors,
     out: &mut [u8],
-    k: usize,
     ends: &[u16],
 ) -> Reached
-    requires { ⌜ Ends v (now lay) (now ends) ⌝ }
-    requires { ⌜ RowAt v (now lay) n (t .at) (now rec) (d .at) ⌝ }
-    requires { ⌜ IndexedRow v (now lay) n (t .at) (now rec) (d .at) stride (now types) (now values) × (0 < stride) ⌝ }
-    requires { ⌜ SelectorsAt (now plan) count (first .at) ⌝ }
-    requires { ⌜ (length (now rec) ≤ 65536) × (length (now plan) ≤ 65536) × (k ≤ 16387) ⌝ }
-    ensures { λ r. ⌜ ((X : RowAt v (now (lay .entry)) n (t .at) (now (rec .entry)) (d .at)) (S : SelectorsAt (now (plan .entry)) count (first .at)) → ReachedIs (cleanAll (evals (X .values .values) (S .trees))) (encodeValues (evals (X .values .values) (S .trees))) (S .end) (now (out .entry)) k r (now (out .exit))) ⌝ }
+    requires { ⌜ Ends (row .columns .edition) (now lay) (now ends) ⌝ }
+    requires { ⌜ RowIn (now lay) (now rec) row ⌝ }
+    requires { ⌜ IndexedIn (now lay) (now rec) row (now types) (now values) × (0 < row .stride) ⌝ }
+    requires { ⌜ SelectorsIn (now plan) selectors ⌝ }
+    requires { ⌜ (length (now rec) ≤ 65536) × (length (now plan) ≤ 65536) × (selectors .first .k ≤ 16387) ⌝ }
+    ensures { λ r. ⌜ ((X : RowIn (now (lay .entry)) (now (rec .entry)) row) (S : SelectorsIn (now (plan .entry)) selectors) → RowReached X S (now (out .entry)) (selectors .first .k) r (now (out .exit))) ⌝ }
 {
-    let mut at = k;
-    let mut from = first.at;
+    let count = selectors.count;
+    let levels = selectors.first.levels;
+    let mut k = selectors.first.k;
+    let mut c = selectors.first.selector;
     let mut i: u16 = 0;
     while i < count {
-        let c = Cursor { at: from };
-        match transfer_top(
-            lay,
-            v,
-            n,
-            t,
-            rec,
-            d,
-            types,
-            values,
-            stride,
-            plan,
-            c,
-            out,
-            at,
-            ends,
-        ) {
+        let place = Place {
+            selector: c,
+            levels,
+            k,
+        };
+        match transfer_top(lay, rec, row, types, values, plan, place, out, ends) {
             Reached::To(e, r) => {
-                from = e.at;
-                at = r;
+                c = e;
+                k = r;
             }
             Reached::Unknown => return Reached::Unknown,
         }
         i += 1;
     }
-    limited(Cursor { at: from }, at)
+    limited(c, k)
 }

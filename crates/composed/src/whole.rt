@@ -9,14 +9,19 @@ ghost use Rattle.plan.specs.Run.{evals, cleanAll};
 ghost use Rattle.walk.specs.Stands.{SelectorsAt};
 ghost use Rattle.nodes.specs.Raw.{RowAt};
 ghost use Rattle.transfer.specs.Reaching.{ReachedIs};
+ghost use Rattle.transfer.specs.Given.{RowReached};
 ghost use Rattle.composed.specs.Transferring.{TransferredIs};
 use crate::top::transfer_tops;
 use index::columns::few;
 use index::columns::stride_of;
+use index::row::Row;
 use index::row::index_row;
 use layout::cursor::Cursor;
 use layout::edition::Edition;
+use nodes::places::ColumnRange;
+use transfer::leaf::Place;
 use transfer::leaf::Reached;
+use transfer::leaf::Selectors;
 
 // The length of the output; or it is not settled.
 pub enum Transferred {
@@ -39,27 +44,36 @@ fn transfer_few(
     requires { ⌜ RowAt v (now lay) n 7 (now rec) 0 ⌝ }
     requires { ⌜ SelectorsAt (now plan) count 7 ⌝ }
     requires { ⌜ (length (now rec) ≤ 65536) × (length (now plan) ≤ 65536) ⌝ }
-    ensures { λ r. ⌜ ((X : RowAt v (now (lay .entry)) n 7 (now (rec .entry)) 0) (S : SelectorsAt (now (plan .entry)) count 7) → ReachedIs (cleanAll (evals (X .values .values) (S .trees))) (encodeValues (evals (X .values .values) (S .trees))) (S .end) (now (out .entry)) 0 r (now (out .exit))) ⌝ }
+    ensures { λ r. ⌜ ((X : RowAt v (now (lay .entry)) n 7 (now (rec .entry)) 0) (S : SelectorsAt (now (plan .entry)) count 7) → RowReached X S (now (out .entry)) 0 r (now (out .exit))) ⌝ }
 {
-    let first = Cursor { at: 7 };
-    let start = Cursor { at: 0 };
+    let start = Cursor { at: 7 };
+    let columns = ColumnRange {
+        edition: v,
+        count: n,
+        first: start,
+    };
+    let row = Row {
+        columns,
+        values: Cursor { at: 0 },
+        stride: 1,
+    };
+    let first = Place {
+        selector: start,
+        levels: 64,
+        k: 0,
+    };
     let types: [u16; 1] = [0; 1];
     let values: [u16; 1] = [0; 1];
+    let selectors = Selectors { count, first };
     transfer_tops(
         lay,
-        v,
-        n,
-        first,
         rec,
-        start,
+        row,
         &types[..0],
         &values[..0],
-        1,
         plan,
-        count,
-        first,
+        selectors,
         out,
-        0,
         ends,
     )
 }
@@ -79,40 +93,37 @@ fn transfer_many(
     requires { ⌜ RowAt v (now lay) n 7 (now rec) 0 ⌝ }
     requires { ⌜ SelectorsAt (now plan) count 7 ⌝ }
     requires { ⌜ (length (now rec) ≤ 65536) × (length (now plan) ≤ 65536) ⌝ }
-    ensures { λ r. ⌜ ((X : RowAt v (now (lay .entry)) n 7 (now (rec .entry)) 0) (S : SelectorsAt (now (plan .entry)) count 7) → ReachedIs (cleanAll (evals (X .values .values) (S .trees))) (encodeValues (evals (X .values .values) (S .trees))) (S .end) (now (out .entry)) 0 r (now (out .exit))) ⌝ }
+    ensures { λ r. ⌜ ((X : RowAt v (now (lay .entry)) n 7 (now (rec .entry)) 0) (S : SelectorsAt (now (plan .entry)) count 7) → RowReached X S (now (out .entry)) 0 r (now (out .exit))) ⌝ }
 {
-    let first = Cursor { at: 7 };
-    let start = Cursor { at: 0 };
-    let stride = stride_of(n);
+    let start = Cursor { at: 7 };
+    let columns = ColumnRange {
+        edition: v,
+        count: n,
+        first: start,
+    };
+    let row = Row {
+        columns,
+        values: Cursor { at: 0 },
+        stride: stride_of(n),
+    };
+    let first = Place {
+        selector: start,
+        levels: 64,
+        k: 0,
+    };
     let mut types = [0u16; 256];
     let mut values = [0u16; 256];
-    let m = index_row(
-        lay,
-        v,
-        n,
-        first,
-        rec,
-        start,
-        stride,
-        &mut types,
-        &mut values,
-        ends,
-    );
+    let m = index_row(lay, rec, row, &mut types, &mut values, ends);
+    let selectors = Selectors { count, first };
     transfer_tops(
         lay,
-        v,
-        n,
-        first,
         rec,
-        start,
+        row,
         &types[..m],
         &values[..m],
-        stride,
         plan,
-        count,
-        first,
+        selectors,
         out,
-        0,
         ends,
     )
 }

@@ -224,36 +224,6 @@ module _ (v : TableVersion) (s : Bytes) (at : ℕ) {r : EntryRead} (e : r ≡ en
 
 -- ---- the scan for an entry
 
-pub record Scanning (v : TableVersion) (o : Owner) (i : FieldId) (k : EntryKind) (s : Bytes) (n from j at : ℕ) : Type 0 where
-  pub within : j ≤ n
-  pub rest : seek v o i k n s from ≡ seek v o i k (n - j) s at
-
-module _ (v : TableVersion) (o : Owner) (i : FieldId) (k : EntryKind) (s : Bytes) (n from : ℕ) where
-  pub scanning-none : Scanning v o i k s n from 0 from
-  scanning-none = record { within = omega arith; rest = ap (λ (l : ℕ). seek v o i k l s from) (let e : n ≡ n - 0 = omega arith in e) }
-
-  module _ (j at : ℕ) (a : Scanning v o i k s n from j at) where
-    pub scanning-all : n ≤ j → EntryFound.Absent ≡ seek v o i k n s from
-    unfolding seek
-    scanning-all h = let e : n - j ≡ 0 = omega arith in rw (a .rest, e)
-
-    module _ (lt : j < n) {r : EntryRead} (e : r ≡ entryRead v s at) where
-      left : n - j ≡ suc (n - (j + 1))
-      left = omega arith
-
-      pub scanning-broken : {m : ℕ} → r ≡ EntryRead.Refused m → EntryFound.Absent ≡ seek v o i k n s from
-      unfolding seek seekOn
-      scanning-broken f = rw (a .rest, left) (rw (← e, f))
-
-      module _ {p : Owner} {i′ : FieldId} {k′ : EntryKind} {g m : Cursor} {b : Bool} (f : r ≡ EntryRead.Is p i′ k′ g m) (x : b ≡ isOf o i k p i′ k′) where
-        pub scanning-found : b ≡ true → EntryFound.At g ≡ seek v o i k n s from
-        unfolding seek seekOn choose
-        scanning-found y = rw (a .rest, left) (rw (← e, f, ← x, y))
-
-        pub scanning-more : b ≡ false → Scanning v o i k s n from (j + 1) (m .at)
-        unfolding seek seekOn choose
-        scanning-more y = record { within = omega arith; rest = a .rest ∙ rw left (rw (← e, f, ← x, y)) }
-
 -- one more entry
 pub seek-suc : (v : TableVersion) (o : Owner) (i : FieldId) (k : EntryKind) (n : ℕ) (s : Bytes) (at : ℕ) {t : OwnedEntry} {m : ℕ} (E : EntryIs v s at t m)
     → seek v o i k (suc n) s at ≡ choose (isOf o i k (t .owner) (t .entry .id) (kindOf (t .entry .given))) (EntryFound.At (E .start)) (seek v o i k n s m)

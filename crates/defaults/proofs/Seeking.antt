@@ -1,4 +1,4 @@
--- The scan for an entry over a table that was read: it finds what the first entry of the owner with this id and kind gives; and how the two scans of
+-- The scan for an entry over a table that was read: it finds what the first entry of the owner with this id and kind gives; and how the two lookups of
 -- `get_default_value` make its definition. Assumes nothing.
 use Prim.Native.Nat.{ℕ, zero, suc}
 use mathlib.Core.Path.{_≡_, refl, sym, ap, ap₂, _∙_, subst}
@@ -176,3 +176,10 @@ module _ {s : Bytes} {d : DefaultFieldValues} (P : TableAt s d) (i : FieldId) wh
         initial-wins k x h g =
             let (G, e) = scan-at s Initial q (sought i Initial (P .entries)) (finds Initial H) h in
             answers-as s x (no-partition k ∙ ap (chosen (givenTo k) nothing) e) (g k G)
+
+  pub no-entries : d .count ≡ 0 → (k : ℕ) → Answers s (getDefaultValue (P .entries) k i) DefaultValue.Nothing
+  unfolding seek
+  no-entries e k =
+      let a : EntryFound.Absent ≡ seek (d .version) (Owner.Only (d .owner)) i Partition (d .count) s (d .entries .at) = rw e in
+      let b : EntryFound.Absent ≡ seek (d .version) (Owner.Only (d .owner)) i Initial (d .count) s (d .entries .at) = rw e in
+      no-entry a refl b k refl

@@ -1,6 +1,6 @@
 -- What reading a whole table returns on each way. Assumes nothing.
 use Prim.Native.Nat.{ℕ, zero, suc, _+_, _≤_, _<_}
-use mathlib.Core.Path.{_≡_, refl, sym, ap, _∙_}
+use mathlib.Core.Path.{_≡_, refl, sym, ap, ap₂, _∙_}
 use mathlib.Core.List.{List, [], _∷_, _++_}
 use mathlib.Core.Bool.{Bool, true, false, not, _&&_, and-false}
 use native.Mathlib.Omega.{arith}
@@ -147,7 +147,7 @@ module _ (s : Bytes) (v : TableVersion) {q : Short} (g : shortRes q ≡ u16 s 5)
   unfolding countedTable tableOf next
   table-uncounted h = rw (← g, h)
 
-  pub counted-at : {n : ℕ} {c : Cursor} → q ≡ Short.Is n c → 0 < c .at
+  pub counted-at : {n : ℕ} {c : Cursor} → q ≡ Short.Is n c → c .at ≡ 7
   counted-at {n} {c} h = let z : u16 s 5 ≡ ok n (c .at) = sym g ∙ ap shortRes h in let w = u16-at s 5 z in omega arith
 
   module _ {n : ℕ} {c : Cursor} {o : Moved} (h : q ≡ Short.Is n c) (i : o ≡ movedOf (entries v n [] s (c .at))) where
@@ -160,11 +160,11 @@ module _ (s : Bytes) (v : TableVersion) {q : Short} (g : shortRes q ≡ u16 s 5)
       unfolding countedTable ended tableOf next choose
       table-longer k = rw (← g, h, moved-to (entries v n [] s (c .at)) i j .1, ne-eqb (d .at) (length s) k)
 
-      pub table-read : d .at ≡ length s → TableRead.Read v n (record { at = 7 }) ≡ tableOf (countedTable v s 5)
+      pub table-read : d .at ≡ length s → TableRead.Read v n c ≡ tableOf (countedTable v s 5)
       unfolding countedTable ended tableOf next choose
       table-read k =
           let t = moved-to (entries v n [] s (c .at)) i j in
           let l : length (t .0) ≡ n = let e = entries-count v n [] s (c .at) (t .1) in e ∙ (let w : 0 + n ≡ n = omega arith in w) in
-          rw (← g, h, t .1, eq-eqb (d .at) (length s) k) (ap (λ (m : ℕ). TableRead.Read v m (record { at = 7 })) (sym l))
+          rw (← g, h, t .1, eq-eqb (d .at) (length s) k) (ap₂ (λ (m o : ℕ). TableRead.Read v m (record { at = o })) (sym l) (counted-at h))
 
 pub ruleset counted-ways = (table-uncounted, table-broken, table-longer, table-read)

@@ -17,6 +17,7 @@ use Rattle.defaults.specs.declared.read.TableVersion.the-variants.{Share
 use Rattle.defaults.specs.declared.read.EntryKind.{EntryKind}
 use Rattle.defaults.specs.declared.read.EntryFound.{EntryFound}
 use Rattle.defaults.specs.declared.read.HeadRead.{HeadRead}
+use Rattle.defaults.specs.declared.read.TableRead.{TableRead}
 
 -- ---- what is read of an entry before that which it gives
 
@@ -83,3 +84,8 @@ pub record Inside (s : Bytes) (index : List ℕ) : Type 0 where
 pub record Indexed (v : TableVersion) (s : Bytes) (n from : ℕ) (index : List ℕ) : Type 0 where
   pub inside : Inside s index
   pub finds : (u : ℕ) (i : FieldId) (k : EntryKind) → followed v (ownerIn v u) i k n s index ≡ seek v (ownerIn v u) i k n s from
+
+-- an index of the entries of a table that was read; after a refusal nothing is said of it
+abbrev pub IndexedTable : Bytes → TableRead → List ℕ → Type 0
+IndexedTable s (TableRead.Read v n c) index = Indexed v s n (c .at) index
+IndexedTable s (TableRead.Refused k) index = Unit {0}

@@ -2,7 +2,6 @@
 use Prim.Native.Nat.{ℕ, _<_}
 use mathlib.Core.Path.{_≡_}
 use mathlib.Core.List.{List, []}
-use lib.ListN.{length}
 use Rattle.layout.specs.Bytes.{Bytes}
 use Rattle.layout.specs.Parser.{ok}
 use Rattle.layout.specs.Tree.{LeafType, leaf}
@@ -27,9 +26,9 @@ pub record TableAt (s : Bytes) (d : DefaultFieldValues) : Type 0 where
   pub entries : List Entry
   pub owned : entries ≡ entriesOf (d .owner) all
 
--- an index of its entries; an empty one says nothing, nor does any of a table with no entries
+-- an index of its entries; where there are none it may hold anything
 abbrev pub IndexOf : Bytes → DefaultFieldValues → List ℕ → Type 0
-IndexOf s d index = 0 < length index → 0 < d .count → Indexed (d .version) s (d .count) (d .entries .at) index
+IndexOf s d index = 0 < d .count → Indexed (d .version) s (d .count) (d .entries .at) index
 
 -- a table and its index
 abbrev pub IndexedTableAt : Bytes → List ℕ → DefaultFieldValues → Type 0

@@ -1,23 +1,17 @@
 // Finding an id's default in a table that was read, as source 003's `get_default_value` does.
 ghost use mathlib.Core.Path.{_≡_};
-ghost use Prim.Native.Nat.{ℕ, _≤_, _<_};
-ghost use lib.ListN.{length, take};
+ghost use Prim.Native.Nat.{ℕ};
 ghost use Rattle.layout.specs.Tree.{leaf};
 ghost use Rattle.layout.specs.Answers.{leafAt, spanIn};
 ghost use Rattle.values.specs.Stands.{ValueAt, EachAt};
 ghost use Rattle.defaults.specs.Lookup.{unlessNull, ofSource, givenTo, getDefaultValue};
-ghost use Rattle.defaults.specs.Scan.{seek};
-ghost use Rattle.defaults.specs.Stands.{TableAt, IndexOf, IndexedTableAt, GivenAt, LoadedAt, Answers};
-ghost use Rattle.defaults.specs.declared.read.Owner.{Owner};
+ghost use Rattle.defaults.specs.Stands.{TableAt, IndexedTableAt, GivenAt, LoadedAt, Answers};
 ghost use Rattle.defaults.specs.declared.read.EntryKind.the-variants.{Initial, Partition};
 use crate::read::EntryFound;
 use crate::read::EntryKind;
-use crate::read::Owner;
 use crate::read::TableVersion;
 use crate::read::find_entry;
-use crate::read::find_indexed;
 use crate::read::owner_in;
-use crate::read::read_entries;
 use crate::types::LeafRead;
 use crate::types::read_leaf_type;
 use crate::types::read_leaf_values;
@@ -56,7 +50,7 @@ fn unless_null(s: &[u8], l: LeafType, c: Cursor) -> DefaultValue
     match read_presence(s, c) {
         Presence::Null(_) => DefaultValue::Nothing,
         Presence::Present(_) => DefaultValue::At(l, c),
-        Presence::Refused(_) => DefaultValue::Nothing,
+        Presence::Refused(_) => DefaultValue::Failed,
     }
 }
 
@@ -71,7 +65,7 @@ fn of_source(s: &[u8], l: LeafType, n: u16, c: Cursor, source_index: u32) -> Def
     }
     match read_leaf_values(s, l, source_index, c) {
         Moved::To(d) => unless_null(s, l, d),
-        Moved::Refused(_) => DefaultValue::Nothing,
+        Moved::Refused(_) => DefaultValue::Failed,
     }
 }
 
@@ -81,7 +75,7 @@ fn initial_value(s: &[u8], c: Cursor) -> DefaultValue
 {
     match read_leaf_type(s, c) {
         LeafRead::Is(l, d) => unless_null(s, l, d),
-        LeafRead::Refused(_) => DefaultValue::Nothing,
+        LeafRead::Refused(_) => DefaultValue::Failed,
     }
 }
 
@@ -92,9 +86,9 @@ fn loaded_value(s: &[u8], c: Cursor, source_index: u32) -> DefaultValue
     match read_leaf_type(s, c) {
         LeafRead::Is(l, d) => match d.short(s) {
             Short::Is(n, e) => of_source(s, l, n, e, source_index),
-            Short::Refused(_) => DefaultValue::Nothing,
+            Short::Refused(_) => DefaultValue::Failed,
         },
-        LeafRead::Refused(_) => DefaultValue::Nothing,
+        LeafRead::Refused(_) => DefaultValue::Failed,
     }
 }
 
@@ -110,64 +104,8 @@ fn partition_value(s: &[u8], c: Cursor, source_index: u32) -> DefaultValue
                 DefaultValue::Failed
             }
         }
-        Step::Refused(_) => DefaultValue::Nothing,
+        Step::Refused(_) => DefaultValue::Failed,
     }
-}
-
-// Where a scan would take longer, fills an index of the entries at the start of a slice, and answers its length. 0 where there is none: few entries are
-// scanned sooner, or there is no room.
-pub fn fill_index(s: &[u8], defaults: DefaultFieldValues, room: &mut [u16]) -> usize
-    requires { ⌜ length (now s) ≤ 16384 ⌝ }
-    ensures { λ r. ⌜ r ≤ length (now (room .exit)) ⌝ }
-    ensures { λ r. ⌜ IndexOf (now (s .entry)) defaults (take r (now (room .exit))) ⌝ }
-{
-    if defaults.count <= 16 {
-        return 0;
-    }
-    let c = defaults.entries;
-    if c.at == 0 {
-        return 0;
-    }
-    let len = room.len();
-    if len <= s.len() / 6 + 1 {
-        return 0;
-    }
-    let version = defaults.version;
-    match read_entries(s, version, defaults.count, c, room) {
-        Moved::To(_) => len,
-        Moved::Refused(_) => 0,
-    }
-}
-
-// The first entry of the owner with this id and kind. The index may be empty: then the entries are scanned.
-fn find_own(
-    s: &[u8],
-    index: &[u16],
-    defaults: DefaultFieldValues,
-    id: FieldId,
-    kind: EntryKind,
-) -> EntryFound
-    requires { ⌜ IndexOf (now s) defaults (now index) ⌝ }
-    ensures { λ r. ⌜ r ≡ seek (defaults .version) (Owner.Only (defaults .owner)) id kind (defaults .count) (now (s .entry)) (defaults .entries .at) ⌝ }
-{
-    let version = defaults.version;
-    if index.len() == 0 {
-        let entries = defaults.entries;
-        return find_entry(
-            s,
-            version,
-            defaults.count,
-            entries,
-            Owner::Only(defaults.owner),
-            id,
-            kind,
-        );
-    }
-    if defaults.count == 0 {
-        return EntryFound::Absent;
-    }
-    let owner = owner_in(version, defaults.owner);
-    find_indexed(s, version, defaults.count, owner, id, kind, index)
 }
 
 // A partition entry wins, and where it gives nothing no initial one is tried.
@@ -180,9 +118,23 @@ pub fn get_default_value(
     requires { ⌜ IndexedTableAt (now s) (now index) defaults ⌝ }
     ensures { λ r. ⌜ ((P : TableAt (now (s .entry)) defaults) → Answers (now (s .entry)) (getDefaultValue (P .entries) (defaults .«source_index») id) r) ⌝ }
 {
-    match find_own(s, index, defaults, id, EntryKind::Partition) {
+    if defaults.count == 0 {
+        return DefaultValue::Nothing;
+    }
+    let version = defaults.version;
+    let n = defaults.count;
+    let owner = owner_in(version, defaults.owner);
+    match find_entry(s, version, n, owner, id, EntryKind::Partition, index) {
         EntryFound::At(c) => partition_value(s, c, defaults.source_index),
-        EntryFound::Absent => match find_own(s, index, defaults, id, EntryKind::Initial) {
+        EntryFound::Absent => match find_entry(
+            s,
+            version,
+            n,
+            owner,
+            id,
+            EntryKind::Initial,
+            index,
+        ) {
             EntryFound::At(c) => initial_value(s, c),
             EntryFound::Absent => DefaultValue::Nothing,
         },

@@ -9,8 +9,8 @@ ghost use Rattle.layout.specs.declared.cursor.Moved.{Moved};
 ghost use Rattle.defaults.specs.Table.{sameKind, sameOwner, initialEntry, loadedEntry, partitionEntry, entryKind, givenOf};
 ghost use Rattle.defaults.specs.Table.{tableNumber, entry, ownerOf, entries, tableVersion, countedTable, table};
 ghost use Rattle.defaults.specs.Answers.{kindRes, ownerRes, versionRes, entryOf, entryRead, tableOf};
-ghost use Rattle.defaults.specs.Scan.{isOf, seek, isFound};
-ghost use Rattle.defaults.specs.Index.{entryHead, entryHeadRes, ownerIn, links, followed, Inside, Indexed};
+ghost use Rattle.defaults.specs.Scan.{isOf, isFound};
+ghost use Rattle.defaults.specs.Index.{entryHead, entryHeadRes, ownerIn, links, followed, Inside, Indexed, IndexedTable};
 use crate::index::clear;
 use crate::index::head_of;
 use crate::index::push;
@@ -257,36 +257,6 @@ fn is_of(owner: Owner, id: FieldId, kind: EntryKind, o: Owner, i: FieldId, k: En
     }
 }
 
-// The first of the `n` entries from a cursor that counts for this owner and is of this id and kind.
-pub fn find_entry(
-    s: &[u8],
-    version: TableVersion,
-    n: u16,
-    c: Cursor,
-    owner: Owner,
-    id: FieldId,
-    kind: EntryKind,
-) -> EntryFound
-    ensures { λ r. ⌜ r ≡ seek version owner id kind n (now (s .entry)) (c .at) ⌝ }
-{
-    let mut at = c.at;
-    let mut i: u16 = 0;
-    while i < n {
-        let d = Cursor { at };
-        match read_entry(s, version, d) {
-            EntryRead::Is(o, j, k, g, e) => {
-                if is_of(owner, id, kind, o, j, k) {
-                    return EntryFound::At(g);
-                }
-                at = e.at;
-            }
-            EntryRead::Refused(_) => return EntryFound::Absent,
-        }
-        i += 1;
-    }
-    EntryFound::Absent
-}
-
 // Whose the entries are that count for an owner.
 pub fn owner_in(version: TableVersion, owner: u16) -> Owner
     ensures { λ r. ⌜ r ≡ ownerIn version owner ⌝ }
@@ -297,8 +267,9 @@ pub fn owner_in(version: TableVersion, owner: u16) -> Owner
     }
 }
 
-// The same by an index of `n` entries: no value is read, and of the entries only those whose ids are in one chain.
-pub fn find_indexed(
+// The first of `n` entries that counts for this owner and is of this id and kind, by an index of them: no value is read, and of the entries only those
+// whose ids are in one chain.
+pub fn find_entry(
     s: &[u8],
     version: TableVersion,
     n: u16,
@@ -355,7 +326,7 @@ pub fn read_entries(s: &[u8], version: TableVersion, n: u16, c: Cursor, index: &
         let d = Cursor { at };
         match read_entry(s, version, d) {
             EntryRead::Is(owner, id, kind, _, e) => {
-                let earlier = find_indexed(s, version, i, owner, id, kind, index);
+                let earlier = find_entry(s, version, i, owner, id, kind, index);
                 if is_found(earlier) {
                     return Moved::Refused(5);
                 }
@@ -388,6 +359,7 @@ fn read_version(s: &[u8]) -> VersionRead
 fn read_counted(s: &[u8], version: TableVersion, index: &mut [u16]) -> TableRead
     requires { ⌜ (length (now s) ≤ 16384) × (links (length (now s)) < length (now index)) ⌝ }
     ensures { λ r. ⌜ r ≡ tableOf (countedTable version (now (s .entry)) 5) ⌝ }
+    ensures { λ r. ⌜ IndexedTable (now (s .entry)) r (now (index .exit)) ⌝ }
 {
     let c = Cursor { at: 5 };
     match c.short(s) {
@@ -397,7 +369,7 @@ fn read_counted(s: &[u8], version: TableVersion, index: &mut [u16]) -> TableRead
                     TableRead::Read {
                         version,
                         count: n,
-                        entries: Cursor { at: 7 },
+                        entries: d,
                     }
                 } else {
                     TableRead::Refused(6)
@@ -409,45 +381,17 @@ fn read_counted(s: &[u8], version: TableVersion, index: &mut [u16]) -> TableRead
     }
 }
 
-// With an index that takes less time to clear.
-fn read_small(s: &[u8], version: TableVersion) -> TableRead
-    requires { ⌜ length (now s) ≤ 1024 ⌝ }
-    ensures { λ r. ⌜ r ≡ tableOf (countedTable version (now (s .entry)) 5) ⌝ }
-{
-    let mut index = [0u16; 256];
-    read_counted(s, version, &mut index)
-}
-
-fn read_large(s: &[u8], version: TableVersion) -> TableRead
-    requires { ⌜ length (now s) ≤ 16384 ⌝ }
-    ensures { λ r. ⌜ r ≡ tableOf (countedTable version (now (s .entry)) 5) ⌝ }
-{
-    let mut index = [0u16; 3384];
-    read_counted(s, version, &mut index)
-}
-
-// The rest of a table of this version. A small index takes less time to clear.
-fn read_rest(s: &[u8], version: TableVersion) -> TableRead
-    requires { ⌜ length (now s) ≤ 16384 ⌝ }
-    ensures { λ r. ⌜ r ≡ tableOf (countedTable version (now (s .entry)) 5) ⌝ }
-{
-    if s.len() <= 1024 {
-        return read_small(s, version);
-    }
-    match version {
-        TableVersion::Shared => read_large(s, version),
-        TableVersion::ByOwner => read_large(s, version),
-    }
-}
-
-pub fn read_table(s: &[u8]) -> TableRead
+// An index of the entries is left behind; there is room for it where it is longer than the links that the table needs.
+pub fn read_table(s: &[u8], index: &mut [u16]) -> TableRead
+    requires { ⌜ (length (now s) ≤ 16384 → links (length (now s)) < length (now index)) ⌝ }
     ensures { λ r. ⌜ r ≡ tableOf (table (now (s .entry))) ⌝ }
+    ensures { λ r. ⌜ IndexedTable (now (s .entry)) r (now (index .exit)) ⌝ }
 {
     if 16384 < s.len() {
         return TableRead::Refused(4);
     }
     match read_version(s) {
-        VersionRead::Is(v) => read_rest(s, v),
+        VersionRead::Is(v) => read_counted(s, v, index),
         VersionRead::Refused(k) => TableRead::Refused(k),
     }
 }

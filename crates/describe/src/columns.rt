@@ -81,10 +81,9 @@ fn put_inner_element(s: &[u8], v: Edition, depth: u8, c: Cursor, level: u8) {
 
 // `n` columns from `c`.
 pub fn put_columns(s: &[u8], v: Edition, depth: u8, n: u16, c: Cursor, level: u8) {
-    let mut at = c.at;
+    let mut d = c;
     let mut i: u16 = 0;
     while i < n {
-        let d = Cursor { at };
         let Labelled::Is(l, e) = d.label(s, v) else {
             return;
         };
@@ -95,7 +94,7 @@ pub fn put_columns(s: &[u8], v: Edition, depth: u8, n: u16, c: Cursor, level: u8
         let Moved::To(end) = pass_type(s, v, depth, e) else {
             return;
         };
-        at = end.at;
+        d = end;
         i += 1;
     }
 }

@@ -119,19 +119,18 @@ fn put_elements(
     let Labelled::Is(_, e) = t.element_label(lay, v) else {
         return Moved::Refused(2);
     };
-    let mut at = c.at;
+    let mut d = c;
     let mut i: u32 = 0;
     while i < n {
-        let d = Cursor { at };
         put_start(i as u64, level);
         put_type(lay, v, depth, e);
         let Moved::To(end) = put_value(lay, v, depth, e, rec, d, level) else {
             return Moved::Refused(2);
         };
-        at = end.at;
+        d = end;
         i += 1;
     }
-    Moved::To(Cursor { at })
+    Moved::To(d)
 }
 
 // A value for each of `n` columns.
@@ -145,12 +144,10 @@ fn put_fields(
     c: Cursor,
     level: u8,
 ) -> Moved {
-    let mut from = t.at;
-    let mut at = c.at;
+    let mut f = t;
+    let mut d = c;
     let mut i: u16 = 0;
     while i < n {
-        let f = Cursor { at: from };
-        let d = Cursor { at };
         let Labelled::Is(l, e) = f.label(lay, v) else {
             return Moved::Refused(2);
         };
@@ -162,11 +159,11 @@ fn put_fields(
         let Moved::To(next) = pass_type(lay, v, depth, e) else {
             return Moved::Refused(2);
         };
-        at = end.at;
-        from = next.at;
+        d = end;
+        f = next;
         i += 1;
     }
-    Moved::To(Cursor { at })
+    Moved::To(d)
 }
 
 // A record of a layout that was read.

@@ -33,16 +33,15 @@ fn put_initial(s: &[u8], c: Cursor) {
 
 // `n` values from `c` of the type at `t`.
 fn put_each(s: &[u8], t: Cursor, n: u16, c: Cursor) {
-    let mut at = c.at;
+    let mut d = c;
     let mut i: u16 = 0;
     while i < n {
-        let d = Cursor { at };
         put_start(i as u64, 1);
         put_type(s, Edition::One, 16, t);
         let Moved::To(end) = put_value(s, Edition::One, 16, t, s, d, 1) else {
             return;
         };
-        at = end.at;
+        d = end;
         i += 1;
     }
 }
@@ -103,22 +102,22 @@ fn put_heading(n: u16) {
 
 // `n` entries from `c`.
 fn put_entries(s: &[u8], version: TableVersion, n: u16, c: Cursor) {
-    let mut at = c.at;
+    let mut d = c;
     let mut i: u16 = 0;
     while i < n {
-        let d = Cursor { at };
         let EntryRead::Is(owner, id, kind, given, end) = read_entry(s, version, d) else {
             return;
         };
         put_owner(owner);
         put_entry(s, id, kind, given);
-        at = end.at;
+        d = end;
         i += 1;
     }
 }
 
 pub fn put_table(s: &[u8]) {
-    match read_table(s) {
+    let mut index = [0u16; 3384];
+    match read_table(s, &mut index) {
         TableRead::Read {
             version,
             count,

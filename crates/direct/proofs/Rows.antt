@@ -36,11 +36,13 @@ use Rattle.direct.proofs.Trees.{fields-give}
 -- ---- one column
 
 module _ {incoming : Bytes} {v : Edition} {scope : Scope} {index : List ℕ} {stride : ℕ} {plan : Bytes} {at : ℕ} {target : Bytes} {vt : Edition} {bt : ℕ}
-    (A : ColumnFitAt incoming v scope index stride plan at target vt bt) {q : Labelled} {l : LabelSpan} {c : Cursor} (e : labelRes target q ≡ label vt target bt) (f : q ≡ Labelled.Is l c) where
+    (A : ColumnFitAt incoming v scope index stride plan at target vt bt) {q : Labelled} {l : LabelSpan} {c : Cursor}
+    (e : labelRes target q ≡ label vt target bt) (f : q ≡ Labelled.Is l c) where
   abbrev pub column-asks : FitAt incoming v scope index stride plan at target vt (c .at)
   column-asks = record { scoped = A .scoped; selector = A .selector; type = behind-label (A .column) (label-got target e f); small = A .small }
 
-  pub column-fits : {x y : Cursor} {n : Name} (F : FitTo incoming plan (typeOf (A .scoped .fields) (A .selector .tree)) (A .selector .end) (dtypeOf (A .column .inner .tree)) (A .column .inner .end) x y n) {b : Bool}
+  pub column-fits : {x y : Cursor} {n : Name} (F : FitTo incoming plan (typeOf (A .scoped .fields) (A .selector .tree)) (A .selector .end)
+      (dtypeOf (A .column .inner .tree)) (A .column .inner .end) x y n) {b : Bool}
       → b ≡ sameBytes (F .name) (spanAt target (l .name)) → b ≡ true → FitsColumn A (FitEnd.At x y)
   column-fits F g h =
       let z : F .name ≡ spanAt target (l .name) = same-bytes-eq _ _ (sym g ∙ h) in
@@ -50,25 +52,34 @@ module _ {incoming : Bytes} {v : Edition} {scope : Scope} {index : List ℕ} {st
 -- ---- the loop over columns
 
 -- after i of n columns, each given by its selector: what the rest gives, the whole gives
-pub record Fitting (incoming : Bytes) (v : Edition) (scope : Scope) (index : List ℕ) (stride : ℕ) (plan : Bytes) (n from : ℕ) (target : Bytes) (vt : Edition) (from′ i at bt : ℕ) : Type 0 where
+pub record Fitting (incoming : Bytes) (v : Edition) (scope : Scope) (index : List ℕ) (stride : ℕ) (plan : Bytes) (n from : ℕ) (target : Bytes) (vt : Edition)
+    (from′ i at bt : ℕ) : Type 0 where
   pub within : i ≤ n
   pub selectors : SelectorsAt plan (n - i) at
   pub columns : ColumnsAt vt 16 target (n - i) bt
-  pub all : (A : FieldsFitAt incoming v scope index stride plan n from target vt from′) → typesOf (A .scoped .fields) (selectors .trees) ≡ gives (fieldsOf (columns .columns))
+  pub all : (A : FieldsFitAt incoming v scope index stride plan n from target vt from′)
+      → typesOf (A .scoped .fields) (selectors .trees) ≡ gives (fieldsOf (columns .columns))
       → typesOf (A .scoped .fields) (A .selectors .trees) ≡ gives (fieldsOf (A .columns .columns))
-  pub ends : (A : FieldsFitAt incoming v scope index stride plan n from target vt from′) → (selectors .end ≡ A .selectors .end) × (columns .end ≡ A .columns .end)
+  pub ends : (A : FieldsFitAt incoming v scope index stride plan n from target vt from′) → (selectors .end ≡ A .selectors .end) ×
+      (columns .end ≡ A .columns .end)
 
 same-selectors : {s : Bytes} {n at : ℕ} (P Q : SelectorsAt s n at) → (P .trees ≡ Q .trees) × (P .end ≡ Q .end)
 same-selectors P Q = ok-eq (sym (P .reads) ∙ Q .reads)
 
-module _ {incoming : Bytes} {v : Edition} {scope : Scope} {index : List ℕ} {stride : ℕ} {plan : Bytes} {n from : ℕ} {target : Bytes} {vt : Edition} {from′ : ℕ} where
-  pub fitting-none : FieldsFitAt incoming v scope index stride plan n from target vt from′ → Fitting incoming v scope index stride plan n from target vt from′ 0 from from′
+module _ {incoming : Bytes} {v : Edition} {scope : Scope} {index : List ℕ} {stride : ℕ} {plan : Bytes} {n from : ℕ} {target : Bytes} {vt : Edition}
+    {from′ : ℕ} where
+  pub fitting-none : FieldsFitAt incoming v scope index stride plan n from target vt from′
+      → Fitting incoming v scope index stride plan n from target vt from′ 0 from from′
   fitting-none B =
       let e : n - 0 ≡ n = omega arith in
       record {
         within = omega arith;
         selectors = selectors-moved (sym e) refl (B .selectors);
-        columns = record { columns = B .columns .columns; end = B .columns .end; reads = ap (λ (m : ℕ). columnsOf vt Free (type vt Free 16) m [] target from′) e ∙ B .columns .reads };
+        columns = record {
+          columns = B .columns .columns;
+          end = B .columns .end;
+          reads = ap (λ (m : ℕ). columnsOf vt Free (type vt Free 16) m [] target from′) e ∙ B .columns .reads;
+        };
         all = λ A h.
             let (a, b) = same-selectors (A .selectors) (B .selectors) in
             let (c, d) = same-columns (A .columns) (B .columns) in
@@ -77,9 +88,10 @@ module _ {incoming : Bytes} {v : Edition} {scope : Scope} {index : List ℕ} {st
       }
 
   module _ {i at bt : ℕ} (C : Fitting incoming v scope index stride plan n from target vt from′ i at bt) where
-    pub fitting-all : n ≤ i → (A : FieldsFitAt incoming v scope index stride plan n from target vt from′) → FitsFields A (FitEnd.At (record { at = at }) (record { at = bt }))
+    pub fitting-all : {x y : Cursor} → x .at ≡ at → y .at ≡ bt → n ≤ i → (A : FieldsFitAt incoming v scope index stride plan n from target vt from′)
+        → FitsFields A (FitEnd.At x y)
     unfolding typesOf fieldsOf
-    fitting-all h A =
+    fitting-all f g h A =
         let z : n - i ≡ 0 = let w = C .within in omega arith in
         let (p, q) = no-selector (C .selectors) z in
         let (p′, q′) = no-column (C .columns) z in
@@ -87,7 +99,7 @@ module _ {incoming : Bytes} {v : Edition} {scope : Scope} {index : List ℕ} {st
         record {
           parts = record {
             typed = C .all A (ap (λ (ss : Selectors). typesOf (A .scoped .fields) ss) p ∙ ap (λ (cs : Columns). gives (fieldsOf cs)) (sym p′));
-            ends = (sym q ∙ a, sym q′ ∙ b);
+            ends = (f ∙ sym q ∙ a, g ∙ sym q′ ∙ b);
           };
         }
 
@@ -102,11 +114,13 @@ module _ {incoming : Bytes} {v : Edition} {scope : Scope} {index : List ℕ} {st
       next = split (C .columns) more
 
       -- the next column
-      abbrev pub fitting-asks : FieldsFitAt incoming v scope index stride plan n from target vt from′ → ColumnFitAt incoming v scope index stride plan at target vt bt
+      abbrev pub fitting-asks : FieldsFitAt incoming v scope index stride plan n from target vt from′
+          → ColumnFitAt incoming v scope index stride plan at target vt bt
       fitting-asks A = record { scoped = A .scoped; selector = first .head; column = next .first; small = A .small }
 
-      pub fitting-more : {r : FitEnd} {x y : Cursor} → ((B : ColumnFitAt incoming v scope index stride plan at target vt bt) → FitsColumn B r) → r ≡ FitEnd.At x y
-          → FieldsFitAt incoming v scope index stride plan n from target vt from′ → Fitting incoming v scope index stride plan n from target vt from′ (i + 1) (x .at) (y .at)
+      pub fitting-more : {r : FitEnd} {x y : Cursor} → ((B : ColumnFitAt incoming v scope index stride plan at target vt bt) → FitsColumn B r)
+          → r ≡ FitEnd.At x y → FieldsFitAt incoming v scope index stride plan n from target vt from′
+          → Fitting incoming v scope index stride plan n from target vt from′ (i + 1) (x .at) (y .at)
       unfolding fieldsOf
       fitting-more {x = x} {y} g h B =
           let k : n - i - 1 ≡ n - (i + 1) = omega arith in
@@ -121,7 +135,8 @@ module _ {incoming : Bytes} {v : Edition} {scope : Scope} {index : List ℕ} {st
             };
             all = λ A w.
                 let G = gives-to (g (fitting-asks A)) h in
-                C .all A (ap (λ (ss : Selectors). typesOf (A .scoped .fields) ss) (first .is) ∙ fields-give (A .scoped .fields) (first .head .tree) (first .tail .trees) (G .typed) w
+                C .all A (ap (λ (ss : Selectors). typesOf (A .scoped .fields) ss) (first .is)
+                ∙ fields-give (A .scoped .fields) (first .head .tree) (first .tail .trees) (G .typed) w
                 ∙ ap (λ (cs : Columns). gives (fieldsOf cs)) (sym (next .is)));
             ends = λ A. let (a, b) = C .ends A in (first .ends ∙ a, next .ends ∙ b);
           }
@@ -129,7 +144,8 @@ module _ {incoming : Bytes} {v : Edition} {scope : Scope} {index : List ℕ} {st
 -- ---- a whole plan
 
 abbrev pub plan-asks : {incoming : Bytes} {v : Edition} {n : ℕ} {index : List ℕ} {stride : ℕ} {plan : Bytes} {count : ℕ} {target : Bytes} {vt : Edition} {m : ℕ}
-    → (P : ColumnsAt v 16 incoming n 7) → SelectorsAt plan count 7 → ColumnsAt vt 16 target m 7 → Indexed v incoming n 7 stride index → 0 < stride → count ≡ m → length target ≤ 16384
+    → (P : ColumnsAt v 16 incoming n 7) → SelectorsAt plan count 7 → ColumnsAt vt 16 target m 7 → Indexed v incoming n 7 stride index
+    → 0 < stride → count ≡ m → length target ≤ 16384
     → FieldsFitAt incoming v (Scope.Columns n (record { at = 7 })) index stride plan m 7 target vt 7
 plan-asks P S Q I h e l = record {
   scoped = record { fields = fieldsOf (P .columns); parts = record { columns = P; are = refl; indexed = I; strides = h } };

@@ -15,6 +15,7 @@ use Rattle.plan.specs.Result.{Result, gives}
 use Rattle.plan.specs.Check.{Column, column, elementOf}
 use Rattle.index.specs.Indexed.{Indexed}
 use Rattle.direct.specs.declared.scope.Scope.{Scope}
+use Rattle.direct.specs.declared.scope.Source.{Source}
 use Rattle.direct.specs.declared.scope.Taken.{Taken}
 
 -- ---- scopes
@@ -39,6 +40,9 @@ scopeParts s v (Scope.Element c) index stride Γ = ElementIs s v (c .at) Γ
 pub record ScopeAt (s : Bytes) (v : Edition) (scope : Scope) (index : List ℕ) (stride : ℕ) : Type 0 where
   pub fields : Fields
   pub parts : scopeParts s v scope index stride fields
+
+abbrev pub SourceAt : Bytes → Source → List ℕ → Type 0
+SourceAt s source index = ScopeAt s (source .edition) (source .scope) index (source .stride)
 
 -- ---- the column at a position
 

@@ -1,7 +1,13 @@
 // Whether a selector gives a type of the target, and where both end. Every type that a transform makes on the way is a type of the target, so the limits of results hold.
+ghost use Prim.Native.Nat.{ℕ};
 ghost use mathlib.Core.Path.{_≡_};
+ghost use mathlib.Core.List.{List};
+ghost use Rattle.layout.specs.Bytes.{Bytes};
+ghost use Rattle.layout.specs.Stands.{TypeAt};
+ghost use Rattle.walk.specs.Stands.{SelectorAt};
 ghost use Rattle.walk.specs.Parts.{ConstantAt, CastAt, RenameAt, StructAt, ListAt, ArrayAt};
-ghost use Rattle.direct.specs.Fits.{FitAt, Fits, aroundOf, ColumnFitAt, FitsColumn, FieldsFitAt, FitsFields};
+ghost use Rattle.direct.specs.declared.scope.Source.{Source as SourceOf};
+ghost use Rattle.direct.specs.Fits.{FitFrom, Fits, aroundOf, ColumnFitFrom, FitsColumn, FieldsFitFrom, FitsFields};
 use crate::cast::type_fits;
 use crate::inside::Both;
 use crate::inside::both_inside;
@@ -10,6 +16,7 @@ use crate::place::Place;
 use crate::place::named;
 use crate::place::same_name;
 use crate::scope::Scope;
+use crate::scope::Source;
 use crate::scope::Taken;
 use crate::scope::index_fields;
 use crate::scope::take_position;
@@ -21,11 +28,18 @@ use layout::columns::Labelled;
 use layout::cursor::Cursor;
 use layout::cursor::Text;
 use layout::edition::Edition;
+use nodes::places::ColumnRange;
 use walk::head::SelectorHead;
 use walk::head::cast_option;
 use walk::head::head;
 use walk::head::skip_selector;
 use walk::head::struct_fields;
+
+// Where a type or a column of the target stands.
+pub struct TargetPlace {
+    pub edition: Edition,
+    pub at: Cursor,
+}
 
 // Where the selector and the type end, and the name of the column that the selector gives.
 pub enum Fit {
@@ -41,21 +55,20 @@ pub enum FitEnd {
 
 fn fit_position(
     incoming: &[u8],
-    v: Edition,
-    scope: Scope,
+    source: Source,
     index: &[u16],
-    stride: u16,
     plan: &[u8],
     c: Cursor,
     target: &[u8],
-    vt: Edition,
-    b: Cursor,
+    place: TargetPlace,
 ) -> Fit
-    requires { ⌜ FitAt (now incoming) v scope (now index) stride (now plan) (c .at) (now target) vt (b .at) ⌝ }
-    ensures { λ r. ⌜ ((A : FitAt (now (incoming .entry)) v scope (now (index .entry)) stride (now (plan .entry)) (c .at) (now (target .entry)) vt (b .at)) → Fits A r) ⌝ }
+    requires { ⌜ FitFrom (now incoming) source (now index) (now plan) (c .at) (now target) place ⌝ }
+    ensures { λ r. ⌜ ((A : FitFrom (now (incoming .entry)) source (now (index .entry)) (now (plan .entry)) (c .at) (now (target .entry)) place) → Fits A r) ⌝ }
 {
-    match take_position(incoming, v, scope, index, stride, plan, c) {
-        Taken::At(name, d) => match same_type(incoming, v, 16, d, target, vt, 16, b) {
+    let v = source.edition;
+    let vt = place.edition;
+    match take_position(incoming, source, index, plan, c) {
+        Taken::At(name, d) => match same_type(incoming, v, 16, d, target, vt, 16, place.at) {
             Same::To(_, f) => Fit::Is(skip_selector(plan, c), f, named(Place::Incoming, name)),
             Same::No => Fit::Unknown,
         },
@@ -63,25 +76,21 @@ fn fit_position(
     }
 }
 
-// A constant whose type begins at `t`.
+// A constant whose type begins at `t`, over any columns.
 fn fit_constant(
-    incoming: &[u8],
-    v: Edition,
-    scope: Scope,
-    index: &[u16],
-    stride: u16,
     plan: &[u8],
     c: Cursor,
     name: Span,
     t: Cursor,
     target: &[u8],
-    vt: Edition,
-    b: Cursor,
+    place: TargetPlace,
 ) -> Fit
-    requires { ⌜ ((A : FitAt (now incoming) v scope (now index) stride (now plan) (c .at) (now target) vt (b .at)) × ConstantAt (now plan) (c .at) (A .selector) name (t .at)) ⌝ }
-    ensures { λ r. ⌜ ((A : FitAt (now (incoming .entry)) v scope (now (index .entry)) stride (now (plan .entry)) (c .at) (now (target .entry)) vt (b .at)) → ConstantAt (now (plan .entry)) (c .at) (A .selector) name (t .at) → Fits A r) ⌝ }
+    requires { ⌜ ((P : SelectorAt (now plan) (c .at)) × ConstantAt (now plan) (c .at) P name (t .at)) ⌝ }
+    requires { ⌜ TypeAt (place .edition) 16 (now target) (place .at .at) ⌝ }
+    ensures { λ r. ⌜ ((incoming : Bytes) (source : SourceOf) (index : List ℕ) (A : FitFrom incoming source index (now (plan .entry)) (c .at) (now (target .entry)) place) → ConstantAt (now (plan .entry)) (c .at) (A .selector) name (t .at) → Fits A r) ⌝ }
 {
-    match same_type(plan, Edition::One, 16, t, target, vt, 16, b) {
+    let vt = place.edition;
+    match same_type(plan, Edition::One, 16, t, target, vt, 16, place.at) {
         Same::To(_, f) => Fit::Is(skip_selector(plan, c), f, named(Place::Plan, name)),
         Same::No => Fit::Unknown,
     }
@@ -89,24 +98,23 @@ fn fit_constant(
 
 fn fit_cast(
     incoming: &[u8],
-    v: Edition,
-    scope: Scope,
+    source: Source,
     index: &[u16],
-    stride: u16,
     plan: &[u8],
     c: Cursor,
     input: Cursor,
     target: &[u8],
-    vt: Edition,
-    b: Cursor,
+    place: TargetPlace,
 ) -> Fit
-    requires { ⌜ ((A : FitAt (now incoming) v scope (now index) stride (now plan) (c .at) (now target) vt (b .at)) × CastAt (now plan) (c .at) (A .selector) (input .at)) ⌝ }
-    ensures { λ r. ⌜ ((A : FitAt (now (incoming .entry)) v scope (now (index .entry)) stride (now (plan .entry)) (c .at) (now (target .entry)) vt (b .at)) → CastAt (now (plan .entry)) (c .at) (A .selector) (input .at) → Fits A r) ⌝ }
+    requires { ⌜ ((A : FitFrom (now incoming) source (now index) (now plan) (c .at) (now target) place) × CastAt (now plan) (c .at) (A .selector) (input .at)) ⌝ }
+    ensures { λ r. ⌜ ((A : FitFrom (now (incoming .entry)) source (now (index .entry)) (now (plan .entry)) (c .at) (now (target .entry)) place) → CastAt (now (plan .entry)) (c .at) (A .selector) (input .at) → Fits A r) ⌝ }
 {
-    match take_position(incoming, v, scope, index, stride, plan, input) {
+    let v = source.edition;
+    let vt = place.edition;
+    match take_position(incoming, source, index, plan, input) {
         Taken::At(name, d) => {
             let t = skip_selector(plan, input);
-            match same_type(plan, Edition::One, 16, t, target, vt, 16, b) {
+            match same_type(plan, Edition::One, 16, t, target, vt, 16, place.at) {
                 Same::To(_, f) => {
                     if !type_fits(incoming, v, d, plan, t, cast_option(plan, t)) {
                         return Fit::Unknown;
@@ -120,36 +128,21 @@ fn fit_cast(
     }
 }
 
+// A rename with its input at `input`.
 fn fit_rename(
     incoming: &[u8],
-    v: Edition,
-    scope: Scope,
+    source: Source,
     index: &[u16],
-    stride: u16,
     plan: &[u8],
-    c: Cursor,
     input: Cursor,
     target: &[u8],
-    vt: Edition,
-    b: Cursor,
+    place: TargetPlace,
     levels: u8,
 ) -> Fit
-    requires { ⌜ ((A : FitAt (now incoming) v scope (now index) stride (now plan) (c .at) (now target) vt (b .at)) × RenameAt (now plan) (c .at) (A .selector) (input .at)) ⌝ }
-    ensures { λ r. ⌜ ((A : FitAt (now (incoming .entry)) v scope (now (index .entry)) stride (now (plan .entry)) (c .at) (now (target .entry)) vt (b .at)) → RenameAt (now (plan .entry)) (c .at) (A .selector) (input .at) → Fits A r) ⌝ }
+    requires { ⌜ ((at : ℕ) × (A : FitFrom (now incoming) source (now index) (now plan) at (now target) place) × RenameAt (now plan) at (A .selector) (input .at)) ⌝ }
+    ensures { λ r. ⌜ ((at : ℕ) (A : FitFrom (now (incoming .entry)) source (now (index .entry)) (now (plan .entry)) at (now (target .entry)) place) → RenameAt (now (plan .entry)) at (A .selector) (input .at) → Fits A r) ⌝ }
 {
-    match fit_selector(
-        incoming,
-        v,
-        scope,
-        index,
-        stride,
-        plan,
-        input,
-        target,
-        vt,
-        b,
-        levels,
-    ) {
+    match fit_selector(incoming, source, index, plan, input, target, place, levels) {
         Fit::Is(e, f, _) => match e.text(plan) {
             Text::Is(name, g) => Fit::Is(g, f, named(Place::Plan, name)),
             Text::Refused(_) => Fit::Unknown,
@@ -170,39 +163,31 @@ fn around(name: Span, r: Fit) -> Fit
 
 fn fit_list(
     incoming: &[u8],
-    v: Edition,
-    scope: Scope,
+    source: Source,
     index: &[u16],
-    stride: u16,
     plan: &[u8],
-    c: Cursor,
     input: Cursor,
     target: &[u8],
-    vt: Edition,
-    b: Cursor,
+    place: TargetPlace,
     levels: u8,
 ) -> Fit
-    requires { ⌜ ((A : FitAt (now incoming) v scope (now index) stride (now plan) (c .at) (now target) vt (b .at)) × ListAt (now plan) (c .at) (A .selector) (input .at)) ⌝ }
-    ensures { λ r. ⌜ ((A : FitAt (now (incoming .entry)) v scope (now (index .entry)) stride (now (plan .entry)) (c .at) (now (target .entry)) vt (b .at)) → ListAt (now (plan .entry)) (c .at) (A .selector) (input .at) → Fits A r) ⌝ }
+    requires { ⌜ ((at : ℕ) × (A : FitFrom (now incoming) source (now index) (now plan) at (now target) place) × ListAt (now plan) at (A .selector) (input .at)) ⌝ }
+    ensures { λ r. ⌜ ((at : ℕ) (A : FitFrom (now (incoming .entry)) source (now (index .entry)) (now (plan .entry)) at (now (target .entry)) place) → ListAt (now (plan .entry)) at (A .selector) (input .at) → Fits A r) ⌝ }
 {
-    match take_position(incoming, v, scope, index, stride, plan, input) {
-        Taken::At(name, d) => match both_inside(incoming, v, d, target, vt, b) {
+    let v = source.edition;
+    let vt = place.edition;
+    match take_position(incoming, source, index, plan, input) {
+        Taken::At(name, d) => match both_inside(incoming, v, d, target, vt, place.at) {
             Both::Lists(x, y) => {
                 let e = skip_selector(plan, input);
-                let element = Scope::Element(x);
-                let r = fit_selector(
-                    incoming,
-                    v,
-                    element,
-                    index,
-                    stride,
-                    plan,
-                    e,
-                    target,
-                    vt,
-                    y,
-                    levels,
-                );
+                let scope = Scope::Element(x);
+                let element = Source {
+                    edition: v,
+                    scope,
+                    stride: source.stride,
+                };
+                let inner = TargetPlace { edition: vt, at: y };
+                let r = fit_selector(incoming, element, index, plan, e, target, inner, levels);
                 around(name, r)
             }
             _ => Fit::Unknown,
@@ -213,39 +198,31 @@ fn fit_list(
 
 fn fit_array(
     incoming: &[u8],
-    v: Edition,
-    scope: Scope,
+    source: Source,
     index: &[u16],
-    stride: u16,
     plan: &[u8],
-    c: Cursor,
     input: Cursor,
     target: &[u8],
-    vt: Edition,
-    b: Cursor,
+    place: TargetPlace,
     levels: u8,
 ) -> Fit
-    requires { ⌜ ((A : FitAt (now incoming) v scope (now index) stride (now plan) (c .at) (now target) vt (b .at)) × ArrayAt (now plan) (c .at) (A .selector) (input .at)) ⌝ }
-    ensures { λ r. ⌜ ((A : FitAt (now (incoming .entry)) v scope (now (index .entry)) stride (now (plan .entry)) (c .at) (now (target .entry)) vt (b .at)) → ArrayAt (now (plan .entry)) (c .at) (A .selector) (input .at) → Fits A r) ⌝ }
+    requires { ⌜ ((at : ℕ) × (A : FitFrom (now incoming) source (now index) (now plan) at (now target) place) × ArrayAt (now plan) at (A .selector) (input .at)) ⌝ }
+    ensures { λ r. ⌜ ((at : ℕ) (A : FitFrom (now (incoming .entry)) source (now (index .entry)) (now (plan .entry)) at (now (target .entry)) place) → ArrayAt (now (plan .entry)) at (A .selector) (input .at) → Fits A r) ⌝ }
 {
-    match take_position(incoming, v, scope, index, stride, plan, input) {
-        Taken::At(name, d) => match both_inside(incoming, v, d, target, vt, b) {
+    let v = source.edition;
+    let vt = place.edition;
+    match take_position(incoming, source, index, plan, input) {
+        Taken::At(name, d) => match both_inside(incoming, v, d, target, vt, place.at) {
             Both::Arrays(x, y) => {
                 let e = skip_selector(plan, input);
-                let element = Scope::Element(x);
-                let r = fit_selector(
-                    incoming,
-                    v,
-                    element,
-                    index,
-                    stride,
-                    plan,
-                    e,
-                    target,
-                    vt,
-                    y,
-                    levels,
-                );
+                let scope = Scope::Element(x);
+                let element = Source {
+                    edition: v,
+                    scope,
+                    stride: source.stride,
+                };
+                let inner = TargetPlace { edition: vt, at: y };
+                let r = fit_selector(incoming, element, index, plan, e, target, inner, levels);
                 around(name, r)
             }
             _ => Fit::Unknown,
@@ -256,46 +233,50 @@ fn fit_array(
 
 fn fit_struct(
     incoming: &[u8],
-    v: Edition,
-    scope: Scope,
+    source: Source,
     index: &[u16],
-    stride: u16,
     plan: &[u8],
-    c: Cursor,
     input: Cursor,
     target: &[u8],
-    vt: Edition,
-    b: Cursor,
+    place: TargetPlace,
     levels: u8,
 ) -> Fit
-    requires { ⌜ ((A : FitAt (now incoming) v scope (now index) stride (now plan) (c .at) (now target) vt (b .at)) × StructAt (now plan) (c .at) (A .selector) (input .at)) ⌝ }
-    ensures { λ r. ⌜ ((A : FitAt (now (incoming .entry)) v scope (now (index .entry)) stride (now (plan .entry)) (c .at) (now (target .entry)) vt (b .at)) → StructAt (now (plan .entry)) (c .at) (A .selector) (input .at) → Fits A r) ⌝ }
+    requires { ⌜ ((at : ℕ) × (A : FitFrom (now incoming) source (now index) (now plan) at (now target) place) × StructAt (now plan) at (A .selector) (input .at)) ⌝ }
+    ensures { λ r. ⌜ ((at : ℕ) (A : FitFrom (now (incoming .entry)) source (now (index .entry)) (now (plan .entry)) at (now (target .entry)) place) → StructAt (now (plan .entry)) at (A .selector) (input .at) → Fits A r) ⌝ }
 {
-    match take_position(incoming, v, scope, index, stride, plan, input) {
-        Taken::At(name, d) => match both_inside(incoming, v, d, target, vt, b) {
+    let v = source.edition;
+    let vt = place.edition;
+    match take_position(incoming, source, index, plan, input) {
+        Taken::At(name, d) => match both_inside(incoming, v, d, target, vt, place.at) {
             Both::Structs(n, x, m, y) => {
                 let fields = struct_fields(plan, input);
                 if fields.count != m {
                     return Fit::Unknown;
                 }
                 let first = fields.first;
-                let columns = Scope::Columns(n, x);
-                let inner_stride = field_stride(n);
+                let scope = Scope::Columns(n, x);
+                let stride = field_stride(n);
                 let mut starts: [u16; 64] = [0; 64];
-                let len = index_fields(incoming, v, n, x, m, inner_stride, &mut starts);
+                let len = index_fields(incoming, v, n, x, m, stride, &mut starts);
                 let inner_index = &starts[..len];
+                let inner = Source {
+                    edition: v,
+                    scope,
+                    stride,
+                };
+                let columns = ColumnRange {
+                    edition: vt,
+                    count: m,
+                    first: y,
+                };
                 match fit_fields(
                     incoming,
-                    v,
-                    columns,
+                    inner,
                     inner_index,
-                    inner_stride,
                     plan,
                     first,
-                    m,
                     target,
-                    vt,
-                    y,
+                    columns,
                     levels,
                 ) {
                     FitEnd::At(e, f) => Fit::Is(e, f, named(Place::Incoming, name)),
@@ -311,35 +292,23 @@ fn fit_struct(
 // A selector and a column of the target: names and types.
 pub fn fit_column(
     incoming: &[u8],
-    v: Edition,
-    scope: Scope,
+    source: Source,
     index: &[u16],
-    stride: u16,
     plan: &[u8],
     c: Cursor,
     target: &[u8],
-    vt: Edition,
-    b: Cursor,
+    place: TargetPlace,
     levels: u8,
 ) -> FitEnd
-    requires { ⌜ ColumnFitAt (now incoming) v scope (now index) stride (now plan) (c .at) (now target) vt (b .at) ⌝ }
-    ensures { λ r. ⌜ ((A : ColumnFitAt (now (incoming .entry)) v scope (now (index .entry)) stride (now (plan .entry)) (c .at) (now (target .entry)) vt (b .at)) → FitsColumn A r) ⌝ }
+    requires { ⌜ ColumnFitFrom (now incoming) source (now index) (now plan) (c .at) (now target) place ⌝ }
+    ensures { λ r. ⌜ ((A : ColumnFitFrom (now (incoming .entry)) source (now (index .entry)) (now (plan .entry)) (c .at) (now (target .entry)) place) → FitsColumn A r) ⌝ }
 {
+    let vt = place.edition;
+    let b = place.at;
     match b.label(target, vt) {
         Labelled::Is(l, d) => {
-            match fit_selector(
-                incoming,
-                v,
-                scope,
-                index,
-                stride,
-                plan,
-                c,
-                target,
-                vt,
-                d,
-                levels,
-            ) {
+            let inner = TargetPlace { edition: vt, at: d };
+            match fit_selector(incoming, source, index, plan, c, target, inner, levels) {
                 Fit::Is(e, f, name) => {
                     let q = l.name;
                     if same_name(incoming, plan, name, target, q) {
@@ -355,70 +324,52 @@ pub fn fit_column(
     }
 }
 
-// As many selectors and columns of the target.
-pub fn fit_fields(
+// A selector for each of the target's columns.
+fn fit_fields(
     incoming: &[u8],
-    v: Edition,
-    scope: Scope,
+    source: Source,
     index: &[u16],
-    stride: u16,
     plan: &[u8],
     c: Cursor,
-    n: u16,
     target: &[u8],
-    vt: Edition,
-    b: Cursor,
+    columns: ColumnRange,
     levels: u8,
 ) -> FitEnd
-    requires { ⌜ FieldsFitAt (now incoming) v scope (now index) stride (now plan) n (c .at) (now target) vt (b .at) ⌝ }
-    ensures { λ r. ⌜ ((A : FieldsFitAt (now (incoming .entry)) v scope (now (index .entry)) stride (now (plan .entry)) n (c .at) (now (target .entry)) vt (b .at)) → FitsFields A r) ⌝ }
+    requires { ⌜ FieldsFitFrom (now incoming) source (now index) (now plan) (c .at) (now target) columns ⌝ }
+    ensures { λ r. ⌜ ((A : FieldsFitFrom (now (incoming .entry)) source (now (index .entry)) (now (plan .entry)) (c .at) (now (target .entry)) columns) → FitsFields A r) ⌝ }
 {
-    let mut at = c.at;
-    let mut bt = b.at;
+    let vt = columns.edition;
+    let n = columns.count;
+    let mut d = c;
+    let mut b = columns.first;
     let mut i: u16 = 0;
     while i < n {
-        let d = Cursor { at };
-        let e = Cursor { at: bt };
-        match fit_column(
-            incoming,
-            v,
-            scope,
-            index,
-            stride,
-            plan,
-            d,
-            target,
-            vt,
-            e,
-            levels,
-        ) {
-            FitEnd::At(f, g) => {
-                at = f.at;
-                bt = g.at;
+        let place = TargetPlace { edition: vt, at: b };
+        match fit_column(incoming, source, index, plan, d, target, place, levels) {
+            FitEnd::At(e, f) => {
+                d = e;
+                b = f;
             }
             FitEnd::Unknown => return FitEnd::Unknown,
         }
         i += 1;
     }
-    FitEnd::At(Cursor { at }, Cursor { at: bt })
+    FitEnd::At(d, b)
 }
 
 // Inside at most so many others.
 fn fit_selector(
     incoming: &[u8],
-    v: Edition,
-    scope: Scope,
+    source: Source,
     index: &[u16],
-    stride: u16,
     plan: &[u8],
     c: Cursor,
     target: &[u8],
-    vt: Edition,
-    b: Cursor,
+    place: TargetPlace,
     levels: u8,
 ) -> Fit
-    requires { ⌜ FitAt (now incoming) v scope (now index) stride (now plan) (c .at) (now target) vt (b .at) ⌝ }
-    ensures { λ r. ⌜ ((A : FitAt (now (incoming .entry)) v scope (now (index .entry)) stride (now (plan .entry)) (c .at) (now (target .entry)) vt (b .at)) → Fits A r) ⌝ }
+    requires { ⌜ FitFrom (now incoming) source (now index) (now plan) (c .at) (now target) place ⌝ }
+    ensures { λ r. ⌜ ((A : FitFrom (now (incoming .entry)) source (now (index .entry)) (now (plan .entry)) (c .at) (now (target .entry)) place) → Fits A r) ⌝ }
 {
     if levels == 0 {
         return Fit::Unknown;
@@ -426,81 +377,14 @@ fn fit_selector(
     let l = levels - 1;
     match head(plan, c) {
         SelectorHead::Position(_) => {
-            fit_position(incoming, v, scope, index, stride, plan, c, target, vt, b)
+            fit_position(incoming, source, index, plan, c, target, place)
         }
-        SelectorHead::Constant(n, t) => fit_constant(
-            incoming,
-            v,
-            scope,
-            index,
-            stride,
-            plan,
-            c,
-            n,
-            t,
-            target,
-            vt,
-            b,
-        ),
-        SelectorHead::Cast(d) => {
-            fit_cast(incoming, v, scope, index, stride, plan, c, d, target, vt, b)
-        }
-        SelectorHead::Rename(d) => fit_rename(
-            incoming,
-            v,
-            scope,
-            index,
-            stride,
-            plan,
-            c,
-            d,
-            target,
-            vt,
-            b,
-            l,
-        ),
-        SelectorHead::Struct(d) => fit_struct(
-            incoming,
-            v,
-            scope,
-            index,
-            stride,
-            plan,
-            c,
-            d,
-            target,
-            vt,
-            b,
-            l,
-        ),
-        SelectorHead::List(d) => fit_list(
-            incoming,
-            v,
-            scope,
-            index,
-            stride,
-            plan,
-            c,
-            d,
-            target,
-            vt,
-            b,
-            l,
-        ),
-        SelectorHead::Array(d) => fit_array(
-            incoming,
-            v,
-            scope,
-            index,
-            stride,
-            plan,
-            c,
-            d,
-            target,
-            vt,
-            b,
-            l,
-        ),
+        SelectorHead::Constant(n, t) => fit_constant(plan, c, n, t, target, place),
+        SelectorHead::Cast(d) => fit_cast(incoming, source, index, plan, c, d, target, place),
+        SelectorHead::Rename(d) => fit_rename(incoming, source, index, plan, d, target, place, l),
+        SelectorHead::Struct(d) => fit_struct(incoming, source, index, plan, d, target, place, l),
+        SelectorHead::List(d) => fit_list(incoming, source, index, plan, d, target, place, l),
+        SelectorHead::Array(d) => fit_array(incoming, source, index, plan, d, target, place, l),
         SelectorHead::Refused => Fit::Unknown,
     }
 }

@@ -31,12 +31,11 @@ pub fn skip_renames(plan: &[u8], c: Cursor) -> Cursor
     requires { ⌜ SelectorAt (now plan) (c .at) ⌝ }
     ensures { λ r. ⌜ ((P : SelectorAt (now (plan .entry)) (c .at)) → Unrenamed (now (plan .entry)) (c .at) P (r .at)) ⌝ }
 {
-    let mut at = c.at;
+    let mut d = c;
     loop {
-        let d = Cursor { at };
         match head(plan, d) {
             SelectorHead::Rename(input) => {
-                at = input.at;
+                d = input;
             }
             _ => return d,
         }

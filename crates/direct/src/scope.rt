@@ -7,7 +7,7 @@ ghost use Rattle.layout.specs.Stands.{TypeAt};
 ghost use Rattle.plan.specs.Check.{columnAt, elementOf, typeOf};
 ghost use Rattle.walk.specs.Stands.{SelectorAt};
 ghost use Rattle.index.specs.Indexed.{Indexed};
-ghost use Rattle.direct.specs.Scopes.{takenFrom, ScopeAt, TakenIs};
+ghost use Rattle.direct.specs.Scopes.{takenFrom, SourceAt, TakenIs};
 use index::columns::index_columns;
 use index::columns::indexed_column;
 use layout::bytes::Span;
@@ -22,6 +22,13 @@ use walk::head::head;
 pub enum Scope {
     Columns(u16, Cursor),
     Element(Cursor),
+}
+
+// What positions take from, in a layout of this edition; the entries of its index stand for every `stride`-th column.
+pub struct Source {
+    pub edition: Edition,
+    pub scope: Scope,
+    pub stride: u16,
 }
 
 // The name's place and where the type begins.
@@ -54,19 +61,16 @@ fn take_element(incoming: &[u8], v: Edition, c: Cursor, k: Position) -> Taken
 }
 
 // The column at a position.
-fn take_column(
-    incoming: &[u8],
-    v: Edition,
-    scope: Scope,
-    index: &[u16],
-    stride: u16,
-    k: Position,
-) -> Taken
-    requires { ⌜ ScopeAt (now incoming) v scope (now index) stride ⌝ }
-    ensures { λ r. ⌜ ((X : ScopeAt (now (incoming .entry)) v scope (now (index .entry)) stride) → TakenIs (now (incoming .entry)) v (columnAt (X .fields) (k .0)) r) ⌝ }
+fn take_column(incoming: &[u8], source: Source, index: &[u16], k: Position) -> Taken
+    requires { ⌜ SourceAt (now incoming) source (now index) ⌝ }
+    ensures { λ r. ⌜ ((X : SourceAt (now (incoming .entry)) source (now (index .entry))) → TakenIs (now (incoming .entry)) (source .edition) (columnAt (X .fields) (k .0)) r) ⌝ }
 {
+    let v = source.edition;
+    let scope = source.scope;
     match scope {
-        Scope::Columns(n, c) => taken_from(indexed_column(incoming, v, n, c, index, stride, k)),
+        Scope::Columns(n, c) => {
+            taken_from(indexed_column(incoming, v, n, c, index, source.stride, k))
+        }
         Scope::Element(c) => take_element(incoming, v, c, k),
     }
 }
@@ -74,18 +78,16 @@ fn take_column(
 // The column that the selector at `c` takes, if it is a position.
 pub fn take_position(
     incoming: &[u8],
-    v: Edition,
-    scope: Scope,
+    source: Source,
     index: &[u16],
-    stride: u16,
     plan: &[u8],
     c: Cursor,
 ) -> Taken
-    requires { ⌜ ScopeAt (now incoming) v scope (now index) stride ⌝ }
-    ensures { λ r. ⌜ ((X : ScopeAt (now (incoming .entry)) v scope (now (index .entry)) stride) (S : SelectorAt (now (plan .entry)) (c .at)) → TakenIs (now (incoming .entry)) v (typeOf (X .fields) (S .tree)) r) ⌝ }
+    requires { ⌜ SourceAt (now incoming) source (now index) ⌝ }
+    ensures { λ r. ⌜ ((X : SourceAt (now (incoming .entry)) source (now (index .entry))) (S : SelectorAt (now (plan .entry)) (c .at)) → TakenIs (now (incoming .entry)) (source .edition) (typeOf (X .fields) (S .tree)) r) ⌝ }
 {
     match head(plan, c) {
-        SelectorHead::Position(k) => take_column(incoming, v, scope, index, stride, k),
+        SelectorHead::Position(k) => take_column(incoming, source, index, k),
         _ => Taken::Absent,
     }
 }

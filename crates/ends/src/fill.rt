@@ -57,18 +57,16 @@ pub fn fill_columns(
     ensures { λ _. ⌜ Ends v (now (s .entry)) (now (ends .exit)) ⌝ }
     ensures { λ _. ⌜ length (now (ends .exit)) ≡ length (now (ends .entry)) ⌝ }
 {
-    let mut at = c.at;
+    let mut d = c;
     let mut i: u16 = 0;
     while i < n {
-        let d = Cursor { at };
         match d.label(s, v) {
             Labelled::Is(_, e) => {
-                let f = fill_type(s, v, depth, e, ends);
-                at = f.at;
+                d = fill_type(s, v, depth, e, ends);
             }
             Labelled::Refused(_) => return c,
         }
         i += 1;
     }
-    Cursor { at }
+    d
 }

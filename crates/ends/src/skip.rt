@@ -54,18 +54,16 @@ pub fn skip_columns_by(s: &[u8], v: Edition, depth: u8, n: u16, c: Cursor, ends:
     requires { ⌜ Ends v (now s) (now ends) ⌝ }
     ensures { λ r. ⌜ ((P : ColumnsAt v depth (now (s .entry)) n (c .at)) → r .at ≡ P .end) ⌝ }
 {
-    let mut at = c.at;
+    let mut d = c;
     let mut i: u16 = 0;
     while i < n {
-        let d = Cursor { at };
         match d.label(s, v) {
             Labelled::Is(_, e) => {
-                let f = skip_type_by(s, v, depth, e, ends);
-                at = f.at;
+                d = skip_type_by(s, v, depth, e, ends);
             }
             Labelled::Refused(_) => return c,
         }
         i += 1;
     }
-    Cursor { at }
+    d
 }

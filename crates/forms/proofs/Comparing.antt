@@ -11,7 +11,7 @@ use lib.Seq.{slice}
 use borrow.Author.Tests.{eq-eqb}
 use Rattle.layout.specs.Bytes.{Bytes, sameBytes, AllBytes}
 use Rattle.layout.specs.Parser.{Res, refuse, ok, next, Parser, test}
-use Rattle.layout.specs.Tree.{LeafType, Label, ColumnType, cleaf, cstruct, clist, carray, Columns, cnil, ccons, DataType, Fields, fnil, fcons, countColumns, countFields, dtypeOf, fieldsOf}
+use Rattle.layout.specs.Tree.{LeafType, Label, ColumnType, cleaf, cstruct, clist, carray, Columns, cnil, ccons, DataType, Fields, fnil, fcons, dtypeOf, fieldsOf}
 use Rattle.layout.specs.Layout.{Kind, aLeaf, aStruct, aList, anArray, kind, body, structType, listType, arrayType, label, elementLabel, columns, type, repeatsAny}
 use Rattle.layout.specs.Answers.{spanAt, spanIn, headRes, leafAt, labelRes, labelAt}
 use Rattle.layout.specs.Stands.{TypeAt, ColumnsAt}
@@ -24,23 +24,23 @@ use Rattle.layout.specs.declared.columns.Labelled.{Labelled}
 use Rattle.layout.specs.declared.columns.Siblings.the-variants.{Free}
 use Rattle.layout.specs.declared.edition.Edition.{Edition}
 use Rattle.layout.proofs.Ways.{clash}
-use Rattle.layout.proofs.Top.{columns-count}
 use Rattle.layout.proofs.View.{next-ok, deep, label-got, label-none, same-columns, columns-any, no-column}
 use Rattle.forms.specs.Form.{kindForm, headOf}
 use Rattle.forms.specs.Compare.{sameLeaf, sameDtype, sameFields}
 use Rattle.forms.specs.Answers.{sameOf}
 use Rattle.forms.specs.Labelled.{LabelledAt, ElementAt, ColumnAt}
 use Rattle.forms.specs.declared.compare.Same.{Same}
-use Rattle.forms.proofs.Equal.{kind-eq, same-dtype-refl, same-dtype-eq, same-fields-eq}
+use Rattle.forms.proofs.Equal.{kind-eq, same-dtype-refl, same-dtype-eq}
 use Rattle.layout.proofs.OfBytes.{same-bytes-refl, same-bytes-eq}
 use Rattle.store.proofs.Overlay.{slice-take}
 use Rattle.forms.proofs.Read.{ok-eq, kind→, kind-stands, passed}
-use Rattle.forms.proofs.Heads.{HeadAt, count-fields}
+use Rattle.forms.proofs.Heads.{HeadAt}
 
 -- ---- names
 
 pub same-texts : (a b : Bytes) (p q : Span) {r : Bool}
-    → r ≡ sameBytes (take (p .start + p .len - p .start) (drop (p .start) a)) (take (q .start + q .len - q .start) (drop (q .start) b)) → r ≡ sameBytes (spanAt a p) (spanAt b q)
+    → r ≡ sameBytes (take (p .start + p .len - p .start) (drop (p .start) a)) (take (q .start + q .len - q .start) (drop (q .start) b))
+    → r ≡ sameBytes (spanAt a p) (spanAt b q)
 same-texts a b p q e = rw (add-sub-cancel-left (p .start) (p .len), add-sub-cancel-left (q .start) (q .len)) at e
 
 -- ---- what the types begin with
@@ -51,7 +51,8 @@ differ t u e = go (sameDtype t u) refl
   where
     go : (b : Bool) → sameDtype t u ≡ b → b ≡ false
     go true h =
-        let z : sameBytes (kindForm (headOf t)) (kindForm (headOf u)) ≡ true = ap (λ (x : DataType). sameBytes (kindForm (headOf t)) (kindForm (headOf x))) (sym (same-dtype-eq t u h)) ∙ same-bytes-refl (kindForm (headOf t)) in
+        let z : sameBytes (kindForm (headOf t)) (kindForm (headOf u)) ≡ true = ap (λ (x : DataType). sameBytes (kindForm (headOf t)) (kindForm (headOf x)))
+        (sym (same-dtype-eq t u h)) ∙ same-bytes-refl (kindForm (headOf t)) in
         sym z ∙ e
     go false h = refl
 
@@ -74,9 +75,11 @@ module _ {v : Edition} {d : ℕ} {s : Bytes} {at m : ℕ} {P : TypeAt v d s at} 
       sym (slice-take s at (m - at) (omega arith)) ∙ ap (λ (e : ℕ). slice at e s) n ∙ kind-stands s o at (kind→ s at (H .reads)) .0 .is
 
 module _ {va : Edition} {da : ℕ} {a : Bytes} {at x : ℕ} {vb : Edition} {db : ℕ} {b : Bytes} {bt y : ℕ} {P : TypeAt va da a at} {Q : TypeAt vb db b bt}
-    (H : HeadAt va da a at P x) (G : HeadAt vb db b bt Q y) (oa : AllBytes a) (ob : AllBytes b) {r : Bool} (e : r ≡ sameBytes (spanAt a (headSpan at x)) (spanAt b (headSpan bt y))) where
+    (H : HeadAt va da a at P x) (G : HeadAt vb db b bt Q y) (oa : AllBytes a) (ob : AllBytes b) {r : Bool}
+    (e : r ≡ sameBytes (spanAt a (headSpan at x)) (spanAt b (headSpan bt y))) where
   by-kinds : r ≡ sameBytes (kindForm (headOf (dtypeOf (P .tree)))) (kindForm (headOf (dtypeOf (Q .tree))))
-  by-kinds = e ∙ ap (λ (z : Bytes). sameBytes z (spanAt b (headSpan bt y))) (head-bytes H oa) ∙ ap (λ (z : Bytes). sameBytes (kindForm (headOf (dtypeOf (P .tree)))) z) (head-bytes G ob)
+  by-kinds = e ∙ ap (λ (z : Bytes). sameBytes z (spanAt b (headSpan bt y))) (head-bytes H oa)
+      ∙ ap (λ (z : Bytes). sameBytes (kindForm (headOf (dtypeOf (P .tree)))) z) (head-bytes G ob)
 
   pub heads-differ : r ≡ false → Same.No ≡ sameOf (sameDtype (dtypeOf (P .tree)) (dtypeOf (Q .tree))) (P .end) (Q .end)
   unfolding sameOf
@@ -144,7 +147,8 @@ module _ {v : Edition} {d : ℕ} {s : Bytes} {at : ℕ} (P : TypeAt v d s at) {m
 
 -- both types, by the answer for the first one's head
 module _ {va : Edition} {da : ℕ} {a : Bytes} {at x : ℕ} {vb : Edition} {db : ℕ} {b : Bytes} {bt y : ℕ} {P : TypeAt va da a at} {Q : TypeAt vb db b bt}
-    (H : HeadAt va da a at P x) (G : HeadAt vb db b bt Q y) (oa : AllBytes a) (ob : AllBytes b) {r : Bool} (e : r ≡ sameBytes (spanAt a (headSpan at x)) (spanAt b (headSpan bt y)))
+    (H : HeadAt va da a at P x) (G : HeadAt vb db b bt Q y) (oa : AllBytes a) (ob : AllBytes b) {r : Bool}
+    (e : r ≡ sameBytes (spanAt a (headSpan at x)) (spanAt b (headSpan bt y)))
     (t : r ≡ true) {h : Head} (f : headRes a h ≡ kind a at) where
   pub leaf-both : {l : LeafSpan} {d : Cursor} → h ≡ Head.Leaf l d → (kind a at ≡ ok (aLeaf (leafAt a l)) x) × (kind b bt ≡ ok (aLeaf (leafAt a l)) y)
   leaf-both g = heads-alike H G oa ob e t (sym f ∙ ap (headRes a) g)
@@ -168,7 +172,8 @@ module _ {va : Edition} {da : ℕ} {a : Bytes} {at : ℕ} {vb : Edition} {db : �
   abbrev Answers : Same → Type 0
   Answers r = r ≡ sameOf (sameDtype (dtypeOf (P .tree)) (dtypeOf (Q .tree))) (P .end) (Q .end)
 
-  pub leaves-same : {x y : ℕ} {l : LeafType} → kind a at ≡ ok (aLeaf l) x → kind b bt ≡ ok (aLeaf l) y → Answers (Same.To (record { at = x }) (record { at = y }))
+  pub leaves-same : {x y : ℕ} {l : LeafType} → kind a at ≡ ok (aLeaf l) x → kind b bt ≡ ok (aLeaf l) y
+      → Answers (Same.To (record { at = x }) (record { at = y }))
   unfolding sameOf
   leaves-same f g =
       let (p, q) = leaf-known P f in
@@ -182,19 +187,22 @@ module _ {va : Edition} {da : ℕ} {a : Bytes} {at : ℕ} {vb : Edition} {db : �
   structs-same S T h = answer _ (rw (S .is, T .is)) (S .ends) (T .ends) h
 
   pub lists-same : {x y : ℕ} (S : ListIs va da a at P x) (T : ListIs vb db b bt Q y) {r : Same}
-      → r ≡ sameOf (sameDtype (dtypeOf (S .element .inner .tree)) (dtypeOf (T .element .inner .tree))) (S .element .inner .end) (T .element .inner .end) → Answers r
+      → r ≡ sameOf (sameDtype (dtypeOf (S .element .inner .tree)) (dtypeOf (T .element .inner .tree))) (S .element .inner .end) (T .element .inner .end)
+      → Answers r
   unfolding dtypeOf sameDtype
   lists-same S T h = answer _ (rw (S .is, T .is)) (S .ends) (T .ends) h
 
   pub arrays-same : {x y w : ℕ} (S : ArrayIs va da a at P w x) (T : ArrayIs vb db b bt Q w y) {r : Same}
-      → r ≡ sameOf (sameDtype (dtypeOf (S .element .inner .tree)) (dtypeOf (T .element .inner .tree))) (S .element .inner .end) (T .element .inner .end) → Answers r
+      → r ≡ sameOf (sameDtype (dtypeOf (S .element .inner .tree)) (dtypeOf (T .element .inner .tree))) (S .element .inner .end) (T .element .inner .end)
+      → Answers r
   unfolding dtypeOf sameDtype
   arrays-same {w = w} S T h = answer _ (rw (S .is, T .is, eq-eqb w w refl)) (S .ends) (T .ends) h
 
 -- ---- labels with types behind them
 
 -- the type, where the label's reader says that it starts
-abbrev pub behind-label : {p : Parser Label} {v : Edition} {d : ℕ} {s : Bytes} {at : ℕ} {l : Label} {m : ℕ} (E : LabelledAt p v d s at) → p s at ≡ ok l m → TypeAt v d s m
+abbrev pub behind-label : {p : Parser Label} {v : Edition} {d : ℕ} {s : Bytes} {at : ℕ} {l : Label} {m : ℕ} (E : LabelledAt p v d s at) → p s at ≡ ok l m
+    → TypeAt v d s m
 behind-label {v = v} {d} {s} E h =
     record { tree = E .inner .tree; end = E .inner .end; reads = ap (λ (o : ℕ). type v Free d s o) (ok-eq (sym h ∙ E .labelled) .1) ∙ E .inner .reads }
 
@@ -208,17 +216,20 @@ name-is {s = s} E e f = ap (λ (x : Label). x .name) (ok-eq (sym (E .labelled) �
 
 module _ {va : Edition} {da : ℕ} {a : Bytes} {at : ℕ} {vb : Edition} {db : ℕ} {b : Bytes} {bt : ℕ} (E : ColumnAt va da a at) (F : ColumnAt vb db b bt)
     {q : Labelled} {l : LabelSpan} {x : Cursor} (e : labelRes a q ≡ label va a at) (f : q ≡ Labelled.Is l x)
-    {u : Labelled} {m : LabelSpan} {y : Cursor} (g : labelRes b u ≡ label vb b bt) (h : u ≡ Labelled.Is m y) {t : Bool} (i : t ≡ sameBytes (spanAt a (l .name)) (spanAt b (m .name))) where
+    {u : Labelled} {m : LabelSpan} {y : Cursor} (g : labelRes b u ≡ label vb b bt) (h : u ≡ Labelled.Is m y) {t : Bool}
+    (i : t ≡ sameBytes (spanAt a (l .name)) (spanAt b (m .name))) where
   names : sameBytes (E .label .name) (F .label .name) ≡ t
   names = ap (λ (z : Bytes). sameBytes z (F .label .name)) (name-is E e f) ∙ ap (λ (z : Bytes). sameBytes (spanAt a (l .name)) z) (name-is F g h) ∙ sym i
 
   pub names-differ : t ≡ false
-      → Same.No ≡ sameOf (sameBytes (E .label .name) (F .label .name) && sameDtype (dtypeOf (E .inner .tree)) (dtypeOf (F .inner .tree))) (E .inner .end) (F .inner .end)
+      → Same.No ≡ sameOf (sameBytes (E .label .name) (F .label .name) && sameDtype (dtypeOf (E .inner .tree)) (dtypeOf (F .inner .tree))) (E .inner .end)
+      (F .inner .end)
   unfolding sameOf
   names-differ z = rw (names, z)
 
   pub names-alike : t ≡ true → {r : Same} → r ≡ sameOf (sameDtype (dtypeOf (E .inner .tree)) (dtypeOf (F .inner .tree))) (E .inner .end) (F .inner .end)
-      → r ≡ sameOf (sameBytes (E .label .name) (F .label .name) && sameDtype (dtypeOf (E .inner .tree)) (dtypeOf (F .inner .tree))) (E .inner .end) (F .inner .end)
+      → r ≡ sameOf (sameBytes (E .label .name) (F .label .name) && sameDtype (dtypeOf (E .inner .tree)) (dtypeOf (F .inner .tree))) (E .inner .end)
+      (F .inner .end)
   names-alike z k = rw (names, z) k
 
 -- ---- the loop over columns
@@ -234,7 +245,8 @@ pub split : {v : Edition} {d : ℕ} {s : Bytes} {n at : ℕ} (P : ColumnsAt v d 
 unfolding columns
 split {v} {d} {s} {n} {at} P h =
     let z : suc (n - 1) ≡ n = omega arith in
-    let w : columns v Free (type v Free d) (suc (n - 1)) [] s at ≡ ok (P .columns) (P .end) = ap (λ (k : ℕ). columns v Free (type v Free d) k [] s at) z ∙ P .reads in
+    let w : columns v Free (type v Free d) (suc (n - 1)) [] s at ≡ ok (P .columns) (P .end) = ap (λ (k : ℕ). columns v Free (type v Free d) k [] s at) z
+    ∙ P .reads in
     let (l, i, h₁, f) = next-ok _ _ w in
     let (t, j, h₂, f) = next-ok _ _ f in
     let (u, o, h₃, f) = next-ok (test (not (repeatsAny Free l [])) 5 s j) _ f in
@@ -243,7 +255,12 @@ split {v} {d} {s} {n} {at} P h =
     let y : j ≡ o = passed (not (repeatsAny Free l [])) s h₃ in
     record {
       first = record { label = l; start = i; labelled = h₁; inner = record { tree = t; end = j; reads = h₂ } };
-      tail = record { columns = cs; end = e; reads = columns-any v (type v Free d) (n - 1) [] ([] ++ (l ∷ [])) s j ∙ ap (λ (k : ℕ). columns v Free (type v Free d) (n - 1) ([] ++ (l ∷ [])) s k) y ∙ h₄ };
+      tail = record {
+        columns = cs;
+        end = e;
+        reads = columns-any v (type v Free d) (n - 1) [] ([] ++ (l ∷ [])) s j
+            ∙ ap (λ (k : ℕ). columns v Free (type v Free d) (n - 1) ([] ++ (l ∷ [])) s k) y ∙ h₄;
+      };
       is = sym p;
       ends = q;
     }
@@ -294,7 +311,8 @@ module _ {va : Edition} {da : ℕ} {a : Bytes} {n from : ℕ} {vb : Edition} {db
         let z : n - i ≡ 0 = let w = C .within in omega arith in
         let (p, q) = no-column (C .left) z in
         let (p′, q′) = no-column (C .right) z in
-        C .same P Q (answer true (ap (λ (cs : Columns). sameFields (fieldsOf cs) (fieldsAt (C .right))) p ∙ ap (λ (cs : Columns). sameFields fnil (fieldsOf cs)) p′) q q′ refl)
+        C .same P Q (answer true (ap (λ (cs : Columns). sameFields (fieldsOf cs) (fieldsAt (C .right))) p
+        ∙ ap (λ (cs : Columns). sameFields fnil (fieldsOf cs)) p′) q q′ refl)
 
     module _ (lt : i < n) where
       more : n - i ≡ 0 → ⊥
@@ -307,21 +325,29 @@ module _ {va : Edition} {da : ℕ} {a : Bytes} {n from : ℕ} {vb : Edition} {db
       right-split = split (C .right) more
 
       first-same : Bool
-      first-same = sameBytes (left-split .first .label .name) (right-split .first .label .name) && sameDtype (dtypeOf (left-split .first .inner .tree)) (dtypeOf (right-split .first .inner .tree))
+      first-same = sameBytes (left-split .first .label .name) (right-split .first .label .name) && sameDtype (dtypeOf (left-split .first .inner .tree))
+          (dtypeOf (right-split .first .inner .tree))
 
       by-first : sameFields (fieldsAt (C .left)) (fieldsAt (C .right)) ≡ (first-same && sameFields (fieldsAt (left-split .tail)) (fieldsAt (right-split .tail)))
       unfolding sameFields fieldsOf first-same
       by-first =
           ap (λ (cs : Columns). sameFields (fieldsOf cs) (fieldsAt (C .right))) (left-split .is)
-          ∙ ap (λ (cs : Columns). sameFields (fieldsOf (ccons (left-split .first .label) (left-split .first .inner .tree) (left-split .tail .columns))) (fieldsOf cs)) (right-split .is)
-          ∙ sym (and-assoc (sameBytes (left-split .first .label .name) (right-split .first .label .name)) (sameDtype (dtypeOf (left-split .first .inner .tree)) (dtypeOf (right-split .first .inner .tree))) (sameFields (fieldsAt (left-split .tail)) (fieldsAt (right-split .tail))))
+          ∙ ap (λ (cs : Columns). sameFields (fieldsOf (ccons (left-split .first .label) (left-split .first .inner .tree) (left-split .tail .columns)))
+          (fieldsOf cs)) (right-split .is)
+          ∙ sym (and-assoc (sameBytes (left-split .first .label .name) (right-split .first .label .name))
+          (sameDtype (dtypeOf (left-split .first .inner .tree)) (dtypeOf (right-split .first .inner .tree)))
+          (sameFields (fieldsAt (left-split .tail)) (fieldsAt (right-split .tail))))
 
-      module _ {r : Same} (e : r ≡ sameOf (sameBytes (left-split .first .label .name) (right-split .first .label .name) && sameDtype (dtypeOf (left-split .first .inner .tree)) (dtypeOf (right-split .first .inner .tree))) (left-split .first .inner .end) (right-split .first .inner .end)) where
-        pub comparing-no : r ≡ Same.No → (P : ColumnsAt va da a n from) (Q : ColumnsAt vb db b n from′) → Same.No ≡ sameOf (sameFields (fieldsAt P) (fieldsAt Q)) (P .end) (Q .end)
+      module _ {r : Same} (e : r ≡ sameOf (sameBytes (left-split .first .label .name) (right-split .first .label .name) && sameDtype
+          (dtypeOf (left-split .first .inner .tree)) (dtypeOf (right-split .first .inner .tree))) (left-split .first .inner .end)
+          (right-split .first .inner .end)) where
+        pub comparing-no : r ≡ Same.No → (P : ColumnsAt va da a n from) (Q : ColumnsAt vb db b n from′)
+            → Same.No ≡ sameOf (sameFields (fieldsAt P) (fieldsAt Q)) (P .end) (Q .end)
         unfolding first-same sameOf
         comparing-no f P Q =
             let z : first-same ≡ false = same-no first-same _ _ e f in
-            C .same P Q (answer false (by-first ∙ ap (λ (c : Bool). c && sameFields (fieldsAt (left-split .tail)) (fieldsAt (right-split .tail))) z) refl refl refl)
+            C .same P Q (answer false (by-first ∙ ap (λ (c : Bool). c && sameFields (fieldsAt (left-split .tail)) (fieldsAt (right-split .tail))) z) refl refl
+            refl)
 
         pub comparing-more : {x y : Cursor} → r ≡ Same.To x y → Comparing va da a n from vb db b from′ (i + 1) (x .at) (y .at)
         unfolding first-same
@@ -332,22 +358,15 @@ module _ {va : Edition} {da : ℕ} {a : Bytes} {n from : ℕ} {vb : Edition} {db
               within = omega arith;
               left = record { columns = left-split .tail .columns; end = left-split .tail .end; reads = rw (k, p) (left-split .tail .reads) };
               right = record { columns = right-split .tail .columns; end = right-split .tail .end; reads = rw (k, q) (right-split .tail .reads) };
-              same = λ P Q h. C .same P Q (answer _ (by-first ∙ ap (λ (c : Bool). c && sameFields (fieldsAt (left-split .tail)) (fieldsAt (right-split .tail))) z) (sym (left-split .ends)) (sym (right-split .ends)) h);
+              same = λ P Q h. C .same P Q (answer _ (by-first ∙ ap (λ (c : Bool). c && sameFields (fieldsAt (left-split .tail)) (fieldsAt (right-split .tail)))
+                  z) (sym (left-split .ends)) (sym (right-split .ends)) h);
             }
-
--- ---- two whole lists of columns
-
-count-at : {v : Edition} {d : ℕ} {s : Bytes} {n at : ℕ} (P : ColumnsAt v d s n at) → countFields (fieldsAt P) ≡ n
-count-at {v} {d} {s} {n} {at} P = count-fields (P .columns) ∙ columns-count v Free (type v Free d) n [] s at (P .columns) (P .end) (P .reads)
-
-pub counts-differ : {va : Edition} {da : ℕ} {a : Bytes} {n at : ℕ} {vb : Edition} {db : ℕ} {b : Bytes} {m bt : ℕ} → (n ≡ m → ⊥)
-    → (P : ColumnsAt va da a n at) (Q : ColumnsAt vb db b m bt) → false ≡ sameFields (fieldsAt P) (fieldsAt Q)
-counts-differ h P Q = go (sameFields (fieldsAt P) (fieldsAt Q)) refl
-  where
-    go : (c : Bool) → sameFields (fieldsAt P) (fieldsAt Q) ≡ c → false ≡ c
-    go true e = absurd (h (sym (count-at P) ∙ ap countFields (same-fields-eq (fieldsAt P) (fieldsAt Q) e) ∙ count-at Q))
-    go false e = refl
 
 -- the same columns under another name of their count
 abbrev pub counted : {v : Edition} {d : ℕ} {s : Bytes} {n m at : ℕ} → m ≡ n → ColumnsAt v d s m at → ColumnsAt v d s n at
-counted {v} {d} {s} {at = at} e P = record { columns = P .columns; end = P .end; reads = ap (λ (k : ℕ). columns v Free (type v Free d) k [] s at) (sym e) ∙ P .reads }
+counted {v} {d} {s} {at = at} e P = record {
+  columns = P .columns;
+  end = P .end;
+  reads = ap (λ (k : ℕ). columns v Free (type v Free d) k [] s at) (sym e)
+      ∙ P .reads;
+}

@@ -6,12 +6,13 @@ use lib.ListN.{length}
 use Rattle.layout.specs.Bytes.{Bytes, AllBytes}
 use mathlib.Core.Path.{_≡_}
 use mathlib.Core.Bool.{true, false}
+use Rattle.layout.specs.Limits.{longestName}
 use Rattle.layout.specs.Layout.{validDecimal}
 use Rattle.layout.specs.Tree.{LeafType, null, boolean, integer, float, date, datetime, string, binary, categorical, decimal, Label, ColumnType, cleaf, cstruct, clist, carray, Columns, cnil, ccons, DataType, leaf, struct, list, array, Fields, fnil, fcons, countFields}
 
 -- a name or a zone
 abbrev pub ShortText : Bytes → Type 0
-ShortText b = (length b ≤ 63) × AllBytes b
+ShortText b = (length b ≤ longestName) × AllBytes b
 
 -- a date-time's zone, a decimal's precision and scale
 abbrev pub ReadableLeaf : LeafType → Type 0

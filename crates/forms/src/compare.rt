@@ -11,6 +11,7 @@ ghost use Rattle.forms.specs.Labelled.{ElementAt, ColumnAt};
 use crate::head::head_end;
 use layout::bytes::Span;
 use layout::bytes::same_bytes;
+use layout::columns::ColumnRange;
 use layout::columns::Labelled;
 use layout::cursor::Cursor;
 use layout::edition::Edition;
@@ -62,7 +63,19 @@ pub fn same_type(
     }
     match ca.head(a) {
         Head::Leaf(_, _) => Same::To(x, y),
-        Head::Struct(n, _) => same_fields(a, va, da - 1, n, x, b, vb, db - 1, y),
+        Head::Struct(n, _) => {
+            let columns = ColumnRange {
+                edition: va,
+                count: n,
+                first: x,
+            };
+            let other = ColumnRange {
+                edition: vb,
+                count: n,
+                first: y,
+            };
+            same_fields(a, columns, da - 1, b, other, db - 1)
+        }
         Head::List(_) => same_element(a, va, da - 1, x, b, vb, db - 1, y),
         Head::Array(_, _) => same_element(a, va, da - 1, x, b, vb, db - 1, y),
         Head::Refused(_) => Same::No,
@@ -124,62 +137,28 @@ fn same_column(
     }
 }
 
-// `n` columns of each.
-fn same_fields(
-    a: &[u8],
-    va: Edition,
-    da: u8,
-    n: u16,
-    ca: Cursor,
-    b: &[u8],
-    vb: Edition,
-    db: u8,
-    cb: Cursor,
-) -> Same
-    requires { ⌜ ColumnsAt va da (now a) n (ca .at) ⌝ }
-    requires { ⌜ ColumnsAt vb db (now b) n (cb .at) ⌝ }
-    ensures { λ r. ⌜ ((P : ColumnsAt va da (now (a .entry)) n (ca .at)) (Q : ColumnsAt vb db (now (b .entry)) n (cb .at)) → r ≡ sameOf (sameFields (fieldsOf (P .columns)) (fieldsOf (Q .columns))) (P .end) (Q .end)) ⌝ }
+// As many columns of each.
+fn same_fields(a: &[u8], ca: ColumnRange, da: u8, b: &[u8], cb: ColumnRange, db: u8) -> Same
+    requires { ⌜ ColumnsAt (ca .edition) da (now a) (ca .count) (ca .first .at) ⌝ }
+    requires { ⌜ ColumnsAt (cb .edition) db (now b) (cb .count) (cb .first .at) ⌝ }
+    requires { ⌜ cb .count ≡ ca .count ⌝ }
+    ensures { λ r. ⌜ ((P : ColumnsAt (ca .edition) da (now (a .entry)) (ca .count) (ca .first .at)) (Q : ColumnsAt (cb .edition) db (now (b .entry)) (cb .count) (cb .first .at)) → r ≡ sameOf (sameFields (fieldsOf (P .columns)) (fieldsOf (Q .columns))) (P .end) (Q .end)) ⌝ }
 {
-    let mut at = ca.at;
-    let mut bt = cb.at;
+    let va = ca.edition;
+    let vb = cb.edition;
+    let n = ca.count;
+    let mut c = ca.first;
+    let mut d = cb.first;
     let mut i: u16 = 0;
     while i < n {
-        let c = Cursor { at };
-        let d = Cursor { at: bt };
         match same_column(a, va, da, c, b, vb, db, d) {
             Same::To(e, f) => {
-                at = e.at;
-                bt = f.at;
+                c = e;
+                d = f;
             }
             Same::No => return Same::No,
         }
         i += 1;
     }
-    Same::To(Cursor { at }, Cursor { at: bt })
-}
-
-// Whether two lists of columns have the same names, types and count.
-pub fn same_columns(
-    a: &[u8],
-    va: Edition,
-    da: u8,
-    n: u16,
-    ca: Cursor,
-    b: &[u8],
-    vb: Edition,
-    db: u8,
-    m: u16,
-    cb: Cursor,
-) -> bool
-    requires { ⌜ ColumnsAt va da (now a) n (ca .at) ⌝ }
-    requires { ⌜ ColumnsAt vb db (now b) m (cb .at) ⌝ }
-    ensures { λ r. ⌜ ((P : ColumnsAt va da (now (a .entry)) n (ca .at)) (Q : ColumnsAt vb db (now (b .entry)) m (cb .at)) → r ≡ sameFields (fieldsOf (P .columns)) (fieldsOf (Q .columns))) ⌝ }
-{
-    if n != m {
-        return false;
-    }
-    match same_fields(a, va, da, n, ca, b, vb, db, cb) {
-        Same::To(_, _) => true,
-        Same::No => false,
-    }
+    Same::To(c, d)
 }

@@ -91,18 +91,17 @@ pub fn write_fields(
     ensures { λ r. ⌜ ((P : ColumnsAt v depth (now (s .entry)) n (c .at)) → (r .len ≡ length (formFields (fieldsOf (P .columns)))) × (r .end .at ≡ P .end)) ⌝ }
     ensures { λ _. ⌜ ((P : ColumnsAt v depth (now (s .entry)) n (c .at)) → now (out .exit) ≡ overlay (now (out .entry)) k (formFields (fieldsOf (P .columns)))) ⌝ }
 {
-    let mut at = c.at;
+    let mut d = c;
     let mut to = k;
     let mut i: u16 = 0;
     while i < n {
-        let d = Cursor { at };
         match d.label(s, v) {
             Labelled::Is(l, next) => {
                 let name = l.name;
                 let m = write_text(s, name, out, to);
                 let w = write_form(s, v, depth, next, out, to + m);
                 to = to + m + w.len;
-                at = w.end.at;
+                d = w.end;
             }
             Labelled::Refused(_) => return Written { len: 0, end: c },
         }
@@ -110,6 +109,6 @@ pub fn write_fields(
     }
     Written {
         len: to - k,
-        end: Cursor { at },
+        end: d,
     }
 }

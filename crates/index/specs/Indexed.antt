@@ -12,6 +12,7 @@ use Rattle.layout.specs.declared.columns.Position.{Position}
 use Rattle.layout.specs.declared.edition.Edition.{Edition}
 use Rattle.values.specs.Value.{Values, vnil, vcons}
 use Rattle.nodes.specs.Raw.{RowAt}
+use Rattle.index.specs.declared.row.Row.{Row}
 
 -- a table of 256 entries holds every stride-th of n columns
 abbrev pub strideOf : ℕ → ℕ
@@ -60,3 +61,13 @@ pub record RowStarts (v : Edition) (lay : Bytes) (n t : ℕ) (rec : Bytes) (c : 
 -- entry j of the two tables is where column j * stride and its value stand
 pub record IndexedRow (v : Edition) (lay : Bytes) (n t : ℕ) (rec : Bytes) (c stride : ℕ) (types values : List ℕ) : Type 0 where
   pub starts : (X : RowAt v lay n t rec c) (j : ℕ) → j < length types → (j < length values) × RowStarts v lay n t rec c X (j * stride) (getD types j 0) (getD values j 0)
+
+-- ---- src/row.rt
+
+-- the row stands in a layout and a record
+abbrev pub RowIn : Bytes → Bytes → Row → Type 0
+RowIn lay rec row = RowAt (row .columns .edition) lay (row .columns .count) (row .columns .first .at) rec (row .values .at)
+
+abbrev pub IndexedIn : Bytes → Bytes → Row → List ℕ → List ℕ → Type 0
+IndexedIn lay rec row types values =
+    IndexedRow (row .columns .edition) lay (row .columns .count) (row .columns .first .at) rec (row .values .at) (row .stride) types values

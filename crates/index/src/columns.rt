@@ -52,22 +52,21 @@ pub fn index_columns(
     ensures { λ r. ⌜ r ≤ length (now (starts .exit)) ⌝ }
     ensures { λ r. ⌜ Indexed v (now (s .entry)) n (first .at) stride (take r (now (starts .exit))) ⌝ }
 {
-    let mut at = first.at;
+    let mut c = first;
     let mut i: u16 = 0;
     let mut j: usize = 0;
     while j < starts.len() {
-        if 65535 < at {
+        if 65535 < c.at {
             return j;
         }
-        starts[j] = at as u16;
+        starts[j] = c.at as u16;
         j += 1;
         if n - i <= stride {
             return j;
         }
-        let d = Cursor { at };
-        match pass_columns(s, v, 16, stride, d) {
+        match pass_columns(s, v, 16, stride, c) {
             Moved::To(e) => {
-                at = e.at;
+                c = e;
             }
             Moved::Refused(_) => return j,
         }

@@ -5,11 +5,11 @@ ghost use Prim.Native.Nat.{_≤_, _<_};
 ghost use lib.ListN.{length, take};
 ghost use Rattle.ends.specs.Ends.{Ends};
 ghost use Rattle.plan.specs.Run.{valueAt};
-ghost use Rattle.nodes.specs.Raw.{RowAt, NodeOf};
-ghost use Rattle.index.specs.Indexed.{IndexedRow};
+ghost use Rattle.nodes.specs.Raw.{NodeOf};
+ghost use Rattle.index.specs.Indexed.{RowIn, IndexedIn};
 use layout::bytes::wide;
 use layout::cursor::Cursor;
-use layout::edition::Edition;
+use nodes::places::ColumnRange;
 use nodes::raw::NodeAt;
 use nodes::raw::field_at;
 use values::read::ValueRead;
@@ -34,42 +34,47 @@ fn storable(j: usize, types: usize, values: usize, at: usize, to: usize) -> bool
     true
 }
 
-// Fills the two tables for the values from `c` on and answers how many entries each got.
+// The columns of a row, where their values begin in the record, and how many columns apart the entries of its tables stand.
+pub struct Row {
+    pub columns: ColumnRange,
+    pub values: Cursor,
+    pub stride: u16,
+}
+
+// Fills the two tables for the row and answers how many entries each got.
 pub fn index_row(
     lay: &[u8],
-    v: Edition,
-    n: u16,
-    columns: Cursor,
     rec: &[u8],
-    c: Cursor,
-    stride: u16,
+    row: Row,
     types: &mut [u16],
     values: &mut [u16],
     ends: &[u16],
 ) -> usize
-    requires { ⌜ RowAt v (now lay) n (columns .at) (now rec) (c .at) ⌝ }
-    requires { ⌜ Ends v (now lay) (now ends) ⌝ }
+    requires { ⌜ RowIn (now lay) (now rec) row ⌝ }
+    requires { ⌜ Ends (row .columns .edition) (now lay) (now ends) ⌝ }
     ensures { λ r. ⌜ r ≤ length (now (types .exit)) ⌝ }
     ensures { λ r. ⌜ r ≤ length (now (values .exit)) ⌝ }
-    ensures { λ r. ⌜ IndexedRow v (now (lay .entry)) n (columns .at) (now (rec .entry)) (c .at) stride (take r (now (types .exit))) (take r (now (values .exit))) ⌝ }
+    ensures { λ r. ⌜ IndexedIn (now (lay .entry)) (now (rec .entry)) row (take r (now (types .exit))) (take r (now (values .exit))) ⌝ }
 {
-    let mut at = columns.at;
-    let mut to = c.at;
+    let columns = row.columns;
+    let v = columns.edition;
+    let n = columns.count;
+    let stride = row.stride;
+    let mut t = columns.first;
+    let mut c = row.values;
     let mut i: u16 = 0;
     let mut j: usize = 0;
-    while storable(j, types.len(), values.len(), at, to) {
-        types[j] = at as u16;
-        values[j] = to as u16;
+    while storable(j, types.len(), values.len(), t.at, c.at) {
+        types[j] = t.at as u16;
+        values[j] = c.at as u16;
         j += 1;
         if n - i <= stride {
             return j;
         }
-        let t = Cursor { at };
-        let from = Cursor { at: to };
-        match read_fields(lay, v, 16, stride, t, rec, from, ends) {
+        match read_fields(lay, v, 16, stride, t, rec, c, ends) {
             ValueRead::To(d, e) => {
-                at = d.at;
-                to = e.at;
+                t = d;
+                c = e;
             }
             ValueRead::Refused(_) => return j,
         }
@@ -78,26 +83,26 @@ pub fn index_row(
     j
 }
 
-// The value of column `k` of `n`, as `nodes::raw::field_at` finds it.
+// The value of column `k`, as `nodes::raw::field_at` finds it.
 pub fn indexed_value(
     lay: &[u8],
-    v: Edition,
-    n: u16,
-    columns: Cursor,
     rec: &[u8],
-    c: Cursor,
+    row: Row,
     types: &[u16],
     values: &[u16],
-    stride: u16,
     k: u16,
     ends: &[u16],
 ) -> NodeAt
-    requires { ⌜ RowAt v (now lay) n (columns .at) (now rec) (c .at) ⌝ }
-    requires { ⌜ IndexedRow v (now lay) n (columns .at) (now rec) (c .at) stride (now types) (now values) ⌝ }
-    requires { ⌜ 0 < stride ⌝ }
-    requires { ⌜ Ends v (now lay) (now ends) ⌝ }
-    ensures { λ r. ⌜ ((X : RowAt v (now (lay .entry)) n (columns .at) (now (rec .entry)) (c .at)) → NodeOf v (now (lay .entry)) (now (rec .entry)) (valueAt (X .values .values) k) r) ⌝ }
+    requires { ⌜ RowIn (now lay) (now rec) row ⌝ }
+    requires { ⌜ IndexedIn (now lay) (now rec) row (now types) (now values) ⌝ }
+    requires { ⌜ 0 < row .stride ⌝ }
+    requires { ⌜ Ends (row .columns .edition) (now lay) (now ends) ⌝ }
+    ensures { λ r. ⌜ ((X : RowIn (now (lay .entry)) (now (rec .entry)) row) → NodeOf (row .columns .edition) (now (lay .entry)) (now (rec .entry)) (valueAt (X .values .values) k) r) ⌝ }
 {
+    let columns = row.columns;
+    let v = columns.edition;
+    let n = columns.count;
+    let stride = row.stride;
     let q = k / stride;
     let j = wide(q);
     if j < types.len() {
@@ -107,6 +112,6 @@ pub fn indexed_value(
         };
         field_at(lay, v, n - q * stride, t, rec, d, k % stride, ends)
     } else {
-        field_at(lay, v, n, columns, rec, c, k, ends)
+        field_at(lay, v, n, columns.first, rec, row.values, k, ends)
     }
 }

@@ -4,14 +4,14 @@ ghost use lib.ListN.{length};
 ghost use Rattle.layout.specs.Bytes.{Bytes};
 ghost use Rattle.plan.specs.Check.{typeOf};
 ghost use Rattle.walk.specs.Stands.{SelectorAt};
-ghost use Rattle.direct.specs.Scopes.{ScopeAt};
+ghost use Rattle.direct.specs.Scopes.{SourceAt};
 ghost use Rattle.infer.specs.Writing.{InferredIs};
 use crate::form::Inferred;
 use crate::over::infer_leaf;
 use crate::over::infer_over;
 use direct::input::Input;
 use direct::input::input_of;
-use direct::scope::Scope;
+use direct::scope::Source;
 use layout::cursor::Cursor;
 use layout::edition::Edition;
 
@@ -19,39 +19,26 @@ use layout::edition::Edition;
 // What `out` held before is lost.
 pub fn compose_type(
     s: &[u8],
-    v: Edition,
-    scope: Scope,
+    source: Source,
     index: &[u16],
-    stride: u16,
     plan: &[u8],
     c: Cursor,
     levels: u8,
     out: &mut [u8],
     other: &mut [u8],
 ) -> Inferred
-    requires { ⌜ ScopeAt (now s) v scope (now index) stride ⌝ }
+    requires { ⌜ SourceAt (now s) source (now index) ⌝ }
     requires { ⌜ SelectorAt (now plan) (c .at) ⌝ }
     requires { ⌜ (length (now s) ≤ 65536) × (length (now plan) ≤ 65536) × (length (now out) ≤ 65536) × (length (now other) ≤ 65536) ⌝ }
-    ensures { λ r. ⌜ ((X : ScopeAt (now (s .entry)) v scope (now (index .entry)) stride) (P : SelectorAt (now (plan .entry)) (c .at)) → (b : Bytes) × InferredIs (typeOf (X .fields) (P .tree)) 16 b 0 r (now (out .exit))) ⌝ }
+    ensures { λ r. ⌜ ((X : SourceAt (now (s .entry)) source (now (index .entry))) (P : SelectorAt (now (plan .entry)) (c .at)) → (b : Bytes) × InferredIs (typeOf (X .fields) (P .tree)) 16 b 0 r (now (out .exit))) ⌝ }
 {
     if levels == 0 {
         return Inferred::Unknown;
     }
     match input_of(plan, c) {
-        Input::None => infer_leaf(s, v, scope, index, stride, plan, c, 16, out, 0),
+        Input::None => infer_leaf(s, source, index, plan, c, 16, out, 0),
         Input::At(input) => {
-            let r = compose_type(
-                s,
-                v,
-                scope,
-                index,
-                stride,
-                plan,
-                input,
-                levels - 1,
-                other,
-                out,
-            );
+            let r = compose_type(s, source, index, plan, input, levels - 1, other, out);
             match r {
                 Inferred::Is(_) => {
                     let start = Cursor { at: 0 };

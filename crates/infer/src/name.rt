@@ -8,18 +8,17 @@ ghost use Rattle.forms.specs.Readable.{ShortText};
 ghost use Rattle.plan.specs.Check.{typeOf};
 ghost use Rattle.walk.specs.Stands.{SelectorAt};
 ghost use Rattle.direct.specs.Places.{NameAt};
-ghost use Rattle.direct.specs.Scopes.{ScopeAt};
+ghost use Rattle.direct.specs.Scopes.{SourceAt};
 ghost use Rattle.infer.specs.Naming.{NameStep, NamedIs};
 ghost use Rattle.infer.specs.Writing.{Fills};
 use direct::place::Name;
 use direct::place::Place;
 use direct::place::named;
-use direct::scope::Scope;
+use direct::scope::Source;
 use direct::scope::Taken;
 use direct::scope::take_position;
 use forms::write::write_text;
 use layout::cursor::Cursor;
-use layout::edition::Edition;
 use walk::head::SelectorHead;
 use walk::head::head;
 use walk::head::rename_name;
@@ -31,20 +30,12 @@ pub enum Named {
     Absent,
 }
 
-fn name_at(
-    s: &[u8],
-    v: Edition,
-    scope: Scope,
-    index: &[u16],
-    stride: u16,
-    plan: &[u8],
-    c: Cursor,
-) -> Named
-    requires { ⌜ ScopeAt (now s) v scope (now index) stride ⌝ }
-    ensures { λ r. ⌜ ((X : ScopeAt (now (s .entry)) v scope (now (index .entry)) stride) (P : SelectorAt (now (plan .entry)) (c .at)) → NameStep (now (s .entry)) (now (plan .entry)) (X .fields) (c .at) P r) ⌝ }
+fn name_at(s: &[u8], source: Source, index: &[u16], plan: &[u8], c: Cursor) -> Named
+    requires { ⌜ SourceAt (now s) source (now index) ⌝ }
+    ensures { λ r. ⌜ ((X : SourceAt (now (s .entry)) source (now (index .entry))) (P : SelectorAt (now (plan .entry)) (c .at)) → NameStep (now (s .entry)) (now (plan .entry)) (X .fields) (c .at) P r) ⌝ }
 {
     match head(plan, c) {
-        SelectorHead::Position(_) => match take_position(s, v, scope, index, stride, plan, c) {
+        SelectorHead::Position(_) => match take_position(s, source, index, plan, c) {
             Taken::At(name, _) => Named::Is(named(Place::Incoming, name)),
             Taken::Absent => Named::Absent,
         },
@@ -59,26 +50,17 @@ fn name_at(
 }
 
 // Where the name of the column that the selector at `c` gives stands: in the bytes of the scope or in the plan. `Input` is no answer.
-pub fn infer_name(
-    s: &[u8],
-    v: Edition,
-    scope: Scope,
-    index: &[u16],
-    stride: u16,
-    plan: &[u8],
-    c: Cursor,
-) -> Named
-    requires { ⌜ ScopeAt (now s) v scope (now index) stride ⌝ }
+pub fn infer_name(s: &[u8], source: Source, index: &[u16], plan: &[u8], c: Cursor) -> Named
+    requires { ⌜ SourceAt (now s) source (now index) ⌝ }
     requires { ⌜ SelectorAt (now plan) (c .at) ⌝ }
-    ensures { λ r. ⌜ ((X : ScopeAt (now (s .entry)) v scope (now (index .entry)) stride) (P : SelectorAt (now (plan .entry)) (c .at)) → NamedIs (now (s .entry)) (now (plan .entry)) (typeOf (X .fields) (P .tree)) r) ⌝ }
+    ensures { λ r. ⌜ ((X : SourceAt (now (s .entry)) source (now (index .entry))) (P : SelectorAt (now (plan .entry)) (c .at)) → NamedIs (now (s .entry)) (now (plan .entry)) (typeOf (X .fields) (P .tree)) r) ⌝ }
 {
-    let mut at = c.at;
+    let mut d = c;
     loop {
-        let d = Cursor { at };
-        match name_at(s, v, scope, index, stride, plan, d) {
+        match name_at(s, source, index, plan, d) {
             Named::Is(name) => return Named::Is(name),
             Named::Input(e) => {
-                at = e.at;
+                d = e;
             }
             Named::Absent => return Named::Absent,
         }

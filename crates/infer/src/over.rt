@@ -10,7 +10,7 @@ ghost use Rattle.plan.specs.Check.{column, typeOf, typesOf};
 ghost use Rattle.walk.specs.Stands.{SelectorAt, SelectorsAt};
 ghost use Rattle.walk.specs.Parts.{CastAt, StructAt, ListAt, ArrayAt};
 ghost use Rattle.direct.specs.Inputs.{inputOf};
-ghost use Rattle.direct.specs.Scopes.{ScopeAt};
+ghost use Rattle.direct.specs.Scopes.{SourceAt};
 ghost use Rattle.infer.specs.Writing.{InferredIs, ColumnIs, FieldsIs};
 use crate::form::Inferred;
 use crate::form::behind;
@@ -28,6 +28,7 @@ use direct::input::skip_renames;
 use direct::inside::Inside;
 use direct::inside::inside_of;
 use direct::scope::Scope;
+use direct::scope::Source;
 use direct::scope::Taken;
 use direct::scope::index_fields;
 use direct::scope::take_position;
@@ -35,6 +36,7 @@ use index::columns::field_stride;
 use layout::cursor::Cursor;
 use layout::edition::Edition;
 use walk::head::SelectorHead;
+use walk::head::StructFields;
 use walk::head::cast_option;
 use walk::head::head;
 use walk::head::skip_selector;
@@ -66,28 +68,26 @@ fn cast_over(
 // The name and the form of the column that the selector at `c` gives.
 fn infer_column(
     s: &[u8],
-    v: Edition,
-    scope: Scope,
+    source: Source,
     index: &[u16],
-    stride: u16,
     plan: &[u8],
     c: Cursor,
     depth: u8,
     out: &mut [u8],
     k: usize,
 ) -> Inferred
-    requires { ⌜ ScopeAt (now s) v scope (now index) stride ⌝ }
+    requires { ⌜ SourceAt (now s) source (now index) ⌝ }
     requires { ⌜ SelectorAt (now plan) (c .at) ⌝ }
     requires { ⌜ (length (now s) ≤ 65536) × (length (now plan) ≤ 65536) × (length (now out) ≤ 65536) × (k ≤ length (now out)) × (depth ≤ 16) ⌝ }
-    ensures { λ r. ⌜ ((X : ScopeAt (now (s .entry)) v scope (now (index .entry)) stride) (P : SelectorAt (now (plan .entry)) (c .at)) → ColumnIs (typeOf (X .fields) (P .tree)) depth (now (out .entry)) k r (now (out .exit))) ⌝ }
+    ensures { λ r. ⌜ ((X : SourceAt (now (s .entry)) source (now (index .entry))) (P : SelectorAt (now (plan .entry)) (c .at)) → ColumnIs (typeOf (X .fields) (P .tree)) depth (now (out .entry)) k r (now (out .exit))) ⌝ }
 {
-    match infer_name(s, v, scope, index, stride, plan, c) {
+    match infer_name(s, source, index, plan, c) {
         Named::Is(name) => {
             let at = write_name(s, plan, name, out, k);
             if at == 0 {
                 return Inferred::Unknown;
             }
-            let r = infer_selector(s, v, scope, index, stride, plan, c, depth, out, at);
+            let r = infer_selector(s, source, index, plan, c, depth, out, at);
             behind(at - k, r)
         }
         Named::Input(_) => Inferred::Unknown,
@@ -95,38 +95,34 @@ fn infer_column(
     }
 }
 
-// The names and forms of the columns that `n` selectors from `c` on give.
+// The names and forms of the columns that the selectors of a struct mapping give.
 fn infer_fields(
     s: &[u8],
-    v: Edition,
-    scope: Scope,
+    source: Source,
     index: &[u16],
-    stride: u16,
     plan: &[u8],
-    n: u16,
-    c: Cursor,
+    fields: StructFields,
     depth: u8,
     out: &mut [u8],
     k: usize,
 ) -> Inferred
-    requires { ⌜ ScopeAt (now s) v scope (now index) stride ⌝ }
-    requires { ⌜ SelectorsAt (now plan) n (c .at) ⌝ }
+    requires { ⌜ SourceAt (now s) source (now index) ⌝ }
+    requires { ⌜ SelectorsAt (now plan) (fields .count) (fields .first .at) ⌝ }
     requires { ⌜ (length (now s) ≤ 65536) × (length (now plan) ≤ 65536) × (length (now out) ≤ 65536) × (k ≤ length (now out)) × (depth ≤ 16) ⌝ }
-    ensures { λ r. ⌜ ((X : ScopeAt (now (s .entry)) v scope (now (index .entry)) stride) (S : SelectorsAt (now (plan .entry)) n (c .at)) → FieldsIs (typesOf (X .fields) (S .trees)) n depth (now (out .entry)) k r (now (out .exit))) ⌝ }
+    ensures { λ r. ⌜ ((X : SourceAt (now (s .entry)) source (now (index .entry))) (S : SelectorsAt (now (plan .entry)) (fields .count) (fields .first .at)) → FieldsIs (typesOf (X .fields) (S .trees)) (fields .count) depth (now (out .entry)) k r (now (out .exit))) ⌝ }
 {
-    let mut from = c.at;
+    let count = fields.count;
+    let mut d = fields.first;
     let mut at = k;
     let mut i: u16 = 0;
-    while i < n {
-        let d = Cursor { at: from };
-        match infer_column(s, v, scope, index, stride, plan, d, depth, out, at) {
+    while i < count {
+        match infer_column(s, source, index, plan, d, depth, out, at) {
             Inferred::Is(len) => {
                 at += len;
             }
             Inferred::Unknown => return Inferred::Unknown,
         }
-        let e = skip_selector(plan, d);
-        from = e.at;
+        d = skip_selector(plan, d);
         i += 1;
     }
     Inferred::Is(at - k)
@@ -152,28 +148,20 @@ fn struct_over(
         Inside::Struct(n, x) => {
             let fields = struct_fields(plan, input);
             let count = fields.count;
-            let first = fields.first;
             if !put_struct(count, out, k) {
                 return Inferred::Unknown;
             }
-            let columns = Scope::Columns(n, x);
+            let scope = Scope::Columns(n, x);
             let stride = field_stride(n);
             let mut starts: [u16; 64] = [0; 64];
             let len = index_fields(s, v, n, x, count, stride, &mut starts);
             let index = &starts[..len];
-            let r = infer_fields(
-                s,
-                v,
-                columns,
-                index,
+            let source = Source {
+                edition: v,
+                scope,
                 stride,
-                plan,
-                count,
-                first,
-                depth,
-                out,
-                k + 3,
-            );
+            };
+            let r = infer_fields(s, source, index, plan, fields, depth, out, k + 3);
             behind(3, r)
         }
         _ => Inferred::Unknown,
@@ -202,9 +190,14 @@ fn list_over(
                 return Inferred::Unknown;
             }
             let e = skip_selector(plan, input);
-            let element = Scope::Element(x);
+            let scope = Scope::Element(x);
+            let element = Source {
+                edition: v,
+                scope,
+                stride: 1,
+            };
             let none: [u16; 1] = [0; 1];
-            let r = infer_selector(s, v, element, &none, 1, plan, e, depth, out, k + 1);
+            let r = infer_selector(s, element, &none, plan, e, depth, out, k + 1);
             behind(1, r)
         }
         _ => Inferred::Unknown,
@@ -233,9 +226,14 @@ fn array_over(
                 return Inferred::Unknown;
             }
             let e = skip_selector(plan, input);
-            let element = Scope::Element(x);
+            let scope = Scope::Element(x);
+            let element = Source {
+                edition: v,
+                scope,
+                stride: 1,
+            };
             let none: [u16; 1] = [0; 1];
-            let r = infer_selector(s, v, element, &none, 1, plan, e, depth, out, k + 5);
+            let r = infer_selector(s, element, &none, plan, e, depth, out, k + 5);
             behind(5, r)
         }
         _ => Inferred::Unknown,
@@ -277,23 +275,22 @@ pub fn infer_over(
 // A position or a constant at `c`.
 pub fn infer_leaf(
     s: &[u8],
-    v: Edition,
-    scope: Scope,
+    source: Source,
     index: &[u16],
-    stride: u16,
     plan: &[u8],
     c: Cursor,
     depth: u8,
     out: &mut [u8],
     k: usize,
 ) -> Inferred
-    requires { ⌜ ScopeAt (now s) v scope (now index) stride ⌝ }
+    requires { ⌜ SourceAt (now s) source (now index) ⌝ }
     requires { ⌜ SelectorAt (now plan) (c .at) ⌝ }
     requires { ⌜ (length (now s) ≤ 65536) × (length (now plan) ≤ 65536) × (length (now out) ≤ 65536) × (k ≤ length (now out)) × (depth ≤ 16) ⌝ }
-    ensures { λ r. ⌜ ((X : ScopeAt (now (s .entry)) v scope (now (index .entry)) stride) (P : SelectorAt (now (plan .entry)) (c .at)) → InferredIs (typeOf (X .fields) (P .tree)) depth (now (out .entry)) k r (now (out .exit))) ⌝ }
+    ensures { λ r. ⌜ ((X : SourceAt (now (s .entry)) source (now (index .entry))) (P : SelectorAt (now (plan .entry)) (c .at)) → InferredIs (typeOf (X .fields) (P .tree)) depth (now (out .entry)) k r (now (out .exit))) ⌝ }
 {
+    let v = source.edition;
     match head(plan, c) {
-        SelectorHead::Position(_) => match take_position(s, v, scope, index, stride, plan, c) {
+        SelectorHead::Position(_) => match take_position(s, source, index, plan, c) {
             Taken::At(_, d) => copy_type(s, v, d, depth, out, k),
             Taken::Absent => Inferred::Unknown,
         },
@@ -305,25 +302,24 @@ pub fn infer_leaf(
 // The selector at `c` over a scope: a position, a constant, or a transform of a position, inside renames.
 fn infer_selector(
     s: &[u8],
-    v: Edition,
-    scope: Scope,
+    source: Source,
     index: &[u16],
-    stride: u16,
     plan: &[u8],
     c: Cursor,
     depth: u8,
     out: &mut [u8],
     k: usize,
 ) -> Inferred
-    requires { ⌜ ScopeAt (now s) v scope (now index) stride ⌝ }
+    requires { ⌜ SourceAt (now s) source (now index) ⌝ }
     requires { ⌜ SelectorAt (now plan) (c .at) ⌝ }
     requires { ⌜ (length (now s) ≤ 65536) × (length (now plan) ≤ 65536) × (length (now out) ≤ 65536) × (k ≤ length (now out)) × (depth ≤ 16) ⌝ }
-    ensures { λ r. ⌜ ((X : ScopeAt (now (s .entry)) v scope (now (index .entry)) stride) (P : SelectorAt (now (plan .entry)) (c .at)) → InferredIs (typeOf (X .fields) (P .tree)) depth (now (out .entry)) k r (now (out .exit))) ⌝ }
+    ensures { λ r. ⌜ ((X : SourceAt (now (s .entry)) source (now (index .entry))) (P : SelectorAt (now (plan .entry)) (c .at)) → InferredIs (typeOf (X .fields) (P .tree)) depth (now (out .entry)) k r (now (out .exit))) ⌝ }
 {
+    let v = source.edition;
     let x = skip_renames(plan, c);
     match input_of(plan, x) {
-        Input::None => infer_leaf(s, v, scope, index, stride, plan, x, depth, out, k),
-        Input::At(input) => match take_position(s, v, scope, index, stride, plan, input) {
+        Input::None => infer_leaf(s, source, index, plan, x, depth, out, k),
+        Input::At(input) => match take_position(s, source, index, plan, input) {
             Taken::At(_, d) => infer_over(s, v, d, plan, x, depth, out, k),
             Taken::Absent => Inferred::Unknown,
         },

@@ -3,23 +3,27 @@ ghost use mathlib.Core.Path.{_≡_};
 ghost use mathlib.Core.Bool.{true};
 ghost use Prim.Native.Nat.{_≤_};
 ghost use lib.ListN.{length};
-ghost use Rattle.layout.specs.Tree.{fieldsOf};
+ghost use Rattle.layout.specs.Bytes.{Bytes};
+ghost use Rattle.layout.specs.Tree.{dtypeOf, fieldsOf};
 ghost use Rattle.layout.specs.Answers.{spanAt, spanIn};
-ghost use Rattle.layout.specs.Stands.{ColumnsAt};
-ghost use Rattle.plan.specs.Result.{gives, accepted};
+ghost use Rattle.layout.specs.Stands.{TypeAt, ColumnsAt};
+ghost use Rattle.plan.specs.Result.{Result, gives, accepted};
 ghost use Rattle.plan.specs.Check.{Column, typeOf, typesOf, check};
 ghost use Rattle.walk.specs.Stands.{SelectorAt, SelectorsAt};
-ghost use Rattle.direct.specs.Scopes.{ScopeAt};
-ghost use Rattle.direct.specs.Fits.{FitAt, ColumnFitAt, FitsColumn, FieldsFitAt, FitsFields};
-ghost use Rattle.infer.specs.Typed.{FitsType};
+ghost use Rattle.direct.specs.Scopes.{SourceAt};
+ghost use Rattle.direct.specs.Fits.{FitFrom, ColumnFitFrom, FitsColumn, FieldsFitFrom, FitsFields};
+ghost use Rattle.infer.specs.Typed.{TypedIs, FitsType};
+ghost use Rattle.infer.specs.Writing.{InferredIs};
 use crate::compose::compose_type;
 use crate::form::Inferred;
 use crate::name::Named;
 use crate::name::infer_name;
 use direct::fit::FitEnd;
+use direct::fit::TargetPlace;
 use direct::fit::fit_column;
 use direct::place::same_name;
 use direct::scope::Scope;
+use direct::scope::Source;
 use forms::compare::Same;
 use forms::compare::same_type;
 use index::columns::few;
@@ -29,31 +33,28 @@ use layout::bytes::Span;
 use layout::columns::Labelled;
 use layout::cursor::Cursor;
 use layout::edition::Edition;
+use nodes::places::ColumnRange;
 use walk::head::skip_selector;
 
-// Whether the type that the selector at `c` gives is the target's at `b`, and where both end.
-fn fit_composed(
-    s: &[u8],
-    v: Edition,
-    scope: Scope,
-    index: &[u16],
-    stride: u16,
+// Whether the type at the start of `out`, if the selector at `c` gave one, is the target's, and where both end.
+fn fit_inferred(
+    r: Inferred,
+    out: &[u8],
     plan: &[u8],
     c: Cursor,
     target: &[u8],
-    vt: Edition,
-    b: Cursor,
-    out: &mut [u8],
-    other: &mut [u8],
+    place: TargetPlace,
 ) -> FitEnd
-    requires { ⌜ FitAt (now s) v scope (now index) stride (now plan) (c .at) (now target) vt (b .at) ⌝ }
-    requires { ⌜ (length (now s) ≤ 65536) × (length (now plan) ≤ 65536) × (length (now out) ≤ 65536) × (length (now other) ≤ 65536) ⌝ }
-    ensures { λ r. ⌜ ((A : FitAt (now (s .entry)) v scope (now (index .entry)) stride (now (plan .entry)) (c .at) (now (target .entry)) vt (b .at)) → FitsType A r) ⌝ }
+    requires { ⌜ SelectorAt (now plan) (c .at) ⌝ }
+    requires { ⌜ TypeAt (place .edition) 16 (now target) (place .at .at) ⌝ }
+    requires { ⌜ ((a : Result Column) × (b : Bytes) × InferredIs a 16 b 0 r (now out)) ⌝ }
+    ensures { λ q. ⌜ ((a : Result Column) (b : Bytes) → InferredIs a 16 b 0 r (now (out .entry)) → (P : SelectorAt (now (plan .entry)) (c .at)) (T : TypeAt (place .edition) 16 (now (target .entry)) (place .at .at)) → TypedIs a (P .end) (dtypeOf (T .tree)) (T .end) q) ⌝ }
 {
-    match compose_type(s, v, scope, index, stride, plan, c, 64, out, other) {
+    match r {
         Inferred::Is(_) => {
             let start = Cursor { at: 0 };
-            match same_type(out, Edition::One, 16, start, target, vt, 16, b) {
+            let vt = place.edition;
+            match same_type(out, Edition::One, 16, start, target, vt, 16, place.at) {
                 Same::To(_, f) => FitEnd::At(skip_selector(plan, c), f),
                 Same::No => FitEnd::Unknown,
             }
@@ -65,91 +66,59 @@ fn fit_composed(
 // With buffers that are cleared in no time.
 fn fit_small(
     s: &[u8],
-    v: Edition,
-    scope: Scope,
+    source: Source,
     index: &[u16],
-    stride: u16,
     plan: &[u8],
     c: Cursor,
     target: &[u8],
-    vt: Edition,
-    b: Cursor,
+    place: TargetPlace,
 ) -> FitEnd
-    requires { ⌜ FitAt (now s) v scope (now index) stride (now plan) (c .at) (now target) vt (b .at) ⌝ }
+    requires { ⌜ FitFrom (now s) source (now index) (now plan) (c .at) (now target) place ⌝ }
     requires { ⌜ (length (now s) ≤ 65536) × (length (now plan) ≤ 65536) ⌝ }
-    ensures { λ r. ⌜ ((A : FitAt (now (s .entry)) v scope (now (index .entry)) stride (now (plan .entry)) (c .at) (now (target .entry)) vt (b .at)) → FitsType A r) ⌝ }
+    ensures { λ r. ⌜ ((A : FitFrom (now (s .entry)) source (now (index .entry)) (now (plan .entry)) (c .at) (now (target .entry)) place) → FitsType A r) ⌝ }
 {
     let mut out: [u8; 256] = [0; 256];
     let mut other: [u8; 256] = [0; 256];
-    fit_composed(
-        s,
-        v,
-        scope,
-        index,
-        stride,
-        plan,
-        c,
-        target,
-        vt,
-        b,
-        &mut out,
-        &mut other,
-    )
+    let r = compose_type(s, source, index, plan, c, 64, &mut out, &mut other);
+    fit_inferred(r, &out, plan, c, target, place)
 }
 
 // With buffers for every type of a result.
 fn fit_large(
     s: &[u8],
-    v: Edition,
-    scope: Scope,
+    source: Source,
     index: &[u16],
-    stride: u16,
     plan: &[u8],
     c: Cursor,
     target: &[u8],
-    vt: Edition,
-    b: Cursor,
+    place: TargetPlace,
 ) -> FitEnd
-    requires { ⌜ FitAt (now s) v scope (now index) stride (now plan) (c .at) (now target) vt (b .at) ⌝ }
+    requires { ⌜ FitFrom (now s) source (now index) (now plan) (c .at) (now target) place ⌝ }
     requires { ⌜ (length (now s) ≤ 65536) × (length (now plan) ≤ 65536) ⌝ }
-    ensures { λ r. ⌜ ((A : FitAt (now (s .entry)) v scope (now (index .entry)) stride (now (plan .entry)) (c .at) (now (target .entry)) vt (b .at)) → FitsType A r) ⌝ }
+    ensures { λ r. ⌜ ((A : FitFrom (now (s .entry)) source (now (index .entry)) (now (plan .entry)) (c .at) (now (target .entry)) place) → FitsType A r) ⌝ }
 {
     let mut out: [u8; 16384] = [0; 16384];
     let mut other: [u8; 16384] = [0; 16384];
-    fit_composed(
-        s,
-        v,
-        scope,
-        index,
-        stride,
-        plan,
-        c,
-        target,
-        vt,
-        b,
-        &mut out,
-        &mut other,
-    )
+    let r = compose_type(s, source, index, plan, c, 64, &mut out, &mut other);
+    fit_inferred(r, &out, plan, c, target, place)
 }
 
 // The name that the selector at `c` gives, and the target's at `q`.
 fn same_label(
     s: &[u8],
-    v: Edition,
-    scope: Scope,
+    source: Source,
     index: &[u16],
-    stride: u16,
     plan: &[u8],
     c: Cursor,
     target: &[u8],
     q: Span,
 ) -> bool
-    requires { ⌜ ScopeAt (now s) v scope (now index) stride ⌝ }
+    requires { ⌜ SourceAt (now s) source (now index) ⌝ }
     requires { ⌜ SelectorAt (now plan) (c .at) ⌝ }
     requires { ⌜ spanIn (now target) q ⌝ }
-    ensures { λ r. ⌜ (r ≡ true → (X : ScopeAt (now (s .entry)) v scope (now (index .entry)) stride) (P : SelectorAt (now (plan .entry)) (c .at)) (a : Column) → typeOf (X .fields) (P .tree) ≡ gives a → a .name ≡ spanAt (now (target .entry)) q) ⌝ }
+    ensures { λ r. ⌜ (r ≡ true → (X : SourceAt (now (s .entry)) source (now (index .entry))) (P : SelectorAt (now (plan .entry)) (c .at)) (a : Column) → typeOf (X .fields) (P .tree) ≡ gives a → a .name ≡ spanAt (now (target .entry)) q) ⌝ }
 {
-    match infer_name(s, v, scope, index, stride, plan, c) {
+    match infer_name(s, source, index, plan, c) {
         Named::Is(name) => same_name(s, plan, name, target, q),
         Named::Input(_) => false,
         Named::Absent => false,
@@ -159,29 +128,29 @@ fn same_label(
 // A top selector whose inputs may be transforms, and a column of the target.
 fn fit_inputs(
     s: &[u8],
-    v: Edition,
-    scope: Scope,
+    source: Source,
     index: &[u16],
-    stride: u16,
     plan: &[u8],
     c: Cursor,
     target: &[u8],
-    vt: Edition,
-    b: Cursor,
+    place: TargetPlace,
 ) -> FitEnd
-    requires { ⌜ ColumnFitAt (now s) v scope (now index) stride (now plan) (c .at) (now target) vt (b .at) ⌝ }
+    requires { ⌜ ColumnFitFrom (now s) source (now index) (now plan) (c .at) (now target) place ⌝ }
     requires { ⌜ (length (now s) ≤ 65536) × (length (now plan) ≤ 65536) ⌝ }
-    ensures { λ r. ⌜ ((A : ColumnFitAt (now (s .entry)) v scope (now (index .entry)) stride (now (plan .entry)) (c .at) (now (target .entry)) vt (b .at)) → FitsColumn A r) ⌝ }
+    ensures { λ r. ⌜ ((A : ColumnFitFrom (now (s .entry)) source (now (index .entry)) (now (plan .entry)) (c .at) (now (target .entry)) place) → FitsColumn A r) ⌝ }
 {
+    let vt = place.edition;
+    let b = place.at;
     match b.label(target, vt) {
         Labelled::Is(l, d) => {
             let q = l.name;
-            if !same_label(s, v, scope, index, stride, plan, c, target, q) {
+            if !same_label(s, source, index, plan, c, target, q) {
                 return FitEnd::Unknown;
             }
-            match fit_small(s, v, scope, index, stride, plan, c, target, vt, d) {
+            let inner = TargetPlace { edition: vt, at: d };
+            match fit_small(s, source, index, plan, c, target, inner) {
                 FitEnd::At(e, f) => FitEnd::At(e, f),
-                FitEnd::Unknown => fit_large(s, v, scope, index, stride, plan, c, target, vt, d),
+                FitEnd::Unknown => fit_large(s, source, index, plan, c, target, inner),
             }
         }
         Labelled::Refused(_) => FitEnd::Unknown,
@@ -189,62 +158,56 @@ fn fit_inputs(
 }
 
 // A top selector and a column of the target.
-fn fit_top(
+pub fn fit_top(
     s: &[u8],
-    v: Edition,
-    scope: Scope,
+    source: Source,
     index: &[u16],
-    stride: u16,
     plan: &[u8],
     c: Cursor,
     target: &[u8],
-    vt: Edition,
-    b: Cursor,
+    place: TargetPlace,
 ) -> FitEnd
-    requires { ⌜ ColumnFitAt (now s) v scope (now index) stride (now plan) (c .at) (now target) vt (b .at) ⌝ }
+    requires { ⌜ ColumnFitFrom (now s) source (now index) (now plan) (c .at) (now target) place ⌝ }
     requires { ⌜ (length (now s) ≤ 65536) × (length (now plan) ≤ 65536) ⌝ }
-    ensures { λ r. ⌜ ((A : ColumnFitAt (now (s .entry)) v scope (now (index .entry)) stride (now (plan .entry)) (c .at) (now (target .entry)) vt (b .at)) → FitsColumn A r) ⌝ }
+    ensures { λ r. ⌜ ((A : ColumnFitFrom (now (s .entry)) source (now (index .entry)) (now (plan .entry)) (c .at) (now (target .entry)) place) → FitsColumn A r) ⌝ }
 {
-    match fit_column(s, v, scope, index, stride, plan, c, target, vt, b, 64) {
+    match fit_column(s, source, index, plan, c, target, place, 64) {
         FitEnd::At(e, f) => FitEnd::At(e, f),
-        FitEnd::Unknown => fit_inputs(s, v, scope, index, stride, plan, c, target, vt, b),
+        FitEnd::Unknown => fit_inputs(s, source, index, plan, c, target, place),
     }
 }
 
-// As many top selectors and columns of the target.
+// A top selector for each of the target's columns.
 fn fit_tops(
     s: &[u8],
-    v: Edition,
-    scope: Scope,
+    source: Source,
     index: &[u16],
-    stride: u16,
     plan: &[u8],
     c: Cursor,
-    n: u16,
     target: &[u8],
-    vt: Edition,
-    b: Cursor,
+    columns: ColumnRange,
 ) -> FitEnd
-    requires { ⌜ FieldsFitAt (now s) v scope (now index) stride (now plan) n (c .at) (now target) vt (b .at) ⌝ }
+    requires { ⌜ FieldsFitFrom (now s) source (now index) (now plan) (c .at) (now target) columns ⌝ }
     requires { ⌜ (length (now s) ≤ 65536) × (length (now plan) ≤ 65536) ⌝ }
-    ensures { λ r. ⌜ ((A : FieldsFitAt (now (s .entry)) v scope (now (index .entry)) stride (now (plan .entry)) n (c .at) (now (target .entry)) vt (b .at)) → FitsFields A r) ⌝ }
+    ensures { λ r. ⌜ ((A : FieldsFitFrom (now (s .entry)) source (now (index .entry)) (now (plan .entry)) (c .at) (now (target .entry)) columns) → FitsFields A r) ⌝ }
 {
-    let mut at = c.at;
-    let mut bt = b.at;
+    let vt = columns.edition;
+    let n = columns.count;
+    let mut d = c;
+    let mut b = columns.first;
     let mut i: u16 = 0;
     while i < n {
-        let d = Cursor { at };
-        let e = Cursor { at: bt };
-        match fit_top(s, v, scope, index, stride, plan, d, target, vt, e) {
-            FitEnd::At(f, g) => {
-                at = f.at;
-                bt = g.at;
+        let place = TargetPlace { edition: vt, at: b };
+        match fit_top(s, source, index, plan, d, target, place) {
+            FitEnd::At(e, f) => {
+                d = e;
+                b = f;
             }
             FitEnd::Unknown => return FitEnd::Unknown,
         }
         i += 1;
     }
-    FitEnd::At(Cursor { at }, Cursor { at: bt })
+    FitEnd::At(d, b)
 }
 
 // Few selectors over few columns, which are passed over.
@@ -266,20 +229,18 @@ fn fits_few(
     let first = Cursor { at: 7 };
     let none: [u16; 1] = [0; 1];
     let index = &none[..0];
-    let top = Scope::Columns(n, first);
-    match fit_tops(
-        incoming,
-        v,
-        top,
-        index,
-        1,
-        plan,
+    let scope = Scope::Columns(n, first);
+    let source = Source {
+        edition: v,
+        scope,
+        stride: 1,
+    };
+    let columns = ColumnRange {
+        edition: vt,
+        count: m,
         first,
-        m,
-        target,
-        vt,
-        first,
-    ) {
+    };
+    match fit_tops(incoming, source, index, plan, first, target, columns) {
         FitEnd::At(_, _) => true,
         FitEnd::Unknown => false,
     }
@@ -306,20 +267,18 @@ fn fits_many(
     let mut starts: [u16; 256] = [0; 256];
     let len = index_columns(incoming, v, n, first, stride, &mut starts);
     let index = &starts[..len];
-    let top = Scope::Columns(n, first);
-    match fit_tops(
-        incoming,
-        v,
-        top,
-        index,
+    let scope = Scope::Columns(n, first);
+    let source = Source {
+        edition: v,
+        scope,
         stride,
-        plan,
+    };
+    let columns = ColumnRange {
+        edition: vt,
+        count: m,
         first,
-        m,
-        target,
-        vt,
-        first,
-    ) {
+    };
+    match fit_tops(incoming, source, index, plan, first, target, columns) {
         FitEnd::At(_, _) => true,
         FitEnd::Unknown => false,
     }

@@ -30,6 +30,15 @@ const MOST: u16 = 32767;
 // Where a chain ends.
 const NONE: u16 = 65535;
 
+// Sibling columns with the depth left to their types, and how their labels are matched.
+pub struct SiblingColumns {
+    pub edition: Edition,
+    pub matching: Matching,
+    pub depth: u8,
+    pub count: u16,
+    pub first: Cursor,
+}
+
 // A label's chain, of so many.
 fn slot(s: &[u8], how: Matching, heads: usize, l: Label) -> usize
     requires { ⌜ spanIn (now s) (l .name) ⌝ }
@@ -53,16 +62,18 @@ fn clear(from: usize, table: &mut [u16])
     }
 }
 
-// Notes where each of `n` columns begins. False says nothing of what the table then holds.
-fn note(s: &[u8], v: Edition, depth: u8, n: u16, first: Cursor, table: &mut [u16]) -> bool
-    requires { ⌜ node n ≤ length (now table) ⌝ }
-    requires { ⌜ Cleared (node n) (length (now table)) (now table) ⌝ }
+// Notes where each column begins. False says nothing of what the table then holds.
+fn note(s: &[u8], columns: SiblingColumns, table: &mut [u16]) -> bool
+    requires { ⌜ node (columns .count) ≤ length (now table) ⌝ }
+    requires { ⌜ Cleared (node (columns .count)) (length (now table)) (now table) ⌝ }
     ensures { λ _. ⌜ length (now (table .exit)) ≡ length (now (table .entry)) ⌝ }
-    ensures { λ r. ⌜ (r ≡ true → Noted v depth (now (s .entry)) n (first .at) (now (table .exit))) ⌝ }
+    ensures { λ r. ⌜ (r ≡ true → Noted (columns .edition) (columns .depth) (now (s .entry)) (columns .count) (columns .first .at) (now (table .exit))) ⌝ }
 {
-    let mut at = first.at;
+    let n = columns.count;
+    let mut at = columns.first.at;
     let mut i: u16 = 0;
     while i < n {
+        let v = columns.edition;
         if 65535 < at {
             return false;
         }
@@ -70,7 +81,7 @@ fn note(s: &[u8], v: Edition, depth: u8, n: u16, first: Cursor, table: &mut [u16
         table[k] = at as u16;
         let d = Cursor { at };
         match d.label(s, v) {
-            Labelled::Is(_, next) => match pass_type(s, v, depth, next) {
+            Labelled::Is(_, next) => match pass_type(s, v, columns.depth, next) {
                 Moved::To(e) => {
                     at = e.at;
                 }
@@ -84,24 +95,18 @@ fn note(s: &[u8], v: Edition, depth: u8, n: u16, first: Cursor, table: &mut [u16
 }
 
 // Puts the columns into their chains, the last one first, so that each chain begins with its first column.
-fn link(
-    s: &[u8],
-    v: Edition,
-    how: Matching,
-    depth: u8,
-    n: u16,
-    first: Cursor,
-    table: &mut [u16],
-) -> bool
-    requires { ⌜ n ≤ most ⌝ }
-    requires { ⌜ node n < length (now table) ⌝ }
-    requires { ⌜ Noted v depth (now s) n (first .at) (now table) ⌝ }
-    ensures { λ r. ⌜ (r ≡ true → Table v how depth (now (s .entry)) n (first .at) (now (table .exit))) ⌝ }
+fn link(s: &[u8], columns: SiblingColumns, table: &mut [u16]) -> bool
+    requires { ⌜ columns .count ≤ most ⌝ }
+    requires { ⌜ node (columns .count) < length (now table) ⌝ }
+    requires { ⌜ Noted (columns .edition) (columns .depth) (now s) (columns .count) (columns .first .at) (now table) ⌝ }
+    ensures { λ r. ⌜ (r ≡ true → Table (columns .edition) (columns .matching) (columns .depth) (now (s .entry)) (columns .count) (columns .first .at) (now (table .exit))) ⌝ }
 {
-    let mut i = wide(n);
+    let mut i = wide(columns.count);
     let from = 2 * i;
     let heads = table.len() - from;
     while 0 < i {
+        let v = columns.edition;
+        let how = columns.matching;
         i -= 1;
         let k = 2 * i;
         let at = wide(table[k + 1]);
@@ -118,82 +123,58 @@ fn link(
     true
 }
 
-// Fills a table for `n` columns, whatever it held. False says nothing of what it then holds.
-fn fill(
-    s: &[u8],
-    v: Edition,
-    how: Matching,
-    depth: u8,
-    n: u16,
-    first: Cursor,
-    table: &mut [u16],
-) -> bool
-    ensures { λ r. ⌜ (r ≡ true → Table v how depth (now (s .entry)) n (first .at) (now (table .exit))) ⌝ }
+// Fills a table for the columns, whatever it held. False says nothing of what it then holds.
+fn fill(s: &[u8], columns: SiblingColumns, table: &mut [u16]) -> bool
+    ensures { λ r. ⌜ (r ≡ true → Table (columns .edition) (columns .matching) (columns .depth) (now (s .entry)) (columns .count) (columns .first .at) (now (table .exit))) ⌝ }
 {
-    if MOST < n {
+    if MOST < columns.count {
         return false;
     }
-    let from = 2 * wide(n);
+    let from = 2 * wide(columns.count);
     if table.len() <= from {
         return false;
     }
     clear(from, table);
-    if !note(s, v, depth, n, first, table) {
+    if !note(s, columns, table) {
         return false;
     }
-    link(s, v, how, depth, n, first, table)
+    link(s, columns, table)
 }
 
-// Where many labels will be looked up, fills a table for `n` columns at the start of an arena, and answers its length. 0 where there is none: few
+// Where many labels will be looked up, fills a table for the columns at the start of an arena, and answers its length. 0 where there is none: few
 // labels are found sooner by a scan, or there is no room. Two columns share a head, so that five numbers are enough for two columns.
-pub fn fill_in(
-    wanted: u16,
-    s: &[u8],
-    v: Edition,
-    how: Matching,
-    depth: u8,
-    n: u16,
-    first: Cursor,
-    arena: &mut [u16],
-) -> usize
+pub fn fill_in(wanted: u16, s: &[u8], columns: SiblingColumns, arena: &mut [u16]) -> usize
     ensures { λ r. ⌜ r ≤ length (now (arena .exit)) ⌝ }
-    ensures { λ r. ⌜ (0 < r → Table v how depth (now (s .entry)) n (first .at) (take r (now (arena .exit)))) ⌝ }
+    ensures { λ r. ⌜ (0 < r → Table (columns .edition) (columns .matching) (columns .depth) (now (s .entry)) (columns .count) (columns .first .at) (take r (now (arena .exit)))) ⌝ }
 {
     if wanted <= 16 {
         return 0;
     }
+    let n = columns.count;
     let len = 2 * wide(n) + wide(n / 2) + 1;
     if arena.len() < len {
         return 0;
     }
-    if !fill(s, v, how, depth, n, first, &mut arena[..len]) {
+    if !fill(s, columns, &mut arena[..len]) {
         return 0;
     }
     len
 }
 
-// Among `n` columns, the one of the name of the label `l`, which stands in `t`; by number, of its id.
-pub fn counterpart_in(
-    s: &[u8],
-    v: Edition,
-    how: Matching,
-    depth: u8,
-    n: u16,
-    c: Cursor,
-    table: &[u16],
-    t: &[u8],
-    l: Label,
-) -> Found
-    requires { ⌜ ColumnsAt v depth (now s) n (c .at) ⌝ }
-    requires { ⌜ Table v how depth (now s) n (c .at) (now table) ⌝ }
+// Among the columns, the one of the name of the label `l`, which stands in `t`; by number, of its id.
+pub fn counterpart_in(s: &[u8], columns: SiblingColumns, table: &[u16], t: &[u8], l: Label) -> Found
+    requires { ⌜ ColumnsAt (columns .edition) (columns .depth) (now s) (columns .count) (columns .first .at) ⌝ }
+    requires { ⌜ Table (columns .edition) (columns .matching) (columns .depth) (now s) (columns .count) (columns .first .at) (now table) ⌝ }
     requires { ⌜ spanIn (now t) (l .name) ⌝ }
-    ensures { λ r. ⌜ ((P : ColumnsAt v depth (now (s .entry)) n (c .at)) → Finds v depth (now (s .entry)) (counterpart how (labelAt (now (t .entry)) l) (P .columns)) r) ⌝ }
+    ensures { λ r. ⌜ ((P : ColumnsAt (columns .edition) (columns .depth) (now (s .entry)) (columns .count) (columns .first .at)) → Finds (columns .edition) (columns .depth) (now (s .entry)) (counterpart (columns .matching) (labelAt (now (t .entry)) l) (P .columns)) r) ⌝ }
 {
+    let how = columns.matching;
     let rule = match_rule(how);
-    let from = 2 * wide(n);
+    let from = 2 * wide(columns.count);
     let h = from + slot(t, how, table.len() - from, l);
     let mut x = table[h];
     while x < NONE {
+        let v = columns.edition;
         let k = wide(x);
         let at = wide(table[k + 1]);
         let d = Cursor { at };
@@ -211,24 +192,16 @@ pub fn counterpart_in(
 }
 
 // The same where there may be no table: an empty slice, and the columns are scanned.
-pub fn find_in(
-    s: &[u8],
-    v: Edition,
-    how: Matching,
-    depth: u8,
-    n: u16,
-    c: Cursor,
-    table: &[u16],
-    t: &[u8],
-    l: Label,
-) -> Found
-    requires { ⌜ ColumnsAt v depth (now s) n (c .at) ⌝ }
-    requires { ⌜ (0 < length (now table) → Table v how depth (now s) n (c .at) (now table)) ⌝ }
+pub fn find_in(s: &[u8], columns: SiblingColumns, table: &[u16], t: &[u8], l: Label) -> Found
+    requires { ⌜ ColumnsAt (columns .edition) (columns .depth) (now s) (columns .count) (columns .first .at) ⌝ }
+    requires { ⌜ (0 < length (now table) → Table (columns .edition) (columns .matching) (columns .depth) (now s) (columns .count) (columns .first .at) (now table)) ⌝ }
     requires { ⌜ spanIn (now t) (l .name) ⌝ }
-    ensures { λ r. ⌜ ((P : ColumnsAt v depth (now (s .entry)) n (c .at)) → Finds v depth (now (s .entry)) (counterpart how (labelAt (now (t .entry)) l) (P .columns)) r) ⌝ }
+    ensures { λ r. ⌜ ((P : ColumnsAt (columns .edition) (columns .depth) (now (s .entry)) (columns .count) (columns .first .at)) → Finds (columns .edition) (columns .depth) (now (s .entry)) (counterpart (columns .matching) (labelAt (now (t .entry)) l) (P .columns)) r) ⌝ }
 {
     if table.len() == 0 {
-        return find_counterpart(s, v, how, depth, n, c, t, l);
+        let v = columns.edition;
+        let how = columns.matching;
+        return find_counterpart(s, v, how, columns.depth, columns.count, columns.first, t, l);
     }
-    counterpart_in(s, v, how, depth, n, c, table, t, l)
+    counterpart_in(s, columns, table, t, l)
 }

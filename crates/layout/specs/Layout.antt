@@ -8,6 +8,7 @@ use lib.ListN.{length, take, getD}
 use lib.Dec.{leb, eqb}
 use Rattle.layout.specs.Bytes.{Bytes, sameBytes}
 use Rattle.layout.specs.Parser.{Res, refuse, ok, Parser, next, _>>=_, _>>_, pure, fail, test, if, choose, byte, chunk, u16, u32}
+pub use Rattle.layout.specs.Limits.{longest, longestName, deepest}
 use Rattle.layout.specs.Tree.{LeafType, leafType, Label, ColumnType, cleaf, cstruct, clist, carray, Columns, cnil, ccons, Layout}
 use Rattle.layout.specs.declared.leaf.TimeUnit.{TimeUnit}
 use Rattle.layout.specs.declared.leaf.TimeUnit.the-variants.{Nanoseconds, Microseconds, Milliseconds}
@@ -28,7 +29,7 @@ use Rattle.layout.specs.declared.columns.Siblings.the-variants.{Names, I
 unfoldable pub text : Parser Bytes
 text = do
   n ← byte
-  if (leb n 63) (chunk n) (fail 4)
+  if (leb n longestName) (chunk n) (fail 4)
 
 -- a date-time's unit: 0 ns, 1 µs, 2 ms, counted up from the finest
 abbrev pub unitCode : TimeUnit → ℕ
@@ -251,15 +252,11 @@ edition s at =
 
 -- 4 where there are over 16,384 bytes
 unfoldable pub sized : Parser (Unit {0})
-sized s at = test (leb (length s) 16384) 4 s at
+sized s at = test (leb (length s) longest) 4 s at
 
 -- 6 where bytes are left over
 unfoldable pub ended : Parser (Unit {0})
 ended s at = test (eqb at (length s)) 6 s at
-
--- the deepest type of a layout
-abbrev pub deepest : ℕ
-deepest = 16
 
 -- the count, the columns and the end
 unfoldable pub counted : Edition → Parser Layout

@@ -1,5 +1,6 @@
 pub mod Bytes
 pub mod Parser
+pub mod Limits
 pub mod Tree
 pub mod Layout
 pub mod Answers

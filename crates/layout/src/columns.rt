@@ -32,6 +32,13 @@ pub struct Label {
     pub required: bool,
 }
 
+// Columns side by side: their edition, how many, and where the first stands.
+pub struct ColumnRange {
+    pub edition: Edition,
+    pub count: u16,
+    pub first: Cursor,
+}
+
 pub enum MarkRead {
     Is(bool, Cursor),
     Refused(u8),

@@ -4,6 +4,7 @@ ghost use Rattle.layout.specs.Parser.{byte, u16, u32};
 ghost use Rattle.layout.specs.Layout.{text};
 ghost use Rattle.layout.specs.Answers.{stepRes, shortRes, longRes, textRes, textIn};
 use crate::bytes::Span;
+use crate::limits::LONGEST_NAME;
 
 pub struct Cursor {
     pub at: usize,
@@ -78,7 +79,7 @@ impl Cursor {
     {
         match self.byte(s) {
             Step::Byte(b, c) => {
-                if 63 < b {
+                if LONGEST_NAME < b {
                     return Text::Refused(4);
                 }
                 let start = c.at;

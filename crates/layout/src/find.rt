@@ -52,19 +52,16 @@ pub fn find_column(
     requires { ⌜ ColumnsAt v depth (now s) n (c .at) ⌝ }
     ensures { λ r. ⌜ ((P : ColumnsAt v depth (now (s .entry)) n (c .at)) → Finds v depth (now (s .entry)) (findFrom (λ i. wantedBy wanted (now (name .entry))) 0 (P .columns)) r) ⌝ }
 {
-    let mut at = c.at;
+    let mut d = c;
     let mut i: u16 = 0;
     while i < n {
-        let d = Cursor { at };
         match d.label(s, v) {
             Labelled::Is(l, next) => {
                 if is_wanted(s, wanted, name, l) {
                     return Found::At(Position(i), l, next);
                 }
                 match pass_type(s, v, depth, next) {
-                    Moved::To(e) => {
-                        at = e.at;
-                    }
+                    Moved::To(e) => d = e,
                     Moved::Refused(_) => return Found::Absent,
                 }
             }

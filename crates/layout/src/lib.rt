@@ -5,6 +5,7 @@ pub mod cursor;
 pub mod edition;
 pub mod find;
 pub mod leaf;
+pub mod limits;
 pub mod matching;
 pub mod pass;
 pub mod read;

@@ -138,19 +138,17 @@ fn pass_element(s: &[u8], v: Edition, depth: u8, c: Cursor) -> Moved
 pub fn pass_columns(s: &[u8], v: Edition, depth: u8, n: u16, c: Cursor) -> Moved
     ensures { λ r. ⌜ r ≡ movedOf (columns v Siblings.Free (type v Siblings.Free depth) n [] (now (s .entry)) (c .at)) ⌝ }
 {
-    let mut at = c.at;
+    let mut next = c;
     let mut i: u16 = 0;
     while i < n {
-        match pass_label(s, v, Cursor { at }) {
+        match pass_label(s, v, next) {
             Moved::To(d) => match pass_type(s, v, depth, d) {
-                Moved::To(e) => {
-                    at = e.at;
-                }
+                Moved::To(e) => next = e,
                 Moved::Refused(k) => return Moved::Refused(k),
             },
             Moved::Refused(k) => return Moved::Refused(k),
         }
         i += 1;
     }
-    Moved::To(Cursor { at })
+    Moved::To(next)
 }

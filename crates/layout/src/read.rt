@@ -9,6 +9,7 @@ ghost use Rattle.layout.specs.Scan.{scan};
 ghost use Rattle.layout.specs.Seen.{Keeps, Begins, Noted, Notes};
 ghost use Rattle.layout.specs.Answers.{movedOf, labelAt, spanIn, layoutOf};
 ghost use Rattle.layout.specs.declared.types.PlainLeaf.{PlainLeaf as PlainLeafOf};
+use crate::columns::ColumnRange;
 use crate::columns::Label;
 use crate::columns::Labelled;
 use crate::columns::Siblings;
@@ -22,6 +23,8 @@ use crate::edition::EditionRead;
 use crate::edition::inner_rule;
 use crate::edition::read_edition;
 use crate::edition::top_rule;
+use crate::limits::DEEPEST;
+use crate::limits::LONGEST;
 use crate::pass::pass_datetime;
 use crate::pass::pass_decimal;
 use crate::pass::pass_element_label;
@@ -125,17 +128,21 @@ pub fn read_columns(
     ensures { λ r. ⌜ r ≡ movedOf (columns v rule (type v inner depth) n [] (now (s .entry)) (c .at)) ⌝ }
     ensures { λ _. ⌜ Keeps (now (seen .entry)) (now (seen .exit)) ⌝ }
 {
-    let mut at = c.at;
+    let mut d = c;
     let mut i: u16 = 0;
     while i < n {
-        let d = Cursor { at };
         match d.label(s, v) {
             Labelled::Is(l, next) => match read_type(s, v, inner, depth, next, seen) {
                 Moved::To(e) => {
-                    if is_repeated(s, v, rule, depth, i, c, d, l, seen) {
+                    let earlier = ColumnRange {
+                        edition: v,
+                        count: i,
+                        first: c,
+                    };
+                    if is_repeated(s, earlier, rule, depth, d, l, seen) {
                         return Moved::Refused(5);
                     }
-                    at = e.at;
+                    d = e;
                 }
                 Moved::Refused(k) => return Moved::Refused(k),
             },
@@ -143,59 +150,57 @@ pub fn read_columns(
         }
         i += 1;
     }
-    Moved::To(Cursor { at })
+    Moved::To(d)
 }
 
-// Whether one of the `n` columns from a cursor repeats the label `l` of the column at `d`, which is noted. They are scanned only where it may.
+// Whether one of the earlier columns repeats the label `l` of the column at `d`, which is noted. They are scanned only where it may.
 fn is_repeated(
     s: &[u8],
-    v: Edition,
+    earlier: ColumnRange,
     rule: Siblings,
     depth: u8,
-    n: u16,
-    c: Cursor,
     d: Cursor,
     l: Label,
     seen: &mut [u16],
 ) -> bool
     requires { ⌜ spanIn (now s) (l .name) ⌝ }
-    requires { ⌜ Begins v (now s) (d .at) (labelAt (now s) l) ⌝ }
-    requires { ⌜ Noted v rule depth (labelAt (now s) l) n (now s) (c .at) (now seen) ⌝ }
-    ensures { λ r. ⌜ r ≡ scan v rule depth (labelAt (now (s .entry)) l) n (now (s .entry)) (c .at) ⌝ }
+    requires { ⌜ Begins (earlier .edition) (now s) (d .at) (labelAt (now s) l) ⌝ }
+    requires { ⌜ Noted (earlier .edition) rule depth (labelAt (now s) l) (earlier .count) (now s) (earlier .first .at) (now seen) ⌝ }
+    ensures { λ r. ⌜ r ≡ scan (earlier .edition) rule depth (labelAt (now (s .entry)) l) (earlier .count) (now (s .entry)) (earlier .first .at) ⌝ }
     ensures { λ _. ⌜ Keeps (now (seen .entry)) (now (seen .exit)) ⌝ }
-    ensures { λ _. ⌜ Notes v rule (now (s .entry)) (c .at) (labelAt (now (s .entry)) l) (now (seen .exit)) ⌝ }
+    ensures { λ _. ⌜ Notes (earlier .edition) rule (now (s .entry)) (earlier .first .at) (labelAt (now (s .entry)) l) (now (seen .exit)) ⌝ }
 {
-    let h = label_hash(s, rule, c.at, l);
+    let v = earlier.edition;
+    let h = label_hash(s, rule, earlier.first.at, l);
     let k = find_slot(s, v, rule, l, h, seen);
     if k < seen.len() {
         seen[k] = place(d);
         return false;
     }
-    repeats(s, v, rule, depth, n, c, l)
+    repeats(s, earlier, rule, depth, l)
 }
 
-// Whether one of the `n` columns from a cursor repeats a label. Their types are passed over with no such test inside, else the
+// Whether one of the earlier columns repeats a label. Their types are passed over with no such test inside, else the
 // work would be exponential in the depth.
-fn repeats(s: &[u8], v: Edition, rule: Siblings, depth: u8, n: u16, c: Cursor, l: Label) -> bool
+fn repeats(s: &[u8], earlier: ColumnRange, rule: Siblings, depth: u8, l: Label) -> bool
     requires { ⌜ l .name .start + l .name .len ≤ length (now s) ⌝ }
-    ensures { λ r. ⌜ r ≡ scan v rule depth (labelAt (now (s .entry)) l) n (now (s .entry)) (c .at) ⌝ }
+    ensures { λ r. ⌜ r ≡ scan (earlier .edition) rule depth (labelAt (now (s .entry)) l) (earlier .count) (now (s .entry)) (earlier .first .at) ⌝ }
 {
     if let Siblings::Free = rule {
         return false;
     }
-    let mut at = c.at;
+    let v = earlier.edition;
+    let n = earlier.count;
+    let mut d = earlier.first;
     let mut i: u16 = 0;
     while i < n {
-        let d = Cursor { at };
         match d.label(s, v) {
             Labelled::Is(m, next) => {
                 if same_label(rule, s, l, s, m) {
                     return true;
                 }
                 match pass_type(s, v, depth, next) {
-                    Moved::To(e) => {
-                        at = e.at;
-                    }
+                    Moved::To(e) => d = e,
                     Moved::Refused(_) => return false,
                 }
             }
@@ -214,7 +219,7 @@ fn read_counted(s: &[u8], v: Edition, seen: &mut [u16]) -> LayoutRead
     let inner = inner_rule(v);
     let c = Cursor { at: 5 };
     match c.short(s) {
-        Short::Is(n, d) => match read_columns(s, v, top, inner, 16, n, d, seen) {
+        Short::Is(n, d) => match read_columns(s, v, top, inner, DEEPEST, n, d, seen) {
             Moved::To(e) => {
                 if e.at == s.len() {
                     LayoutRead::Read {
@@ -261,7 +266,7 @@ fn read_sized(s: &[u8], v: Edition) -> LayoutRead
 pub fn read_layout(s: &[u8]) -> LayoutRead
     ensures { λ r. ⌜ r ≡ layoutOf (layout (now (s .entry))) ⌝ }
 {
-    if 16384 < s.len() {
+    if LONGEST < s.len() {
         return LayoutRead::Refused(4);
     }
     match read_edition(s) {

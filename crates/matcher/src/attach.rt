@@ -49,6 +49,7 @@ use builder::write::put_short;
 use defaults::lookup::DefaultFieldValues;
 use defaults::read::TableVersion;
 use forms::write::write_text;
+use labels::SiblingColumns;
 use labels::fill_in;
 use labels::find_in;
 use layout::columns::Labelled;
@@ -68,17 +69,16 @@ pub fn attach_transforms(
     target: &[u8],
     types: Types,
     out: &mut [u8],
-    place: Place,
     arena: &mut [u16],
 ) -> Made
     requires { ⌜ TypesAt build types (now incoming) (now target) ⌝ }
     requires { ⌜ IndexedTableAt (now table) (now index) (build .defaults) ⌝ }
-    requires { ⌜ (length (now target) ≤ 16384) × (length (now table) ≤ 16384) × (place .k ≤ 65536 * types .target .at + 1) ⌝ }
-    ensures { λ r. ⌜ AttachedTypes build (now (incoming .entry)) (now (table .entry)) (now (target .entry)) types place (now (out .entry)) r (now (out .exit)) ⌝ }
+    requires { ⌜ (length (now target) ≤ 16384) × (length (now table) ≤ 16384) × (types .place .k ≤ 65536 * types .target .at + 1) ⌝ }
+    ensures { λ r. ⌜ AttachedTypes build (now (incoming .entry)) (now (table .entry)) (now (target .entry)) types (types .place) (now (out .entry)) r (now (out .exit)) ⌝ }
 {
     let b = types.target;
     match b.head(target) {
-        Head::Leaf(u, _) => attach_leaf(build, incoming, target, types, u, out, place),
+        Head::Leaf(u, _) => attach_leaf(build, incoming, target, types, u, out),
         Head::Struct(_, _) => attach_nested(
             build,
             incoming,
@@ -87,20 +87,9 @@ pub fn attach_transforms(
             target,
             types,
             out,
-            place,
             arena,
         ),
-        Head::List(_) => attach_nested(
-            build,
-            incoming,
-            table,
-            index,
-            target,
-            types,
-            out,
-            place,
-            arena,
-        ),
+        Head::List(_) => attach_nested(build, incoming, table, index, target, types, out, arena),
         Head::Array(_, _) => attach_nested(
             build,
             incoming,
@@ -109,7 +98,6 @@ pub fn attach_transforms(
             target,
             types,
             out,
-            place,
             arena,
         ),
         Head::Refused(_) => Made::Refused(24),
@@ -125,18 +113,18 @@ fn attach_nested(
     target: &[u8],
     types: Types,
     out: &mut [u8],
-    place: Place,
     arena: &mut [u16],
 ) -> Made
     requires { ⌜ TypesAt build types (now incoming) (now target) ⌝ }
     requires { ⌜ IndexedTableAt (now table) (now index) (build .defaults) ⌝ }
-    requires { ⌜ (length (now target) ≤ 16384) × (length (now table) ≤ 16384) × (place .k ≤ 65536 * types .target .at + 1) ⌝ }
-    ensures { λ r. ⌜ AttachedNested build (now (incoming .entry)) (now (table .entry)) (now (target .entry)) types place (now (out .entry)) r (now (out .exit)) ⌝ }
+    requires { ⌜ (length (now target) ≤ 16384) × (length (now table) ≤ 16384) × (types .place .k ≤ 65536 * types .target .at + 1) ⌝ }
+    ensures { λ r. ⌜ AttachedNested build (now (incoming .entry)) (now (table .entry)) (now (target .entry)) types (types .place) (now (out .entry)) r (now (out .exit)) ⌝ }
 {
     let how = build.matching;
     let w = build.target;
     let c = types.incoming;
     let b = types.target;
+    let place = types.place;
     if is_null_incoming(how, incoming, c) {
         return put_null_cast(
             build.policy,
@@ -155,18 +143,9 @@ fn attach_nested(
                 depth: types.depth,
                 incoming: c,
                 target: Fields { count, first },
-            };
-            attach_struct(
-                build,
-                incoming,
-                table,
-                index,
-                target,
-                over,
-                out,
                 place,
-                arena,
-            )
+            };
+            attach_struct(build, incoming, table, index, target, over, out, arena)
         }
         StructPart::Mismatch => attach_inner(
             build,
@@ -176,7 +155,6 @@ fn attach_nested(
             target,
             types,
             out,
-            place,
             arena,
         ),
     }
@@ -191,22 +169,23 @@ fn attach_struct(
     target: &[u8],
     over: FieldsOver,
     out: &mut [u8],
-    place: Place,
     arena: &mut [u16],
 ) -> Made
     requires { ⌜ FieldsOverAt build over (now incoming) (now target) ⌝ }
     requires { ⌜ IndexedTableAt (now table) (now index) (build .defaults) ⌝ }
-    requires { ⌜ StructRoom over place (now table) (now target) ⌝ }
-    ensures { λ r. ⌜ AttachedStruct build (now (incoming .entry)) (now (table .entry)) (now (target .entry)) over place (now (out .entry)) r (now (out .exit)) ⌝ }
+    requires { ⌜ StructRoom over (over .place) (now table) (now target) ⌝ }
+    ensures { λ r. ⌜ AttachedStruct build (now (incoming .entry)) (now (table .entry)) (now (target .entry)) over (over .place) (now (out .entry)) r (now (out .exit)) ⌝ }
 {
     let StructPart::Is(n, d) = struct_part(incoming, over.incoming) else {
         return Made::Refused(24);
     };
     let fields = over.target;
+    let place = over.place;
     let rows = Rows {
         depth: over.depth - 1,
         incoming: Fields { count: n, first: d },
         target: fields,
+        k: place.k + 6,
     };
     let fault = struct_fault(build, incoming, target, rows, arena);
     if fault != 0 {
@@ -215,17 +194,7 @@ fn attach_struct(
     let position = place.position;
     put_head(out, place.k, 4, position);
     put_short(out, place.k + 4, over.target.count);
-    let row = attach_row(
-        build,
-        incoming,
-        table,
-        index,
-        target,
-        rows,
-        out,
-        place.k + 6,
-        arena,
-    );
+    let row = attach_row(build, incoming, table, index, target, rows, out, arena);
     let Row::Done(same, len) = row else {
         return refused_row(row);
     };
@@ -246,27 +215,24 @@ fn attach_row(
     target: &[u8],
     rows: Rows,
     out: &mut [u8],
-    k: usize,
     arena: &mut [u16],
 ) -> Row
     requires { ⌜ RowsAt build rows (now incoming) (now target) ⌝ }
     requires { ⌜ IndexedTableAt (now table) (now index) (build .defaults) ⌝ }
-    requires { ⌜ (length (now target) ≤ 16384) × (length (now table) ≤ 16384) × (k ≤ 65536 * rows .target .first .at) ⌝ }
-    ensures { λ r. ⌜ AttachedRows build (now (incoming .entry)) (now (table .entry)) (now (target .entry)) rows k (now (out .entry)) r (now (out .exit)) ⌝ }
+    requires { ⌜ (length (now target) ≤ 16384) × (length (now table) ≤ 16384) × (rows .k ≤ 65536 * rows .target .first .at) ⌝ }
+    ensures { λ r. ⌜ AttachedRows build (now (incoming .entry)) (now (table .entry)) (now (target .entry)) rows (rows .k) (now (out .entry)) r (now (out .exit)) ⌝ }
 {
-    let how = build.matching;
-    let v = build.incoming;
-    let c = rows.incoming.first;
-    let used = fill_in(
-        rows.target.count,
-        incoming,
-        v,
-        how,
-        rows.depth,
-        rows.incoming.count,
-        c,
-        arena,
-    );
+    let matching = build.matching;
+    let edition = build.incoming;
+    let first = rows.incoming.first;
+    let columns = SiblingColumns {
+        edition,
+        matching,
+        depth: rows.depth,
+        count: rows.incoming.count,
+        first,
+    };
+    let used = fill_in(rows.target.count, incoming, columns, arena);
     attach_fields(
         build,
         incoming,
@@ -276,7 +242,6 @@ fn attach_row(
         target,
         rows,
         out,
-        k,
         arena,
     )
 }
@@ -292,42 +257,38 @@ fn attach_fields(
     target: &[u8],
     rows: Rows,
     out: &mut [u8],
-    k: usize,
     arena: &mut [u16],
 ) -> Row
     requires { ⌜ RowsAt build rows (now incoming) (now target) ⌝ }
     requires { ⌜ IndexedTableAt (now table) (now index) (build .defaults) ⌝ }
-    requires { ⌜ (length (now target) ≤ 16384) × (length (now table) ≤ 16384) × (k ≤ 65536 * rows .target .first .at) ⌝ }
+    requires { ⌜ (length (now target) ≤ 16384) × (length (now table) ≤ 16384) × (rows .k ≤ 65536 * rows .target .first .at) ⌝ }
     requires { ⌜ (used ≤ length (now arena)) × (0 < used → TableOf build (build .incoming) (rows .depth) (now incoming) (rows .incoming) (take used (now arena))) ⌝ }
-    ensures { λ r. ⌜ AttachedRows build (now (incoming .entry)) (now (table .entry)) (now (target .entry)) rows k (now (out .entry)) r (now (out .exit)) ⌝ }
+    ensures { λ r. ⌜ AttachedRows build (now (incoming .entry)) (now (table .entry)) (now (target .entry)) rows (rows .k) (now (out .entry)) r (now (out .exit)) ⌝ }
 {
-    let how = build.matching;
-    let v = build.incoming;
+    let matching = build.matching;
+    let edition = build.incoming;
     let w = build.target;
-    let c = rows.incoming.first;
+    let first = rows.incoming.first;
+    let columns = SiblingColumns {
+        edition,
+        matching,
+        depth: rows.depth,
+        count: rows.incoming.count,
+        first,
+    };
     let policy = build.policy;
     let missing = policy.missing_struct_fields;
     let insert = inserts(missing);
     let count = rows.target.count;
     let mut from = rows.target.first.at;
     let mut i: u16 = 0;
-    let mut to = k;
+    let mut to = rows.k;
     let mut same = true;
     while i < count {
         let f = Cursor { at: from };
         match f.label(target, w) {
             Labelled::Is(l, next) => {
-                let found = find_in(
-                    incoming,
-                    v,
-                    how,
-                    rows.depth,
-                    rows.incoming.count,
-                    c,
-                    &arena[..used],
-                    target,
-                    l,
-                );
+                let found = find_in(incoming, columns, &arena[..used], target, l);
                 let sought = Sought {
                     depth: rows.depth,
                     column: Column {
@@ -336,8 +297,9 @@ fn attach_fields(
                     },
                     found,
                     missing: Missing { insert, number: 14 },
+                    k: to,
                 };
-                let first = attach_field(
+                let made = attach_field(
                     build,
                     incoming,
                     table,
@@ -345,14 +307,13 @@ fn attach_fields(
                     target,
                     sought,
                     out,
-                    to,
                     &mut arena[used..],
                 );
-                if is_refused(first) {
-                    return failed(first);
+                if is_refused(made) {
+                    return failed(made);
                 }
-                same = both(same, is_bare(first, i));
-                to += len_of(first);
+                same = both(same, is_bare(made, i));
+                to += len_of(made);
                 let e = skip_type(target, w, rows.depth, next);
                 from = e.at;
             }
@@ -360,7 +321,7 @@ fn attach_fields(
         }
         i += 1;
     }
-    Row::Done(same, to - k)
+    Row::Done(same, to - rows.k)
 }
 
 // One target column over its counterpart among the incoming columns, which the caller has looked up, or the column that is missing.
@@ -373,17 +334,15 @@ pub fn attach_field(
     target: &[u8],
     sought: Sought,
     out: &mut [u8],
-    k: usize,
     arena: &mut [u16],
 ) -> Made
     requires { ⌜ SoughtAt build sought (now incoming) (now target) ⌝ }
     requires { ⌜ IndexedTableAt (now table) (now index) (build .defaults) ⌝ }
     requires { ⌜ spanIn (now target) (sought .column .label .name) × (sought .column .label .name .len ≤ 63) ⌝ }
-    requires { ⌜ (length (now target) ≤ 16384) × (length (now table) ≤ 16384) × (k ≤ 65536 * sought .column .cursor .at) ⌝ }
-    ensures { λ r. ⌜ AttachedField build (now (incoming .entry)) (now (table .entry)) (now (target .entry)) sought k (now (out .entry)) r (now (out .exit)) ⌝ }
+    requires { ⌜ (length (now target) ≤ 16384) × (length (now table) ≤ 16384) × (sought .k ≤ 65536 * sought .column .cursor .at) ⌝ }
+    ensures { λ r. ⌜ AttachedField build (now (incoming .entry)) (now (table .entry)) (now (target .entry)) sought (sought .k) (now (out .entry)) r (now (out .exit)) ⌝ }
 {
     let column = sought.column;
-    let missing = sought.missing;
     let found = sought.found;
     match found {
         Found::At(position, label, cursor) => {
@@ -391,31 +350,14 @@ pub fn attach_field(
                 depth: sought.depth,
                 incoming: Column { label, cursor },
                 target: column,
+                place: Place {
+                    position,
+                    k: sought.k,
+                },
             };
-            let place = Place { position, k };
-            attach_renamed(
-                build,
-                incoming,
-                table,
-                index,
-                target,
-                pair,
-                out,
-                place,
-                arena,
-            )
+            attach_renamed(build, incoming, table, index, target, pair, out, arena)
         }
-        Found::Absent => put_missing(
-            missing,
-            build,
-            sought.depth,
-            table,
-            index,
-            target,
-            column,
-            out,
-            k,
-        ),
+        Found::Absent => put_missing(build, table, index, target, sought, out),
     }
 }
 
@@ -428,14 +370,13 @@ fn attach_renamed(
     target: &[u8],
     pair: Pair,
     out: &mut [u8],
-    place: Place,
     arena: &mut [u16],
 ) -> Made
     requires { ⌜ PairAt build pair (now incoming) (now target) ⌝ }
     requires { ⌜ IndexedTableAt (now table) (now index) (build .defaults) ⌝ }
     requires { ⌜ PairNamed pair (now incoming) (now target) ⌝ }
-    requires { ⌜ (length (now target) ≤ 16384) × (length (now table) ≤ 16384) × (place .k ≤ 65536 * pair .target .cursor .at) ⌝ }
-    ensures { λ r. ⌜ AttachedPair build (now (incoming .entry)) (now (table .entry)) (now (target .entry)) pair place (now (out .entry)) r (now (out .exit)) ⌝ }
+    requires { ⌜ (length (now target) ≤ 16384) × (length (now table) ≤ 16384) × (pair .place .k ≤ 65536 * pair .target .cursor .at) ⌝ }
+    ensures { λ r. ⌜ AttachedPair build (now (incoming .entry)) (now (table .entry)) (now (target .entry)) pair (pair .place) (now (out .entry)) r (now (out .exit)) ⌝ }
 {
     let column = pair.incoming;
     if !keeps_required(incoming, column, pair.target.label.required) {
@@ -444,25 +385,17 @@ fn attach_renamed(
     let how = build.matching;
     let c = pair.incoming.cursor;
     let b = pair.target.cursor;
-    let types = Types {
+    let place = pair.place;
+    let mut types = Types {
         depth: pair.depth,
         incoming: c,
         target: b,
+        place,
     };
     let m = pair.incoming.label;
     let l = pair.target.label;
     if !needs_rename(how, incoming, m, target, l) {
-        return attach_transforms(
-            build,
-            incoming,
-            table,
-            index,
-            target,
-            types,
-            out,
-            place,
-            arena,
-        );
+        return attach_transforms(build, incoming, table, index, target, types, out, arena);
     }
     put(out, place.k, 3);
     let position = place.position;
@@ -470,17 +403,8 @@ fn attach_renamed(
         position,
         k: place.k + 1,
     };
-    let made = attach_transforms(
-        build,
-        incoming,
-        table,
-        index,
-        target,
-        types,
-        out,
-        inner,
-        arena,
-    );
+    types.place = inner;
+    let made = attach_transforms(build, incoming, table, index, target, types, out, arena);
     if is_refused(made) {
         return made;
     }
@@ -498,15 +422,14 @@ fn attach_element(
     table: &[u8],
     index: &[u16],
     target: &[u8],
-    pair: Pair,
+    mut pair: Pair,
     out: &mut [u8],
-    place: Place,
     arena: &mut [u16],
 ) -> Made
     requires { ⌜ PairAt build pair (now incoming) (now target) ⌝ }
     requires { ⌜ PairNamed pair (now incoming) (now target) ⌝ }
-    requires { ⌜ (length (now target) ≤ 16384) × (length (now table) ≤ 16384) × (place .k + 4 ≤ 65536 * pair .target .cursor .at) ⌝ }
-    ensures { λ r. ⌜ AttachedElement build code (now (incoming .entry)) (now (target .entry)) pair place (now (out .entry)) r (now (out .exit)) ⌝ }
+    requires { ⌜ (length (now target) ≤ 16384) × (length (now table) ≤ 16384) × (pair .place .k + 4 ≤ 65536 * pair .target .cursor .at) ⌝ }
+    ensures { λ r. ⌜ AttachedElement build code (now (incoming .entry)) (now (target .entry)) pair (pair .place) (now (out .entry)) r (now (out .exit)) ⌝ }
 {
     let how = build.matching;
     let i = pair.incoming.label.id;
@@ -514,6 +437,7 @@ fn attach_element(
     if !same_element(how, i, j) {
         return Made::Refused(25);
     }
+    let place = pair.place;
     let position = place.position;
     put_head(out, place.k, code, position);
     let none = DefaultFieldValues {
@@ -528,17 +452,8 @@ fn attach_element(
         position: Position(0),
         k: place.k + 4,
     };
-    let made = attach_renamed(
-        build,
-        incoming,
-        table,
-        index,
-        target,
-        pair,
-        out,
-        first,
-        arena,
-    );
+    pair.place = first;
+    let made = attach_renamed(build, incoming, table, index, target, pair, out, arena);
     if is_refused(made) {
         return made;
     }
@@ -558,15 +473,15 @@ fn attach_inner(
     target: &[u8],
     types: Types,
     out: &mut [u8],
-    place: Place,
     arena: &mut [u16],
 ) -> Made
     requires { ⌜ TypesAt build types (now incoming) (now target) ⌝ }
-    requires { ⌜ (length (now target) ≤ 16384) × (length (now table) ≤ 16384) × (place .k ≤ 65536 * types .target .at + 1) ⌝ }
-    ensures { λ r. ⌜ AttachedInner build (now (incoming .entry)) (now (target .entry)) types place (now (out .entry)) r (now (out .exit)) ⌝ }
+    requires { ⌜ (length (now target) ≤ 16384) × (length (now table) ≤ 16384) × (types .place .k ≤ 65536 * types .target .at + 1) ⌝ }
+    ensures { λ r. ⌜ AttachedInner build (now (incoming .entry)) (now (target .entry)) types (types .place) (now (out .entry)) r (now (out .exit)) ⌝ }
 {
     let v = build.incoming;
     let w = build.target;
+    let place = types.place;
     match element_part(target, w, types.target) {
         ElementPart::List(l, e) => {
             let InnerPart::Is(m, d) = list_part(incoming, v, types.incoming) else {
@@ -582,19 +497,9 @@ fn attach_inner(
                     label: l,
                     cursor: e,
                 },
-            };
-            attach_element(
-                build,
-                5,
-                incoming,
-                table,
-                index,
-                target,
-                pair,
-                out,
                 place,
-                arena,
-            )
+            };
+            attach_element(build, 5, incoming, table, index, target, pair, out, arena)
         }
         ElementPart::Array(width, l, e) => {
             let InnerPart::Is(m, d) = array_part(incoming, v, width, types.incoming) else {
@@ -610,19 +515,9 @@ fn attach_inner(
                     label: l,
                     cursor: e,
                 },
-            };
-            attach_element(
-                build,
-                6,
-                incoming,
-                table,
-                index,
-                target,
-                pair,
-                out,
                 place,
-                arena,
-            )
+            };
+            attach_element(build, 6, incoming, table, index, target, pair, out, arena)
         }
         ElementPart::Mismatch => Made::Refused(24),
     }

@@ -1,26 +1,25 @@
 -- What holds while a place is followed, and what is answered. Assumes nothing.
-use Prim.Native.Nat.{ℕ, _<_}
+use Prim.Native.Nat.{_<_}
 use mathlib.Core.Path.{_≡_, refl, sym, _∙_, subst}
 use mathlib.Core.Bool.{Bool, true, false}
 use mathlib.Core.List.{[]}
 use native.Mathlib.Omega.{arith}
 use Rattle.layout.specs.Bytes.{Bytes, AllBytes}
 use Rattle.layout.specs.Tree.{Fields, fieldsOf}
-use Rattle.layout.specs.Stands.{ColumnsAt}
-use Rattle.layout.specs.declared.edition.Edition.{Edition}
 use Rattle.plan.specs.Selector.{Selector}
 use Rattle.plan.specs.Formed.{Formed}
 use Rattle.plan.specs.Nullness.{Nullnesses, nullnessOf}
 use Rattle.plan.specs.Marks.{givens}
 use Rattle.plan.proofs.Typed.{check→typed}
-use Rattle.plan.proofs.ReadBack.{selector-back}
-use Rattle.walk.specs.Stands.{SelectorAt}
+use Rattle.nodes.specs.declared.places.ColumnRange.{ColumnRange}
 use Rattle.walk.specs.State.{State, state as stateOf}
 use Rattle.walk.specs.Moves.{Input as InputOf}
 use Rattle.walk.specs.Standing.{WalkAt, rank, Located, StepsTo}
 use Rattle.walk.specs.declared.walk.Walk.{Walk}
 use Rattle.walk.proofs.Standing.{walk-starts}
+use Rattle.overflow.specs.Ranges.{ColumnsIn}
 use Rattle.overflow.proofs.Scoped.{in-record}
+use Rattle.overflow.proofs.Seeking.{formed-at}
 use Rattle.nullness.specs.Places.{fillsAt}
 use Rattle.nullness.specs.Stops.{scopeOf, fillsHere, stopOf, Follows}
 use Rattle.nullness.specs.declared.stop.Stop.{Stop}
@@ -73,17 +72,14 @@ module _ {plan : Bytes} {Γ : Fields} {N : Nullnesses} {b : Bool} {w : Walk} (F 
         (record { state = _; standing = S .standing; traced = I .traced; is = sym (I .same) ∙ following-located .is }, omega (arith, S .falls, L .falls))
 
 -- of all that stand there
-abbrev pub Followings : Edition → Bytes → ℕ → Bytes → Walk → Walk → Type 0
-Followings v incoming n plan w₀ w =
-    (P : ColumnsAt v 16 incoming n 7) (F : Follows plan w₀ (fieldsOf (P .columns)))
+abbrev pub Followings : Bytes → ColumnRange → Bytes → Walk → Walk → Type 0
+Followings incoming columns plan w₀ w =
+    (P : ColumnsIn incoming columns) (F : Follows plan w₀ (fieldsOf (P .columns)))
     → Following plan (fieldsOf (P .columns)) (givens (P .columns)) (fillsAt (nullnessOf (givens (P .columns)) (F .selector)) (F .path)) w
 
-formed-at : {plan : Bytes} {at : ℕ} → AllBytes plan → (P : SelectorAt plan at) → Formed (P .tree)
-formed-at {plan} {at} o P = selector-back plan o 64 at (P .tree) (P .end) (P .reads) .formed
-
-pub following-start : (v : Edition) (incoming : Bytes) (n : ℕ) (plan : Bytes) (w : Walk) → AllBytes plan → Followings v incoming n plan w w
+pub following-start : (incoming : Bytes) (columns : ColumnRange) (plan : Bytes) (w : Walk) → AllBytes plan → Followings incoming columns plan w w
 unfolding fillsHere scopeOf
-following-start v incoming n plan w o P F = record {
+following-start incoming columns plan w o P F = record {
   state = stateOf (F .selector) [] (F .path);
   standing = F .standing;
   traced = record {

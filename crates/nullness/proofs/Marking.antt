@@ -242,7 +242,7 @@ module _ {v : Edition} {s : Bytes} {n : Nullness} {path : List ℕ} {len at : �
 pub stride-as : {v : Edition} {s : Bytes} {n at a b : ℕ} {index : List ℕ} → a ≡ b → Indexed v s n at a index → Indexed v s n at b index
 stride-as {v} {s} {n} {at} {index = index} e = subst (λ (k : ℕ). Indexed v s n at k index) e
 
-module _ {v : Edition} {s : Bytes} {n : ℕ} (P : ColumnsAt v 16 s n 7) (k : Position) {r : Found} (g : Finds v 16 s (columnAt k (P .columns)) r) where
+module _ {v : Edition} {s : Bytes} {n at : ℕ} (P : ColumnsAt v 16 s n at) (k : Position) {r : Found} (g : Finds v 16 s (columnAt k (P .columns)) r) where
   pub column-mark : {o : Position} {l : LabelSpan} {b : Cursor} → r ≡ Found.At o l b → MarkedAt v s (b .at) (l .required) (nullnessAt (givens (P .columns)) (k .0))
   column-mark q = found-mark v 16 s (omega arith) (columnAt k (P .columns)) (looked (P .columns) 0 (k .0) (k .0) (omega arith)) g q
 

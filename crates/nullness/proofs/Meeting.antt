@@ -5,7 +5,7 @@ use mathlib.Core.Bool.{Bool, true, false, _&&_}
 use mathlib.Core.List.{List, [], _∷_, _++_}
 use native.Mathlib.Omega.{arith}
 use native.Mathlib.Numerals.{add-one}
-use lib.ListN.{length, set, length-set}
+use lib.ListN.{length}
 use lib.Seq.{slice, take-suc-set}
 use Rattle.layout.specs.Bytes.{Bytes, AllBytes}
 use Rattle.layout.specs.Tree.{Label, ColumnType, cleaf, cstruct, clist, carray, cnil, ccons, DataType, struct, list, array, Fields, fnil, fcons, Columns, dtypeOf, fieldsOf}
@@ -30,7 +30,10 @@ use Rattle.walk.specs.Stands.{SelectorAt}
 use Rattle.walk.specs.State.{state}
 use Rattle.walk.specs.Standing.{WalkAt}
 use Rattle.walk.specs.declared.walk.Walk.{Walk}
-use Rattle.overflow.specs.Overflows.{TopAt, PlanAt, started}
+use Rattle.nodes.specs.declared.places.ColumnRange.{ColumnRange}
+use Rattle.nodes.specs.declared.places.TopPath.{TopPath}
+use Rattle.overflow.specs.Ranges.{ColumnsIn}
+use Rattle.overflow.specs.Overflows.{TopAt, PlanAt, partPath, started}
 use Rattle.overflow.proofs.Paths.{standing}
 use Rattle.overflow.proofs.Columns.{Pairing, no-pair, Next, next, column-top, pair-more, pair-start}
 use Rattle.nullness.specs.Places.{Leads, l-here, l-field, l-list, l-array, nullnessIn, fillsAt, dropPlaces}
@@ -64,29 +67,37 @@ module _ {plan : Bytes} {top : ℕ} {Γ : Fields} (path : List ℕ) (len : ℕ) 
 
 -- ---- a step more of a path
 
-module _ (path : List ℕ) (len k : ℕ) {below : List ℕ} (room : length path ≡ 64) (e : below ≡ set path len k) where
-  pub longer : len < 64 → slice 0 (len + 1) below ≡ slice 0 len path ++ (k ∷ [])
-  longer h = ap (λ (q : List ℕ). slice 0 (len + 1) q) e ∙ rw add-one (take-suc-set path len k (omega arith))
+module _ (path : TopPath) (k : ℕ) {below : TopPath} (room : length (path .steps) ≡ 64) (e : below ≡ partPath path k) where
+  pub longer : path .len < 64 → slice 0 (below .len) (below .steps) ≡ slice 0 (path .len) (path .steps) ++ (k ∷ [])
+  longer h = ap (λ (z : TopPath). slice 0 (z .len) (z .steps)) e ∙ rw add-one (take-suc-set (path .steps) (path .len) k (omega arith))
 
-  pub step-room : length below ≡ 64
-  step-room = ap length e ∙ length-set path len k ∙ room
+  same-top : below .top ≡ path .top
+  same-top = ap (λ (z : TopPath). z .top) e
 
-  unfoldable pub step-place : {plan : Bytes} {top : ℕ} {Γ : Fields} {u : DataType} → len < 64 → (T : TopAt plan top Γ) → Leads (T .column .type) (slice 0 len path ++ (k ∷ [])) u
-      → PlaceAt plan top Γ (slice 0 (len + 1) below) u
-  step-place {u = u} h T L = record { top = T; leads = subst (λ (p : List ℕ). Leads (T .column .type) p u) (sym (longer h)) L }
+  unfoldable further : {plan : Bytes} {Γ : Fields} {u : DataType} → path .len < 64 → (T : TopAt plan (path .top) Γ)
+      → Leads (T .column .type) (slice 0 (path .len) (path .steps) ++ (k ∷ [])) u → PlaceAt plan (path .top) Γ (slice 0 (below .len) (below .steps)) u
+  further {u = u} h T L = record { top = T; leads = subst (λ (p : List ℕ). Leads (T .column .type) p u) (sym (longer h)) L }
 
-  pub step-meets : (n : Nullness) (r : Bool) (t : ColumnType) {b : Bool} → len < 64 → b ≡ meets (nullnessIn n (slice 0 (len + 1) below)) r t
-      → b ≡ meets (nullnessAt (insideOf (nullnessIn n (slice 0 len path))) k) r t
+  pub step-place : {plan : Bytes} {Γ : Fields} {u : DataType} → path .len < 64 → (T : TopAt plan (path .top) Γ)
+      → Leads (T .column .type) (slice 0 (path .len) (path .steps) ++ (k ∷ [])) u → PlaceAt plan (below .top) Γ (slice 0 (below .len) (below .steps)) u
+  step-place {plan} {Γ} {u} h T L = subst (λ (n : ℕ). PlaceAt plan n Γ (slice 0 (below .len) (below .steps)) u) (sym same-top) (further h T L)
+
+  step-meets : (n : Nullness) (r : Bool) (t : ColumnType) {b : Bool} → path .len < 64 → b ≡ meets (nullnessIn n (slice 0 (below .len) (below .steps))) r t
+      → b ≡ meets (nullnessAt (insideOf (nullnessIn n (slice 0 (path .len) (path .steps)))) k) r t
   step-meets n r t h g =
-      g ∙ ap (λ (p : List ℕ). meets (nullnessIn n p) r t) (longer h) ∙ ap (λ (m : Nullness). meets m r t) (in-further (slice 0 len path) k n)
+      g ∙ ap (λ (p : List ℕ). meets (nullnessIn n p) r t) (longer h) ∙ ap (λ (m : Nullness). meets m r t) (in-further (slice 0 (path .len) (path .steps)) k n)
 
   -- the same, by the place one step further
-  pub step-met : {plan : Bytes} {top : ℕ} {Γ : Fields} {u : DataType} → len < 64 → (T : TopAt plan top Γ) → Leads (T .column .type) (slice 0 len path ++ (k ∷ [])) u
-      → (N : Nullnesses) (r : Bool) (t : ColumnType) {b : Bool}
-      → ((S : PlaceAt plan top Γ (slice 0 (len + 1) below) u) → b ≡ meets (nullnessIn (nullnessOf N (S .top .here .tree)) (slice 0 (len + 1) below)) r t)
-      → b ≡ meets (nullnessAt (insideOf (nullnessIn (nullnessOf N (T .here .tree)) (slice 0 len path))) k) r t
-  unfolding step-place
-  step-met h T L N r t g = step-meets (nullnessOf N (T .here .tree)) r t h (g (step-place h T L))
+  pub step-met : {plan : Bytes} {Γ : Fields} {u : DataType} → path .len < 64 → (T : TopAt plan (path .top) Γ)
+      → Leads (T .column .type) (slice 0 (path .len) (path .steps) ++ (k ∷ [])) u → (N : Nullnesses) (r : Bool) (t : ColumnType) {b : Bool}
+      → ((S : PlaceAt plan (below .top) Γ (slice 0 (below .len) (below .steps)) u) → b ≡ meets (nullnessIn (nullnessOf N (S .top .here .tree)) (slice 0 (below .len) (below .steps))) r t)
+      → b ≡ meets (nullnessAt (insideOf (nullnessIn (nullnessOf N (T .here .tree)) (slice 0 (path .len) (path .steps)))) k) r t
+  unfolding further
+  step-met {plan} {Γ} {u} h T L N r t {b} g =
+      let f : (S : PlaceAt plan (path .top) Γ (slice 0 (below .len) (below .steps)) u) → b ≡ meets (nullnessIn (nullnessOf N (S .top .here .tree)) (slice 0 (below .len) (below .steps))) r t =
+      subst (λ (n : ℕ). (S : PlaceAt plan n Γ (slice 0 (below .len) (below .steps)) u)
+      → b ≡ meets (nullnessIn (nullnessOf N (S .top .here .tree)) (slice 0 (below .len) (below .steps))) r t) same-top g in
+      step-meets (nullnessOf N (T .here .tree)) r t h (f (further h T L))
 
 -- ---- by what a type begins with
 
@@ -183,18 +194,17 @@ module _ {y : Edition} {d : ℕ} {s : Bytes} {m : ℕ} {ns : Nullnesses} {cs : C
           ap (columnAt (fieldsOf cs)) (let z : i ≡ i + 0 = omega arith in z)
           ∙ F .fields 0 _ (ap (λ (ds : Columns). columnAt (fieldsOf ds) 0) (first-at (F .left) (λ z. absurd (omega arith)) g h .is))
 
-      module _ {plan : Bytes} {top : ℕ} {Γ : Fields} (path : List ℕ) (len : ℕ) (S : PlaceAt plan top Γ (slice 0 len path) (struct (fieldsOf cs))) {below : List ℕ} (room : length path ≡ 64)
-          (o : below ≡ set path len i) (short : len < 64) where
-        unfoldable pub field-place : PlaceAt plan top Γ (slice 0 (len + 1) below) (dtypeOf (field .head .tree))
-        unfolding step-place
-        field-place = step-place path len i room o short (S .top) (leads-more (S .leads) (l-field field-found l-here))
+      module _ {plan : Bytes} {Γ : Fields} (path : TopPath) (S : PlaceAt plan (path .top) Γ (slice 0 (path .len) (path .steps)) (struct (fieldsOf cs))) {below : TopPath}
+          (room : length (path .steps) ≡ 64) (o : below ≡ partPath path i) (short : path .len < 64) where
+        pub field-place : PlaceAt plan (below .top) Γ (slice 0 (below .len) (below .steps)) (dtypeOf (field .head .tree))
+        field-place = step-place path i room o short (S .top) (leads-more (S .leads) (l-field field-found l-here))
 
-        module _ (N : Nullnesses) (w : ns ≡ insideOf (nullnessIn (nullnessOf N (S .top .here .tree)) (slice 0 len path))) {b : Bool}
-            (x : (T : TypeAt y d s (e .at)) (E : PlaceAt plan top Γ (slice 0 (len + 1) below) (dtypeOf (T .tree)))
-            → b ≡ meets (nullnessIn (nullnessOf N (E .top .here .tree)) (slice 0 (len + 1) below)) (l .required) (T .tree)) where
+        module _ (N : Nullnesses) (w : ns ≡ insideOf (nullnessIn (nullnessOf N (S .top .here .tree)) (slice 0 (path .len) (path .steps)))) {b : Bool}
+            (x : (T : TypeAt y d s (e .at)) (E : PlaceAt plan (below .top) Γ (slice 0 (below .len) (below .steps)) (dtypeOf (T .tree)))
+            → b ≡ meets (nullnessIn (nullnessOf N (E .top .here .tree)) (slice 0 (below .len) (below .steps))) (l .required) (T .tree)) where
           met : b ≡ meets (nullnessAt ns i) (l .required) (field .head .tree)
           met =
-              step-met path len i room o short (S .top) (leads-more (S .leads) (l-field field-found l-here)) N (l .required) (field .head .tree) (λ E. x (field .head) E)
+              step-met path i room o short (S .top) (leads-more (S .leads) (l-field field-found l-here)) N (l .required) (field .head .tree) (λ E. x (field .head) E)
               ∙ ap (λ (z : Nullnesses). meets (nullnessAt z i) (l .required) (field .head .tree)) (sym w)
 
           whole : meetsAll ns cs ≡ (b && meetsAll (dropPlaces (i + 1) ns) (field .tail .columns))
@@ -221,10 +231,11 @@ module _ {y : Edition} {d : ℕ} {s : Bytes} {m : ℕ} {ns : Nullnesses} {cs : C
               }
 
 -- of all that stand there
-abbrev pub Fieldings : Edition → Bytes → ℕ → Bytes → ℕ → Edition → ℕ → Bytes → ℕ → ℕ → List ℕ → ℕ → ℕ → ℕ → Type 0
-Fieldings v incoming n plan top y d tgt m c path len i at =
-    (P : ColumnsAt v 16 incoming n 7) (D : ColumnsAt y d tgt m c) (S : PlaceAt plan top (fieldsOf (P .columns)) (slice 0 len path) (struct (fieldsOf (D .columns))))
-    → Fielding y d tgt m (insideOf (nullnessIn (nullnessOf (givens (P .columns)) (S .top .here .tree)) (slice 0 len path))) (D .columns) i at
+abbrev pub Fieldings : Bytes → ColumnRange → Bytes → TopPath → Edition → ℕ → Bytes → ℕ → ℕ → ℕ → ℕ → Type 0
+Fieldings incoming columns plan path y d tgt m c i at =
+    (P : ColumnsIn incoming columns) (D : ColumnsAt y d tgt m c)
+    (S : PlaceAt plan (path .top) (fieldsOf (P .columns)) (slice 0 (path .len) (path .steps)) (struct (fieldsOf (D .columns))))
+    → Fielding y d tgt m (insideOf (nullnessIn (nullnessOf (givens (P .columns)) (S .top .here .tree)) (slice 0 (path .len) (path .steps)))) (D .columns) i at
 
 -- ---- the columns of a plan: b is whether what is left passes
 
@@ -273,11 +284,12 @@ module _ {plan : Bytes} {Γ : Fields} {N : Nullnesses} {y : Edition} {tgt : Byte
       }
 
 -- of all that stand there
-abbrev pub Columnings : Edition → Bytes → ℕ → Bytes → Edition → Bytes → ℕ → ℕ → ℕ → ℕ → Type 0
-Columnings v incoming n plan y tgt m at to i =
-    (P : ColumnsAt v 16 incoming n 7) (D : ColumnsAt y 16 tgt m 7) (S : PlanAt plan 7 (fieldsOf (P .columns)) (fieldsOf (D .columns)))
+abbrev pub Columnings : Bytes → ColumnRange → Bytes → ℕ → Bytes → Edition → ℕ → ℕ → ℕ → ℕ → ℕ → Type 0
+Columnings incoming columns plan first tgt y m target at to i =
+    (P : ColumnsIn incoming columns) (D : ColumnsAt y 16 tgt m target) (S : PlanAt plan first (fieldsOf (P .columns)) (fieldsOf (D .columns)))
     → Columning plan (fieldsOf (P .columns)) (givens (P .columns)) y tgt m (meetsAll (nullnessesOf (givens (P .columns)) (S .selectors .trees)) (D .columns)) at to i
 
-pub columning-start : (v : Edition) (incoming : Bytes) (n : ℕ) (plan : Bytes) (y : Edition) (tgt : Bytes) (m : ℕ) → AllBytes plan → Columnings v incoming n plan y tgt m 7 7 0
+pub columning-start : (incoming : Bytes) (columns : ColumnRange) (plan : Bytes) (first : ℕ) (tgt : Bytes) (y : Edition) (m target : ℕ) → AllBytes plan
+    → Columnings incoming columns plan first tgt y m target first target 0
 unfolding pair-start
-columning-start v incoming n plan y tgt m o P D S = record { pairing = pair-start o D S; is = refl }
+columning-start incoming columns plan first tgt y m target o P D S = record { pairing = pair-start o D S; is = refl }

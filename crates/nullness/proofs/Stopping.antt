@@ -54,7 +54,7 @@ module _ {plan : Bytes} {w : Walk} {x : State} (M : WalkAt plan w x) where
     selected e h = h ∙ sym (ap (λ (s : Selector). stopAt N s (x .frames) (x .path)) e)
 
     module _ {k : Position} (e : x .selector ≡ position k) where
-      pub position-in : 0 < w .deep → Passes ≡ stopOf N x
+      pub position-in : 0 < w .deep → Fails ≡ stopOf N x
       unfolding stopAt columnStop
       position-in h =
           let (f, F, g) = some-inner (λ z. omega arith) (M .entries) in

@@ -1,3 +1,4 @@
+pub mod Incoming
 pub mod Places
 pub mod Stops
 pub mod Marked

@@ -37,7 +37,7 @@ answered false = Fails
 -- a column; inside a mapping a walk that passed the check stops at no position
 unfoldable pub columnStop : Bool → List Frame → Stop
 columnStop b [] = answered b
-columnStop b (f ∷ E) = Passes
+columnStop b (f ∷ E) = Fails
 
 -- a cast, a rename or a mapping keeps its input's; below a cast there is no value
 unfoldable pub inputStop : List ℕ → Stop

@@ -4,10 +4,11 @@ ghost use mathlib.Core.Path.{_≡_};
 ghost use Prim.Native.Nat.{_≤_};
 ghost use lib.ListN.{length};
 ghost use lib.Seq.{slice};
-ghost use Rattle.layout.specs.Stands.{TypeAt, ColumnsAt};
+ghost use Rattle.layout.specs.Stands.{TypeAt};
 ghost use Rattle.plan.specs.Nullness.{topOf, nullnessAt};
 ghost use Rattle.plan.specs.Marks.{allowed, given, givens};
-ghost use Rattle.index.specs.Indexed.{strideOf, Indexed};
+ghost use Rattle.overflow.specs.Ranges.{ColumnsIn};
+ghost use Rattle.nullness.specs.Incoming.{IndexAt};
 ghost use Rattle.nullness.specs.Places.{fillsAt};
 ghost use Rattle.nullness.specs.Marked.{partsOf, elementMark, PartIs};
 use index::columns::indexed_column;
@@ -19,6 +20,7 @@ use layout::edition::Edition;
 use layout::find::Found;
 use layout::find::column_at;
 use layout::types::Head;
+use nodes::places::ColumnRange;
 use rules::kinds::kind;
 
 // Where the type of a place stands, and whether the place is marked required.
@@ -77,7 +79,7 @@ fn column_filled(s: &[u8], v: Edition, c: Cursor, required: bool) -> bool
         Head::Struct(_, _) => true,
         Head::List(_) => true,
         Head::Array(_, _) => true,
-        Head::Refused(_) => true,
+        Head::Refused(_) => false,
     }
 }
 
@@ -94,40 +96,39 @@ fn place_filled(
     requires { ⌜ len ≤ length path ⌝ }
     ensures { λ r. ⌜ ((P : TypeAt v 16 (now (s .entry)) (c .at)) → r ≡ fillsAt (given required (P .tree)) (slice 0 len path)) ⌝ }
 {
-    let mut at = c.at;
+    let mut d = c;
     let mut marked = required;
     let mut i = 0;
     while i < len {
-        let d = Cursor { at };
         match part_mark(s, v, d, path[i]) {
             PartMark::At(e, m) => {
-                at = e.at;
+                d = e;
                 marked = m;
             }
             PartMark::None => return true,
         }
         i += 1;
     }
-    column_filled(s, v, Cursor { at }, marked)
+    column_filled(s, v, d, marked)
 }
 
-// At a path into column `k` of the `n` of an incoming layout, with a table of where they stand.
+// At a path into column `k` of an incoming layout, with a table of where its columns stand.
 pub fn incoming_filled(
     incoming: &[u8],
-    v: Edition,
-    n: u16,
+    columns: ColumnRange,
     index: &[u16],
     k: Position,
     path: [u16; 64],
     len: usize,
 ) -> bool
-    requires { ⌜ ColumnsAt v 16 (now incoming) n 7 ⌝ }
-    requires { ⌜ Indexed v (now incoming) n 7 (strideOf n) (now index) ⌝ }
+    requires { ⌜ ColumnsIn (now incoming) columns ⌝ }
+    requires { ⌜ IndexAt (now incoming) columns (now index) ⌝ }
     requires { ⌜ len ≤ length path ⌝ }
-    ensures { λ r. ⌜ ((P : ColumnsAt v 16 (now (incoming .entry)) n 7) → r ≡ fillsAt (nullnessAt (givens (P .columns)) (k .0)) (slice 0 len path)) ⌝ }
+    ensures { λ r. ⌜ ((P : ColumnsIn (now (incoming .entry)) columns) → r ≡ fillsAt (nullnessAt (givens (P .columns)) (k .0)) (slice 0 len path)) ⌝ }
 {
-    let first = Cursor { at: 7 };
-    match indexed_column(incoming, v, n, first, index, stride_of(n), k) {
+    let v = columns.edition;
+    let n = columns.count;
+    match indexed_column(incoming, v, n, columns.first, index, stride_of(n), k) {
         Found::At(_, l, e) => place_filled(incoming, v, e, l.required, path, len),
         Found::Absent => true,
     }

@@ -88,12 +88,10 @@ fn fill_fields(
     ensures { λ _. ⌜ Grown (now (nulls .entry)) (now (nulls .exit)) ⌝ }
     ensures { λ r. ⌜ (r ≡ true → (X : RowAt EditionOf.One (now (plan .entry)) n (t .at) (now (plan .entry)) (c .at)) → RowOf (now (plan .entry)) (now (nulls .exit)) n (t .at) (X .values .values)) ⌝ }
 {
-    let mut at = t.at;
-    let mut to = c.at;
+    let mut d = t;
+    let mut b = c;
     let mut i: u16 = 0;
     while i < n {
-        let d = Cursor { at };
-        let b = Cursor { at: to };
         match d.label(plan, Edition::One) {
             Labelled::Is(_, e) => {
                 if !fill_value(plan, depth, e, b, ends, nulls) {
@@ -101,8 +99,8 @@ fn fill_fields(
                 }
                 match read_value(plan, Edition::One, 16, e, plan, b, ends) {
                     ValueRead::To(f, g) => {
-                        at = f.at;
-                        to = g.at;
+                        d = f;
+                        b = g;
                     }
                     ValueRead::Refused(_) => return false,
                 }
@@ -142,16 +140,15 @@ fn fill_elements(
     ensures { λ _. ⌜ Grown (now (nulls .entry)) (now (nulls .exit)) ⌝ }
     ensures { λ r. ⌜ (r ≡ true → (X : ElementsAt EditionOf.One (now (plan .entry)) n (t .at) (now (plan .entry)) (c .at)) → EachOf (now (plan .entry)) (now (nulls .exit)) (t .at) (X .values .values)) ⌝ }
 {
-    let mut at = c.at;
+    let mut d = c;
     let mut i: u32 = 0;
     while i < n {
-        let d = Cursor { at };
         if !fill_value(plan, depth, t, d, ends, nulls) {
             return false;
         }
         match read_element(plan, Edition::One, 16, t, plan, d, ends) {
             Moved::To(e) => {
-                at = e.at;
+                d = e;
             }
             Moved::Refused(_) => return false,
         }
@@ -276,16 +273,16 @@ pub fn fill_selectors(plan: &[u8], depth: u8, n: u16, c: Cursor, nulls: &mut [u6
     requires { ⌜ Nulls (now plan) (now nulls) ⌝ }
     ensures { λ _. ⌜ Nulls (now (plan .entry)) (now (nulls .exit)) ⌝ }
 {
-    let mut at = c.at;
+    let mut d = c;
     let mut i: u16 = 0;
     while i < n {
-        match fill_selector(plan, depth, Cursor { at }, nulls) {
-            Moved::To(d) => {
-                at = d.at;
+        match fill_selector(plan, depth, d, nulls) {
+            Moved::To(e) => {
+                d = e;
             }
             Moved::Refused(k) => return Moved::Refused(k),
         }
         i += 1;
     }
-    Moved::To(Cursor { at })
+    Moved::To(d)
 }

@@ -7,8 +7,9 @@ ghost use Rattle.layout.specs.Tree.{DataType, struct, dtypeOf, fieldsOf};
 ghost use Rattle.layout.specs.Stands.{TypeAt, ColumnsAt};
 ghost use Rattle.plan.specs.Nullness.{topOf, insideOf, nullnessAt, nullnessOf, nullnessesOf};
 ghost use Rattle.plan.specs.Marks.{allowed, givens, meets, meetsAll};
-ghost use Rattle.index.specs.Indexed.{strideOf, Indexed};
 ghost use Rattle.overflow.specs.Overflows.{PlanAt};
+ghost use Rattle.overflow.specs.Ranges.{ColumnsIn};
+ghost use Rattle.nullness.specs.Incoming.{IndexAt};
 ghost use Rattle.nullness.specs.Nulls.{Nulls};
 ghost use Rattle.nullness.specs.Places.{nullnessIn};
 ghost use Rattle.nullness.specs.Stops.{PlaceAt, ElementAt};
@@ -21,218 +22,173 @@ use layout::cursor::Cursor;
 use layout::edition::Edition;
 use layout::types::Head;
 use layout::walk::skip_type;
+use nodes::places::ColumnRange;
+use nodes::places::TopPath;
+use nodes::places::TypePlace;
+use overflow::overflows::FieldsPlace;
+use overflow::overflows::part_path;
 use overflow::overflows::start;
-use overflow::overflows::stepped;
 use walk::head::skip_selector;
 
-// At a path into what the selector at `top` gives.
+// A type of the target, and whether what is of it is required.
+pub struct MarkedType {
+    pub place: TypePlace,
+    pub required: bool,
+}
+
+// At a path into what a selector gives.
 fn meets_place(
     incoming: &[u8],
-    v: Edition,
-    n: u16,
+    columns: ColumnRange,
     index: &[u16],
     plan: &[u8],
     nulls: &[u64],
-    top: usize,
+    path: TopPath,
     required: bool,
-    path: [u16; 64],
-    len: usize,
 ) -> bool
-    requires { ⌜ Indexed v (now incoming) n 7 (strideOf n) (now index) × Nulls (now plan) (now nulls) ⌝ }
-    requires { ⌜ ((P : ColumnsAt v 16 (now incoming) n 7) × (u : DataType) × PlaceAt (now plan) top (fieldsOf (P .columns)) (slice 0 len path) u) ⌝ }
-    requires { ⌜ (len ≤ 64) × (length path ≡ 64) ⌝ }
-    ensures { λ r. ⌜ ((P : ColumnsAt v 16 (now (incoming .entry)) n 7) (u : DataType) (S : PlaceAt (now (plan .entry)) top (fieldsOf (P .columns)) (slice 0 len path) u) → r ≡ allowed (topOf (nullnessIn (nullnessOf (givens (P .columns)) (S .top .here .tree)) (slice 0 len path))) required) ⌝ }
+    requires { ⌜ IndexAt (now incoming) columns (now index) × Nulls (now plan) (now nulls) ⌝ }
+    requires { ⌜ ((P : ColumnsIn (now incoming) columns) × (u : DataType) × PlaceAt (now plan) (path .top) (fieldsOf (P .columns)) (slice 0 (path .len) (path .steps)) u) ⌝ }
+    requires { ⌜ (path .len ≤ 64) × (length (path .steps) ≡ 64) ⌝ }
+    ensures { λ r. ⌜ ((P : ColumnsIn (now (incoming .entry)) columns) (u : DataType) (S : PlaceAt (now (plan .entry)) (path .top) (fieldsOf (P .columns)) (slice 0 (path .len) (path .steps)) u) → r ≡ allowed (topOf (nullnessIn (nullnessOf (givens (P .columns)) (S .top .here .tree)) (slice 0 (path .len) (path .steps)))) required) ⌝ }
 {
     if !required {
         return true;
     }
     follow(
         incoming,
-        v,
-        n,
+        columns,
         index,
         plan,
         nulls,
-        start(top, plan.len(), path, len),
+        start(path, plan.len()),
     )
 }
 
-// At the places of the type at `t`, in a column that is required or not.
+// At the places of a type of the target, in a column that is required or not.
 fn meets_type(
     incoming: &[u8],
-    v: Edition,
-    n: u16,
+    columns: ColumnRange,
     index: &[u16],
     plan: &[u8],
     nulls: &[u64],
-    top: usize,
+    path: TopPath,
     tgt: &[u8],
-    y: Edition,
-    depth: u8,
-    t: Cursor,
-    required: bool,
-    path: [u16; 64],
-    len: usize,
+    t: MarkedType,
 ) -> bool
-    requires { ⌜ Indexed v (now incoming) n 7 (strideOf n) (now index) × Nulls (now plan) (now nulls) ⌝ }
-    requires { ⌜ ((P : ColumnsAt v 16 (now incoming) n 7) × (Q : TypeAt y depth (now tgt) (t .at)) × PlaceAt (now plan) top (fieldsOf (P .columns)) (slice 0 len path) (dtypeOf (Q .tree))) ⌝ }
-    requires { ⌜ (len + depth ≤ 16) × (length path ≡ 64) ⌝ }
-    ensures { λ r. ⌜ ((P : ColumnsAt v 16 (now (incoming .entry)) n 7) (Q : TypeAt y depth (now (tgt .entry)) (t .at)) (S : PlaceAt (now (plan .entry)) top (fieldsOf (P .columns)) (slice 0 len path) (dtypeOf (Q .tree))) → r ≡ meets (nullnessIn (nullnessOf (givens (P .columns)) (S .top .here .tree)) (slice 0 len path)) required (Q .tree)) ⌝ }
+    requires { ⌜ IndexAt (now incoming) columns (now index) × Nulls (now plan) (now nulls) ⌝ }
+    requires { ⌜ ((P : ColumnsIn (now incoming) columns) × (Q : TypeAt (t .place .edition) (t .place .depth) (now tgt) (t .place .at .at)) × PlaceAt (now plan) (path .top) (fieldsOf (P .columns)) (slice 0 (path .len) (path .steps)) (dtypeOf (Q .tree))) ⌝ }
+    requires { ⌜ (path .len + t .place .depth ≤ 16) × (length (path .steps) ≡ 64) ⌝ }
+    ensures { λ r. ⌜ ((P : ColumnsIn (now (incoming .entry)) columns) (Q : TypeAt (t .place .edition) (t .place .depth) (now (tgt .entry)) (t .place .at .at)) (S : PlaceAt (now (plan .entry)) (path .top) (fieldsOf (P .columns)) (slice 0 (path .len) (path .steps)) (dtypeOf (Q .tree))) → r ≡ meets (nullnessIn (nullnessOf (givens (P .columns)) (S .top .here .tree)) (slice 0 (path .len) (path .steps))) (t .required) (Q .tree)) ⌝ }
 {
-    if !meets_place(incoming, v, n, index, plan, nulls, top, required, path, len) {
+    let place = t.place;
+    let y = place.edition;
+    let c = place.at;
+    if !meets_place(incoming, columns, index, plan, nulls, path, t.required) {
         return false;
     }
-    match t.head(tgt) {
+    match c.head(tgt) {
         Head::Leaf(_, _) => true,
-        Head::Struct(m, e) => meets_fields(
-            incoming,
-            v,
-            n,
-            index,
-            plan,
-            nulls,
-            top,
-            tgt,
-            y,
-            depth - 1,
-            m,
-            e,
-            path,
-            len,
-        ),
+        Head::Struct(m, e) => {
+            let fields = FieldsPlace {
+                edition: y,
+                depth: place.depth - 1,
+                count: m,
+                first: e,
+            };
+            meets_fields(incoming, columns, index, plan, nulls, path, tgt, fields)
+        }
         Head::List(e) => match e.element_label(tgt, y) {
-            Labelled::Is(l, f) => meets_element(
-                incoming,
-                v,
-                n,
-                index,
-                plan,
-                nulls,
-                top,
-                tgt,
-                y,
-                depth - 1,
-                f,
-                l.required,
-                path,
-                len,
-            ),
+            Labelled::Is(l, f) => {
+                let at = TypePlace {
+                    edition: y,
+                    depth: place.depth - 1,
+                    at: f,
+                };
+                let element = MarkedType {
+                    place: at,
+                    required: l.required,
+                };
+                meets_element(incoming, columns, index, plan, nulls, path, tgt, element)
+            }
             Labelled::Refused(_) => false,
         },
         Head::Array(_, e) => match e.element_label(tgt, y) {
-            Labelled::Is(l, f) => meets_element(
-                incoming,
-                v,
-                n,
-                index,
-                plan,
-                nulls,
-                top,
-                tgt,
-                y,
-                depth - 1,
-                f,
-                l.required,
-                path,
-                len,
-            ),
+            Labelled::Is(l, f) => {
+                let at = TypePlace {
+                    edition: y,
+                    depth: place.depth - 1,
+                    at: f,
+                };
+                let element = MarkedType {
+                    place: at,
+                    required: l.required,
+                };
+                meets_element(incoming, columns, index, plan, nulls, path, tgt, element)
+            }
             Labelled::Refused(_) => false,
         },
         Head::Refused(_) => false,
     }
 }
 
-// At the places of an element, whose type stands at `t`.
+// At the places of an element.
 fn meets_element(
     incoming: &[u8],
-    v: Edition,
-    n: u16,
+    columns: ColumnRange,
     index: &[u16],
     plan: &[u8],
     nulls: &[u64],
-    top: usize,
+    path: TopPath,
     tgt: &[u8],
-    y: Edition,
-    depth: u8,
-    t: Cursor,
-    required: bool,
-    path: [u16; 64],
-    len: usize,
+    t: MarkedType,
 ) -> bool
-    requires { ⌜ Indexed v (now incoming) n 7 (strideOf n) (now index) × Nulls (now plan) (now nulls) ⌝ }
-    requires { ⌜ ((P : ColumnsAt v 16 (now incoming) n 7) × (Q : TypeAt y depth (now tgt) (t .at)) × ElementAt (now plan) top (fieldsOf (P .columns)) (slice 0 len path) (dtypeOf (Q .tree))) ⌝ }
-    requires { ⌜ (len + 1 + depth ≤ 16) × (length path ≡ 64) ⌝ }
-    ensures { λ r. ⌜ ((P : ColumnsAt v 16 (now (incoming .entry)) n 7) (Q : TypeAt y depth (now (tgt .entry)) (t .at)) (S : ElementAt (now (plan .entry)) top (fieldsOf (P .columns)) (slice 0 len path) (dtypeOf (Q .tree))) → r ≡ meets (nullnessAt (insideOf (nullnessIn (nullnessOf (givens (P .columns)) (S .top .here .tree)) (slice 0 len path))) 0) required (Q .tree)) ⌝ }
+    requires { ⌜ IndexAt (now incoming) columns (now index) × Nulls (now plan) (now nulls) ⌝ }
+    requires { ⌜ ((P : ColumnsIn (now incoming) columns) × (Q : TypeAt (t .place .edition) (t .place .depth) (now tgt) (t .place .at .at)) × ElementAt (now plan) (path .top) (fieldsOf (P .columns)) (slice 0 (path .len) (path .steps)) (dtypeOf (Q .tree))) ⌝ }
+    requires { ⌜ (path .len + 1 + t .place .depth ≤ 16) × (length (path .steps) ≡ 64) ⌝ }
+    ensures { λ r. ⌜ ((P : ColumnsIn (now (incoming .entry)) columns) (Q : TypeAt (t .place .edition) (t .place .depth) (now (tgt .entry)) (t .place .at .at)) (S : ElementAt (now (plan .entry)) (path .top) (fieldsOf (P .columns)) (slice 0 (path .len) (path .steps)) (dtypeOf (Q .tree))) → r ≡ meets (nullnessAt (insideOf (nullnessIn (nullnessOf (givens (P .columns)) (S .top .here .tree)) (slice 0 (path .len) (path .steps)))) 0) (t .required) (Q .tree)) ⌝ }
 {
-    let below = stepped(path, len, 0);
-    meets_type(
-        incoming,
-        v,
-        n,
-        index,
-        plan,
-        nulls,
-        top,
-        tgt,
-        y,
-        depth,
-        t,
-        required,
-        below,
-        len + 1,
-    )
+    let below = part_path(path, 0);
+    meets_type(incoming, columns, index, plan, nulls, below, tgt, t)
 }
 
-// At the places of a struct's `m` columns from a cursor.
+// At the places of a struct's fields.
 fn meets_fields(
     incoming: &[u8],
-    v: Edition,
-    n: u16,
+    columns: ColumnRange,
     index: &[u16],
     plan: &[u8],
     nulls: &[u64],
-    top: usize,
+    path: TopPath,
     tgt: &[u8],
-    y: Edition,
-    depth: u8,
-    m: u16,
-    c: Cursor,
-    path: [u16; 64],
-    len: usize,
+    fields: FieldsPlace,
 ) -> bool
-    requires { ⌜ Indexed v (now incoming) n 7 (strideOf n) (now index) × Nulls (now plan) (now nulls) ⌝ }
-    requires { ⌜ ((P : ColumnsAt v 16 (now incoming) n 7) × (Q : ColumnsAt y depth (now tgt) m (c .at)) × PlaceAt (now plan) top (fieldsOf (P .columns)) (slice 0 len path) (struct (fieldsOf (Q .columns)))) ⌝ }
-    requires { ⌜ (len + 1 + depth ≤ 16) × (length path ≡ 64) ⌝ }
-    ensures { λ r. ⌜ ((P : ColumnsAt v 16 (now (incoming .entry)) n 7) (Q : ColumnsAt y depth (now (tgt .entry)) m (c .at)) (S : PlaceAt (now (plan .entry)) top (fieldsOf (P .columns)) (slice 0 len path) (struct (fieldsOf (Q .columns)))) → r ≡ meetsAll (insideOf (nullnessIn (nullnessOf (givens (P .columns)) (S .top .here .tree)) (slice 0 len path))) (Q .columns)) ⌝ }
+    requires { ⌜ IndexAt (now incoming) columns (now index) × Nulls (now plan) (now nulls) ⌝ }
+    requires { ⌜ ((P : ColumnsIn (now incoming) columns) × (Q : ColumnsAt (fields .edition) (fields .depth) (now tgt) (fields .count) (fields .first .at)) × PlaceAt (now plan) (path .top) (fieldsOf (P .columns)) (slice 0 (path .len) (path .steps)) (struct (fieldsOf (Q .columns)))) ⌝ }
+    requires { ⌜ (path .len + 1 + fields .depth ≤ 16) × (length (path .steps) ≡ 64) ⌝ }
+    ensures { λ r. ⌜ ((P : ColumnsIn (now (incoming .entry)) columns) (Q : ColumnsAt (fields .edition) (fields .depth) (now (tgt .entry)) (fields .count) (fields .first .at)) (S : PlaceAt (now (plan .entry)) (path .top) (fieldsOf (P .columns)) (slice 0 (path .len) (path .steps)) (struct (fieldsOf (Q .columns)))) → r ≡ meetsAll (insideOf (nullnessIn (nullnessOf (givens (P .columns)) (S .top .here .tree)) (slice 0 (path .len) (path .steps)))) (Q .columns)) ⌝ }
 {
-    let mut at = c.at;
+    let edition = fields.edition;
+    let depth = fields.depth;
+    let count = fields.count;
+    let mut d = fields.first;
     let mut i: u16 = 0;
-    while i < m {
-        let d = Cursor { at };
-        match d.label(tgt, y) {
+    while i < count {
+        match d.label(tgt, edition) {
             Labelled::Is(l, e) => {
-                let below = stepped(path, len, i);
-                let met = meets_type(
-                    incoming,
-                    v,
-                    n,
-                    index,
-                    plan,
-                    nulls,
-                    top,
-                    tgt,
-                    y,
+                let below = part_path(path, i);
+                let place = TypePlace {
+                    edition,
                     depth,
-                    e,
-                    l.required,
-                    below,
-                    len + 1,
-                );
-                if !met {
+                    at: e,
+                };
+                let t = MarkedType {
+                    place,
+                    required: l.required,
+                };
+                if !meets_type(incoming, columns, index, plan, nulls, below, tgt, t) {
                     return false;
                 }
-                let end = skip_type(tgt, y, depth, e);
-                at = end.at;
+                d = skip_type(tgt, edition, depth, e);
             }
             Labelled::Refused(_) => return false,
         }
@@ -241,52 +197,47 @@ fn meets_fields(
     true
 }
 
-// Of the plan's selectors and the target's `m` columns, with a table of where the incoming columns stand.
+// Of the plan's selectors and the target's columns, with a table of where the incoming columns stand.
 fn meets_columns(
     incoming: &[u8],
-    v: Edition,
-    n: u16,
+    columns: ColumnRange,
     index: &[u16],
     plan: &[u8],
     nulls: &[u64],
     tgt: &[u8],
-    y: Edition,
-    m: u16,
+    target: ColumnRange,
 ) -> bool
-    requires { ⌜ Indexed v (now incoming) n 7 (strideOf n) (now index) × Nulls (now plan) (now nulls) ⌝ }
-    requires { ⌜ ((P : ColumnsAt v 16 (now incoming) n 7) × (D : ColumnsAt y 16 (now tgt) m 7) × PlanAt (now plan) 7 (fieldsOf (P .columns)) (fieldsOf (D .columns))) ⌝ }
-    ensures { λ r. ⌜ ((P : ColumnsAt v 16 (now (incoming .entry)) n 7) (D : ColumnsAt y 16 (now (tgt .entry)) m 7) (S : PlanAt (now (plan .entry)) 7 (fieldsOf (P .columns)) (fieldsOf (D .columns))) → r ≡ meetsAll (nullnessesOf (givens (P .columns)) (S .selectors .trees)) (D .columns)) ⌝ }
+    requires { ⌜ IndexAt (now incoming) columns (now index) × Nulls (now plan) (now nulls) ⌝ }
+    requires { ⌜ ((P : ColumnsIn (now incoming) columns) × (D : ColumnsIn (now tgt) target) × PlanAt (now plan) 7 (fieldsOf (P .columns)) (fieldsOf (D .columns))) ⌝ }
+    ensures { λ r. ⌜ ((P : ColumnsIn (now (incoming .entry)) columns) (D : ColumnsIn (now (tgt .entry)) target) (S : PlanAt (now (plan .entry)) 7 (fieldsOf (P .columns)) (fieldsOf (D .columns))) → r ≡ meetsAll (nullnessesOf (givens (P .columns)) (S .selectors .trees)) (D .columns)) ⌝ }
 {
-    let mut at = 7;
-    let mut to = 7;
+    let edition = target.edition;
+    let count = target.count;
+    let mut s = Cursor { at: 7 };
+    let mut d = target.first;
     let mut i: u16 = 0;
-    while i < m {
-        let d = Cursor { at: to };
-        match d.label(tgt, y) {
+    while i < count {
+        match d.label(tgt, edition) {
             Labelled::Is(l, e) => {
-                let met = meets_type(
-                    incoming,
-                    v,
-                    n,
-                    index,
-                    plan,
-                    nulls,
-                    at,
-                    tgt,
-                    y,
-                    16,
-                    e,
-                    l.required,
-                    [0u16; 64],
-                    0,
-                );
-                if !met {
+                let path = TopPath {
+                    top: s.at,
+                    steps: [0u16; 64],
+                    len: 0,
+                };
+                let place = TypePlace {
+                    edition,
+                    depth: 16,
+                    at: e,
+                };
+                let t = MarkedType {
+                    place,
+                    required: l.required,
+                };
+                if !meets_type(incoming, columns, index, plan, nulls, path, tgt, t) {
                     return false;
                 }
-                let next = skip_selector(plan, Cursor { at });
-                let end = skip_type(tgt, y, 16, e);
-                at = next.at;
-                to = end.at;
+                s = skip_selector(plan, s);
+                d = skip_type(tgt, edition, 16, e);
             }
             Labelled::Refused(_) => return false,
         }
@@ -298,21 +249,19 @@ fn meets_columns(
 // The same of plans that are worth a table of the nulls in their constants.
 fn meets_by_table(
     incoming: &[u8],
-    v: Edition,
-    n: u16,
+    columns: ColumnRange,
     index: &[u16],
     plan: &[u8],
     tgt: &[u8],
-    y: Edition,
-    m: u16,
+    target: ColumnRange,
 ) -> bool
-    requires { ⌜ Indexed v (now incoming) n 7 (strideOf n) (now index) ⌝ }
-    requires { ⌜ ((P : ColumnsAt v 16 (now incoming) n 7) × (D : ColumnsAt y 16 (now tgt) m 7) × PlanAt (now plan) 7 (fieldsOf (P .columns)) (fieldsOf (D .columns))) ⌝ }
-    ensures { λ r. ⌜ ((P : ColumnsAt v 16 (now (incoming .entry)) n 7) (D : ColumnsAt y 16 (now (tgt .entry)) m 7) (S : PlanAt (now (plan .entry)) 7 (fieldsOf (P .columns)) (fieldsOf (D .columns))) → r ≡ meetsAll (nullnessesOf (givens (P .columns)) (S .selectors .trees)) (D .columns)) ⌝ }
+    requires { ⌜ IndexAt (now incoming) columns (now index) ⌝ }
+    requires { ⌜ ((P : ColumnsIn (now incoming) columns) × (D : ColumnsIn (now tgt) target) × PlanAt (now plan) 7 (fieldsOf (P .columns)) (fieldsOf (D .columns))) ⌝ }
+    ensures { λ r. ⌜ ((P : ColumnsIn (now (incoming .entry)) columns) (D : ColumnsIn (now (tgt .entry)) target) (S : PlanAt (now (plan .entry)) 7 (fieldsOf (P .columns)) (fieldsOf (D .columns))) → r ≡ meetsAll (nullnessesOf (givens (P .columns)) (S .selectors .trees)) (D .columns)) ⌝ }
 {
     let mut nulls = [0u64; 1088];
-    fill_selectors(plan, 64, m, Cursor { at: 7 }, &mut nulls);
-    meets_columns(incoming, v, n, index, plan, &nulls, tgt, y, m)
+    fill_selectors(plan, 64, target.count, Cursor { at: 7 }, &mut nulls);
+    meets_columns(incoming, columns, index, plan, &nulls, tgt, target)
 }
 
 // Of a plan that passed the check between the two layouts up to 33.
@@ -328,11 +277,30 @@ pub fn meets_marks(
     requires { ⌜ ((P : ColumnsAt v 16 (now incoming) n 7) × (D : ColumnsAt y 16 (now tgt) m 7) × PlanAt (now plan) 7 (fieldsOf (P .columns)) (fieldsOf (D .columns))) ⌝ }
     ensures { λ r. ⌜ ((P : ColumnsAt v 16 (now (incoming .entry)) n 7) (D : ColumnsAt y 16 (now (tgt .entry)) m 7) (S : PlanAt (now (plan .entry)) 7 (fieldsOf (P .columns)) (fieldsOf (D .columns))) → r ≡ meetsAll (nullnessesOf (givens (P .columns)) (S .selectors .trees)) (D .columns)) ⌝ }
 {
+    let first = Cursor { at: 7 };
+    let columns = ColumnRange {
+        edition: v,
+        count: n,
+        first,
+    };
+    let target = ColumnRange {
+        edition: y,
+        count: m,
+        first,
+    };
     let mut starts = [0u16; 256];
-    let j = index_columns(incoming, v, n, Cursor { at: 7 }, stride_of(n), &mut starts);
+    let j = index_columns(incoming, v, n, first, stride_of(n), &mut starts);
     if plan.len() < 1024 {
         let none = [0u64; 1];
-        return meets_columns(incoming, v, n, &starts[..j], plan, &none[..0], tgt, y, m);
+        return meets_columns(
+            incoming,
+            columns,
+            &starts[..j],
+            plan,
+            &none[..0],
+            tgt,
+            target,
+        );
     }
-    meets_by_table(incoming, v, n, &starts[..j], plan, tgt, y, m)
+    meets_by_table(incoming, columns, &starts[..j], plan, tgt, target)
 }

@@ -153,16 +153,16 @@ pub fn may_be_null(
     if !is_known(nulls, t.at) {
         return true;
     }
-    let mut at = t.at;
+    let mut c = t;
     let mut i = from;
     while i < len {
-        match part_start(plan, Cursor { at }, path[i]) {
+        match part_start(plan, c, path[i]) {
             TypePart::At(e) => {
-                at = e.at;
+                c = e;
             }
             TypePart::None => return true,
         }
         i += 1;
     }
-    is_null(nulls, at)
+    is_null(nulls, c.at)
 }

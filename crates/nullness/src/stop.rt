@@ -4,22 +4,23 @@ ghost use mathlib.Core.Path.{_≡_};
 ghost use Prim.Native.Nat.{_≤_};
 ghost use lib.ListN.{length};
 ghost use Rattle.layout.specs.Bytes.{Bytes};
-ghost use Rattle.layout.specs.Stands.{ColumnsAt};
 ghost use Rattle.plan.specs.Selector.{position};
 ghost use Rattle.plan.specs.Marks.{givens};
-ghost use Rattle.index.specs.Indexed.{strideOf, Indexed};
 ghost use Rattle.walk.specs.State.{State};
 ghost use Rattle.walk.specs.Standing.{WalkAt};
 ghost use Rattle.overflow.specs.Some.{someSought};
 ghost use Rattle.overflow.specs.Seek.{RawIn};
 ghost use Rattle.overflow.specs.declared.scan.Sought.{Sought as SoughtOf};
+ghost use Rattle.overflow.specs.Ranges.{ColumnsIn};
+ghost use Rattle.nullness.specs.Incoming.{IndexAt};
 ghost use Rattle.nullness.specs.Nulls.{Nulls};
 ghost use Rattle.nullness.specs.Stops.{answered, inputStop, stopOf};
 use crate::column::incoming_filled;
 use crate::nulls::may_be_null;
 use layout::columns::Position;
 use layout::cursor::Cursor;
-use layout::edition::Edition;
+use nodes::places::ColumnRange;
+use overflow::scan::Search;
 use overflow::scan::Sought;
 use overflow::stop::in_constant;
 use walk::head::SelectorHead;
@@ -38,18 +39,18 @@ fn answer(filled: bool) -> Stop
     if filled { Stop::Passes } else { Stop::Fails }
 }
 
-fn at_position(incoming: &[u8], v: Edition, n: u16, index: &[u16], k: Position, w: Walk) -> Stop
-    requires { ⌜ ColumnsAt v 16 (now incoming) n 7 ⌝ }
-    requires { ⌜ Indexed v (now incoming) n 7 (strideOf n) (now index) ⌝ }
+fn at_position(incoming: &[u8], columns: ColumnRange, index: &[u16], k: Position, w: Walk) -> Stop
+    requires { ⌜ ColumnsIn (now incoming) columns ⌝ }
+    requires { ⌜ IndexAt (now incoming) columns (now index) ⌝ }
     requires { ⌜ w .len ≤ length (w .path) ⌝ }
-    ensures { λ r. ⌜ ((P : ColumnsAt v 16 (now (incoming .entry)) n 7) (plan : Bytes) (x : State) → WalkAt plan w x → x .selector ≡ position k → r ≡ stopOf (givens (P .columns)) x) ⌝ }
+    ensures { λ r. ⌜ ((P : ColumnsIn (now (incoming .entry)) columns) (plan : Bytes) (x : State) → WalkAt plan w x → x .selector ≡ position k → r ≡ stopOf (givens (P .columns)) x) ⌝ }
 {
     if 0 < w.deep {
-        return Stop::Passes;
+        return Stop::Fails;
     }
     let path = w.path;
     let len = w.len;
-    answer(incoming_filled(incoming, v, n, index, k, path, len))
+    answer(incoming_filled(incoming, columns, index, k, path, len))
 }
 
 // Whose type stands at `t`: no null may stand among the values at the path.
@@ -64,7 +65,13 @@ fn at_constant(plan: &[u8], nulls: &[u64], t: Cursor, w: Walk) -> Stop
     if !may_be_null(plan, t, path, from, len, nulls) {
         return Stop::Passes;
     }
-    if in_constant(plan, t, path, from, len, Sought::Null) {
+    let search = Search {
+        sought: Sought::Null,
+        path,
+        from,
+        len,
+    };
+    if in_constant(plan, t, search) {
         Stop::Fails
     } else {
         Stop::Passes
@@ -84,27 +91,26 @@ fn at_transform(w: Walk) -> Stop
 
 pub fn at_stop(
     incoming: &[u8],
-    v: Edition,
-    n: u16,
+    columns: ColumnRange,
     index: &[u16],
     plan: &[u8],
     nulls: &[u64],
     w: Walk,
 ) -> Stop
-    requires { ⌜ ColumnsAt v 16 (now incoming) n 7 ⌝ }
-    requires { ⌜ Indexed v (now incoming) n 7 (strideOf n) (now index) × Nulls (now plan) (now nulls) ⌝ }
+    requires { ⌜ ColumnsIn (now incoming) columns ⌝ }
+    requires { ⌜ IndexAt (now incoming) columns (now index) × Nulls (now plan) (now nulls) ⌝ }
     requires { ⌜ ((x : State) × WalkAt (now plan) w x) ⌝ }
-    ensures { λ r. ⌜ ((P : ColumnsAt v 16 (now (incoming .entry)) n 7) (x : State) → WalkAt (now (plan .entry)) w x → r ≡ stopOf (givens (P .columns)) x) ⌝ }
+    ensures { λ r. ⌜ ((P : ColumnsIn (now (incoming .entry)) columns) (x : State) → WalkAt (now (plan .entry)) w x → r ≡ stopOf (givens (P .columns)) x) ⌝ }
 {
     let c = Cursor { at: w.at };
     match head(plan, c) {
-        SelectorHead::Position(k) => at_position(incoming, v, n, index, k, w),
+        SelectorHead::Position(k) => at_position(incoming, columns, index, k, w),
         SelectorHead::Constant(_, t) => at_constant(plan, nulls, t, w),
         SelectorHead::Cast(_) => at_transform(w),
         SelectorHead::Rename(_) => at_transform(w),
         SelectorHead::Struct(_) => at_transform(w),
         SelectorHead::List(_) => at_transform(w),
         SelectorHead::Array(_) => at_transform(w),
-        SelectorHead::Refused => Stop::Passes,
+        SelectorHead::Refused => Stop::Fails,
     }
 }

@@ -22,7 +22,8 @@ use Rattle.raw.specs.Stored.{Stores}
 use Rattle.raw.specs.declared.leaf.LeafValue.{LeafValue}
 use Rattle.raw.proofs.Storing.{cast-kept, stores-as}
 use Rattle.output.specs.Chain.{castAll, Kept, Casting}
-use Rattle.output.specs.Answers.{castValueOf}
+use Rattle.output.specs.Answers.{castValueOf, castLeafOf}
+use Rattle.output.specs.declared.leaf.CastLeaf.{CastLeaf}
 use Rattle.output.specs.declared.leaf.CastValue.{CastValue}
 
 -- ---- what no cast changes
@@ -117,13 +118,25 @@ pub stores-overflow : (out : Bytes) (k : ℕ) {u : Value} {q : CastValue} → ca
 unfolding encodeValue overlay
 stores-overflow out k e f = stores-as (ap castValueOf (sym f) ∙ e) (record { ends = sym (add-zero k); stored = refl })
 
-module _ {out : Bytes} {k : ℕ} (v : Value) {r : ℕ} {new : Bytes} (ks : List Leaf) (S : Stores out k (encodeValue v) r new) where
-  pub stores-uncast : length ks ≡ 0 → Stores out k (encodeValue (castAll ks v)) r new
-  stores-uncast e = stores-as (sym (no-casts ks v e)) S
+pub stores-uncast : {out : Bytes} {k : ℕ} (v : Value) {r : ℕ} {new : Bytes} (ks : List Leaf) → Stores out k (encodeValue v) r new → length ks ≡ 0
+    → Stores out k (encodeValue (castAll ks v)) r new
+stores-uncast v ks S e = stores-as (sym (no-casts ks v e)) S
 
-  pub stores-other : {q : LeafValue} → LeafIs v q → q ≡ LeafValue.Other → Stores out k (encodeValue (castAll ks v)) r new
-  stores-other L e = stores-as (sym (casts-kept ks v (subst (λ (q : LeafValue). leafAnswer v q) e (L .answer)))) S
+module _ {out : Bytes} {k : ℕ} (v : Value) {r : ℕ} {new : Bytes} {q : CastLeaf} where
+  pub stores-same : Stores out k (encodeValue v) r new → q ≡ CastLeaf.Same → Stores out k (encodeValue (castLeafOf v q)) r new
+  stores-same S e = stores-as (ap (castLeafOf v) (sym e)) S
 
-pub stores-cast : {out : Bytes} {k : ℕ} {v : Value} {r : ℕ} {new : Bytes} (ks : List Leaf) {j : Leaf} {n : ℕ} {q : LeafValue} → LeafIs v q → q ≡ LeafValue.Number j n
-    → Stores out k (encodeValue (castAll ks (vnumber j n))) r new → Stores out k (encodeValue (castAll ks v)) r new
-stores-cast {v = v} ks L e S = stores-as (ap (castAll ks) (sym (subst (λ (q : LeafValue). leafAnswer v q) e (L .answer)))) S
+  pub stores-cast : {x : CastValue} → Stores out k (encodeValue (castValueOf x)) r new → q ≡ CastLeaf.Cast x → Stores out k (encodeValue (castLeafOf v q)) r new
+  stores-cast S e = stores-as (ap (castLeafOf v) (sym e)) S
+
+-- ---- what casts leave
+
+pub left-uncast : (ks : List Leaf) (v : Value) → length ks ≡ 0 → v ≡ castAll ks v
+left-uncast ks v e = sym (no-casts ks v e)
+
+module _ (ks : List Leaf) {v : Value} {q : LeafValue} (L : LeafIs v q) where
+  pub left-other : q ≡ LeafValue.Other → v ≡ castAll ks v
+  left-other e = sym (casts-kept ks v (subst (λ (q : LeafValue). leafAnswer v q) e (L .answer)))
+
+  pub left-cast : {j : Leaf} {n : ℕ} → q ≡ LeafValue.Number j n → {x : Value} → x ≡ castAll ks (vnumber j n) → x ≡ castAll ks v
+  left-cast e f = f ∙ ap (castAll ks) (sym (subst (λ (q : LeafValue). leafAnswer v q) e (L .answer)))

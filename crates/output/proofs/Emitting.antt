@@ -7,7 +7,7 @@ use native.Mathlib.Omega.{arith}
 use native.Mathlib.Numerals.{add-one}
 use native.Mathlib.Nat.{add-zero}
 use lib.Dec.{eqb}
-use lib.ListN.{length}
+use lib.ListN.{length, getD}
 use Rattle.layout.specs.Bytes.{Bytes}
 use Rattle.layout.specs.Parser.{choose}
 use Rattle.layout.specs.Tree.{leaf, struct, list, array}
@@ -27,7 +27,9 @@ use Rattle.walk.specs.Standing.{Entries, e-none, e-more, WalkAt, StepsTo, rank}
 use Rattle.walk.specs.Values.{opened, given, givens, within, stateValue}
 use Rattle.walk.specs.declared.walk.Walk.{Walk}
 use Rattle.walk.specs.Children.{PartStands, Reached}
+use Rattle.walk.specs.Stands.{SelectorAt}
 use Rattle.walk.proofs.View.{nth-exists}
+use Rattle.walk.proofs.View.{Viewed, v-position, v-constant, v-cast, v-rename, v-struct, v-list, v-array, view}
 use Rattle.walk.proofs.Standing.{walk-small, walk-inside}
 use Rattle.walk.proofs.Children.{reached-stands}
 use Rattle.nodes.specs.Raw.{NodeIs, partsOf}
@@ -210,43 +212,78 @@ module _ {v : Edition} {lay : Bytes} {n t : ℕ} {rec plan : Bytes} {w : Walk} (
       short = A .short;
     }
 
-    pub mapped-asks : {c : Bool} → isList (O .state .selector) ≡ c → (B : EmitAt v lay n t rec plan (o .walk)) × Mapped (B .state) × (isList (B .state .selector) ≡ c)
-    mapped-asks e = (mapped-at, M, e)
+    pub mapped-asks : (B : EmitAt v lay n t rec plan (o .walk)) × Mapped (B .state)
+    mapped-asks = (mapped-at, M)
 
-    pub mapped-emits : {c : Bool} → isList (O .state .selector) ≡ c → {out : Bytes} {k r : ℕ} {new : Bytes}
-        → ((B : EmitAt v lay n t rec plan (o .walk)) → Mapped (B .state) → isList (B .state .selector) ≡ c → Emits out k (encodeValue (stateValue (B .row .values .values) (B .state))) r new)
+    pub mapped-emits : {out : Bytes} {k r : ℕ} {new : Bytes}
+        → ((B : EmitAt v lay n t rec plan (o .walk)) → Mapped (B .state) → Emits out k (encodeValue (stateValue (B .row .values .values) (B .state))) r new)
         → Emits out k (encodeValue (stateValue ρ (A .state))) r new
-    mapped-emits e {out} {k} {r} {new} f = subst (λ (u : Value). Emits out k (encodeValue u) r new) (sym mapped-same) (f mapped-at M e)
+    mapped-emits {out} {k} {r} {new} f = subst (λ (u : Value). Emits out k (encodeValue u) r new) (sym mapped-same) (f mapped-at M)
 
-pub struct-mapped : {x : State} {n : ℕ} → StructIs x n → Mapped x × (isList (x .selector) ≡ false)
-struct-mapped {x} S = (record { mapping = subst Mapping (sym (S .selector)) is-struct; path = S .path }, ap isList (S .selector))
+pub struct-mapped : {x : State} {n : ℕ} → StructIs x n → Mapped x
+struct-mapped {x} S = record { mapping = subst Mapping (sym (S .selector)) is-struct; path = S .path }
 
-pub list-mapped : {x : State} → ListIs x → Mapped x × (isList (x .selector) ≡ true)
-list-mapped {x} S = (record { mapping = subst Mapping (sym (S .selector)) is-list; path = S .path }, ap isList (S .selector))
+pub list-mapped : {x : State} → ListIs x → Mapped x
+list-mapped {x} S = record { mapping = subst Mapping (sym (S .selector)) is-list; path = S .path }
 
-pub array-mapped : {x : State} → ArrayIs x → Mapped x × (isList (x .selector) ≡ false)
-array-mapped {x} S = (record { mapping = subst Mapping (sym (S .selector)) is-array; path = S .path }, ap isList (S .selector))
+pub array-mapped : {x : State} → ArrayIs x → Mapped x
+array-mapped {x} S = record { mapping = subst Mapping (sym (S .selector)) is-array; path = S .path }
 
 -- ---- a constant
 
--- null, whether it is run or not
-pub constant-null : (ρ : Values) {plan : Bytes} {z : State} {t c : ℕ} (C : ConstantIs ρ plan z t c) (ks : List Leaf) → C .node .raw .value .tree ≡ vnull
-    → {out : Bytes} {k r : ℕ} {new : Bytes} → Stores out k (encodeValue vnull) r new → Stores out k (encodeValue (castAll ks (stateValue ρ z))) r new
-unfolding isNumber
-constant-null ρ {z = z} C ks e S =
-    stores-as
-    (sym (ap (castAll ks) (C .is ∙ ap (λ (u : Value). within ρ (z .frames) (λ σ. u)) (sym (C .node .is) ∙ e) ∙ within-null ρ (z .frames)) ∙ casts-kept ks vnull refl)) S
-
-module _ (ρ : Values) {plan : Bytes} {z : State} {t c : ℕ} (C : ConstantIs ρ plan z t c) (ks : List Leaf) {b : Bool} (h : (u : Value) → within ρ (z .frames) (λ σ. u) ≡ choose b u vnull) where
-  pub constant-run : b ≡ true → {out : Bytes} {k r : ℕ} {new : Bytes} → Stores out k (encodeValue (castAll ks (C .node .raw .value .tree))) r new
-      → Stores out k (encodeValue (castAll ks (stateValue ρ z))) r new
+module _ (ρ : Values) {plan : Bytes} {z : State} {t c : ℕ} (C : ConstantIs ρ plan z t c) where
+  -- null, whether it is run or not
+  pub constant-null : C .node .raw .value .tree ≡ vnull → stateValue ρ z ≡ choose false (C .value) vnull
   unfolding choose
-  constant-run e S = stores-as (ap (castAll ks) (C .node .is ∙ sym (C .is ∙ h (C .value) ∙ ap (λ (q : Bool). choose q (C .value) vnull) e))) S
+  constant-null e = C .is ∙ ap (λ (u : Value). within ρ (z .frames) (λ σ. u)) (sym (C .node .is) ∙ e) ∙ within-null ρ (z .frames)
 
-  pub constant-skipped : b ≡ false → {out : Bytes} {k r : ℕ} {new : Bytes} → Stores out k (encodeValue vnull) r new → Stores out k (encodeValue (castAll ks (stateValue ρ z))) r new
-  unfolding choose isNumber
-  constant-skipped e S =
-      stores-as (sym (ap (castAll ks) (C .is ∙ h (C .value) ∙ ap (λ (q : Bool). choose q (C .value) vnull) e) ∙ casts-kept ks vnull refl)) S
+  pub constant-within : (b : Bool) → ((u : Value) → within ρ (z .frames) (λ σ. u) ≡ choose b u vnull) → stateValue ρ z ≡ choose b (C .value) vnull
+  constant-within b h = C .is ∙ h (C .value)
+
+  module _ (ks : List Leaf) {b : Bool} (h : stateValue ρ z ≡ choose b (C .value) vnull) where
+    pub constant-run : b ≡ true → {out : Bytes} {k r : ℕ} {new : Bytes} → Stores out k (encodeValue (castAll ks (C .node .raw .value .tree))) r new
+        → Stores out k (encodeValue (castAll ks (stateValue ρ z))) r new
+    unfolding choose
+    constant-run e S = stores-as (ap (castAll ks) (C .node .is ∙ sym (h ∙ ap (λ (q : Bool). choose q (C .value) vnull) e))) S
+
+    pub constant-skipped : b ≡ false → {out : Bytes} {k r : ℕ} {new : Bytes} → Stores out k (encodeValue vnull) r new
+        → Stores out k (encodeValue (castAll ks (stateValue ρ z))) r new
+    unfolding choose isNumber
+    constant-skipped e S = stores-as (sym (ap (castAll ks) (h ∙ ap (λ (q : Bool). choose q (C .value) vnull) e) ∙ casts-kept ks vnull refl)) S
+
+-- ---- whether a mapping gives a list
+
+module _ {plan : Bytes} {at : ℕ} (P : SelectorAt plan at) where
+  is-listed : getD plan at 0 ≡ 5 → isList (P .tree) ≡ true
+  is-listed h = go (view P)
+    where
+      go : Viewed plan at P → isList (P .tree) ≡ true
+      go (v-position c e) = absurd (omega (arith, c, h))
+      go (v-constant c e) = absurd (omega (arith, c, h))
+      go (v-cast C) = absurd (omega (arith, C .code, h))
+      go (v-rename C) = absurd (omega (arith, C .code, h))
+      go (v-struct S) = absurd (omega (arith, S .code, h))
+      go (v-list L) = ap isList (L .is)
+      go (v-array A) = absurd (omega (arith, A .code, h))
+
+  not-listed : (getD plan at 0 ≡ 5 → ⊥) → isList (P .tree) ≡ false
+  not-listed h = go (view P)
+    where
+      go : Viewed plan at P → isList (P .tree) ≡ false
+      go (v-position c e) = ap isList e
+      go (v-constant c e) = ap isList e
+      go (v-cast C) = ap isList (C .is)
+      go (v-rename C) = ap isList (C .is)
+      go (v-struct S) = ap isList (S .is)
+      go (v-list L) = absurd (h (L .code))
+      go (v-array A) = ap isList (A .is)
+
+module _ {plan : Bytes} {w : Walk} {x : State} (W : WalkAt plan w x) where
+  pub walk-listed : getD plan (w .at) 0 ≡ 5 → isList (x .selector) ≡ true
+  walk-listed h = ap isList (sym (W .selector)) ∙ is-listed (W .here) h
+
+  pub walk-unlisted : (getD plan (w .at) 0 ≡ 5 → ⊥) → isList (x .selector) ≡ false
+  walk-unlisted h = ap isList (sym (W .selector)) ∙ not-listed (W .here) h
 
 -- ---- a mapping
 

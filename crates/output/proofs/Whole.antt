@@ -22,10 +22,10 @@ use Rattle.values.specs.Value.{Value, Values, countValues}
 use Rattle.values.specs.Encode.{encodeValue, encodeValues}
 use Rattle.values.specs.Record.{longest}
 use Rattle.values.proofs.Back.{values-back}
-use Rattle.plan.specs.Selector.{Selectors}
+use Rattle.plan.specs.Selector.{Selector, Selectors}
 use Rattle.plan.specs.Read.{longestPlan, deepestSelector, selector, selectors as selectorsOf}
 use Rattle.plan.specs.Result.{Answer}
-use Rattle.plan.specs.Run.{valueAt, evals, clean, cleanAll, spacious, run}
+use Rattle.plan.specs.Run.{valueAt, eval, evals, clean, cleanAll, spacious, run}
 use Rattle.plan.specs.Fits.{FitsOver, over-null, over-number, over-text, over-datetime, over-struct, over-list, over-array, FitsAllOver, over-nil, over-cons, FitsEachOver, over-none, over-more}
 use Rattle.plan.proofs.Typed.{TypedAll, passed→typed}
 use Rattle.plan.proofs.Over.{all-over}
@@ -35,17 +35,53 @@ use Rattle.plan.proofs.Theorems.{run-writes, run-exceeds}
 use Rattle.walk.specs.State.{state}
 use Rattle.walk.specs.Stands.{SelectorAt, SelectorsAt}
 use Rattle.walk.specs.Standing.{WalkAt}
-use Rattle.walk.specs.Values.{givens, within, valueNode, stateValue}
+use Rattle.walk.specs.Values.{given, givens, within, valueNode, stateValue}
 use Rattle.walk.specs.declared.walk.Walk.{Walk}
 use Rattle.walk.proofs.View.{FirstAt, first-at, selectors-counted}
 use Rattle.output.specs.Output.{Emits, levels, levelsAll}
 use Rattle.plan.specs.Calls.{bufferAfter}
-use Rattle.output.specs.Answers.{size, EmitAt, EmitAllAt, OutputAt, writtenOf}
+use Rattle.output.specs.Answers.{size, EmitAt, EmitTopAt, EmitAllAt, OutputAt, HandedOver, writtenOf}
 use Rattle.output.specs.declared.write.Written.{Written}
 use Rattle.output.proofs.Given.{evals-given}
 use Rattle.output.proofs.Ends.{count-givens}
 use Rattle.output.proofs.Writing.{within-limit, clean-at, levels-at}
 use Rattle.output.proofs.Emitting.{Rowing, rowing-none, rowing-past, rowing-all, rowing-more}
+
+-- ---- one selector
+
+module _ {v : Edition} {lay : Bytes} {n t : ℕ} {rec plan : Bytes} {at : ℕ} (A : EmitTopAt v lay n t rec plan at) (o : AllBytes plan) {w : Walk}
+    (T : (p : Bytes) (P : SelectorAt p at) → P .end ≤ length plan → length plan ≤ length p → length p ≤ longestPlan → WalkAt p w (state (P .tree) [] [])) where
+  abbrev top-tree : Selector
+  top-tree = A .selector .tree
+
+  top-inside : A .selector .end ≤ length plan
+  top-inside = selector-back plan o deepestSelector at top-tree (A .selector .end) (A .selector .reads) .stands .within
+
+  top-is : stateValue (A .row .values .values) (state top-tree [] []) ≡ eval (A .row .values .values) top-tree
+  unfolding stateValue within valueNode
+  top-is = sym (A .same)
+
+  top-low : size (state top-tree [] []) + levels (stateValue (A .row .values .values) (state top-tree [] [])) ≤ 64
+  unfolding size
+  top-low = omega (arith, A .low, ap levels top-is)
+
+  abbrev top-at : EmitAt v lay n t rec plan w
+  top-at = record {
+    row = A .row;
+    state = state top-tree [] [];
+    standing = T plan (A .selector) top-inside (omega arith) (A .small);
+    clean = ap clean top-is ∙ A .clean;
+    low = top-low;
+    short = A .short;
+  }
+
+  pub top-asks : EmitAt v lay n t rec plan w
+  top-asks = top-at
+
+  pub top-emits : {out : Bytes} {k r : ℕ} {new : Bytes}
+      → ((B : EmitAt v lay n t rec plan w) → Emits out k (encodeValue (stateValue (B .row .values .values) (B .state))) r new)
+      → Emits out k (encodeValue (eval (A .row .values .values) (A .selector .tree))) r new
+  top-emits {out} {k} {r} {new} f = subst (λ (u : Value). Emits out k (encodeValue u) r new) top-is (f top-at)
 
 -- ---- the loop over selectors
 
@@ -57,19 +93,32 @@ module _ {v : Edition} {lay : Bytes} {n t : ℕ} {rec plan : Bytes} {count first
   ρ = A .row .values .values
 
   abbrev all : Values
-  all = givens ρ (A .selectors .trees)
+  all = evals ρ (A .selectors .trees)
+
+  abbrev allGiven : Values
+  allGiven = givens ρ (A .selectors .trees)
 
   counted : countValues all ≡ count
-  counted = count-givens ρ (A .selectors .trees) ∙ selectors-counted count (A .selectors)
+  counted = ap countValues (A .same) ∙ count-givens ρ (A .selectors .trees) ∙ selectors-counted count (A .selectors)
 
   -- from `from` on, the selectors that are left after i
   pub record Running (out₀ : Bytes) (k i from at : ℕ) (out : Bytes) : Type 0 where
     pub left : SelectorsAt plan (count - i) from
-    pub same : (j : ℕ) → valueAt all (i + j) ≡ valueAt (givens ρ (left .trees)) j
+    pub same : (j : ℕ) → valueAt all (i + j) ≡ valueAt (evals ρ (left .trees)) j
+    pub given : (j : ℕ) → valueAt allGiven (i + j) ≡ valueAt (givens ρ (left .trees)) j
     pub rowing : Rowing all out₀ k i at out
 
   pub running-none : (out : Bytes) (k : ℕ) → Running out k 0 first k out
-  running-none out k = record { left = record { trees = A .selectors .trees; end = A .selectors .end; reads = ap (λ (m : ℕ). selectorsOf (selector deepestSelector) m plan first) (sub-zero count) ∙ A .selectors .reads }; same = λ j. ap (valueAt all) (zero-add j); rowing = rowing-none all out k }
+  running-none out k = record {
+    left = record {
+      trees = A .selectors .trees;
+      end = A .selectors .end;
+      reads = ap (λ (m : ℕ). selectorsOf (selector deepestSelector) m plan first) (sub-zero count) ∙ A .selectors .reads;
+    };
+    same = λ j. ap (valueAt all) (zero-add j);
+    given = λ j. ap (valueAt allGiven) (zero-add j);
+    rowing = rowing-none all out k;
+  }
 
   module _ {out₀ : Bytes} {k i from at : ℕ} {out : Bytes} (R : Running out₀ k i from at out) where
     pub running-past : longest < at → Emits out₀ k (encodeValues all) at out
@@ -82,51 +131,56 @@ module _ {v : Edition} {lay : Bytes} {n t : ℕ} {rec plan : Bytes} {count first
       next : FirstAt plan (count - i) from (R .left)
       next = first-at (R .left) (omega arith)
 
-      pub running-head : SelectorAt plan from
-      running-head = next .head
+      top-value : eval ρ (next .head .tree) ≡ valueAt all i
+      unfolding evals valueAt
+      top-value = sym (ap (valueAt all) (sym (add-zero i)) ∙ R .same 0 ∙ ap (λ (ss : Selectors). valueAt (evals ρ ss) 0) (next .is))
 
-      top-value : stateValue ρ (state (next .head .tree) [] []) ≡ valueAt all i
-      unfolding stateValue within valueNode givens valueAt
-      top-value = sym (ap (valueAt all) (sym (add-zero i)) ∙ R .same 0 ∙ ap (λ (ss : Selectors). valueAt (givens ρ ss) 0) (next .is))
+      top-given : valueAt allGiven i ≡ given ρ (next .head .tree)
+      unfolding givens valueAt
+      top-given = ap (valueAt allGiven) (sym (add-zero i)) ∙ R .given 0 ∙ ap (λ (ss : Selectors). valueAt (givens ρ ss) 0) (next .is)
 
-      module _ (o : AllBytes plan) {e : ℕ} (q : (P : SelectorAt plan from) → e ≡ P .end) {w : Walk}
-          (T : (p : Bytes) (P : SelectorAt p from) → P .end ≤ e → e ≤ length p → length p ≤ longestPlan → WalkAt p w (state (P .tree) [] [])) where
-        inside : next .head .end ≤ length plan
-        inside = selector-back plan o deepestSelector from (next .head .tree) (next .head .end) (next .head .reads) .stands .within
+      abbrev running-at : EmitTopAt v lay n t rec plan from
+      running-at = record {
+        row = A .row;
+        selector = next .head;
+        same = top-value ∙ ap (λ (vs : Values). valueAt vs i) (A .same) ∙ top-given;
+        clean = ap clean top-value ∙ clean-at all i (A .clean);
+        low = omega (arith, A .low, ap levels top-value, levels-at all i);
+        short = A .short;
+        small = A .small;
+      }
 
-        starts : WalkAt plan w (state (next .head .tree) [] [])
-        starts = T plan (next .head) (omega (arith, q (next .head))) (omega (arith, q (next .head), inside)) (A .small)
+      pub running-asks : EmitTopAt v lay n t rec plan from
+      running-asks = running-at
 
-        low : size (state (next .head .tree) [] []) + levels (stateValue ρ (state (next .head .tree) [] [])) ≤ 64
-        unfolding size
-        low = omega (arith, A .low, ap levels top-value, levels-at all i)
+      pub running-more : at ≤ longest → {e : ℕ} → ((P : SelectorAt plan from) → e ≡ P .end) → {r : ℕ} {new : Bytes} → length new ≡ length out
+          → ((B : EmitTopAt v lay n t rec plan from) → Emits out at (encodeValue (eval (B .row .values .values) (B .selector .tree))) r new)
+          → Running out₀ k (i + 1) e r new
+      unfolding evals givens valueAt
+      running-more l {e} q {r} {new} z f =
+          let d : e ≡ next .head .end = q (next .head) in
+          let c : count - i - 1 ≡ count - (i + 1) = omega arith in
+          record {
+            left = record { trees = next .tail .trees; end = next .tail .end; reads = moved d c };
+            same = λ j. ap (valueAt all) (later j) ∙ R .same (suc j) ∙ ap (λ (ss : Selectors). valueAt (evals ρ ss) (suc j)) (next .is);
+            given = λ j. ap (valueAt allGiven) (later j) ∙ R .given (suc j) ∙ ap (λ (ss : Selectors). valueAt (givens ρ ss) (suc j)) (next .is);
+            rowing = rowing-more (R .rowing) l (omega (arith, counted)) z (subst (λ (u : Value). Emits out at (encodeValue u) r new) top-value (f running-at));
+          }
+        where
+          later : (j : ℕ) → i + 1 + j ≡ i + suc j
+          later j = omega arith
 
-        pub running-emit : EmitAt v lay n t rec plan w
-        running-emit =
-            record { row = A .row; state = state (next .head .tree) [] []; standing = starts; clean = ap clean top-value ∙ clean-at all i (A .clean); low = low; short = A .short }
-
-        pub running-more : at ≤ longest → {r : ℕ} {new : Bytes} → length new ≡ length out
-            → ((B : EmitAt v lay n t rec plan w) → Emits out at (encodeValue (stateValue (B .row .values .values) (B .state))) r new) → Running out₀ k (i + 1) e r new
-        unfolding givens valueAt
-        running-more l {r} {new} z f =
-            let d : e ≡ next .head .end = q (next .head) in
-            let c : count - i - 1 ≡ count - (i + 1) = omega arith in
-            record {
-              left = record { trees = next .tail .trees; end = next .tail .end; reads = moved d c };
-              same = λ j. ap (valueAt all) (let y : i + 1 + j ≡ i + suc j = omega arith in y) ∙ R .same (suc j) ∙ ap (λ (ss : Selectors). valueAt (givens ρ ss) (suc j)) (next .is);
-              rowing = rowing-more (R .rowing) l (omega (arith, counted)) z (subst (λ (u : Value). Emits out at (encodeValue u) r new) top-value
-                  (f (record { row = A .row; state = state (next .head .tree) [] []; standing = starts; clean = ap clean top-value ∙ clean-at all i (A .clean); low = low; short = A .short })));
-            }
-          where
-            moved : e ≡ next .head .end → count - i - 1 ≡ count - (i + 1) → selectorsOf (selector deepestSelector) (count - (i + 1)) plan e ≡ ok (next .tail .trees) (next .tail .end)
-            moved d c = ap (λ (m : ℕ). selectorsOf (selector deepestSelector) m plan e) (sym c) ∙ ap (λ (m : ℕ). selectorsOf (selector deepestSelector) (count - i - 1) plan m) d ∙ next .tail .reads
+          moved : e ≡ next .head .end → count - i - 1 ≡ count - (i + 1) → selectorsOf (selector deepestSelector) (count - (i + 1)) plan e ≡ ok (next .tail .trees) (next .tail .end)
+          moved d c =
+              ap (λ (m : ℕ). selectorsOf (selector deepestSelector) m plan e) (sym c)
+              ∙ ap (λ (m : ℕ). selectorsOf (selector deepestSelector) (count - i - 1) plan m) d ∙ next .tail .reads
 
 -- ---- what a type's depth allows
 
 mutual
   unfolding levels levelsAll depthOf depthOfFields
 
-  fits-levels : {t : DataType} {v : Value} → FitsOver t v → levels v ≤ depthOf t
+  pub fits-levels : {t : DataType} {v : Value} → FitsOver t v → levels v ≤ depthOf t
   fits-levels over-null = omega arith
   fits-levels (over-number e h t) = omega arith
   fits-levels (over-text e h) = omega arith
@@ -224,39 +278,25 @@ module _ {v : Edition} {lay : Bytes} {n t : ℕ} {rec plan : Bytes} {count first
   pub output-given : evals σ ss ≡ givens σ ss
   output-given = evals-given typed fits
 
-  pub output-emits : EmitAllAt v lay n t rec plan count first
-  output-emits = record {
+  abbrev output-at : EmitAllAt v lay n t rec plan count first
+  output-at = record {
     row = A .row;
     selectors = A .selectors;
-    clean = ap cleanAll (sym output-given) ∙ A .clean;
-    low = omega (arith, all-levels (evals-over typed fits), A .deep, ap levelsAll output-given);
+    same = output-given;
+    clean = A .clean;
+    low = omega (arith, all-levels (evals-over typed fits), A .deep);
     short = A .short;
     small = A .small;
   }
 
+  pub output-asks : EmitAllAt v lay n t rec plan count first
+  output-asks = output-at
+
   module _ {aside₀ : Bytes} (size : 16384 ≡ length aside₀) {len : ℕ} {aside : Bytes}
-      (f : (B : EmitAllAt v lay n t rec plan count first) → Emits aside₀ 0 (encodeValues (givens (B .row .values .values) (B .selectors .trees))) len aside) where
-    written : Emits aside₀ 0 (encodeValues (evals σ ss)) len aside
-    written = subst (λ (vs : Values). Emits aside₀ 0 (encodeValues vs) len aside) (sym output-given)
-        (f (record {
-          row = A .row;
-          selectors = A .selectors;
-          clean = ap cleanAll (sym output-given) ∙ A .clean;
-          low = omega (arith, all-levels (evals-over typed fits), A .deep, ap levelsAll output-given);
-          short = A .short;
-          small = A .small;
-        }))
+      (f : (B : EmitAllAt v lay n t rec plan count first) → Emits aside₀ 0 (encodeValues (evals (B .row .values .values) (B .selectors .trees))) len aside) where
+    pub output-inside : len ≤ 16384 → len ≤ length aside
+    output-inside l = aside-inside σ ss (A .clean) size (f output-at) l
 
-    pub output-exceeds : (out : Bytes) → 16384 < len → (Written.TooLong ≡ writtenOf (run σ ss (length out))) × (out ≡ bufferAfter (run σ ss (length out)) out)
-    output-exceeds out h = aside-exceeds σ ss (A .clean) size written out h
-
-    module _ (l : len ≤ 16384) where
-      pub output-tight : (out : Bytes) → length out < len → (Written.TooLong ≡ writtenOf (run σ ss (length out))) × (out ≡ bufferAfter (run σ ss (length out)) out)
-      output-tight out h = aside-tight σ ss (A .clean) size written l out h
-
-      pub output-inside : len ≤ length aside
-      output-inside = aside-inside σ ss (A .clean) size written l
-
-      pub output-fits : (out : Bytes) {new : Bytes} → len ≤ length out → new ≡ overlay out 0 (slice 0 len aside)
-          → (Written.Written len ≡ writtenOf (run σ ss (length out))) × (new ≡ bufferAfter (run σ ss (length out)) out)
-      output-fits out h g = aside-fits σ ss (A .clean) size written l out h g
+    pub output-handed : (out : Bytes) {w : Written} {new : Bytes} → HandedOver aside len out w new
+        → (w ≡ writtenOf (run σ ss (length out))) × (new ≡ bufferAfter (run σ ss (length out)) out)
+    output-handed out H = H σ ss aside₀ (A .clean) size (f output-at)

@@ -11,26 +11,29 @@ use Rattle.layout.specs.declared.leaf.Leaf.{Leaf}
 use Rattle.layout.specs.declared.edition.Edition.{Edition}
 use Rattle.layout.specs.declared.edition.Edition.the-variants.{One}
 use Rattle.values.specs.Value.{Value, vnull, vnumber, voverflow, Values}
+use Rattle.values.specs.Encode.{encodeValues}
 use Rattle.values.specs.Record.{longest}
 use Rattle.forms.specs.Readable.{depthOfFields}
 use Rattle.plan.specs.Read.{longestPlan}
 use Rattle.plan.specs.Result.{Answer, accepted, refusedAt}
 use Rattle.plan.specs.Check.{check}
 use Rattle.plan.specs.Selector.{Selector, position, constant, cast, rename, structMapping, listMapping, arrayMapping, Selectors, countSelectors}
-use Rattle.plan.specs.Run.{evals, clean, cleanAll}
+use Rattle.plan.specs.Run.{eval, evals, clean, cleanAll, run}
+use Rattle.plan.specs.Calls.{bufferAfter}
 use Rattle.walk.specs.State.{Frame, fields, element, State, state}
 use Rattle.walk.specs.Moves.{Moves, Stopped, Input, Mapping}
 use Rattle.walk.specs.Stands.{SelectorAt, SelectorsAt}
 use Rattle.walk.specs.Standing.{WalkAt, rank}
-use Rattle.walk.specs.Values.{givens, within, stateValue}
+use Rattle.walk.specs.Values.{given, givens, within, stateValue}
 use Rattle.walk.specs.declared.walk.Walk.{Walk}
 use Rattle.nodes.specs.Raw.{RowAt, NodeIs, partsOf}
 use Rattle.nodes.specs.declared.raw.NodeAt.{NodeAt}
 use Rattle.nodes.specs.declared.raw.Parts.{Parts}
 use Rattle.output.specs.Chain.{ends, goes, casts, next, Passed}
-use Rattle.output.specs.Output.{levels, levelsAll, answer}
+use Rattle.output.specs.Output.{Emits, levels, levelsAll, answer}
 use Rattle.output.specs.declared.casts.Pass.{Pass}
 use Rattle.output.specs.declared.casts.Origin.{Origin}
+use Rattle.output.specs.declared.leaf.CastLeaf.{CastLeaf}
 use Rattle.output.specs.declared.leaf.CastValue.{CastValue}
 use Rattle.output.specs.declared.parts.Asked.{Asked}
 use Rattle.output.specs.declared.source.Source.{Source}
@@ -39,6 +42,11 @@ use Rattle.output.specs.declared.write.Written.{Written}
 abbrev pub castValueOf : CastValue → Value
 castValueOf (CastValue.Number k n) = vnumber k n
 castValueOf CastValue.Overflow = voverflow
+
+-- what casts leave of the value u
+abbrev pub castLeafOf : Value → CastLeaf → Value
+castLeafOf u CastLeaf.Same = u
+castLeafOf u (CastLeaf.Cast q) = castValueOf q
 
 -- ---- src/casts.rt
 
@@ -201,12 +209,23 @@ isList (arrayMapping s e) = false
 
 -- ---- src/write.rt
 
--- the same of what count selectors give, the first of which stands at `first`
+-- over the record's values, the selector at `at` gives what it evaluates to, with no date-time that is too large and parts that nest no deeper than a walk can follow
+pub record EmitTopAt (v : Edition) (lay : Bytes) (n t : ℕ) (rec plan : Bytes) (at : ℕ) : Type 0 where
+  pub row : RowAt v lay n t rec 0
+  pub selector : SelectorAt plan at
+  pub same : eval (row .values .values) (selector .tree) ≡ given (row .values .values) (selector .tree)
+  pub clean : clean (eval (row .values .values) (selector .tree)) ≡ true
+  pub low : levels (eval (row .values .values) (selector .tree)) ≤ 64
+  pub short : length rec ≤ longest
+  pub small : length plan ≤ longestPlan
+
+-- the same of count selectors, the first of which stands at `first`
 pub record EmitAllAt (v : Edition) (lay : Bytes) (n t : ℕ) (rec plan : Bytes) (count first : ℕ) : Type 0 where
   pub row : RowAt v lay n t rec 0
   pub selectors : SelectorsAt plan count first
-  pub clean : cleanAll (givens (row .values .values) (selectors .trees)) ≡ true
-  pub low : levelsAll (givens (row .values .values) (selectors .trees)) ≤ 64
+  pub same : evals (row .values .values) (selectors .trees) ≡ givens (row .values .values) (selectors .trees)
+  pub clean : cleanAll (evals (row .values .values) (selectors .trees)) ≡ true
+  pub low : levelsAll (evals (row .values .values) (selectors .trees)) ≤ 64
   pub short : length rec ≤ longest
   pub small : length plan ≤ longestPlan
 
@@ -226,3 +245,10 @@ pub record OutputAt (v : Edition) (lay : Bytes) (n t : ℕ) (rec plan : Bytes) (
 abbrev pub writtenOf : Answer Bytes → Written
 writtenOf (accepted b) = Written.Written (length b)
 writtenOf (refusedAt n k) = Written.TooLong
+
+-- what was written aside from its start on, of whatever run is clean
+abbrev pub HandedOver : Bytes → ℕ → Bytes → Written → Bytes → Type 0
+HandedOver aside len out w out′ =
+    (ρ : Values) (ss : Selectors) (aside₀ : Bytes) → cleanAll (evals ρ ss) ≡ true → 16384 ≡ length aside₀
+    → Emits aside₀ 0 (encodeValues (evals ρ ss)) len aside
+    → (w ≡ writtenOf (run ρ ss (length out))) × (out′ ≡ bufferAfter (run ρ ss (length out)) out)

@@ -12,7 +12,7 @@ ghost use Rattle.walk.specs.Standing.{WalkAt};
 ghost use Rattle.nodes.specs.Raw.{RawAt};
 ghost use Rattle.raw.specs.Stored.{Stores};
 ghost use Rattle.output.specs.Chain.{Passed, castAll, Kept, Casting};
-ghost use Rattle.output.specs.Answers.{castValueOf};
+ghost use Rattle.output.specs.Answers.{castValueOf, castLeafOf};
 use crate::casts::last_kinds;
 use convert::leaf::Converted;
 use convert::leaf::convert_leaf;
@@ -24,6 +24,13 @@ use raw::copy::copy_raw;
 use raw::leaf::LeafValue;
 use raw::leaf::leaf_at;
 use walk::walk::Walk;
+
+// Where a value and its type stand, and the edition of the layout that has the type.
+pub struct Node {
+    pub edition: Edition,
+    pub data_type: Cursor,
+    pub value: Cursor,
+}
 
 // A number after its casts, or a date-time that is too large.
 pub enum CastValue {
@@ -83,51 +90,57 @@ fn cast_number(plan: &[u8], w: Walk, casts: usize, kind: Leaf, n: u64) -> CastVa
     CastValue::Number(k, x)
 }
 
-// Stores it from an index on; where it ends. A date-time that is too large has no bytes.
-fn put_cast(
-    plan: &[u8],
-    w: Walk,
-    casts: usize,
-    kind: Leaf,
-    n: u64,
-    out: &mut [u8],
-    k: usize,
-) -> usize
+// What casts leave: the value as it stands, or what a number becomes.
+pub enum CastLeaf {
+    Same,
+    Cast(CastValue),
+}
+
+// The value at a node after the casts that a walk passes; only a number changes.
+pub fn cast_leaf(lay: &[u8], node: Node, rec: &[u8], plan: &[u8], w: Walk, casts: usize) -> CastLeaf
+    requires { ⌜ RawAt (node .edition) (now lay) (node .«data_type» .at) (now rec) (node .value .at) ⌝ }
     requires { ⌜ ((x : State) × WalkAt (now plan) w x) ⌝ }
-    requires { ⌜ k + 9 < 2 ^ 64 ⌝ }
-    ensures { λ r. ⌜ ((x z : State) (ks : List LeafOf) → WalkAt (now (plan .entry)) w x → Passed x ks z → length ks ≡ casts → Stores (now (out .entry)) k (encodeValue (castAll ks (vnumber kind n))) r (now (out .exit))) ⌝ }
+    ensures { λ r. ⌜ ((X : RawAt (node .edition) (now (lay .entry)) (node .«data_type» .at) (now (rec .entry)) (node .value .at)) (x z : State) (ks : List LeafOf) → WalkAt (now (plan .entry)) w x → Passed x ks z → length ks ≡ casts → castLeafOf (X .value .tree) r ≡ castAll ks (X .value .tree)) ⌝ }
 {
-    match cast_number(plan, w, casts, kind, n) {
+    if casts == 0 {
+        return CastLeaf::Same;
+    }
+    let v = node.edition;
+    match leaf_at(lay, v, node.data_type, rec, node.value) {
+        LeafValue::Number(kind, n) => CastLeaf::Cast(cast_number(plan, w, casts, kind, n)),
+        LeafValue::Other => CastLeaf::Same,
+    }
+}
+
+// Stores a number from an index on; where it ends. A date-time that is too large has no bytes.
+fn put_cast(value: CastValue, out: &mut [u8], k: usize) -> usize
+    requires { ⌜ k + 9 < 2 ^ 64 ⌝ }
+    ensures { λ r. ⌜ Stores (now (out .entry)) k (encodeValue (castValueOf value)) r (now (out .exit)) ⌝ }
+{
+    match value {
         CastValue::Number(j, m) => k + put_number(j, m, out, k),
         CastValue::Overflow => k,
     }
 }
 
-// Stores a value through the casts that a walk passes; only a number changes.
+// Stores what casts leave of the value at a node.
 pub fn put_raw(
     lay: &[u8],
-    v: Edition,
-    t: Cursor,
+    node: Node,
     rec: &[u8],
-    c: Cursor,
-    plan: &[u8],
-    w: Walk,
-    casts: usize,
+    cast: CastLeaf,
     out: &mut [u8],
     k: usize,
     table: &[u16],
 ) -> usize
-    requires { ⌜ Ends v (now lay) (now table) ⌝ }
-    requires { ⌜ RawAt v (now lay) (t .at) (now rec) (c .at) ⌝ }
-    requires { ⌜ ((x : State) × WalkAt (now plan) w x) ⌝ }
+    requires { ⌜ Ends (node .edition) (now lay) (now table) ⌝ }
+    requires { ⌜ RawAt (node .edition) (now lay) (node .«data_type» .at) (now rec) (node .value .at) ⌝ }
     requires { ⌜ k + 9 + length (now rec) < 2 ^ 64 ⌝ }
-    ensures { λ r. ⌜ ((X : RawAt v (now (lay .entry)) (t .at) (now (rec .entry)) (c .at)) (x z : State) (ks : List LeafOf) → WalkAt (now (plan .entry)) w x → Passed x ks z → length ks ≡ casts → Stores (now (out .entry)) k (encodeValue (castAll ks (X .value .tree))) r (now (out .exit))) ⌝ }
+    ensures { λ r. ⌜ ((X : RawAt (node .edition) (now (lay .entry)) (node .«data_type» .at) (now (rec .entry)) (node .value .at)) → Stores (now (out .entry)) k (encodeValue (castLeafOf (X .value .tree) cast)) r (now (out .exit))) ⌝ }
 {
-    if casts == 0 {
-        return copy_raw(lay, v, t, rec, c, out, k, table);
-    }
-    match leaf_at(lay, v, t, rec, c) {
-        LeafValue::Number(kind, n) => put_cast(plan, w, casts, kind, n, out, k),
-        LeafValue::Other => copy_raw(lay, v, t, rec, c, out, k, table),
+    let v = node.edition;
+    match cast {
+        CastLeaf::Same => copy_raw(lay, v, node.data_type, rec, node.value, out, k, table),
+        CastLeaf::Cast(value) => put_cast(value, out, k),
     }
 }

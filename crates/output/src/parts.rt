@@ -14,14 +14,16 @@ ghost use Rattle.nodes.specs.Raw.{RowAt, partsOf};
 ghost use Rattle.nodes.specs.declared.raw.Parts.{Parts as PartsOf};
 ghost use Rattle.output.specs.Chain.{ends, next};
 ghost use Rattle.output.specs.Output.{answer};
-ghost use Rattle.output.specs.Answers.{inputOf, leastOf, StructIs, AskedIs};
+ghost use Rattle.output.specs.Answers.{inputOf, leastOf, ConstantIs, StructIs, AskedIs};
 use crate::casts::find_origin;
 use crate::source::Source;
 use crate::source::source_at;
 use layout::cursor::Cursor;
 use layout::edition::Edition;
+use nodes::places::ColumnRange;
 use nodes::raw::Parts;
 use nodes::raw::parts_at;
+use raw::copy::is_null;
 use walk::walk::Walk;
 
 // An answer; or what to ask of the selector's input, or of the innermost mapping's input: none unless there are so many parts, else the count that is known already.
@@ -112,9 +114,7 @@ fn ask_struct(p: Parts) -> Asked
 
 fn ask_step(
     lay: &[u8],
-    v: Edition,
-    n: u16,
-    columns: Cursor,
+    columns: ColumnRange,
     rec: &[u8],
     plan: &[u8],
     w: Walk,
@@ -122,12 +122,13 @@ fn ask_step(
     own: Parts,
     table: &[u16],
 ) -> Asked
-    requires { ⌜ Ends v (now lay) (now table) ⌝ }
-    requires { ⌜ RowAt v (now lay) n (columns .at) (now rec) 0 ⌝ }
+    requires { ⌜ Ends (columns .edition) (now lay) (now table) ⌝ }
+    requires { ⌜ RowAt (columns .edition) (now lay) (columns .count) (columns .first .at) (now rec) 0 ⌝ }
     requires { ⌜ ((x : State) × WalkAt (now plan) w x × (next x ≡ ends)) ⌝ }
-    ensures { λ r. ⌜ ((X : RowAt v (now (lay .entry)) n (columns .at) (now (rec .entry)) 0) (x : State) → WalkAt (now (plan .entry)) w x → next x ≡ ends → AskedIs (X .values .values) x least own r) ⌝ }
+    ensures { λ r. ⌜ ((X : RowAt (columns .edition) (now (lay .entry)) (columns .count) (columns .first .at) (now (rec .entry)) 0) (x : State) → WalkAt (now (plan .entry)) w x → next x ≡ ends → AskedIs (X .values .values) x least own r) ⌝ }
 {
-    match source_at(lay, v, n, columns, rec, plan, w, table) {
+    let v = columns.edition;
+    match source_at(lay, columns, rec, plan, w, table) {
         Source::Null => Asked::Answer(Parts::None),
         Source::Record(t, c) => {
             let p = parts_at(lay, v, t, rec, c);
@@ -146,9 +147,7 @@ fn ask_step(
 // What is asked of the parts of the value where the walk stands.
 pub fn ask(
     lay: &[u8],
-    v: Edition,
-    n: u16,
-    columns: Cursor,
+    columns: ColumnRange,
     rec: &[u8],
     plan: &[u8],
     w: Walk,
@@ -156,10 +155,10 @@ pub fn ask(
     own: Parts,
     table: &[u16],
 ) -> Parts
-    requires { ⌜ Ends v (now lay) (now table) ⌝ }
-    requires { ⌜ RowAt v (now lay) n (columns .at) (now rec) 0 ⌝ }
+    requires { ⌜ Ends (columns .edition) (now lay) (now table) ⌝ }
+    requires { ⌜ RowAt (columns .edition) (now lay) (columns .count) (columns .first .at) (now rec) 0 ⌝ }
     requires { ⌜ ((x : State) × WalkAt (now plan) w x) ⌝ }
-    ensures { λ r. ⌜ ((X : RowAt v (now (lay .entry)) n (columns .at) (now (rec .entry)) 0) (x : State) → WalkAt (now (plan .entry)) w x → r ≡ answer least own (partsOf (stateValue (X .values .values) x))) ⌝ }
+    ensures { λ r. ⌜ ((X : RowAt (columns .edition) (now (lay .entry)) (columns .count) (columns .first .at) (now (rec .entry)) 0) (x : State) → WalkAt (now (plan .entry)) w x → r ≡ answer least own (partsOf (stateValue (X .values .values) x))) ⌝ }
 {
     let mut at = w;
     let mut m = least;
@@ -167,7 +166,7 @@ pub fn ask(
     loop {
         let o = find_origin(plan, at);
         let z = o.walk;
-        match ask_step(lay, v, n, columns, rec, plan, z, m, known, table) {
+        match ask_step(lay, columns, rec, plan, z, m, known, table) {
             Asked::Answer(p) => return p,
             Asked::Input(l, k) => {
                 at = z.to_input();
@@ -186,37 +185,33 @@ pub fn ask(
 // The number of parts of the value where the walk stands.
 pub fn parts_count(
     lay: &[u8],
-    v: Edition,
-    n: u16,
-    columns: Cursor,
+    columns: ColumnRange,
     rec: &[u8],
     plan: &[u8],
     w: Walk,
     table: &[u16],
 ) -> Parts
-    requires { ⌜ Ends v (now lay) (now table) ⌝ }
-    requires { ⌜ RowAt v (now lay) n (columns .at) (now rec) 0 ⌝ }
+    requires { ⌜ Ends (columns .edition) (now lay) (now table) ⌝ }
+    requires { ⌜ RowAt (columns .edition) (now lay) (columns .count) (columns .first .at) (now rec) 0 ⌝ }
     requires { ⌜ ((x : State) × WalkAt (now plan) w x) ⌝ }
-    ensures { λ r. ⌜ ((X : RowAt v (now (lay .entry)) n (columns .at) (now (rec .entry)) 0) (x : State) → WalkAt (now (plan .entry)) w x → r ≡ partsOf (stateValue (X .values .values) x)) ⌝ }
+    ensures { λ r. ⌜ ((X : RowAt (columns .edition) (now (lay .entry)) (columns .count) (columns .first .at) (now (rec .entry)) 0) (x : State) → WalkAt (now (plan .entry)) w x → r ≡ partsOf (stateValue (X .values .values) x)) ⌝ }
 {
-    ask(lay, v, n, columns, rec, plan, w, 0, Parts::None, table)
+    ask(lay, columns, rec, plan, w, 0, Parts::None, table)
 }
 
 // Whether the selector where the walk stands is run at all: inside entered mappings, whether the innermost one's input has the part.
 pub fn is_run(
     lay: &[u8],
-    v: Edition,
-    n: u16,
-    columns: Cursor,
+    columns: ColumnRange,
     rec: &[u8],
     plan: &[u8],
     w: Walk,
     table: &[u16],
 ) -> bool
-    requires { ⌜ Ends v (now lay) (now table) ⌝ }
-    requires { ⌜ RowAt v (now lay) n (columns .at) (now rec) 0 ⌝ }
+    requires { ⌜ Ends (columns .edition) (now lay) (now table) ⌝ }
+    requires { ⌜ RowAt (columns .edition) (now lay) (columns .count) (columns .first .at) (now rec) 0 ⌝ }
     requires { ⌜ ((x : State) × WalkAt (now plan) w x) ⌝ }
-    ensures { λ r. ⌜ ((X : RowAt v (now (lay .entry)) n (columns .at) (now (rec .entry)) 0) (x : State) (u : Value) → WalkAt (now (plan .entry)) w x → within (X .values .values) (x .frames) (λ σ. u) ≡ choose r u vnull) ⌝ }
+    ensures { λ r. ⌜ ((X : RowAt (columns .edition) (now (lay .entry)) (columns .count) (columns .first .at) (now (rec .entry)) 0) (x : State) (u : Value) → WalkAt (now (plan .entry)) w x → within (X .values .values) (x .frames) (λ σ. u) ≡ choose r u vnull) ⌝ }
 {
     if w.deep == 0 {
         return true;
@@ -224,8 +219,6 @@ pub fn is_run(
     let least = least_of(plan, w);
     match ask(
         lay,
-        v,
-        n,
         columns,
         rec,
         plan,
@@ -237,4 +230,25 @@ pub fn is_run(
         Parts::None => false,
         Parts::Some(_) => true,
     }
+}
+
+// Whether the constant whose value is at `c` stands for itself where the walk stands: it is no null, and it is run.
+pub fn is_constant_run(
+    lay: &[u8],
+    columns: ColumnRange,
+    rec: &[u8],
+    plan: &[u8],
+    w: Walk,
+    c: Cursor,
+    table: &[u16],
+) -> bool
+    requires { ⌜ Ends (columns .edition) (now lay) (now table) ⌝ }
+    requires { ⌜ RowAt (columns .edition) (now lay) (columns .count) (columns .first .at) (now rec) 0 ⌝ }
+    requires { ⌜ ((x : State) × WalkAt (now plan) w x) ⌝ }
+    ensures { λ r. ⌜ ((X : RowAt (columns .edition) (now (lay .entry)) (columns .count) (columns .first .at) (now (rec .entry)) 0) (x : State) (t : ℕ) → WalkAt (now (plan .entry)) w x → (C : ConstantIs (X .values .values) (now (plan .entry)) x t (c .at)) → stateValue (X .values .values) x ≡ choose r (C .value) vnull) ⌝ }
+{
+    if is_null(plan, c) {
+        return false;
+    }
+    is_run(lay, columns, rec, plan, w, table)
 }

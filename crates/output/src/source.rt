@@ -19,6 +19,7 @@ use ends::local::fill_local;
 use layout::cursor::Cursor;
 use layout::edition::Edition;
 use layout::walk::skip_type;
+use nodes::places::ColumnRange;
 use nodes::raw::NodeAt;
 use nodes::raw::column_value;
 use nodes::raw::value_at;
@@ -60,21 +61,20 @@ fn constant_source(node: NodeAt) -> Source
 // The column `k` of the record, at what is left of the path.
 fn column_node(
     lay: &[u8],
-    v: Edition,
-    n: u16,
-    columns: Cursor,
+    columns: ColumnRange,
     rec: &[u8],
     w: Walk,
     k: u16,
     table: &[u16],
 ) -> NodeAt
-    requires { ⌜ Ends v (now lay) (now table) ⌝ }
-    requires { ⌜ RowAt v (now lay) n (columns .at) (now rec) 0 ⌝ }
+    requires { ⌜ Ends (columns .edition) (now lay) (now table) ⌝ }
+    requires { ⌜ RowAt (columns .edition) (now lay) (columns .count) (columns .first .at) (now rec) 0 ⌝ }
     requires { ⌜ (w .deep ≤ w .len) × (w .len ≤ length (w .path)) ⌝ }
-    ensures { λ r. ⌜ ((X : RowAt v (now (lay .entry)) n (columns .at) (now (rec .entry)) 0) → NodeOf v (now (lay .entry)) (now (rec .entry)) (valueNode (valueAt (X .values .values) k) (slice (w .deep) (w .len) (w .path))) r) ⌝ }
+    ensures { λ r. ⌜ ((X : RowAt (columns .edition) (now (lay .entry)) (columns .count) (columns .first .at) (now (rec .entry)) 0) → NodeOf (columns .edition) (now (lay .entry)) (now (rec .entry)) (valueNode (valueAt (X .values .values) k) (slice (w .deep) (w .len) (w .path))) r) ⌝ }
 {
+    let v = columns.edition;
     let path = w.path;
-    match column_value(lay, v, n, columns, rec, k, table) {
+    match column_value(lay, v, columns.count, columns.first, rec, k, table) {
         NodeAt::Null => NodeAt::Null,
         NodeAt::At(t, c) => value_at(lay, v, t, rec, c, path, w.deep, w.len, table),
     }
@@ -129,24 +129,22 @@ fn struct_source(plan: &[u8], w: Walk, input: Cursor) -> Source
 
 pub fn source_at(
     lay: &[u8],
-    v: Edition,
-    n: u16,
-    columns: Cursor,
+    columns: ColumnRange,
     rec: &[u8],
     plan: &[u8],
     w: Walk,
     table: &[u16],
 ) -> Source
-    requires { ⌜ Ends v (now lay) (now table) ⌝ }
-    requires { ⌜ RowAt v (now lay) n (columns .at) (now rec) 0 ⌝ }
+    requires { ⌜ Ends (columns .edition) (now lay) (now table) ⌝ }
+    requires { ⌜ RowAt (columns .edition) (now lay) (columns .count) (columns .first .at) (now rec) 0 ⌝ }
     requires { ⌜ ((x : State) × WalkAt (now plan) w x) ⌝ }
-    ensures { λ r. ⌜ ((X : RowAt v (now (lay .entry)) n (columns .at) (now (rec .entry)) 0) (x : State) → WalkAt (now (plan .entry)) w x → next x ≡ ends → SourceIs (X .values .values) v (now (lay .entry)) (now (rec .entry)) (now (plan .entry)) x r) ⌝ }
+    ensures { λ r. ⌜ ((X : RowAt (columns .edition) (now (lay .entry)) (columns .count) (columns .first .at) (now (rec .entry)) 0) (x : State) → WalkAt (now (plan .entry)) w x → next x ≡ ends → SourceIs (X .values .values) (columns .edition) (now (lay .entry)) (now (rec .entry)) (now (plan .entry)) x r) ⌝ }
 {
     let c = Cursor { at: w.at };
     match head(plan, c) {
         SelectorHead::Position(k) => {
             if w.deep == 0 {
-                return record_source(column_node(lay, v, n, columns, rec, w, k.0, table));
+                return record_source(column_node(lay, columns, rec, w, k.0, table));
             }
             Source::Null
         }

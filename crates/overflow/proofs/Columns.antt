@@ -22,19 +22,20 @@ use Rattle.plan.specs.Selector.{Selector, Selectors, snil, scons, countSelector
 use Rattle.plan.specs.Check.{column}
 use Rattle.plan.specs.Read.{longestPlan, selectors as selectorsOf, selector, deepestSelector}
 use Rattle.plan.specs.Run.{eval, evals, clean, cleanAll}
-use Rattle.plan.specs.Fits.{FitsAllOver}
-use Rattle.plan.proofs.Typed.{Typed, TypedAll, t-nil, t-cons, typed→check, passed→typed}
+use Rattle.plan.proofs.Typed.{Typed, TypedAll, t-nil, t-cons, typed→check, check→typed, passed→typed}
 use Rattle.plan.proofs.Preserve.{eval-over}
 use Rattle.plan.proofs.ReadBack.{selector-back, selectors-read}
 use Rattle.nodes.specs.Raw.{RowAt}
+use Rattle.nodes.specs.declared.places.ColumnRange.{ColumnRange}
 use Rattle.walk.specs.Stands.{SelectorAt, SelectorsAt}
 use Rattle.walk.proofs.View.{FirstAt as FirstOf, first-at as first-of, selectors-counted}
+use Rattle.overflow.specs.Ranges.{RecordAt}
 use Rattle.overflow.specs.Want.{overflowing}
 use Rattle.overflow.specs.Some.{some}
 use Rattle.overflow.specs.Leaves.{leaves}
 use Rattle.overflow.specs.Overflows.{TopAt, PlanAt}
 use Rattle.overflow.proofs.Clean.{unclean}
-use Rattle.overflow.proofs.Seeking.{row-over}
+use Rattle.overflow.proofs.Seeking.{row-over, formed-at}
 
 -- the first of selectors that give columns
 typed-first : {Γ : Fields} {ss : Selectors} {n : Bytes} {t : DataType} {fs Δ : Fields} → Δ ≡ fcons n t fs → TypedAll Γ ss Δ → (s : Selector) × (rs : Selectors) × (ss ≡ scons s rs) × Typed Γ s n t × TypedAll Γ rs fs
@@ -141,11 +142,20 @@ pair-start {plan} {first} {y = y} {tgt} {m} {target} p D P = record {
   typed = passed→typed (selectors-read plan p deepestSelector (P .count) first (P .starts) (P .selectors .reads) .formed) (P .passes);
 }
 
+-- ---- one selector's column
+
+pub top-unclean : {v : Edition} {lay : Bytes} {n columns : ℕ} {rec plan : Bytes} {at : ℕ} {t : DataType} {r : Bool} → AllBytes rec → AllBytes plan
+    → (X : RowAt v lay n columns rec 0) (T : TopAt plan at (fieldsOf (X .columns .columns))) → T .column .type ≡ t
+    → r ≡ leaves t (λ p u. some (overflowing u) p (eval (X .values .values) (T .here .tree))) → r ≡ not (clean (eval (X .values .values) (T .here .tree)))
+top-unclean o p X T e g =
+    let Γ = fieldsOf (X .columns .columns) in
+    let d = subst (λ (u : DataType). Typed Γ (T .here .tree) (T .column .name) u) e (check→typed (formed-at p (T .here)) (T .passes)) in
+    g ∙ unclean (eval-over d (row-over o X))
+
 -- ---- b is whether there is an overflow in what is left
 
 pub record Columning (plan : Bytes) (Γ : Fields) (ρ : Values) (y : Edition) (tgt : Bytes) (m : ℕ) (b : Bool) (at to i : ℕ) : Type 0 where
   pub pairing : Pairing plan Γ y tgt m at to i
-  pub fits : FitsAllOver Γ ρ
   pub is : not (cleanAll (evals ρ (pairing .selectors .trees))) ≡ b
 
 not-clean : (ρ : Values) (ss : Selectors) {s : Selector} {rs : Selectors} {c : Bool} → ss ≡ scons s rs → not (clean (eval ρ s)) ≡ c → not (cleanAll (evals ρ ss)) ≡ not (not c && cleanAll (evals ρ rs))
@@ -165,12 +175,10 @@ module _ {plan : Bytes} {Γ : Fields} {ρ : Values} {y : Edition} {tgt : Bytes} 
   columning-all h = sym (none-left ρ (C .pairing .selectors .trees) (no-pair (C .pairing) h .0)) ∙ C .is
 
   module _ (lt : i < m) {q : Labelled} (g : labelRes tgt q ≡ label y tgt to) {l : LabelSpan} {e : Cursor} (h : q ≡ Labelled.Is l e) {r : Bool}
-      (x : (T : TopAt plan at Γ) (Q : TypeAt y 16 tgt (e .at)) → r ≡ leaves (dtypeOf (Q .tree)) (λ p u. some (overflowing u) p (eval ρ (T .here .tree)))) where
+      (x : (T : TopAt plan at Γ) (Q : TypeAt y 16 tgt (e .at)) → T .column .type ≡ dtypeOf (Q .tree) → r ≡ not (clean (eval ρ (T .here .tree)))) where
     column-clean : not (clean (eval ρ (next (C .pairing) lt g h .selector .head .tree))) ≡ r
     unfolding column-top
-    column-clean =
-        let N = next (C .pairing) lt g h in
-        sym (x (column-top (C .pairing) lt g h) (N .field .head) ∙ unclean (eval-over (N .typed) (C .fits)))
+    column-clean = sym (x (column-top (C .pairing) lt g h) (next (C .pairing) lt g h .field .head) refl)
 
     pub columning-found : r ≡ true → true ≡ b
     columning-found k = sym (not-clean ρ (C .pairing .selectors .trees) (next (C .pairing) lt g h .selector .is) (column-clean ∙ k)) ∙ C .is
@@ -179,17 +187,16 @@ module _ {plan : Bytes} {Γ : Fields} {ρ : Values} {y : Edition} {tgt : Bytes} 
     unfolding pair-more
     columning-more k f w = record {
       pairing = pair-more (C .pairing) lt g h f w;
-      fits = C .fits;
       is = sym (not-clean ρ (C .pairing .selectors .trees) (next (C .pairing) lt g h .selector .is) (column-clean ∙ k)) ∙ C .is;
     }
 
 -- of all that stand there
-abbrev pub Columnings : Edition → Bytes → ℕ → ℕ → Bytes → Bytes → ℕ → Edition → Bytes → ℕ → ℕ → ℕ → ℕ → ℕ → Type 0
-Columnings v lay n columns rec plan first y tgt m target at to i =
-    (X : RowAt v lay n columns rec 0) (D : ColumnsAt y 16 tgt m target) (P : PlanAt plan first (fieldsOf (X .columns .columns)) (fieldsOf (D .columns)))
+abbrev pub Columnings : Bytes → ColumnRange → Bytes → Bytes → ℕ → Bytes → Edition → ℕ → ℕ → ℕ → ℕ → ℕ → Type 0
+Columnings lay columns rec plan first tgt y m target at to i =
+    (X : RecordAt lay columns rec) (D : ColumnsAt y 16 tgt m target) (P : PlanAt plan first (fieldsOf (X .columns .columns)) (fieldsOf (D .columns)))
     → Columning plan (fieldsOf (X .columns .columns)) (X .values .values) y tgt m (not (cleanAll (evals (X .values .values) (P .selectors .trees)))) at to i
 
-pub columning-start : (v : Edition) (lay : Bytes) (n columns : ℕ) (rec plan : Bytes) (first : ℕ) (y : Edition) (tgt : Bytes) (m target : ℕ) → AllBytes rec → AllBytes plan
-    → Columnings v lay n columns rec plan first y tgt m target first target 0
+pub columning-start : (lay : Bytes) (columns : ColumnRange) (rec plan : Bytes) (first : ℕ) (tgt : Bytes) (y : Edition) (m target : ℕ) → AllBytes plan
+    → Columnings lay columns rec plan first tgt y m target first target 0
 unfolding pair-start
-columning-start v lay n columns rec plan first y tgt m target o p X D P = record { pairing = pair-start p D P; fits = row-over o X; is = refl }
+columning-start lay columns rec plan first tgt y m target p X D P = record { pairing = pair-start p D P; is = refl }

@@ -25,30 +25,43 @@ use Rattle.layout.proofs.Leaves.{leaf-of-type}
 use Rattle.values.specs.Value.{Values}
 use Rattle.plan.specs.Selector.{Selector}
 use Rattle.plan.specs.Run.{eval}
-use Rattle.nodes.specs.Raw.{RowAt}
+use Rattle.nodes.specs.declared.places.ColumnRange.{ColumnRange}
+use Rattle.nodes.specs.declared.places.TopPath.{TopPath}
 use Rattle.walk.specs.State.{state}
 use Rattle.walk.specs.Standing.{e-none, WalkAt}
 use Rattle.walk.specs.declared.walk.Walk.{Walk}
+use Rattle.overflow.specs.Ranges.{RecordAt}
 use Rattle.overflow.specs.Want.{Small, widest, overflowing, timeOf}
 use Rattle.overflow.specs.Some.{some}
 use Rattle.overflow.specs.Leaves.{atLeaf, leaves, leavesFrom}
 use Rattle.overflow.specs.Seek.{Seeks}
-use Rattle.overflow.specs.Overflows.{TopAt, overAt, started}
+use Rattle.overflow.specs.Overflows.{TopAt, overAt, partPath, started}
 use Rattle.overflow.specs.declared.want.Timed.{Timed}
 use Rattle.overflow.specs.declared.want.Timed.the-variants.{In, Never}
 
 -- ---- a step more of a path
 
-module _ (path : List ℕ) (len k : ℕ) {below : List ℕ} (room : length path ≡ 64) (e : below ≡ set path len k) where
-  longer : len < 64 → slice 0 (len + 1) below ≡ slice 0 len path ++ (k ∷ [])
-  longer h = ap (λ (q : List ℕ). slice 0 (len + 1) q) e ∙ rw add-one (take-suc-set path len k (omega arith))
+module _ (path : TopPath) (k : ℕ) {below : TopPath} (room : length (path .steps) ≡ 64) (e : below ≡ partPath path k) where
+  longer : path .len < 64 → slice 0 (path .len + 1) (set (path .steps) (path .len) k) ≡ slice 0 (path .len) (path .steps) ++ (k ∷ [])
+  longer h = rw add-one (take-suc-set (path .steps) (path .len) k (omega arith))
 
-  pub step-leaves : (ρ : Values) (s : Selector) (t : DataType) {r : Bool} → len < 64 → r ≡ leaves t (λ p u. overAt ρ s below (len + 1) p u) → r ≡ leaves t (λ p u. overAt ρ s path len (k ∷ p) u)
-  step-leaves ρ s t h g =
-      g ∙ (λ i. leaves t (λ p u. some (overflowing u) ((ap (λ (q : List ℕ). q ++ p) (longer h) ∙ append-assoc (slice 0 len path) (k ∷ []) p) i) (eval ρ s)))
+  pub step-top : {plan : Bytes} {Γ : Fields} → TopAt plan (path .top) Γ → TopAt plan (below .top) Γ
+  step-top {plan} {Γ} T = subst (λ (z : TopPath). TopAt plan (z .top) Γ) (sym e) T
 
-  pub step-room : length below ≡ 64
-  step-room = ap length e ∙ length-set path len k ∙ room
+  pub step-leaves : {plan : Bytes} {Γ : Fields} (ρ : Values) (T : TopAt plan (path .top) Γ) (t : DataType) {r : Bool} → path .len < 64
+      → ((S : TopAt plan (below .top) Γ) → r ≡ leaves t (λ p u. overAt ρ (S .here .tree) (below .steps) (below .len) p u))
+      → r ≡ leaves t (λ p u. overAt ρ (T .here .tree) (path .steps) (path .len) (k ∷ p) u)
+  step-leaves {plan} {Γ} ρ T t {r} h g =
+      let f : (S : TopAt plan (path .top) Γ) → r ≡ leaves t (λ p u. overAt ρ (S .here .tree) (set (path .steps) (path .len) k) (path .len + 1) p u) =
+      subst (λ (z : TopPath). (S : TopAt plan (z .top) Γ) → r ≡ leaves t (λ p u. overAt ρ (S .here .tree) (z .steps) (z .len) p u)) e g in
+      f T ∙ (λ i. leaves t (λ p u.
+      some (overflowing u) ((ap (λ (q : List ℕ). q ++ p) (longer h) ∙ append-assoc (slice 0 (path .len) (path .steps)) (k ∷ []) p) i) (eval ρ (T .here .tree))))
+
+  pub step-room : length (below .steps) ≡ 64
+  step-room = ap (λ (z : TopPath). length (z .steps)) e ∙ length-set (path .steps) (path .len) k ∙ room
+
+  pub step-deep : (d : ℕ) → path .len + 1 + d ≤ 16 → below .len + d ≤ 16
+  step-deep d h = let q : below .len ≡ path .len + 1 = ap (λ (z : TopPath). z .len) e in omega (arith, q, h)
 
 -- ---- the walk to a leaf
 
@@ -185,6 +198,7 @@ module _ {v : Edition} {d : ℕ} {s : Bytes} {n c : ℕ} {f : List ℕ → TimeU
             }
 
 -- of all that stand there
-abbrev pub Fieldings : Edition → Bytes → ℕ → ℕ → Bytes → Bytes → ℕ → Edition → ℕ → Bytes → ℕ → ℕ → List ℕ → ℕ → ℕ → ℕ → Type 0
-Fieldings v lay n columns rec plan top y d tgt m c path len i at =
-    (X : RowAt v lay n columns rec 0) (T : TopAt plan top (fieldsOf (X .columns .columns))) → Fielding y d tgt m c (λ p u. overAt (X .values .values) (T .here .tree) path len p u) i at
+abbrev pub Fieldings : Bytes → ColumnRange → Bytes → Bytes → TopPath → Edition → ℕ → Bytes → ℕ → ℕ → ℕ → ℕ → Type 0
+Fieldings lay columns rec plan path y d tgt m c i at =
+    (X : RecordAt lay columns rec) (T : TopAt plan (path .top) (fieldsOf (X .columns .columns)))
+    → Fielding y d tgt m c (λ p u. overAt (X .values .values) (T .here .tree) (path .steps) (path .len) p u) i at

@@ -19,6 +19,7 @@ use Rattle.plan.proofs.Typed.{check→typed}
 use Rattle.plan.proofs.Over.{all-over}
 use Rattle.plan.proofs.ReadBack.{selector-back}
 use Rattle.nodes.specs.Raw.{RowAt}
+use Rattle.nodes.specs.declared.places.ColumnRange.{ColumnRange}
 use Rattle.walk.specs.Stands.{SelectorAt}
 use Rattle.walk.specs.State.{Frame, State, state as stateOf}
 use Rattle.walk.specs.Moves.{Input as InputOf}
@@ -26,6 +27,7 @@ use Rattle.walk.specs.Standing.{Entered, e-fields, e-list, e-array, Entries, e-
 use Rattle.walk.specs.declared.walk.Walk.{Walk}
 use Rattle.walk.proofs.View.{selector-longer}
 use Rattle.walk.proofs.Standing.{walk-starts, innermost}
+use Rattle.overflow.specs.Ranges.{RecordAt}
 use Rattle.overflow.specs.Want.{SmallWant}
 use Rattle.overflow.specs.Some.{some, someIn, asked}
 use Rattle.overflow.specs.Seek.{stopOf, Seeks, outer}
@@ -152,18 +154,19 @@ module _ {plan : Bytes} {Γ : Fields} {ρ : Values} {b : Bool} {w : Walk} {a : W
 pub row-over : {v : Edition} {lay : Bytes} {n t : ℕ} {rec : Bytes} → AllBytes rec → (X : RowAt v lay n t rec 0) → FitsAllOver (fieldsOf (X .columns .columns)) (X .values .values)
 row-over {rec = rec} o X = all-over (values-back (fieldsOf (X .columns .columns)) rec o 0 (X .values .values) (X .values .end) (omega arith) (X .values .reads) .fits)
 
-formed-at : {plan : Bytes} {at : ℕ} → AllBytes plan → (P : SelectorAt plan at) → Formed (P .tree)
+pub formed-at : {plan : Bytes} {at : ℕ} → AllBytes plan → (P : SelectorAt plan at) → Formed (P .tree)
 formed-at {plan} {at} o P = selector-back plan o 64 at (P .tree) (P .end) (P .reads) .formed
 
 -- of all that stand there
-abbrev pub Going : Edition → Bytes → ℕ → ℕ → Bytes → Bytes → Walk → Want → Walk → Want → Type 0
-Going v lay n columns rec plan w₀ a₀ w a =
-    (X : RowAt v lay n columns rec 0) (S : Seeks plan w₀ (fieldsOf (X .columns .columns)))
+abbrev pub Going : Bytes → ColumnRange → Bytes → Bytes → Walk → Want → Walk → Want → Type 0
+Going lay columns rec plan w₀ a₀ w a =
+    (X : RecordAt lay columns rec) (S : Seeks plan w₀ (fieldsOf (X .columns .columns)))
     → Seeking plan (fieldsOf (X .columns .columns)) (X .values .values) (some a₀ (S .path) (eval (X .values .values) (S .selector))) w a
 
-pub going-start : (v : Edition) (lay : Bytes) (n columns : ℕ) (rec plan : Bytes) (w : Walk) (a : Want) → AllBytes rec → AllBytes plan → SmallWant a → Going v lay n columns rec plan w a w a
+pub going-start : (lay : Bytes) (columns : ColumnRange) (rec plan : Bytes) (w : Walk) (a : Want) → AllBytes rec → AllBytes plan → SmallWant a
+    → Going lay columns rec plan w a w a
 unfolding asked someIn
-going-start v lay n columns rec plan w a o p s X S = record {
+going-start lay columns rec plan w a o p s X S = record {
   fits = row-over o X;
   state = stateOf (S .selector) [] (S .path);
   standing = S .standing;

@@ -31,7 +31,7 @@ use Rattle.overflow.specs.Some.{some}
 use Rattle.overflow.specs.Seek.{RawIn, answered, columnStop, ranStop, constantStop, castStop, structStop, listStop, stopAt, stopOf}
 use Rattle.overflow.specs.declared.want.Want.{Want}
 use Rattle.overflow.specs.declared.stop.Stop.{Stop}
-use Rattle.overflow.specs.declared.stop.Stop.the-variants.{No, Input}
+use Rattle.overflow.specs.declared.stop.Stop.the-variants.{No, Yes, Input}
 
 module _ {plan : Bytes} {w : Walk} {x : State} (M : WalkAt plan w x) where
   -- ---- by what is left of the path
@@ -66,7 +66,7 @@ module _ {plan : Bytes} {w : Walk} {x : State} (M : WalkAt plan w x) where
     selected e h = h ∙ sym (ap (λ (s : Selector). stopAt ρ s (x .frames) (x .path) a) e)
 
     module _ {k : Position} (e : x .selector ≡ position k) where
-      pub position-in : 0 < w .deep → No ≡ stopOf ρ x a
+      pub position-in : 0 < w .deep → Yes ≡ stopOf ρ x a
       unfolding stopAt columnStop
       position-in h =
           let (f, F, g) = some-inner (λ z. omega arith) (M .entries) in

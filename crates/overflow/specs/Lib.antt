@@ -1,3 +1,4 @@
+pub mod Ranges
 pub mod Want
 pub mod Some
 pub mod Leaves

@@ -1,9 +1,9 @@
 -- Document 01, 44, "a strict date-time too large anywhere in the output": asked of each path to a date-time leaf of the target's types.
-use Prim.Native.Nat.{ℕ, _≤_}
+use Prim.Native.Nat.{ℕ, _+_, _≤_}
 use mathlib.Core.Path.{_≡_}
 use mathlib.Core.Bool.{Bool}
 use mathlib.Core.List.{List, _++_}
-use lib.ListN.{length, replicate}
+use lib.ListN.{length, replicate, set}
 use lib.Seq.{slice}
 use Rattle.layout.specs.Bytes.{Bytes}
 use Rattle.layout.specs.Tree.{Fields}
@@ -16,6 +16,7 @@ use Rattle.plan.specs.Read.{longestPlan}
 use Rattle.plan.specs.Run.{eval}
 use Rattle.walk.specs.Stands.{SelectorAt, SelectorsAt}
 use Rattle.walk.specs.declared.walk.Walk.{Walk}
+use Rattle.nodes.specs.declared.places.TopPath.{TopPath}
 use Rattle.overflow.specs.Want.{overflowing}
 use Rattle.overflow.specs.Some.{some}
 
@@ -41,3 +42,7 @@ overAt ρ s path len p u = some (overflowing u) (slice 0 len path ++ p) (eval ρ
 
 abbrev pub started : ℕ → ℕ → List ℕ → ℕ → Walk
 started at lim path len = record { at = at; lim = lim; deep = 0; len = len; maps = replicate 64 0; path = path }
+
+-- a step further, to the part k
+abbrev pub partPath : TopPath → ℕ → TopPath
+partPath path k = record { top = path .top; steps = set (path .steps) (path .len) k; len = path .len + 1 }

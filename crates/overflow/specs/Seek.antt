@@ -35,7 +35,7 @@ answered false = No
 -- a column of the record; inside a mapping a walk that passed the check stops at no position
 unfoldable pub columnStop : Bool → List Frame → Stop
 columnStop b [] = answered b
-columnStop b (f ∷ E) = No
+columnStop b (f ∷ E) = Yes
 
 -- a constant is in the output where it is run: where the innermost mapping's input is a struct, or has an element
 unfoldable pub ranStop : List Frame → Stop

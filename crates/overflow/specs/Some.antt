@@ -1,14 +1,17 @@
 -- Whether one of the nodes at a path is such as is wanted, where the path takes every element of the lists and arrays that it goes through; and the same of what a
 -- selector gives inside the mappings that a walk entered.
-use Prim.Native.Nat.{ℕ}
+use Prim.Native.Nat.{ℕ, _≤_}
 use mathlib.Core.Bool.{Bool, false, _||_}
 use mathlib.Core.List.{List, [], _∷_}
+use lib.ListN.{length}
+use lib.Seq.{slice}
 use Rattle.values.specs.Value.{Value, vnull, vnumber, vtext, voverflow, vstruct, vlist, varray, Values, vnil, vcons, isNullValue}
 use Rattle.plan.specs.Run.{valueAt, eval}
 use Rattle.walk.specs.State.{Frame, fields, element, State}
 use Rattle.overflow.specs.Want.{meets, SmallWant}
 use Rattle.overflow.specs.declared.want.Want.{Want}
 use Rattle.overflow.specs.declared.scan.Sought.{Sought}
+use Rattle.overflow.specs.declared.scan.Search.{Search}
 
 -- one of the values is such
 unfoldable pub anyOf : (Value → Bool) → Values → Bool
@@ -42,6 +45,13 @@ SmallSought (Sought.Present w) = SmallWant w
 unfoldable pub someSought : Sought → List ℕ → Value → Bool
 someSought q [] v = isSought q v
 someSought q (k ∷ p) v = somePart k (λ x. someSought q p x) v
+
+-- the same of a search
+abbrev pub someFound : Search → Value → Bool
+someFound s v = someSought (s .sought) (slice (s .from) (s .len) (s .path)) v
+
+abbrev pub SmallSearch : Search → Type 0
+SmallSearch s = (s .from ≤ s .len) × (s .len ≤ length (s .path)) × SmallSought (s .sought)
 
 -- f of the fields of a struct
 unfoldable pub inStruct : (Values → Bool) → Value → Bool

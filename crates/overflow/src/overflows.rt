@@ -4,14 +4,14 @@ ghost use mathlib.Core.Path.{_≡_};
 ghost use mathlib.Core.Bool.{not};
 ghost use mathlib.Core.List.{[], _∷_};
 ghost use Prim.Native.Nat.{_+_, _<_, _≤_};
-ghost use lib.ListN.{length, set};
+ghost use lib.ListN.{length};
 ghost use Rattle.ends.specs.Ends.{Ends};
 ghost use Rattle.layout.specs.Tree.{dtypeOf, fieldsOf};
 ghost use Rattle.layout.specs.Stands.{TypeAt, ColumnsAt};
-ghost use Rattle.plan.specs.Run.{cleanAll, evals};
-ghost use Rattle.nodes.specs.Raw.{RowAt};
+ghost use Rattle.plan.specs.Run.{clean, cleanAll, eval, evals};
+ghost use Rattle.overflow.specs.Ranges.{ColumnsIn, RecordAt};
 ghost use Rattle.overflow.specs.Leaves.{leaves, leavesFrom};
-ghost use Rattle.overflow.specs.Overflows.{TopAt, PlanAt, overAt, started};
+ghost use Rattle.overflow.specs.Overflows.{TopAt, PlanAt, overAt, partPath, started};
 use crate::seek::seek;
 use crate::want::Bounds;
 use crate::want::Timed;
@@ -23,312 +23,254 @@ use layout::edition::Edition;
 use layout::leaf::TimeUnit;
 use layout::types::Head;
 use layout::walk::skip_type;
+use nodes::places::ColumnRange;
+use nodes::places::TopPath;
+use nodes::places::TypePlace;
 use walk::head::skip_selector;
 use walk::walk::Walk;
 
 const HALF: u64 = 9223372036854775808;
 
-// A path with the number k put at `len`.
-pub fn stepped(path: [u16; 64], len: usize, k: u16) -> [u16; 64]
-    requires { ⌜ len < length path ⌝ }
-    ensures { λ r. ⌜ r ≡ set path len k ⌝ }
+// Where a struct's fields stand: the edition of their layout, the depth left to them, how many, and the first.
+pub struct FieldsPlace {
+    pub edition: Edition,
+    pub depth: u8,
+    pub count: u16,
+    pub first: Cursor,
+}
+
+// A step further, to the part `k`.
+pub fn part_path(path: TopPath, k: u16) -> TopPath
+    requires { ⌜ path .len < 64 ⌝ }
+    ensures { λ r. ⌜ r ≡ partPath path k ⌝ }
 {
+    let len = path.len;
     let mut next = path;
-    next[len] = k;
+    next.steps[len] = k;
+    next.len = len + 1;
     next
 }
 
 // At a column's selector, with a path.
-pub fn start(at: usize, lim: usize, path: [u16; 64], len: usize) -> Walk
-    ensures { λ r. ⌜ r ≡ started at lim path len ⌝ }
+pub fn start(path: TopPath, lim: usize) -> Walk
+    ensures { λ r. ⌜ r ≡ started (path .top) lim (path .steps) (path .len) ⌝ }
 {
+    let steps = path.steps;
     Walk {
-        at,
+        at: path.top,
         lim,
         deep: 0,
-        len,
+        len: path.len,
         maps: [0u16; 64],
-        path,
+        path: steps,
     }
 }
 
-// At the path to a date-time leaf of the unit `u`, in what the selector at `top` gives.
+// At the path to a date-time leaf of the unit `u`.
 fn over_leaf(
     lay: &[u8],
-    v: Edition,
-    n: u16,
-    columns: Cursor,
+    columns: ColumnRange,
     rec: &[u8],
     plan: &[u8],
-    top: usize,
+    path: TopPath,
     u: TimeUnit,
-    path: [u16; 64],
-    len: usize,
     table: &[u16],
 ) -> bool
-    requires { ⌜ Ends v (now lay) (now table) ⌝ }
-    requires { ⌜ ((X : RowAt v (now lay) n (columns .at) (now rec) 0) × TopAt (now plan) top (fieldsOf (X .columns .columns))) ⌝ }
-    requires { ⌜ (len ≤ 64) × (length path ≡ 64) ⌝ }
-    ensures { λ r. ⌜ ((X : RowAt v (now (lay .entry)) n (columns .at) (now (rec .entry)) 0) (T : TopAt (now (plan .entry)) top (fieldsOf (X .columns .columns))) → r ≡ overAt (X .values .values) (T .here .tree) path len [] u) ⌝ }
+    requires { ⌜ Ends (columns .edition) (now lay) (now table) ⌝ }
+    requires { ⌜ ((X : RecordAt (now lay) columns (now rec)) × TopAt (now plan) (path .top) (fieldsOf (X .columns .columns))) ⌝ }
+    requires { ⌜ (path .len ≤ 64) × (length (path .steps) ≡ 64) ⌝ }
+    ensures { λ r. ⌜ ((X : RecordAt (now (lay .entry)) columns (now (rec .entry))) (T : TopAt (now (plan .entry)) (path .top) (fieldsOf (X .columns .columns))) → r ≡ overAt (X .values .values) (T .here .tree) (path .steps) (path .len) [] u) ⌝ }
 {
-    let w = start(top, plan.len(), path, len);
+    let w = start(path, plan.len());
     let bounds = Bounds {
         above: HALF,
         below: HALF,
     };
-    seek(
-        lay,
-        v,
-        n,
-        columns,
-        rec,
-        plan,
-        w,
-        Want::Beyond(bounds, u),
-        table,
-    )
+    seek(lay, columns, rec, plan, w, Want::Beyond(bounds, u), table)
 }
 
-// At the paths that go on to a date-time leaf of the type at `t`.
+// At the paths that go on to a date-time leaf of the type at `place`.
 fn over_type(
     lay: &[u8],
-    v: Edition,
-    n: u16,
-    columns: Cursor,
+    columns: ColumnRange,
     rec: &[u8],
     plan: &[u8],
-    top: usize,
+    path: TopPath,
     tgt: &[u8],
-    y: Edition,
-    depth: u8,
-    t: Cursor,
-    path: [u16; 64],
-    len: usize,
+    place: TypePlace,
     table: &[u16],
 ) -> bool
-    requires { ⌜ Ends v (now lay) (now table) ⌝ }
-    requires { ⌜ ((X : RowAt v (now lay) n (columns .at) (now rec) 0) × TopAt (now plan) top (fieldsOf (X .columns .columns))) ⌝ }
-    requires { ⌜ TypeAt y depth (now tgt) (t .at) × (len + depth ≤ 16) × (length path ≡ 64) ⌝ }
-    ensures { λ r. ⌜ ((X : RowAt v (now (lay .entry)) n (columns .at) (now (rec .entry)) 0) (T : TopAt (now (plan .entry)) top (fieldsOf (X .columns .columns))) (Q : TypeAt y depth (now (tgt .entry)) (t .at)) → r ≡ leaves (dtypeOf (Q .tree)) (λ p u. overAt (X .values .values) (T .here .tree) path len p u)) ⌝ }
+    requires { ⌜ Ends (columns .edition) (now lay) (now table) ⌝ }
+    requires { ⌜ ((X : RecordAt (now lay) columns (now rec)) × TopAt (now plan) (path .top) (fieldsOf (X .columns .columns))) ⌝ }
+    requires { ⌜ TypeAt (place .edition) (place .depth) (now tgt) (place .at .at) × (path .len + place .depth ≤ 16) × (length (path .steps) ≡ 64) ⌝ }
+    ensures { λ r. ⌜ ((X : RecordAt (now (lay .entry)) columns (now (rec .entry))) (T : TopAt (now (plan .entry)) (path .top) (fieldsOf (X .columns .columns))) (Q : TypeAt (place .edition) (place .depth) (now (tgt .entry)) (place .at .at)) → r ≡ leaves (dtypeOf (Q .tree)) (λ p u. overAt (X .values .values) (T .here .tree) (path .steps) (path .len) p u)) ⌝ }
 {
+    let y = place.edition;
+    let t = place.at;
     match t.head(tgt) {
         Head::Leaf(l, _) => {
             let leaf = l.leaf;
             match time_of(leaf) {
-                Timed::In(u) => over_leaf(lay, v, n, columns, rec, plan, top, u, path, len, table),
+                Timed::In(u) => over_leaf(lay, columns, rec, plan, path, u, table),
                 Timed::Never => false,
             }
         }
-        Head::Struct(m, e) => over_fields(
-            lay,
-            v,
-            n,
-            columns,
-            rec,
-            plan,
-            top,
-            tgt,
-            y,
-            depth - 1,
-            m,
-            e,
-            path,
-            len,
-            table,
-        ),
+        Head::Struct(m, e) => {
+            let fields = FieldsPlace {
+                edition: y,
+                depth: place.depth - 1,
+                count: m,
+                first: e,
+            };
+            over_fields(lay, columns, rec, plan, path, tgt, fields, table)
+        }
         Head::List(e) => match e.element_label(tgt, y) {
-            Labelled::Is(_, f) => over_element(
-                lay,
-                v,
-                n,
-                columns,
-                rec,
-                plan,
-                top,
-                tgt,
-                y,
-                depth - 1,
-                f,
-                path,
-                len,
-                table,
-            ),
-            Labelled::Refused(_) => false,
+            Labelled::Is(_, f) => {
+                let element = TypePlace {
+                    edition: y,
+                    depth: place.depth - 1,
+                    at: f,
+                };
+                over_element(lay, columns, rec, plan, path, tgt, element, table)
+            }
+            Labelled::Refused(_) => true,
         },
         Head::Array(_, e) => match e.element_label(tgt, y) {
-            Labelled::Is(_, f) => over_element(
-                lay,
-                v,
-                n,
-                columns,
-                rec,
-                plan,
-                top,
-                tgt,
-                y,
-                depth - 1,
-                f,
-                path,
-                len,
-                table,
-            ),
-            Labelled::Refused(_) => false,
+            Labelled::Is(_, f) => {
+                let element = TypePlace {
+                    edition: y,
+                    depth: place.depth - 1,
+                    at: f,
+                };
+                over_element(lay, columns, rec, plan, path, tgt, element, table)
+            }
+            Labelled::Refused(_) => true,
         },
-        Head::Refused(_) => false,
+        Head::Refused(_) => true,
     }
 }
 
-// Of a list's or array's element, whose type stands at `t`: every one.
+// Of a list's or array's element, whose type stands at `place`: every one.
 fn over_element(
     lay: &[u8],
-    v: Edition,
-    n: u16,
-    columns: Cursor,
+    columns: ColumnRange,
     rec: &[u8],
     plan: &[u8],
-    top: usize,
+    path: TopPath,
     tgt: &[u8],
-    y: Edition,
-    depth: u8,
-    t: Cursor,
-    path: [u16; 64],
-    len: usize,
+    place: TypePlace,
     table: &[u16],
 ) -> bool
-    requires { ⌜ Ends v (now lay) (now table) ⌝ }
-    requires { ⌜ ((X : RowAt v (now lay) n (columns .at) (now rec) 0) × TopAt (now plan) top (fieldsOf (X .columns .columns))) ⌝ }
-    requires { ⌜ TypeAt y depth (now tgt) (t .at) × (len + 1 + depth ≤ 16) × (length path ≡ 64) ⌝ }
-    ensures { λ r. ⌜ ((X : RowAt v (now (lay .entry)) n (columns .at) (now (rec .entry)) 0) (T : TopAt (now (plan .entry)) top (fieldsOf (X .columns .columns))) (Q : TypeAt y depth (now (tgt .entry)) (t .at)) → r ≡ leaves (dtypeOf (Q .tree)) (λ p u. overAt (X .values .values) (T .here .tree) path len (0 ∷ p) u)) ⌝ }
+    requires { ⌜ Ends (columns .edition) (now lay) (now table) ⌝ }
+    requires { ⌜ ((X : RecordAt (now lay) columns (now rec)) × TopAt (now plan) (path .top) (fieldsOf (X .columns .columns))) ⌝ }
+    requires { ⌜ TypeAt (place .edition) (place .depth) (now tgt) (place .at .at) × (path .len + 1 + place .depth ≤ 16) × (length (path .steps) ≡ 64) ⌝ }
+    ensures { λ r. ⌜ ((X : RecordAt (now (lay .entry)) columns (now (rec .entry))) (T : TopAt (now (plan .entry)) (path .top) (fieldsOf (X .columns .columns))) (Q : TypeAt (place .edition) (place .depth) (now (tgt .entry)) (place .at .at)) → r ≡ leaves (dtypeOf (Q .tree)) (λ p u. overAt (X .values .values) (T .here .tree) (path .steps) (path .len) (0 ∷ p) u)) ⌝ }
 {
-    let below = stepped(path, len, 0);
-    over_type(
-        lay,
-        v,
-        n,
-        columns,
-        rec,
-        plan,
-        top,
-        tgt,
-        y,
-        depth,
-        t,
-        below,
-        len + 1,
-        table,
-    )
+    let below = part_path(path, 0);
+    over_type(lay, columns, rec, plan, below, tgt, place, table)
 }
 
-// Of a struct's `m` columns from a cursor.
+// Of a struct's fields.
 fn over_fields(
     lay: &[u8],
-    v: Edition,
-    n: u16,
-    columns: Cursor,
+    columns: ColumnRange,
     rec: &[u8],
     plan: &[u8],
-    top: usize,
+    path: TopPath,
     tgt: &[u8],
-    y: Edition,
-    depth: u8,
-    m: u16,
-    c: Cursor,
-    path: [u16; 64],
-    len: usize,
+    fields: FieldsPlace,
     table: &[u16],
 ) -> bool
-    requires { ⌜ Ends v (now lay) (now table) ⌝ }
-    requires { ⌜ ((X : RowAt v (now lay) n (columns .at) (now rec) 0) × TopAt (now plan) top (fieldsOf (X .columns .columns))) ⌝ }
-    requires { ⌜ ColumnsAt y depth (now tgt) m (c .at) × (len + 1 + depth ≤ 16) × (length path ≡ 64) ⌝ }
-    ensures { λ r. ⌜ ((X : RowAt v (now (lay .entry)) n (columns .at) (now (rec .entry)) 0) (T : TopAt (now (plan .entry)) top (fieldsOf (X .columns .columns))) (Q : ColumnsAt y depth (now (tgt .entry)) m (c .at)) → r ≡ leavesFrom (fieldsOf (Q .columns)) 0 (λ p u. overAt (X .values .values) (T .here .tree) path len p u)) ⌝ }
+    requires { ⌜ Ends (columns .edition) (now lay) (now table) ⌝ }
+    requires { ⌜ ((X : RecordAt (now lay) columns (now rec)) × TopAt (now plan) (path .top) (fieldsOf (X .columns .columns))) ⌝ }
+    requires { ⌜ ColumnsAt (fields .edition) (fields .depth) (now tgt) (fields .count) (fields .first .at) × (path .len + 1 + fields .depth ≤ 16) × (length (path .steps) ≡ 64) ⌝ }
+    ensures { λ r. ⌜ ((X : RecordAt (now (lay .entry)) columns (now (rec .entry))) (T : TopAt (now (plan .entry)) (path .top) (fieldsOf (X .columns .columns))) (Q : ColumnsAt (fields .edition) (fields .depth) (now (tgt .entry)) (fields .count) (fields .first .at)) → r ≡ leavesFrom (fieldsOf (Q .columns)) 0 (λ p u. overAt (X .values .values) (T .here .tree) (path .steps) (path .len) p u)) ⌝ }
 {
-    let mut at = c.at;
+    let edition = fields.edition;
+    let depth = fields.depth;
+    let count = fields.count;
+    let mut d = fields.first;
     let mut i: u16 = 0;
-    while i < m {
-        let d = Cursor { at };
-        match d.label(tgt, y) {
+    while i < count {
+        match d.label(tgt, edition) {
             Labelled::Is(_, e) => {
-                let below = stepped(path, len, i);
-                let over = over_type(
-                    lay,
-                    v,
-                    n,
-                    columns,
-                    rec,
-                    plan,
-                    top,
-                    tgt,
-                    y,
+                let below = part_path(path, i);
+                let place = TypePlace {
+                    edition,
                     depth,
-                    e,
-                    below,
-                    len + 1,
-                    table,
-                );
-                if over {
+                    at: e,
+                };
+                if over_type(lay, columns, rec, plan, below, tgt, place, table) {
                     return true;
                 }
-                let end = skip_type(tgt, y, depth, e);
-                at = end.at;
+                d = skip_type(tgt, edition, depth, e);
             }
-            Labelled::Refused(_) => return false,
+            Labelled::Refused(_) => return true,
         }
         i += 1;
     }
     false
 }
 
-// In the output of a plan whose selectors begin at `first`, over a record; the target has `m` columns.
+// In the column that the selector at `top` gives, whose type in the target stands at `place`.
+pub fn top_overflows(
+    lay: &[u8],
+    columns: ColumnRange,
+    rec: &[u8],
+    plan: &[u8],
+    top: Cursor,
+    tgt: &[u8],
+    place: TypePlace,
+    table: &[u16],
+) -> bool
+    requires { ⌜ Ends (columns .edition) (now lay) (now table) ⌝ }
+    requires { ⌜ ((X : RecordAt (now lay) columns (now rec)) × TopAt (now plan) (top .at) (fieldsOf (X .columns .columns))) ⌝ }
+    requires { ⌜ TypeAt (place .edition) (place .depth) (now tgt) (place .at .at) × (place .depth ≤ 16) ⌝ }
+    ensures { λ r. ⌜ ((X : RecordAt (now (lay .entry)) columns (now (rec .entry))) (T : TopAt (now (plan .entry)) (top .at) (fieldsOf (X .columns .columns))) (Q : TypeAt (place .edition) (place .depth) (now (tgt .entry)) (place .at .at)) → T .column .type ≡ dtypeOf (Q .tree) → r ≡ not (clean (eval (X .values .values) (T .here .tree)))) ⌝ }
+{
+    let path = TopPath {
+        top: top.at,
+        steps: [0u16; 64],
+        len: 0,
+    };
+    over_type(lay, columns, rec, plan, path, tgt, place, table)
+}
+
+// In the output of a plan whose selectors begin at `first`, over a record.
 pub fn overflows(
     lay: &[u8],
-    v: Edition,
-    n: u16,
-    columns: Cursor,
+    columns: ColumnRange,
     rec: &[u8],
     plan: &[u8],
     first: Cursor,
     tgt: &[u8],
-    y: Edition,
-    m: u16,
-    target: Cursor,
+    target: ColumnRange,
     table: &[u16],
 ) -> bool
-    requires { ⌜ Ends v (now lay) (now table) ⌝ }
-    requires { ⌜ ((X : RowAt v (now lay) n (columns .at) (now rec) 0) × (D : ColumnsAt y 16 (now tgt) m (target .at)) × PlanAt (now plan) (first .at) (fieldsOf (X .columns .columns)) (fieldsOf (D .columns))) ⌝ }
-    ensures { λ r. ⌜ ((X : RowAt v (now (lay .entry)) n (columns .at) (now (rec .entry)) 0) (D : ColumnsAt y 16 (now (tgt .entry)) m (target .at)) (P : PlanAt (now (plan .entry)) (first .at) (fieldsOf (X .columns .columns)) (fieldsOf (D .columns))) → r ≡ not (cleanAll (evals (X .values .values) (P .selectors .trees)))) ⌝ }
+    requires { ⌜ Ends (columns .edition) (now lay) (now table) ⌝ }
+    requires { ⌜ ((X : RecordAt (now lay) columns (now rec)) × (D : ColumnsIn (now tgt) target) × PlanAt (now plan) (first .at) (fieldsOf (X .columns .columns)) (fieldsOf (D .columns))) ⌝ }
+    ensures { λ r. ⌜ ((X : RecordAt (now (lay .entry)) columns (now (rec .entry))) (D : ColumnsIn (now (tgt .entry)) target) (P : PlanAt (now (plan .entry)) (first .at) (fieldsOf (X .columns .columns)) (fieldsOf (D .columns))) → r ≡ not (cleanAll (evals (X .values .values) (P .selectors .trees)))) ⌝ }
 {
-    let mut at = first.at;
-    let mut to = target.at;
+    let edition = target.edition;
+    let count = target.count;
+    let mut s = first;
+    let mut d = target.first;
     let mut i: u16 = 0;
-    while i < m {
-        let d = Cursor { at: to };
-        match d.label(tgt, y) {
+    while i < count {
+        match d.label(tgt, edition) {
             Labelled::Is(_, e) => {
-                if over_type(
-                    lay,
-                    v,
-                    n,
-                    columns,
-                    rec,
-                    plan,
-                    at,
-                    tgt,
-                    y,
-                    16,
-                    e,
-                    [0u16; 64],
-                    0,
-                    table,
-                ) {
+                let place = TypePlace {
+                    edition,
+                    depth: 16,
+                    at: e,
+                };
+                if top_overflows(lay, columns, rec, plan, s, tgt, place, table) {
                     return true;
                 }
-                let s = Cursor { at };
-                let next = skip_selector(plan, s);
-                let end = skip_type(tgt, y, 16, e);
-                at = next.at;
-                to = end.at;
+                s = skip_selector(plan, s);
+                d = skip_type(tgt, edition, 16, e);
             }
-            Labelled::Refused(_) => return false,
+            Labelled::Refused(_) => return true,
         }
         i += 1;
     }

@@ -10,7 +10,7 @@ ghost use mathlib.Core.List.{List};
 ghost use Prim.Native.Nat.{ℕ};
 ghost use Rattle.values.specs.Value.{vnull};
 ghost use Rattle.overflow.specs.Want.{Small, SmallWant, isBeyond, isStruct, isFilled, meets};
-ghost use Rattle.overflow.specs.Some.{anyOf, somePart, SmallSought, isSought, someSought};
+ghost use Rattle.overflow.specs.Some.{anyOf, somePart, SmallSought, isSought, someSought, SmallSearch, someFound};
 use crate::want::Bounds;
 use crate::want::Timed;
 use crate::want::Want;
@@ -36,6 +36,14 @@ pub enum Sought {
     Present(Want),
 }
 
+// What is sought, and the path to it: the numbers of `path` from `from` to `len`.
+pub struct Search {
+    pub sought: Sought,
+    pub path: [u16; 64],
+    pub from: usize,
+    pub len: usize,
+}
+
 // ---- a value that is present, at the path's end
 
 fn is_struct(lay: &[u8], v: Edition, t: Cursor, rec: &[u8], c: Cursor) -> bool
@@ -47,7 +55,7 @@ fn is_struct(lay: &[u8], v: Edition, t: Cursor, rec: &[u8], c: Cursor) -> bool
         Head::Struct(_, _) => true,
         Head::List(_) => false,
         Head::Array(_, _) => false,
-        Head::Refused(_) => false,
+        Head::Refused(_) => true,
     }
 }
 
@@ -60,10 +68,10 @@ fn is_filled(lay: &[u8], v: Edition, t: Cursor, rec: &[u8], c: Cursor) -> bool
         Head::Struct(_, _) => false,
         Head::List(_) => match c.short(rec) {
             Short::Is(n, _) => 0 < n,
-            Short::Refused(_) => false,
+            Short::Refused(_) => true,
         },
         Head::Array(w, _) => 0 < w,
-        Head::Refused(_) => false,
+        Head::Refused(_) => true,
     }
 }
 
@@ -91,7 +99,7 @@ fn is_beyond(
         Head::Struct(_, _) => false,
         Head::List(_) => false,
         Head::Array(_, _) => false,
-        Head::Refused(_) => false,
+        Head::Refused(_) => true,
     }
 }
 
@@ -134,34 +142,32 @@ fn null_sought(sought: Sought, from: usize, len: usize) -> bool
 
 // ---- along the path
 
-// Whether one of the nodes at the rest of the path is such as is sought.
+// Whether one of the nodes at the path is such as is sought.
 pub fn some_at(
     lay: &[u8],
     v: Edition,
     t: Cursor,
     rec: &[u8],
     c: Cursor,
-    path: [u16; 64],
-    from: usize,
-    len: usize,
-    sought: Sought,
+    search: Search,
     table: &[u16],
 ) -> bool
     requires { ⌜ Ends v (now lay) (now table) ⌝ }
     requires { ⌜ RawAt v (now lay) (t .at) (now rec) (c .at) ⌝ }
-    requires { ⌜ (from ≤ len) × (len ≤ length path) × SmallSought sought ⌝ }
-    ensures { λ r. ⌜ ((X : RawAt v (now (lay .entry)) (t .at) (now (rec .entry)) (c .at)) → r ≡ someSought sought (slice from len path) (X .value .tree)) ⌝ }
+    requires { ⌜ SmallSearch search ⌝ }
+    ensures { λ r. ⌜ ((X : RawAt v (now (lay .entry)) (t .at) (now (rec .entry)) (c .at)) → r ≡ someFound search (X .value .tree)) ⌝ }
 {
+    let sought = search.sought;
     match read_presence(rec, c) {
-        Presence::Null(_) => null_sought(sought, from, len),
+        Presence::Null(_) => null_sought(sought, search.from, search.len),
         Presence::Present(d) => {
-            if from == len {
+            if search.from == search.len {
                 present_sought(lay, v, t, rec, d, sought)
             } else {
-                some_part(lay, v, t, rec, d, path, from, len, sought, table)
+                some_part(lay, v, t, rec, d, search, table)
             }
         }
-        Presence::Refused(_) => false,
+        Presence::Refused(_) => true,
     }
 }
 
@@ -172,55 +178,35 @@ fn some_part(
     t: Cursor,
     rec: &[u8],
     c: Cursor,
-    path: [u16; 64],
-    from: usize,
-    len: usize,
-    sought: Sought,
+    search: Search,
     table: &[u16],
 ) -> bool
     requires { ⌜ Ends v (now lay) (now table) ⌝ }
     requires { ⌜ PresentAt v (now lay) (t .at) (now rec) (c .at) ⌝ }
-    requires { ⌜ (from < len) × (len ≤ length path) × SmallSought sought ⌝ }
-    ensures { λ r. ⌜ ((X : PresentAt v (now (lay .entry)) (t .at) (now (rec .entry)) (c .at)) → r ≡ someSought sought (slice from len path) (X .content .tree)) ⌝ }
+    requires { ⌜ SmallSearch search × (search .from < search .len) ⌝ }
+    ensures { λ r. ⌜ ((X : PresentAt v (now (lay .entry)) (t .at) (now (rec .entry)) (c .at)) → r ≡ someFound search (X .content .tree)) ⌝ }
 {
+    let from = search.from;
+    let mut next = search;
+    next.from = from + 1;
     match t.head(lay) {
         Head::Leaf(_, _) => false,
-        Head::Struct(n, e) => match field_at(lay, v, n, e, rec, c, path[from], table) {
-            NodeAt::At(f, d) => some_at(lay, v, f, rec, d, path, from + 1, len, sought, table),
-            NodeAt::Null => null_sought(sought, from + 1, len),
+        Head::Struct(n, e) => match field_at(lay, v, n, e, rec, c, search.path[from], table) {
+            NodeAt::At(f, d) => some_at(lay, v, f, rec, d, next, table),
+            NodeAt::Null => {
+                let sought = search.sought;
+                null_sought(sought, next.from, next.len)
+            }
         },
         Head::List(e) => match e.element_label(lay, v) {
-            Labelled::Is(_, f) => some_listed(
-                lay,
-                v,
-                f,
-                rec,
-                c,
-                path,
-                from + 1,
-                len,
-                sought,
-                table,
-            ),
-            Labelled::Refused(_) => false,
+            Labelled::Is(_, f) => some_listed(lay, v, f, rec, c, next, table),
+            Labelled::Refused(_) => true,
         },
         Head::Array(w, e) => match e.element_label(lay, v) {
-            Labelled::Is(_, f) => some_element(
-                lay,
-                v,
-                w,
-                f,
-                rec,
-                c,
-                path,
-                from + 1,
-                len,
-                sought,
-                table,
-            ),
-            Labelled::Refused(_) => false,
+            Labelled::Is(_, f) => some_element(lay, v, w, f, rec, c, next, table),
+            Labelled::Refused(_) => true,
         },
-        Head::Refused(_) => false,
+        Head::Refused(_) => true,
     }
 }
 
@@ -231,32 +217,17 @@ fn some_listed(
     t: Cursor,
     rec: &[u8],
     c: Cursor,
-    path: [u16; 64],
-    from: usize,
-    len: usize,
-    sought: Sought,
+    search: Search,
     table: &[u16],
 ) -> bool
     requires { ⌜ Ends v (now lay) (now table) ⌝ }
     requires { ⌜ ListOf v (now lay) (t .at) (now rec) (c .at) ⌝ }
-    requires { ⌜ (from ≤ len) × (len ≤ length path) × SmallSought sought ⌝ }
-    ensures { λ r. ⌜ ((X : ListOf v (now (lay .entry)) (t .at) (now (rec .entry)) (c .at)) → r ≡ somePart 0 (λ x. someSought sought (slice from len path) x) (X .content .tree)) ⌝ }
+    requires { ⌜ SmallSearch search ⌝ }
+    ensures { λ r. ⌜ ((X : ListOf v (now (lay .entry)) (t .at) (now (rec .entry)) (c .at)) → r ≡ somePart 0 (λ x. someFound search x) (X .content .tree)) ⌝ }
 {
     match c.short(rec) {
-        Short::Is(n, d) => some_element(
-            lay,
-            v,
-            n as u32,
-            t,
-            rec,
-            d,
-            path,
-            from,
-            len,
-            sought,
-            table,
-        ),
-        Short::Refused(_) => false,
+        Short::Is(n, d) => some_element(lay, v, n as u32, t, rec, d, search, table),
+        Short::Refused(_) => true,
     }
 }
 
@@ -268,29 +239,25 @@ fn some_element(
     t: Cursor,
     rec: &[u8],
     c: Cursor,
-    path: [u16; 64],
-    from: usize,
-    len: usize,
-    sought: Sought,
+    search: Search,
     table: &[u16],
 ) -> bool
     requires { ⌜ Ends v (now lay) (now table) ⌝ }
     requires { ⌜ ElementsAt v (now lay) n (t .at) (now rec) (c .at) ⌝ }
-    requires { ⌜ (from ≤ len) × (len ≤ length path) × SmallSought sought ⌝ }
-    ensures { λ r. ⌜ ((X : ElementsAt v (now (lay .entry)) n (t .at) (now (rec .entry)) (c .at)) → r ≡ anyOf (λ x. someSought sought (slice from len path) x) (X .values .values)) ⌝ }
+    requires { ⌜ SmallSearch search ⌝ }
+    ensures { λ r. ⌜ ((X : ElementsAt v (now (lay .entry)) n (t .at) (now (rec .entry)) (c .at)) → r ≡ anyOf (λ x. someFound search x) (X .values .values)) ⌝ }
 {
-    let mut at = c.at;
+    let mut d = c;
     let mut i: u32 = 0;
     while i < n {
-        let d = Cursor { at };
-        if some_at(lay, v, t, rec, d, path, from, len, sought, table) {
+        if some_at(lay, v, t, rec, d, search, table) {
             return true;
         }
         match read_element(lay, v, 16, t, rec, d, table) {
             Moved::To(e) => {
-                at = e.at;
+                d = e;
             }
-            Moved::Refused(_) => return false,
+            Moved::Refused(_) => return true,
         }
         i += 1;
     }

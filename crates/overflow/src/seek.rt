@@ -9,15 +9,14 @@ ghost use lib.ListN.{getD};
 ghost use Rattle.ends.specs.Ends.{Ends};
 ghost use Rattle.layout.specs.Tree.{fieldsOf};
 ghost use Rattle.plan.specs.Run.{eval};
-ghost use Rattle.nodes.specs.Raw.{RowAt};
+ghost use Rattle.overflow.specs.Ranges.{RecordAt};
 ghost use Rattle.overflow.specs.Want.{SmallWant};
 ghost use Rattle.overflow.specs.Some.{some};
 ghost use Rattle.overflow.specs.Seek.{Seeks, outer};
 use crate::stop::Stop;
 use crate::stop::at_stop;
 use crate::want::Want;
-use layout::cursor::Cursor;
-use layout::edition::Edition;
+use nodes::places::ColumnRange;
 use walk::walk::Walk;
 
 // To the input of the innermost mapping, with no path.
@@ -37,25 +36,23 @@ fn outward(w: Walk) -> Walk
 
 pub fn seek(
     lay: &[u8],
-    v: Edition,
-    n: u16,
-    columns: Cursor,
+    columns: ColumnRange,
     rec: &[u8],
     plan: &[u8],
     w: Walk,
     want: Want,
     table: &[u16],
 ) -> bool
-    requires { ⌜ Ends v (now lay) (now table) ⌝ }
-    requires { ⌜ ((X : RowAt v (now lay) n (columns .at) (now rec) 0) × Seeks (now plan) w (fieldsOf (X .columns .columns))) ⌝ }
+    requires { ⌜ Ends (columns .edition) (now lay) (now table) ⌝ }
+    requires { ⌜ ((X : RecordAt (now lay) columns (now rec)) × Seeks (now plan) w (fieldsOf (X .columns .columns))) ⌝ }
     requires { ⌜ SmallWant want ⌝ }
-    ensures { λ r. ⌜ ((X : RowAt v (now (lay .entry)) n (columns .at) (now (rec .entry)) 0) (S : Seeks (now (plan .entry)) w (fieldsOf (X .columns .columns))) → r ≡ some want (S .path) (eval (X .values .values) (S .selector))) ⌝ }
+    ensures { λ r. ⌜ ((X : RecordAt (now (lay .entry)) columns (now (rec .entry))) (S : Seeks (now (plan .entry)) w (fieldsOf (X .columns .columns))) → r ≡ some want (S .path) (eval (X .values .values) (S .selector))) ⌝ }
 {
     let mut x = w;
     let mut asks = want;
     loop {
         x = x.locate(plan);
-        match at_stop(lay, v, n, columns, rec, plan, x, asks, table) {
+        match at_stop(lay, columns, rec, plan, x, asks, table) {
             Stop::No => return false,
             Stop::Yes => return true,
             Stop::Input(next) => {

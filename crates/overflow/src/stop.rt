@@ -11,12 +11,14 @@ ghost use Rattle.layout.specs.declared.edition.Edition.{Edition as EditionOf};
 ghost use Rattle.layout.specs.Bytes.{Bytes};
 ghost use Rattle.plan.specs.Run.{valueAt};
 ghost use Rattle.plan.specs.Selector.{position};
-ghost use Rattle.nodes.specs.Raw.{RawAt, RowAt};
+ghost use Rattle.nodes.specs.Raw.{RawAt};
 ghost use Rattle.walk.specs.State.{State};
 ghost use Rattle.walk.specs.Standing.{WalkAt};
+ghost use Rattle.overflow.specs.Ranges.{RecordAt};
 ghost use Rattle.overflow.specs.Want.{SmallWant};
-ghost use Rattle.overflow.specs.Some.{some, SmallSought, someSought};
+ghost use Rattle.overflow.specs.Some.{some, SmallSearch, someFound};
 ghost use Rattle.overflow.specs.Seek.{RawIn, answered, ranStop, constantStop, timeStop, castStop, structStop, listStop, stopOf};
+use crate::scan::Search;
 use crate::scan::Sought;
 use crate::scan::some_at;
 use crate::want::Timed;
@@ -29,6 +31,7 @@ use layout::cursor::Cursor;
 use layout::edition::Edition;
 use layout::types::Head;
 use layout::walk::skip_type;
+use nodes::places::ColumnRange;
 use nodes::raw::NodeAt;
 use nodes::raw::column_value;
 use values::constant::needs_table;
@@ -54,9 +57,7 @@ fn answer(found: bool) -> Stop
 // In the record's column `k`, at a path.
 fn in_column(
     lay: &[u8],
-    v: Edition,
-    n: u16,
-    columns: Cursor,
+    columns: ColumnRange,
     rec: &[u8],
     k: u16,
     path: [u16; 64],
@@ -64,88 +65,49 @@ fn in_column(
     want: Want,
     table: &[u16],
 ) -> bool
-    requires { ⌜ Ends v (now lay) (now table) ⌝ }
-    requires { ⌜ RowAt v (now lay) n (columns .at) (now rec) 0 ⌝ }
+    requires { ⌜ Ends (columns .edition) (now lay) (now table) ⌝ }
+    requires { ⌜ RecordAt (now lay) columns (now rec) ⌝ }
     requires { ⌜ (len ≤ length path) × SmallWant want ⌝ }
-    ensures { λ r. ⌜ ((X : RowAt v (now (lay .entry)) n (columns .at) (now (rec .entry)) 0) → r ≡ some want (slice 0 len path) (valueAt (X .values .values) k)) ⌝ }
+    ensures { λ r. ⌜ ((X : RecordAt (now (lay .entry)) columns (now (rec .entry))) → r ≡ some want (slice 0 len path) (valueAt (X .values .values) k)) ⌝ }
 {
-    match column_value(lay, v, n, columns, rec, k, table) {
-        NodeAt::At(t, c) => some_at(
-            lay,
-            v,
-            t,
-            rec,
-            c,
-            path,
-            0,
-            len,
-            Sought::Present(want),
-            table,
-        ),
+    let v = columns.edition;
+    match column_value(lay, v, columns.count, columns.first, rec, k, table) {
+        NodeAt::At(t, c) => {
+            let search = Search {
+                sought: Sought::Present(want),
+                path,
+                from: 0,
+                len,
+            };
+            some_at(lay, v, t, rec, c, search, table)
+        }
         NodeAt::Null => false,
     }
 }
 
-// In a constant, whose long type stands at `t` and its value at `c`, at a path.
-fn in_long_constant(
-    plan: &[u8],
-    t: Cursor,
-    c: Cursor,
-    path: [u16; 64],
-    from: usize,
-    len: usize,
-    sought: Sought,
-) -> bool
+// In a constant, whose long type stands at `t` and its value at `c`.
+fn in_long_constant(plan: &[u8], t: Cursor, c: Cursor, search: Search) -> bool
     requires { ⌜ RawAt EditionOf.One (now plan) (t .at) (now plan) (c .at) ⌝ }
-    requires { ⌜ (from ≤ len) × (len ≤ length path) × SmallSought sought ⌝ }
-    ensures { λ r. ⌜ ((X : RawAt EditionOf.One (now (plan .entry)) (t .at) (now (plan .entry)) (c .at)) → r ≡ someSought sought (slice from len path) (X .value .tree)) ⌝ }
+    requires { ⌜ SmallSearch search ⌝ }
+    ensures { λ r. ⌜ ((X : RawAt EditionOf.One (now (plan .entry)) (t .at) (now (plan .entry)) (c .at)) → r ≡ someFound search (X .value .tree)) ⌝ }
 {
     let mut ends = [0u16; 4098];
     fill_local(plan, Edition::One, 16, t, c, &mut ends);
-    some_at(
-        plan,
-        Edition::One,
-        t,
-        plan,
-        c,
-        path,
-        from,
-        len,
-        sought,
-        &ends,
-    )
+    some_at(plan, Edition::One, t, plan, c, search, &ends)
 }
 
-// In a constant, whose type stands at `t`, at a path.
-pub fn in_constant(
-    plan: &[u8],
-    t: Cursor,
-    path: [u16; 64],
-    from: usize,
-    len: usize,
-    sought: Sought,
-) -> bool
+// In a constant, whose type stands at `t`.
+pub fn in_constant(plan: &[u8], t: Cursor, search: Search) -> bool
     requires { ⌜ RawIn (now plan) (t .at) ⌝ }
-    requires { ⌜ (from ≤ len) × (len ≤ length path) × SmallSought sought ⌝ }
-    ensures { λ r. ⌜ ((X : RawIn (now (plan .entry)) (t .at)) → r ≡ someSought sought (slice from len path) (X .value .tree)) ⌝ }
+    requires { ⌜ SmallSearch search ⌝ }
+    ensures { λ r. ⌜ ((X : RawIn (now (plan .entry)) (t .at)) → r ≡ someFound search (X .value .tree)) ⌝ }
 {
     let c = skip_type(plan, Edition::One, 16, t);
     if needs_table(plan, t, c, c) {
-        return in_long_constant(plan, t, c, path, from, len, sought);
+        return in_long_constant(plan, t, c, search);
     }
     let none: [u16; 1] = [0; 1];
-    some_at(
-        plan,
-        Edition::One,
-        t,
-        plan,
-        c,
-        path,
-        from,
-        len,
-        sought,
-        &none[..0],
-    )
+    some_at(plan, Edition::One, t, plan, c, search, &none[..0])
 }
 
 // Of what is asked where a constant is found: whether it is run.
@@ -193,7 +155,7 @@ fn before_cast(plan: &[u8], t: Cursor, want: Want) -> Stop
         Head::Struct(_, _) => Stop::No,
         Head::List(_) => Stop::No,
         Head::Array(_, _) => Stop::No,
-        Head::Refused(_) => Stop::No,
+        Head::Refused(_) => Stop::Yes,
     }
 }
 
@@ -221,27 +183,25 @@ fn before_list(want: Want) -> Stop
 
 fn at_position(
     lay: &[u8],
-    v: Edition,
-    n: u16,
-    columns: Cursor,
+    columns: ColumnRange,
     rec: &[u8],
     k: Position,
     w: Walk,
     want: Want,
     table: &[u16],
 ) -> Stop
-    requires { ⌜ Ends v (now lay) (now table) ⌝ }
-    requires { ⌜ RowAt v (now lay) n (columns .at) (now rec) 0 ⌝ }
+    requires { ⌜ Ends (columns .edition) (now lay) (now table) ⌝ }
+    requires { ⌜ RecordAt (now lay) columns (now rec) ⌝ }
     requires { ⌜ (w .len ≤ length (w .path)) × SmallWant want ⌝ }
-    ensures { λ r. ⌜ ((X : RowAt v (now (lay .entry)) n (columns .at) (now (rec .entry)) 0) (plan : Bytes) (x : State) → WalkAt plan w x → x .selector ≡ position k → r ≡ stopOf (X .values .values) x want) ⌝ }
+    ensures { λ r. ⌜ ((X : RecordAt (now (lay .entry)) columns (now (rec .entry))) (plan : Bytes) (x : State) → WalkAt plan w x → x .selector ≡ position k → r ≡ stopOf (X .values .values) x want) ⌝ }
 {
     if 0 < w.deep {
-        return Stop::No;
+        return Stop::Yes;
     }
     let i = k.0;
     let path = w.path;
     let len = w.len;
-    answer(in_column(lay, v, n, columns, rec, i, path, len, want, table))
+    answer(in_column(lay, columns, rec, i, path, len, want, table))
 }
 
 // Whose type stands at `t`.
@@ -251,9 +211,13 @@ fn at_constant(plan: &[u8], t: Cursor, w: Walk, want: Want) -> Stop
     ensures { λ r. ⌜ ((X : RawIn (now (plan .entry)) (t .at)) (x : State) → WalkAt (now (plan .entry)) w x → r ≡ constantStop (some want (x .path) (X .value .tree)) (x .frames)) ⌝ }
 {
     let path = w.path;
-    let from = w.deep;
-    let len = w.len;
-    if in_constant(plan, t, path, from, len, Sought::Present(want)) {
+    let search = Search {
+        sought: Sought::Present(want),
+        path,
+        from: w.deep,
+        len: w.len,
+    };
+    if in_constant(plan, t, search) {
         ran(plan, w)
     } else {
         Stop::No
@@ -283,29 +247,27 @@ fn at_struct(w: Walk, want: Want) -> Stop
 
 pub fn at_stop(
     lay: &[u8],
-    v: Edition,
-    n: u16,
-    columns: Cursor,
+    columns: ColumnRange,
     rec: &[u8],
     plan: &[u8],
     w: Walk,
     want: Want,
     table: &[u16],
 ) -> Stop
-    requires { ⌜ Ends v (now lay) (now table) ⌝ }
-    requires { ⌜ RowAt v (now lay) n (columns .at) (now rec) 0 × ((x : State) × WalkAt (now plan) w x) ⌝ }
+    requires { ⌜ Ends (columns .edition) (now lay) (now table) ⌝ }
+    requires { ⌜ RecordAt (now lay) columns (now rec) × ((x : State) × WalkAt (now plan) w x) ⌝ }
     requires { ⌜ SmallWant want ⌝ }
-    ensures { λ r. ⌜ ((X : RowAt v (now (lay .entry)) n (columns .at) (now (rec .entry)) 0) (x : State) → WalkAt (now (plan .entry)) w x → r ≡ stopOf (X .values .values) x want) ⌝ }
+    ensures { λ r. ⌜ ((X : RecordAt (now (lay .entry)) columns (now (rec .entry))) (x : State) → WalkAt (now (plan .entry)) w x → r ≡ stopOf (X .values .values) x want) ⌝ }
 {
     let c = Cursor { at: w.at };
     match head(plan, c) {
-        SelectorHead::Position(k) => at_position(lay, v, n, columns, rec, k, w, want, table),
+        SelectorHead::Position(k) => at_position(lay, columns, rec, k, w, want, table),
         SelectorHead::Constant(_, t) => at_constant(plan, t, w, want),
         SelectorHead::Cast(input) => at_cast(plan, skip_selector(plan, input), w, want),
         SelectorHead::Rename(_) => Stop::Input(want),
         SelectorHead::Struct(_) => at_struct(w, want),
         SelectorHead::List(_) => before_list(want),
         SelectorHead::Array(_) => before_list(want),
-        SelectorHead::Refused => Stop::No,
+        SelectorHead::Refused => Stop::Yes,
     }
 }

@@ -7,7 +7,7 @@ use lib.Dec.{leb}
 use lib.ListN.{length}
 use Rattle.layout.specs.Bytes.{Bytes}
 use Rattle.layout.specs.Tree.{LeafType, leafOf, DataType, leaf, struct, list, array, Fields, fnil, fcons}
-use Rattle.layout.specs.Layout.{deepest}
+use Rattle.layout.specs.Limits.{longest, deepest}
 use Rattle.forms.specs.Form.{form}
 use Rattle.forms.specs.Readable.{depthOf}
 use Rattle.forms.specs.Same.{equalFields}
@@ -78,7 +78,7 @@ castFits (array w t) u o = false
 
 -- a type of at most 16 levels and, in version 1 form, 16,384 bytes
 abbrev pub longestType : ℕ
-longestType = 16384
+longestType = longest
 
 unfoldable pub withinLimits : DataType → Bool
 withinLimits t = leb (depthOf t) deepest && leb (length (form t)) longestType

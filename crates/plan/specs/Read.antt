@@ -7,6 +7,7 @@ use lib.Dec.{leb, eqb}
 use Rattle.layout.specs.Bytes.{Bytes, sameBytes}
 use Rattle.layout.specs.Parser.{Res, refuse, ok, Parser, _>>=_, _>>_, pure, fail, test, if, choose, byte, u16}
 use Rattle.layout.specs.Tree.{DataType, dtypeOf}
+pub use Rattle.layout.specs.Limits.{longestPlan, deepestSelector}
 use Rattle.layout.specs.Layout.{text, type, deepest, ended}
 use Rattle.layout.specs.declared.columns.Siblings.the-variants.{Free}
 use Rattle.layout.specs.declared.edition.Edition.the-variants.{One}
@@ -104,13 +105,6 @@ selector zero = fail 4
 selector (suc d) = do
   c ← byte
   selectorRest (selector d) c
-
--- a plan's longest length, and its deepest selector
-abbrev pub longestPlan : ℕ
-longestPlan = 65536
-
-abbrev pub deepestSelector : ℕ
-deepestSelector = 64
 
 unfoldable pub planSized : Parser (Unit {0})
 planSized s at = test (leb (length s) longestPlan) 4 s at

@@ -14,6 +14,9 @@ use layout::cursor::Short;
 use layout::cursor::Step;
 use layout::cursor::Text;
 use layout::edition::Edition;
+use layout::limits::DEEPEST;
+use layout::limits::DEEPEST_SELECTOR;
+use layout::limits::LONGEST_PLAN;
 use layout::pass::pass_type;
 use rules::outcome::OptionCode;
 use rules::outcome::option_of_code;
@@ -39,7 +42,7 @@ fn read_text(s: &[u8], c: Cursor) -> Moved
 fn read_data_type(s: &[u8], c: Cursor) -> Moved
     ensures { λ r. ⌜ r ≡ movedOf (dataType (now (s .entry)) (c .at)) ⌝ }
 {
-    pass_type(s, Edition::One, 16, c)
+    pass_type(s, Edition::One, DEEPEST, c)
 }
 
 fn read_option(s: &[u8], c: Cursor) -> Moved
@@ -77,7 +80,7 @@ fn read_constant(s: &[u8], c: Cursor) -> Moved
     ensures { λ r. ⌜ r ≡ movedOf (constantRest (now (s .entry)) (c .at)) ⌝ }
 {
     match c.text(s) {
-        Text::Is(_, d) => match pass_type(s, Edition::One, 16, d) {
+        Text::Is(_, d) => match pass_type(s, Edition::One, DEEPEST, d) {
             Moved::To(e) => value_end(read_constant_value(s, d, e, e)),
             Moved::Refused(k) => Moved::Refused(k),
         },
@@ -178,24 +181,23 @@ fn is_position(s: &[u8], depth: u8, c: Cursor) -> bool
 pub fn read_selectors(s: &[u8], depth: u8, n: u16, c: Cursor) -> Moved
     ensures { λ r. ⌜ r ≡ movedOf (selectors (selector depth) n (now (s .entry)) (c .at)) ⌝ }
 {
-    let mut at = c.at;
+    let mut d = c;
     let mut i: u16 = 0;
     while i < n {
-        let d = Cursor { at };
         if is_position(s, depth, d) {
-            at += 3;
+            d = Cursor { at: d.at + 3 };
             i += 1;
         } else {
             match read_selector(s, depth, d) {
                 Moved::To(e) => {
-                    at = e.at;
+                    d = e;
                     i += 1;
                 }
                 Moved::Refused(k) => return Moved::Refused(k),
             }
         }
     }
-    Moved::To(Cursor { at })
+    Moved::To(d)
 }
 
 const MARK: [u8; 5] = [0x50, 0x4C, 0x4E, 1, 0];
@@ -206,7 +208,7 @@ fn read_counted(s: &[u8]) -> PlanRead
 {
     let c = Cursor { at: 5 };
     match c.short(s) {
-        Short::Is(n, d) => match read_selectors(s, 64, n, d) {
+        Short::Is(n, d) => match read_selectors(s, DEEPEST_SELECTOR, n, d) {
             Moved::To(e) => {
                 if e.at == s.len() {
                     PlanRead::Read(n, Cursor { at: 7 })
@@ -223,7 +225,7 @@ fn read_counted(s: &[u8]) -> PlanRead
 pub fn read_plan(s: &[u8]) -> PlanRead
     ensures { λ r. ⌜ r ≡ planRead (plan (now (s .entry))) ⌝ }
 {
-    if 65536 < s.len() {
+    if LONGEST_PLAN < s.len() {
         return PlanRead::Refused(30);
     }
     if s.len() < 5 {

@@ -1,15 +1,14 @@
 -- What the parts of a run answer, over variables. Assumes nothing.
-use Prim.Native.Nat.{ℕ, _<_, _≤_}
+use Prim.Native.Nat.{ℕ, _≤_}
 use mathlib.Core.Path.{_≡_, refl, sym, ap, subst, _∙_}
 use mathlib.Core.Bool.{Bool, true, false, not}
 use mathlib.Core.List.{[]}
 use native.Mathlib.Omega.{arith}
 use lib.ListN.{length}
-use lib.Seq.{slice}
 use Rattle.layout.specs.Bytes.{Bytes}
 use Rattle.layout.specs.Parser.{Res, refuse, ok}
 use Rattle.layout.specs.Tree.{Layout, Columns, Fields, fieldsOf}
-use Rattle.layout.specs.Layout.{layout, deepest}
+use Rattle.layout.specs.Layout.{layout, type, columns as columnsOf, deepest}
 use Rattle.layout.specs.Stands.{ColumnsAt, LayoutAt}
 use Rattle.layout.specs.declared.columns.Siblings.the-variants.{Free}
 use Rattle.layout.specs.declared.edition.Edition.{Edition}
@@ -18,7 +17,6 @@ use Rattle.layout.proofs.Ways.{clash}
 use Rattle.forms.specs.Readable.{depthOfFields}
 use Rattle.forms.proofs.Read.{type→, columns→}
 use Rattle.forms.proofs.ReadBack.{columns-extent}
-use Rattle.store.specs.Overlay.{overlay}
 use Rattle.values.specs.Value.{Values}
 use Rattle.values.specs.Encode.{encodeValues}
 use Rattle.values.specs.Filled.{requiredOf}
@@ -43,19 +41,16 @@ use Rattle.composed.specs.Transferring.{transferredAnswer, TransferredIs}
 use Rattle.composed.specs.declared.whole.Transferred.{Transferred}
 use Rattle.overflow.specs.Overflows.{PlanAt}
 use Rattle.output.specs.Output.{Emits}
-use Rattle.output.specs.Answers.{OutputAt, writtenOf}
+use Rattle.output.specs.Answers.{OutputAt, HandedOver, writtenOf}
 use Rattle.output.specs.declared.write.Written.{Written}
 use Rattle.output.proofs.Writing.{emits-exact}
-use Rattle.output.proofs.Whole.{aside-tight, aside-inside, aside-fits}
-use Rattle.checker.specs.Tops.{planChecked, TopsAt}
+use Rattle.output.proofs.Whole.{aside-inside}
+use Rattle.checker.specs.Tops.{planChecked}
+use Rattle.checker.proofs.Topping.{PlanAt as PlanFound, plan-tops}
 use Rattle.checker.specs.declared.tops.PlanChecked.{PlanChecked}
-use Rattle.run.specs.declared.single_pass.Direct.{Direct}
-use Rattle.run.specs.Answers.{finished, recordRun, checkedRun, PassedAt, Settled, directAnswer, DirectIs}
-
--- an answer and a buffer
-pub record Ran (x : Answer Bytes) (entry : Bytes) (r : WriteResult) (exit : Bytes) : Type 0 where
-  pub answer : r ≡ writeResult x
-  pub buffer : exit ≡ bufferAfter x entry
+use Rattle.run.specs.declared.read.Read.{Read}
+use Rattle.run.specs.declared.single_pass.SinglePass.{SinglePass}
+use Rattle.run.specs.Answers.{finished, recordRun, checkedRun, Ran, ReadAt, PassedAt, Settled, singlePassAnswer, SinglePassIs}
 
 -- a refusal leaves the buffer as it was
 pub ran-refused : {x : Answer Bytes} {entry : Bytes} {n k : ℕ} → x ≡ refusedAt n k → Ran x entry (WriteResult.Refused n k) entry
@@ -67,11 +62,13 @@ ran-as e R = rw e R
 -- ---- the record
 
 module _ (Γ : Columns) (ss : Selectors) (rec : Bytes) (room : ℕ) where
-  pub record-refused : {r : RecordRead} {k : ℕ} → r ≡ recordRead (recordMarked requiredOf Γ rec) → r ≡ RecordRead.Refused k → recordRun Γ ss rec room ≡ refusedAt k 0
+  pub record-refused : {r : RecordRead} {k : ℕ} → r ≡ recordRead (recordMarked requiredOf Γ rec) → r ≡ RecordRead.Refused k
+      → recordRun Γ ss rec room ≡ refusedAt k 0
   unfolding recordRead readAt
   record-refused {r} {k} e f = go (recordMarked requiredOf Γ rec) refl e
     where
-      go : (x : Res Values) → recordMarked requiredOf Γ rec ≡ x → r ≡ recordRead x → readAt 0 (recordMarked requiredOf Γ rec) (λ ρ. run ρ ss room) ≡ refusedAt k 0
+      go : (x : Res Values) → recordMarked requiredOf Γ rec ≡ x → r ≡ recordRead x
+          → readAt 0 (recordMarked requiredOf Γ rec) (λ ρ. run ρ ss room) ≡ refusedAt k 0
       go (refuse n) p e = let q : n ≡ k = cc in rw (p, q)
       go (ok vs m) p e = clash (cc)
 
@@ -87,7 +84,8 @@ module _ (Γ : Columns) (ss : Selectors) (rec : Bytes) (room : ℕ) where
         not-clean true q = clash (cc)
         not-clean false q = refl
 
-    pub run-finished : {w : Written} {r : WriteResult} {entry exit : Bytes} → cleanAll (evals ρ ss) ≡ true → w ≡ writtenOf (run ρ ss room) → r ≡ finished w → exit ≡ bufferAfter (run ρ ss room) entry
+    pub run-finished : {w : Written} {r : WriteResult} {entry exit : Bytes} → cleanAll (evals ρ ss) ≡ true → w ≡ writtenOf (run ρ ss room) → r ≡ finished w
+        → exit ≡ bufferAfter (run ρ ss room) entry
         → Ran (recordRun Γ ss rec room) entry r exit
     run-finished {w} {r} {entry} {exit} c h f x = ran-as record-run (go (spacious room (encodeValues (evals ρ ss))) refl)
       where
@@ -104,22 +102,21 @@ clean-of false e f = clash (cc)
 
 -- ---- one pass
 
-module _ {ρ : Values} {ss : Selectors} {out : Bytes} {r : Direct} {out′ : Bytes} (D : DirectIs ρ ss out r out′) where
-  direct-as : {q : Direct} → r ≡ q → directAnswer ρ ss out q out′
-  direct-as e = subst (λ (z : Direct). directAnswer ρ ss out z out′) e (D .answer)
+module _ {ρ : Values} {ss : Selectors} {out : Bytes} {r : SinglePass} {out′ : Bytes} (D : SinglePassIs ρ ss out r out′) where
+  single-pass-as : {q : SinglePass} → r ≡ q → singlePassAnswer ρ ss out q out′
+  single-pass-as e = subst (λ (z : SinglePass). singlePassAnswer ρ ss out z out′) e (D .answer)
 
-  pub direct-settled : {w : Written} → r ≡ Direct.Is w → Settled ρ ss out w out′
-  direct-settled e = direct-as e
+  pub single-pass-settled : {w : Written} → r ≡ SinglePass.Is w → Settled ρ ss out w out′
+  single-pass-settled e = single-pass-as e
 
   -- the buffer is as it was
-  pub direct-unknown : r ≡ Direct.Unknown → out′ ≡ out
-  direct-unknown e = direct-as e
+  pub single-pass-unknown : r ≡ SinglePass.Unknown → out′ ≡ out
+  single-pass-unknown e = single-pass-as e
 
 -- a run over the same buffer
 pub same-buffer : (Γ : Columns) (ss : Selectors) (rec : Bytes) {out out′ : Bytes} {o : WriteResult} {exit : Bytes} → out′ ≡ out
-    → (o ≡ writeResult (recordRun Γ ss rec (length out′))) × (exit ≡ bufferAfter (recordRun Γ ss rec (length out′)) out′) → (o ≡ writeResult (recordRun Γ ss rec (length out))) × (exit ≡ bufferAfter (recordRun Γ ss rec (length out)) out)
-same-buffer Γ ss rec {o = o} {exit} e R =
-    subst (λ (b : Bytes). (o ≡ writeResult (recordRun Γ ss rec (length b))) × (exit ≡ bufferAfter (recordRun Γ ss rec (length b)) b)) e R
+    → Ran (recordRun Γ ss rec (length out′)) out′ o exit → Ran (recordRun Γ ss rec (length out)) out o exit
+same-buffer Γ ss rec {o = o} {exit} e R = subst (λ (b : Bytes). Ran (recordRun Γ ss rec (length b)) b o exit) e R
 
 module _ (ρ : Values) (ss : Selectors) {aside₀ : Bytes} (size : 16384 ≡ length aside₀) {r : Transferred} {aside : Bytes}
     (T : TransferredIs (cleanAll (evals ρ ss)) (encodeValues (evals ρ ss)) aside₀ r aside) {len : ℕ} (e : r ≡ Transferred.To len) where
@@ -129,41 +126,52 @@ module _ (ρ : Values) (ss : Selectors) {aside₀ : Bytes} (size : 16384 ≡ len
   emits : Emits aside₀ 0 (encodeValues (evals ρ ss)) len aside
   emits = emits-exact aside₀ 0 (encodeValues (evals ρ ss)) (kept .stores .ends) (kept .stores .stored)
 
-  pub direct-tight : (out : Bytes) → length out < len → DirectIs ρ ss out (Direct.Is Written.TooLong) out
-  direct-tight out h = let (a, b) = aside-tight ρ ss (kept .clean) size emits (kept .within) out h in record { answer = record { clean = kept .clean; answer = a; buffer = b } }
+  pub single-pass-inside : len ≤ length aside
+  single-pass-inside = aside-inside ρ ss (kept .clean) size emits (kept .within)
 
-  pub direct-inside : (len ≤ 16384) × (len ≤ length aside)
-  direct-inside = (kept .within, aside-inside ρ ss (kept .clean) size emits (kept .within))
+  pub single-pass-handed : {out : Bytes} {w : Written} {new : Bytes} → HandedOver aside len out w new → SinglePassIs ρ ss out (SinglePass.Is w) new
+  single-pass-handed H = let (a, b) = H ρ ss aside₀ (kept .clean) size emits in record { answer = record { clean = kept .clean; answer = a; buffer = b } }
 
-  pub direct-fits : (out : Bytes) {new : Bytes} → len ≤ length out → new ≡ overlay out 0 (slice 0 len aside) → DirectIs ρ ss out (Direct.Is (Written.Written len)) new
-  direct-fits out h g = let (a, b) = aside-fits ρ ss (kept .clean) size emits (kept .within) out h g in record { answer = record { clean = kept .clean; answer = a; buffer = b } }
+-- the same columns, from an equal offset on
+abbrev pub columns-moved : {v : Edition} {s : Bytes} {n at m : ℕ} → m ≡ at → ColumnsAt v deepest s n at → ColumnsAt v deepest s n m
+columns-moved {v} {s} {n} e C = record {
+  columns = C .columns;
+  end = C .end;
+  reads = ap (λ (k : ℕ). columnsOf v Free (type v Free deepest) n [] s k) e
+      ∙ C .reads;
+}
 
 -- ---- what a plan that passed gives to the parts
 
-module _ {incoming : Bytes} {v : Edition} {n : ℕ} {plan : Bytes} {count : ℕ} {target : Bytes} {vt : Edition} {m : ℕ} (P : PassedAt incoming v n plan count target vt m) {rec : Bytes}
-    (F : RecordFilled (P .columns .columns) rec) where
-  abbrev pub row-of : RowAt v incoming n 7 rec 0
+module _ {incoming plan target : Bytes} {q : Read} (P : PassedAt incoming plan target q) {rec : Bytes} (F : RecordFilled (P .columns .columns) rec) where
+  abbrev pub row-of : RowAt (q .incoming .edition) incoming (q .incoming .count) (q .incoming .first .at) rec 0
   row-of = record { columns = P .columns; values = record-at (record-unfilled F) .inner }
+
+  -- where the columns of a layout begin
+  abbrev pub row-seven : RowAt (q .incoming .edition) incoming (q .incoming .count) 7 rec 0
+  row-seven = record { columns = columns-moved (sym (P .first)) (P .columns); values = record-at (record-unfilled F) .inner }
 
   pub record-reads : recordMarked requiredOf (P .columns .columns) rec ≡ ok (row-of .values .values) (F .end)
   record-reads = F .reads ∙ ap (λ (vs : Values). ok vs (F .end)) (record-at (record-unfilled F) .is)
 
-  abbrev pub output-of : cleanAll (evals (row-of .values .values) (P .selectors .trees)) ≡ true → OutputAt v incoming n 7 rec plan count 7
+  abbrev pub output-of : cleanAll (evals (row-of .values .values) (P .selectors .trees)) ≡ true
+      → OutputAt (q .incoming .edition) incoming (q .incoming .count) (q .incoming .first .at) rec plan (q .selectors) 7
   output-of c = record {
     row = row-of;
     selectors = P .selectors;
     target = fieldsOf (P .targets .columns);
     passes = P .passes;
-    deep = columns-extent (columns→ vt Free target deepest (λ at t e h. type→ vt Free target deepest at h) m [] 7 (P .targets .reads)) (P .wide) .0 .deep;
+    deep = columns-extent (columns→ (q .target .edition) Free target deepest (λ at t e h. type→ (q .target .edition) Free target deepest at h)
+        (q .target .count) [] (q .target .first .at) (P .targets .reads)) (P .wide) .0 .deep;
     clean = c;
     short = record-at (record-unfilled F) .short;
     small = P .small;
     within = P .starts;
   }
 
-abbrev pub plan-of : {incoming : Bytes} {v : Edition} {n : ℕ} {plan : Bytes} {count : ℕ} {target : Bytes} {vt : Edition} {m : ℕ} (P : PassedAt incoming v n plan count target vt m)
+abbrev pub plan-of : {incoming plan target : Bytes} {q : Read} (P : PassedAt incoming plan target q)
     → PlanAt plan 7 (fieldsOf (P .columns .columns)) (fieldsOf (P .targets .columns))
-plan-of {count = count} P = record { count = count; selectors = P .selectors; starts = P .starts; small = P .small; passes = P .passes }
+plan-of {q = q} P = record { count = q .selectors; selectors = P .selectors; starts = P .starts; small = P .small; passes = P .passes }
 
 -- ---- the check
 
@@ -172,50 +180,68 @@ pub marked-checked : (Γ Δ : Columns) (ss : Selectors) → checkMarked Γ Δ ss
 unfolding checkMarked
 marked-checked Γ Δ ss e = let (u, p, q) = answered-accepted _ _ e in p
 
-module _ {incoming : Bytes} {v : Edition} {n : ℕ} {plan : Bytes} {count : ℕ} {target : Bytes} {vt : Edition} {m : ℕ} {ss : Selectors}
-    (L : ColumnsAt v deepest incoming n 7) (T : TopsAt incoming v n plan count 7 (fieldsOf (L .columns)) ss) (Q : ColumnsAt vt deepest target m 7) where
-  pub check-passed : (x : Answer (Unit {0})) → planChecked x ≡ PlanChecked.Passed → x ≡ accepted tt
-  check-passed (accepted u) e = refl
-  check-passed (refusedAt a b) e = clash (cc)
+pub check-passed : (x : Answer (Unit {0})) → planChecked x ≡ PlanChecked.Passed → x ≡ accepted tt
+check-passed (accepted u) e = refl
+check-passed (refusedAt a b) e = clash (cc)
 
-  over-record : (rec : Bytes) (room : ℕ) → planChecked (checkMarked (L .columns) (Q .columns) ss) ≡ PlanChecked.Passed
-      → checkedRun (L .columns) (Q .columns) ss rec room ≡ recordRun (T .columns .columns) (T .selectors .trees) rec room
+module _ {incoming plan target : Bytes} {q : Read} (A : ReadAt incoming plan target q) where
+  abbrev checked : Answer (Unit {0})
+  checked = checkMarked (A .columns .columns) (A .targets .columns) (A .selectors)
+
+  abbrev runs : Bytes → ℕ → Answer Bytes
+  runs rec room = checkedRun (A .columns .columns) (A .targets .columns) (A .selectors) rec room
+
+  over-record : (rec : Bytes) (room : ℕ) → planChecked checked ≡ PlanChecked.Passed
+      → runs rec room ≡ recordRun (A .tops .columns .columns) (A .tops .selectors .trees) rec room
   unfolding answered
-  over-record rec room e = rw (check-passed (checkMarked (L .columns) (Q .columns) ss) e)
-      (sym (ap (λ (x : Columns). recordRun x (T .selectors .trees) rec room) (same-columns (T .columns) L .0) ∙ ap (λ (x : Selectors). recordRun (L .columns) x rec room) (T .is)))
+  over-record rec room e = rw (check-passed checked e)
+      (sym (ap (λ (x : Columns). recordRun x (A .tops .selectors .trees) rec room) (same-columns (A .tops .columns) (A .columns) .0)
+      ∙ ap (λ (x : Selectors). recordRun (A .columns .columns) x rec room) (A .tops .is)))
 
-  unfoldable pub passed-at : {r : PlanChecked} → 7 ≤ length target → r ≡ planChecked (checkMarked (L .columns) (Q .columns) ss) → r ≡ PlanChecked.Passed → PassedAt incoming v n plan count target vt m
-  passed-at w h f = record {
-    columns = T .columns;
-    targets = Q;
-    selectors = T .selectors;
-    passes = ap (λ (x : Fields). check x (fieldsOf (Q .columns)) (T .selectors .trees)) (T .are) ∙ ap (check (fieldsOf (L .columns)) (fieldsOf (Q .columns))) (T .is) ∙ marked-checked (L .columns) (Q .columns) ss (check-passed (checkMarked (L .columns) (Q .columns) ss) (sym h ∙ f));
-    starts = omega (arith, T .ends, selectors-longer (T .selectors));
-    small = T .small;
-    wide = w;
+  unfoldable pub passed-at : {r : PlanChecked} → r ≡ planChecked checked → r ≡ PlanChecked.Passed → PassedAt incoming plan target q
+  passed-at h f = record {
+    columns = columns-moved (A .first) (A .tops .columns);
+    targets = columns-moved (A .begins) (A .targets);
+    selectors = A .tops .selectors;
+    passes = ap (λ (x : Fields). check x (fieldsOf (A .targets .columns)) (A .tops .selectors .trees)) (A .tops .are)
+        ∙ ap (check (fieldsOf (A .columns .columns)) (fieldsOf (A .targets .columns))) (A .tops .is)
+        ∙ marked-checked (A .columns .columns) (A .targets .columns) (A .selectors) (check-passed checked (sym h ∙ f));
+    starts = omega (arith, A .tops .ends, selectors-longer (A .tops .selectors));
+    small = A .tops .small;
+    wide = omega (arith, A .wide, A .begins);
+    first = A .first;
   }
 
   -- the run of what passed
-  pub run-passed : {r : PlanChecked} (w : 7 ≤ length target) (rec : Bytes) (room : ℕ) {entry : Bytes} {o : WriteResult} {exit : Bytes} (h : r ≡ planChecked (checkMarked (L .columns) (Q .columns) ss)) (f : r ≡ PlanChecked.Passed)
-      → (o ≡ writeResult (recordRun (passed-at w h f .columns .columns) (passed-at w h f .selectors .trees) rec room))
-      × (exit ≡ bufferAfter (recordRun (passed-at w h f .columns .columns) (passed-at w h f .selectors .trees) rec room) entry)
-      → Ran (checkedRun (L .columns) (Q .columns) ss rec room) entry o exit
+  pub run-passed : {r : PlanChecked} (rec : Bytes) (room : ℕ) {entry : Bytes} {o : WriteResult} {exit : Bytes} (h : r ≡ planChecked checked)
+      (f : r ≡ PlanChecked.Passed)
+      → Ran (recordRun (passed-at h f .columns .columns) (passed-at h f .selectors .trees) rec room) entry o exit → Ran (runs rec room) entry o exit
   unfolding answered passed-at
-  run-passed w rec room {entry} {o} {exit} h f (a, b) =
-      let y : checkedRun (L .columns) (Q .columns) ss rec room ≡ recordRun (T .columns .columns) (T .selectors .trees) rec room = over-record rec room (sym h ∙ f) in
-      record { answer = a ∙ sym (ap writeResult y); buffer = b ∙ sym (ap (λ (x : Answer Bytes). bufferAfter x entry) y) }
+  run-passed rec room h f R = ran-as (over-record rec room (sym h ∙ f)) R
 
-  pub check-refused : {r : PlanChecked} {j k : ℕ} (rec : Bytes) (room : ℕ) → r ≡ planChecked (checkMarked (L .columns) (Q .columns) ss) → r ≡ PlanChecked.Refused j k
-      → checkedRun (L .columns) (Q .columns) ss rec room ≡ refusedAt j k
+  pub check-refused : {r : PlanChecked} {j k : ℕ} (rec : Bytes) (room : ℕ) → r ≡ planChecked checked → r ≡ PlanChecked.Refused j k
+      → runs rec room ≡ refusedAt j k
   unfolding answered
-  check-refused {j = j} {k} rec room h f = go (checkMarked (L .columns) (Q .columns) ss) (sym h ∙ f)
+  check-refused {j = j} {k} rec room h f = go checked (sym h ∙ f)
     where
       refused-eq : {a b : ℕ} → PlanChecked.Refused a b ≡ PlanChecked.Refused j k → _≡_ {A = Answer Bytes} (refusedAt a b) (refusedAt j k)
       refused-eq e = cc
 
-      go : (x : Answer (Unit {0})) → planChecked x ≡ PlanChecked.Refused j k → answered x (λ y. recordRun (L .columns) ss rec room) ≡ refusedAt j k
+      go : (x : Answer (Unit {0})) → planChecked x ≡ PlanChecked.Refused j k → answered x
+          (λ y. recordRun (A .columns .columns) (A .selectors) rec room) ≡ refusedAt j k
       go (accepted u) e = clash (cc)
       go (refusedAt a b) e = refused-eq e
+
+-- ---- what was read
+
+abbrev pub read-at : {incoming plan target : Bytes} {v w : Edition} {n m k : ℕ} (L : LayoutAt incoming v n) (M : LayoutAt target w m) (P : PlanFound plan k)
+    → 7 ≤ length target
+    → ReadAt incoming plan target (record {
+      incoming = record { edition = v; count = n; first = record { at = 7 } };
+      selectors = k;
+      target = record { edition = w; count = m; first = record { at = 7 } };
+    })
+read-at L M P h = record { columns = L .columns; targets = M .columns; selectors = P .parts; tops = plan-tops L P; wide = h; first = refl; begins = refl }
 
 -- ---- the run over any bytes
 
@@ -234,7 +260,8 @@ module _ (incoming target bytes rec : Bytes) (room : ℕ) where
       unfolding runPlan readPlan readAt
       run-third e = rw (L .reads, M .reads, e)
 
-      pub run-checked : {ss : Selectors} {k : ℕ} → plan bytes ≡ ok ss k → runPlan incoming target bytes rec room ≡ checkedRun (L .columns .columns) (M .columns .columns) ss rec room
+      pub run-checked : {ss : Selectors} {k : ℕ} → plan bytes ≡ ok ss k → runPlan incoming target bytes rec room ≡ checkedRun (L .columns .columns)
+          (M .columns .columns) ss rec room
       unfolding runPlan readPlan readAt
       run-checked e = rw (L .reads, M .reads, e)
 

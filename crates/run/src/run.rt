@@ -1,25 +1,21 @@
 // Each call is total: all of the check, then 43, 40, 41, 52, 56, 42, then 44 anywhere in the output, then 45.
 ghost use mathlib.Core.Path.{_≡_};
-ghost use Prim.Native.Nat.{_≤_};
 ghost use lib.ListN.{length};
 ghost use Rattle.ends.specs.Ends.{Ends};
-ghost use Rattle.layout.specs.Tree.{fieldsOf};
-ghost use Rattle.layout.specs.Stands.{ColumnsAt};
-ghost use Rattle.values.specs.Record.{RecordFilled};
-ghost use Rattle.plan.specs.Selector.{Selectors};
 ghost use Rattle.plan.specs.Calls.{runPlan, bufferAfter, writeResult};
-ghost use Rattle.checker.specs.Tops.{TopsAt};
-ghost use Rattle.run.specs.Answers.{finished, checkedRun, recordRun, PassedAt};
-use crate::single_pass::Direct;
-use crate::single_pass::write_direct;
+ghost use Rattle.run.specs.Answers.{finished, ReadAt, PassedAt, FilledAt, CheckedRuns, RecordRuns, FilledRuns};
+use crate::read::Read;
+use crate::single_pass::SinglePass;
+use crate::single_pass::write_single_pass;
 use checker::tops::PlanChecked;
 use checker::tops::check_read;
 use ends::fill::fill_columns;
 use layout::cursor::Cursor;
-use layout::edition::Edition;
 use layout::read::LayoutRead;
 use layout::read::read_layout;
+use nodes::places::ColumnRange;
 use output::write::Written;
+use output::write::scratch;
 use output::write::write_output;
 use overflow::overflows::overflows;
 use plan::answer::WriteResult;
@@ -27,6 +23,7 @@ use plan::read::PlanRead;
 use plan::read::read_plan;
 use values::record::RecordRead;
 use values::record::read_record;
+use walk::head::StructFields;
 
 // Refusal 45 where the output is too long.
 fn finish(w: Written) -> WriteResult
@@ -42,147 +39,110 @@ fn finish(w: Written) -> WriteResult
 // paths.
 fn run_general(
     incoming: &[u8],
-    v: Edition,
-    n: u16,
     plan: &[u8],
-    count: u16,
     target: &[u8],
-    vt: Edition,
-    m: u16,
+    read: Read,
     rec: &[u8],
+    aside: &mut [u8],
     output: &mut [u8],
     ends: &[u16],
 ) -> WriteResult
-    requires { ⌜ Ends v (now incoming) (now ends) ⌝ }
-    requires { ⌜ ((P : PassedAt (now incoming) v n (now plan) count (now target) vt m) × RecordFilled (P .columns .columns) (now rec)) ⌝ }
-    ensures { λ r. ⌜ ((P : PassedAt (now (incoming .entry)) v n (now (plan .entry)) count (now (target .entry)) vt m) → RecordFilled (P .columns .columns) (now (rec .entry)) → (r ≡ writeResult (recordRun (P .columns .columns) (P .selectors .trees) (now (rec .entry)) (length (now (output .entry))))) × (now (output .exit) ≡ bufferAfter (recordRun (P .columns .columns) (P .selectors .trees) (now (rec .entry)) (length (now (output .entry)))) (now (output .entry)))) ⌝ }
+    requires { ⌜ Ends (read .incoming .edition) (now incoming) (now ends) ⌝ }
+    requires { ⌜ FilledAt (now incoming) (now plan) (now target) read (now rec) ⌝ }
+    requires { ⌜ 16384 ≡ length (now aside) ⌝ }
+    ensures { λ r. ⌜ FilledRuns (now (incoming .entry)) (now (plan .entry)) (now (target .entry)) read (now (rec .entry)) (now (output .entry)) r (now (output .exit)) ⌝ }
 {
+    let columns = read.incoming;
+    let targets = read.target;
     let first = Cursor { at: 7 };
-    if overflows(
-        incoming,
-        v,
-        n,
-        first,
-        rec,
-        plan,
-        first,
-        target,
-        vt,
-        m,
-        first,
-        ends,
-    ) {
+    if overflows(incoming, columns, rec, plan, first, target, targets, ends) {
         return WriteResult::Refused(44, 0);
     }
-    finish(write_output(incoming, v, n, first, rec, plan, count, first, output, ends))
+    let selectors = StructFields {
+        count: read.selectors,
+        first,
+    };
+    finish(write_output(incoming, columns, rec, plan, selectors, aside, output, ends))
 }
 
 // The same, with a table of its own.
 fn run_filled(
     incoming: &[u8],
-    v: Edition,
-    n: u16,
     plan: &[u8],
-    count: u16,
     target: &[u8],
-    vt: Edition,
-    m: u16,
+    read: Read,
     rec: &[u8],
+    aside: &mut [u8],
     output: &mut [u8],
 ) -> WriteResult
-    requires { ⌜ ((P : PassedAt (now incoming) v n (now plan) count (now target) vt m) × RecordFilled (P .columns .columns) (now rec)) ⌝ }
-    ensures { λ r. ⌜ ((P : PassedAt (now (incoming .entry)) v n (now (plan .entry)) count (now (target .entry)) vt m) → RecordFilled (P .columns .columns) (now (rec .entry)) → (r ≡ writeResult (recordRun (P .columns .columns) (P .selectors .trees) (now (rec .entry)) (length (now (output .entry))))) × (now (output .exit) ≡ bufferAfter (recordRun (P .columns .columns) (P .selectors .trees) (now (rec .entry)) (length (now (output .entry)))) (now (output .entry)))) ⌝ }
+    requires { ⌜ FilledAt (now incoming) (now plan) (now target) read (now rec) ⌝ }
+    requires { ⌜ 16384 ≡ length (now aside) ⌝ }
+    ensures { λ r. ⌜ FilledRuns (now (incoming .entry)) (now (plan .entry)) (now (target .entry)) read (now (rec .entry)) (now (output .entry)) r (now (output .exit)) ⌝ }
 {
+    let columns = read.incoming;
+    let v = columns.edition;
     let mut ends = [0u16; 4098];
-    fill_columns(incoming, v, 16, n, Cursor { at: 7 }, &mut ends);
-    run_general(
-        incoming,
-        v,
-        n,
-        plan,
-        count,
-        target,
-        vt,
-        m,
-        rec,
-        output,
-        &ends,
-    )
+    fill_columns(incoming, v, 16, columns.count, columns.first, &mut ends);
+    run_general(incoming, plan, target, read, rec, aside, output, &ends)
 }
 
 // The same, where the table may be empty: the general way reads values more than once.
 fn run_unsettled(
     incoming: &[u8],
-    v: Edition,
-    n: u16,
     plan: &[u8],
-    count: u16,
     target: &[u8],
-    vt: Edition,
-    m: u16,
+    read: Read,
     rec: &[u8],
+    aside: &mut [u8],
     output: &mut [u8],
     ends: &[u16],
 ) -> WriteResult
-    requires { ⌜ Ends v (now incoming) (now ends) ⌝ }
-    requires { ⌜ ((P : PassedAt (now incoming) v n (now plan) count (now target) vt m) × RecordFilled (P .columns .columns) (now rec)) ⌝ }
-    ensures { λ r. ⌜ ((P : PassedAt (now (incoming .entry)) v n (now (plan .entry)) count (now (target .entry)) vt m) → RecordFilled (P .columns .columns) (now (rec .entry)) → (r ≡ writeResult (recordRun (P .columns .columns) (P .selectors .trees) (now (rec .entry)) (length (now (output .entry))))) × (now (output .exit) ≡ bufferAfter (recordRun (P .columns .columns) (P .selectors .trees) (now (rec .entry)) (length (now (output .entry)))) (now (output .entry)))) ⌝ }
+    requires { ⌜ Ends (read .incoming .edition) (now incoming) (now ends) ⌝ }
+    requires { ⌜ FilledAt (now incoming) (now plan) (now target) read (now rec) ⌝ }
+    requires { ⌜ 16384 ≡ length (now aside) ⌝ }
+    ensures { λ r. ⌜ FilledRuns (now (incoming .entry)) (now (plan .entry)) (now (target .entry)) read (now (rec .entry)) (now (output .entry)) r (now (output .exit)) ⌝ }
 {
     if ends.len() == 0 {
-        return run_filled(incoming, v, n, plan, count, target, vt, m, rec, output);
+        return run_filled(incoming, plan, target, read, rec, aside, output);
     }
-    run_general(
-        incoming,
-        v,
-        n,
-        plan,
-        count,
-        target,
-        vt,
-        m,
-        rec,
-        output,
-        ends,
-    )
+    run_general(incoming, plan, target, read, rec, aside, output, ends)
 }
 
 // A plan that passed the check, over a record, with a table of where structs end: in one pass, where that settles it.
 fn run_record(
     incoming: &[u8],
-    v: Edition,
-    n: u16,
     plan: &[u8],
-    count: u16,
     target: &[u8],
-    vt: Edition,
-    m: u16,
+    read: Read,
     rec: &[u8],
     output: &mut [u8],
     ends: &[u16],
 ) -> WriteResult
-    requires { ⌜ Ends v (now incoming) (now ends) ⌝ }
-    requires { ⌜ PassedAt (now incoming) v n (now plan) count (now target) vt m ⌝ }
-    ensures { λ r. ⌜ ((P : PassedAt (now (incoming .entry)) v n (now (plan .entry)) count (now (target .entry)) vt m) → (r ≡ writeResult (recordRun (P .columns .columns) (P .selectors .trees) (now (rec .entry)) (length (now (output .entry))))) × (now (output .exit) ≡ bufferAfter (recordRun (P .columns .columns) (P .selectors .trees) (now (rec .entry)) (length (now (output .entry)))) (now (output .entry)))) ⌝ }
+    requires { ⌜ Ends (read .incoming .edition) (now incoming) (now ends) ⌝ }
+    requires { ⌜ PassedAt (now incoming) (now plan) (now target) read ⌝ }
+    ensures { λ r. ⌜ RecordRuns (now (incoming .entry)) (now (plan .entry)) (now (target .entry)) read (now (rec .entry)) (now (output .entry)) r (now (output .exit)) ⌝ }
 {
-    match read_record(incoming, v, n, Cursor { at: 7 }, rec, ends) {
-        RecordRead::Fits => match write_direct(incoming, v, n, rec, plan, count, output, ends) {
-            Direct::Is(w) => finish(w),
-            Direct::Unknown => {
-                run_unsettled(
-                    incoming,
-                    v,
-                    n,
-                    plan,
-                    count,
-                    target,
-                    vt,
-                    m,
-                    rec,
-                    output,
-                    ends,
-                )
+    let columns = read.incoming;
+    let v = columns.edition;
+    let mut aside = scratch();
+    match read_record(incoming, v, columns.count, columns.first, rec, ends) {
+        RecordRead::Fits => {
+            match write_single_pass(
+                incoming,
+                columns,
+                rec,
+                plan,
+                read.selectors,
+                &mut aside,
+                output,
+                ends,
+            ) {
+                SinglePass::Is(w) => finish(w),
+                SinglePass::Unknown => {
+                    run_unsettled(incoming, plan, target, read, rec, &mut aside, output, ends)
+                }
             }
-        },
+        }
         RecordRead::Refused(k) => WriteResult::Refused(k, 0),
     }
 }
@@ -199,90 +159,68 @@ fn is_short(len: usize, rec: usize) -> bool {
 // With a table of where the structs of the incoming layout end.
 fn run_tabled(
     incoming: &[u8],
-    v: Edition,
-    n: u16,
     plan: &[u8],
-    count: u16,
     target: &[u8],
-    vt: Edition,
-    m: u16,
+    read: Read,
     rec: &[u8],
     output: &mut [u8],
 ) -> WriteResult
-    requires { ⌜ PassedAt (now incoming) v n (now plan) count (now target) vt m ⌝ }
-    ensures { λ r. ⌜ ((P : PassedAt (now (incoming .entry)) v n (now (plan .entry)) count (now (target .entry)) vt m) → (r ≡ writeResult (recordRun (P .columns .columns) (P .selectors .trees) (now (rec .entry)) (length (now (output .entry))))) × (now (output .exit) ≡ bufferAfter (recordRun (P .columns .columns) (P .selectors .trees) (now (rec .entry)) (length (now (output .entry)))) (now (output .entry)))) ⌝ }
+    requires { ⌜ PassedAt (now incoming) (now plan) (now target) read ⌝ }
+    ensures { λ r. ⌜ RecordRuns (now (incoming .entry)) (now (plan .entry)) (now (target .entry)) read (now (rec .entry)) (now (output .entry)) r (now (output .exit)) ⌝ }
 {
+    let columns = read.incoming;
+    let v = columns.edition;
     let mut ends = [0u16; 4098];
-    fill_columns(incoming, v, 16, n, Cursor { at: 7 }, &mut ends);
-    run_record(
-        incoming,
-        v,
-        n,
-        plan,
-        count,
-        target,
-        vt,
-        m,
-        rec,
-        output,
-        &ends,
-    )
+    fill_columns(incoming, v, 16, columns.count, columns.first, &mut ends);
+    run_record(incoming, plan, target, read, rec, output, &ends)
 }
 
 // A plan that passed the check, over a record.
 fn run_passed(
     incoming: &[u8],
-    v: Edition,
-    n: u16,
     plan: &[u8],
-    count: u16,
     target: &[u8],
-    vt: Edition,
-    m: u16,
+    read: Read,
     rec: &[u8],
     output: &mut [u8],
 ) -> WriteResult
-    requires { ⌜ PassedAt (now incoming) v n (now plan) count (now target) vt m ⌝ }
-    ensures { λ r. ⌜ ((P : PassedAt (now (incoming .entry)) v n (now (plan .entry)) count (now (target .entry)) vt m) → (r ≡ writeResult (recordRun (P .columns .columns) (P .selectors .trees) (now (rec .entry)) (length (now (output .entry))))) × (now (output .exit) ≡ bufferAfter (recordRun (P .columns .columns) (P .selectors .trees) (now (rec .entry)) (length (now (output .entry)))) (now (output .entry)))) ⌝ }
+    requires { ⌜ PassedAt (now incoming) (now plan) (now target) read ⌝ }
+    ensures { λ r. ⌜ RecordRuns (now (incoming .entry)) (now (plan .entry)) (now (target .entry)) read (now (rec .entry)) (now (output .entry)) r (now (output .exit)) ⌝ }
 {
     if is_short(incoming.len(), rec.len()) {
         let none: [u16; 1] = [0; 1];
-        return run_record(
-            incoming,
-            v,
-            n,
-            plan,
-            count,
-            target,
-            vt,
-            m,
-            rec,
-            output,
-            &none[..0],
-        );
+        return run_record(incoming, plan, target, read, rec, output, &none[..0]);
     }
-    run_tabled(incoming, v, n, plan, count, target, vt, m, rec, output)
+    run_tabled(incoming, plan, target, read, rec, output)
 }
 
 // A plan that was read, over two layouts that were read.
 fn run_read(
     incoming: &[u8],
-    v: Edition,
-    n: u16,
     plan: &[u8],
-    count: u16,
     target: &[u8],
-    vt: Edition,
-    m: u16,
+    read: Read,
     rec: &[u8],
     output: &mut [u8],
 ) -> WriteResult
-    requires { ⌜ ((L : ColumnsAt v 16 (now incoming) n 7) × (ss : Selectors) × TopsAt (now incoming) v n (now plan) count 7 (fieldsOf (L .columns)) ss) ⌝ }
-    requires { ⌜ ColumnsAt vt 16 (now target) m 7 × (7 ≤ length (now target)) ⌝ }
-    ensures { λ r. ⌜ ((L : ColumnsAt v 16 (now (incoming .entry)) n 7) (ss : Selectors) (Q : ColumnsAt vt 16 (now (target .entry)) m 7) → TopsAt (now (incoming .entry)) v n (now (plan .entry)) count 7 (fieldsOf (L .columns)) ss → (r ≡ writeResult (checkedRun (L .columns) (Q .columns) ss (now (rec .entry)) (length (now (output .entry))))) × (now (output .exit) ≡ bufferAfter (checkedRun (L .columns) (Q .columns) ss (now (rec .entry)) (length (now (output .entry)))) (now (output .entry)))) ⌝ }
+    requires { ⌜ ReadAt (now incoming) (now plan) (now target) read ⌝ }
+    ensures { λ r. ⌜ CheckedRuns (now (incoming .entry)) (now (plan .entry)) (now (target .entry)) read (now (rec .entry)) (now (output .entry)) r (now (output .exit)) ⌝ }
 {
-    match check_read(incoming, v, n, plan, count, target, vt, m) {
-        PlanChecked::Passed => run_passed(incoming, v, n, plan, count, target, vt, m, rec, output),
+    let columns = read.incoming;
+    let v = columns.edition;
+    let targets = read.target;
+    let vt = targets.edition;
+    match check_read(
+        incoming,
+        v,
+        columns.count,
+        plan,
+        read.selectors,
+        target,
+        vt,
+        targets.count,
+    ) {
+        PlanChecked::Passed => run_passed(incoming, plan, target, read, rec, output),
         PlanChecked::Refused(j, k) => WriteResult::Refused(j, k),
     }
 }
@@ -308,18 +246,25 @@ pub fn run_plan(
                 count: m,
                 columns: _,
             } => match read_plan(plan) {
-                PlanRead::Read(count, _) => run_read(
-                    incoming,
-                    v,
-                    n,
-                    plan,
-                    count,
-                    target,
-                    vt,
-                    m,
-                    rec,
-                    output,
-                ),
+                PlanRead::Read(count, _) => {
+                    let first = Cursor { at: 7 };
+                    let columns = ColumnRange {
+                        edition: v,
+                        count: n,
+                        first,
+                    };
+                    let targets = ColumnRange {
+                        edition: vt,
+                        count: m,
+                        first,
+                    };
+                    let read = Read {
+                        incoming: columns,
+                        selectors: count,
+                        target: targets,
+                    };
+                    run_read(incoming, plan, target, read, rec, output)
+                }
                 PlanRead::Refused(k) => WriteResult::Refused(k, 0),
             },
             LayoutRead::Refused(k) => WriteResult::Refused(k, 2),

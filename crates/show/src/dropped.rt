@@ -48,12 +48,11 @@ fn note(taken: &mut [u8], k: usize)
 
 // Notes what each of `n` selectors from `c` on takes.
 fn note_taken(plan: &[u8], n: u16, c: Cursor, taken: &mut [u8]) {
-    let mut at = c.at;
+    let mut d = c;
     let mut i: u16 = 0;
     while i < n {
-        let d = Cursor { at };
         note(taken, position_taken(plan, d));
-        at = skip_selector(plan, d).at;
+        d = skip_selector(plan, d);
         i += 1;
     }
 }
@@ -65,10 +64,9 @@ fn is_taken(taken: &[u8], i: u16) -> bool {
 
 // The columns that are not taken, of `n` from `c` on.
 fn put_left(s: &[u8], v: Edition, n: u16, c: Cursor, taken: &[u8], level: u8) {
-    let mut at = c.at;
+    let mut d = c;
     let mut i: u16 = 0;
     while i < n {
-        let d = Cursor { at };
         let Labelled::Is(l, e) = d.label(s, v) else {
             return;
         };
@@ -81,7 +79,7 @@ fn put_left(s: &[u8], v: Edition, n: u16, c: Cursor, taken: &[u8], level: u8) {
         let Moved::To(end) = pass_type(s, v, 16, e) else {
             return;
         };
-        at = end.at;
+        d = end;
         i += 1;
     }
 }

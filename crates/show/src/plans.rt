@@ -15,6 +15,7 @@ use plan::read::read_plan;
 use text::out::put;
 use text::out::put_count;
 use text::words::put_refusal;
+use walk::head::StructFields;
 
 // The top columns of the incoming layout; of one that is not read nothing is known.
 fn top_scope(lay: &[u8]) -> Scope {
@@ -34,7 +35,8 @@ fn put_plan(plan: &[u8], incoming: &[u8], taken: Scope, target: &[u8], made: Mad
             put(b"plan, ");
             put_count(n as u64, b"selector");
             put(b"\n");
-            put_selectors(plan, incoming, taken, target, made, 64, n, c, 0);
+            let fields = StructFields { count: n, first: c };
+            put_selectors(plan, incoming, taken, target, made, 64, fields, 0);
             put_dropped(plan, incoming, taken, n, c, 0);
         }
         PlanRead::Refused(k) => put_refusal(k, 0),

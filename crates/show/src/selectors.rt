@@ -30,6 +30,7 @@ use text::out::put_span;
 use values::leaf::Presence;
 use values::leaf::read_presence;
 use walk::head::SelectorHead;
+use walk::head::StructFields;
 use walk::head::cast_option;
 use walk::head::head;
 use walk::head::rename_name;
@@ -205,14 +206,13 @@ fn put_struct(
         target,
         made_fields(target, made),
         depth,
-        count,
-        first,
+        fields,
         deeper(level),
     );
     put_dropped(plan, incoming, inner, count, first, deeper(level));
 }
 
-// `n` selectors from `c`; positions take from `scope`, and `columns` are made.
+// The selectors of `fields`; positions take from `scope`, and `columns` are made.
 pub fn put_selectors(
     plan: &[u8],
     incoming: &[u8],
@@ -220,21 +220,20 @@ pub fn put_selectors(
     target: &[u8],
     columns: MadeColumns,
     depth: u8,
-    n: u16,
-    c: Cursor,
+    fields: StructFields,
     level: u8,
 ) {
-    let mut at = c.at;
+    let count = fields.count;
+    let mut d = fields.first;
     let mut i: u16 = 0;
-    while i < n {
-        let d = Cursor { at };
+    while i < count {
         put_start(i as u64, level);
         let made = put_made_column(target, columns, i);
         put_selector(plan, incoming, scope, target, made, depth, d, level);
         let Moved::To(end) = read_selector(plan, depth, d) else {
             return;
         };
-        at = end.at;
+        d = end;
         i += 1;
     }
 }

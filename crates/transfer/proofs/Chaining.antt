@@ -1,9 +1,9 @@
 -- Casts over casts, one by one. Assumes nothing.
 use Prim.Native.Nat.{ℕ}
 use mathlib.Core.Path.{_≡_, refl, sym, ap, subst, _∙_}
-use mathlib.Core.Bool.{true, false}
+use mathlib.Core.Bool.{true}
 use Rattle.layout.specs.Bytes.{Bytes}
-use Rattle.layout.specs.Tree.{ColumnType, DataType, dtypeOf}
+use Rattle.layout.specs.Tree.{dtypeOf}
 use Rattle.layout.specs.Layout.{kind, type as typeRead}
 use Rattle.layout.specs.Stands.{TypeAt}
 use Rattle.layout.specs.Answers.{headRes}
@@ -24,8 +24,6 @@ use Rattle.convert.specs.Converted.{valueOf}
 use Rattle.convert.specs.declared.leaf.Converted.{Converted}
 use Rattle.walk.specs.Stands.{SelectorAt}
 use Rattle.walk.specs.Parts.{CastAt, RenameAt}
-use Rattle.nodes.specs.Raw.{NodeOf}
-use Rattle.nodes.specs.declared.raw.NodeAt.{NodeAt}
 use Rattle.raw.specs.Number.{isNumber, leafAnswer, LeafIs}
 use Rattle.raw.specs.declared.leaf.LeafValue.{LeafValue}
 use Rattle.raw.proofs.Leaves.{isNested}
@@ -84,9 +82,6 @@ by-leaf T x h q C = chain-as (cast-leaf T x h q) refl C
 
 -- ---- a chain
 
-pub node-as : {v : Edition} {lay rec : Bytes} {x y : Value} {r : NodeAt} → x ≡ y → NodeOf v lay rec x r → NodeOf v lay rec y r
-node-as {v} {lay} {rec} {r = r} e N = subst (λ (z : Value). NodeOf v lay rec z r) e N
-
 module _ {s : Bytes} {at : ℕ} (P : SelectorAt s at) (ρ : Values) where
   pub chain-position : {k : Position} {r : ChainValue} → P .tree ≡ position k → ChainIs (valueAt ρ (takes (P .tree))) (valueAt ρ (takes (P .tree))) r
       → ChainIs (eval ρ (P .tree)) (valueAt ρ (takes (P .tree))) r
@@ -104,10 +99,13 @@ module _ {s : Bytes} {at : ℕ} (P : SelectorAt s at) (ρ : Values) where
   abbrev pub type-moved : {m : ℕ} (K : CastAt s at P m) {t : ℕ} → t ≡ K .input .end → TypeAt One 16 s t
   type-moved K h = record { tree = K .type .tree; end = K .type .end; reads = ap (λ (o : ℕ). typeRead One Free 16 s o) h ∙ K .type .reads }
 
+  pub cast-over : {m : ℕ} (K : CastAt s at P m) {y : Value} {r : ChainValue} → ChainIs (castValue (dtypeOf (K .type .tree)) (eval ρ (K .input .tree))) y r → ChainIs (eval ρ (P .tree)) y r
+  unfolding eval
+  cast-over K C = chain-as (sym (ap (eval ρ) (K .is))) refl C
+
   pub chain-cast : {m : ℕ} (K : CastAt s at P m) {r : ChainValue} → ChainIs (castValue (dtypeOf (K .type .tree)) (eval ρ (K .input .tree))) (valueAt ρ (takes (K .input .tree))) r
       → ChainIs (eval ρ (P .tree)) (valueAt ρ (takes (P .tree))) r
-  unfolding eval
-  chain-cast K C = chain-as (sym (ap (eval ρ) (K .is))) (ap (valueAt ρ) (cast-takes K)) C
+  chain-cast K C = chain-as refl (ap (valueAt ρ) (cast-takes K)) (cast-over K C)
 
   pub chain-rename : {m : ℕ} (K : RenameAt s at P m) {r : ChainValue} → ChainIs (eval ρ (K .input .tree)) (valueAt ρ (takes (K .input .tree))) r
       → ChainIs (eval ρ (P .tree)) (valueAt ρ (takes (P .tree))) r

@@ -23,11 +23,8 @@ use Rattle.plan.proofs.Over.{fits-clean}
 use Rattle.convert.specs.Converted.{valueOf}
 use Rattle.convert.specs.declared.leaf.Converted.{Converted}
 use Rattle.nodes.specs.Raw.{RawAt}
-use Rattle.raw.specs.Number.{leafAnswer, LeafIs}
-use Rattle.raw.specs.declared.leaf.LeafValue.{LeafValue}
 use Rattle.layout.proofs.Leaves.{leaf-of-type}
 use Rattle.raw.proofs.Leaves.{isNested}
-use Rattle.raw.proofs.Storing.{cast-kept}
 use Rattle.transfer.specs.Reaching.{Kept, reachedAnswer, ReachedIs}
 use Rattle.transfer.specs.declared.leaf.Reached.{Reached}
 
@@ -64,23 +61,6 @@ module _ (kind to : Leaf) (n : ℕ) {q : Converted} (h : valueOf to q ≡ conver
   unfolding castLeaf
   converted = ap (valueOf to) (sym f) ∙ h
 
-  pub converted-reached : {e : ℕ} {out : Bytes} {k : ℕ} {r : Reached} {new : Bytes} → ReachedIs true (encodeValue (vnumber to m)) e out k r new
-      → ReachedIs (clean (castLeaf to (vnumber kind n))) (encodeValue (castLeaf to (vnumber kind n))) e out k r new
-  unfolding clean
-  converted-reached R = reached-as converted R
-
-module _ {x : Value} {q : LeafValue} (L : LeafIs x q) (to : Leaf) {e : ℕ} {out : Bytes} {k : ℕ} {r : Reached} {new : Bytes} where
-  pub number-reached : {kind : Leaf} {n : ℕ} → q ≡ LeafValue.Number kind n
-      → ReachedIs (clean (castLeaf to (vnumber kind n))) (encodeValue (castLeaf to (vnumber kind n))) e out k r new → ReachedIs (clean (castLeaf to x)) (encodeValue (castLeaf to x)) e out k r new
-  number-reached f R = reached-as (ap (castLeaf to) (sym (subst (λ (z : LeafValue). leafAnswer x z) f (L .answer)))) R
-
-  pub other-reached : q ≡ LeafValue.Other → ReachedIs (clean x) (encodeValue x) e out k r new → ReachedIs (clean (castLeaf to x)) (encodeValue (castLeaf to x)) e out k r new
-  other-reached f R = reached-as (sym (cast-kept to x (subst (λ (z : LeafValue). leafAnswer x z) f (L .answer)))) R
-
-pub cast-null : (to : Leaf) {x : Value} → x ≡ vnull → vnull ≡ castLeaf to x
-unfolding castLeaf
-cast-null to q = sym (ap (castLeaf to) q)
-
 pub cast-nested : (t : DataType) (x : Value) → isNested t ≡ true → x ≡ castValue t x
 unfolding castValue
 cast-nested (leaf l) x e = clash (cc)
@@ -92,12 +72,3 @@ pub cast-leaf : {v : Edition} {s : Bytes} {at : ℕ} (T : TypeAt v 16 s at) (x :
     → castLeaf (l .leaf) x ≡ castValue (dtypeOf (T .tree)) x
 unfolding dtypeOf castValue
 cast-leaf T x {l = l} h q = ap (λ (k : Leaf). castLeaf k x) (sym (leaf-of-type (l .leaf) _)) ∙ ap (λ (c : ColumnType). castValue (dtypeOf c) x) (sym (leaf-at T h q .0))
-
-module _ {v : Edition} {s : Bytes} {at : ℕ} (T : TypeAt v 16 s at) (x : Value) {e : ℕ} {out : Bytes} {k : ℕ} {r : Reached} {new : Bytes} where
-  pub nested-reached : isNested (dtypeOf (T .tree)) ≡ true → ReachedIs (clean x) (encodeValue x) e out k r new
-      → ReachedIs (clean (castValue (dtypeOf (T .tree)) x)) (encodeValue (castValue (dtypeOf (T .tree)) x)) e out k r new
-  nested-reached n R = reached-as (cast-nested (dtypeOf (T .tree)) x n) R
-
-  pub leaf-reached : {p : Head} {l : LeafSpan} {c : Cursor} → headRes s p ≡ kind s at → p ≡ Head.Leaf l c → ReachedIs (clean (castLeaf (l .leaf) x)) (encodeValue (castLeaf (l .leaf) x)) e out k r new
-      → ReachedIs (clean (castValue (dtypeOf (T .tree)) x)) (encodeValue (castValue (dtypeOf (T .tree)) x)) e out k r new
-  leaf-reached h q R = reached-as (cast-leaf T x h q) R

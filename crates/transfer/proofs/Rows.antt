@@ -11,7 +11,6 @@ use Rattle.layout.specs.Parser.{refuse, ok}
 use Rattle.layout.specs.Tree.{dtypeOf}
 use Rattle.layout.specs.Answers.{movedOf, textRes, spanAt}
 use Rattle.layout.specs.Layout.{text, type}
-use Rattle.layout.specs.declared.columns.Siblings.the-variants.{Free}
 use Rattle.layout.specs.Stands.{TypeAt}
 use Rattle.layout.specs.declared.bytes.Span.{Span}
 use Rattle.layout.specs.declared.cursor.Cursor.{Cursor}
@@ -28,7 +27,7 @@ use Rattle.values.specs.Stands.{EachAt}
 use Rattle.values.proofs.Inside.{first-each, no-each}
 use Rattle.plan.specs.Selector.{Selector, position, constant, cast, rename, structMapping, listMapping, arrayMapping, Selectors, snil}
 use Rattle.plan.specs.Read.{deepestSelector, selector, selectors as selectorsOf}
-use Rattle.plan.specs.Run.{valueAt, castValue, mapValues, onStruct, onList, onArray, eval, evals, clean, cleanAll}
+use Rattle.plan.specs.Run.{valueAt, mapValues, onStruct, onList, onArray, eval, evals, clean, cleanAll}
 use Rattle.walk.specs.Stands.{SelectorAt, SelectorsAt}
 use Rattle.walk.specs.Parts.{TextAt, ConstantAt, CastAt, RenameAt, StructAt, ListAt, ArrayAt, CountedIs}
 use Rattle.walk.specs.declared.head.StructFields.{StructFields}
@@ -201,9 +200,6 @@ module _ {v : Edition} {lay rec : Bytes} {t c : Cursor} (X : RawAt v lay (t .at)
 abbrev pub selector-moved : {s : Bytes} {at to : ℕ} → SelectorAt s at → to ≡ at → SelectorAt s to
 selector-moved {s} P e = record { tree = P .tree; end = P .end; reads = ap (λ (o : ℕ). selector deepestSelector s o) e ∙ P .reads }
 
-abbrev pub type-moved : {v : Edition} {s : Bytes} {at to : ℕ} → TypeAt v 16 s at → to ≡ at → TypeAt v 16 s to
-type-moved {v} {s} T e = record { tree = T .tree; end = T .end; reads = ap (λ (o : ℕ). type v Free 16 s o) e ∙ T .reads }
-
 -- what follows the bytes before the parts
 pub led : {out : Bytes} {k : ℕ} {xs : Bytes} {j : ℕ} {o : Bytes} {ok : Bool} {b : Bytes} {e : ℕ} (q : Reached) {new : Bytes} → Stores out k xs j o → ReachedIs ok b e o j q new → ReachedIs ok (xs ++ b) e out k q new
 led (Reached.To c r) S R = let (p, K) = R .answer in record { answer = (p, record { clean = K .clean; stores = stores-append S (K .stores); within = K .within }) }
@@ -216,10 +212,6 @@ module _ {s : Bytes} {at : ℕ} {P : SelectorAt s at} (ρ : Values) {m : ℕ} wh
   pub constant-reached : {n : Span} (K : ConstantAt s at P n m) {e : ℕ} {out : Bytes} {k : ℕ} {q : Reached} {new : Bytes} → ReachedIs (clean (K .value .tree)) (encodeValue (K .value .tree)) e out k q new → ReachedIs (clean (eval ρ (P .tree))) (encodeValue (eval ρ (P .tree))) e out k q new
   unfolding eval
   constant-reached K R = reached-as (sym (ap (eval ρ) (K .is))) R
-
-  pub cast-reached : (K : CastAt s at P m) {e : ℕ} {out : Bytes} {k : ℕ} {q : Reached} {new : Bytes} → ReachedIs (clean (castValue (dtypeOf (K .type .tree)) (eval ρ (K .input .tree)))) (encodeValue (castValue (dtypeOf (K .type .tree)) (eval ρ (K .input .tree)))) e out k q new → ReachedIs (clean (eval ρ (P .tree))) (encodeValue (eval ρ (P .tree))) e out k q new
-  unfolding eval
-  cast-reached K R = reached-as (sym (ap (eval ρ) (K .is))) R
 
   pub rename-reached : (K : RenameAt s at P m) {e : ℕ} {out : Bytes} {k : ℕ} {q : Reached} {new : Bytes} → ReachedIs (clean (eval ρ (K .input .tree))) (encodeValue (eval ρ (K .input .tree))) e out k q new → ReachedIs (clean (eval ρ (P .tree))) (encodeValue (eval ρ (P .tree))) e out k q new
   unfolding eval

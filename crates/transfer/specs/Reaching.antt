@@ -6,7 +6,10 @@ use Rattle.layout.specs.Bytes.{Bytes}
 use Rattle.values.specs.Record.{longest}
 use Rattle.plan.specs.Selector.{Selector, position, constant, cast, rename, structMapping, listMapping, arrayMapping}
 use Rattle.walk.specs.Stands.{SelectorAt}
+use Rattle.values.specs.Value.{Value}
+use Rattle.nodes.specs.Raw.{NodeOf}
 use Rattle.raw.specs.Stored.{Stores}
+use Rattle.transfer.specs.declared.leaf.Node.{Node}
 use Rattle.transfer.specs.declared.leaf.Reached.{Reached}
 use Rattle.transfer.specs.declared.origin.Taken.{Taken}
 
@@ -19,6 +22,10 @@ takes (rename s n) = takes s
 takes (structMapping s ss) = takes s
 takes (listMapping s e) = takes s
 takes (arrayMapping s e) = takes s
+
+-- the value x stands there
+abbrev pub NodeIn : Bytes → Bytes → Value → Node → Type 0
+NodeIn lay rec x node = NodeOf (node .edition) lay rec x (node .at)
 
 -- the bytes b, of what is clean, were stored from index k on, and r is where they end, within the limit
 pub record Kept (ok : Bool) (b : Bytes) (out : Bytes) (k r : ℕ) (out′ : Bytes) : Type 0 where

@@ -9,9 +9,11 @@ ghost use Rattle.values.specs.Value.{Value, Values, vnumber};
 ghost use Rattle.values.specs.Encode.{encodeValue};
 ghost use Rattle.plan.specs.Run.{valueAt, castLeaf, castValue, eval, clean};
 ghost use Rattle.walk.specs.Stands.{SelectorAt};
-ghost use Rattle.nodes.specs.Raw.{NodeOf};
-ghost use Rattle.transfer.specs.Reaching.{takes, ReachedIs};
+ghost use Rattle.walk.specs.Parts.{CastAt};
+ghost use Rattle.transfer.specs.Reaching.{takes, NodeIn, ReachedIs};
 ghost use Rattle.transfer.specs.Chains.{ChainIs};
+use crate::leaf::Node;
+use crate::leaf::Place;
 use crate::leaf::Reached;
 use crate::leaf::limited;
 use crate::leaf::put_node;
@@ -19,7 +21,6 @@ use convert::leaf::Converted;
 use convert::leaf::convert_leaf;
 use convert::put::put_number;
 use layout::cursor::Cursor;
-use layout::edition::Edition;
 use layout::leaf::Leaf;
 use layout::types::Head;
 use nodes::raw::NodeAt;
@@ -37,11 +38,13 @@ pub enum ChainValue {
 }
 
 // The value that was taken.
-fn taken_leaf(lay: &[u8], v: Edition, rec: &[u8], node: NodeAt) -> ChainValue
-    requires { ⌜ ((x : Value) × NodeOf v (now lay) (now rec) x node) ⌝ }
-    ensures { λ r. ⌜ ((x : Value) → NodeOf v (now (lay .entry)) (now (rec .entry)) x node → ChainIs x x r) ⌝ }
+fn taken_leaf(lay: &[u8], rec: &[u8], node: Node) -> ChainValue
+    requires { ⌜ ((x : Value) × NodeIn (now lay) (now rec) x node) ⌝ }
+    ensures { λ r. ⌜ ((x : Value) → NodeIn (now (lay .entry)) (now (rec .entry)) x node → ChainIs x x r) ⌝ }
 {
-    match node {
+    let v = node.edition;
+    let at = node.at;
+    match at {
         NodeAt::Null => ChainValue::Same,
         NodeAt::At(t, c) => match leaf_at(lay, v, t, rec, c) {
             LeafValue::Number(kind, n) => ChainValue::Number(kind, n),
@@ -87,30 +90,45 @@ fn cast_by(q: ChainValue, plan: &[u8], t: Cursor) -> ChainValue
     }
 }
 
+// The cast at `c` whose input begins at `input`: the node is what that gives.
+pub fn cast_value(
+    lay: &[u8],
+    rec: &[u8],
+    node: Node,
+    plan: &[u8],
+    c: Cursor,
+    input: Cursor,
+) -> ChainValue
+    requires { ⌜ ((x : Value) × NodeIn (now lay) (now rec) x node) ⌝ }
+    ensures { λ r. ⌜ ((ρ : Values) (P : SelectorAt (now (plan .entry)) (c .at)) (C : CastAt (now (plan .entry)) (c .at) P (input .at)) → NodeIn (now (lay .entry)) (now (rec .entry)) (eval ρ (C .input .tree)) node → ChainIs (eval ρ (P .tree)) (eval ρ (C .input .tree)) r) ⌝ }
+{
+    let q = taken_leaf(lay, rec, node);
+    cast_by(q, plan, skip_selector(plan, input))
+}
+
 // What the selector at `c` gives, if it is made of casts and renames of a position: the node is the value there.
 pub fn chain_value(
     lay: &[u8],
-    v: Edition,
     rec: &[u8],
-    node: NodeAt,
+    node: Node,
     plan: &[u8],
     c: Cursor,
     levels: u8,
 ) -> ChainValue
-    requires { ⌜ ((x : Value) × NodeOf v (now lay) (now rec) x node) ⌝ }
-    ensures { λ r. ⌜ ((ρ : Values) (P : SelectorAt (now (plan .entry)) (c .at)) → NodeOf v (now (lay .entry)) (now (rec .entry)) (valueAt ρ (takes (P .tree))) node → ChainIs (eval ρ (P .tree)) (valueAt ρ (takes (P .tree))) r) ⌝ }
+    requires { ⌜ ((x : Value) × NodeIn (now lay) (now rec) x node) ⌝ }
+    ensures { λ r. ⌜ ((ρ : Values) (P : SelectorAt (now (plan .entry)) (c .at)) → NodeIn (now (lay .entry)) (now (rec .entry)) (valueAt ρ (takes (P .tree))) node → ChainIs (eval ρ (P .tree)) (valueAt ρ (takes (P .tree))) r) ⌝ }
 {
     if levels == 0 {
         return ChainValue::Unknown;
     }
     match head(plan, c) {
-        SelectorHead::Position(_) => taken_leaf(lay, v, rec, node),
+        SelectorHead::Position(_) => taken_leaf(lay, rec, node),
         SelectorHead::Constant(_, _) => ChainValue::Unknown,
         SelectorHead::Cast(input) => {
-            let q = chain_value(lay, v, rec, node, plan, input, levels - 1);
+            let q = chain_value(lay, rec, node, plan, input, levels - 1);
             cast_by(q, plan, skip_selector(plan, input))
         }
-        SelectorHead::Rename(input) => chain_value(lay, v, rec, node, plan, input, levels - 1),
+        SelectorHead::Rename(input) => chain_value(lay, rec, node, plan, input, levels - 1),
         SelectorHead::Struct(_) => ChainValue::Unknown,
         SelectorHead::List(_) => ChainValue::Unknown,
         SelectorHead::Array(_) => ChainValue::Unknown,
@@ -118,47 +136,53 @@ pub fn chain_value(
     }
 }
 
-fn put_chain(
+// What casts made of the node, of a selector that ends at `end`.
+pub fn put_chain(
     lay: &[u8],
-    v: Edition,
     rec: &[u8],
-    node: NodeAt,
+    node: Node,
     q: ChainValue,
     end: Cursor,
     out: &mut [u8],
     k: usize,
     ends: &[u16],
 ) -> Reached
-    requires { ⌜ Ends v (now lay) (now ends) ⌝ }
-    requires { ⌜ ((x : Value) × NodeOf v (now lay) (now rec) x node) ⌝ }
+    requires { ⌜ Ends (node .edition) (now lay) (now ends) ⌝ }
+    requires { ⌜ ((x : Value) × NodeIn (now lay) (now rec) x node) ⌝ }
     requires { ⌜ (length (now rec) ≤ 65536) × (k ≤ 16384) ⌝ }
-    ensures { λ r. ⌜ ((x y : Value) → NodeOf v (now (lay .entry)) (now (rec .entry)) y node → ChainIs x y q → ReachedIs (clean x) (encodeValue x) (end .at) (now (out .entry)) k r (now (out .exit))) ⌝ }
+    ensures { λ r. ⌜ ((x y : Value) → NodeIn (now (lay .entry)) (now (rec .entry)) y node → ChainIs x y q → ReachedIs (clean x) (encodeValue x) (end .at) (now (out .entry)) k r (now (out .exit))) ⌝ }
 {
     match q {
         ChainValue::Number(kind, n) => limited(end, k + put_number(kind, n, out, k)),
-        ChainValue::Same => put_node(lay, v, rec, node, end, out, k, ends),
+        ChainValue::Same => put_node(lay, rec, node, end, out, k, ends),
         ChainValue::Unknown => Reached::Unknown,
     }
 }
 
-// The cast at `c` of a position, or of casts of one: the node is the value there.
+// The cast of a position, or of casts of one: the node is the value there.
 pub fn transfer_cast(
     lay: &[u8],
-    v: Edition,
     rec: &[u8],
-    node: NodeAt,
+    node: Node,
     plan: &[u8],
-    c: Cursor,
-    levels: u8,
+    place: Place,
     out: &mut [u8],
-    k: usize,
     ends: &[u16],
 ) -> Reached
-    requires { ⌜ Ends v (now lay) (now ends) ⌝ }
-    requires { ⌜ ((x : Value) × NodeOf v (now lay) (now rec) x node) ⌝ }
-    requires { ⌜ (length (now rec) ≤ 65536) × (k ≤ 16384) ⌝ }
-    ensures { λ r. ⌜ ((ρ : Values) (P : SelectorAt (now (plan .entry)) (c .at)) → NodeOf v (now (lay .entry)) (now (rec .entry)) (valueAt ρ (takes (P .tree))) node → ReachedIs (clean (eval ρ (P .tree))) (encodeValue (eval ρ (P .tree))) (P .end) (now (out .entry)) k r (now (out .exit))) ⌝ }
+    requires { ⌜ Ends (node .edition) (now lay) (now ends) ⌝ }
+    requires { ⌜ ((x : Value) × NodeIn (now lay) (now rec) x node) ⌝ }
+    requires { ⌜ (length (now rec) ≤ 65536) × (place .k ≤ 16384) ⌝ }
+    ensures { λ r. ⌜ ((ρ : Values) (P : SelectorAt (now (plan .entry)) (place .selector .at)) → NodeIn (now (lay .entry)) (now (rec .entry)) (valueAt ρ (takes (P .tree))) node → ReachedIs (clean (eval ρ (P .tree))) (encodeValue (eval ρ (P .tree))) (P .end) (now (out .entry)) (place .k) r (now (out .exit))) ⌝ }
 {
-    let q = chain_value(lay, v, rec, node, plan, c, levels);
-    put_chain(lay, v, rec, node, q, skip_selector(plan, c), out, k, ends)
+    let q = chain_value(lay, rec, node, plan, place.selector, place.levels);
+    put_chain(
+        lay,
+        rec,
+        node,
+        q,
+        skip_selector(plan, place.selector),
+        out,
+        place.k,
+        ends,
+    )
 }

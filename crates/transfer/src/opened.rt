@@ -2,8 +2,10 @@
 ghost use Rattle.layout.specs.Bytes.{Bytes};
 ghost use Rattle.layout.specs.declared.edition.Edition.{Edition as EditionOf};
 ghost use Rattle.values.specs.Value.{Value};
-ghost use Rattle.nodes.specs.Raw.{RawAt, PresentAt, ListOf, NodeOf};
+ghost use Rattle.nodes.specs.Raw.{RawAt, PresentAt, ListOf};
+ghost use Rattle.transfer.specs.Reaching.{NodeIn};
 ghost use Rattle.transfer.specs.Opening.{OpenedIs};
+use crate::leaf::Node;
 use layout::columns::Labelled;
 use layout::cursor::Cursor;
 use layout::cursor::Short;
@@ -61,10 +63,12 @@ fn open_value(lay: &[u8], v: Edition, t: Cursor, rec: &[u8], c: Cursor) -> Opene
     }
 }
 
-pub fn open_node(lay: &[u8], v: Edition, rec: &[u8], node: NodeAt) -> Opened
-    ensures { λ r. ⌜ ((x : Value) → NodeOf v (now (lay .entry)) (now (rec .entry)) x node → OpenedIs v (now (lay .entry)) (now (rec .entry)) x r) ⌝ }
+pub fn open_node(lay: &[u8], rec: &[u8], node: Node) -> Opened
+    ensures { λ r. ⌜ ((x : Value) → NodeIn (now (lay .entry)) (now (rec .entry)) x node → OpenedIs (node .edition) (now (lay .entry)) (now (rec .entry)) x r) ⌝ }
 {
-    match node {
+    let v = node.edition;
+    let at = node.at;
+    match at {
         NodeAt::Null => Opened::Null,
         NodeAt::At(t, c) => open_value(lay, v, t, rec, c),
     }

@@ -34,13 +34,12 @@ pub fn taken_position(plan: &[u8], c: Cursor) -> u16
     requires { ⌜ SelectorAt (now plan) (c .at) ⌝ }
     ensures { λ r. ⌜ ((P : SelectorAt (now (plan .entry)) (c .at)) → r ≡ takes (P .tree)) ⌝ }
 {
-    let mut at = c.at;
+    let mut d = c;
     loop {
-        let d = Cursor { at };
         match taken_at(plan, d) {
             Taken::Position(k) => return k,
             Taken::Input(e) => {
-                at = e.at;
+                d = e;
             }
         }
     }

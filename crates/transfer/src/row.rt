@@ -1,24 +1,28 @@
 // What selectors give, in one pass over the plan. Recursion goes as deep as selectors nest; columns and elements are loops.
 ghost use mathlib.Core.Path.{_≡_};
-ghost use mathlib.Core.Bool.{Bool, true};
+ghost use mathlib.Core.Bool.{Bool};
 ghost use Prim.Native.Nat.{ℕ, _≤_, _<_};
 ghost use lib.ListN.{length, take};
 ghost use Rattle.ends.specs.Ends.{Ends};
 ghost use Rattle.layout.specs.Bytes.{Bytes};
 ghost use Rattle.layout.specs.declared.edition.Edition.{Edition as EditionOf};
 ghost use Rattle.values.specs.Value.{Value, Values, vnil, vcons};
-ghost use Rattle.values.specs.Encode.{encodeValue, encodeValues};
-ghost use Rattle.plan.specs.Run.{valueAt, mapValues, eval, evals, clean, cleanAll};
-ghost use Rattle.walk.specs.Stands.{SelectorAt, SelectorsAt};
-ghost use Rattle.walk.specs.Parts.{TextAt, CastAt, StructAt, ListAt, ArrayAt};
-ghost use Rattle.nodes.specs.Raw.{RawAt, RowAt, ElementsAt, NodeOf};
-ghost use Rattle.index.specs.Indexed.{IndexedRow};
+ghost use Rattle.plan.specs.Run.{valueAt, eval};
+ghost use Rattle.walk.specs.Stands.{SelectorAt};
+ghost use Rattle.walk.specs.Parts.{TextAt, StructAt, ListAt, ArrayAt};
+ghost use Rattle.nodes.specs.Raw.{RawAt, NodeOf};
+ghost use Rattle.index.specs.Indexed.{RowIn, IndexedIn};
 ghost use Rattle.direct.specs.Inputs.{inputOf, InputAt};
-ghost use Rattle.transfer.specs.Reaching.{takes, ReachedIs};
+ghost use Rattle.transfer.specs.Reaching.{takes, NodeIn, ReachedIs};
+ghost use Rattle.transfer.specs.Given.{SelectorsIn, ElementsIn, SelectorReached, RowReached, ElementsReached};
+use crate::chain::cast_value;
+use crate::chain::put_chain;
 use crate::chain::transfer_cast;
+use crate::leaf::Node;
+use crate::leaf::Place;
 use crate::leaf::Reached;
+use crate::leaf::Selectors;
 use crate::leaf::limited;
-use crate::leaf::put_cast;
 use crate::leaf::put_constant;
 use crate::leaf::put_node;
 use crate::leaf::put_nothing;
@@ -27,12 +31,14 @@ use crate::opened::open_node;
 use crate::origin::is_position;
 use crate::origin::taken_position;
 use index::columns::field_stride;
+use index::row::Row;
 use index::row::index_row;
 use index::row::indexed_value;
 use layout::cursor::Cursor;
 use layout::cursor::Moved;
 use layout::cursor::Text;
 use layout::edition::Edition;
+use nodes::places::ColumnRange;
 use nodes::raw::NodeAt;
 use raw::copy::put_lead;
 use values::read::read_element;
@@ -41,27 +47,12 @@ use walk::head::head;
 use walk::head::skip_selector;
 use walk::head::struct_fields;
 
-// The cast at `c`: the node is what its input gives.
-fn cast_over(
-    lay: &[u8],
-    v: Edition,
-    rec: &[u8],
-    node: NodeAt,
-    plan: &[u8],
-    c: Cursor,
-    input: Cursor,
-    out: &mut [u8],
-    k: usize,
-    ends: &[u16],
-) -> Reached
-    requires { ⌜ Ends v (now lay) (now ends) ⌝ }
-    requires { ⌜ ((x : Value) × NodeOf v (now lay) (now rec) x node) ⌝ }
-    requires { ⌜ (length (now rec) ≤ 65536) × (k ≤ 16384) ⌝ }
-    ensures { λ r. ⌜ ((ρ : Values) (P : SelectorAt (now (plan .entry)) (c .at)) (C : CastAt (now (plan .entry)) (c .at) P (input .at)) → NodeOf v (now (lay .entry)) (now (rec .entry)) (eval ρ (C .input .tree)) node → ReachedIs (clean (eval ρ (P .tree))) (encodeValue (eval ρ (P .tree))) (P .end) (now (out .entry)) k r (now (out .exit))) ⌝ }
-{
-    let t = skip_selector(plan, input);
-    let end = skip_selector(plan, c);
-    put_cast(lay, v, rec, node, plan, t, end, out, k, ends)
+// The elements of a list or an array: how many, where their type stands, and where their values begin.
+struct Elements {
+    edition: Edition,
+    count: u32,
+    element: Cursor,
+    values: Cursor,
 }
 
 // What a rename's input gave, and past the name.
@@ -87,228 +78,220 @@ fn element_node(p: u16, t: Cursor, c: Cursor) -> NodeAt
     NodeAt::Null
 }
 
-fn skip_value(lay: &[u8], v: Edition, t: Cursor, rec: &[u8], c: Cursor, ends: &[u16]) -> Cursor
-    requires { ⌜ Ends v (now lay) (now ends) ⌝ }
-    requires { ⌜ RawAt v (now lay) (t .at) (now rec) (c .at) ⌝ }
-    ensures { λ r. ⌜ ((X : RawAt v (now (lay .entry)) (t .at) (now (rec .entry)) (c .at)) → r .at ≡ X .value .end) ⌝ }
+// Past the element whose value begins at `c`.
+fn skip_value(lay: &[u8], rec: &[u8], elements: Elements, c: Cursor, ends: &[u16]) -> Cursor
+    requires { ⌜ Ends (elements .edition) (now lay) (now ends) ⌝ }
+    requires { ⌜ RawAt (elements .edition) (now lay) (elements .element .at) (now rec) (c .at) ⌝ }
+    ensures { λ r. ⌜ ((X : RawAt (elements .edition) (now (lay .entry)) (elements .element .at) (now (rec .entry)) (c .at)) → r .at ≡ X .value .end) ⌝ }
 {
-    match read_element(lay, v, 16, t, rec, c, ends) {
+    let v = elements.edition;
+    match read_element(lay, v, 16, elements.element, rec, c, ends) {
         Moved::To(d) => d,
         Moved::Refused(_) => c,
     }
 }
 
-// The `count` selectors from `first` on, over the values from `d` on of the `n` columns at `t`.
+// The selectors over the values of a row.
 pub fn transfer_row(
     lay: &[u8],
-    v: Edition,
-    n: u16,
-    t: Cursor,
     rec: &[u8],
-    d: Cursor,
+    row: Row,
     types: &[u16],
     values: &[u16],
-    stride: u16,
     plan: &[u8],
-    count: u16,
-    first: Cursor,
-    levels: u8,
+    selectors: Selectors,
     out: &mut [u8],
-    k: usize,
     ends: &[u16],
 ) -> Reached
-    requires { ⌜ Ends v (now lay) (now ends) ⌝ }
-    requires { ⌜ RowAt v (now lay) n (t .at) (now rec) (d .at) ⌝ }
-    requires { ⌜ IndexedRow v (now lay) n (t .at) (now rec) (d .at) stride (now types) (now values) × (0 < stride) ⌝ }
-    requires { ⌜ SelectorsAt (now plan) count (first .at) ⌝ }
-    requires { ⌜ (length (now rec) ≤ 65536) × (length (now plan) ≤ 65536) × (k ≤ 16387) ⌝ }
-    ensures { λ r. ⌜ ((X : RowAt v (now (lay .entry)) n (t .at) (now (rec .entry)) (d .at)) (S : SelectorsAt (now (plan .entry)) count (first .at)) → ReachedIs (cleanAll (evals (X .values .values) (S .trees))) (encodeValues (evals (X .values .values) (S .trees))) (S .end) (now (out .entry)) k r (now (out .exit))) ⌝ }
+    requires { ⌜ Ends (row .columns .edition) (now lay) (now ends) ⌝ }
+    requires { ⌜ RowIn (now lay) (now rec) row ⌝ }
+    requires { ⌜ IndexedIn (now lay) (now rec) row (now types) (now values) × (0 < row .stride) ⌝ }
+    requires { ⌜ SelectorsIn (now plan) selectors ⌝ }
+    requires { ⌜ (length (now rec) ≤ 65536) × (length (now plan) ≤ 65536) × (selectors .first .k ≤ 16387) ⌝ }
+    ensures { λ r. ⌜ ((X : RowIn (now (lay .entry)) (now (rec .entry)) row) (S : SelectorsIn (now (plan .entry)) selectors) → RowReached X S (now (out .entry)) (selectors .first .k) r (now (out .exit))) ⌝ }
 {
-    let mut at = k;
-    let mut from = first.at;
+    let columns = row.columns;
+    let v = columns.edition;
+    let count = selectors.count;
+    let levels = selectors.first.levels;
+    let mut k = selectors.first.k;
+    let mut c = selectors.first.selector;
     let mut i: u16 = 0;
     while i < count {
-        let c = Cursor { at: from };
         let p = taken_position(plan, c);
-        let node = indexed_value(lay, v, n, t, rec, d, types, values, stride, p, ends);
-        match transfer(lay, v, rec, node, plan, c, levels, out, at, ends) {
+        let at = indexed_value(lay, rec, row, types, values, p, ends);
+        let node = Node { edition: v, at };
+        let place = Place {
+            selector: c,
+            levels,
+            k,
+        };
+        match transfer(lay, rec, node, plan, place, out, ends) {
             Reached::To(e, r) => {
-                from = e.at;
-                at = r;
+                c = e;
+                k = r;
             }
             Reached::Unknown => return Reached::Unknown,
         }
         i += 1;
     }
-    limited(Cursor { at: from }, at)
+    limited(c, k)
 }
 
-// The selector `element` over each of `m` values from `d` on of the type at `t`; the mapping ends at `end`.
+// The selector at `place` over each of the elements; the mapping ends at `end`.
 fn transfer_elements(
     lay: &[u8],
-    v: Edition,
-    m: u32,
-    t: Cursor,
     rec: &[u8],
-    d: Cursor,
+    elements: Elements,
     plan: &[u8],
-    element: Cursor,
+    place: Place,
     end: Cursor,
-    levels: u8,
     out: &mut [u8],
-    k: usize,
     ends: &[u16],
 ) -> Reached
-    requires { ⌜ Ends v (now lay) (now ends) ⌝ }
-    requires { ⌜ ElementsAt v (now lay) m (t .at) (now rec) (d .at) ⌝ }
-    requires { ⌜ SelectorAt (now plan) (element .at) ⌝ }
-    requires { ⌜ (length (now rec) ≤ 65536) × (length (now plan) ≤ 65536) × (k ≤ 16387) ⌝ }
-    ensures { λ r. ⌜ ((X : ElementsAt v (now (lay .entry)) m (t .at) (now (rec .entry)) (d .at)) (P : SelectorAt (now (plan .entry)) (element .at)) → ReachedIs (cleanAll (mapValues (λ x. eval (vcons x vnil) (P .tree)) (X .values .values))) (encodeValues (mapValues (λ x. eval (vcons x vnil) (P .tree)) (X .values .values))) (end .at) (now (out .entry)) k r (now (out .exit))) ⌝ }
+    requires { ⌜ Ends (elements .edition) (now lay) (now ends) ⌝ }
+    requires { ⌜ ElementsIn (now lay) (now rec) elements ⌝ }
+    requires { ⌜ SelectorAt (now plan) (place .selector .at) ⌝ }
+    requires { ⌜ (length (now rec) ≤ 65536) × (length (now plan) ≤ 65536) × (place .k ≤ 16387) ⌝ }
+    ensures { λ r. ⌜ ((X : ElementsIn (now (lay .entry)) (now (rec .entry)) elements) (P : SelectorAt (now (plan .entry)) (place .selector .at)) → ElementsReached X P (end .at) (now (out .entry)) (place .k) r (now (out .exit))) ⌝ }
 {
+    let v = elements.edition;
+    let m = elements.count;
+    let t = elements.element;
+    let element = place.selector;
+    let levels = place.levels;
     let p = taken_position(plan, element);
-    let mut at = k;
-    let mut from = d.at;
+    let mut k = place.k;
+    let mut c = elements.values;
     let mut i: u32 = 0;
     while i < m {
-        let c = Cursor { at: from };
-        let next = skip_value(lay, v, t, rec, c, ends);
-        let node = element_node(p, t, c);
-        match transfer(lay, v, rec, node, plan, element, levels, out, at, ends) {
+        let next = skip_value(lay, rec, elements, c, ends);
+        let at = element_node(p, t, c);
+        let node = Node { edition: v, at };
+        let each = Place {
+            selector: element,
+            levels,
+            k,
+        };
+        match transfer(lay, rec, node, plan, each, out, ends) {
             Reached::To(_, r) => {
-                from = next.at;
-                at = r;
+                c = next;
+                k = r;
             }
             Reached::Unknown => return Reached::Unknown,
         }
         i += 1;
     }
-    limited(end, at)
+    limited(end, k)
 }
 
 // Fills the tables of a struct's fields, of which `count` are taken; where these are few, it would take longer than passing over fields.
 fn index_fields(
     lay: &[u8],
-    v: Edition,
-    n: u16,
-    t: Cursor,
     rec: &[u8],
-    d: Cursor,
+    row: Row,
     count: u16,
-    stride: u16,
     types: &mut [u16],
     values: &mut [u16],
     ends: &[u16],
 ) -> usize
-    requires { ⌜ Ends v (now lay) (now ends) ⌝ }
-    requires { ⌜ RowAt v (now lay) n (t .at) (now rec) (d .at) ⌝ }
+    requires { ⌜ Ends (row .columns .edition) (now lay) (now ends) ⌝ }
+    requires { ⌜ RowIn (now lay) (now rec) row ⌝ }
     ensures { λ r. ⌜ r ≤ length (now (types .exit)) ⌝ }
     ensures { λ r. ⌜ r ≤ length (now (values .exit)) ⌝ }
-    ensures { λ r. ⌜ IndexedRow v (now (lay .entry)) n (t .at) (now (rec .entry)) (d .at) stride (take r (now (types .exit))) (take r (now (values .exit))) ⌝ }
+    ensures { λ r. ⌜ IndexedIn (now (lay .entry)) (now (rec .entry)) row (take r (now (types .exit))) (take r (now (values .exit))) ⌝ }
 {
     if count <= 8 {
         return 0;
     }
-    index_row(lay, v, n, t, rec, d, stride, types, values, ends)
+    index_row(lay, rec, row, types, values, ends)
 }
 
 // The selectors of a struct mapping: as `transfer_row`, with tables of the struct's own fields.
 fn transfer_fields(
     lay: &[u8],
-    v: Edition,
-    n: u16,
-    t: Cursor,
     rec: &[u8],
-    d: Cursor,
+    row: Row,
     plan: &[u8],
-    count: u16,
-    first: Cursor,
-    levels: u8,
+    selectors: Selectors,
     out: &mut [u8],
-    k: usize,
     ends: &[u16],
 ) -> Reached
-    requires { ⌜ Ends v (now lay) (now ends) ⌝ }
-    requires { ⌜ RowAt v (now lay) n (t .at) (now rec) (d .at) ⌝ }
-    requires { ⌜ SelectorsAt (now plan) count (first .at) ⌝ }
-    requires { ⌜ (length (now rec) ≤ 65536) × (length (now plan) ≤ 65536) × (k ≤ 16387) ⌝ }
-    ensures { λ r. ⌜ ((X : RowAt v (now (lay .entry)) n (t .at) (now (rec .entry)) (d .at)) (S : SelectorsAt (now (plan .entry)) count (first .at)) → ReachedIs (cleanAll (evals (X .values .values) (S .trees))) (encodeValues (evals (X .values .values) (S .trees))) (S .end) (now (out .entry)) k r (now (out .exit))) ⌝ }
+    requires { ⌜ Ends (row .columns .edition) (now lay) (now ends) ⌝ }
+    requires { ⌜ RowIn (now lay) (now rec) row ⌝ }
+    requires { ⌜ 0 < row .stride ⌝ }
+    requires { ⌜ SelectorsIn (now plan) selectors ⌝ }
+    requires { ⌜ (length (now rec) ≤ 65536) × (length (now plan) ≤ 65536) × (selectors .first .k ≤ 16387) ⌝ }
+    ensures { λ r. ⌜ ((X : RowIn (now (lay .entry)) (now (rec .entry)) row) (S : SelectorsIn (now (plan .entry)) selectors) → RowReached X S (now (out .entry)) (selectors .first .k) r (now (out .exit))) ⌝ }
 {
-    let stride = field_stride(n);
     let mut types = [0u16; 64];
     let mut values = [0u16; 64];
     let m = index_fields(
         lay,
-        v,
-        n,
-        t,
         rec,
-        d,
-        count,
-        stride,
+        row,
+        selectors.count,
         &mut types,
         &mut values,
         ends,
     );
     transfer_row(
         lay,
-        v,
-        n,
-        t,
         rec,
-        d,
+        row,
         &types[..m],
         &values[..m],
-        stride,
         plan,
-        count,
-        first,
-        levels,
+        selectors,
         out,
-        k,
         ends,
     )
 }
 
-// The struct mapping at `c`: the node is what its input gives.
+// The struct mapping at `place`: the node is what its input gives.
 fn struct_over(
     lay: &[u8],
-    v: Edition,
     rec: &[u8],
-    node: NodeAt,
+    node: Node,
     plan: &[u8],
-    c: Cursor,
+    place: Place,
     input: Cursor,
-    levels: u8,
     out: &mut [u8],
-    k: usize,
     ends: &[u16],
 ) -> Reached
-    requires { ⌜ Ends v (now lay) (now ends) ⌝ }
-    requires { ⌜ ((x : Value) × NodeOf v (now lay) (now rec) x node) ⌝ }
-    requires { ⌜ ((P : SelectorAt (now plan) (c .at)) × StructAt (now plan) (c .at) P (input .at)) ⌝ }
-    requires { ⌜ (length (now rec) ≤ 65536) × (length (now plan) ≤ 65536) × (k ≤ 16384) ⌝ }
-    ensures { λ r. ⌜ ((ρ : Values) (P : SelectorAt (now (plan .entry)) (c .at)) (S : StructAt (now (plan .entry)) (c .at) P (input .at)) → NodeOf v (now (lay .entry)) (now (rec .entry)) (eval ρ (S .input .tree)) node → ReachedIs (clean (eval ρ (P .tree))) (encodeValue (eval ρ (P .tree))) (P .end) (now (out .entry)) k r (now (out .exit))) ⌝ }
+    requires { ⌜ Ends (node .edition) (now lay) (now ends) ⌝ }
+    requires { ⌜ ((x : Value) × NodeIn (now lay) (now rec) x node) ⌝ }
+    requires { ⌜ ((P : SelectorAt (now plan) (place .selector .at)) × StructAt (now plan) (place .selector .at) P (input .at)) ⌝ }
+    requires { ⌜ (length (now rec) ≤ 65536) × (length (now plan) ≤ 65536) × (place .k ≤ 16384) ⌝ }
+    ensures { λ r. ⌜ ((ρ : Values) (P : SelectorAt (now (plan .entry)) (place .selector .at)) (S : StructAt (now (plan .entry)) (place .selector .at) P (input .at)) → NodeIn (now (lay .entry)) (now (rec .entry)) (eval ρ (S .input .tree)) node → SelectorReached ρ P (now (out .entry)) (place .k) r (now (out .exit))) ⌝ }
 {
-    match open_node(lay, v, rec, node) {
-        Opened::Null => put_nothing(skip_selector(plan, c), out, k),
+    let v = node.edition;
+    match open_node(lay, rec, node) {
+        Opened::Null => put_nothing(skip_selector(plan, place.selector), out, place.k),
         Opened::Row(n, t, d) => {
-            let at = put_lead(false, 0, out, k);
+            let k = put_lead(false, 0, out, place.k);
             let f = struct_fields(plan, input);
-            transfer_fields(
-                lay,
-                v,
-                n,
-                t,
-                rec,
-                d,
-                plan,
-                f.count,
-                f.first,
-                levels,
-                out,
-                at,
-                ends,
-            )
+            let selector = f.first;
+            let columns = ColumnRange {
+                edition: v,
+                count: n,
+                first: t,
+            };
+            let row = Row {
+                columns,
+                values: d,
+                stride: field_stride(n),
+            };
+            let first = Place {
+                selector,
+                levels: place.levels,
+                k,
+            };
+            let selectors = Selectors {
+                count: f.count,
+                first,
+            };
+            transfer_fields(lay, rec, row, plan, selectors, out, ends)
         }
         Opened::List(_, _, _) => Reached::Unknown,
         Opened::Array(_, _, _) => Reached::Unknown,
@@ -316,47 +299,42 @@ fn struct_over(
     }
 }
 
-// The list mapping at `c`: the node is what its input gives.
+// The list mapping at `place`: the node is what its input gives.
 fn list_over(
     lay: &[u8],
-    v: Edition,
     rec: &[u8],
-    node: NodeAt,
+    node: Node,
     plan: &[u8],
-    c: Cursor,
+    place: Place,
     input: Cursor,
-    levels: u8,
     out: &mut [u8],
-    k: usize,
     ends: &[u16],
 ) -> Reached
-    requires { ⌜ Ends v (now lay) (now ends) ⌝ }
-    requires { ⌜ ((x : Value) × NodeOf v (now lay) (now rec) x node) ⌝ }
-    requires { ⌜ ((P : SelectorAt (now plan) (c .at)) × ListAt (now plan) (c .at) P (input .at)) ⌝ }
-    requires { ⌜ (length (now rec) ≤ 65536) × (length (now plan) ≤ 65536) × (k ≤ 16384) ⌝ }
-    ensures { λ r. ⌜ ((ρ : Values) (P : SelectorAt (now (plan .entry)) (c .at)) (L : ListAt (now (plan .entry)) (c .at) P (input .at)) → NodeOf v (now (lay .entry)) (now (rec .entry)) (eval ρ (L .input .tree)) node → ReachedIs (clean (eval ρ (P .tree))) (encodeValue (eval ρ (P .tree))) (P .end) (now (out .entry)) k r (now (out .exit))) ⌝ }
+    requires { ⌜ Ends (node .edition) (now lay) (now ends) ⌝ }
+    requires { ⌜ ((x : Value) × NodeIn (now lay) (now rec) x node) ⌝ }
+    requires { ⌜ ((P : SelectorAt (now plan) (place .selector .at)) × ListAt (now plan) (place .selector .at) P (input .at)) ⌝ }
+    requires { ⌜ (length (now rec) ≤ 65536) × (length (now plan) ≤ 65536) × (place .k ≤ 16384) ⌝ }
+    ensures { λ r. ⌜ ((ρ : Values) (P : SelectorAt (now (plan .entry)) (place .selector .at)) (L : ListAt (now (plan .entry)) (place .selector .at) P (input .at)) → NodeIn (now (lay .entry)) (now (rec .entry)) (eval ρ (L .input .tree)) node → SelectorReached ρ P (now (out .entry)) (place .k) r (now (out .exit))) ⌝ }
 {
-    let end = skip_selector(plan, c);
-    match open_node(lay, v, rec, node) {
-        Opened::Null => put_nothing(end, out, k),
+    let v = node.edition;
+    let end = skip_selector(plan, place.selector);
+    match open_node(lay, rec, node) {
+        Opened::Null => put_nothing(end, out, place.k),
         Opened::List(m, t, d) => {
-            let at = put_lead(true, m, out, k);
-            let element = skip_selector(plan, input);
-            transfer_elements(
-                lay,
-                v,
-                m,
-                t,
-                rec,
-                d,
-                plan,
-                element,
-                end,
-                levels,
-                out,
-                at,
-                ends,
-            )
+            let k = put_lead(true, m, out, place.k);
+            let selector = skip_selector(plan, input);
+            let each = Place {
+                selector,
+                levels: place.levels,
+                k,
+            };
+            let elements = Elements {
+                edition: v,
+                count: m,
+                element: t,
+                values: d,
+            };
+            transfer_elements(lay, rec, elements, plan, each, end, out, ends)
         }
         Opened::Row(_, _, _) => Reached::Unknown,
         Opened::Array(_, _, _) => Reached::Unknown,
@@ -364,47 +342,42 @@ fn list_over(
     }
 }
 
-// The array mapping at `c`: the node is what its input gives.
+// The array mapping at `place`: the node is what its input gives.
 fn array_over(
     lay: &[u8],
-    v: Edition,
     rec: &[u8],
-    node: NodeAt,
+    node: Node,
     plan: &[u8],
-    c: Cursor,
+    place: Place,
     input: Cursor,
-    levels: u8,
     out: &mut [u8],
-    k: usize,
     ends: &[u16],
 ) -> Reached
-    requires { ⌜ Ends v (now lay) (now ends) ⌝ }
-    requires { ⌜ ((x : Value) × NodeOf v (now lay) (now rec) x node) ⌝ }
-    requires { ⌜ ((P : SelectorAt (now plan) (c .at)) × ArrayAt (now plan) (c .at) P (input .at)) ⌝ }
-    requires { ⌜ (length (now rec) ≤ 65536) × (length (now plan) ≤ 65536) × (k ≤ 16384) ⌝ }
-    ensures { λ r. ⌜ ((ρ : Values) (P : SelectorAt (now (plan .entry)) (c .at)) (L : ArrayAt (now (plan .entry)) (c .at) P (input .at)) → NodeOf v (now (lay .entry)) (now (rec .entry)) (eval ρ (L .input .tree)) node → ReachedIs (clean (eval ρ (P .tree))) (encodeValue (eval ρ (P .tree))) (P .end) (now (out .entry)) k r (now (out .exit))) ⌝ }
+    requires { ⌜ Ends (node .edition) (now lay) (now ends) ⌝ }
+    requires { ⌜ ((x : Value) × NodeIn (now lay) (now rec) x node) ⌝ }
+    requires { ⌜ ((P : SelectorAt (now plan) (place .selector .at)) × ArrayAt (now plan) (place .selector .at) P (input .at)) ⌝ }
+    requires { ⌜ (length (now rec) ≤ 65536) × (length (now plan) ≤ 65536) × (place .k ≤ 16384) ⌝ }
+    ensures { λ r. ⌜ ((ρ : Values) (P : SelectorAt (now (plan .entry)) (place .selector .at)) (L : ArrayAt (now (plan .entry)) (place .selector .at) P (input .at)) → NodeIn (now (lay .entry)) (now (rec .entry)) (eval ρ (L .input .tree)) node → SelectorReached ρ P (now (out .entry)) (place .k) r (now (out .exit))) ⌝ }
 {
-    let end = skip_selector(plan, c);
-    match open_node(lay, v, rec, node) {
-        Opened::Null => put_nothing(end, out, k),
+    let v = node.edition;
+    let end = skip_selector(plan, place.selector);
+    match open_node(lay, rec, node) {
+        Opened::Null => put_nothing(end, out, place.k),
         Opened::Array(m, t, d) => {
-            let at = put_lead(false, m, out, k);
-            let element = skip_selector(plan, input);
-            transfer_elements(
-                lay,
-                v,
-                m,
-                t,
-                rec,
-                d,
-                plan,
-                element,
-                end,
-                levels,
-                out,
-                at,
-                ends,
-            )
+            let k = put_lead(false, m, out, place.k);
+            let selector = skip_selector(plan, input);
+            let each = Place {
+                selector,
+                levels: place.levels,
+                k,
+            };
+            let elements = Elements {
+                edition: v,
+                count: m,
+                element: t,
+                values: d,
+            };
+            transfer_elements(lay, rec, elements, plan, each, end, out, ends)
         }
         Opened::Row(_, _, _) => Reached::Unknown,
         Opened::List(_, _, _) => Reached::Unknown,
@@ -412,143 +385,142 @@ fn array_over(
     }
 }
 
-// The transform at `c`: the node is what its input gives.
+// The transform at `place`: the node is what its input gives.
 pub fn transfer_over(
     lay: &[u8],
-    v: Edition,
     rec: &[u8],
-    node: NodeAt,
+    node: Node,
     plan: &[u8],
-    c: Cursor,
-    levels: u8,
+    place: Place,
     out: &mut [u8],
-    k: usize,
     ends: &[u16],
 ) -> Reached
-    requires { ⌜ Ends v (now lay) (now ends) ⌝ }
-    requires { ⌜ ((x : Value) × NodeOf v (now lay) (now rec) x node) ⌝ }
-    requires { ⌜ SelectorAt (now plan) (c .at) ⌝ }
-    requires { ⌜ (length (now rec) ≤ 65536) × (length (now plan) ≤ 65536) × (k ≤ 16384) ⌝ }
-    ensures { λ r. ⌜ ((ρ : Values) (P : SelectorAt (now (plan .entry)) (c .at)) → NodeOf v (now (lay .entry)) (now (rec .entry)) (eval ρ (inputOf (P .tree))) node → ReachedIs (clean (eval ρ (P .tree))) (encodeValue (eval ρ (P .tree))) (P .end) (now (out .entry)) k r (now (out .exit))) ⌝ }
+    requires { ⌜ Ends (node .edition) (now lay) (now ends) ⌝ }
+    requires { ⌜ ((x : Value) × NodeIn (now lay) (now rec) x node) ⌝ }
+    requires { ⌜ SelectorAt (now plan) (place .selector .at) ⌝ }
+    requires { ⌜ (length (now rec) ≤ 65536) × (length (now plan) ≤ 65536) × (place .k ≤ 16384) ⌝ }
+    ensures { λ r. ⌜ ((ρ : Values) (P : SelectorAt (now (plan .entry)) (place .selector .at)) → NodeIn (now (lay .entry)) (now (rec .entry)) (eval ρ (inputOf (P .tree))) node → SelectorReached ρ P (now (out .entry)) (place .k) r (now (out .exit))) ⌝ }
 {
-    if levels == 0 {
+    if place.levels == 0 {
         return Reached::Unknown;
     }
-    let l = levels - 1;
+    let c = place.selector;
+    let inner = Place {
+        selector: c,
+        levels: place.levels - 1,
+        k: place.k,
+    };
     match head(plan, c) {
         SelectorHead::Position(_) => Reached::Unknown,
         SelectorHead::Constant(_, _) => Reached::Unknown,
-        SelectorHead::Cast(input) => cast_over(lay, v, rec, node, plan, c, input, out, k, ends),
-        SelectorHead::Rename(_) => put_node(
-            lay,
-            v,
-            rec,
-            node,
-            skip_selector(plan, c),
-            out,
-            k,
-            ends,
-        ),
-        SelectorHead::Struct(input) => struct_over(
-            lay,
-            v,
-            rec,
-            node,
-            plan,
-            c,
-            input,
-            l,
-            out,
-            k,
-            ends,
-        ),
-        SelectorHead::List(input) => list_over(lay, v, rec, node, plan, c, input, l, out, k, ends),
-        SelectorHead::Array(input) => array_over(
-            lay,
-            v,
-            rec,
-            node,
-            plan,
-            c,
-            input,
-            l,
-            out,
-            k,
-            ends,
-        ),
+        SelectorHead::Cast(input) => {
+            let q = cast_value(lay, rec, node, plan, c, input);
+            put_chain(
+                lay,
+                rec,
+                node,
+                q,
+                skip_selector(plan, c),
+                out,
+                place.k,
+                ends,
+            )
+        }
+        SelectorHead::Rename(_) => {
+            put_node(lay, rec, node, skip_selector(plan, c), out, place.k, ends)
+        }
+        SelectorHead::Struct(input) => struct_over(lay, rec, node, plan, inner, input, out, ends),
+        SelectorHead::List(input) => list_over(lay, rec, node, plan, inner, input, out, ends),
+        SelectorHead::Array(input) => array_over(lay, rec, node, plan, inner, input, out, ends),
         SelectorHead::Refused => Reached::Unknown,
     }
 }
 
-// The transform at `c` of the position at `input`: the node is the value there.
+// The transform at `place` of the position at `input`: the node is the value there.
 fn transfer_taken(
     lay: &[u8],
-    v: Edition,
     rec: &[u8],
-    node: NodeAt,
+    node: Node,
     plan: &[u8],
-    c: Cursor,
+    place: Place,
     input: Cursor,
-    levels: u8,
     out: &mut [u8],
-    k: usize,
     ends: &[u16],
 ) -> Reached
-    requires { ⌜ Ends v (now lay) (now ends) ⌝ }
-    requires { ⌜ ((x : Value) × NodeOf v (now lay) (now rec) x node) ⌝ }
-    requires { ⌜ SelectorAt (now plan) (c .at) ⌝ }
-    requires { ⌜ (length (now rec) ≤ 65536) × (length (now plan) ≤ 65536) × (k ≤ 16384) ⌝ }
-    ensures { λ r. ⌜ ((ρ : Values) (P : SelectorAt (now (plan .entry)) (c .at)) → InputAt (now (plan .entry)) (c .at) P (input .at) → NodeOf v (now (lay .entry)) (now (rec .entry)) (valueAt ρ (takes (P .tree))) node → ReachedIs (clean (eval ρ (P .tree))) (encodeValue (eval ρ (P .tree))) (P .end) (now (out .entry)) k r (now (out .exit))) ⌝ }
+    requires { ⌜ Ends (node .edition) (now lay) (now ends) ⌝ }
+    requires { ⌜ ((x : Value) × NodeIn (now lay) (now rec) x node) ⌝ }
+    requires { ⌜ SelectorAt (now plan) (place .selector .at) ⌝ }
+    requires { ⌜ (length (now rec) ≤ 65536) × (length (now plan) ≤ 65536) × (place .k ≤ 16384) ⌝ }
+    ensures { λ r. ⌜ ((ρ : Values) (P : SelectorAt (now (plan .entry)) (place .selector .at)) → InputAt (now (plan .entry)) (place .selector .at) P (input .at) → NodeIn (now (lay .entry)) (now (rec .entry)) (valueAt ρ (takes (P .tree))) node → SelectorReached ρ P (now (out .entry)) (place .k) r (now (out .exit))) ⌝ }
 {
     if is_position(plan, input) {
-        return transfer_over(lay, v, rec, node, plan, c, levels, out, k, ends);
+        return transfer_over(lay, rec, node, plan, place, out, ends);
     }
     Reached::Unknown
 }
 
-// The selector at `c`: the node is the value that it takes.
+// The selector at `place`: the node is the value that it takes.
 pub fn transfer(
     lay: &[u8],
-    v: Edition,
     rec: &[u8],
-    node: NodeAt,
+    node: Node,
     plan: &[u8],
-    c: Cursor,
-    levels: u8,
+    place: Place,
     out: &mut [u8],
-    k: usize,
     ends: &[u16],
 ) -> Reached
-    requires { ⌜ Ends v (now lay) (now ends) ⌝ }
-    requires { ⌜ ((x : Value) × NodeOf v (now lay) (now rec) x node) ⌝ }
-    requires { ⌜ SelectorAt (now plan) (c .at) ⌝ }
-    requires { ⌜ (length (now rec) ≤ 65536) × (length (now plan) ≤ 65536) × (k ≤ 16387) ⌝ }
-    ensures { λ r. ⌜ ((ρ : Values) (P : SelectorAt (now (plan .entry)) (c .at)) → NodeOf v (now (lay .entry)) (now (rec .entry)) (valueAt ρ (takes (P .tree))) node → ReachedIs (clean (eval ρ (P .tree))) (encodeValue (eval ρ (P .tree))) (P .end) (now (out .entry)) k r (now (out .exit))) ⌝ }
+    requires { ⌜ Ends (node .edition) (now lay) (now ends) ⌝ }
+    requires { ⌜ ((x : Value) × NodeIn (now lay) (now rec) x node) ⌝ }
+    requires { ⌜ SelectorAt (now plan) (place .selector .at) ⌝ }
+    requires { ⌜ (length (now rec) ≤ 65536) × (length (now plan) ≤ 65536) × (place .k ≤ 16387) ⌝ }
+    ensures { λ r. ⌜ ((ρ : Values) (P : SelectorAt (now (plan .entry)) (place .selector .at)) → NodeIn (now (lay .entry)) (now (rec .entry)) (valueAt ρ (takes (P .tree))) node → SelectorReached ρ P (now (out .entry)) (place .k) r (now (out .exit))) ⌝ }
 {
-    if levels == 0 {
+    if place.levels == 0 {
         return Reached::Unknown;
     }
-    if 16384 < k {
+    if 16384 < place.k {
         return Reached::Unknown;
     }
+    let c = place.selector;
+    let k = place.k;
+    let levels = place.levels - 1;
     match head(plan, c) {
         SelectorHead::Position(_) => {
-            put_node(lay, v, rec, node, skip_selector(plan, c), out, k, ends)
+            put_node(lay, rec, node, skip_selector(plan, c), out, k, ends)
         }
         SelectorHead::Constant(_, t) => put_constant(plan, t, skip_selector(plan, c), out, k),
         SelectorHead::Rename(input) => {
-            let r = transfer(lay, v, rec, node, plan, input, levels - 1, out, k, ends);
-            past_name(plan, r)
+            let inner = Place {
+                selector: input,
+                levels,
+                k,
+            };
+            past_name(plan, transfer(lay, rec, node, plan, inner, out, ends))
         }
-        SelectorHead::Cast(_) => transfer_cast(lay, v, rec, node, plan, c, levels, out, k, ends),
+        SelectorHead::Cast(_) => transfer_cast(lay, rec, node, plan, place, out, ends),
         SelectorHead::Struct(input) => {
-            transfer_taken(lay, v, rec, node, plan, c, input, levels - 1, out, k, ends)
+            let inner = Place {
+                selector: c,
+                levels,
+                k,
+            };
+            transfer_taken(lay, rec, node, plan, inner, input, out, ends)
         }
         SelectorHead::List(input) => {
-            transfer_taken(lay, v, rec, node, plan, c, input, levels - 1, out, k, ends)
+            let inner = Place {
+                selector: c,
+                levels,
+                k,
+            };
+            transfer_taken(lay, rec, node, plan, inner, input, out, ends)
         }
         SelectorHead::Array(input) => {
-            transfer_taken(lay, v, rec, node, plan, c, input, levels - 1, out, k, ends)
+            let inner = Place {
+                selector: c,
+                levels,
+                k,
+            };
+            transfer_taken(lay, rec, node, plan, inner, input, out, ends)
         }
         SelectorHead::Refused => Reached::Unknown,
     }

@@ -10,6 +10,7 @@ use crate::read::read_value;
 use ends::local::fill_local;
 use layout::cursor::Cursor;
 use layout::edition::Edition;
+use layout::limits::DEEPEST;
 
 // Whether a table of where structs end pays for the value at `c` of the type at `t`, which ends at `end`: it is cleared
 // in the time of a pass over some thirty bytes of a type. Nothing rests on it but the time that is needed.
@@ -33,8 +34,8 @@ fn read_by_table(s: &[u8], t: Cursor, end: Cursor, c: Cursor) -> ValueRead
     ensures { λ r. ⌜ ((P : TypeAt EditionOf.One 16 (now (s .entry)) (t .at)) → r ≡ valueMoved (P .end) (value (dtypeOf (P .tree)) (now (s .entry)) (c .at))) ⌝ }
 {
     let mut ends = [0u16; 4098];
-    fill_local(s, Edition::One, 16, t, end, &mut ends);
-    read_value(s, Edition::One, 16, t, s, c, &ends)
+    fill_local(s, Edition::One, DEEPEST, t, end, &mut ends);
+    read_value(s, Edition::One, DEEPEST, t, s, c, &ends)
 }
 
 // The value at `c` of the type at `t`, which ends at `end`.
@@ -46,5 +47,5 @@ pub fn read_constant_value(s: &[u8], t: Cursor, end: Cursor, c: Cursor) -> Value
         return read_by_table(s, t, end, c);
     }
     let none: [u16; 1] = [0; 1];
-    read_value(s, Edition::One, 16, t, s, c, &none[..0])
+    read_value(s, Edition::One, DEEPEST, t, s, c, &none[..0])
 }

@@ -197,18 +197,16 @@ pub fn marked_fields(
     ensures { λ r. ⌜ ((P : ColumnsAt (cx .edition) (cx .depth) (now (lay .entry)) n (t .at)) → r ≡ valueMoved (P .end) (valuesMarked (marksOf (cx .marks)) (P .columns) (now (rec .entry)) (c .at))) ⌝ }
 {
     let v = cx.edition;
-    let mut at = t.at;
-    let mut to = c.at;
+    let mut d = t;
+    let mut b = c;
     let mut i: u16 = 0;
     while i < n {
-        let d = Cursor { at };
         match d.label(lay, v) {
             Labelled::Is(l, e) => {
-                let b = Cursor { at: to };
                 match marked_value(lay, cx, is_required(cx.marks, l), e, rec, b, ends) {
                     ValueRead::To(f, g) => {
-                        at = f.at;
-                        to = g.at;
+                        d = f;
+                        b = g;
                     }
                     ValueRead::Refused(k) => return ValueRead::Refused(k),
                 }
@@ -217,7 +215,7 @@ pub fn marked_fields(
         }
         i += 1;
     }
-    ValueRead::To(Cursor { at }, Cursor { at: to })
+    ValueRead::To(d, b)
 }
 
 // A count and as many values of one type.
@@ -279,18 +277,14 @@ pub fn marked_elements(
     requires { ⌜ Ends (cx .edition) (now lay) (now ends) ⌝ }
     ensures { λ r. ⌜ ((P : TypeAt (cx .edition) (cx .depth) (now (lay .entry)) (t .at)) → r ≡ valueMoved (P .end) (times n (valueMarked (marksOf (cx .marks)) required (P .tree)) (now (rec .entry)) (c .at))) ⌝ }
 {
-    let mut at = c.at;
+    let mut d = c;
     let mut i: u32 = 0;
     while i < n {
-        let d = Cursor { at };
         match marked_element(lay, cx, required, t, rec, d, ends) {
-            Moved::To(e) => {
-                at = e.at;
-            }
+            Moved::To(e) => d = e,
             Moved::Refused(k) => return ValueRead::Refused(k),
         }
         i += 1;
     }
-    let end = Cursor { at };
-    pass_type(lay, cx, t, end, ends)
+    pass_type(lay, cx, t, d, ends)
 }

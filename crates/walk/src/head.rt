@@ -14,6 +14,8 @@ use layout::cursor::Short;
 use layout::cursor::Step;
 use layout::cursor::Text;
 use layout::edition::Edition;
+use layout::limits::DEEPEST;
+use layout::limits::DEEPEST_SELECTOR;
 use layout::pass::pass_type;
 use plan::read::read_selector;
 use plan::read::read_selectors;
@@ -67,7 +69,7 @@ pub fn head(plan: &[u8], c: Cursor) -> SelectorHead
 pub fn skip_selector(plan: &[u8], c: Cursor) -> Cursor
     ensures { λ r. ⌜ ((P : SelectorAt (now (plan .entry)) (c .at)) → r .at ≡ P .end) ⌝ }
 {
-    match read_selector(plan, 64, c) {
+    match read_selector(plan, DEEPEST_SELECTOR, c) {
         Moved::To(e) => e,
         Moved::Refused(_) => c,
     }
@@ -77,7 +79,7 @@ pub fn skip_selector(plan: &[u8], c: Cursor) -> Cursor
 pub fn nth_selector(plan: &[u8], first: Cursor, k: u16) -> Cursor
     ensures { λ r. ⌜ ((n : ℕ) (Q : SelectorsAt (now (plan .entry)) n (first .at)) → k < n → NthIs (now (plan .entry)) n (first .at) Q k (r .at)) ⌝ }
 {
-    match read_selectors(plan, 64, k, first) {
+    match read_selectors(plan, DEEPEST_SELECTOR, k, first) {
         Moved::To(e) => e,
         Moved::Refused(_) => first,
     }
@@ -87,7 +89,7 @@ pub fn nth_selector(plan: &[u8], first: Cursor, k: u16) -> Cursor
 pub fn cast_option(plan: &[u8], c: Cursor) -> CastOption
     ensures { λ r. ⌜ ((T : TypeAt EditionOf.One 16 (now (plan .entry)) (c .at)) (O : OptionAt (now (plan .entry)) (T .end)) → r ≡ O .option) ⌝ }
 {
-    match pass_type(plan, Edition::One, 16, c) {
+    match pass_type(plan, Edition::One, DEEPEST, c) {
         Moved::To(d) => match d.byte(plan) {
             Step::Byte(b, _) => match option_of_code(b) {
                 OptionCode::Known(o) => o,

@@ -20,6 +20,8 @@ use layout::cursor::Short;
 use layout::cursor::Step;
 use layout::cursor::Text;
 use layout::edition::Edition;
+use layout::limits::DEEPEST;
+use layout::limits::DEEPEST_SELECTOR;
 use layout::pass::pass_type;
 use plan::read::read_selectors;
 
@@ -82,7 +84,7 @@ impl InputEnds {
 fn option_end(plan: &[u8], c: Cursor) -> Cursor
     ensures { λ r. ⌜ ((T : TypeAt EditionOf.One 16 (now (plan .entry)) (c .at)) (O : OptionAt (now (plan .entry)) (T .end)) → r .at ≡ O .end) ⌝ }
 {
-    match pass_type(plan, Edition::One, 16, c) {
+    match pass_type(plan, Edition::One, DEEPEST, c) {
         Moved::To(d) => match d.byte(plan) {
             Step::Byte(_, e) => e,
             Step::Refused(_) => c,
@@ -106,7 +108,7 @@ fn fields_end(plan: &[u8], c: Cursor) -> Cursor
     ensures { λ r. ⌜ ((Q : CountedAt (now (plan .entry)) (c .at)) → r .at ≡ Q .selectors .end) ⌝ }
 {
     match c.short(plan) {
-        Short::Is(n, d) => match read_selectors(plan, 64, n, d) {
+        Short::Is(n, d) => match read_selectors(plan, DEEPEST_SELECTOR, n, d) {
             Moved::To(e) => e,
             Moved::Refused(_) => c,
         },

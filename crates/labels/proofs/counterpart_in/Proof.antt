@@ -24,10 +24,13 @@ use Rattle.layout.proofs.cursor.Cursor.label.Reads as label-reads
 use Rattle.layout.proofs.matching.match_rule.Reads as match-rule-reads
 
 abbrev Inv-loop : tie.InvT-loop
-Inv-loop s v depth n table t l rule from h x₀ x = (at : ℕ) (how : Matching) → rule ≡ matchRule how → Table v how depth s n at table → (heads : ℕ) → node n + heads ≡ length table → (P : ColumnsAt v depth s n at) → Seeking how heads (labelAt t l) (P .columns) x
+Inv-loop s columns table t l rule from h x₀ x =
+    (at : ℕ) (how : Matching) → rule ≡ matchRule how → Table (columns .edition) how (columns .depth) s (columns .count) at table
+    → (heads : ℕ) → node (columns .count) + heads ≡ length table → (P : ColumnsAt (columns .edition) (columns .depth) s (columns .count) at)
+    → Seeking how heads (labelAt t l) (P .columns) x
 
 abbrev μ-loop : tie.MeasureT-loop
-μ-loop s v depth n table t l rule from h x₀ x = 65535 - x
+μ-loop s columns table t l rule from h x₀ x = 65535 - x
 
 match-rule-requires : tie.Need-match-rule-requires Inv-loop μ-loop
 match-rule-requires c κs = search needs
@@ -56,7 +59,7 @@ shared-slice-read-x c = search needs
 loop-holds : tie.Need-loop-holds Inv-loop μ-loop
 loop-holds c =
     λ at how g T heads e P.
-    seeking-start (T .chains P heads e) (labelAt (now (c .before .before .before .before .before .before .before .args .t)) (c .before .before .before .before .before .before .before .args .l)) (c .before .before .before .before .before .before .before .args .how) (c .before .slot .ensures .0) (sym (c .before .before .before .match-rule .ensures) ∙ g) (c .before .slot .ensures .1) (let a = c .before .before .wide .ensures in omega arith) refl (let a = c .before .before .wide .ensures in omega arith)
+    seeking-start (T .chains P heads e) (labelAt (now (c .before .before .before .before .before .before .before .args .t)) (c .before .before .before .before .before .before .before .args .l)) (c .before .before .before .before .before .before .before .args .columns .matching) (c .before .slot .ensures .0) (sym (c .before .before .before .match-rule .ensures) ∙ g) (c .before .slot .ensures .1) (let a = c .before .before .wide .ensures in omega arith) refl (let a = c .before .before .wide .ensures in omega arith)
 
 wide-requires-2 : tie.Need-wide-requires-2 Inv-loop μ-loop
 wide-requires-2 c κs = search needs

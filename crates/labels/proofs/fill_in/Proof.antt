@@ -57,10 +57,10 @@ same-length-2 c = search needs
 
 returns-4 : tie.Need-returns-4
 returns-4 c =
-    let ys = c .before .before .before .fill .last .1 .1 .1 .1 .1 .1 .0 in
-    let e = c .before .before .before .fill .kept .1 .1 .1 .1 .1 .1 .0 ∙ length-take-le _ (c .before .before .before .before .before .before .before .before .before .before .before .args .arena .now) (c .before .before .before .before .before .if2 .left) in
+    let ys = c .before .before .before .fill .last .1 .1 .0 in
+    let e = c .before .before .before .fill .kept .1 .1 .0 ∙ length-take-le _ (c .before .before .before .before .before .before .before .before .before .before .before .args .arena .now) (c .before .before .before .before .before .if2 .left) in
     let a = c .before .before .before .before .before .before .before .before .before .before .before .args in
-    (front-long ys _ e, λ h. subst (λ (l : List ℕ). Table (a .v) (a .how) (a .depth) (now (a .s)) (a .n) (a .first .at) l) (sym (front-is ys _ e)) (c .before .before .before .fill .ensures (not-false _ (c .if3 .left))))
+    (front-long ys _ e, λ h. subst (λ (l : List ℕ). Table (a .columns .edition) (a .columns .matching) (a .columns .depth) (now (a .s)) (a .columns .count) (a .columns .first .at) l) (sym (front-is ys _ e)) (c .before .before .before .fill .ensures (not-false _ (c .if3 .left))))
 
 pub fill-in-spec : {M : Type 1} → statement M
 fill-in-spec =

@@ -15,10 +15,11 @@ use Rattle.layout.proofs.bytes.wide.Reads as wide-reads
 use Rattle.layout.proofs.cursor.Cursor.label.Reads as label-reads
 
 abbrev Inv-loop : tie.InvT-loop
-Inv-loop s v how depth n table₀ i₀ from heads table i = (length table ≡ length table₀) × Linking v how depth s heads n i table₀ table
+Inv-loop s columns table₀ i₀ from heads table i =
+    (length table ≡ length table₀) × Linking (columns .edition) (columns .matching) (columns .depth) s heads (columns .count) i table₀ table
 
 abbrev μ-loop : tie.MeasureT-loop
-μ-loop s v how depth n table₀ i₀ from heads table i = i
+μ-loop s columns table₀ i₀ from heads table i = i
 
 wide-requires : tie.Need-wide-requires Inv-loop μ-loop
 wide-requires c κs = search needs

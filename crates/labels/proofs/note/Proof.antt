@@ -15,10 +15,11 @@ use Rattle.layout.proofs.cursor.Cursor.label.Reads as label-reads
 use Rattle.layout.proofs.pass.pass_type.Reads as pass-type-reads
 
 abbrev Inv-loop : tie.InvT-loop
-Inv-loop s v depth n table₀ at₀ i₀ table at i = (length table ≡ length table₀) × Noting v depth s n at₀ i at table
+Inv-loop s columns table₀ n at₀ i₀ table at i =
+    (length table ≡ length table₀) × Noting (columns .edition) (columns .depth) s (columns .count) at₀ i at table
 
 abbrev μ-loop : tie.MeasureT-loop
-μ-loop s v depth n table₀ at₀ i₀ table at i = n - i
+μ-loop s columns table₀ n at₀ i₀ table at i = columns .count - i
 
 loop-holds : tie.Need-loop-holds Inv-loop μ-loop
 loop-holds c = (refl, noting-start (c .before .before .pre .1))
@@ -78,7 +79,9 @@ returns-3 : tie.Need-returns-3 Inv-loop μ-loop
 returns-3 c = (search needs, λ h. clash (cc))
 
 add-i : tie.Need-add-i Inv-loop μ-loop
-add-i c = search needs
+add-i c =
+    let c10 = c .before .before .before .before .before .before .before .before .before .before in let c14 = c10 .before .before .before .before in
+    omega (arith, c10 .loop-test .taken, c14 .good .1 .0)
 
 loop-less : tie.Need-loop-less Inv-loop μ-loop
 loop-less c = search needs

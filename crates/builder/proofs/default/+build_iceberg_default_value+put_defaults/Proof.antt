@@ -125,18 +125,18 @@ pub +build-iceberg-default-value+put-defaults-spec : {M : Type 1} → statement 
     (λ c κs. search needs)
     (λ c. search needs)
     (λ c κs.
-    let c2 = c .before .before in let c4 = c2 .before .before in let c10 = c4 .before .before .before .before .before .before in
-    let P = c10 .pre .1 .0 in (
-      c10 .pre .1 .1 .0,
+    let c2 = c .before .before in let c4 = c2 .before .before in let c12 = c4 .before .before .before .before .before .before .before .before in
+    let P = c12 .pre .1 .0 in (
+      c12 .pre .1 .1 .0,
       (
         head-in _ (c4 .head .ensures .1) (c2 .u .given .1),
         (
-          c10 .pre .1 .1 .1 .0,
+          c12 .pre .1 .1 .1 .0,
           omega (
             arith,
             type-after P,
             extent P,
-            c10 .pre .1 .1 .1 .1,
+            c12 .pre .1 .1 .1 .1,
           ),
         ),
       ),
@@ -144,28 +144,29 @@ pub +build-iceberg-default-value+put-defaults-spec : {M : Type 1} → statement 
     (λ c. search needs)
     (λ c κs. search needs)
     (λ c.
-    let c13 = c .before .before .before .before .before .before .before .before .before .before .before .before .before in
-    let z = deep (c13 .pre .1 .0) in omega arith)
+    let c15 = c .before .before .before .before .before .before .before .before .before .before .before .before .before .before .before in
+    let z = deep (c15 .pre .1 .0) in omega arith)
     (λ c.
-    let c14 = c .before .before .before .before .before .before .before .before .before .before .before .before .before .before in
-    let P = c14 .pre .1 .0 in
-    omega (arith, type-after P, extent P, c14 .pre .1 .1 .1 .1))
+    let c16 = c .before .before .before .before .before .before .before .before .before .before .before .before .before .before .before .before in
+    let P = c16 .pre .1 .0 in
+    omega (arith, type-after P, extent P, c16 .pre .1 .1 .1 .1))
     (λ c κs.
-    let c6 = c .before .before .before .before .before .before in let c8 = c6 .before .before in let c14 = c8 .before .before .before .before .before .before in
-    let P = c14 .pre .1 .0 in
+    let c6 = c .before .before .before .before .before .before in let c8 = c6 .before .before in let c16 =
+    c8 .before .before .before .before .before .before .before .before in
+    let P = c16 .pre .1 .0 in
     let z = deep P in (
       omega arith,
       (
         struct-at P (c8 .head .ensures .0) (c6 .count .given .1) .inner,
         (
-          c14 .pre .1 .1 .0,
+          c16 .pre .1 .1 .0,
           (
-            c14 .pre .1 .1 .1 .0,
+            c16 .pre .1 .1 .1 .0,
             omega (
               arith,
               struct-after P
                   (c8 .head .ensures .0) (c6 .count .given .1),
-              c14 .pre .1 .1 .1 .1,
+              c16 .pre .1 .1 .1 .1,
             ),
           ),
         ),
@@ -175,27 +176,27 @@ pub +build-iceberg-default-value+put-defaults-spec : {M : Type 1} → statement 
     (λ c. search needs)
     (λ c.
     let c2 = c .before .before in let c6 = c2 .before .before .before .before in let c13 = c6 .before .before .before .before .before .before .before in let
-    c15 = c13 .before .before in let c21 = c15 .before .before .before .before .before .before in
-    let P = c21 .pre .1 .0 in
-    let T = c21 .pre .1 .1 .0 .0 in
+    c15 = c13 .before .before in let c23 = c15 .before .before .before .before .before .before .before .before in
+    let P = c23 .pre .1 .0 in
+    let T = c23 .pre .1 .1 .0 .0 in
     let S = struct-at P (c15 .head .ensures .0) (c13 .count .given .1) in
     omega (
       arith,
-      defaults-room _ (defaultsOf (getDefaultValue (T .entries) (c21 .args .build .defaults .«source_index»)) (S .inner .columns))
+      defaults-room _ (defaultsOf (getDefaultValue (T .entries) (c23 .args .build .defaults .«source_index»)) (S .inner .columns))
           (c6 .put-defaults .ensures T (S .inner)) (c2 .any .given .1),
       struct-after P (c15 .head .ensures .0) (c13 .count .given .1),
       S .ends,
       extent P,
-      c21 .pre .1 .1 .1 .1,
+      c23 .pre .1 .1 .1 .1,
     ))
     (λ c. search needs)
     (λ c.
     let c2 = c .before .before in let c6 = c2 .before .before .before .before in let c10 = c6 .before .before .before .before in let c13 =
-    c10 .before .before .before in let c15 = c13 .before .before in let c21 = c15 .before .before .before .before .before .before in
+    c10 .before .before .before in let c15 = c13 .before .before in let c23 = c15 .before .before .before .before .before .before .before .before in
     λ T Q.
     let S = struct-at Q (c15 .head .ensures .0) (c13 .count .given .1) in
-    struct-as (getDefaultValue (T .entries) (c21 .args .build .defaults .«source_index»)) (c21 .args .id) Q S _ _ _ _ _ (struct-some _ _ _ _ _
-    (c2 .any .given .1) (defaultsOf (getDefaultValue (T .entries) (c21 .args .build .defaults .«source_index»)) (S .inner .columns)) _
+    struct-as (getDefaultValue (T .entries) (c23 .args .build .defaults .«source_index»)) (c23 .args .column .label .id) Q S _ _ _ _ _ (struct-some _ _ _ _ _
+    (c2 .any .given .1) (defaultsOf (getDefaultValue (T .entries) (c23 .args .build .defaults .«source_index»)) (S .inner .columns)) _
     (c6 .put-defaults .ensures T (S .inner)) (c .if1 .taken) (c10 .put .kept .0) (c10 .put .ensures) (struct-after Q (c15 .head .ensures .0)
     (c13 .count .given .1))))
     (λ c κs. search needs)
@@ -206,42 +207,49 @@ pub +build-iceberg-default-value+put-defaults-spec : {M : Type 1} → statement 
     (λ c. search needs)
     (λ c. search needs)
     (λ c.
-    let c2 = c .before .before in let c5 = c2 .before .before .before in let c7 = c5 .before .before in
-    let c13 = c7 .before .before .before .before .before .before
-    in
-    λ T Q. of-leaf (getDefaultValue (T .entries) (c13 .args .build .defaults .«source_index»)) (c13 .args .id) Q (c7 .head .ensures .0) (c5 .u .given .1) _ _
+    let c2 = c .before .before in let c5 = c2 .before .before .before in let c7 = c5 .before .before in let c15 =
+    c7 .before .before .before .before .before .before .before .before in
+    λ T Q. of-leaf (getDefaultValue (T .entries) (c15 .args .build .defaults .«source_index»)) (c15 .args .column .label .id) Q (c7 .head .ensures .0)
+    (c5 .u .given .1) _ _
     _ _ (c2 .put-leaf-default .ensures _ _ T (type-after Q)))
     (λ c. search needs)
     (λ c.
     let c1 = c .before in let c5 = c1 .before .before .before .before in let c12 = c5 .before .before .before .before .before .before .before in let c14 =
-    c12 .before .before in let c20 = c14 .before .before .before .before .before .before in
+    c12 .before .before in let c22 = c14 .before .before .before .before .before .before .before .before in
     λ T Q.
     let S = struct-at Q (c14 .head .ensures .0) (c12 .count .given .1) in
-    struct-as (getDefaultValue (T .entries) (c20 .args .build .defaults .«source_index»)) (c20 .args .id) Q S _ _ _ _ _ (struct-refused _ _ _ _ _ (defaultsOf
-    (getDefaultValue (T .entries) (c20 .args .build .defaults .«source_index»)) (S .inner .columns)) _ (c5 .put-defaults .ensures T (S .inner))
+    struct-as (getDefaultValue (T .entries) (c22 .args .build .defaults .«source_index»)) (c22 .args .column .label .id) Q S _ _ _ _ _ (struct-refused _ _ _
+    _ _ (defaultsOf
+    (getDefaultValue (T .entries) (c22 .args .build .defaults .«source_index»)) (S .inner .columns)) _ (c5 .put-defaults .ensures T (S .inner))
     (c1 .m .given .1)))
     (λ c. search needs)
     (λ c.
     let c2 = c .before .before in let c4 = c2 .before .before in let c6 = c4 .before .before in let c10 = c6 .before .before .before .before in let c14 =
-    c10 .before .before .before .before in let c17 = c14 .before .before .before in let c19 = c17 .before .before in let c25 =
-    c19 .before .before .before .before .before .before in
+    c10 .before .before .before .before in let c17 = c14 .before .before .before in let c19 = c17 .before .before in let c27 =
+    c19 .before .before .before .before .before .before .before .before in
     λ T Q.
     let S = struct-at Q (c19 .head .ensures .0) (c17 .count .given .1) in
-    struct-as (getDefaultValue (T .entries) (c25 .args .build .defaults .«source_index»)) (c25 .args .id) Q S _ _ _ _ _ (struct-none _ _ _ _ _
-    (c6 .any .given .1) (defaultsOf (getDefaultValue (T .entries) (c25 .args .build .defaults .«source_index»)) (S .inner .columns)) _
+    struct-as (getDefaultValue (T .entries) (c27 .args .build .defaults .«source_index»)) (c27 .args .column .label .id) Q S _ _ _ _ _ (struct-none _ _ _ _ _
+    (c6 .any .given .1) (defaultsOf (getDefaultValue (T .entries) (c27 .args .build .defaults .«source_index»)) (S .inner .columns)) _
     (c10 .put-defaults .ensures T (S .inner)) (c4 .if1 .left) (c10 .put-defaults .kept .1 .1 .1 .1 .1 .1 .0 ∙ c14 .put .kept .0) (c14 .put .ensures)
     (c2 .put-none .ensures .0) (c2 .put-none .ensures .1) (omega (arith, S .ends, type-after Q))))
     (λ c. search needs)
     (λ c.
-    let c2 = c .before .before in let c4 = c2 .before .before in let c6 = c4 .before .before in let c12 = c6 .before .before .before .before .before .before in
-    λ T Q. none-made _ _ (of-list (getDefaultValue (T .entries) (c12 .args .build .defaults .«source_index»)) (c12 .args .id) Q (c6 .head .ensures .0)
+    let c2 = c .before .before in let c4 = c2 .before .before in let c6 = c4 .before .before in let c14 =
+    c6 .before .before .before .before .before .before .before .before in
+    λ T Q. none-made _ _ (of-list (getDefaultValue (T .entries) (c14 .args .build .defaults .«source_index»)) (c14 .args .column .label .id) Q
+    (c6 .head .ensures .0)
     (c4 .enum-told .given .1)) (c2 .put-none2 .ensures .0) (c2 .put-none2 .ensures .1) (type-after Q))
     (λ c. search needs)
     (λ c.
-    let c2 = c .before .before in let c4 = c2 .before .before in let c6 = c4 .before .before in let c12 = c6 .before .before .before .before .before .before in
-    λ T Q. none-made _ _ (of-array (getDefaultValue (T .entries) (c12 .args .build .defaults .«source_index»)) (c12 .args .id) Q (c6 .head .ensures .0)
+    let c2 = c .before .before in let c4 = c2 .before .before in let c6 = c4 .before .before in let c14 =
+    c6 .before .before .before .before .before .before .before .before in
+    λ T Q. none-made _ _ (of-array (getDefaultValue (T .entries) (c14 .args .build .defaults .«source_index»)) (c14 .args .column .label .id) Q
+    (c6 .head .ensures .0)
     (c4 .enum-told2 .given .1)) (c2 .put-none3 .ensures .0) (c2 .put-none3 .ensures .1) (type-after Q))
-    (λ c. λ T Q. never-headless Q (c .before .before .before .head .ensures .0) (c .before .n .given .1)))
+    (λ c.
+    let c1 = c .before in let c3 = c1 .before .before in
+    λ T Q. never-headless Q (c3 .head .ensures .0) (c1 .n .given .1)))
     λ t. put-defaults-lts.spec (put-defaults-claims t)
     (put-defaults-at t)
     put-defaults.Post
@@ -253,18 +261,18 @@ pub +build-iceberg-default-value+put-defaults-spec : {M : Type 1} → statement 
     (λ c κs. search needs)
     (λ c. search needs)
     (λ c κs.
-    let c3 = c .before .before .before in let c5 = c3 .before .before in let c6 = c5 .before in let c7 = c6 .before in let c12 =
-    c7 .before .before .before .before .before in
-    let W = c7 .loop .inv (c12 .pre .1 .1 .0 .0) in (
+    let c2 = c .before .before in let c4 = c2 .before .before in let c5 = c4 .before in let c6 = c5 .before in let c11 =
+    c6 .before .before .before .before .before in
+    let W = c6 .loop .inv (c11 .pre .1 .1 .0 .0) in (
       omega arith,
       (
-        field _ W (c6 .loop-test .taken) (c5 .label .ensures .0) (c3 .l .given .1) .head,
+        field _ W (c5 .loop-test .taken) (c4 .label .ensures .0) (c2 .l .given .1) .head,
         (
-          c12 .pre .1 .1 .0,
+          c11 .pre .1 .1 .0,
           (
-            c12 .pre .1 .1 .1 .0,
+            c11 .pre .1 .1 .1 .0,
             field-room _
-                W (c6 .loop-test .taken) (c5 .label .ensures .0) (c3 .l .given .1),
+                W (c5 .loop-test .taken) (c4 .label .ensures .0) (c2 .l .given .1),
           ),
         ),
       ),
@@ -272,32 +280,32 @@ pub +build-iceberg-default-value+put-defaults-spec : {M : Type 1} → statement 
     (put-defaults-is-default-refused-requires t)
     (λ c κs. search needs)
     (λ c.
-    let c5 = c .before .before .before .before .before in let c13 = c5 .before .before .before .before .before .before .before .before in let c18 =
-    c13 .before .before .before .before .before in
-    c5 .build-iceberg-default-value .kept .1 .1 .1 .1 .1 .1 .1 .0 ∙ c13 .loop .inv (c18 .pre .1 .1 .0 .0) .kept)
+    let c5 = c .before .before .before .before .before in let c12 = c5 .before .before .before .before .before .before .before in let c17 =
+    c12 .before .before .before .before .before in
+    c5 .build-iceberg-default-value .kept .1 .1 .1 .1 .1 .1 .0 ∙ c12 .loop .inv (c17 .pre .1 .1 .0 .0) .kept)
     (λ c.
-    let c1 = c .before in let c2 = c1 .before in let c5 = c2 .before .before .before in let c9 = c5 .before .before .before .before in let c11 =
-    c9 .before .before in let c12 = c11 .before in let c13 = c12 .before in
+    let c1 = c .before in let c2 = c1 .before in let c5 = c2 .before .before .before in let c8 = c5 .before .before .before in let c10 = c8 .before .before
+    in let c11 = c10 .before in let c12 = c11 .before in
     λ T Q.
-    let W = c13 .loop .inv T in
-    defaulting-stop _ W (c12 .loop-test .taken) (c11 .label .ensures .0) (c9 .l .given .1) (c5 .build-iceberg-default-value .ensures T (field _ W
-    (c12 .loop-test .taken) (c11 .label .ensures .0) (c9 .l .given .1) .head)) (c2 .is-default-refused .ensures) (c1 .if1 .taken)
+    let W = c12 .loop .inv T in
+    defaulting-stop _ W (c11 .loop-test .taken) (c10 .label .ensures .0) (c8 .l .given .1) (c5 .build-iceberg-default-value .ensures T (field _ W
+    (c11 .loop-test .taken) (c10 .label .ensures .0) (c8 .l .given .1) .head)) (c2 .is-default-refused .ensures) (c1 .if1 .taken)
     (c .failed-default .ensures) Q)
     (λ c κs.
-    let c8 = c .before .before .before .before .before .before .before .before in let c10 = c8 .before .before in let c11 = c10 .before in let c12 =
-    c11 .before in let c17 = c12 .before .before .before .before .before in
-    let W = c12 .loop .inv (c17 .pre .1 .1 .0 .0) in
-    field _ W (c11 .loop-test .taken) (c10 .label .ensures .0) (c8 .l .given .1) .head)
+    let c7 = c .before .before .before .before .before .before .before in let c9 = c7 .before .before in let c10 = c9 .before in let c11 = c10 .before in let
+    c16 = c11 .before .before .before .before .before in
+    let W = c11 .loop .inv (c16 .pre .1 .1 .0 .0) in
+    field _ W (c10 .loop-test .taken) (c9 .label .ensures .0) (c7 .l .given .1) .head)
     (λ c κs. search needs)
     (λ c.
-    let c2 = c .before .before in let c3 = c2 .before in let c6 = c3 .before .before .before in let c10 = c6 .before .before .before .before in let c12 =
-    c10 .before .before in let c13 = c12 .before in let c14 = c13 .before in let c19 = c14 .before .before .before .before .before in
-    let T = c19 .pre .1 .1 .0 .0 in
-    let W = c14 .loop .inv T in
+    let c2 = c .before .before in let c3 = c2 .before in let c6 = c3 .before .before .before in let c9 = c6 .before .before .before in let c11 =
+    c9 .before .before in let c12 = c11 .before in let c13 = c12 .before in let c18 = c13 .before .before .before .before .before in
+    let T = c18 .pre .1 .1 .0 .0 in
+    let W = c13 .loop .inv T in
     omega (
       arith,
-      field-fits _ W (c13 .loop-test .taken) (c12 .label .ensures .0) (c10 .l .given .1) (c6 .build-iceberg-default-value .ensures T (field _ W
-          (c13 .loop-test .taken) (c12 .label .ensures .0) (c10 .l .given .1) .head)) (c3 .is-default-refused .ensures) (c2 .if1 .left)
+      field-fits _ W (c12 .loop-test .taken) (c11 .label .ensures .0) (c9 .l .given .1) (c6 .build-iceberg-default-value .ensures T (field _ W
+          (c12 .loop-test .taken) (c11 .label .ensures .0) (c9 .l .given .1) .head)) (c3 .is-default-refused .ensures) (c2 .if1 .left)
           (c .value-len .ensures),
     ))
     (λ c κs. search needs)
@@ -312,20 +320,20 @@ pub +build-iceberg-default-value+put-defaults-spec : {M : Type 1} → statement 
     let c1 = c .before in let c3 = c1 .before .before in let c4 = c3 .before in let c5 = c4 .before in
     λ T Q. defaulting-unlabelled _ (c5 .loop .inv T) (c4 .loop-test .taken) (c3 .label .ensures .0) (c1 .m .given .1))
     (λ c.
-    let c17 = c .before .before .before .before .before .before .before .before .before .before .before .before .before .before .before .before .before in
-    let c23 = c17 .before .before .before .before .before .before in
-    omega (arith, c23 .good .1 .1 .1 .1 .1 .0, c17 .loop-test .taken))
+    let c16 = c .before .before .before .before .before .before .before .before .before .before .before .before .before .before .before .before in let c22 =
+    c16 .before .before .before .before .before .before in
+    omega (arith, c22 .good .1 .1 .1 .1 .1 .0, c16 .loop-test .taken))
     (λ c. omega arith)
     (λ c.
     let c1 = c .before in let c2 = c1 .before in let c3 = c2 .before in let c4 = c3 .before in let c5 = c4 .before in let c6 = c5 .before in let c7 =
-    c6 .before in let c10 = c7 .before .before .before in let c14 = c10 .before .before .before .before in let c16 = c14 .before .before in let c17 =
-    c16 .before in let c18 = c17 .before in let c23 = c18 .before .before .before .before .before in
+    c6 .before in let c10 = c7 .before .before .before in let c13 = c10 .before .before .before in let c15 = c13 .before .before in let c16 = c15 .before in
+    let c17 = c16 .before in let c22 = c17 .before .before .before .before .before in
     λ T.
-    let W = c18 .loop .inv T in
-    defaulting-more _ W (c17 .loop-test .taken) (c16 .label .ensures .0) (c14 .l .given .1) (c10 .build-iceberg-default-value .ensures T (field _ W
-    (c17 .loop-test .taken) (c16 .label .ensures .0) (c14 .l .given .1) .head)) (c7 .is-default-refused .ensures) (c6 .if1 .left) (table-present
-    (T .entries) (c23 .args .build .defaults .«source_index»)) (c5 .skip-type .ensures) (c4 .value-len .ensures) (c3 .is-some .ensures)
-    (c2 .either .ensures) (c1 .fills-required .ensures) (c .both .ensures) (c10 .build-iceberg-default-value .kept .1 .1 .1 .1 .1 .1 .1 .0))
+    let W = c17 .loop .inv T in
+    defaulting-more _ W (c16 .loop-test .taken) (c15 .label .ensures .0) (c13 .l .given .1) (c10 .build-iceberg-default-value .ensures T (field _ W
+    (c16 .loop-test .taken) (c15 .label .ensures .0) (c13 .l .given .1) .head)) (c7 .is-default-refused .ensures) (c6 .if1 .left) (table-present
+    (T .entries) (c22 .args .build .defaults .«source_index»)) (c5 .skip-type .ensures) (c4 .value-len .ensures) (c3 .is-some .ensures)
+    (c2 .either .ensures) (c1 .fills-required .ensures) (c .both .ensures) (c10 .build-iceberg-default-value .kept .1 .1 .1 .1 .1 .1 .0))
     (λ c.
     let c1 = c .before in let c6 = c1 .before .before .before .before .before in
     omega (arith, c1 .loop .inv (c6 .pre .1 .1 .0 .0) .over))

@@ -18,11 +18,11 @@ slice-reshare-prefix-no-extra-in c = search needs
 
 slice-aggregate-no-extra-in : tie.Need-slice-aggregate-no-extra-in
 slice-aggregate-no-extra-in c = sym (length-take-le (c .before .before .before .fill-in .result)
-    (c .before .before .before .fill-in .last .1 .1 .1 .1 .1 .1 .1 .0) (c .before .before .before .fill-in .ensures .0))
+    (c .before .before .before .fill-in .last .1 .1 .1 .0) (c .before .before .before .fill-in .ensures .0))
 
 no-extra-in-requires : tie.Need-no-extra-in-requires
 no-extra-in-requires c κs =
-    let xs = c .before .before .before .fill-in .last .1 .1 .1 .1 .1 .1 .1 .0 in (
+    let xs = c .before .before .before .fill-in .last .1 .1 .1 .0 in (
       c .before .before .before .before .before .before .before .before .before .pre,
       table-kept xs xs (c .before .before .before .fill-in .ensures .0) refl
           (c .before .before .before .fill-in .ensures .1),

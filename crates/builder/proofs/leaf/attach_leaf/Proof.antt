@@ -15,7 +15,7 @@ attach-leaf-spec =
     (λ c. search needs)
     (λ c.
     let c2 = c .before .before in let c6 = c2 .before .before .before .before in
-    λ d P Q. makes-refused _ _ _ _ _ (leaf-refused (c6 .args .build .matching) (c6 .args .build .policy) d (c6 .args .place .position) (P .tree)
+    λ d P Q. makes-refused _ _ _ _ _ (leaf-refused (c6 .args .build .matching) (c6 .args .build .policy) d (c6 .args .types .place .position) (P .tree)
     (c6 .pre .1 .1 .1 Q) (part-other (now (c6 .args .incoming)) (leafPart (P .tree)) (c2 .leaf-part .ensures (c6 .args .build .incoming)
     (c6 .args .types .depth) P) (c .enum-told .given .1))))
     (λ c κs.
@@ -27,8 +27,8 @@ attach-leaf-spec =
     (λ c κs. search needs)
     (λ c. search needs)
     (λ c.
-    let c2 = c .before .before in let c4 = c2 .before .before in let c6 = c4 .before .before in let c8 = c6 .before .before in let c12 =
-    c8 .before .before .before .before in
-    λ d P Q. makes-as _ _ _ _ _ _ (leaf-ruled (c12 .args .build .matching) (c12 .args .build .policy) d (c12 .args .place .position) (P .tree)
-    (c12 .pre .1 .1 .1 Q) ((part-leaf (now (c12 .args .incoming)) (leafPart (P .tree)) (c8 .leaf-part .ensures (c12 .args .build .incoming)
-    (c12 .args .types .depth) P) (c6 .l .given .1)) .0) (c4 .leaf-rule .ensures)) (c2 .apply-outcome .ensures Q)))
+    let c2 = c .before .before in let c5 = c2 .before .before .before in let c7 = c5 .before .before in let c9 = c7 .before .before in let c13 =
+    c9 .before .before .before .before in
+    λ d P Q. makes-as _ _ _ _ _ _ (leaf-ruled (c13 .args .build .matching) (c13 .args .build .policy) d (c13 .args .types .place .position) (P .tree)
+    (c13 .pre .1 .1 .1 Q) ((part-leaf (now (c13 .args .incoming)) (leafPart (P .tree)) (c9 .leaf-part .ensures (c13 .args .build .incoming)
+    (c13 .args .types .depth) P) (c7 .l .given .1)) .0) (c5 .leaf-rule .ensures)) (c2 .apply-outcome .ensures Q)))

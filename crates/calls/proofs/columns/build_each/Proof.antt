@@ -27,14 +27,14 @@ use Rattle.layout.proofs.walk.skip_type.Reads as skip-type-reads
 use Rattle.matcher.proofs.attach.attach_field.Reads as attach-field-reads
 
 abbrev Inv-loop : tie.InvT-loop
-Inv-loop build incoming used table index target out₀ k arena₀ how v w insert n c m at₀ to₀ i₀ out arena at to i =
-    ((T : TableAt table (build .defaults)) (P : ColumnsAt (build .incoming) deepest incoming n (c .at))
-    → Building (build .policy) (getDefaultValue (T .entries) (build .defaults .«source_index»)) (P .columns) (build .matching) w target m at₀ out₀ k out
+Inv-loop build incoming used table index target out₀ arena₀ w insert columns m at₀ to₀ i₀ out arena at to i =
+    ((T : TableAt table (build .defaults)) (P : ColumnsAt (build .incoming) deepest incoming (columns .count) (columns .first .at))
+    → Building (build .policy) (getDefaultValue (T .entries) (build .defaults .«source_index»)) (P .columns) (build .matching) w target m at₀ out₀ 7 out
     at to i)
     × (take used arena ≡ take used arena₀) × (length arena ≡ length arena₀)
 
 abbrev μ-loop : tie.MeasureT-loop
-μ-loop build incoming used table index target out₀ k arena₀ how v w insert n c m at₀ to₀ i₀ out arena at to i =
+μ-loop build incoming used table index target out₀ arena₀ w insert columns m at₀ to₀ i₀ out arena at to i =
     m - i
 
 inserts-requires : tie.Need-inserts-requires Inv-loop μ-loop
@@ -45,7 +45,7 @@ loop-holds c =
     let c9 = c .before .before .before .before .before .before .before .before .before in (
       λ T P. building-none (c9 .args .build .policy) (getDefaultValue (T .entries) (c9 .args .build .defaults .«source_index»)) (P .columns)
           (c9 .args .build .matching)
-          (c9 .pre .0 .1 .0) (c9 .pre .1 .1 .0 .2),
+          (c9 .pre .0 .1 .0) (let e = c9 .pre .1 .1 .0 .2 in omega arith),
       refl,
       refl,
     )
@@ -84,7 +84,7 @@ mul-attach-field : tie.Need-mul-attach-field Inv-loop μ-loop
 mul-attach-field c =
     let c18 = c .before .before .before .before .before .before .before .before .before .before .before .before .before .before .before .before .before .before
     in
-    omega (arith, c18 .pre .1 .1 .1 .0, c18 .good .1 .1 .1 .1 .1 .1 .1 .1 .1 .0 .1)
+    omega (arith, c18 .pre .1 .1 .1 .0, c18 .good .1 .1 .1 .1 .1 .1 .1 .1 .0 .1)
 
 sub-attach-field : tie.Need-sub-attach-field Inv-loop μ-loop
 sub-attach-field c =
@@ -142,8 +142,8 @@ same-length-2 c =
     let c7 = c .before .before .before .before .before .before .before in let c17 =
     c7 .before .before .before .before .before .before .before .before .before .before in let c27 =
     c17 .before .before .before .before .before .before .before .before .before .before in
-    same-len-mid (c27 .args .used) (length (c17 .loop .arena) - c27 .args .used) (c17 .loop .arena) (c7 .attach-field .last .1 .1 .1 .1 .1 .1 .1 .1 .0)
-    (c7 .attach-field .kept .1 .1 .1 .1 .1 .1 .1 .1 .0) ∙ c17 .loop .inv .2
+    same-len-mid (c27 .args .used) (length (c17 .loop .arena) - c27 .args .used) (c17 .loop .arena) (c7 .attach-field .last .1 .1 .1 .1 .1 .1 .1 .0)
+    (c7 .attach-field .kept .1 .1 .1 .1 .1 .1 .1 .0) ∙ c17 .loop .inv .2
 
 returns : tie.Need-returns Inv-loop μ-loop
 returns c =
@@ -222,14 +222,14 @@ loop-again c =
           (c17 .loop-test .taken) (c16 .label .ensures .0) (c14 .l .given .1))) in
           building-more W (c17 .loop-test .taken) (c16 .label .ensures .0) (c14 .l .given .1) A (c3 .is-refused .ensures) (c2 .if1 .left)
           (c1 .skip-type .ensures) (c .len-of .ensures) (c8 .attach-field .kept .1 .1 .1 .1 .1 .1 .0),
-      take-put (c28 .args .used) (length (c18 .loop .arena) - c28 .args .used) (c18 .loop .arena) (c8 .attach-field .last .1 .1 .1 .1 .1 .1 .1 .1 .0) (let a =
+      take-put (c28 .args .used) (length (c18 .loop .arena) - c28 .args .used) (c18 .loop .arena) (c8 .attach-field .last .1 .1 .1 .1 .1 .1 .1 .0) (let a =
           c18 .loop .inv .2 in let b = c28 .pre .1 .1 .1 .0 in omega arith) ∙ c18 .loop .inv .1,
-      same-len-mid (c28 .args .used) (length (c18 .loop .arena) - c28 .args .used) (c18 .loop .arena) (c8 .attach-field .last .1 .1 .1 .1 .1 .1 .1 .1 .0)
-          (c8 .attach-field .kept .1 .1 .1 .1 .1 .1 .1 .1 .0) ∙ c18 .loop .inv .2,
+      same-len-mid (c28 .args .used) (length (c18 .loop .arena) - c28 .args .used) (c18 .loop .arena) (c8 .attach-field .last .1 .1 .1 .1 .1 .1 .1 .0)
+          (c8 .attach-field .kept .1 .1 .1 .1 .1 .1 .1 .0) ∙ c18 .loop .inv .2,
     )
 
-sub-t45 : tie.Need-sub-t45 Inv-loop μ-loop
-sub-t45 c =
+sub-t44 : tie.Need-sub-t44 Inv-loop μ-loop
+sub-t44 c =
     let c1 = c .before in let c11 = c1 .before .before .before .before .before .before .before .before .before .before in
     omega (arith, c1 .loop .inv .0 (c11 .pre .1 .0 .0) (c11 .pre .0 .0) .over)
 
@@ -277,7 +277,7 @@ build-each-spec =
     add-i
     loop-less
     loop-again
-    sub-t45
+    sub-t44
     same-length-5
     same-length-6
     returns-3)

@@ -14,41 +14,43 @@ build-in-spec =
     (tie.spec
     (λ c κs. search needs)
     (λ c κs.
-    let c10 = c .before .before .before .before .before .before .before .before .before .before in
-    (c10 .pre .0, (c10 .pre .1 .0, (c10 .pre .1 .1 .0 .0, c10 .pre .1 .1 .0 .1, omega (arith, c10 .pre .1 .1 .0)))))
+    let c13 = c .before .before .before .before .before .before .before .before .before .before .before .before .before in
+    (c13 .pre .0, (c13 .pre .1 .0, c13 .pre .1 .1 .0)))
     (λ c. search needs)
     (λ c. search needs)
     (λ c.
-    let c2 = c .before .before in let c6 = c2 .before .before .before .before in let c17 =
-    c6 .before .before .before .before .before .before .before .before .before .before .before in
-    let P = c17 .pre .0 .0 in
-    let Q = c17 .pre .0 .1 .0 in
-    let T = c17 .pre .1 .0 in
+    let c2 = c .before .before in let c8 = c2 .before .before .before .before .before .before in let c22 =
+    c8 .before .before .before .before .before .before .before .before .before .before .before .before .before .before in
+    let P = c22 .pre .0 .0 in
+    let Q = c22 .pre .0 .1 .0 in
+    let T = c22 .pre .1 .0 .0 in
     omega (
       arith,
-      columns-room (buildFrom (c17 .args .build .matching) (c17 .args .build .policy) (getDefaultValue (T .entries)
-          (c17 .args .build .defaults .«source_index»)) (Q .columns) (P .columns) 0) Q (c6 .build-columns .ensures T P Q) (c2 .len .given .1),
-      c17 .pre .1 .1 .0,
+      columns-room (buildFrom (c22 .args .build .matching) (c22 .args .build .policy) (getDefaultValue (T .entries)
+          (c22 .args .build .defaults .«source_index»)) (Q .columns) (P .columns) 0) Q (c8 .build-columns .ensures T P Q) (c2 .len .given .1),
+      c22 .pre .1 .1 .0,
     ))
     (λ c κs.
-    let c7 = c .before .before .before .before .before .before .before in let c11 = c7 .before .before .before .before in let c18 =
-    c11 .before .before .before .before .before .before .before in
-    omega (arith, c7 .build-columns .kept .1 .1 .1 .1 .1 .0, c11 .put-plan-head .kept .0, c18 .pre .1 .1 .1))
-    (λ c. search needs)
-    (λ c.
-    let c1 = c .before in let c5 = c1 .before .before .before .before in let c16 =
-    c5 .before .before .before .before .before .before .before .before .before .before .before in
-    λ T P Q. plan-refused _ (buildFrom (c16 .args .build .matching) (c16 .args .build .policy) (getDefaultValue (T .entries)
-    (c16 .args .build .defaults .«source_index»)) (Q .columns) (P .columns) 0) (c5 .build-columns .ensures T P Q) (c1 .x .given .1))
+    let c9 = c .before .before .before .before .before .before .before .before .before in let c14 = c9 .before .before .before .before .before in let c23 =
+    c14 .before .before .before .before .before .before .before .before .before in
+    omega (arith, c9 .build-columns .kept .1 .1 .1 .1 .1 .1 .0, c14 .put-plan-head .kept .0, c23 .pre .1 .1 .1))
     (λ c. search needs)
     (λ c. search needs)
     (λ c.
-    let c2 = c .before .before in let c6 = c2 .before .before .before .before in let c10 = c6 .before .before .before .before in let c14 =
-    c10 .before .before .before .before in let c21 = c14 .before .before .before .before .before .before .before in
+    let c1 = c .before in let c7 = c1 .before .before .before .before .before .before in let c21 =
+    c7 .before .before .before .before .before .before .before .before .before .before .before .before .before .before in
+    λ T P Q. plan-refused _ (buildFrom (c21 .args .build .matching) (c21 .args .build .policy) (getDefaultValue (T .entries)
+    (c21 .args .build .defaults .«source_index»)) (Q .columns) (P .columns) 0) (c7 .build-columns .ensures T P Q) (c1 .x .given .1))
+    (λ c. search needs)
+    (λ c. search needs)
+    (λ c. search needs)
+    (λ c.
+    let c2 = c .before .before in let c6 = c2 .before .before .before .before in let c12 = c6 .before .before .before .before .before .before in let c17 =
+    c12 .before .before .before .before .before in let c26 = c17 .before .before .before .before .before .before .before .before .before in
     λ T P Q.
-    plan-written (c21 .args .plan .now) (c21 .args .room .now) (buildFrom (c21 .args .build .matching) (c21 .args .build .policy) (getDefaultValue
-    (T .entries) (c21 .args .build .defaults .«source_index»)) (Q .columns) (P .columns) 0) (c2 .write-plan .result) _
-    (count-is (c21 .args .build .matching) (c21 .args .build .policy) (getDefaultValue (T .entries) (c21 .args .build .defaults .«source_index»))
+    plan-written (c26 .args .plan .now) (c26 .args .room .now) (buildFrom (c26 .args .build .matching) (c26 .args .build .policy) (getDefaultValue
+    (T .entries) (c26 .args .build .defaults .«source_index»)) (Q .columns) (P .columns) 0) (c2 .write-plan .result) _
+    (count-is (c26 .args .build .matching) (c26 .args .build .policy) (getDefaultValue (T .entries) (c26 .args .build .defaults .«source_index»))
     (P .columns) Q)
-    (c10 .build-columns .ensures T P Q) (c6 .len .given .1) (c14 .put-plan-head .ensures) (c14 .put-plan-head .kept .0)
-    (c10 .build-columns .kept .1 .1 .1 .1 .1 .0 ∙ c14 .put-plan-head .kept .0) (c2 .write-plan .ensures)))
+    (c12 .build-columns .ensures T P Q) (c6 .len .given .1) (c17 .put-plan-head .ensures) (c17 .put-plan-head .kept .0)
+    (c12 .build-columns .kept .1 .1 .1 .1 .1 .1 .0 ∙ c17 .put-plan-head .kept .0) (c2 .write-plan .ensures)))

@@ -14,26 +14,24 @@ build-plan-spec =
     (λ c. search needs)
     (λ c. search needs)
     (λ c κs. search needs)
-    (λ c.
-    let c1 = c .before in let c3 = c1 .before .before in let c9 = c3 .before .before .before .before .before .before in
-    λ T P Q.
-    let plan = c9 .args .plan .now in
-    let d = getDefaultValue (T .entries) (c9 .args .build .defaults .«source_index») in
-    plan-kept plan (answered-refused (length plan)
-    (build-extra (c9 .args .build .matching)
-    (c9 .args .build .policy)
-    d (P .columns) (Q .columns) (c3 .extra-column .ensures P Q) (c1 .i .given .1))))
     (λ c. search needs)
     (λ c.
-    let c2 = c .before .before in let c4 = c2 .before .before in let c6 = c4 .before .before in let c12 = c6 .before .before .before .before .before .before
+    let c1 = c .before in let c5 = c1 .before .before .before .before in let c14 = c5 .before .before .before .before .before .before .before .before .before
     in
     λ T P Q.
-    let plan = c12 .args .plan .now in
-    let d = getDefaultValue (T .entries)
-    (c12 .args .build .defaults .«source_index») in
+    let plan = c14 .args .plan .now in
+    let d = getDefaultValue (T .entries) (c14 .args .build .defaults .«source_index») in
+    plan-kept plan (answered-refused (length plan)
+    (build-extra (c14 .args .build .matching) (c14 .args .build .policy) d (P .columns) (Q .columns) (c5 .extra-column .ensures P Q) (c1 .i .given .1))))
+    (λ c. search needs)
+    (λ c. search needs)
+    (λ c.
+    let c4 = c .before .before .before .before in let c7 = c4 .before .before .before in let c11 = c7 .before .before .before .before in let c20 =
+    c11 .before .before .before .before .before .before .before .before .before in
+    λ T P Q.
+    let plan = c20 .args .plan .now in
+    let d = getDefaultValue (T .entries) (c20 .args .build .defaults .«source_index») in
     plan-as plan (answered-as (length plan)
-    (build-plain (c12 .args .build .matching)
-    (c12 .args .build .policy)
-    d (P .columns) (Q .columns) (c6 .extra-column .ensures P Q)
-    (c4 .enum-told .given .1)))
-    (c2 .build-matched .ensures T P Q)))
+    (build-plain (c20 .args .build .matching) (c20 .args .build .policy) d (P .columns) (Q .columns) (c11 .extra-column .ensures P Q)
+    (c7 .enum-told .given .1)))
+    (c4 .build-matched .ensures T P Q)))

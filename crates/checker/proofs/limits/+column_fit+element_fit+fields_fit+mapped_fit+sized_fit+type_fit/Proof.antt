@@ -218,10 +218,10 @@ element-fit-returns-2 t c = λ u a R P. c .around .ensures ∙ ap (aroundOf (c .
     (c .before .before .before .if1 .left)
 
 abbrev fields-fit-Inv-loop : fields-fit-lts.InvT-loop
-fields-fit-Inv-loop incoming v n plan w count levels room at₀ size₀ deep₀ k₀ at size deep k = Fitting incoming v n plan w count levels room at size deep k
+fields-fit-Inv-loop incoming v n plan w count levels room c₀ size₀ deep₀ k₀ c size deep k = Fitting incoming v n plan w count levels room (c .at) size deep k
 
 abbrev fields-fit-μ-loop : fields-fit-lts.MeasureT-loop
-fields-fit-μ-loop incoming v n plan w count levels room at₀ size₀ deep₀ k₀ at size deep k = count - k
+fields-fit-μ-loop incoming v n plan w count levels room c₀ size₀ deep₀ k₀ c size deep k = count - k
 
 fields-fit-first-child-requires : (t : ℕ) → fields-fit-lts.Need-first-child-requires (fields-fit-claims t)
     (fields-fit-at t) fields-fit.Post fields-fit-Inv-loop fields-fit-μ-loop

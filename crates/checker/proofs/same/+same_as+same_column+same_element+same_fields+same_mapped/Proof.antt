@@ -1,4 +1,5 @@
--- `same_as`, `same_column`, `same_element`, `same_fields` and `same_mapped` of `checker::same` meet their contracts, by the falling measures below. Assumes nothing.
+-- `same_as`, `same_column`, `same_element`, `same_fields` and `same_mapped` of `checker::same` meet their contracts, by the falling measures below. Assumes
+-- nothing.
 use Rattle.checker.proofs.Alike.{raw-ends, codes-differ, numbers-differ, struct-there, list-there, array-there, structs-same, lists-same, arrays-same, field-differs, field-goes, Matching, matching-start, matching-end, matching-first, matching-asks, matching-no, matching-more}
 use Rattle.checker.proofs.Fitting.{made-no-leaf, struct-asks, list-asks, array-asks}
 use Rattle.checker.proofs.Children.{made-asks}
@@ -52,19 +53,19 @@ use Rattle.checker.proofs.same.+same_as+same_column+same_element+same_f
 }
 
 abbrev μ-same-as : Measures 3 same-as-kinds.ps ℕ
-μ-same-as κs a = 4 * (a .1 .1 .1 .1 .1 .1 .1 .0) + 1
+μ-same-as κs a = 4 * (a .1 .1 .1 .1 .1 .1 .0 .depth) + 1
 
 abbrev μ-same-column : Measures 3 same-column-kinds.ps ℕ
-μ-same-column κs a = 4 * (a .1 .1 .1 .1 .1 .1 .1 .0) + 2
+μ-same-column κs a = 4 * (a .1 .1 .1 .1 .1 .1 .0 .depth) + 2
 
 abbrev μ-same-element : Measures 3 same-element-kinds.ps ℕ
-μ-same-element κs a = 4 * (a .1 .1 .1 .1 .1 .1 .1 .0) + 2
+μ-same-element κs a = 4 * (a .1 .1 .1 .1 .1 .1 .0 .depth) + 2
 
 abbrev μ-same-fields : Measures 3 same-fields-kinds.ps ℕ
-μ-same-fields κs a = 4 * (a .1 .1 .1 .1 .1 .1 .1 .1 .0) + 3
+μ-same-fields κs a = 4 * (a .1 .1 .1 .1 .1 .1 .1 .0 .depth) + 3
 
 abbrev μ-same-mapped : Measures 3 same-mapped-kinds.ps ℕ
-μ-same-mapped κs a = 4 * (a .1 .1 .1 .1 .1 .1 .1 .0)
+μ-same-mapped κs a = 4 * (a .1 .1 .1 .1 .1 .1 .0 .depth)
 
 abbrev same-as-at : ℕ → In 3 same-as-kinds.ps
 same-as-at t = and 3 same-as-kinds.ps (is 3 same-as-kinds.ps μ-same-as t) same-as.Pre
@@ -157,10 +158,11 @@ same-mapped-claims t = (
 )
 
 abbrev same-fields-Inv-loop : same-fields-lts.InvT-loop
-same-fields-Inv-loop incoming v n plan w count target vt depth from₀ at₀ k₀ from at k = Matching incoming v n plan w count target vt depth at₀ from at k
+same-fields-Inv-loop incoming v n plan w count target place c₀ at₀ k₀ c at k =
+    Matching incoming v n plan w count target (place .edition) (place .depth) (at₀ .at) (c .at) (at .at) k
 
 abbrev same-fields-μ-loop : same-fields-lts.MeasureT-loop
-same-fields-μ-loop incoming v n plan w count target vt depth from₀ at₀ k₀ from at k = count - k
+same-fields-μ-loop incoming v n plan w count target place c₀ at₀ k₀ c at k = count - k
 
 pub +same-as+same-column+same-element+same-fields+same-mapped-spec : {M : Type 1} → statement M
 +same-as+same-column+same-element+same-fields+same-mapped-spec =
@@ -174,17 +176,23 @@ pub +same-as+same-column+same-element+same-fields+same-mapped-spec : {M : Type 1
     (same-as-at t)
     same-as.Post
     (λ c. search needs)
-    (λ c κs. let (u, R) = c .before .before .before .before .before .before .pre .1 .0 in
-    (from-incoming R (c .enum-told .given .1) .type, c .before .before .before .before .before .before .pre .1 .1))
+    (λ c κs. let (u, R) = c .before .before .before .before .before .before .before .pre .1 .0 in
+    (from-incoming R (c .enum-told .given .1) .type, c .before .before .before .before .before .before .before .pre .1 .1))
     (λ c κs. search needs)
     (λ c. search needs)
-    (λ c κs. let (u, R) = c .before .before .before .before .before .before .pre .1 .0 in
-    (from-plan R (c .enum-told2 .given .1) .type, c .before .before .before .before .before .before .pre .1 .1))
+    (λ c κs. let (u, R) = c .before .before .before .before .before .before .before .pre .1 .0 in
+    (from-plan R (c .enum-told2 .given .1) .type, c .before .before .before .before .before .before .before .pre .1 .1))
     (λ c κs. search needs)
     (λ c. search needs)
     (λ c κs. (
-      omega (arith, c .before .before .before .before .before .before .pre .0),
-      (c .before .before .before .before .before .before .pre .1 .0, (c .enum-told3 .given .1, c .before .before .before .before .before .before .pre .1 .1)),
+      omega (arith, c .before .before .before .before .before .before .before .pre .0),
+      (
+        c .before .before .before .before .before .before .before .pre .1 .0,
+        (
+          c .enum-told3 .given .1,
+          c .before .before .before .before .before .before .before .pre .1 .1,
+        ),
+      ),
     ))
     (λ c. λ u Q R. let T = from-incoming R (c .before .before .enum-told .given .1) in raw-ends T Q (c .before .same-type .ensures (T .type) Q)
     (c .target-end .ensures))
@@ -196,19 +204,19 @@ pub +same-as+same-column+same-element+same-fields+same-mapped-spec : {M : Type 1
     same-column.Post
     (λ c κs. search needs)
     (λ c. search needs)
-    (λ c κs. c .before .before .before .before .before .before .before .pre .1 .0)
-    (λ c κs. let (a, N) = c .before .before .before .before .before .before .before .before .before .pre .1 .0 in
+    (λ c κs. c .before .before .before .before .before .before .before .before .pre .1 .0)
+    (λ c κs. let (a, N) = c .before .before .before .before .before .before .before .before .before .before .pre .1 .0 in
     ((_, c .before .name-at .ensures a N), label-in _ (c .before .before .before .before .before .label .ensures .1) (c .before .before .before .l .given .1)))
     (λ c. λ a E N. field-differs E (c .before .before .before .before .before .before .before .label .ensures .0)
     (c .before .before .before .before .before .l .given .1) a (c .before .same-name .ensures (a .name) (c .before .before .before .name-at .ensures a N))
     (not-true _ (c .if1 .taken)))
-    (λ c κs. let (a, N) = c .before .before .before .before .before .before .before .before .before .before .before .pre .1 .0 in (_, named-typed N))
-    (λ c κs. let (a, N) = c .before .before .before .before .before .before .before .before .before .before .before .before .pre .1 .0 in (
-      omega (arith, c .before .before .before .before .before .before .before .before .before .before .before .before .pre .0),
+    (λ c κs. let (a, N) = c .before .before .before .before .before .before .before .before .before .before .before .before .pre .1 .0 in (_, named-typed N))
+    (λ c κs. let (a, N) = c .before .before .before .before .before .before .before .before .before .before .before .before .before .pre .1 .0 in (
+      omega (arith, c .before .before .before .before .before .before .before .before .before .before .before .before .before .pre .0),
       (
         (_, c .resolve .ensures _ (named-typed N) .resolved),
         behind-label
-            (c .before .before .before .before .before .before .before .before .before .before .before .before .pre .1 .1)
+            (c .before .before .before .before .before .before .before .before .before .before .before .before .before .pre .1 .1)
             (label-got _ (c .before .before .before .before .before .before .before .before .label .ensures .0)
             (c .before .before .before .before .before .before .l .given .1)),
       ),
@@ -227,18 +235,18 @@ pub +same-as+same-column+same-element+same-fields+same-mapped-spec : {M : Type 1
     same-element.Post
     (λ c κs. search needs)
     (λ c. search needs)
-    (λ c κs. c .before .before .before .before .before .before .before .pre .1 .0)
-    (λ c κs. let (u, a, R, P) = c .before .before .before .before .before .before .before .before .pre .1 .0 in (
-      omega (arith, c .before .before .before .before .before .before .before .before .pre .0),
+    (λ c κs. c .before .before .before .before .before .before .before .before .pre .1 .0)
+    (λ c κs. let (u, a, R, P) = c .before .before .before .before .before .before .before .before .before .pre .1 .0 in (
+      omega (arith, c .before .before .before .before .before .before .before .before .before .pre .0),
       (
         (_, c .part .ensures u a R P),
-        behind-label (c .before .before .before .before .before .before .before .before .pre .1 .1)
-            (label-got _ (c .before .before .before .before .element-label .ensures .0) (c .before .before .d .given .1)),
+        behind-label (c .before .before .before .before .before .before .before .before .before .pre .1 .1)
+            (label-got _ (c .before .before .before .before .element-label .ensures .0) (c .before .before .at .given .1)),
       ),
     ))
     (λ c. search needs)
     (λ c. λ u a E R P. c .same-as .ensures (a .type)
-    (behind-label E (label-got _ (c .before .before .before .before .before .element-label .ensures .0) (c .before .before .before .d .given .1)))
+    (behind-label E (label-got _ (c .before .before .before .before .before .element-label .ensures .0) (c .before .before .before .at .given .1)))
     (c .before .part .ensures u a R P))
     (λ c. λ u a E R P. never-unlabelled E (c .before .before .element-label .ensures .0) (c .enum-told .given .1)))
     (λ t. same-fields-lts.spec (same-fields-claims t)
@@ -247,11 +255,11 @@ pub +same-as+same-column+same-element+same-fields+same-mapped-spec : {M : Type 1
     same-fields-Inv-loop
     same-fields-μ-loop
     (λ c κs. let (fs, M, e) = c .before .before .before .pre .1 .0 in made-asks M .0)
-    (λ c. let (fs, M, e) = c .before .before .before .before .pre .1 .0 in matching-start M e (c .before .before .before .before .pre .1 .1)
-    (c .first-child .ensures))
+    (λ c. let (fs, M, e) = c .before .before .before .before .before .pre .1 .0 in matching-start M e (c .before .before .before .before .before .pre .1 .1)
+    (c .before .first-child .ensures))
     (λ c κs. made-asks (c .before .loop .inv .start))
     (λ c κs. (
-      omega (arith, c .before .before .before .before .before .before .before .pre .0),
+      omega (arith, c .before .before .before .before .before .before .before .before .pre .0),
       (
         matching-asks (c .before .before .loop .inv) (c .before .loop-test .taken) (c .child-at .ensures),
         matching-first (c .before .before .loop .inv)
@@ -265,7 +273,7 @@ pub +same-as+same-column+same-element+same-fields+same-mapped-spec : {M : Type 1
     (λ c κs. search needs)
     (λ c. omega (
       arith,
-      c .before .before .before .before .before .before .before .before .before .before .before .before .fits .count,
+      c .before .before .before .before .before .before .before .before .before .before .before .before .before .fits .count,
       c .before .before .before .before .before .before .loop-test .taken,
     ))
     (λ c. omega (arith, c .before .before .before .before .before .before .loop-test .taken))
@@ -276,7 +284,7 @@ pub +same-as+same-column+same-element+same-fields+same-mapped-spec : {M : Type 1
     λ t. same-mapped-lts.spec (same-mapped-claims t)
     (same-mapped-at t)
     same-mapped.Post
-    (λ c κs. c .before .before .before .pre .1 .0)
+    (λ c κs. c .before .before .before .before .pre .1 .0)
     (λ c κs. search needs)
     (λ c κs. search needs)
     (λ c. λ u Q R. codes-differ (c .before .before .before .before .before .type-head .ensures u R) (c .before .before .before .before .code .ensures) Q
@@ -284,79 +292,100 @@ pub +same-as+same-column+same-element+same-fields+same-mapped-spec : {M : Type 1
     (λ c. λ u Q R. numbers-differ (c .before .before .before .before .before .before .before .before .type-head .ensures u R)
     (c .before .before .before .before .before .before .before .code .ensures) Q (c .before .before .before .before .before .before .target-code .ensures)
     (c .if2 .taken))
+    (λ c. let z = deep (c .before .before .before .before .before .before .before .before .before .before .before .before .before .before .pre .1 .1 .1) in
+    omega arith)
     (λ c κs. search needs)
     (λ c. search needs)
     (λ c. search needs)
-    (λ c. let z = deep (c .before .before .before .before .before .before .before .before .before .before .before .before .before .before .before .before .before .pre .1 .1 .1) in
-    omega arith)
     (λ c κs. let (u, R) =
-    c .before .before .before .before .before .before .before .before .before .before .before .before .before .before .before .before .before .pre .1 .0 in
-    let Q = c .before .before .before .before .before .before .before .before .before .before .before .before .before .before .before .before .before .pre .1 .1 .1 in
+    c .before .before .before .before .before .before
+    .before .before .before .before .before .before .before .before .before .before .before .before .before .pre .1 .0
+    in
+    let Q = c .before .before .before .before .before
+    .before .before .before .before .before .before .before .before .before .before .before .before .before .before .pre .1 .1 .1 in
     let z = deep Q in let H =
-    c .before .before .before .before .before .before .before .before .before .before .before .before .before .type-head .ensures u R in (
-      omega (arith, c .before .before .before .before .before .before .before .before .before .before .before .before .before .before .before .before .before .pre .0),
+    c .before .before .before .before .before .before .before .before .before .before .before .before .before .before .type-head .ensures u R in (
+      omega (
+        arith,
+        c .before .before .before .before
+            .before .before .before .before .before .before .before .before .before .before .before .before .before .before .before .pre .0,
+      ),
       (
-        struct-asks H R (c .before .before .before .before .before .before .before .before .before .before .before .before .before .before .before .before .before .pre .1 .1 .0)
+        struct-asks H R (c .before .before .before .before
+            .before .before .before .before .before .before .before .before .before .before .before .before .before .before .before .pre .1 .1 .0)
             (c .before .before .h .given .1),
         struct-there H
-            (c .before .before .before .before .before .before .before .before .before .before .before .before .code .ensures) Q
-            (c .before .before .before .before .before .before .before .before .before .before .before .target-code .ensures)
-            (c .before .before .before .before .before .before .before .before .if1 .left) (c .before .before .before .before .before .if2 .left) refl
+            (c .before .before .before .before .before .before .before .before .before .before .before .before .before .code .ensures) Q
+            (c .before .before .before .before .before .before .before .before .before .before .before .before .target-code .ensures)
+            (c .before .before .before .before .before .before .before .before .before .if1 .left)
+            (c .before .before .before .before .before .before .if2 .left) refl
             (c .before .before .before .before .head-end .ensures) (c .before .before .h .given .1) .inner,
       ),
     ))
     (λ c. search needs)
-    (λ c. let z = deep (c .before .before .before .before .before .before .before .before .before .before .before .before .before .before .before .pre .1 .1 .1) in
-    omega arith)
     (λ c κs. let (u, R) =
-    c .before .before .before .before .before .before .before .before .before .before .before .before .before .before .before .pre .1 .0 in
-    let Q = c .before .before .before .before .before .before .before .before .before .before .before .before .before .before .before .pre .1 .1 .1 in
-    let z = deep Q in let H = c .before .before .before .before .before .before .before .before .before .before .before .type-head .ensures u R in (
-      omega (arith, c .before .before .before .before .before .before .before .before .before .before .before .before .before .before .before .pre .0),
+    c .before .before .before .before .before .before .before .before .before .before .before .before .before .before .before .before .before .pre .1 .0 in
+    let Q = c .before .before .before .before .before
+    .before .before .before .before .before .before .before .before .before .before .before .before .pre .1 .1 .1 in
+    let z = deep Q in let H = c .before .before .before .before .before .before .before .before .before .before .before .before .type-head .ensures u R in (
+      omega (
+        arith,
+        c .before .before .before .before
+            .before .before .before .before .before .before .before .before .before .before .before .before .before .pre .0,
+      ),
       (
         list-asks H R (c .enum-told2 .given .1),
         list-there H
-            (c .before .before .before .before .before .before .before .before .before .before .code .ensures) Q
-            (c .before .before .before .before .before .before .before .before .before .target-code .ensures)
-            (c .before .before .before .before .before .before .if1 .left) (c .before .before .before .if2 .left) refl (c .before .before .head-end .ensures)
+            (c .before .before .before .before .before .before .before .before .before .before .before .code .ensures) Q
+            (c .before .before .before .before .before .before .before .before .before .before .target-code .ensures)
+            (c .before .before .before .before .before .before .before .if1 .left) (c .before .before .before .before .if2 .left) refl
+            (c .before .before .head-end .ensures)
             (c .enum-told2 .given .1) .element,
       ),
     ))
     (λ c. search needs)
-    (λ c. let z = deep (c .before .before .before .before .before .before .before .before .before .before .before .before .before .before .before .pre .1 .1 .1) in
-    omega arith)
     (λ c κs. let (u, R) =
-    c .before .before .before .before .before .before .before .before .before .before .before .before .before .before .before .pre .1 .0 in
-    let Q = c .before .before .before .before .before .before .before .before .before .before .before .before .before .before .before .pre .1 .1 .1 in
-    let z = deep Q in let H = c .before .before .before .before .before .before .before .before .before .before .before .type-head .ensures u R in (
-      omega (arith, c .before .before .before .before .before .before .before .before .before .before .before .before .before .before .before .pre .0),
+    c .before .before .before .before .before .before .before .before .before .before .before .before .before .before .before .before .before .pre .1 .0 in
+    let Q = c .before .before .before .before .before
+    .before .before .before .before .before .before .before .before .before .before .before .before .pre .1 .1 .1 in
+    let z = deep Q in let H = c .before .before .before .before .before .before .before .before .before .before .before .before .type-head .ensures u R in (
+      omega (
+        arith,
+        c .before .before .before .before
+            .before .before .before .before .before .before .before .before .before .before .before .before .before .pre .0,
+      ),
       (
         array-asks H R (c .enum-told3 .given .1),
         array-there H
-            (c .before .before .before .before .before .before .before .before .before .before .code .ensures) Q
-            (c .before .before .before .before .before .before .before .before .before .target-code .ensures)
-            (c .before .before .before .before .before .before .if1 .left) (c .before .before .before .if2 .left) refl (c .before .before .head-end .ensures)
+            (c .before .before .before .before .before .before .before .before .before .before .before .code .ensures) Q
+            (c .before .before .before .before .before .before .before .before .before .before .target-code .ensures)
+            (c .before .before .before .before .before .before .before .if1 .left) (c .before .before .before .before .if2 .left) refl
+            (c .before .before .head-end .ensures)
             (c .enum-told3 .given .1) .element,
       ),
     ))
     (λ c. λ u Q R. made-no-leaf R
-    (c .before .before .before .before .before .before .before .before .before .before .before .before .before .before .before .pre .1 .1 .0)
-    (c .before .before .before .before .before .before .before .before .before .before .before .type-head .ensures u R) (c .enum-told .given .1))
+    (c .before .before .before .before .before .before .before .before .before .before .before .before .before .before .before .before .before .pre .1 .1 .0)
+    (c .before .before .before .before .before .before .before .before .before .before .before .before .type-head .ensures u R) (c .enum-told .given .1))
     (λ c. λ u Q R. structs-same
-    (c .before .before .before .before .before .before .before .before .before .before .before .before .before .before .type-head .ensures u R)
-    (c .before .before .before .before .before .before .before .before .before .before .before .before .before .code .ensures) Q
-    (c .before .before .before .before .before .before .before .before .before .before .before .before .target-code .ensures)
-    (c .before .before .before .before .before .before .before .before .before .if1 .left) (c .before .before .before .before .before .before .if2 .left) refl
+    (c .before .before .before .before .before .before .before .before .before .before .before .before .before .before .before .type-head .ensures u R)
+    (c .before .before .before .before .before .before .before .before .before .before .before .before .before .before .code .ensures) Q
+    (c .before .before .before .before .before .before .before .before .before .before .before .before .before .target-code .ensures)
+    (c .before .before .before .before .before .before .before .before .before .before .if1 .left)
+    (c .before .before .before .before .before .before .before .if2 .left) refl
     (c .before .before .before .before .before .head-end .ensures) R
-    (c .before .before .before .before .before .before .before .before .before .before .before .before .before .before .before .before .before .before .pre .1 .1 .0)
+    (c .before .before .before .before .before .before
+    .before .before .before .before .before .before .before .before .before .before .before .before .before .before .pre .1 .1 .0)
     (c .before .before .before .h .given .1) (c .same-fields .ensures))
-    (λ c. λ u Q R. lists-same (c .before .before .before .before .before .before .before .before .before .before .before .before .type-head .ensures u R)
-    (c .before .before .before .before .before .before .before .before .before .before .before .code .ensures) Q
-    (c .before .before .before .before .before .before .before .before .before .before .target-code .ensures)
-    (c .before .before .before .before .before .before .before .if1 .left) (c .before .before .before .before .if2 .left) refl
+    (λ c. λ u Q R. lists-same (c .before .before .before .before .before .before .before .before .before .before .before .before .before .type-head .ensures u
+    R)
+    (c .before .before .before .before .before .before .before .before .before .before .before .before .code .ensures) Q
+    (c .before .before .before .before .before .before .before .before .before .before .before .target-code .ensures)
+    (c .before .before .before .before .before .before .before .before .if1 .left) (c .before .before .before .before .before .if2 .left) refl
     (c .before .before .before .head-end .ensures) R (c .before .enum-told2 .given .1) (c .same-element .ensures))
-    (λ c. λ u Q R. arrays-same (c .before .before .before .before .before .before .before .before .before .before .before .before .type-head .ensures u R)
-    (c .before .before .before .before .before .before .before .before .before .before .before .code .ensures) Q
-    (c .before .before .before .before .before .before .before .before .before .before .target-code .ensures)
-    (c .before .before .before .before .before .before .before .if1 .left) (c .before .before .before .before .if2 .left) refl
+    (λ c. λ u Q R. arrays-same (c .before .before .before .before .before .before .before .before .before .before .before .before .before .type-head .ensures u
+    R)
+    (c .before .before .before .before .before .before .before .before .before .before .before .before .code .ensures) Q
+    (c .before .before .before .before .before .before .before .before .before .before .before .target-code .ensures)
+    (c .before .before .before .before .before .before .before .before .if1 .left) (c .before .before .before .before .before .if2 .left) refl
     (c .before .before .before .head-end .ensures) R (c .before .enum-told3 .given .1) (c .same-element2 .ensures))

@@ -1,4 +1,5 @@
--- `check_element`, `check_fields`, `check_scoped` and `check_transform` of `checker::selector` meet their contracts, by the falling measures below. Assumes nothing.
+-- `check_element`, `check_fields`, `check_scoped` and `check_transform` of `checker::selector` meet their contracts, by the falling measures below. Assumes
+-- nothing.
 use Prim.Native.Nat.{_+_, _*_, _-_, ℕ, _<_}
 use mathlib.Core.Path.{sym, _∙_}
 use mathlib.Core.Bool.{true, false}
@@ -193,10 +194,10 @@ check-element-returns-2 t c = λ u e f name E l. element-refused E (c .before .b
     (c .before .before .before .check-scoped .ensures) name (c .before .k .given .1)
 
 abbrev check-fields-Inv-loop : check-fields-lts.InvT-loop
-check-fields-Inv-loop incoming v n plan w count scope at₀ fields₀ k₀ at fields k = Passing incoming v n plan w count scope at fields k
+check-fields-Inv-loop incoming v n plan w count scope c₀ fields₀ k₀ c fields k = Passing incoming v n plan w count scope (c .at) fields k
 
 abbrev check-fields-μ-loop : check-fields-lts.MeasureT-loop
-check-fields-μ-loop incoming v n plan w count scope at₀ fields₀ k₀ at fields k = count - k
+check-fields-μ-loop incoming v n plan w count scope c₀ fields₀ k₀ c fields k = count - k
 
 check-fields-first-child-requires : (t : ℕ)
     → check-fields-lts.Need-first-child-requires (check-fields-claims t) (check-fields-at t) check-fields.Post check-fields-Inv-loop check-fields-μ-loop
@@ -339,22 +340,45 @@ check-transform-enum-known-count t c = search needs
 
 check-transform-check-fields-requires : (t : ℕ)
     → check-transform-lts.Need-check-fields-requires (check-transform-claims t) (check-transform-at t) check-transform.Post
-check-transform-check-fields-requires t c κs = let (s, Δ, C, d, h) = c .before .before .before .before .before .before .before .before .before .before .before .before .pre .1 in
+check-transform-check-fields-requires t c κs = let (s, Δ, C, d, h) =
+    c .before .before .before .before .before .before .before .before .before .before .before .before .pre .1 in
     let F = rest-of (c .before .before .before .check-input .ensures s Δ
     (input-passed C (a-transform C h .transforms) (c .before .before .before .before .before .before .before .before .before .to-input .ensures) d
-    (c .before .before .before .before .before .before .before .before .check-scoped .ensures) (c .before .before .before .before .before .before .size .given .1) (c .before .before .before .before .input-within .ensures))) (c .before .count .given .1) in
-    (omega (arith, c .before .before .before .before .before .before .before .before .before .before .before .before .pre .0), (F .input, F .parts, F .scope, F .mapping, F .counted, F .columns))
+    (c .before .before .before .before .before .before .before .before .check-scoped .ensures)
+    (c .before .before .before .before .before .before .size .given .1) (c .before .before .before .before .input-within .ensures)))
+    (c .before .count .given .1) in (
+      omega (arith, c .before .before .before .before .before .before .before .before .before .before .before .before .pre .0),
+      (
+        F .input,
+        F .parts,
+        F .scope,
+        F .mapping,
+        F .counted,
+        F .columns,
+      ),
+    )
 
 check-transform-enum-known-head : (t : ℕ) → check-transform-lts.Need-enum-known-head (check-transform-claims t) (check-transform-at t) check-transform.Post
 check-transform-enum-known-head t c = search needs
 
 check-transform-check-element-requires : (t : ℕ)
     → check-transform-lts.Need-check-element-requires (check-transform-claims t) (check-transform-at t) check-transform.Post
-check-transform-check-element-requires t c κs = let (s, Δ, C, d, h) = c .before .before .before .before .before .before .before .before .before .before .before .before .pre .1 in
+check-transform-check-element-requires t c κs = let (s, Δ, C, d, h) =
+    c .before .before .before .before .before .before .before .before .before .before .before .before .pre .1 in
     let E = rest-of (c .before .before .before .check-input .ensures s Δ
     (input-passed C (a-transform C h .transforms) (c .before .before .before .before .before .before .before .before .before .to-input .ensures) d
-    (c .before .before .before .before .before .before .before .before .check-scoped .ensures) (c .before .before .before .before .before .before .size .given .1) (c .before .before .before .before .input-within .ensures))) (c .before .head .given .1) in
-    (omega (arith, c .before .before .before .before .before .before .before .before .before .before .before .before .pre .0), (E .element, E .selector, E .makes, E .elements, E .limited))
+    (c .before .before .before .before .before .before .before .before .check-scoped .ensures)
+    (c .before .before .before .before .before .before .size .given .1) (c .before .before .before .before .input-within .ensures))) (c .before .head .given .1)
+    in (
+      omega (arith, c .before .before .before .before .before .before .before .before .before .before .before .before .pre .0),
+      (
+        E .element,
+        E .selector,
+        E .makes,
+        E .elements,
+        E .limited,
+      ),
+    )
 
 check-transform-enum-known-k-2 : (t : ℕ) → check-transform-lts.Need-enum-known-k-2 (check-transform-claims t) (check-transform-at t) check-transform.Post
 check-transform-enum-known-k-2 t c = search needs
@@ -363,26 +387,32 @@ check-transform-returns : (t : ℕ)
     → check-transform-lts.Need-returns (check-transform-claims t) (check-transform-at t) check-transform.Post
 check-transform-returns t c = λ s Δ C d h. rest-of (c .before .before .before .check-input .ensures s Δ
     (input-passed C (a-transform C h .transforms) (c .before .before .before .before .before .before .before .before .before .to-input .ensures) d
-    (c .before .before .before .before .before .before .before .before .check-scoped .ensures) (c .before .before .before .before .before .before .size .given .1) (c .before .before .before .before .input-within .ensures))) (c .before .z .given .1)
+    (c .before .before .before .before .before .before .before .before .check-scoped .ensures)
+    (c .before .before .before .before .before .before .size .given .1) (c .before .before .before .before .input-within .ensures))) (c .before .z .given .1)
 
 check-transform-returns-2 : (t : ℕ)
     → check-transform-lts.Need-returns-2 (check-transform-claims t) (check-transform-at t) check-transform.Post
 check-transform-returns-2 t c = λ s Δ C d h. rest-of (c .before .before .before .check-input .ensures s Δ
     (input-passed C (a-transform C h .transforms) (c .before .before .before .before .before .before .before .before .before .to-input .ensures) d
-    (c .before .before .before .before .before .before .before .before .check-scoped .ensures) (c .before .before .before .before .before .before .size .given .1) (c .before .before .before .before .input-within .ensures))) (c .before .k .given .1)
+    (c .before .before .before .before .before .before .before .before .check-scoped .ensures)
+    (c .before .before .before .before .before .before .size .given .1) (c .before .before .before .before .input-within .ensures))) (c .before .k .given .1)
 
 check-transform-returns-3 : (t : ℕ)
     → check-transform-lts.Need-returns-3 (check-transform-claims t) (check-transform-at t) check-transform.Post
 check-transform-returns-3 t c = λ s Δ C d h. let F = rest-of (c .before .before .before .before .check-input .ensures s Δ
     (input-passed C (a-transform C h .transforms) (c .before .before .before .before .before .before .before .before .before .before .to-input .ensures) d
-    (c .before .before .before .before .before .before .before .before .before .check-scoped .ensures) (c .before .before .before .before .before .before .before .size .given .1) (c .before .before .before .before .before .input-within .ensures))) (c .before .before .count .given .1) in
+    (c .before .before .before .before .before .before .before .before .before .check-scoped .ensures)
+    (c .before .before .before .before .before .before .before .size .given .1) (c .before .before .before .before .before .input-within .ensures)))
+    (c .before .before .count .given .1) in
     record { known = true; is = c .check-fields .ensures (F .input) (F .parts) (F .scope) (F .name) (F .mapping) (F .counted) (F .columns) ∙ sym (F .left) }
 
 check-transform-returns-4 : (t : ℕ)
     → check-transform-lts.Need-returns-4 (check-transform-claims t) (check-transform-at t) check-transform.Post
 check-transform-returns-4 t c = λ s Δ C d h. let E = rest-of (c .before .before .before .before .check-input .ensures s Δ
     (input-passed C (a-transform C h .transforms) (c .before .before .before .before .before .before .before .before .before .before .to-input .ensures) d
-    (c .before .before .before .before .before .before .before .before .before .check-scoped .ensures) (c .before .before .before .before .before .before .before .size .given .1) (c .before .before .before .before .before .input-within .ensures))) (c .before .before .head .given .1) in
+    (c .before .before .before .before .before .before .before .before .before .check-scoped .ensures)
+    (c .before .before .before .before .before .before .before .size .given .1) (c .before .before .before .before .before .input-within .ensures)))
+    (c .before .before .head .given .1) in
     record { known = true; is = c .check-element .ensures (E .element) (E .selector) (E .makes) (E .name) (E .elements) (E .limited) ∙ sym (E .left) }
 
 check-transform-returns-5 : (t : ℕ)

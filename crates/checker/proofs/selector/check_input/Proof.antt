@@ -17,7 +17,8 @@ check-input-spec =
     (λ c. search needs)
     (λ c. search needs)
     (λ c. search needs)
-    (λ c κs. let (s, Δ, R) = c .before .before .before .before .before .before .pre in let K = is-cast (c .before .before .before .head .ensures (R .checking .standing .here)) (c .before .input .given .1) in (R .column, K .input, K .type, K .option, named-typed (R .named)))
+    (λ c κs. let (s, Δ, R) = c .before .before .before .before .before .before .pre in let K = is-cast (c .before .before .before .head .ensures
+    (R .checking .standing .here)) (c .before .input .given .1) in (R .column, K .input, K .type, K .option, named-typed (R .named)))
     (λ c κs. search needs)
     (λ c. search needs)
     (λ c κs. let (s, Δ, R) = c .before .before .before .before .before .pre in (R .known, R .column, R .named, R .sized))
@@ -35,7 +36,8 @@ check-input-spec =
     (λ c. search needs)
     (λ c. λ s Δ R. no-source R (is-position (c .before .before .head .ensures (R .checking .standing .here)) (c .enum-told .given .1) .1) refl)
     (λ c. λ s Δ R. no-source R (is-constant (c .before .before .head .ensures (R .checking .standing .here)) (c .enum-told2 .given .1) .is) refl)
-    (λ c. λ s Δ R. let K = is-cast (c .before .before .before .before .before .head .ensures (R .checking .standing .here)) (c .before .before .before .input .given .1) in
+    (λ c. λ s Δ R. let K = is-cast (c .before .before .before .before .before .head .ensures (R .checking .standing .here))
+    (c .before .before .before .input .given .1) in
     none-left (c .nothing-left .ensures) (record {
       known = true;
       is = input-given R (by-cast (R .checking) K) (c .before .cast-result .ensures (R .column) (K .input) (K .type) (K .option) (named-typed (R .named)));
@@ -43,7 +45,11 @@ check-input-spec =
     (λ c. λ s Δ R. let K = is-rename (c .before .before .before .before .head .ensures (R .checking .standing .here))
     (c .before .before .enum-told3 .given .1) in none-left (c .nothing-left2 .ensures) (input-measured R (by-rename (R .checking) K) (a-rename (R .column)
     (K .name .bytes) (c .before .rename-result .ensures (R .known) (R .column) (K .name .bytes) (R .named) (R .sized) (R .limited)))))
-    (λ c. λ s Δ R. let K = is-struct (c .before .before .before .before .before .before .head .ensures (R .checking .standing .here)) (c .before .before .before .before .input2 .given .1) in some-fields R K (c .before .input-head .ensures (R .column .type) (named-typed (R .named))) (selectors-counted _ (K .fields .selectors) ∙ sym (c .before .before .struct-fields .ensures (K .input) (K .fields) .count)) (c .fields-left .ensures))
-    (λ c. λ s Δ R. let K = is-list (c .before .before .before .before .head .ensures (R .checking .standing .here)) (c .before .before .enum-told4 .given .1) in some-list R K (c .before .input-head2 .ensures (R .column .type) (named-typed (R .named))) (c .listed-left .ensures))
-    (λ c. λ s Δ R. let K = is-array (c .before .before .before .before .head .ensures (R .checking .standing .here)) (c .before .before .enum-told5 .given .1) in some-array R K (c .before .input-head3 .ensures (R .column .type) (named-typed (R .named))) (c .arrayed-left .ensures))
+    (λ c. λ s Δ R. let K = is-struct (c .before .before .before .before .before .before .head .ensures (R .checking .standing .here))
+    (c .before .before .before .before .input2 .given .1) in some-fields R K (c .before .input-head .ensures (R .column .type) (named-typed (R .named)))
+    (selectors-counted _ (K .fields .selectors) ∙ sym (c .before .before .struct-fields .ensures (K .input) (K .fields) .count)) (c .fields-left .ensures))
+    (λ c. λ s Δ R. let K = is-list (c .before .before .before .before .head .ensures (R .checking .standing .here)) (c .before .before .enum-told4 .given .1) in
+    some-list R K (c .before .input-head2 .ensures (R .column .type) (named-typed (R .named))) (c .listed-left .ensures))
+    (λ c. λ s Δ R. let K = is-array (c .before .before .before .before .head .ensures (R .checking .standing .here)) (c .before .before .enum-told5 .given .1)
+    in some-array R K (c .before .input-head3 .ensures (R .column .type) (named-typed (R .named))) (c .arrayed-left .ensures))
     (λ c. λ s Δ R. never-refused (c .before .before .head .ensures (R .checking .standing .here)) (c .enum-told6 .given .1)))

@@ -18,5 +18,6 @@ check-selector-spec =
     (s, Δ, C, scope-is C (c .before .scope-count .ensures) (c .columns-within .ensures)))
     (λ c κs. search needs)
     (λ c. λ s Δ C.
-    let A = c .before .check-scoped .ensures s Δ C (scope-is C (c .before .before .before .scope-count .ensures) (c .before .before .columns-within .ensures)) in
+    let A = c .before .check-scoped .ensures s Δ C (scope-is C (c .before .before .before .scope-count .ensures) (c .before .before .columns-within .ensures))
+    in
     c .dropped .ensures ∙ ap droppedOf (A .is) ∙ dropped-is (A .known) (typeOf Δ s)))

@@ -16,7 +16,7 @@ use Rattle.composed.proofs.compose.+compose_value.{statement}
 use Rattle.composed.proofs.compose.+compose_value.Tie.{close}
 
 abbrev μ-compose-value : Measures 10 compose-value-kinds.ps ℕ
-μ-compose-value κs a = a .1 .1 .1 .1 .1 .1 .1 .1 .1 .1 .1 .0
+μ-compose-value κs a = a .1 .1 .1 .1 .1 .1 .1 .0
 
 abbrev compose-value-at : ℕ → In 10 compose-value-kinds.ps
 compose-value-at t =
@@ -40,18 +40,79 @@ pub +compose-value-spec : {M : Type 1} → statement M
     (λ c. λ e. clash (cc))
     (λ c κs. search needs)
     (λ c. search needs)
-    (λ c κs. (c .before .before .before .before .before .before .before .before .before .before .before .before .before .before .before .before .pre .1 .0, (c .before .before .before .before .before .before .before .before .before .before .before .before .before .before .before .before .pre .1 .1 .0, (c .before .before .before .before .before .before .before .before .before .before .before .before .before .before .before .before .pre .1 .1 .1 .0, (c .before .before .before .before .before .before .before .before .before .before .before .before .before .before .before .before .pre .1 .1 .1 .1 .0, (c .before .before .before .before .before .before .before .before .before .before .before .before .before .before .before .before .pre .1 .1 .1 .1 .1 .0, c .before .before .before .before .before .before .before .before .before .before .before .before .before .before .before .before .pre .1 .1 .1 .1 .1 .1 .0))))))
+    (λ c κs.
+    let c16 = c .before .before .before .before .before .before .before .before .before .before .before .before .before .before .before .before in
+    (c16 .pre .1 .0, (c16 .pre .1 .1 .0, (c16 .pre .1 .1 .1 .0, (c16 .pre .1 .1 .1 .1 .0, (c16 .pre .1 .1 .1 .1 .1 .0, c16 .pre .1 .1 .1 .1 .1 .1 .0))))))
     (λ c. search needs)
     (λ c. search needs)
-    (λ c κs. (omega (arith, c .before .before .before .before .before .before .before .before .if1 .left, c .before .before .before .before .before .before .before .before .before .before .before .before .before .before .before .before .before .before .before .pre .0), (c .before .before .before .before .before .before .before .before .before .before .before .before .before .before .before .before .before .before .before .pre .1 .0, (c .before .before .before .before .before .before .before .before .before .before .before .before .before .before .before .before .before .before .before .pre .1 .1 .0, (c .before .before .before .before .before .before .before .before .before .before .before .before .before .before .before .before .before .before .before .pre .1 .1 .1 .0, (input-by (c .before .before .before .before .before .before .before .input-of .ensures (c .before .before .before .before .before .before .before .before .before .before .before .before .before .before .before .before .before .before .before .pre .1 .1 .1 .1 .0)) (c .before .before .before .before .before .input .given .1) .input, (c .before .before .before .before .before .before .before .before .before .before .before .before .before .before .before .before .before .before .before .pre .1 .1 .1 .1 .1 .0, (c .before .before .before .before .before .before .before .before .before .before .before .before .before .before .before .before .before .before .before .pre .1 .1 .1 .1 .1 .1 .1, c .before .before .before .before .before .before .before .before .before .before .before .before .before .before .before .before .before .before .before .pre .1 .1 .1 .1 .1 .1 .0))))))))
+    (λ c κs.
+    let c5 = c .before .before .before .before .before in let c7 = c5 .before .before in let c8 = c7 .before in let c19 =
+    c8 .before .before .before .before .before .before .before .before .before .before .before in (
+      omega (arith, c8 .if1 .left, c19 .pre .0),
+      (
+        c19 .pre .1 .0,
+        (
+          c19 .pre .1 .1 .0,
+          (
+            c19 .pre .1 .1 .1 .0,
+            (
+              input-by (c7 .input-of .ensures
+                  (c19 .pre .1 .1 .1 .1 .0)) (c5 .input .given .1) .input,
+              (
+                c19 .pre .1 .1 .1 .1 .1 .0,
+                (
+                  c19 .pre .1 .1 .1 .1 .1 .1 .1,
+                  c19 .pre .1 .1 .1 .1 .1 .1 .0,
+                ),
+              ),
+            ),
+          ),
+        ),
+      ),
+    ))
     (λ c. search needs)
     (λ c. search needs)
     (λ c. search needs)
     (λ c. search needs)
     (λ c. λ e. clash (cc))
-    (λ c κs. let P = c .before .before .before .before .before .before .before .before .before .before .before .before .before .before .before .before .before .before .before .before .before .before .before .before .before .before .before .before .before .before .before .before .before .pre .1 .1 .1 .1 .0 in
-    let I = input-by (c .before .before .before .before .before .before .before .before .before .before .before .before .before .before .before .before .before .before .before .before .before .input-of .ensures P) (c .before .before .before .before .before .before .before .before .before .before .before .before .before .before .before .before .before .before .before .input .given .1) in
-    (c .before .before .before .before .before .before .before .before .before .before .before .before .before .compose-value .ensures (not-false _ (c .before .before .before .before .if2 .left)) (c .before .before .before .before .before .before .before .before .before .before .before .before .before .before .before .before .before .before .before .before .before .before .before .before .before .before .before .before .before .before .before .before .before .pre .1 .1 .0) (I .input) .raw, (P, ((omega (arith, c .before .before .before .before .before .before .before .before .before .before .before .before .before .compose-value .kept .1 .1 .1 .1 .1 .1 .1 .1 .1 .1 .1 .1 .0, c .before .before .before .before .before .before .before .before .before .before .before .before .before .before .before .before .before .before .before .before .before .before .before .before .before .before .before .before .before .before .before .before .before .pre .1 .1 .1 .1 .1 .1 .1), omega (arith, c .before .before .before .before .before .before .before .before .before .before .before .before .before .compose-value .kept .1 .1 .1 .1 .1 .1 .1 .1 .1 .1 .1 .1 .1 .0, c .before .before .before .before .before .before .before .before .before .before .before .before .before .before .before .before .before .before .before .before .before .before .before .before .before .before .before .before .before .before .before .before .before .pre .1 .1 .1 .1 .1 .1 .1), omega (arith, c .before .before .before .before .before .before .before .before .before .before .before .before .before .before .before .before .before .before .before .before .before .before .before .before .before .before .before .before .before .before .before .before .before .pre .1 .1 .1 .1 .1 .0)), (omega (arith, c .before .before .before .before .before .before .before .before .before .before .before .before .before .compose-value .kept .1 .1 .1 .1 .1 .1 .1 .1 .1 .1 .1 .1 .1 .1 .0, c .before .before .before .before .before .before .before .before .before .before .before .before .before .before .before .before .before .before .before .before .before .before .before .before .before .before .before .before .before .before .before .before .before .pre .1 .1 .1 .1 .1 .1 .0), omega (arith, c .before .before .before .before .before .before .before .before .before .before .before .before .before .compose-value .kept .1 .1 .1 .1 .1 .1 .1 .1 .1 .1 .1 .1 .1 .1 .1 .0, c .before .before .before .before .before .before .before .before .before .before .before .before .before .before .before .before .before .before .before .before .before .before .before .before .before .before .before .before .before .before .before .before .before .pre .1 .1 .1 .1 .1 .1 .0))))))
+    (λ c κs.
+    let c4 = c .before .before .before .before in let c13 = c4 .before .before .before .before .before .before .before .before .before in let c19 =
+    c13 .before .before .before .before .before .before in let c21 = c19 .before .before in let c33 =
+    c21 .before .before .before .before .before .before .before .before .before .before .before .before in
+    let P = c33 .pre .1 .1 .1 .1 .0 in
+    let I = input-by (c21 .input-of .ensures P) (c19 .input .given .1) in (
+      c13 .compose-value .ensures (not-false _ (c4 .if2 .left)) (c33 .pre .1 .1 .0) (I .input) .raw,
+      (
+        P,
+        (
+          (
+            omega (
+              arith,
+              c13 .compose-value .kept .1 .1 .1 .1 .1 .1 .1 .1 .0,
+              c33 .pre .1 .1 .1 .1 .1 .1 .1,
+            ),
+            omega (
+              arith,
+              c13 .compose-value .kept .1 .1 .1 .1 .1 .1 .1 .1 .1 .0,
+              c33 .pre .1 .1 .1 .1 .1 .1 .1,
+            ),
+            omega (arith, c33 .pre .1 .1 .1 .1 .1 .0),
+          ),
+          (
+            omega (
+              arith,
+              c13 .compose-value .kept .1 .1 .1 .1 .1 .1 .1 .1 .1 .1 .0,
+              c33 .pre .1 .1 .1 .1 .1 .1 .0,
+            ),
+            omega (
+              arith,
+              c13 .compose-value .kept .1 .1 .1 .1 .1 .1 .1 .1 .1 .1 .1 .0,
+              c33 .pre .1 .1 .1 .1 .1 .1 .0,
+            ),
+          ),
+        ),
+      ),
+    ))
     (λ c. search needs)
     (λ c. search needs)
     (λ c. c .before .before .before .before .compose-leaf .ensures)
@@ -59,6 +120,11 @@ pub +compose-value-spec : {M : Type 1} → statement M
     (λ c. search needs)
     (λ c. search needs)
     (λ c. search needs)
-    (λ c. λ e X P.
-    let I = input-by (c .before .before .before .before .before .before .before .before .before .before .before .before .before .before .before .before .before .before .before .before .before .before .before .before .before .before .input-of .ensures P) (c .before .before .before .before .before .before .before .before .before .before .before .before .before .before .before .before .before .before .before .before .before .before .before .before .input .given .1) in
-    c .before .before .before .before .compose-over .ensures e _ _ P (row-fits (λ i. omega (arith, c .before .before .before .before .before .before .before .before .before .before .before .before .before .before .before .before .before .before .before .before .before .before .before .before .before .before .before .before .before .before .before .before .before .before .before .before .shared-slice-known2 .given i)) X) (composed-as (I .is) (c .before .before .before .before .before .before .before .before .before .before .before .before .before .before .before .before .before .before .compose-value .ensures (not-false _ (c .before .before .before .before .before .before .before .before .before .if2 .left)) X (I .input))))
+    (λ c.
+    let c4 = c .before .before .before .before in let c9 = c4 .before .before .before .before .before in let c18 =
+    c9 .before .before .before .before .before .before .before .before .before in let c24 = c18 .before .before .before .before .before .before in let
+    c26 = c24 .before .before in let c36 = c26 .before .before .before .before .before .before .before .before .before .before in
+    λ e X P.
+    let I = input-by (c26 .input-of .ensures P) (c24 .input .given .1) in
+    c4 .compose-over .ensures e _ _ P (row-fits (λ i. omega (arith, c36 .shared-slice-known2 .given i)) X) (composed-as (I .is) (c18 .compose-value .ensures
+    (not-false _ (c9 .if2 .left)) X (I .input))))

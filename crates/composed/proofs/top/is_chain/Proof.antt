@@ -8,10 +8,10 @@ use Rattle.composed.proofs.top.is_chain.Statement.{statement}
 use Rattle.composed.proofs.top.is_chain.Tie as tie
 
 abbrev Inv-loop : tie.InvT-loop
-Inv-loop plan at₀ at = SelectorAt plan at
+Inv-loop plan d₀ d = SelectorAt plan (d .at)
 
 abbrev μ-loop : tie.MeasureT-loop
-μ-loop plan at₀ at = length plan - at
+μ-loop plan d₀ d = length plan - d .at
 
 pub is-chain-spec : {M : Type 1} → statement M
 is-chain-spec =
@@ -24,9 +24,17 @@ is-chain-spec =
     (λ c. search needs)
     (λ c. search needs)
     (λ c. search needs)
-    (λ c. let P = c .before .before .before .before .loop .inv in cast-falls P (is-cast (c .before .before .before .head .ensures P) (c .before .input .given .1)))
-    (λ c. let P = c .before .before .before .before .loop .inv in is-cast (c .before .before .before .head .ensures P) (c .before .input .given .1) .input)
+    (λ c.
+    let c1 = c .before in let c3 = c1 .before .before in let c4 = c3 .before in
+    let P = c4 .loop .inv in cast-falls P (is-cast (c3 .head .ensures P) (c1 .input .given .1)))
+    (λ c.
+    let c1 = c .before in let c3 = c1 .before .before in let c4 = c3 .before in
+    let P = c4 .loop .inv in is-cast (c3 .head .ensures P) (c1 .input .given .1) .input)
     (λ c. search needs)
-    (λ c. let P = c .before .before .before .before .loop .inv in rename-falls P (is-rename (c .before .before .before .head .ensures P) (c .before .input2 .given .1)))
-    (λ c. let P = c .before .before .before .before .loop .inv in is-rename (c .before .before .before .head .ensures P) (c .before .input2 .given .1) .input)
+    (λ c.
+    let c1 = c .before in let c3 = c1 .before .before in let c4 = c3 .before in
+    let P = c4 .loop .inv in rename-falls P (is-rename (c3 .head .ensures P) (c1 .input2 .given .1)))
+    (λ c.
+    let c1 = c .before in let c3 = c1 .before .before in let c4 = c3 .before in
+    let P = c4 .loop .inv in is-rename (c3 .head .ensures P) (c1 .input2 .given .1) .input)
     (λ c. search needs))

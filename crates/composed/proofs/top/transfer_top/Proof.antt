@@ -11,17 +11,44 @@ transfer-top-spec =
     (tie.spec
     (λ c κs. search needs)
     (λ c κs. search needs)
-    (λ c κs. (c .before .before .before .before .before .before .before .before .before .before .pre .1 .0, (c .before .before .before .before .before .before .before .before .before .before .pre .1 .1 .0 .0, (c .before .before .before .before .before .before .before .before .before .before .pre .1 .1 .0 .1, c .before .before .before .before .before .before .before .before .before .before .pre .0))))
-    (λ c κs. (c .before .before .before .before .before .before .before .before .before .before .before .before .pre .0, ((_, c .before .indexed-value .ensures (c .before .before .before .before .before .before .before .before .before .before .before .before .pre .1 .0)), (c .before .before .before .before .before .before .before .before .before .before .before .before .pre .1 .1 .1 .0, c .before .before .before .before .before .before .before .before .before .before .before .before .pre .1 .1 .1 .1))))
+    (λ c κs.
+    let c12 = c .before .before .before .before .before .before .before .before .before .before .before .before in
+    (c12 .pre .1 .0, (c12 .pre .1 .1 .0 .0, (c12 .pre .1 .1 .0 .1, c12 .pre .0))))
+    (λ c κs.
+    let c1 = c .before in let c14 = c1 .before .before .before .before .before .before .before .before .before .before .before .before .before in
+    (c14 .pre .0, ((_, c1 .indexed-value .ensures (c14 .pre .1 .0)), (c14 .pre .1 .1 .1 .0, c14 .pre .1 .1 .1 .1))))
     (λ c. search needs)
-    (λ c. λ X P. c .before .before .transfer .ensures (X .values .values) P (taken-node (X .values .values) (c .before .before .before .before .before .taken-position .ensures P) (c .before .before .before .before .indexed-value .ensures X)))
+    (λ c.
+    let c2 = c .before .before in let c4 = c2 .before .before in let c6 = c4 .before .before in
+    λ X P. c2 .transfer .ensures (X .values .values) P (taken-node (X .values .values) (c6 .taken-position .ensures P) (c4 .indexed-value .ensures X)))
     (λ c. search needs)
     (λ c. search needs)
     (λ c κs. search needs)
     (λ c. search needs)
     (λ c. search needs)
-    (λ c κs. let P = c .before .before .before .before .before .before .before .before .before .before .before .before .before .before .before .before .pre .1 .1 .1 .0 in
-    (c .before .before .before .before .before .before .before .before .before .before .before .before .before .before .before .before .pre .0, (c .before .before .before .before .before .before .before .before .before .before .before .before .before .before .before .before .pre .1 .0, (c .before .before .before .before .before .before .before .before .before .before .before .before .before .before .before .before .pre .1 .1 .0, ((P, input-by (c .before .before .before .before .input-of .ensures P) (c .before .before .input .given .1)), (omega (arith, c .before .before .before .before .before .if3 .left), c .before .before .before .before .before .before .before .before .before .before .before .before .before .before .before .before .pre .1 .1 .1 .1 .0, c .before .before .before .before .before .before .before .before .before .before .before .before .before .before .before .before .pre .1 .1 .1 .1 .1, omega (arith, c .before .before .before .before .before .before .if2 .left)))))))
+    (λ c κs.
+    let c2 = c .before .before in let c4 = c2 .before .before in let c5 = c4 .before in let c6 = c5 .before in let c18 =
+    c6 .before .before .before .before .before .before .before .before .before .before .before .before in
+    let P = c18 .pre .1 .1 .1 .0 in (
+      c18 .pre .0,
+      (
+        c18 .pre .1 .0,
+        (
+          c18 .pre .1 .1 .0,
+          (
+            (P, input-by (c4 .input-of .ensures P) (c2 .input .given .1)),
+            (
+              omega (arith, c5 .if3 .left),
+              c18 .pre .1 .1 .1 .1 .0,
+              c18 .pre .1 .1 .1 .1 .1,
+              omega (arith, c6 .if2 .left),
+            ),
+          ),
+        ),
+      ),
+    ))
     (λ c. search needs)
     (λ c. search needs)
-    (λ c. λ X P. c .before .before .over-input .ensures X P (input-by (c .before .before .before .before .before .before .before .input-of .ensures P) (c .before .before .before .before .before .input .given .1))))
+    (λ c.
+    let c2 = c .before .before in let c5 = c2 .before .before .before in let c7 = c5 .before .before in
+    λ X P. c2 .over-input .ensures X P (input-by (c7 .input-of .ensures P) (c5 .input .given .1))))

@@ -13,6 +13,8 @@ transfer-few-spec =
     (λ c. search needs)
     (λ c. search needs)
     (λ c. search needs)
-    (λ c κs. (c .before .before .before .before .before .before .before .before .pre .0, (c .before .before .before .before .before .before .before .before .pre .1 .0, ((row-indexed-none refl, omega arith), (c .before .before .before .before .before .before .before .before .pre .1 .1 .0, (c .before .before .before .before .before .before .before .before .pre .1 .1 .1 .0, c .before .before .before .before .before .before .before .before .pre .1 .1 .1 .1, omega arith))))))
+    (λ c κs.
+    let c8 = c .before .before .before .before .before .before .before .before in
+    (c8 .pre .0, (c8 .pre .1 .0, ((row-indexed-none refl, omega arith), (c8 .pre .1 .1 .0, (c8 .pre .1 .1 .1 .0, c8 .pre .1 .1 .1 .1, omega arith))))))
     (λ c. search needs)
     (λ c. search needs))

@@ -14,7 +14,7 @@ use Rattle.defaults.proofs.read.read_entries.Reads as reads
 use Rattle.defaults.proofs.read.read_entries.Lts as lts
 use Rattle.defaults.proofs.index.clear.Reads as clear-reads
 use Rattle.defaults.proofs.index.push.Reads as push-reads
-use Rattle.defaults.proofs.read.find_indexed.Reads as find-indexed-reads
+use Rattle.defaults.proofs.read.find_entry.Reads as find-entry-reads
 use Rattle.defaults.proofs.read.is_found.Reads as is-found-reads
 use Rattle.defaults.proofs.read.read_entry.Reads as read-entry-reads
 
@@ -38,8 +38,8 @@ read-entry-requires c κs = search needs
 enum-known-owner : tie.Need-enum-known-owner Inv-loop μ-loop
 enum-known-owner c = search needs
 
-find-indexed-requires : tie.Need-find-indexed-requires Inv-loop μ-loop
-find-indexed-requires c κs = c .before .before .before .before .before .before .loop .inv .1 .chained .inside
+find-entry-requires : tie.Need-find-entry-requires Inv-loop μ-loop
+find-entry-requires c κs = c .before .before .before .before .before .before .loop .inv .1 .chained .inside
 
 is-found-requires : tie.Need-is-found-requires Inv-loop μ-loop
 is-found-requires c κs = search needs
@@ -51,7 +51,7 @@ returns : tie.Need-returns Inv-loop μ-loop
 returns c =
     let c1 = c .before in let c2 = c1 .before in let c5 = c2 .before .before .before in let c7 = c5 .before .before in let c8 = c7 .before in
     let c9 = c8 .before in (
-      filling-repeated (c9 .loop .inv .1) (c8 .loop-test .taken) (c7 .read-entry .ensures) (c5 .owner .given .1) (c2 .find-indexed .ensures)
+      filling-repeated (c9 .loop .inv .1) (c8 .loop-test .taken) (c7 .read-entry .ensures) (c5 .owner .given .1) (c2 .find-entry .ensures)
           (c1 .is-found .ensures) (c .if1 .taken),
       λ e h. clash (cc),
     )
@@ -90,7 +90,7 @@ loop-again c =
       ap (λ (l : List ℕ). length l) (c2 .push .ensures) ∙ pushed-length (length (now (c20 .args .s))) (c13 .loop .at) (c9 .owner .given .0 .1 .0)
           (c13 .loop .index) ∙ c13 .loop .inv .0,
       filling-more (c13 .loop .inv .1) (c12 .loop-test .taken) (c11 .read-entry .ensures) (c9 .owner .given .1)
-          (c6 .find-indexed .ensures) (c5 .is-found .ensures) (c4 .if1 .left) (c2 .push .ensures),
+          (c6 .find-entry .ensures) (c5 .is-found .ensures) (c4 .if1 .left) (c2 .push .ensures),
     )
 
 same-length-3 : tie.Need-same-length-3 Inv-loop μ-loop
@@ -109,7 +109,7 @@ read-entries-spec =
     loop-holds
     read-entry-requires
     enum-known-owner
-    find-indexed-requires
+    find-entry-requires
     is-found-requires
     same-length
     returns

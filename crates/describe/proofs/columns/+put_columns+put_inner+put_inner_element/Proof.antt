@@ -66,19 +66,43 @@ put-inner-element-below t =
     put-inner-element.Pre
 
 abbrev put-columns-Inv-loop : put-columns-lts.InvT-loop
-put-columns-Inv-loop s v depth n level at₀ i₀ t13 at i = (i ≤ n) × (n < 65536)
+put-columns-Inv-loop s v depth n level d₀ i₀ t13 d i = (i ≤ n) × (n < 65536)
 
 abbrev put-columns-μ-loop : put-columns-lts.MeasureT-loop
-put-columns-μ-loop s v depth n level at₀ i₀ t13 at i = n - i
+put-columns-μ-loop s v depth n level d₀ i₀ t13 d i = n - i
 
 abbrev put-columns-claims : ℕ → put-columns-lts.Claims
-put-columns-claims t = (label-reads.Asked, label-reads.Learnt, put-start-reads.Asked, put-start-reads.Learnt, put-column-reads.Asked, put-column-reads.Learnt, put-reads.Asked, put-reads.Learnt, deeper-reads.Asked, deeper-reads.Learnt, put-inner-below t, put-inner.Post, pass-type-reads.Asked, pass-type-reads.Learnt)
+put-columns-claims t = (
+  label-reads.Asked,
+  label-reads.Learnt,
+  put-start-reads.Asked,
+  put-start-reads.Learnt,
+  put-column-reads.Asked,
+  put-column-reads.Learnt,
+  put-reads.Asked,
+  put-reads.Learnt,
+  deeper-reads.Asked,
+  deeper-reads.Learnt,
+  put-inner-below t,
+  put-inner.Post,
+  pass-type-reads.Asked,
+  pass-type-reads.Learnt,
+)
 
 abbrev put-inner-claims : ℕ → put-inner-lts.Claims
 put-inner-claims t = (head-reads.Asked, head-reads.Learnt, put-columns-below t, put-columns.Post, put-inner-element-below t, put-inner-element.Post)
 
 abbrev put-inner-element-claims : ℕ → put-inner-element-lts.Claims
-put-inner-element-claims t = (element-label-reads.Asked, element-label-reads.Learnt, put-element-reads.Asked, put-element-reads.Learnt, element-level-reads.Asked, element-level-reads.Learnt, put-inner-below t, put-inner.Post)
+put-inner-element-claims t = (
+  element-label-reads.Asked,
+  element-label-reads.Learnt,
+  put-element-reads.Asked,
+  put-element-reads.Learnt,
+  element-level-reads.Asked,
+  element-level-reads.Learnt,
+  put-inner-below t,
+  put-inner.Post,
+)
 
 put-inner-element-element-label-requires :
     (t : ℕ) → put-inner-element-lts.Need-element-label-requires (put-inner-element-claims t) (put-inner-element-at t) put-inner-element.Post

@@ -1,4 +1,5 @@
--- The proof of the cycle of calls {put_content, put_elements, put_fields, put_list, put_value}. The measure is 5 for each level left, and 0, 2, 2, 3 and 1 more. Assumes nothing.
+-- The proof of the cycle of calls {put_content, put_elements, put_fields, put_list, put_value}. The measure is 5 for each level left, and 0, 2, 2, 3 and 1
+-- more. Assumes nothing.
 use borrow.Author.Needs.{needs}
 use Prim.Native.Nat.{ℕ, _<_, _≤_, _+_, _-_, _*_}
 use borrow.Fn.Kinds.{In}
@@ -96,31 +97,76 @@ put-value-below t =
     and 2 put-value-kinds.ps (falls 2 put-value-kinds.ps _<_ μ-put-value t) put-value.Pre
 
 abbrev put-content-claims : ℕ → put-content-lts.Claims
-put-content-claims t = (head-reads.Asked, head-reads.Learnt, put-leaf-line-reads.Asked, put-leaf-line-reads.Learnt, put-reads.Asked, put-reads.Learnt, deeper-reads.Asked, deeper-reads.Learnt, put-fields-below t, put-fields.Post, put-list-below t, put-list.Post, put-elements-below t, put-elements.Post)
+put-content-claims t = (
+  head-reads.Asked,
+  head-reads.Learnt,
+  put-leaf-line-reads.Asked,
+  put-leaf-line-reads.Learnt,
+  put-reads.Asked,
+  put-reads.Learnt,
+  deeper-reads.Asked,
+  deeper-reads.Learnt,
+  put-fields-below t,
+  put-fields.Post,
+  put-list-below t,
+  put-list.Post,
+  put-elements-below t,
+  put-elements.Post,
+)
 
 abbrev put-elements-claims : ℕ → put-elements-lts.Claims
-put-elements-claims t = (element-label-reads.Asked, element-label-reads.Learnt, put-start-reads.Asked, put-start-reads.Learnt, put-type-reads.Asked, put-type-reads.Learnt, put-value-below t, put-value.Post)
+put-elements-claims t = (
+  element-label-reads.Asked,
+  element-label-reads.Learnt,
+  put-start-reads.Asked,
+  put-start-reads.Learnt,
+  put-type-reads.Asked,
+  put-type-reads.Learnt,
+  put-value-below t,
+  put-value.Post,
+)
 
 abbrev put-fields-claims : ℕ → put-fields-lts.Claims
-put-fields-claims t = (label-reads.Asked, label-reads.Learnt, put-start-reads.Asked, put-start-reads.Learnt, put-column-reads.Asked, put-column-reads.Learnt, put-value-below t, put-value.Post, pass-type-reads.Asked, pass-type-reads.Learnt)
+put-fields-claims t = (
+  label-reads.Asked,
+  label-reads.Learnt,
+  put-start-reads.Asked,
+  put-start-reads.Learnt,
+  put-column-reads.Asked,
+  put-column-reads.Learnt,
+  put-value-below t,
+  put-value.Post,
+  pass-type-reads.Asked,
+  pass-type-reads.Learnt,
+)
 
 abbrev put-list-claims : ℕ → put-list-lts.Claims
-put-list-claims t = (short-reads.Asked, short-reads.Learnt, put-reads.Asked, put-reads.Learnt, put-count-reads.Asked, put-count-reads.Learnt, put-elements-below t, put-elements.Post)
+put-list-claims t = (
+  short-reads.Asked,
+  short-reads.Learnt,
+  put-reads.Asked,
+  put-reads.Learnt,
+  put-count-reads.Asked,
+  put-count-reads.Learnt,
+  put-elements-below
+      t,
+  put-elements.Post,
+)
 
 abbrev put-value-claims : ℕ → put-value-lts.Claims
 put-value-claims t = (read-presence-reads.Asked, read-presence-reads.Learnt, put-reads.Asked, put-reads.Learnt, put-content-below t, put-content.Post)
 
 abbrev put-elements-Inv-loop : put-elements-lts.InvT-loop
-put-elements-Inv-loop lay v depth n rec level e at₀ i₀ at i = i ≤ n
+put-elements-Inv-loop lay v depth n rec level e d₀ i₀ d i = i ≤ n
 
 abbrev put-elements-μ-loop : put-elements-lts.MeasureT-loop
-put-elements-μ-loop lay v depth n rec level e at₀ i₀ at i = n - i
+put-elements-μ-loop lay v depth n rec level e d₀ i₀ d i = n - i
 
 abbrev put-fields-Inv-loop : put-fields-lts.InvT-loop
-put-fields-Inv-loop lay v depth n rec level from₀ at₀ i₀ from at i = (i ≤ n) × (n < 65536)
+put-fields-Inv-loop lay v depth n rec level f₀ d₀ i₀ f d i = (i ≤ n) × (n < 65536)
 
 abbrev put-fields-μ-loop : put-fields-lts.MeasureT-loop
-put-fields-μ-loop lay v depth n rec level from₀ at₀ i₀ from at i = n - i
+put-fields-μ-loop lay v depth n rec level f₀ d₀ i₀ f d i = n - i
 
 pub +put-content+put-elements+put-fields+put-list+put-value-spec : {M : Type 1} → statement M
 +put-content+put-elements+put-fields+put-list+put-value-spec =

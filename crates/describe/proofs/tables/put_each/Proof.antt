@@ -5,10 +5,10 @@ use Rattle.describe.proofs.tables.put_each.Statement.{statement}
 use Rattle.describe.proofs.tables.put_each.Tie as tie
 
 abbrev Inv-loop : tie.InvT-loop
-Inv-loop s t n at₀ i₀ at i = (i ≤ n) × (n < 65536)
+Inv-loop s t n d₀ i₀ d i = (i ≤ n) × (n < 65536)
 
 abbrev μ-loop : tie.MeasureT-loop
-μ-loop s t n at₀ i₀ at i = n - i
+μ-loop s t n d₀ i₀ d i = n - i
 
 pub put-each-spec : {M : Type 1} → statement M
 put-each-spec =

@@ -5,10 +5,10 @@ use Rattle.describe.proofs.tables.put_entries.Statement.{statement}
 use Rattle.describe.proofs.tables.put_entries.Tie as tie
 
 abbrev Inv-loop : tie.InvT-loop
-Inv-loop s version n at₀ i₀ at i = (i ≤ n) × (n < 65536)
+Inv-loop s version n d₀ i₀ d i = (i ≤ n) × (n < 65536)
 
 abbrev μ-loop : tie.MeasureT-loop
-μ-loop s version n at₀ i₀ at i = n - i
+μ-loop s version n d₀ i₀ d i = n - i
 
 pub put-entries-spec : {M : Type 1} → statement M
 put-entries-spec =

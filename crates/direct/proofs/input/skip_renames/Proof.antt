@@ -7,10 +7,10 @@ use Rattle.direct.proofs.input.skip_renames.Statement.{statement}
 use Rattle.direct.proofs.input.skip_renames.Tie as tie
 
 abbrev Inv-loop : tie.InvT-loop
-Inv-loop plan at₀ at = Inside plan at₀ at
+Inv-loop plan d₀ d = Inside plan (d₀ .at) (d .at)
 
 abbrev μ-loop : tie.MeasureT-loop
-μ-loop plan at₀ at = length plan - at
+μ-loop plan d₀ d = length plan - d .at
 
 pub skip-renames-spec : {M : Type 1} → statement M
 skip-renames-spec =
@@ -21,6 +21,10 @@ skip-renames-spec =
     (λ c. inside-start (c .before .pre))
     (λ c κs. search needs)
     (λ c. search needs)
-    (λ c. inside-falls (c .before .before .before .before .loop .inv) (is-rename (c .before .before .before .head .ensures (c .before .before .before .before .loop .inv .here)) (c .before .input .given .1)))
-    (λ c. inside-more (c .before .before .before .before .loop .inv) (is-rename (c .before .before .before .head .ensures (c .before .before .before .before .loop .inv .here)) (c .before .input .given .1)))
+    (λ c.
+    let c1 = c .before in let c3 = c1 .before .before in let c4 = c3 .before in
+    inside-falls (c4 .loop .inv) (is-rename (c3 .head .ensures (c4 .loop .inv .here)) (c1 .input .given .1)))
+    (λ c.
+    let c1 = c .before in let c3 = c1 .before .before in let c4 = c3 .before in
+    inside-more (c4 .loop .inv) (is-rename (c3 .head .ensures (c4 .loop .inv .here)) (c1 .input .given .1)))
     (λ c. inside-end (c .before .before .loop .inv)))

@@ -8,10 +8,10 @@ use Rattle.index.proofs.columns.index_columns.Statement.{statement}
 use Rattle.index.proofs.columns.index_columns.Tie as tie
 
 abbrev Inv-loop : tie.InvT-loop
-Inv-loop s v n stride starts₀ at₀ i₀ j₀ starts at i j = Filling v s n at₀ stride at i j starts × (length starts ≡ length starts₀)
+Inv-loop s v n stride starts₀ c₀ i₀ j₀ starts c i j = Filling v s n (c₀ .at) stride (c .at) i j starts × (length starts ≡ length starts₀)
 
 abbrev μ-loop : tie.MeasureT-loop
-μ-loop s v n stride starts₀ at₀ i₀ j₀ starts at i j = length starts₀ - j
+μ-loop s v n stride starts₀ c₀ i₀ j₀ starts c i j = length starts₀ - j
 
 pub index-columns-spec : {M : Type 1} → statement M
 index-columns-spec =
@@ -21,21 +21,32 @@ index-columns-spec =
     μ-loop
     (λ c. (filling-start _, refl))
     (λ c. search needs)
-    (λ c. (c .before .before .loop .inv .0 .room, filling-end (c .before .before .loop .inv .0)))
+    (λ c.
+    let c3 = c .before .before .before in
+    (c3 .loop .inv .0 .room, filling-end (c3 .loop .inv .0)))
     (λ c. search needs)
     (λ c. search needs)
     (λ c. search needs)
     (λ c. search needs)
     (λ c. search needs)
     (λ c. search needs)
-    (λ c. (filling-room (c .before .before .before .loop .inv .0) (c .before .before .loop-test .taken), filling-last (c .before .before .before .loop .inv .0) (c .before .before .loop-test .taken)))
+    (λ c.
+    let c4 = c .before .before .before .before in let c5 = c4 .before in
+    (filling-room (c5 .loop .inv .0) (c4 .loop-test .taken), filling-last (c5 .loop .inv .0) (c4 .loop-test .taken)))
     (λ c κs. search needs)
     (λ c. search needs)
     (λ c. search needs)
     (λ c. search needs)
-    (λ c. (filling-room (c .before .before .before .before .before .before .loop .inv .0) (c .before .before .before .before .before .loop-test .taken), filling-last (c .before .before .before .before .before .before .loop .inv .0) (c .before .before .before .before .before .loop-test .taken)))
+    (λ c.
+    let c7 = c .before .before .before .before .before .before .before in let c8 = c7 .before in
+    (filling-room (c8 .loop .inv .0) (c7 .loop-test .taken), filling-last (c8 .loop .inv .0) (c7 .loop-test .taken)))
     (λ c. search needs)
     (λ c. search needs)
-    (λ c. (filling-more (c .before .before .before .before .before .before .before .loop .inv .0) (c .before .before .before .before .before .before .loop-test .taken) (c .before .before .before .before .if2 .left) (c .before .before .before .pass-columns .ensures) (c .before .e .given .1), length-set (c .before .before .before .before .before .before .before .loop .starts) (c .before .before .before .before .before .before .before .loop .j) (c .before .before .before .before .before .before .before .loop .at) ∙ c .before .before .before .before .before .before .before .loop .inv .1))
+    (λ c.
+    let c1 = c .before in let c3 = c1 .before .before in let c4 = c3 .before in let c8 = c4 .before .before .before .before in let c9 = c8 .before in (
+      filling-more (c9 .loop .inv .0) (c8 .loop-test .taken) (c4 .if2 .left) (c3 .pass-columns .ensures) (c1 .e .given .1),
+      length-set (c9 .loop .starts)
+          (c9 .loop .j) (c9 .loop .c .at) ∙ c9 .loop .inv .1,
+    ))
     (λ c. search needs)
     (λ c. (c .before .loop .inv .0 .room, filling-end (c .before .loop .inv .0))))

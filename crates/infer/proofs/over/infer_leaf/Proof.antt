@@ -14,13 +14,23 @@ infer-leaf-spec =
     (λ c. search needs)
     (λ c κs. search needs)
     (λ c. search needs)
-    (λ c κs. let (X, (P, L)) = c .before .before .before .before .before .before .before .before .before .before .before .before .pre in let K = taken-at (c .before .before .before .before .take-position .ensures X P) (c .before .before .d .given .1) in (K .type, (L .0, L .2, L .3)))
+    (λ c κs.
+    let c2 = c .before .before in let c4 = c2 .before .before in let c12 = c4 .before .before .before .before .before .before .before .before in
+    let (X, (P, L)) = c12 .pre in let K = taken-at (c4 .take-position .ensures X P) (c2 .d .given .1) in (K .type, (L .0, L .2, L .3)))
     (λ c. search needs)
     (λ c. search needs)
-    (λ c κs. let (X, (P, L)) = c .before .before .before .before .before .before .before .before .before .pre in let K = is-constant (c .before .before .before .before .head .ensures P) (c .before .before .t .given .1) in (K .type, (L .1, L .2, L .3)))
+    (λ c κs.
+    let c2 = c .before .before in let c4 = c2 .before .before in let c9 = c4 .before .before .before .before .before in
+    let (X, (P, L)) = c9 .pre in let K = is-constant (c4 .head .ensures P) (c2 .t .given .1) in (K .type, (L .1, L .2, L .3)))
     (λ c. search needs)
-    (λ c. λ X P. let K = taken-at (c .before .before .before .before .before .before .before .take-position .ensures X P) (c .before .before .before .before .before .d .given .1) in position-infers K (c .before .before .copy-type .ensures (K .type)) (c .before .before .before .before .before .before .before .before .before .before .before .before .before .before .before .pre .1 .1 .4))
+    (λ c.
+    let c2 = c .before .before in let c5 = c2 .before .before .before in let c7 = c5 .before .before in
+    let c15 = c7 .before .before .before .before .before .before .before .before in
+    λ X P. let K = taken-at (c7 .take-position .ensures X P) (c5 .d .given .1) in position-infers K (c2 .copy-type .ensures (K .type)) (c15 .pre .1 .1 .4))
     (λ c. search needs)
     (λ c. search needs)
-    (λ c. λ X P. let K = is-constant (c .before .before .before .before .before .before .before .head .ensures P) (c .before .before .before .before .before .t .given .1) in constant-infers (X .fields) K (c .before .before .copy-type2 .ensures (K .type)) (c .before .before .before .before .before .before .before .before .before .before .before .before .pre .1 .1 .4))
+    (λ c.
+    let c2 = c .before .before in let c5 = c2 .before .before .before in let c7 = c5 .before .before in
+    let c12 = c7 .before .before .before .before .before in
+    λ X P. let K = is-constant (c7 .head .ensures P) (c5 .t .given .1) in constant-infers (X .fields) K (c2 .copy-type2 .ensures (K .type)) (c12 .pre .1 .1 .4))
     (λ c. search needs))

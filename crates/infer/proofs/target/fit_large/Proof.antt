@@ -10,6 +10,7 @@ fit-large-spec =
     (tie.spec
     (λ c. search needs)
     (λ c. search needs)
-    (λ c κs. let (a, b) = c .before .before .before .before .before .before .pre .1 in
-    (c .before .before .before .before .before .before .pre .0, (a, b, omega arith, omega arith)))
-    (λ c. search needs))
+    (λ c κs. let (A, (a, b)) = c .before .before .before .before .before .before .pre in (A .scoped, (A .selector, (a, b, omega arith, omega arith))))
+    (λ c. search needs)
+    (λ c κs. let A = c .before .before .before .before .before .before .before .before .before .before .pre .0 in let (b, I) = c .before .before .before .compose-type .ensures (A .scoped) (A .selector) in (A .selector, (A .type, (_, b, I))))
+    (λ c. λ A. let (b, I) = c .before .before .before .before .compose-type .ensures (A .scoped) (A .selector) in c .fit-inferred .ensures _ b I (A .selector) (A .type)))

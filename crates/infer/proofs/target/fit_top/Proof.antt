@@ -7,4 +7,10 @@ use Rattle.infer.proofs.target.fit_top.Tie as tie
 pub fit-top-spec : {M : Type 1} → statement M
 fit-top-spec =
     tie.close
-    (tie.spec (λ c κs. search needs) (λ c. search needs) (λ c. search needs) (λ c κs. search needs) (λ c. λ A. given-as (c .before .before .before .fit-column .ensures A) (c .before .e .given .1)) (λ c. search needs))
+    (tie.spec
+    (λ c κs. search needs)
+    (λ c. search needs)
+    (λ c. search needs)
+    (λ c κs. search needs)
+    (λ c. λ A. given-as (c .before .before .before .fit-column .ensures A) (c .before .e .given .1))
+    (λ c. search needs))

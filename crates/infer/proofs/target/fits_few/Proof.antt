@@ -14,8 +14,17 @@ fits-few-spec =
     (tie.spec
     (λ c. search needs)
     (λ c. search needs)
-    (λ c κs. (plan-asks (c .before .before .before .before .pre .0) (c .before .before .before .before .pre .1 .0) (c .before .before .before .before .pre .1 .1 .0) (indexed-none refl) (omega arith) refl (c .before .before .before .before .pre .1 .1 .1 .2), (c .before .before .before .before .pre .1 .1 .1 .0, c .before .before .before .before .pre .1 .1 .1 .1)))
+    (λ c κs.
+    let c4 = c .before .before .before .before in (
+      plan-asks (c4 .pre .0) (c4 .pre .1 .0) (c4 .pre .1 .1 .0) (indexed-none refl) (omega arith) refl (c4 .pre .1 .1 .1 .2),
+      (
+        c4 .pre .1 .1 .1 .0,
+        c4 .pre .1 .1 .1 .1,
+      ),
+    ))
     (λ c. search needs)
     (λ c. search needs)
-    (λ c. λ e P S Q. gives-to (c .before .before .fit-tops .ensures (plan-asks P S Q (indexed-none refl) (omega arith) refl (c .before .before .before .before .before .before .before .pre .1 .1 .1 .2))) (c .enum-told .given .1) .typed)
+    (λ c.
+    let c2 = c .before .before in let c7 = c2 .before .before .before .before .before in
+    λ e P S Q. gives-to (c2 .fit-tops .ensures (plan-asks P S Q (indexed-none refl) (omega arith) refl (c7 .pre .1 .1 .1 .2))) (c .enum-told .given .1) .typed)
     (λ c. λ e P S Q. true≠false e refl))

@@ -12,11 +12,14 @@ same-label-spec =
     (tie.spec
     (λ c κs. search needs)
     (λ c. search needs)
-    (λ c κs. let N = named-to (c .before .before .before .infer-name .ensures (c .before .before .before .before .before .before .before .before .pre .0) (c .before .before .before .before .before .before .before .before .pre .1 .0)) (c .before .name .given .1) in
-    ((N .name, N .named), c .before .before .before .before .before .before .before .before .pre .1 .1))
+    (λ c κs.
+    let c1 = c .before in let c3 = c1 .before .before in let c8 = c3 .before .before .before .before .before in
+    let N = named-to (c3 .infer-name .ensures (c8 .pre .0) (c8 .pre .1 .0)) (c1 .name .given .1) in
+    ((N .name, N .named), c8 .pre .1 .1))
     (λ c. search needs)
     (λ c. search needs)
-    (λ c. λ e X P.
+    (λ c.
+    λ e X P.
     let N = named-to (c .before .before .before .before .infer-name .ensures X P) (c .before .before .name .given .1) in
     label-is N (c .same-name .ensures (N .name) (N .named)) e)
     (λ c. λ e X P a h. true≠false e refl)

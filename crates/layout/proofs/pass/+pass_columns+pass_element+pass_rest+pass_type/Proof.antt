@@ -80,10 +80,10 @@ pass-type-below t =
     and 1 pass-type-kinds.ps (falls 1 pass-type-kinds.ps _<_ μ-pass-type t) pass-type.Pre
 
 abbrev pass-columns-Inv-loop : pass-columns-lts.InvT-loop
-pass-columns-Inv-loop s v depth n at₀ i₀ at i = Passing v depth s n at₀ i at
+pass-columns-Inv-loop s v depth n next₀ i₀ next i = Passing v depth s n (next₀ .at) i (next .at)
 
 abbrev pass-columns-μ-loop : pass-columns-lts.MeasureT-loop
-pass-columns-μ-loop s v depth n at₀ i₀ at i = n - i
+pass-columns-μ-loop s v depth n next₀ i₀ next i = n - i
 
 abbrev pass-columns-claims : ℕ → pass-columns-lts.Claims
 pass-columns-claims t = (pass-label-reads.Asked, pass-label-reads.Learnt, pass-type-below t, pass-type.Post)
@@ -92,7 +92,20 @@ abbrev pass-element-claims : ℕ → pass-element-lts.Claims
 pass-element-claims t = (pass-element-label-reads.Asked, pass-element-label-reads.Learnt, pass-type-below t, pass-type.Post)
 
 abbrev pass-rest-claims : ℕ → pass-rest-lts.Claims
-pass-rest-claims t = (pass-datetime-reads.Asked, pass-datetime-reads.Learnt, short-reads.Asked, short-reads.Learnt, pass-columns-below t, pass-columns.Post, pass-element-below t, pass-element.Post, pass-long-reads.Asked, pass-long-reads.Learnt, pass-decimal-reads.Asked, pass-decimal-reads.Learnt)
+pass-rest-claims t = (
+  pass-datetime-reads.Asked,
+  pass-datetime-reads.Learnt,
+  short-reads.Asked,
+  short-reads.Learnt,
+  pass-columns-below t,
+  pass-columns.Post,
+  pass-element-below t,
+  pass-element.Post,
+  pass-long-reads.Asked,
+  pass-long-reads.Learnt,
+  pass-decimal-reads.Asked,
+  pass-decimal-reads.Learnt,
+)
 
 abbrev pass-type-claims : ℕ → pass-type-lts.Claims
 pass-type-claims t = (byte-reads.Asked, byte-reads.Learnt, plain-leaf-reads.Asked, plain-leaf-reads.Learnt, pass-rest-below t, pass-rest.Post)
@@ -116,7 +129,7 @@ pub +pass-columns+pass-element+pass-rest+pass-type-spec : {M : Type 1} → state
     (λ c. omega arith)
     (λ c. omega arith)
     (λ c. search passing-more)
-    (λ c. search passing-all))
+    (λ c. passing-all _ _ _ _ _ _ _ (c .before .loop .inv) (c .loop-test .left)))
     (λ t. pass-element-lts.spec (pass-element-claims t)
     (pass-element-at t)
     pass-element.Post

@@ -87,10 +87,10 @@ read-type-below t =
     and 2 read-type-kinds.ps (falls 2 read-type-kinds.ps _<_ μ-read-type t) read-type.Pre
 
 abbrev read-columns-Inv-loop : read-columns-lts.InvT-loop
-read-columns-Inv-loop s v rule inner depth n c seen₀ at₀ i₀ seen at i = Reading v rule inner depth s n (c .at) seen₀ i at seen
+read-columns-Inv-loop s v rule inner depth n c seen₀ d₀ i₀ seen d i = Reading v rule inner depth s n (c .at) seen₀ i (d .at) seen
 
 abbrev read-columns-μ-loop : read-columns-lts.MeasureT-loop
-read-columns-μ-loop s v rule inner depth n c seen₀ at₀ i₀ seen at i = n - i
+read-columns-μ-loop s v rule inner depth n c seen₀ d₀ i₀ seen d i = n - i
 
 abbrev read-columns-claims : ℕ → read-columns-lts.Claims
 read-columns-claims t = (label-reads.Asked, label-reads.Learnt, read-type-below t, read-type.Post, is-repeated-reads.Asked, is-repeated-reads.Learnt)
@@ -99,10 +99,32 @@ abbrev read-element-claims : ℕ → read-element-lts.Claims
 read-element-claims t = (pass-element-label-reads.Asked, pass-element-label-reads.Learnt, read-type-below t, read-type.Post)
 
 abbrev read-rest-claims : ℕ → read-rest-lts.Claims
-read-rest-claims t = (pass-datetime-reads.Asked, pass-datetime-reads.Learnt, short-reads.Asked, short-reads.Learnt, read-columns-below t, read-columns.Post, read-element-below t, read-element.Post, pass-long-reads.Asked, pass-long-reads.Learnt, pass-decimal-reads.Asked, pass-decimal-reads.Learnt)
+read-rest-claims t = (
+  pass-datetime-reads.Asked,
+  pass-datetime-reads.Learnt,
+  short-reads.Asked,
+  short-reads.Learnt,
+  read-columns-below t,
+  read-columns.Post,
+  read-element-below t,
+  read-element.Post,
+  pass-long-reads.Asked,
+  pass-long-reads.Learnt,
+  pass-decimal-reads.Asked,
+  pass-decimal-reads.Learnt,
+)
 
 abbrev read-type-claims : ℕ → read-type-lts.Claims
-read-type-claims t = (pass-type-reads.Asked, pass-type-reads.Learnt, byte-reads.Asked, byte-reads.Learnt, plain-leaf-reads.Asked, plain-leaf-reads.Learnt, read-rest-below t, read-rest.Post)
+read-type-claims t = (
+  pass-type-reads.Asked,
+  pass-type-reads.Learnt,
+  byte-reads.Asked,
+  byte-reads.Learnt,
+  plain-leaf-reads.Asked,
+  plain-leaf-reads.Learnt,
+  read-rest-below t,
+  read-rest.Post,
+)
 
 pub +read-columns+read-element+read-rest+read-type-spec : {M : Type 1} → statement M
 +read-columns+read-element+read-rest+read-type-spec =

@@ -9,10 +9,10 @@ use Rattle.layout.proofs.read.repeats.Statement.{statement}
 use Rattle.layout.proofs.read.repeats.Tie as tie
 
 abbrev Inv-loop : tie.InvT-loop
-Inv-loop s v rule depth n l at₀ i₀ at i = Scanning v rule depth (labelAt s l) s n at₀ i at
+Inv-loop s rule depth l v n d₀ i₀ d i = Scanning v rule depth (labelAt s l) s n (d₀ .at) i (d .at)
 
 abbrev μ-loop : tie.MeasureT-loop
-μ-loop s v rule depth n l at₀ i₀ at i = n - i
+μ-loop s rule depth l v n d₀ i₀ d i = n - i
 
 pub repeats-spec : {M : Type 1} → statement M
 repeats-spec =
@@ -33,7 +33,9 @@ repeats-spec =
     (λ c. search scanning-no-type)
     (λ c. search needs)
     (λ c. search scanning-no-label)
-    (λ c. omega arith)
+    (λ c.
+    let test = c .before .before .before .before .before .before .before .before .before .before in
+    omega (arith, test .before .before .before .before .before .good .1 .0, test .loop-test .taken))
     (λ c. omega arith)
     (λ c. search scanning-more)
     (λ c. search scanning-all))

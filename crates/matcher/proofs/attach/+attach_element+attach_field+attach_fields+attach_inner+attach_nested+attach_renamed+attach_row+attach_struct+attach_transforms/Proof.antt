@@ -370,21 +370,21 @@ attach-element-returns t c =
 
 attach-element-put-head-requires : (t : ℕ) → attach-element-lts.Need-put-head-requires (attach-element-claims t) (attach-element-at t) attach-element.Post
 attach-element-put-head-requires t c κs =
-    let c12 = c .before .before .before .before .before .before .before .before .before .before .before .before in
-    omega (arith, extent (c12 .pre .1 .0 .1 .0), c12 .pre .1 .1 .1)
+    let c13 = c .before .before .before .before .before .before .before .before .before .before .before .before .before in
+    omega (arith, extent (c13 .pre .1 .0 .1 .0), c13 .pre .1 .1 .1)
 
 attach-element-add-t26 : (t : ℕ) → attach-element-lts.Need-add-t26 (attach-element-claims t) (attach-element-at t) attach-element.Post
 attach-element-add-t26 t c =
-    let c16 = c .before .before .before .before .before .before .before .before .before .before .before .before .before .before .before .before in
-    omega (arith, extent (c16 .pre .1 .0 .1 .0), c16 .pre .1 .1 .1)
+    let c17 = c .before .before .before .before .before .before .before .before .before .before .before .before .before .before .before .before .before in
+    omega (arith, extent (c17 .pre .1 .0 .1 .0), c17 .pre .1 .1 .1)
 
 attach-element-attach-renamed-requires : (t : ℕ) → attach-element-lts.Need-attach-renamed-requires (attach-element-claims t) (attach-element-at t)
     attach-element.Post
 attach-element-attach-renamed-requires t c κs =
-    let c18 = c .before .before .before .before .before .before .before .before .before .before .before .before .before .before .before .before .before .before
-    in
-    let w = c18 .pre .1 in
-    (omega (arith, c18 .pre .0), (w .0, ((none-at (now (c18 .args .table)), λ l n. absurd (omega (arith, n))), (w .1 .0, w .1 .1))))
+    let c19 = c .before .before .before .before .before .before .before .before .before .before .before .before .before .before .before .before .before
+    .before .before in
+    let w = c19 .pre .1 in
+    (omega (arith, c19 .pre .0), (w .0, ((none-at (now (c19 .args .table)), λ n. absurd (omega (arith, n))), (w .1 .0, w .1 .1))))
 
 attach-element-is-refused-requires : (t : ℕ) → attach-element-lts.Need-is-refused-requires (attach-element-claims t) (attach-element-at t) attach-element.Post
 attach-element-is-refused-requires t c κs = search needs
@@ -397,13 +397,13 @@ attach-element-same-length-2 t c = search needs
 
 attach-element-returns-2 : (t : ℕ) → attach-element-lts.Need-returns-2 (attach-element-claims t) (attach-element-at t) attach-element.Post
 attach-element-returns-2 t c =
-    let c1 = c .before in let c6 = c1 .before .before .before .before .before in let c12 = c6 .before .before .before .before .before .before in let c15 =
-    c12 .before .before .before in let c16 = c15 .before in let c25 = c16 .before .before .before .before .before .before .before .before .before in
+    let c1 = c .before in let c6 = c1 .before .before .before .before .before in let c12 = c6 .before .before .before .before .before .before in let c16 =
+    c12 .before .before .before .before in let c17 = c16 .before in let c26 = c17 .before .before .before .before .before .before .before .before .before in
     λ from f g M P Q lt nm.
-    let a = c25 .args in
+    let a = c26 .args in
     element-stopped (a .build .matching) (a .build .policy) f g (labelAt (now (a .target)) (a .pair .target .label)) (Q .tree) (labelAt (now (a .incoming))
-    (a .pair .incoming .label)) (P .tree) M (c16 .same-element .ensures (labelAt (now (a .incoming)) (a .pair .incoming .label)) (labelAt (now
-    (a .target)) (a .pair .target .label)) refl refl) (c15 .if1 .left) _ _ from _ (c12 .put-head .ensures) (none-is (now (a .table)) 0) _
+    (a .pair .incoming .label)) (P .tree) M (c17 .same-element .ensures (labelAt (now (a .incoming)) (a .pair .incoming .label)) (labelAt (now
+    (a .target)) (a .pair .target .label)) refl refl) (c16 .if1 .left) _ _ from _ (c12 .put-head .ensures) (none-is (now (a .table)) 0) _
     (c6 .attach-renamed .ensures (from + 1) (none-at (now (a .table))) P Q (omega (arith, lt)) nm) (sym (c1 .is-refused .ensures) ∙ c .if2 .taken)
 
 attach-element-is-bare-requires : (t : ℕ) → attach-element-lts.Need-is-bare-requires (attach-element-claims t) (attach-element-at t) attach-element.Post
@@ -412,9 +412,9 @@ attach-element-is-bare-requires t c κs = search needs
 attach-element-put-position-requires : (t : ℕ) → attach-element-lts.Need-put-position-requires (attach-element-claims t) (attach-element-at t)
     attach-element.Post
 attach-element-put-position-requires t c κs =
-    let c28 = c .before .before .before .before .before .before .before .before .before .before .before .before .before .before .before .before .before
-    .before .before .before .before .before .before .before .before .before .before .before in
-    omega (arith, extent (c28 .pre .1 .0 .1 .0), c28 .pre .1 .1 .1)
+    let c29 = c .before .before .before .before .before .before .before .before .before .before .before .before .before .before .before .before .before
+    .before .before .before .before .before .before .before .before .before .before .before .before in
+    omega (arith, extent (c29 .pre .1 .0 .1 .0), c29 .pre .1 .1 .1)
 
 attach-element-same-length-3 : (t : ℕ) → attach-element-lts.Need-same-length-3 (attach-element-claims t) (attach-element-at t) attach-element.Post
 attach-element-same-length-3 t c = search needs
@@ -425,13 +425,13 @@ attach-element-same-length-4 t c = search needs
 attach-element-returns-3 : (t : ℕ) → attach-element-lts.Need-returns-3 (attach-element-claims t) (attach-element-at t) attach-element.Post
 attach-element-returns-3 t c =
     let c2 = c .before .before in let c4 = c2 .before .before in let c5 = c4 .before in let c6 = c5 .before in let c7 = c6 .before in let c12 =
-    c7 .before .before .before .before .before in let c18 = c12 .before .before .before .before .before .before in let c21 = c18 .before .before .before
-    in let c22 = c21 .before in let c31 = c22 .before .before .before .before .before .before .before .before .before in
+    c7 .before .before .before .before .before in let c18 = c12 .before .before .before .before .before .before in let c22 =
+    c18 .before .before .before .before in let c23 = c22 .before in let c32 = c23 .before .before .before .before .before .before .before .before .before in
     λ from f g M P Q lt nm.
-    let a = c31 .args in
+    let a = c32 .args in
     element-left-out (a .build .matching) (a .build .policy) f g (labelAt (now (a .target)) (a .pair .target .label)) (Q .tree) (labelAt (now (a .incoming))
-    (a .pair .incoming .label)) (P .tree) M (c22 .same-element .ensures (labelAt (now (a .incoming)) (a .pair .incoming .label)) (labelAt (now
-    (a .target)) (a .pair .target .label)) refl refl) (c21 .if1 .left) _ _ from _ (c18 .put-head .ensures) (none-is (now (a .table)) 0) _
+    (a .pair .incoming .label)) (P .tree) M (c23 .same-element .ensures (labelAt (now (a .incoming)) (a .pair .incoming .label)) (labelAt (now
+    (a .target)) (a .pair .target .label)) refl refl) (c22 .if1 .left) _ _ from _ (c18 .put-head .ensures) (none-is (now (a .table)) 0) _
     (c12 .attach-renamed .ensures (from + 1) (none-at (now (a .table))) P Q (omega (arith, lt)) nm) (sym (c7 .is-refused .ensures) ∙ c6 .if2 .left) (sym
     (c5 .is-bare .ensures) ∙ c4 .if3 .taken) (c12 .attach-renamed .kept .1 .1 .1 .1 .1 .1 .0 ∙ c18 .put-head .kept .0) (c2 .put-position .ensures) (omega
     (arith, lt, extent Q))
@@ -441,13 +441,13 @@ attach-element-len-of-requires t c κs = search needs
 
 attach-element-add-t36 : (t : ℕ) → attach-element-lts.Need-add-t36 (attach-element-claims t) (attach-element-at t) attach-element.Post
 attach-element-add-t36 t c =
-    let c3 = c .before .before .before in let c4 = c3 .before in let c9 = c4 .before .before .before .before .before in let c28 =
-    c9 .before .before .before .before .before .before .before .before .before .before .before .before .before .before .before .before .before .before .before
-    in
-    let w = c28 .pre .1 in
+    let c3 = c .before .before .before in let c4 = c3 .before in let c9 = c4 .before .before .before .before .before in let c29 =
+    c9 .before .before .before .before .before .before .before .before .before .before .before .before .before .before .before .before .before .before
+    .before .before in
+    let w = c29 .pre .1 in
     omega (
       arith,
-      makes-room _ (c9 .attach-renamed .ensures 0 (none-at (now (c28 .args .table))) (w .0 .0) (w .0 .1 .0) (omega (arith, w .1 .1)) (λ n. omega
+      makes-room _ (c9 .attach-renamed .ensures 0 (none-at (now (c29 .args .table))) (w .0 .0) (w .0 .1 .0) (omega (arith, w .1 .1)) (λ n. omega
           (arith, w .1 .1))) (sym (c4 .is-refused .ensures) ∙ c3 .if2 .left),
       c .len-of .ensures,
       extent (w .0 .1 .0),
@@ -463,13 +463,13 @@ attach-element-same-length-6 t c = search needs
 attach-element-returns-4 : (t : ℕ) → attach-element-lts.Need-returns-4 (attach-element-claims t) (attach-element-at t) attach-element.Post
 attach-element-returns-4 t c =
     let c1 = c .before in let c2 = c1 .before in let c3 = c2 .before in let c4 = c3 .before in let c9 = c4 .before .before .before .before .before in let c15
-    = c9 .before .before .before .before .before .before in let c18 = c15 .before .before .before in let c19 = c18 .before in let c28 =
-    c19 .before .before .before .before .before .before .before .before .before in
+    = c9 .before .before .before .before .before .before in let c19 = c15 .before .before .before .before in let c20 = c19 .before in let c29 =
+    c20 .before .before .before .before .before .before .before .before .before in
     λ from f g M P Q lt nm.
-    let a = c28 .args in
+    let a = c29 .args in
     element-kept (a .build .matching) (a .build .policy) f g (labelAt (now (a .target)) (a .pair .target .label)) (Q .tree) (labelAt (now (a .incoming))
-    (a .pair .incoming .label)) (P .tree) M (c19 .same-element .ensures (labelAt (now (a .incoming)) (a .pair .incoming .label)) (labelAt (now
-    (a .target)) (a .pair .target .label)) refl refl) (c18 .if1 .left) _ _ from _ (c15 .put-head .ensures) (none-is (now (a .table)) 0) _
+    (a .pair .incoming .label)) (P .tree) M (c20 .same-element .ensures (labelAt (now (a .incoming)) (a .pair .incoming .label)) (labelAt (now
+    (a .target)) (a .pair .target .label)) refl refl) (c19 .if1 .left) _ _ from _ (c15 .put-head .ensures) (none-is (now (a .table)) 0) _
     (c9 .attach-renamed .ensures (from + 1) (none-at (now (a .table))) P Q (omega (arith, lt)) nm) (sym (c4 .is-refused .ensures) ∙ c3 .if2 .left) (sym
     (c2 .is-bare .ensures) ∙ c1 .if3 .left) (c15 .put-head .kept .0) (c .len-of .ensures) (omega arith)
 
@@ -478,21 +478,21 @@ attach-field-enum-known-found t c = search needs
 
 attach-field-attach-renamed-requires : (t : ℕ) → attach-field-lts.Need-attach-renamed-requires (attach-field-claims t) (attach-field-at t) attach-field.Post
 attach-field-attach-renamed-requires t c κs =
-    let c3 = c .before .before .before in let c13 = c3 .before .before .before .before .before .before .before .before .before .before in
-    let a = c13 .args in
-    let w = c13 .pre .1 in
+    let c3 = c .before .before .before in let c12 = c3 .before .before .before .before .before .before .before .before .before in
+    let a = c12 .args in
+    let w = c12 .pre .1 in
     let fs = w .0 .0 .0 in
     let H = found-here (a .build .incoming) (a .sought .depth) (now (a .incoming)) (counterpart (a .build .matching) (labelAt (now (a .target))
     (a .sought .column .label)) fs) (w .0 .0 .1) (c3 .found .given .1) in
-    (omega (arith, c13 .pre .0), ((H .inner, w .0 .1), (w .1 .0, ((H .inside, w .1 .1 .0 .0, w .1 .1 .0 .1), w .1 .1 .1))))
+    (omega (arith, c12 .pre .0), ((H .inner, w .0 .1), (w .1 .0, ((H .inside, w .1 .1 .0 .0, w .1 .1 .0 .1), w .1 .1 .1))))
 
 attach-field-enum-told : (t : ℕ) → attach-field-lts.Need-enum-told (attach-field-claims t) (attach-field-at t) attach-field.Post
 attach-field-enum-told t c = search needs
 
 attach-field-put-missing-requires : (t : ℕ) → attach-field-lts.Need-put-missing-requires (attach-field-claims t) (attach-field-at t) attach-field.Post
 attach-field-put-missing-requires t c κs =
-    let c11 = c .before .before .before .before .before .before .before .before .before .before .before in
-    let w = c11 .pre .1 in
+    let c10 = c .before .before .before .before .before .before .before .before .before .before in
+    let w = c10 .pre .1 in
     (w .1 .1 .0, (w .0 .1 .0, (w .1 .0, w .1 .1 .1)))
 
 attach-field-same-length : (t : ℕ) → attach-field-lts.Need-same-length (attach-field-claims t) (attach-field-at t) attach-field.Post
@@ -503,10 +503,10 @@ attach-field-same-length-2 t c = search needs
 
 attach-field-returns : (t : ℕ) → attach-field-lts.Need-returns (attach-field-claims t) (attach-field-at t) attach-field.Post
 attach-field-returns t c =
-    let c4 = c .before .before .before .before in let c8 = c4 .before .before .before .before in let c18 =
-    c8 .before .before .before .before .before .before .before .before .before .before in
+    let c4 = c .before .before .before .before in let c8 = c4 .before .before .before .before in let c17 =
+    c8 .before .before .before .before .before .before .before .before .before in
     λ from T fs Q F lt.
-    let a = c18 .args in
+    let a = c17 .args in
     let H = found-here (a .build .incoming) (a .sought .depth) (now (a .incoming)) (counterpart (a .build .matching) (labelAt (now (a .target))
     (a .sought .column .label)) fs) F (c8 .found .given .1) in
     makes-as _ _ _ _ _ _ (sought-at (a .build .matching) (a .build .policy) (defaultsAt (a .build .defaults) T) (a .sought .missing .insert)
@@ -518,22 +518,22 @@ attach-field-same-length-3 t c = search needs
 
 attach-field-returns-2 : (t : ℕ) → attach-field-lts.Need-returns-2 (attach-field-claims t) (attach-field-at t) attach-field.Post
 attach-field-returns-2 t c =
-    let c2 = c .before .before in let c4 = c2 .before .before in let c14 = c4 .before .before .before .before .before .before .before .before .before .before in
+    let c2 = c .before .before in let c4 = c2 .before .before in let c13 = c4 .before .before .before .before .before .before .before .before .before in
     λ from T fs Q F lt.
-    let a = c14 .args in
+    let a = c13 .args in
     let X = counterpart (a .build .matching) (labelAt (now (a .target)) (a .sought .column .label)) fs in
     makes-as _ _ _ _ _ _ (sought-absent (a .build .matching) (a .build .policy) (defaultsAt (a .build .defaults) T) (a .sought .missing .insert)
     (a .sought .missing .number) (labelAt (now (a .target)) (a .sought .column .label)) (Q .tree) X (found-absent (a .build .incoming) (a .sought .depth)
     (now (a .incoming)) X F (c4 .enum-told .given .1))) (c2 .put-missing .ensures from T Q lt)
 
 abbrev attach-fields-Inv-loop : attach-fields-lts.InvT-loop
-attach-fields-Inv-loop build incoming used table index target rows out₀ k arena₀ how v w c insert count from₀ i₀ to₀ same₀ out arena from i to same =
+attach-fields-Inv-loop build incoming used table index target rows out₀ arena₀ w columns insert count from₀ i₀ to₀ same₀ out arena from i to same =
     Remaining (build .policy) (build .matching) (build .incoming) (build .target) (rows .depth) incoming (rows .incoming .count) (rows .incoming .first .at)
-    table (build .defaults) target (rows .target .count) from₀ out₀ k out from i to same
+    table (build .defaults) target (rows .target .count) from₀ out₀ (rows .k) out from i to same
     × (take used arena ≡ take used arena₀) × (length arena ≡ length arena₀)
 
 abbrev attach-fields-μ-loop : attach-fields-lts.MeasureT-loop
-attach-fields-μ-loop build incoming used table index target rows out₀ k arena₀ how v w c insert count from₀ i₀ to₀ same₀ out arena from i to same =
+attach-fields-μ-loop build incoming used table index target rows out₀ arena₀ w columns insert count from₀ i₀ to₀ same₀ out arena from i to same =
     rows .target .count - i
 
 attach-fields-inserts-requires : (t : ℕ) → attach-fields-lts.Need-inserts-requires (attach-fields-claims t) (attach-fields-at t) attach-fields.Post
@@ -564,8 +564,8 @@ attach-fields-slice-reshare-prefix-find-in t c =
 attach-fields-slice-aggregate-find-in : (t : ℕ) → attach-fields-lts.Need-slice-aggregate-find-in (attach-fields-claims t) (attach-fields-at t)
     attach-fields.Post attach-fields-Inv-loop attach-fields-μ-loop
 attach-fields-slice-aggregate-find-in t c =
-    let c6 = c .before .before .before .before .before .before in let c16 = c6 .before .before .before .before .before .before .before .before .before .before
-    in
+    let c6 = c .before .before .before .before .before .before in let c16 =
+    c6 .before .before .before .before .before .before .before .before .before .before in
     sym (length-take-le (c16 .args .used) (c6 .loop .arena) (let a = c6 .loop .inv .2 in let b = c16 .pre .1 .1 .1 .1 .0 in omega arith))
 
 attach-fields-find-in-requires : (t : ℕ) → attach-fields-lts.Need-find-in-requires (attach-fields-claims t) (attach-fields-at t) attach-fields.Post
@@ -583,9 +583,9 @@ attach-fields-find-in-requires t c κs =
 attach-fields-mul-attach-field : (t : ℕ) → attach-fields-lts.Need-mul-attach-field (attach-fields-claims t) (attach-fields-at t) attach-fields.Post
     attach-fields-Inv-loop attach-fields-μ-loop
 attach-fields-mul-attach-field t c =
-    let c18 = c .before .before .before .before .before .before .before .before .before .before .before .before .before .before .before .before .before .before
-    in
-    omega (arith, c18 .pre .1 .1 .1 .1 .0, c18 .good .1 .1 .1 .1 .1 .1 .1 .1 .1 .0 .1)
+    let c18 = c .before .before .before .before .before .before .before .before .before .before .before .before .before .before .before .before .before
+    .before in
+    omega (arith, c18 .pre .1 .1 .1 .1 .0, c18 .good .1 .1 .1 .1 .1 .1 .1 .1 .0 .1)
 
 attach-fields-sub-attach-field : (t : ℕ) → attach-fields-lts.Need-sub-attach-field (attach-fields-claims t) (attach-fields-at t) attach-fields.Post
     attach-fields-Inv-loop attach-fields-μ-loop
@@ -662,8 +662,8 @@ attach-fields-same-length-2 t c =
     let c7 = c .before .before .before .before .before .before .before in let c17 =
     c7 .before .before .before .before .before .before .before .before .before .before in let c27 =
     c17 .before .before .before .before .before .before .before .before .before .before in
-    same-len-mid (c27 .args .used) (length (c17 .loop .arena) - c27 .args .used) (c17 .loop .arena) (c7 .attach-field .last .1 .1 .1 .1 .1 .1 .1 .1 .0)
-    (c7 .attach-field .kept .1 .1 .1 .1 .1 .1 .1 .1 .0) ∙ c17 .loop .inv .2
+    same-len-mid (c27 .args .used) (length (c17 .loop .arena) - c27 .args .used) (c17 .loop .arena) (c7 .attach-field .last .1 .1 .1 .1 .1 .1 .1 .0)
+    (c7 .attach-field .kept .1 .1 .1 .1 .1 .1 .1 .0) ∙ c17 .loop .inv .2
 
 attach-fields-returns : (t : ℕ) → attach-fields-lts.Need-returns (attach-fields-claims t) (attach-fields-at t) attach-fields.Post attach-fields-Inv-loop
     attach-fields-μ-loop
@@ -691,8 +691,8 @@ attach-fields-add-to : (t : ℕ) → attach-fields-lts.Need-add-to (attach-field
     attach-fields-μ-loop
 attach-fields-add-to t c =
     let c3 = c .before .before .before in let c4 = c3 .before in let c9 = c4 .before .before .before .before .before in let c12 = c9 .before .before .before
-    in let c15 = c12 .before .before .before in let c17 = c15 .before .before in let c18 = c17 .before in let c19 = c18 .before in let c20 = c19 .before
-    in let c29 = c20 .before .before .before .before .before .before .before .before .before in
+    in let c15 = c12 .before .before .before in let c17 = c15 .before .before in let c18 = c17 .before in let c19 = c18 .before in let c20 = c19 .before in
+    let c29 = c20 .before .before .before .before .before .before .before .before .before in
     let w = c29 .pre .1 in
     omega (
       arith,
@@ -756,10 +756,10 @@ attach-fields-loop-again t c =
           (c .skip-type .ensures (field (c20 .loop .inv .0) (c19 .loop-test .taken) (c18 .label .ensures .0) (c16 .l .given .1) .head)) (c1 .len-of .ensures)
           (c2 .both .ensures ∙ ap (λ (b : Bool). c20 .loop .same && b) (c3 .is-bare .ensures)),
       take-put (c30 .args .used) (length (c20 .loop .arena) -
-          c30 .args .used) (c20 .loop .arena) (c10 .attach-field .last .1 .1 .1 .1 .1 .1 .1 .1 .0) (let a = c20 .loop .inv .2 in let b = c30 .pre .1 .1 .1 .1 .0
+          c30 .args .used) (c20 .loop .arena) (c10 .attach-field .last .1 .1 .1 .1 .1 .1 .1 .0) (let a = c20 .loop .inv .2 in let b = c30 .pre .1 .1 .1 .1 .0
           in omega arith) ∙ c20 .loop .inv .1,
       same-len-mid (c30 .args .used) (length (c20 .loop .arena) - c30 .args .used) (c20 .loop .arena)
-          (c10 .attach-field .last .1 .1 .1 .1 .1 .1 .1 .1 .0) (c10 .attach-field .kept .1 .1 .1 .1 .1 .1 .1 .1 .0) ∙ c20 .loop .inv .2,
+          (c10 .attach-field .last .1 .1 .1 .1 .1 .1 .1 .0) (c10 .attach-field .kept .1 .1 .1 .1 .1 .1 .1 .0) ∙ c20 .loop .inv .2,
     )
 
 attach-fields-sub-t45 : (t : ℕ) → attach-fields-lts.Need-sub-t45 (attach-fields-claims t) (attach-fields-at t) attach-fields.Post attach-fields-Inv-loop
@@ -772,11 +772,13 @@ attach-fields-same-length-5 t c = search needs
 
 attach-fields-same-length-6 : (t : ℕ) → attach-fields-lts.Need-same-length-6 (attach-fields-claims t) (attach-fields-at t) attach-fields.Post
     attach-fields-Inv-loop attach-fields-μ-loop
-attach-fields-same-length-6 t c = c .before .loop .inv .2
+attach-fields-same-length-6 t c = c .before .before .loop .inv .2
 
 attach-fields-returns-3 : (t : ℕ) → attach-fields-lts.Need-returns-3 (attach-fields-claims t) (attach-fields-at t) attach-fields.Post attach-fields-Inv-loop
     attach-fields-μ-loop
-attach-fields-returns-3 t c = remaining-none (c .before .loop .inv .0) (c .loop-test .left)
+attach-fields-returns-3 t c =
+    let c1 = c .before in let c2 = c1 .before in
+    remaining-none (c2 .loop .inv .0) (c1 .loop-test .left)
 
 attach-inner-element-part-requires : (t : ℕ) → attach-inner-lts.Need-element-part-requires (attach-inner-claims t) (attach-inner-at t) attach-inner.Post
 attach-inner-element-part-requires t c κs = search needs
@@ -795,28 +797,27 @@ attach-inner-enum-told t c = search needs
 
 attach-inner-returns : (t : ℕ) → attach-inner-lts.Need-returns (attach-inner-claims t) (attach-inner-at t) attach-inner.Post
 attach-inner-returns t c =
-    let c2 = c .before .before in let c4 = c2 .before .before in let c6 = c4 .before .before in let c13 = c6 .before .before .before .before .before .before
-    .before
-    in
+    let c2 = c .before .before in let c4 = c2 .before .before in let c6 = c4 .before .before in let c14 =
+    c6 .before .before .before .before .before .before .before .before in
     λ P Q.
-    let a = c13 .args in
+    let a = c14 .args in
     let E = part-list (a .build .target) (a .types .depth) (now (a .target)) (a .types .target .at) (elementOf (Q .tree)) (Q .end) (c6 .element-part .ensures
     (a .types .depth) Q) (c4 .l .given .1) in
-    makes-refused _ _ _ _ _ (inner-list-other (a .build .matching) (a .build .policy) (E .label) (E .type) (a .place .position) (P .tree) (E .is)
+    makes-refused _ _ _ _ _ (inner-list-other (a .build .matching) (a .build .policy) (E .label) (E .type) (a .types .place .position) (P .tree) (E .is)
     (part-no-inner (a .build .incoming) (a .types .depth) (now (a .incoming)) (a .types .incoming .at) (listPart (P .tree)) (P .end)
     (c2 .list-part .ensures (a .types .depth) P) (c .enum-told .given .1)))
 
 attach-inner-sub-t26 : (t : ℕ) → attach-inner-lts.Need-sub-t26 (attach-inner-claims t) (attach-inner-at t) attach-inner.Post
 attach-inner-sub-t26 t c =
-    let c15 = c .before .before .before .before .before .before .before .before .before .before .before .before .before .before .before in
-    let z = deep (c15 .pre .1 .0 .0) in omega arith
+    let c16 = c .before .before .before .before .before .before .before .before .before .before .before .before .before .before .before .before in
+    let z = deep (c16 .pre .1 .0 .0) in omega arith
 
 attach-inner-attach-element-requires : (t : ℕ) → attach-inner-lts.Need-attach-element-requires (attach-inner-claims t) (attach-inner-at t) attach-inner.Post
 attach-inner-attach-element-requires t c κs =
-    let c4 = c .before .before .before .before in let c6 = c4 .before .before in let c8 = c6 .before .before in let c10 = c8 .before .before in let c17 =
-    c10 .before .before .before .before .before .before .before in
-    let a = c17 .args in
-    let w = c17 .pre .1 in
+    let c4 = c .before .before .before .before in let c6 = c4 .before .before in let c8 = c6 .before .before in let c10 = c8 .before .before in let c18 =
+    c10 .before .before .before .before .before .before .before .before in
+    let a = c18 .args in
+    let w = c18 .pre .1 in
     let P = w .0 .0 in
     let Q = w .0 .1 .0 in
     let z = deep P in
@@ -824,7 +825,7 @@ attach-inner-attach-element-requires t c κs =
     (c10 .element-part .ensures (a .types .depth) Q) (c8 .l .given .1) in
     let I = part-inner (a .build .incoming) (a .types .depth) (now (a .incoming)) (a .types .incoming .at) (listPart (P .tree)) (P .end)
     (c6 .list-part .ensures (a .types .depth) P) (c4 .m .given .1) in (
-      omega (arith, c17 .pre .0),
+      omega (arith, c18 .pre .0),
       (
         (I .element .inner, (E .element .inner, w .0 .1 .1)),
         (
@@ -848,29 +849,28 @@ attach-inner-enum-told-2 t c = search needs
 
 attach-inner-returns-2 : (t : ℕ) → attach-inner-lts.Need-returns-2 (attach-inner-claims t) (attach-inner-at t) attach-inner.Post
 attach-inner-returns-2 t c =
-    let c2 = c .before .before in let c4 = c2 .before .before in let c6 = c4 .before .before in let c13 = c6 .before .before .before .before .before .before
-    .before
-    in
+    let c2 = c .before .before in let c4 = c2 .before .before in let c6 = c4 .before .before in let c14 =
+    c6 .before .before .before .before .before .before .before .before in
     λ P Q.
-    let a = c13 .args in
+    let a = c14 .args in
     let E = part-array (a .build .target) (a .types .depth) (now (a .target)) (a .types .target .at) (elementOf (Q .tree)) (Q .end)
     (c6 .element-part .ensures (a .types .depth) Q) (c4 .width .given .1) in
-    makes-refused _ _ _ _ _ (inner-array-other (a .build .matching) (a .build .policy) (E .label) (E .type) (a .place .position) (P .tree)
+    makes-refused _ _ _ _ _ (inner-array-other (a .build .matching) (a .build .policy) (E .label) (E .type) (a .types .place .position) (P .tree)
     (c4 .width .given .0 .0) (E .is) (part-no-inner (a .build .incoming) (a .types .depth) (now (a .incoming)) (a .types .incoming .at) (arrayPart
     (c4 .width .given .0 .0) (P .tree)) (P .end) (c2 .array-part .ensures (a .types .depth) P) (c .enum-told2 .given .1)))
 
 attach-inner-sub-t34 : (t : ℕ) → attach-inner-lts.Need-sub-t34 (attach-inner-claims t) (attach-inner-at t) attach-inner.Post
 attach-inner-sub-t34 t c =
-    let c15 = c .before .before .before .before .before .before .before .before .before .before .before .before .before .before .before in
-    let z = deep (c15 .pre .1 .0 .0) in omega arith
+    let c16 = c .before .before .before .before .before .before .before .before .before .before .before .before .before .before .before .before in
+    let z = deep (c16 .pre .1 .0 .0) in omega arith
 
 attach-inner-attach-element-requires-2 : (t : ℕ) → attach-inner-lts.Need-attach-element-requires-2 (attach-inner-claims t) (attach-inner-at t)
     attach-inner.Post
 attach-inner-attach-element-requires-2 t c κs =
-    let c4 = c .before .before .before .before in let c6 = c4 .before .before in let c8 = c6 .before .before in let c10 = c8 .before .before in let c17 =
-    c10 .before .before .before .before .before .before .before in
-    let a = c17 .args in
-    let w = c17 .pre .1 in
+    let c4 = c .before .before .before .before in let c6 = c4 .before .before in let c8 = c6 .before .before in let c10 = c8 .before .before in let c18 =
+    c10 .before .before .before .before .before .before .before .before in
+    let a = c18 .args in
+    let w = c18 .pre .1 in
     let P = w .0 .0 in
     let Q = w .0 .1 .0 in
     let z = deep P in
@@ -878,7 +878,7 @@ attach-inner-attach-element-requires-2 t c κs =
     (c10 .element-part .ensures (a .types .depth) Q) (c8 .width .given .1) in
     let I = part-inner (a .build .incoming) (a .types .depth) (now (a .incoming)) (a .types .incoming .at) (arrayPart (c8 .width .given .0 .0) (P .tree))
     (P .end) (c6 .array-part .ensures (a .types .depth) P) (c4 .m2 .given .1) in (
-      omega (arith, c17 .pre .0),
+      omega (arith, c18 .pre .0),
       (
         (I .element .inner, (E .element .inner, w .0 .1 .1)),
         (
@@ -900,18 +900,20 @@ attach-inner-same-length-2 t c = search needs
 attach-inner-returns-3 : (t : ℕ) → attach-inner-lts.Need-returns-3 (attach-inner-claims t) (attach-inner-at t) attach-inner.Post
 attach-inner-returns-3 t c =
     let c4 = c .before .before .before .before in let c9 = c4 .before .before .before .before .before in let c11 = c9 .before .before in let c13 =
-    c11 .before .before in let c15 = c13 .before .before in let c22 = c15 .before .before .before .before .before .before .before in
+    c11 .before .before in let c15 = c13 .before .before in let c23 = c15 .before .before .before .before .before .before .before .before in
     λ P Q.
-    let a = c22 .args in
+    let a = c23 .args in
     let E = part-list (a .build .target) (a .types .depth) (now (a .target)) (a .types .target .at) (elementOf (Q .tree)) (Q .end)
     (c15 .element-part .ensures (a .types .depth) Q) (c13 .l .given .1) in
     let I = part-inner (a .build .incoming) (a .types .depth) (now (a .incoming)) (a .types .incoming .at) (listPart (P .tree)) (P .end)
     (c11 .list-part .ensures (a .types .depth) P) (c9 .m .given .1) in
-    makes-to _ _ _ _ (E .element .ends) (inner-list (a .build .matching) (a .build .policy) (E .label) (E .type) (a .place .position) (P .tree) (E .is)
-    (I .is) ∙ element-names (a .build .matching) (a .build .policy) (listSelector (a .place .position)) (E .element .label) (E .element .tree)
+    makes-to _ _ _ _ (E .element .ends) (inner-list (a .build .matching) (a .build .policy) (E .label) (E .type) (a .types .place .position) (P .tree) (E .is)
+    (I .is) ∙ element-names (a .build .matching) (a .build .policy) (listSelector (a .types .place .position)) (E .element .label) (E .element .tree)
     (I .element .label) (I .element .tree))
-    (c4 .attach-element .ensures (a .types .target .at) (listSelector (a .place .position)) (λ s. listMapping (position (a .place .position)) s) (list-maps
-    (a .place .position)) (I .element .inner) (E .element .inner) (E .element .after) (E .element .named (a .build .matching) _ _ (c22 .pre .1 .0 .1 .1)))
+    (c4 .attach-element .ensures (a .types .target .at) (listSelector (a .types .place .position)) (λ s. listMapping (position (a .types .place .position))
+    s) (list-maps
+    (a .types .place .position)) (I .element .inner) (E .element .inner) (E .element .after) (E .element .named (a .build .matching) _ _
+    (c23 .pre .1 .0 .1 .1)))
 
 attach-inner-same-length-3 : (t : ℕ) → attach-inner-lts.Need-same-length-3 (attach-inner-claims t) (attach-inner-at t) attach-inner.Post
 attach-inner-same-length-3 t c = search needs
@@ -922,26 +924,27 @@ attach-inner-same-length-4 t c = search needs
 attach-inner-returns-4 : (t : ℕ) → attach-inner-lts.Need-returns-4 (attach-inner-claims t) (attach-inner-at t) attach-inner.Post
 attach-inner-returns-4 t c =
     let c4 = c .before .before .before .before in let c9 = c4 .before .before .before .before .before in let c11 = c9 .before .before in let c13 =
-    c11 .before .before in let c15 = c13 .before .before in let c22 = c15 .before .before .before .before .before .before .before in
+    c11 .before .before in let c15 = c13 .before .before in let c23 = c15 .before .before .before .before .before .before .before .before in
     λ P Q.
-    let a = c22 .args in
+    let a = c23 .args in
     let E = part-array (a .build .target) (a .types .depth) (now (a .target)) (a .types .target .at) (elementOf (Q .tree)) (Q .end)
     (c15 .element-part .ensures (a .types .depth) Q) (c13 .width .given .1) in
     let I = part-inner (a .build .incoming) (a .types .depth) (now (a .incoming)) (a .types .incoming .at) (arrayPart (c13 .width .given .0 .0) (P .tree))
     (P .end) (c11 .array-part .ensures (a .types .depth) P) (c9 .m2 .given .1) in
-    makes-to _ _ _ _ (E .element .ends) (inner-array (a .build .matching) (a .build .policy) (E .label) (E .type) (a .place .position) (P .tree)
-    (c13 .width .given .0 .0) (E .is) (I .is) ∙ element-names (a .build .matching) (a .build .policy) (arraySelector (a .place .position))
+    makes-to _ _ _ _ (E .element .ends) (inner-array (a .build .matching) (a .build .policy) (E .label) (E .type) (a .types .place .position) (P .tree)
+    (c13 .width .given .0 .0) (E .is) (I .is) ∙ element-names (a .build .matching) (a .build .policy) (arraySelector (a .types .place .position))
     (E .element .label) (E .element .tree) (I .element .label) (I .element .tree))
-    (c4 .attach-element2 .ensures (a .types .target .at) (arraySelector (a .place .position)) (λ s. arrayMapping (position (a .place .position)) s)
-    (array-maps (a .place .position)) (I .element .inner) (E .element .inner) (E .element .after) (E .element .named (a .build .matching) _ _
-    (c22 .pre .1 .0 .1 .1)))
+    (c4 .attach-element2 .ensures (a .types .target .at) (arraySelector (a .types .place .position)) (λ s. arrayMapping (position
+    (a .types .place .position)) s)
+    (array-maps (a .types .place .position)) (I .element .inner) (E .element .inner) (E .element .after) (E .element .named (a .build .matching) _ _
+    (c23 .pre .1 .0 .1 .1)))
 
 attach-inner-returns-5 : (t : ℕ) → attach-inner-lts.Need-returns-5 (attach-inner-claims t) (attach-inner-at t) attach-inner.Post
 attach-inner-returns-5 t c =
-    let c2 = c .before .before in let c9 = c2 .before .before .before .before .before .before .before in
+    let c2 = c .before .before in let c10 = c2 .before .before .before .before .before .before .before .before in
     λ P Q.
-    let a = c9 .args in
-    makes-refused _ _ _ _ _ (inner-none (a .build .matching) (a .build .policy) (a .place .position) (P .tree) (part-no-element (a .build .target)
+    let a = c10 .args in
+    makes-refused _ _ _ _ _ (inner-none (a .build .matching) (a .build .policy) (a .types .place .position) (P .tree) (part-no-element (a .build .target)
     (a .types .depth) (now (a .target)) (a .types .target .at) (elementOf (Q .tree)) (Q .end) (c2 .element-part .ensures (a .types .depth) Q)
     (c .enum-told3 .given .1)))
 
@@ -958,11 +961,11 @@ attach-nested-same-length t c = search needs
 
 attach-nested-returns : (t : ℕ) → attach-nested-lts.Need-returns (attach-nested-claims t) (attach-nested-at t) attach-nested.Post
 attach-nested-returns t c =
-    let c2 = c .before .before in let c4 = c2 .before .before in let c5 = c4 .before in let c14 =
-    c5 .before .before .before .before .before .before .before .before .before in
+    let c2 = c .before .before in let c4 = c2 .before .before in let c5 = c4 .before in let c15 =
+    c5 .before .before .before .before .before .before .before .before .before .before in
     λ T P Q.
-    let a = c14 .args in
-    makes-as _ _ _ _ _ _ (nested-null (a .build .matching) (a .build .policy) (a .place .position) (Q .tree) (P .tree) _ (c5 .is-null-incoming .ensures
+    let a = c15 .args in
+    makes-as _ _ _ _ _ _ (nested-null (a .build .matching) (a .build .policy) (a .types .place .position) (Q .tree) (P .tree) _ (c5 .is-null-incoming .ensures
     (a .build .incoming) (a .types .depth) P) (c4 .if1 .taken)) (c2 .put-null-cast .ensures Q)
 
 attach-nested-struct-part-requires : (t : ℕ) → attach-nested-lts.Need-struct-part-requires (attach-nested-claims t) (attach-nested-at t) attach-nested.Post
@@ -974,14 +977,14 @@ attach-nested-enum-known-count t c = search needs
 attach-nested-attach-struct-requires : (t : ℕ) → attach-nested-lts.Need-attach-struct-requires (attach-nested-claims t) (attach-nested-at t)
     attach-nested.Post
 attach-nested-attach-struct-requires t c κs =
-    let c3 = c .before .before .before in let c5 = c3 .before .before in let c16 =
-    c5 .before .before .before .before .before .before .before .before .before .before .before in
-    let a = c16 .args in
-    let w = c16 .pre .1 in
+    let c3 = c .before .before .before in let c5 = c3 .before .before in let c17 =
+    c5 .before .before .before .before .before .before .before .before .before .before .before .before in
+    let a = c17 .args in
+    let w = c17 .pre .1 in
     let Q = w .0 .1 .0 in
     let S = part-struct (a .build .target) (a .types .depth) (now (a .target)) (a .types .target .at) (structPart (Q .tree)) (Q .end)
     (c5 .struct-part .ensures (a .build .target) (a .types .depth) Q) (c3 .count .given .1) in
-    (omega (arith, c16 .pre .0), ((w .0 .0, (S .inner, w .0 .1 .1)), (w .1 .0, (w .1 .1 .0, w .1 .1 .1, S .within, omega (arith, S .after, w .1 .1)))))
+    (omega (arith, c17 .pre .0), ((w .0 .0, (S .inner, w .0 .1 .1)), (w .1 .0, (w .1 .1 .0, w .1 .1 .1, S .within, omega (arith, S .after, w .1 .1)))))
 
 attach-nested-enum-told : (t : ℕ) → attach-nested-lts.Need-enum-told (attach-nested-claims t) (attach-nested-at t) attach-nested.Post
 attach-nested-enum-told t c = search needs
@@ -998,14 +1001,14 @@ attach-nested-same-length-3 t c = search needs
 attach-nested-returns-2 : (t : ℕ) → attach-nested-lts.Need-returns-2 (attach-nested-claims t) (attach-nested-at t) attach-nested.Post
 attach-nested-returns-2 t c =
     let c4 = c .before .before .before .before in let c8 = c4 .before .before .before .before in let c10 = c8 .before .before in let c11 = c10 .before in let
-    c12 = c11 .before in let c21 = c12 .before .before .before .before .before .before .before .before .before in
+    c12 = c11 .before in let c22 = c12 .before .before .before .before .before .before .before .before .before .before in
     λ T P Q.
-    let a = c21 .args in
+    let a = c22 .args in
     let S = part-struct (a .build .target) (a .types .depth) (now (a .target)) (a .types .target .at) (structPart (Q .tree)) (Q .end)
     (c10 .struct-part .ensures (a .build .target) (a .types .depth) Q) (c8 .count .given .1) in
-    makes-to _ _ _ _ (S .ends) (nested-other (a .build .matching) (a .build .policy) (a .place .position) (Q .tree) (P .tree) _
+    makes-to _ _ _ _ (S .ends) (nested-other (a .build .matching) (a .build .policy) (a .types .place .position) (Q .tree) (P .tree) _
     (c12 .is-null-incoming .ensures (a .build .incoming) (a .types .depth) P) (c11 .if1 .left) ∙ nested-struct (a .build .matching) (a .build .policy)
-    (defaultsAt (a .build .defaults) T) (a .place .position) (P .tree) (Q .tree) (S .is)) (c4 .attach-struct .ensures (a .types .target .at) T P
+    (defaultsAt (a .build .defaults) T) (a .types .place .position) (P .tree) (Q .tree) (S .is)) (c4 .attach-struct .ensures (a .types .target .at) T P
     (S .inner) (S .after))
 
 attach-nested-same-length-4 : (t : ℕ) → attach-nested-lts.Need-same-length-4 (attach-nested-claims t) (attach-nested-at t) attach-nested.Post
@@ -1017,14 +1020,15 @@ attach-nested-same-length-5 t c = search needs
 attach-nested-returns-3 : (t : ℕ) → attach-nested-lts.Need-returns-3 (attach-nested-claims t) (attach-nested-at t) attach-nested.Post
 attach-nested-returns-3 t c =
     let c4 = c .before .before .before .before in let c7 = c4 .before .before .before in let c9 = c7 .before .before in let c10 = c9 .before in let c11 =
-    c10 .before in let c20 = c11 .before .before .before .before .before .before .before .before .before in
+    c10 .before in let c21 = c11 .before .before .before .before .before .before .before .before .before .before in
     λ T P Q.
-    let a = c20 .args in
+    let a = c21 .args in
     let n = part-no-struct (a .build .target) (a .types .depth) (now (a .target)) (a .types .target .at) (structPart (Q .tree)) (Q .end)
     (c9 .struct-part .ensures (a .build .target) (a .types .depth) Q) (c7 .enum-told .given .1) in
-    makes-as _ _ _ _ _ _ (nested-other (a .build .matching) (a .build .policy) (a .place .position) (Q .tree) (P .tree) _ (c11 .is-null-incoming .ensures
+    makes-as _ _ _ _ _ _ (nested-other (a .build .matching) (a .build .policy) (a .types .place .position) (Q .tree) (P .tree) _
+    (c11 .is-null-incoming .ensures
     (a .build .incoming) (a .types .depth) P) (c10 .if1 .left) ∙ nested-inner (a .build .matching) (a .build .policy) (defaultsAt (a .build .defaults) T)
-    (a .place .position) (P .tree) (Q .tree) n) (c4 .attach-inner .ensures P Q)
+    (a .types .place .position) (P .tree) (Q .tree) n) (c4 .attach-inner .ensures P Q)
 
 attach-renamed-keeps-required-requires : (t : ℕ) → attach-renamed-lts.Need-keeps-required-requires (attach-renamed-claims t) (attach-renamed-at t)
     attach-renamed.Post
@@ -1036,7 +1040,7 @@ attach-renamed-returns t c =
     λ from T P Q le lt.
     let a = c9 .args in
     makes-refused _ _ _ _ _ (required-unkept (a .build .matching) (a .build .policy) (defaultsAt (a .build .defaults) T) (labelAt (now (a .target))
-    (a .pair .target .label)) (Q .tree) (a .place .position) (labelAt (now (a .incoming)) (a .pair .incoming .label)) (P .tree)
+    (a .pair .target .label)) (Q .tree) (a .pair .place .position) (labelAt (now (a .incoming)) (a .pair .incoming .label)) (P .tree)
     (c1 .keeps-required .ensures (a .build .incoming) (a .pair .depth) P _ refl) (c .if1 .taken))
 
 attach-renamed-needs-rename-requires : (t : ℕ) → attach-renamed-lts.Need-needs-rename-requires (attach-renamed-claims t) (attach-renamed-at t)
@@ -1046,9 +1050,10 @@ attach-renamed-needs-rename-requires t c κs = search needs
 attach-renamed-attach-transforms-requires :
     (t : ℕ) → attach-renamed-lts.Need-attach-transforms-requires (attach-renamed-claims t) (attach-renamed-at t) attach-renamed.Post
 attach-renamed-attach-transforms-requires t c κs =
-    let c17 = c .before .before .before .before .before .before .before .before .before .before .before .before .before .before .before .before .before in
-    let w = c17 .pre .1 in
-    (omega (arith, c17 .pre .0), (w .0, (w .1 .0, (w .1 .1 .1 .0, w .1 .1 .1 .1, omega (arith, w .1 .1 .1)))))
+    let c18 = c .before .before .before .before .before .before .before .before .before .before .before .before .before .before .before .before .before
+    .before in
+    let w = c18 .pre .1 in
+    (omega (arith, c18 .pre .0), (w .0, (w .1 .0, (w .1 .1 .1 .0, w .1 .1 .1 .1, omega (arith, w .1 .1 .1)))))
 
 attach-renamed-same-length : (t : ℕ) → attach-renamed-lts.Need-same-length (attach-renamed-claims t) (attach-renamed-at t) attach-renamed.Post
 attach-renamed-same-length t c = search needs
@@ -1058,30 +1063,31 @@ attach-renamed-same-length-2 t c = search needs
 
 attach-renamed-returns-2 : (t : ℕ) → attach-renamed-lts.Need-returns-2 (attach-renamed-claims t) (attach-renamed-at t) attach-renamed.Post
 attach-renamed-returns-2 t c =
-    let c4 = c .before .before .before .before in let c7 = c4 .before .before .before in let c8 = c7 .before in let c13 =
-    c8 .before .before .before .before .before in let c14 = c13 .before in let c22 = c14 .before .before .before .before .before .before .before .before in
+    let c4 = c .before .before .before .before in let c7 = c4 .before .before .before in let c8 = c7 .before in let c14 =
+    c8 .before .before .before .before .before .before in let c15 = c14 .before in let c23 =
+    c15 .before .before .before .before .before .before .before .before in
     λ from T P Q le lt.
-    let a = c22 .args in
+    let a = c23 .args in
     renamed-plain (a .build .matching) (a .build .policy) (defaultsAt (a .build .defaults) T) (labelAt (now (a .target)) (a .pair .target .label)) (Q .tree)
-    (a .place .position) (labelAt (now (a .incoming)) (a .pair .incoming .label)) (P .tree) (c14 .keeps-required .ensures (a .build .incoming)
-    (a .pair .depth) P _ refl) (c13 .if1 .left) (c8 .needs-rename .ensures) _ _ from (c7 .if2 .taken) le (c4 .attach-transforms .ensures T P Q)
+    (a .pair .place .position) (labelAt (now (a .incoming)) (a .pair .incoming .label)) (P .tree) (c15 .keeps-required .ensures (a .build .incoming)
+    (a .pair .depth) P _ refl) (c14 .if1 .left) (c8 .needs-rename .ensures) _ _ from (c7 .if2 .taken) le (c4 .attach-transforms .ensures T P Q)
 
 attach-renamed-put-requires : (t : ℕ) → attach-renamed-lts.Need-put-requires (attach-renamed-claims t) (attach-renamed-at t) attach-renamed.Post
 attach-renamed-put-requires t c κs = search needs
 
 attach-renamed-add-write-text : (t : ℕ) → attach-renamed-lts.Need-add-write-text (attach-renamed-claims t) (attach-renamed-at t) attach-renamed.Post
 attach-renamed-add-write-text t c =
-    let c21 = c .before .before .before .before .before .before .before .before .before .before .before .before .before .before .before .before .before
-    .before .before .before .before in
-    omega (arith, extent (c21 .pre .1 .0 .1 .0), c21 .pre .1 .1 .1 .1)
+    let c22 = c .before .before .before .before .before .before .before .before .before .before .before .before .before .before .before .before .before
+    .before .before .before .before .before in
+    omega (arith, extent (c22 .pre .1 .0 .1 .0), c22 .pre .1 .1 .1 .1)
 
 attach-renamed-attach-transforms-requires-2 :
     (t : ℕ) → attach-renamed-lts.Need-attach-transforms-requires-2 (attach-renamed-claims t) (attach-renamed-at t) attach-renamed.Post
 attach-renamed-attach-transforms-requires-2 t c κs =
-    let c23 = c .before .before .before .before .before .before .before .before .before .before .before .before .before .before .before .before .before
-    .before .before .before .before .before .before in
-    let w = c23 .pre .1 in
-    (omega (arith, c23 .pre .0), (w .0, (w .1 .0, (w .1 .1 .1 .0, w .1 .1 .1 .1, omega (arith, w .1 .1 .1)))))
+    let c24 = c .before .before .before .before .before .before .before .before .before .before .before .before .before .before .before .before .before
+    .before .before .before .before .before .before .before in
+    let w = c24 .pre .1 in
+    (omega (arith, c24 .pre .0), (w .0, (w .1 .0, (w .1 .1 .1 .0, w .1 .1 .1 .1, omega (arith, w .1 .1 .1)))))
 
 attach-renamed-is-refused-requires : (t : ℕ) → attach-renamed-lts.Need-is-refused-requires (attach-renamed-claims t) (attach-renamed-at t) attach-renamed.Post
 attach-renamed-is-refused-requires t c κs = search needs
@@ -1095,13 +1101,13 @@ attach-renamed-same-length-4 t c = search needs
 attach-renamed-returns-3 : (t : ℕ) → attach-renamed-lts.Need-returns-3 (attach-renamed-claims t) (attach-renamed-at t) attach-renamed.Post
 attach-renamed-returns-3 t c =
     let c1 = c .before in let c6 = c1 .before .before .before .before .before in let c16 =
-    c6 .before .before .before .before .before .before .before .before .before .before in let c21 = c16 .before .before .before .before .before in let
-    c22 = c21 .before in let c30 = c22 .before .before .before .before .before .before .before .before in
+    c6 .before .before .before .before .before .before .before .before .before .before in let c22 = c16 .before .before .before .before .before .before in
+    let c23 = c22 .before in let c31 = c23 .before .before .before .before .before .before .before .before in
     λ from T P Q le lt.
-    let a = c30 .args in
+    let a = c31 .args in
     renamed-stopped (a .build .matching) (a .build .policy) (defaultsAt (a .build .defaults) T) (labelAt (now (a .target)) (a .pair .target .label))
-    (Q .tree) (a .place .position) (labelAt (now (a .incoming)) (a .pair .incoming .label)) (P .tree) (c22 .keeps-required .ensures (a .build .incoming)
-    (a .pair .depth) P _ refl) (c21 .if1 .left) (c16 .needs-rename .ensures) _ _ from (c6 .attach-transforms2 .ensures T P Q) (sym
+    (Q .tree) (a .pair .place .position) (labelAt (now (a .incoming)) (a .pair .incoming .label)) (P .tree) (c23 .keeps-required .ensures (a .build .incoming)
+    (a .pair .depth) P _ refl) (c22 .if1 .left) (c16 .needs-rename .ensures) _ _ from (c6 .attach-transforms2 .ensures T P Q) (sym
     (c1 .is-refused .ensures) ∙ c .if3 .taken)
 
 attach-renamed-len-of-requires : (t : ℕ) → attach-renamed-lts.Need-len-of-requires (attach-renamed-claims t) (attach-renamed-at t) attach-renamed.Post
@@ -1109,16 +1115,16 @@ attach-renamed-len-of-requires t c κs = search needs
 
 attach-renamed-add-write-text-2 : (t : ℕ) → attach-renamed-lts.Need-add-write-text-2 (attach-renamed-claims t) (attach-renamed-at t) attach-renamed.Post
 attach-renamed-add-write-text-2 t c =
-    let c34 = c .before .before .before .before .before .before .before .before .before .before .before .before .before .before .before .before .before
-    .before .before .before .before .before .before .before .before .before .before .before .before .before .before .before .before .before in
-    omega (arith, extent (c34 .pre .1 .0 .1 .0), c34 .pre .1 .1 .1 .1)
+    let c35 = c .before .before .before .before .before .before .before .before .before .before .before .before .before .before .before .before .before
+    .before .before .before .before .before .before .before .before .before .before .before .before .before .before .before .before .before .before in
+    omega (arith, extent (c35 .pre .1 .0 .1 .0), c35 .pre .1 .1 .1 .1)
 
 attach-renamed-add-write-text-3 : (t : ℕ) → attach-renamed-lts.Need-add-write-text-3 (attach-renamed-claims t) (attach-renamed-at t) attach-renamed.Post
 attach-renamed-add-write-text-3 t c =
-    let c3 = c .before .before .before in let c4 = c3 .before in let c5 = c4 .before in let c10 = c5 .before .before .before .before .before in let c34 =
+    let c3 = c .before .before .before in let c4 = c3 .before in let c5 = c4 .before in let c10 = c5 .before .before .before .before .before in let c35 =
     c10 .before .before .before .before .before .before .before .before .before .before .before .before .before .before .before .before .before .before
-    .before .before .before .before .before .before in
-    let w = c34 .pre .1 in
+    .before .before .before .before .before .before .before in
+    let w = c35 .pre .1 in
     omega (
       arith,
       makes-room _ (c10 .attach-transforms2 .ensures (w .1 .0 .0) (w .0 .0) (w .0 .1 .0)) (sym (c5 .is-refused .ensures) ∙ c4 .if3 .left),
@@ -1129,10 +1135,10 @@ attach-renamed-add-write-text-3 t c =
 
 attach-renamed-write-text-requires : (t : ℕ) → attach-renamed-lts.Need-write-text-requires (attach-renamed-claims t) (attach-renamed-at t) attach-renamed.Post
 attach-renamed-write-text-requires t c κs =
-    let c3 = c .before .before .before in let c4 = c3 .before in let c5 = c4 .before in let c10 = c5 .before .before .before .before .before in let c34 =
+    let c3 = c .before .before .before in let c4 = c3 .before in let c5 = c4 .before in let c10 = c5 .before .before .before .before .before in let c35 =
     c10 .before .before .before .before .before .before .before .before .before .before .before .before .before .before .before .before .before .before
-    .before .before .before .before .before .before in
-    let w = c34 .pre .1 in (
+    .before .before .before .before .before .before .before in
+    let w = c35 .pre .1 in (
       (w .1 .1 .0 .1, w .1 .1 .0 .2),
       omega (
         arith,
@@ -1147,10 +1153,9 @@ attach-renamed-write-text-requires t c κs =
 attach-renamed-add-t32 : (t : ℕ) → attach-renamed-lts.Need-add-t32 (attach-renamed-claims t) (attach-renamed-at t) attach-renamed.Post
 attach-renamed-add-t32 t c =
     let c6 = c .before .before .before .before .before .before in let c7 = c6 .before in let c8 = c7 .before in let c13 =
-    c8 .before .before .before .before .before in let c37 =
-    c13 .before .before .before .before .before .before .before .before .before .before .before .before .before .before .before .before .before .before
-    .before .before .before .before .before .before in
-    let w = c37 .pre .1 in
+    c8 .before .before .before .before .before in let c38 = c13 .before .before .before .before .before .before .before .before .before .before .before
+    .before .before .before .before .before .before .before .before .before .before .before .before .before .before in
+    let w = c38 .pre .1 in
     omega (
       arith,
       makes-room _ (c13 .attach-transforms2 .ensures (w .1 .0 .0) (w .0 .0) (w .0 .1 .0)) (sym (c8 .is-refused .ensures) ∙ c7 .if3 .left),
@@ -1162,10 +1167,9 @@ attach-renamed-add-t32 t c =
 attach-renamed-add-t40 : (t : ℕ) → attach-renamed-lts.Need-add-t40 (attach-renamed-claims t) (attach-renamed-at t) attach-renamed.Post
 attach-renamed-add-t40 t c =
     let c2 = c .before .before in let c6 = c2 .before .before .before .before in let c7 = c6 .before in let c8 = c7 .before in let c13 =
-    c8 .before .before .before .before .before in let c37 =
-    c13 .before .before .before .before .before .before .before .before .before .before .before .before .before .before .before .before .before .before
-    .before .before .before .before .before .before in
-    let w = c37 .pre .1 in
+    c8 .before .before .before .before .before in let c38 = c13 .before .before .before .before .before .before .before .before .before .before .before
+    .before .before .before .before .before .before .before .before .before .before .before .before .before .before in
+    let w = c38 .pre .1 in
     omega (
       arith,
       makes-room _ (c13 .attach-transforms2 .ensures (w .1 .0 .0) (w .0 .0) (w .0 .1 .0)) (sym (c8 .is-refused .ensures) ∙ c7 .if3 .left),
@@ -1173,8 +1177,8 @@ attach-renamed-add-t40 t c =
       extent (w .0 .1 .0),
       w .1 .1 .1,
       c2 .write-text .ensures .0,
-      text-long (now (c37 .args .target))
-          (c37 .args .pair .target .label .name) (w .1 .1 .0 .1),
+      text-long (now (c38 .args .target))
+          (c38 .args .pair .target .label .name) (w .1 .1 .0 .1),
       w .1 .1 .0 .2,
     )
 
@@ -1187,20 +1191,20 @@ attach-renamed-same-length-6 t c = search needs
 attach-renamed-returns-4 : (t : ℕ) → attach-renamed-lts.Need-returns-4 (attach-renamed-claims t) (attach-renamed-at t) attach-renamed.Post
 attach-renamed-returns-4 t c =
     let c2 = c .before .before in let c6 = c2 .before .before .before .before in let c7 = c6 .before in let c8 = c7 .before in let c13 =
-    c8 .before .before .before .before .before in let c20 = c13 .before .before .before .before .before .before .before in let c22 = c20 .before .before
-    in let c23 = c22 .before in let c28 = c23 .before .before .before .before .before in let c29 = c28 .before in let c37 =
-    c29 .before .before .before .before .before .before .before .before in
+    c8 .before .before .before .before .before in let c20 = c13 .before .before .before .before .before .before .before in let c22 = c20 .before .before in
+    let c23 = c22 .before in let c29 = c23 .before .before .before .before .before .before in let c30 = c29 .before in let c38 =
+    c30 .before .before .before .before .before .before .before .before in
     λ from T P Q le lt.
-    let a = c37 .args in
-    let w = c37 .pre .1 in
+    let a = c38 .args in
+    let w = c38 .pre .1 in
     renamed-made (a .build .matching) (a .build .policy) (defaultsAt (a .build .defaults) T) (labelAt (now (a .target)) (a .pair .target .label)) (Q .tree)
-    (a .place .position) (labelAt (now (a .incoming)) (a .pair .incoming .label)) (P .tree) (c29 .keeps-required .ensures (a .build .incoming)
-    (a .pair .depth) P _ refl) (c28 .if1 .left) (c23 .needs-rename .ensures) _ _ from _ _ (c22 .if2 .left) (c20 .put .kept .0)
+    (a .pair .place .position) (labelAt (now (a .incoming)) (a .pair .incoming .label)) (P .tree) (c30 .keeps-required .ensures (a .build .incoming)
+    (a .pair .depth) P _ refl) (c29 .if1 .left) (c23 .needs-rename .ensures) _ _ from _ _ (c22 .if2 .left) (c20 .put .kept .0)
     (c13 .attach-transforms2 .kept .1 .1 .1 .1 .1 .1 .0 ∙ c20 .put .kept .0) (c20 .put .ensures) (c13 .attach-transforms2 .ensures T P Q)
     (sym (c8 .is-refused .ensures) ∙ c7 .if3 .left) (c6 .len-of .ensures) (c2 .write-text .ensures .0) (c2 .write-text .ensures .1) (omega (
       arith,
       c2 .write-text .ensures .0,
-      text-long (now (c37 .args .target)) (c37 .args .pair .target .label .name) (w .1 .1 .0 .1),
+      text-long (now (c38 .args .target)) (c38 .args .pair .target .label .name) (w .1 .1 .0 .1),
       w .1 .1 .0 .2,
     ))
     (lt (rename-on (a .build .matching) (labelAt (now (a .target)) (a .pair .target .label)) (labelAt (now (a .incoming)) (a .pair .incoming .label))
@@ -1238,73 +1242,74 @@ attach-struct-returns t c =
     let c2 = c .before .before in let c9 = c2 .before .before .before .before .before .before .before in
     λ from T P Q lt.
     let a = c9 .args in
-    makes-refused _ _ _ _ _ (struct-other (a .build .matching) (a .build .policy) (defaultsAt (a .build .defaults) T) (Q .columns) (a .place .position)
+    makes-refused _ _ _ _ _ (struct-other (a .build .matching) (a .build .policy) (defaultsAt (a .build .defaults) T) (Q .columns) (a .over .place .position)
     (P .tree) (part-no-struct (a .build .incoming) (a .over .depth) (now (a .incoming)) (a .over .incoming .at) (structPart (P .tree)) (P .end)
     (c2 .struct-part .ensures (a .build .incoming) (a .over .depth) P) (c .enum-told .given .1)))
 
 attach-struct-sub-t20 : (t : ℕ) → attach-struct-lts.Need-sub-t20 (attach-struct-claims t) (attach-struct-at t) attach-struct.Post
 attach-struct-sub-t20 t c =
-    let c12 = c .before .before .before .before .before .before .before .before .before .before .before .before in
-    let z = deep (c12 .pre .1 .0 .0) in omega arith
+    let c13 = c .before .before .before .before .before .before .before .before .before .before .before .before .before in
+    let z = deep (c13 .pre .1 .0 .0) in omega arith
 
 attach-struct-struct-fault-requires : (t : ℕ) → attach-struct-lts.Need-struct-fault-requires (attach-struct-claims t) (attach-struct-at t) attach-struct.Post
 attach-struct-struct-fault-requires t c κs =
-    let c4 = c .before .before .before .before in let c6 = c4 .before .before in let c13 = c6 .before .before .before .before .before .before .before in
-    let a = c13 .args in
-    let P = c13 .pre .1 .0 .0 in
+    let c6 = c .before .before .before .before .before .before in let c8 = c6 .before .before in let c15 =
+    c8 .before .before .before .before .before .before .before in
+    let a = c15 .args in
+    let P = c15 .pre .1 .0 .0 in
     let S = part-struct (a .build .incoming) (a .over .depth) (now (a .incoming)) (a .over .incoming .at) (structPart (P .tree)) (P .end)
-    (c6 .struct-part .ensures (a .build .incoming) (a .over .depth) P) (c4 .n .given .1) in
-    (S .inner, c13 .pre .1 .0 .1)
+    (c8 .struct-part .ensures (a .build .incoming) (a .over .depth) P) (c6 .n .given .1) in
+    (S .inner, c15 .pre .1 .0 .1)
 
 attach-struct-same-length : (t : ℕ) → attach-struct-lts.Need-same-length (attach-struct-claims t) (attach-struct-at t) attach-struct.Post
 attach-struct-same-length t c = search needs
 
 attach-struct-returns-2 : (t : ℕ) → attach-struct-lts.Need-returns-2 (attach-struct-claims t) (attach-struct-at t) attach-struct.Post
 attach-struct-returns-2 t c =
-    let c3 = c .before .before .before in let c8 = c3 .before .before .before .before .before in let c10 = c8 .before .before in let c17 =
-    c10 .before .before .before .before .before .before .before in
+    let c3 = c .before .before .before in let c10 = c3 .before .before .before .before .before .before .before in let c12 = c10 .before .before in let c19 =
+    c12 .before .before .before .before .before .before .before in
     λ from T P Q lt.
-    let a = c17 .args in
+    let a = c19 .args in
     let S = part-struct (a .build .incoming) (a .over .depth) (now (a .incoming)) (a .over .incoming .at) (structPart (P .tree)) (P .end)
-    (c10 .struct-part .ensures (a .build .incoming) (a .over .depth) P) (c8 .n .given .1) in
-    makes-refused _ _ _ _ _ (struct-faulted (a .build .matching) (a .build .policy) (defaultsAt (a .build .defaults) T) (Q .columns) (a .place .position)
+    (c12 .struct-part .ensures (a .build .incoming) (a .over .depth) P) (c10 .n .given .1) in
+    makes-refused _ _ _ _ _ (struct-faulted (a .build .matching) (a .build .policy) (defaultsAt (a .build .defaults) T) (Q .columns)
+    (a .over .place .position)
     (P .tree) (S .inner .columns) (S .is) (c3 .struct-fault .ensures (S .inner) Q) (c .if1 .taken))
 
 attach-struct-put-head-requires : (t : ℕ) → attach-struct-lts.Need-put-head-requires (attach-struct-claims t) (attach-struct-at t) attach-struct.Post
 attach-struct-put-head-requires t c κs =
-    let c19 = c .before .before .before .before .before .before .before .before .before .before .before .before .before .before .before .before .before
-    .before .before in
-    omega (arith, c19 .pre .1 .1 .1)
+    let c21 = c .before .before .before .before .before .before .before .before .before .before .before .before .before .before .before .before .before
+    .before .before .before .before in
+    omega (arith, c21 .pre .1 .1 .1)
 
 attach-struct-add-put-short : (t : ℕ) → attach-struct-lts.Need-add-put-short (attach-struct-claims t) (attach-struct-at t) attach-struct.Post
 attach-struct-add-put-short t c =
-    let c24 = c .before .before .before .before .before .before .before .before .before .before .before .before .before .before .before .before .before
-    .before .before .before .before .before .before .before in
-    omega (arith, c24 .pre .1 .1 .1)
+    let c14 = c .before .before .before .before .before .before .before .before .before .before .before .before .before .before in
+    omega (arith, c14 .pre .1 .1 .1)
 
 attach-struct-put-short-requires : (t : ℕ) → attach-struct-lts.Need-put-short-requires (attach-struct-claims t) (attach-struct-at t) attach-struct.Post
 attach-struct-put-short-requires t c κs =
-    let c24 = c .before .before .before .before .before .before .before .before .before .before .before .before .before .before .before .before .before
-    .before .before .before .before .before .before .before in
-    omega (arith, c24 .pre .1 .1 .1)
+    let c26 = c .before .before .before .before .before .before .before .before .before .before .before .before .before .before .before .before .before
+    .before .before .before .before .before .before .before .before .before in
+    omega (arith, c26 .pre .1 .1 .1)
 
-attach-struct-add-attach-row : (t : ℕ) → attach-struct-lts.Need-add-attach-row (attach-struct-claims t) (attach-struct-at t) attach-struct.Post
-attach-struct-add-attach-row t c =
-    let c29 = c .before .before .before .before .before .before .before .before .before .before .before .before .before .before .before .before .before
-    .before .before .before .before .before .before .before .before .before .before .before .before in
-    omega (arith, c29 .pre .1 .1 .1)
+attach-struct-add-put-short-2 : (t : ℕ) → attach-struct-lts.Need-add-put-short-2 (attach-struct-claims t) (attach-struct-at t) attach-struct.Post
+attach-struct-add-put-short-2 t c =
+    let c26 = c .before .before .before .before .before .before .before .before .before .before .before .before .before .before .before .before .before
+    .before .before .before .before .before .before .before .before .before in
+    omega (arith, c26 .pre .1 .1 .1)
 
 attach-struct-attach-row-requires : (t : ℕ) → attach-struct-lts.Need-attach-row-requires (attach-struct-claims t) (attach-struct-at t) attach-struct.Post
 attach-struct-attach-row-requires t c κs =
-    let c21 = c .before .before .before .before .before .before .before .before .before .before .before .before .before .before .before .before .before
-    .before .before .before .before in let c23 = c21 .before .before in let c30 = c23 .before .before .before .before .before .before .before in
-    let a = c30 .args in
-    let w = c30 .pre .1 in
+    let c22 = c .before .before .before .before .before .before .before .before .before .before .before .before .before .before .before .before .before
+    .before .before .before .before .before in let c24 = c22 .before .before in let c31 = c24 .before .before .before .before .before .before .before in
+    let a = c31 .args in
+    let w = c31 .pre .1 in
     let P = w .0 .0 in
     let z = deep P in
     let S = part-struct (a .build .incoming) (a .over .depth) (now (a .incoming)) (a .over .incoming .at) (structPart (P .tree)) (P .end)
-    (c23 .struct-part .ensures (a .build .incoming) (a .over .depth) P) (c21 .n .given .1) in
-    (omega (arith, c30 .pre .0), ((S .inner, w .0 .1), (w .1 .0, (w .1 .1 .0, w .1 .1 .1, w .1 .1 .3))))
+    (c24 .struct-part .ensures (a .build .incoming) (a .over .depth) P) (c22 .n .given .1) in
+    (omega (arith, c31 .pre .0), ((S .inner, w .0 .1), (w .1 .0, (w .1 .1 .0, w .1 .1 .1, w .1 .1 .3))))
 
 attach-struct-enum-known-row : (t : ℕ) → attach-struct-lts.Need-enum-known-row (attach-struct-claims t) (attach-struct-at t) attach-struct.Post
 attach-struct-enum-known-row t c = search needs
@@ -1323,16 +1328,17 @@ attach-struct-same-length-3 t c = search needs
 
 attach-struct-returns-3 : (t : ℕ) → attach-struct-lts.Need-returns-3 (attach-struct-claims t) (attach-struct-at t) attach-struct.Post
 attach-struct-returns-3 t c =
-    let c1 = c .before in let c7 = c1 .before .before .before .before .before .before in let c21 =
-    c7 .before .before .before .before .before .before .before .before .before .before .before .before .before .before in let c24 =
-    c21 .before .before .before in let c29 = c24 .before .before .before .before .before in let c31 = c29 .before .before in let c38 =
-    c31 .before .before .before .before .before .before .before in
+    let c1 = c .before in let c7 = c1 .before .before .before .before .before .before in let c20 =
+    c7 .before .before .before .before .before .before .before .before .before .before .before .before .before in let c23 = c20 .before .before .before in
+    let c30 = c23 .before .before .before .before .before .before .before in let c32 = c30 .before .before in let c39 =
+    c32 .before .before .before .before .before .before .before in
     λ from T P Q lt.
-    let a = c38 .args in
+    let a = c39 .args in
     let S = part-struct (a .build .incoming) (a .over .depth) (now (a .incoming)) (a .over .incoming .at) (structPart (P .tree)) (P .end)
-    (c31 .struct-part .ensures (a .build .incoming) (a .over .depth) P) (c29 .n .given .1) in
-    struct-stops (a .build .matching) (a .build .policy) (defaultsAt (a .build .defaults) T) (Q .columns) (a .place .position) (P .tree) (S .inner .columns)
-    (S .is) (c24 .struct-fault .ensures (S .inner) Q) (c21 .if1 .left) _ _ from _ _ (c .refused-row .ensures) (c7 .attach-row .ensures T (S .inner) Q)
+    (c32 .struct-part .ensures (a .build .incoming) (a .over .depth) P) (c30 .n .given .1) in
+    struct-stops (a .build .matching) (a .build .policy) (defaultsAt (a .build .defaults) T) (Q .columns) (a .over .place .position) (P .tree)
+    (S .inner .columns)
+    (S .is) (c23 .struct-fault .ensures (S .inner) Q) (c20 .if1 .left) _ _ from _ _ (c .refused-row .ensures) (c7 .attach-row .ensures T (S .inner) Q)
     (c1 .enum-told2 .given .1)
 
 attach-struct-unchanged-requires : (t : ℕ) → attach-struct-lts.Need-unchanged-requires (attach-struct-claims t) (attach-struct-at t) attach-struct.Post
@@ -1340,50 +1346,51 @@ attach-struct-unchanged-requires t c κs = search needs
 
 attach-struct-put-position-requires : (t : ℕ) → attach-struct-lts.Need-put-position-requires (attach-struct-claims t) (attach-struct-at t) attach-struct.Post
 attach-struct-put-position-requires t c κs =
-    let c41 = c .before .before .before .before .before .before .before .before .before .before .before .before .before .before .before .before .before
-    .before .before .before .before .before .before .before .before .before .before .before .before .before .before .before .before .before .before
+    let c42 = c .before .before .before .before .before .before .before .before .before .before .before .before .before .before .before .before .before
+    .before .before .before .before .before .before .before .before .before .before .before .before .before .before .before .before .before .before .before
     .before .before .before .before .before .before in
-    omega (arith, c41 .pre .1 .1 .1)
+    omega (arith, c42 .pre .1 .1 .1)
 
 attach-struct-same-length-4 : (t : ℕ) → attach-struct-lts.Need-same-length-4 (attach-struct-claims t) (attach-struct-at t) attach-struct.Post
 attach-struct-same-length-4 t c = search needs
 
 attach-struct-same-length-5 : (t : ℕ) → attach-struct-lts.Need-same-length-5 (attach-struct-claims t) (attach-struct-at t) attach-struct.Post
 attach-struct-same-length-5 t c =
-    let c13 = c .before .before .before .before .before .before .before .before .before .before .before .before .before in let c30 =
-    c13 .before .before .before .before .before .before .before .before .before .before .before .before .before .before .before .before .before in
-    c13 .attach-row .kept .1 .1 .1 .1 .1 .1 .1 .1 .0 ∙ c30 .struct-fault .kept .1 .1 .1 .1 .0
+    let c13 = c .before .before .before .before .before .before .before .before .before .before .before .before .before in let c29 =
+    c13 .before .before .before .before .before .before .before .before .before .before .before .before .before .before .before .before in
+    c13 .attach-row .kept .1 .1 .1 .1 .1 .1 .1 .0 ∙ c29 .struct-fault .kept .1 .1 .1 .1 .0
 
 attach-struct-returns-4 : (t : ℕ) → attach-struct-lts.Need-returns-4 (attach-struct-claims t) (attach-struct-at t) attach-struct.Post
 attach-struct-returns-4 t c =
     let c2 = c .before .before in let c4 = c2 .before .before in let c5 = c4 .before in let c7 = c5 .before .before in let c13 =
-    c7 .before .before .before .before .before .before in let c19 = c13 .before .before .before .before .before .before in let c24 =
-    c19 .before .before .before .before .before in let c27 = c24 .before .before .before in let c30 = c27 .before .before .before in let c35 =
-    c30 .before .before .before .before .before in let c37 = c35 .before .before in let c44 = c37 .before .before .before .before .before .before .before in
+    c7 .before .before .before .before .before .before in let c18 = c13 .before .before .before .before .before in let c23 =
+    c18 .before .before .before .before .before in let c26 = c23 .before .before .before in let c29 = c26 .before .before .before in let c36 =
+    c29 .before .before .before .before .before .before .before in let c38 = c36 .before .before in let c45 =
+    c38 .before .before .before .before .before .before .before in
     λ from T P Q lt.
-    let a = c44 .args in
+    let a = c45 .args in
     let S = part-struct (a .build .incoming) (a .over .depth) (now (a .incoming)) (a .over .incoming .at) (structPart (P .tree)) (P .end)
-    (c37 .struct-part .ensures (a .build .incoming) (a .over .depth) P) (c35 .n .given .1) in
-    struct-left-out (a .build .matching) (a .build .policy) (defaultsAt (a .build .defaults) T) (Q .columns) (a .place .position) (P .tree)
-    (S .inner .columns) (S .is) (c30 .struct-fault .ensures (S .inner) Q) (c27 .if1 .left) _ _ from (count-at (S .inner)) (count-at Q)
-    (c7 .row .given .1) _ _ _ (c24 .put-head .ensures) (c19 .put-short .ensures) (c13 .attach-row .ensures T (S .inner) Q) (c5 .unchanged .ensures)
+    (c38 .struct-part .ensures (a .build .incoming) (a .over .depth) P) (c36 .n .given .1) in
+    struct-left-out (a .build .matching) (a .build .policy) (defaultsAt (a .build .defaults) T) (Q .columns) (a .over .place .position) (P .tree)
+    (S .inner .columns) (S .is) (c29 .struct-fault .ensures (S .inner) Q) (c26 .if1 .left) _ _ from (count-at (S .inner)) (count-at Q)
+    (c7 .row .given .1) _ _ _ (c23 .put-head .ensures) (c18 .put-short .ensures) (c13 .attach-row .ensures T (S .inner) Q) (c5 .unchanged .ensures)
     (c4 .if2 .taken)
-    (c13 .attach-row .kept .1 .1 .1 .1 .1 .1 .0 ∙ c19 .put-short .kept .0 ∙ c24 .put-head .kept .0) (c2 .put-position .ensures) (omega (
+    (c13 .attach-row .kept .1 .1 .1 .1 .1 .1 .0 ∙ c18 .put-short .kept .0 ∙ c23 .put-head .kept .0) (c2 .put-position .ensures) (omega (
       arith,
       lt,
-      columns-within Q (c44 .pre .1 .1 .1 .2),
+      columns-within Q (c45 .pre .1 .1 .1 .2),
     ))
 
-attach-struct-add-t30 : (t : ℕ) → attach-struct-lts.Need-add-t30 (attach-struct-claims t) (attach-struct-at t) attach-struct.Post
-attach-struct-add-t30 t c =
-    let c3 = c .before .before .before in let c9 = c3 .before .before .before .before .before .before in let c31 =
+attach-struct-add-t22 : (t : ℕ) → attach-struct-lts.Need-add-t22 (attach-struct-claims t) (attach-struct-at t) attach-struct.Post
+attach-struct-add-t22 t c =
+    let c3 = c .before .before .before in let c9 = c3 .before .before .before .before .before .before in let c32 =
     c9 .before .before .before .before .before .before .before .before .before .before .before .before .before .before .before .before .before .before
-    .before .before .before .before in let c33 = c31 .before .before in let c40 = c33 .before .before .before .before .before .before .before in
-    let a = c40 .args in
-    let w = c40 .pre .1 in
+    .before .before .before .before .before in let c34 = c32 .before .before in let c41 = c34 .before .before .before .before .before .before .before in
+    let a = c41 .args in
+    let w = c41 .pre .1 in
     let P = w .0 .0 in
     let S = part-struct (a .build .incoming) (a .over .depth) (now (a .incoming)) (a .over .incoming .at) (structPart (P .tree)) (P .end)
-    (c33 .struct-part .ensures (a .build .incoming) (a .over .depth) P) (c31 .n .given .1) in
+    (c34 .struct-part .ensures (a .build .incoming) (a .over .depth) P) (c32 .n .given .1) in
     omega (
       arith,
       row-room _ (c9 .attach-row .ensures (w .1 .0 .0) (S .inner) (w .0 .1 .0)) (c3 .row .given .1),
@@ -1399,18 +1406,19 @@ attach-struct-same-length-7 t c = search needs
 
 attach-struct-returns-5 : (t : ℕ) → attach-struct-lts.Need-returns-5 (attach-struct-claims t) (attach-struct-at t) attach-struct.Post
 attach-struct-returns-5 t c =
-    let c1 = c .before in let c3 = c1 .before .before in let c9 = c3 .before .before .before .before .before .before in let c15 =
-    c9 .before .before .before .before .before .before in let c20 = c15 .before .before .before .before .before in let c23 = c20 .before .before .before
-    in let c26 = c23 .before .before .before in let c31 = c26 .before .before .before .before .before in let c33 = c31 .before .before in let c40 =
-    c33 .before .before .before .before .before .before .before in
+    let c1 = c .before in let c3 = c1 .before .before in let c9 = c3 .before .before .before .before .before .before in let c14 =
+    c9 .before .before .before .before .before in let c19 = c14 .before .before .before .before .before in let c22 = c19 .before .before .before in let c25 =
+    c22 .before .before .before in let c32 = c25 .before .before .before .before .before .before .before in let c34 = c32 .before .before in let c41 =
+    c34 .before .before .before .before .before .before .before in
     λ from T P Q lt.
-    let a = c40 .args in
+    let a = c41 .args in
     let S = part-struct (a .build .incoming) (a .over .depth) (now (a .incoming)) (a .over .incoming .at) (structPart (P .tree)) (P .end)
-    (c33 .struct-part .ensures (a .build .incoming) (a .over .depth) P) (c31 .n .given .1) in
-    struct-kept (a .build .matching) (a .build .policy) (defaultsAt (a .build .defaults) T) (Q .columns) (a .place .position) (P .tree) (S .inner .columns)
-    (S .is) (c26 .struct-fault .ensures (S .inner) Q) (c23 .if1 .left) _ _ from (count-at (S .inner)) (count-at Q) (c3 .row .given .1) _ _ _
-    (c20 .put-head .ensures) (c15 .put-short .ensures) (c9 .attach-row .ensures T (S .inner) Q) (c1 .unchanged .ensures) (c .if2 .left)
-    (c15 .put-short .kept .0 ∙ c20 .put-head .kept .0) lt
+    (c34 .struct-part .ensures (a .build .incoming) (a .over .depth) P) (c32 .n .given .1) in
+    struct-kept (a .build .matching) (a .build .policy) (defaultsAt (a .build .defaults) T) (Q .columns) (a .over .place .position) (P .tree)
+    (S .inner .columns)
+    (S .is) (c25 .struct-fault .ensures (S .inner) Q) (c22 .if1 .left) _ _ from (count-at (S .inner)) (count-at Q) (c3 .row .given .1) _ _ _
+    (c19 .put-head .ensures) (c14 .put-short .ensures) (c9 .attach-row .ensures T (S .inner) Q) (c1 .unchanged .ensures) (c .if2 .left)
+    (c14 .put-short .kept .0 ∙ c19 .put-head .kept .0) lt
 
 attach-transforms-head-requires : (t : ℕ) → attach-transforms-lts.Need-head-requires (attach-transforms-claims t) (attach-transforms-at t)
     attach-transforms.Post
@@ -1473,7 +1481,8 @@ attach-transforms-returns-2 t c =
     c9 .before .before .before .before .before .before .before .before in
     λ T P Q.
     let a = c17 .args in
-    makes-as _ _ _ _ _ _ (nested-is (a .build .matching) (a .build .policy) (defaultsAt (a .build .defaults) T) (Q .tree) (a .place .position) (P .tree)
+    makes-as _ _ _ _ _ _ (nested-is (a .build .matching) (a .build .policy) (defaultsAt (a .build .defaults) T) (Q .tree) (a .types .place .position)
+    (P .tree)
     (leaf-none Q _ (sym (c9 .head .ensures .0) ∙ ap (headRes _) (c7 .enum-told .given .1)) refl)) (c4 .attach-nested .ensures T P Q)
 
 attach-transforms-same-length-4 : (t : ℕ) → attach-transforms-lts.Need-same-length-4 (attach-transforms-claims t) (attach-transforms-at t)
@@ -1490,7 +1499,8 @@ attach-transforms-returns-3 t c =
     c9 .before .before .before .before .before .before .before .before in
     λ T P Q.
     let a = c17 .args in
-    makes-as _ _ _ _ _ _ (nested-is (a .build .matching) (a .build .policy) (defaultsAt (a .build .defaults) T) (Q .tree) (a .place .position) (P .tree)
+    makes-as _ _ _ _ _ _ (nested-is (a .build .matching) (a .build .policy) (defaultsAt (a .build .defaults) T) (Q .tree) (a .types .place .position)
+    (P .tree)
     (leaf-none Q _ (sym (c9 .head .ensures .0) ∙ ap (headRes _) (c7 .enum-told2 .given .1)) refl)) (c4 .attach-nested2 .ensures T P Q)
 
 attach-transforms-same-length-6 : (t : ℕ) → attach-transforms-lts.Need-same-length-6 (attach-transforms-claims t) (attach-transforms-at t)
@@ -1507,7 +1517,8 @@ attach-transforms-returns-4 t c =
     c9 .before .before .before .before .before .before .before .before in
     λ T P Q.
     let a = c17 .args in
-    makes-as _ _ _ _ _ _ (nested-is (a .build .matching) (a .build .policy) (defaultsAt (a .build .defaults) T) (Q .tree) (a .place .position) (P .tree)
+    makes-as _ _ _ _ _ _ (nested-is (a .build .matching) (a .build .policy) (defaultsAt (a .build .defaults) T) (Q .tree) (a .types .place .position)
+    (P .tree)
     (leaf-none Q _ (sym (c9 .head .ensures .0) ∙ ap (headRes _) (c7 .enum-told3 .given .1)) refl)) (c4 .attach-nested3 .ensures T P Q)
 
 attach-transforms-returns-5 : (t : ℕ) → attach-transforms-lts.Need-returns-5 (attach-transforms-claims t) (attach-transforms-at t) attach-transforms.Post
@@ -1684,13 +1695,13 @@ pub +attach-element+attach-field+attach-fields+attach-inner+attach-nested+attach
     (attach-struct-enum-told t)
     (attach-struct-returns t)
     (attach-struct-sub-t20 t)
+    (attach-struct-add-put-short t)
     (attach-struct-struct-fault-requires t)
     (attach-struct-same-length t)
     (attach-struct-returns-2 t)
     (attach-struct-put-head-requires t)
-    (attach-struct-add-put-short t)
+    (attach-struct-add-put-short-2 t)
     (attach-struct-put-short-requires t)
-    (attach-struct-add-attach-row t)
     (attach-struct-attach-row-requires t)
     (attach-struct-enum-known-row t)
     (attach-struct-enum-told-2 t)
@@ -1703,7 +1714,7 @@ pub +attach-element+attach-field+attach-fields+attach-inner+attach-nested+attach
     (attach-struct-same-length-4 t)
     (attach-struct-same-length-5 t)
     (attach-struct-returns-4 t)
-    (attach-struct-add-t30 t)
+    (attach-struct-add-t22 t)
     (attach-struct-same-length-6 t)
     (attach-struct-same-length-7 t)
     (attach-struct-returns-5 t))

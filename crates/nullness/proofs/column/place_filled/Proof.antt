@@ -8,10 +8,10 @@ use Rattle.nullness.proofs.column.place_filled.Statement.{statement}
 use Rattle.nullness.proofs.column.place_filled.Tie as tie
 
 abbrev Inv-loop : tie.InvT-loop
-Inv-loop s v required len path at₀ marked₀ i₀ at marked i = (P : TypeAt v 16 s at₀) → Marking v s (given required (P .tree)) path len at marked i
+Inv-loop s v required len path d₀ marked₀ i₀ d marked i = (P : TypeAt v 16 s (d₀ .at)) → Marking v s (given required (P .tree)) path len (d .at) marked i
 
 abbrev μ-loop : tie.MeasureT-loop
-μ-loop s v required len path at₀ marked₀ i₀ at marked i = len - i
+μ-loop s v required len path d₀ marked₀ i₀ d marked i = len - i
 
 pub place-filled-spec : {M : Type 1} → statement M
 place-filled-spec =

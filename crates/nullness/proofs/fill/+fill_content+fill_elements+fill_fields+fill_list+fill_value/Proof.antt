@@ -124,16 +124,16 @@ abbrev fill-value-claims : ℕ → fill-value-lts.Claims
 fill-value-claims t = (read-presence-reads.Asked, read-presence-reads.Learnt, keep-null-reads.Asked, keep-null-reads.Learnt, fill-content-below t, fill-content.Post)
 
 abbrev fill-elements-Inv-loop : fill-elements-lts.InvT-loop
-fill-elements-Inv-loop plan depth n t ends nulls₀ at₀ i₀ nulls at i = Elements plan n (t .at) at₀ nulls i at × Grown nulls₀ nulls × (length nulls ≡ length nulls₀)
+fill-elements-Inv-loop plan depth n t ends nulls₀ d₀ i₀ nulls d i = Elements plan n (t .at) (d₀ .at) nulls i (d .at) × Grown nulls₀ nulls × (length nulls ≡ length nulls₀)
 
 abbrev fill-elements-μ-loop : fill-elements-lts.MeasureT-loop
-fill-elements-μ-loop plan depth n t ends nulls₀ at₀ i₀ nulls at i = n - i
+fill-elements-μ-loop plan depth n t ends nulls₀ d₀ i₀ nulls d i = n - i
 
 abbrev fill-fields-Inv-loop : fill-fields-lts.InvT-loop
-fill-fields-Inv-loop plan depth n ends nulls₀ at₀ to₀ i₀ nulls at to i = Row plan n at₀ to₀ nulls i at to × Grown nulls₀ nulls × (length nulls ≡ length nulls₀)
+fill-fields-Inv-loop plan depth n ends nulls₀ d₀ b₀ i₀ nulls d b i = Row plan n (d₀ .at) (b₀ .at) nulls i (d .at) (b .at) × Grown nulls₀ nulls × (length nulls ≡ length nulls₀)
 
 abbrev fill-fields-μ-loop : fill-fields-lts.MeasureT-loop
-fill-fields-μ-loop plan depth n ends nulls₀ at₀ to₀ i₀ nulls at to i = n - i
+fill-fields-μ-loop plan depth n ends nulls₀ d₀ b₀ i₀ nulls d b i = n - i
 
 pub +fill-content+fill-elements+fill-fields+fill-list+fill-value-spec : {M : Type 1} → statement M
 +fill-content+fill-elements+fill-fields+fill-list+fill-value-spec =

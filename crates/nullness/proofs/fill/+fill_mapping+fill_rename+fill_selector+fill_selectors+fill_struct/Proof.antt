@@ -121,10 +121,10 @@ abbrev fill-struct-claims : ℕ → fill-struct-lts.Claims
 fill-struct-claims t = (fill-selector-below t, fill-selector.Post, short-reads.Asked, short-reads.Learnt, fill-selectors-below t, fill-selectors.Post)
 
 abbrev fill-selectors-Inv-loop : fill-selectors-lts.InvT-loop
-fill-selectors-Inv-loop plan depth n nulls₀ at₀ i₀ nulls at i = Nulls plan nulls × (length nulls ≡ length nulls₀)
+fill-selectors-Inv-loop plan depth n nulls₀ d₀ i₀ nulls d i = Nulls plan nulls × (length nulls ≡ length nulls₀)
 
 abbrev fill-selectors-μ-loop : fill-selectors-lts.MeasureT-loop
-fill-selectors-μ-loop plan depth n nulls₀ at₀ i₀ nulls at i = n - i
+fill-selectors-μ-loop plan depth n nulls₀ d₀ i₀ nulls d i = n - i
 
 pub +fill-mapping+fill-rename+fill-selector+fill-selectors+fill-struct-spec :
     {M : Type 1} → statement M

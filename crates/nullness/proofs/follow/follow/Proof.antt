@@ -7,10 +7,10 @@ use Rattle.nullness.proofs.follow.follow.Statement.{statement}
 use Rattle.nullness.proofs.follow.follow.Tie as tie
 
 abbrev Inv-loop : tie.InvT-loop
-Inv-loop incoming v n index plan nulls x₀ x = Followings v incoming n plan x₀ x
+Inv-loop incoming columns index plan nulls x₀ x = Followings incoming columns plan x₀ x
 
 abbrev μ-loop : tie.MeasureT-loop
-μ-loop incoming v n index plan nulls x₀ x = rank x
+μ-loop incoming columns index plan nulls x₀ x = rank x
 
 pub follow-spec : {M : Type 1} → statement M
 follow-spec =
@@ -18,7 +18,7 @@ follow-spec =
     (tie.spec
     Inv-loop
     μ-loop
-    (λ c. following-start _ _ _ _ _ (λ i. omega (arith, c .before .shared-slice-known3 .given i)))
+    (λ c. following-start _ _ _ _ (λ i. omega (arith, c .before .shared-slice-known3 .given i)))
     (λ c κs. let F = c .loop .inv (c .before .before .before .before .before .pre .1 .0) (c .before .before .before .before .before .pre .1 .1) in (F .state, F .standing))
     (λ c κs.
     let L = following-located (c .before .loop .inv (c .before .before .before .before .before .before .pre .1 .0) (c .before .before .before .before .before .before .pre .1 .1)) (c .locate .ensures) in

@@ -12,7 +12,6 @@ meets-by-table-spec =
     (λ c κs. nulls-zeros 1088)
     (λ c. search needs)
     (λ c κs.
-    let c2 = c .before .before in
-    let c8 = c2 .before .before .before .before .before .before in
+    let c2 = c .before .before in let c8 = c2 .before .before .before .before .before .before in
     ((c8 .pre .0, c2 .fill-selectors .ensures), c8 .pre .1))
     (λ c. λ P D S. c .meets-columns .ensures P D S))

@@ -19,16 +19,12 @@ meets-marks-spec =
     (λ c. search needs)
     (λ c. search needs)
     (λ c κs.
-    let c4 = c .before .before .before .before in
-    let c6 = c4 .before .before in
-    let c10 = c6 .before .before .before .before in
+    let c4 = c .before .before .before .before in let c6 = c4 .before .before in let c10 = c6 .before .before .before .before in
     ((stride-as (c6 .stride-of .ensures .0) (c4 .index-columns .ensures .1), nulls-none refl), c10 .pre))
     (λ c. λ P D S. c .meets-columns .ensures P D S)
     (λ c. search needs)
     (λ c. sym (length-take-le _ _ (c .before .before .before .index-columns .ensures .0)))
     (λ c κs.
-    let c3 = c .before .before .before in
-    let c5 = c3 .before .before in
-    let c9 = c5 .before .before .before .before in
+    let c3 = c .before .before .before in let c5 = c3 .before .before in let c9 = c5 .before .before .before .before in
     (stride-as (c5 .stride-of .ensures .0) (c3 .index-columns .ensures .1), c9 .pre))
     (λ c. λ P D S. c .meets-by-table .ensures P D S))

@@ -8,10 +8,10 @@ use Rattle.nullness.proofs.nulls.may_be_null.Statement.{statement}
 use Rattle.nullness.proofs.nulls.may_be_null.Tie as tie
 
 abbrev Inv-loop : tie.InvT-loop
-Inv-loop plan from len nulls path at₀ i₀ at i = Looking plan at₀ path from len at i
+Inv-loop plan from len nulls path c₀ i₀ c i = Looking plan (c₀ .at) path from len (c .at) i
 
 abbrev μ-loop : tie.MeasureT-loop
-μ-loop plan from len nulls path at₀ i₀ at i = len - i
+μ-loop plan from len nulls path c₀ i₀ c i = len - i
 
 pub may-be-null-spec : {M : Type 1} → statement M
 may-be-null-spec =

@@ -1,8 +1,7 @@
--- `output::emit::put_part` meets its contract: without a cast the value as it stands. Assumes nothing.
 use Rattle.ends.proofs.Entries.{ends-none}
+use Rattle.raw.proofs.Storing.{stores-as}
 use Rattle.output.proofs.Casting.{stores-uncast}
 use mathlib.Core.Path.{refl, _∙_}
-use native.Mathlib.Omega.{arith}
 use borrow.Author.Needs.{needs}
 use Rattle.output.proofs.emit.put_part.Statement.{statement}
 use Rattle.output.proofs.emit.put_part.Tie as tie
@@ -11,11 +10,14 @@ pub put-part-spec : {M : Type 1} → statement M
 put-part-spec =
     tie.close
     (tie.spec
-    (λ c κs. (c .before .before .before .before .pre .0, omega (arith, c .before .before .before .before .pre .1 .1)))
+    (λ c κs. search needs)
     (λ c. search needs)
-    (λ c. λ X x z ks W p e. stores-uncast _ ks (c .before .before .copy-constant .ensures X) (e ∙ c .before .before .before .before .if1 .taken))
+    (λ c. let c2 = c .before .before in let c4 = c2 .before .before in λ X x z ks W p e. stores-uncast _ ks (c2 .copy-constant .ensures X) (e ∙ c4 .if1 .taken))
+    (λ c κs. search needs)
     (λ c. search needs)
     (λ c. search needs)
-    (λ c κs. (ends-none refl, (c .before .before .before .before .before .pre .0, (c .before .before .before .before .before .pre .1 .0, c .before .before .before .before .before .pre .1 .1))))
+    (λ c κs. let c6 = c .before .before .before .before .before .before in (ends-none refl, (c6 .pre .0, c6 .pre .1 .1)))
     (λ c. search needs)
-    (λ c. λ X x z ks W p e. c .before .before .put-raw .ensures X x z ks W p e))
+    (λ c.
+    let c2 = c .before .before in let c5 = c2 .before .before .before in
+    λ X x z ks W p e. stores-as (c5 .cast-leaf .ensures X x z ks W p e) (c2 .put-raw .ensures X)))

@@ -1,5 +1,6 @@
--- `overflow::overflows::over_type`, `over_element` and `over_fields` meet their contracts: they call each other with the depth of the type falling; the loop keeps `Fieldings`. Assumes nothing.
-use Rattle.overflow.proofs.Paths.{Fieldings, step-leaves, step-room, time-leaves, never-leaves, struct-leaves, list-leaves, array-leaves, fielding-none, fielding-all, fielding-labelled, fielding-type, fielding-found, fielding-more}
+-- `overflow::overflows::over_type`, `over_element` and `over_fields` meet their contracts: they call each other with the depth of the type falling; the loop
+-- keeps `Fieldings`. Assumes nothing.
+use Rattle.overflow.proofs.Paths.{Fieldings, step-top, step-leaves, step-room, step-deep, time-leaves, never-leaves, struct-leaves, list-leaves, array-leaves, fielding-none, fielding-all, fielding-labelled, fielding-type, fielding-found, fielding-more}
 use Rattle.layout.proofs.View.{deep, struct-at, list-at, array-at, never-headless, list-labelled, array-labelled}
 use borrow.Author.Needs.{needs}
 use Prim.Native.Nat.{ℕ, _<_, _+_, _-_, _*_}
@@ -20,19 +21,19 @@ use Rattle.layout.proofs.cursor.Cursor.head.Reads as head-reads
 use Rattle.layout.proofs.cursor.Cursor.label.Reads as label-reads
 use Rattle.layout.proofs.walk.skip_type.Reads as skip-type-reads
 use Rattle.overflow.proofs.overflows.over_leaf.Reads as over-leaf-reads
-use Rattle.overflow.proofs.overflows.stepped.Reads as stepped-reads
+use Rattle.overflow.proofs.overflows.part_path.Reads as part-path-reads
 use Rattle.overflow.proofs.want.time_of.Reads as time-of-reads
 use Rattle.overflow.proofs.overflows.+over_element+over_fields+over_type.{statement}
 use Rattle.overflow.proofs.overflows.+over_element+over_fields+over_type.Tie.{close}
 
 abbrev μ-over-element : Measures 5 over-element-kinds.ps ℕ
-μ-over-element κs a = (a .1 .1 .1 .1 .1 .1 .1 .1 .1 .0) * 3 + 1
+μ-over-element κs a = (a .1 .1 .1 .1 .1 .1 .0 .depth) * 3 + 1
 
 abbrev μ-over-fields : Measures 5 over-fields-kinds.ps ℕ
-μ-over-fields κs a = (a .1 .1 .1 .1 .1 .1 .1 .1 .1 .0) * 3 + 1
+μ-over-fields κs a = (a .1 .1 .1 .1 .1 .1 .0 .depth) * 3 + 1
 
 abbrev μ-over-type : Measures 5 over-type-kinds.ps ℕ
-μ-over-type κs a = (a .1 .1 .1 .1 .1 .1 .1 .1 .1 .0) * 3 + 0
+μ-over-type κs a = (a .1 .1 .1 .1 .1 .1 .0 .depth) * 3 + 0
 
 abbrev over-element-at : ℕ → In 5 over-element-kinds.ps
 over-element-at t =
@@ -62,47 +63,135 @@ over-type-below t =
     and 5 over-type-kinds.ps (falls 5 over-type-kinds.ps _<_ μ-over-type t) over-type.Pre
 
 abbrev over-element-claims : ℕ → over-element-lts.Claims
-over-element-claims t = (stepped-reads.Asked, stepped-reads.Learnt, over-type-below t, over-type.Post)
+over-element-claims t = (part-path-reads.Asked, part-path-reads.Learnt, over-type-below t, over-type.Post)
 
 abbrev over-fields-claims : ℕ → over-fields-lts.Claims
-over-fields-claims t = (label-reads.Asked, label-reads.Learnt, stepped-reads.Asked, stepped-reads.Learnt, over-type-below t, over-type.Post, skip-type-reads.Asked, skip-type-reads.Learnt)
+over-fields-claims t = (
+  label-reads.Asked,
+  label-reads.Learnt,
+  part-path-reads.Asked,
+  part-path-reads.Learnt,
+  over-type-below t,
+  over-type.Post,
+  skip-type-reads.Asked,
+  skip-type-reads.Learnt,
+)
 
 abbrev over-type-claims : ℕ → over-type-lts.Claims
-over-type-claims t = (head-reads.Asked, head-reads.Learnt, time-of-reads.Asked, time-of-reads.Learnt, over-leaf-reads.Asked, over-leaf-reads.Learnt, over-fields-below t, over-fields.Post, element-label-reads.Asked, element-label-reads.Learnt, over-element-below t, over-element.Post)
+over-type-claims t = (
+  head-reads.Asked,
+  head-reads.Learnt,
+  time-of-reads.Asked,
+  time-of-reads.Learnt,
+  over-leaf-reads.Asked,
+  over-leaf-reads.Learnt,
+  over-fields-below t,
+  over-fields.Post,
+  element-label-reads.Asked,
+  element-label-reads.Learnt,
+  over-element-below t,
+  over-element.Post,
+)
 
 abbrev over-fields-Inv-loop : over-fields-lts.InvT-loop
-over-fields-Inv-loop lay v n columns rec plan top tgt y depth m path len table at₀ i₀ at i = Fieldings v lay n (columns .at) rec plan top y depth tgt m at₀ path len i at
+over-fields-Inv-loop lay columns rec plan path tgt table edition depth count d₀ i₀ d i =
+    Fieldings lay columns rec plan path edition depth tgt count (d₀ .at) i (d .at)
 
 abbrev over-fields-μ-loop : over-fields-lts.MeasureT-loop
-over-fields-μ-loop lay v n columns rec plan top tgt y depth m path len table at₀ i₀ at i = m - i
+over-fields-μ-loop lay columns rec plan path tgt table edition depth count d₀ i₀ d i = count - i
 
 pub +over-element+over-fields+over-type-spec : {M : Type 1} → statement M
 +over-element+over-fields+over-type-spec =
     close μ-over-element μ-over-fields μ-over-type (λ t. over-element-lts.spec (over-element-claims t)
     (over-element-at t)
     over-element.Post
-    (λ c κs. omega (arith, c .before .before .before .before .before .pre .1 .1 .1 .1, c .before .before .before .before .before .pre .1 .1 .1 .2))
-    (λ c. search needs)
-    (λ c κs. (omega (arith, c .before .before .before .before .before .before .pre .0), (c .before .before .before .before .before .before .pre .1 .0, (c .before .before .before .before .before .before .pre .1 .1 .0, (c .before .before .before .before .before .before .pre .1 .1 .1 .0, omega (arith, c .before .before .before .before .before .before .pre .1 .1 .1 .1), step-room (c .before .before .before .before .before .before .args .path) (c .before .before .before .before .before .before .args .len) 0 (c .before .before .before .before .before .before .pre .1 .1 .1 .2) (c .stepped .ensures))))))
-    (λ c. λ X T Q. step-leaves (c .before .before .before .before .before .before .before .args .path) (c .before .before .before .before .before .before .before .args .len) 0 (c .before .before .before .before .before .before .before .pre .1 .1 .1 .2) (c .before .stepped .ensures) _ _ _ (omega (arith, c .before .before .before .before .before .before .before .pre .1 .1 .1 .1)) (c .over-type .ensures X T Q)))
+    (λ c κs.
+    let c5 = c .before .before .before .before .before in
+    omega (arith, c5 .pre .1 .1 .1 .1, c5 .pre .1 .1 .1 .2))
+    (λ c κs.
+    let c6 = c .before .before .before .before .before .before in (
+      omega (arith, c6 .pre .0),
+      (
+        c6 .pre .1 .0,
+        (
+          (
+            c6 .pre .1 .1 .0 .0,
+            step-top (c6 .args .path) 0 (c6 .pre .1 .1 .1 .2) (c .part-path .ensures)
+                (c6 .pre .1 .1 .0 .1),
+          ),
+          (
+            c6 .pre .1 .1 .1 .0,
+            step-deep (c6 .args .path) 0 (c6 .pre .1 .1 .1 .2) (c .part-path .ensures) _ (c6 .pre .1 .1 .1 .1),
+            step-room (c6 .args .path) 0 (c6 .pre .1 .1 .1 .2) (c .part-path .ensures),
+          ),
+        ),
+      ),
+    ))
+    (λ c.
+    let c1 = c .before in let c7 = c1 .before .before .before .before .before .before in
+    λ X T Q. step-leaves (c7 .args .path) 0 (c7 .pre .1 .1 .1 .2) (c1 .part-path .ensures) _ T _ (omega (arith, c7 .pre .1 .1 .1 .1)) (λ S.
+    c .over-type .ensures X S Q)))
     (λ t. over-fields-lts.spec (over-fields-claims t)
     (over-fields-at t)
     over-fields.Post
     over-fields-Inv-loop
     over-fields-μ-loop
-    (λ c. λ X T. fielding-none _ (c .before .before .before .before .before .pre .1 .1 .1 .0))
+    (λ c.
+    let c6 = c .before .before .before .before .before .before in
+    λ X T. fielding-none _ (c6 .pre .1 .1 .1 .0))
     (λ c κs. search needs)
     (λ c. search needs)
-    (λ c κs. omega (arith, c .before .before .before .before .before .before .before .before .before .before .before .pre .1 .1 .1 .1, c .before .before .before .before .before .before .before .before .before .before .before .pre .1 .1 .1 .2))
+    (λ c κs.
+    let c12 = c .before .before .before .before .before .before .before .before .before .before .before .before in
+    omega (arith, c12 .pre .1 .1 .1 .1, c12 .pre .1 .1 .1 .2))
+    (λ c κs.
+    let c2 = c .before .before in let c4 = c2 .before .before in let c5 = c4 .before in let c6 = c5 .before in let c13 =
+    c6 .before .before .before .before .before .before .before in
+    let F = c6 .loop .inv (c13 .pre .1 .1 .0 .0) (c13 .pre .1 .1 .0 .1) in (
+      omega (arith, c13 .pre .0),
+      (
+        c13 .pre .1 .0,
+        (
+          (
+            c13 .pre .1 .1 .0 .0,
+            step-top
+                (c13 .args .path) (c6 .loop .i) (c13 .pre .1 .1 .1 .2) (c .part-path .ensures) (c13 .pre .1 .1 .0 .1),
+          ),
+          (
+            fielding-type F (c5 .loop-test .taken)
+                (c4 .label .ensures .0) (c2 .e .given .1),
+            step-deep (c13 .args .path) (c6 .loop .i) (c13 .pre .1 .1 .1 .2) (c .part-path .ensures) _
+                (c13 .pre .1 .1 .1 .1),
+            step-room (c13 .args .path) (c6 .loop .i) (c13 .pre .1 .1 .1 .2) (c .part-path .ensures),
+          ),
+        ),
+      ),
+    ))
+    (λ c.
+    let c1 = c .before in let c2 = c1 .before in let c4 = c2 .before .before in let c6 = c4 .before .before in let c7 = c6 .before in let c8 = c7 .before in
+    let c15 = c8 .before .before .before .before .before .before .before in
+    λ X T. fielding-found (c8 .loop .inv X T) (c7 .loop-test .taken) (c6 .label .ensures .0) (c4 .e .given .1) (λ P. step-leaves (c15 .args .path)
+    (c8 .loop .i) (c15 .pre .1 .1 .1 .2) (c2 .part-path .ensures) _ T _ (omega (arith, c15 .pre .1 .1 .1 .1)) (λ S. c1 .over-type .ensures X S P))
+    (c .if1 .taken))
+    (λ c κs.
+    let c4 = c .before .before .before .before in let c6 = c4 .before .before in let c7 = c6 .before in let c8 = c7 .before in let c15 =
+    c8 .before .before .before .before .before .before .before in
+    fielding-type (c8 .loop .inv (c15 .pre .1 .1 .0 .0) (c15 .pre .1 .1 .0 .1)) (c7 .loop-test .taken) (c6 .label .ensures .0) (c4 .e .given .1))
     (λ c. search needs)
-    (λ c κs. let F = c .before .before .before .before .before .before .loop .inv (c .before .before .before .before .before .before .before .before .before .before .before .before .pre .1 .1 .0 .0) (c .before .before .before .before .before .before .before .before .before .before .before .before .pre .1 .1 .0 .1) in (omega (arith, c .before .before .before .before .before .before .before .before .before .before .before .before .pre .0), (c .before .before .before .before .before .before .before .before .before .before .before .before .pre .1 .0, (c .before .before .before .before .before .before .before .before .before .before .before .before .pre .1 .1 .0, (fielding-type F (c .before .before .before .before .before .loop-test .taken) (c .before .before .before .before .label .ensures .0) (c .before .before .e .given .1), omega (arith, c .before .before .before .before .before .before .before .before .before .before .before .before .pre .1 .1 .1 .1), step-room (c .before .before .before .before .before .before .before .before .before .before .before .before .args .path) (c .before .before .before .before .before .before .before .before .before .before .before .before .args .len) (c .before .before .before .before .before .before .loop .i) (c .before .before .before .before .before .before .before .before .before .before .before .before .pre .1 .1 .1 .2) (c .stepped .ensures))))))
-    (λ c. λ X T. fielding-found (c .before .before .before .before .before .before .before .before .loop .inv X T) (c .before .before .before .before .before .before .before .loop-test .taken) (c .before .before .before .before .before .before .label .ensures .0) (c .before .before .before .before .e .given .1) (λ P. step-leaves (c .before .before .before .before .before .before .before .before .before .before .before .before .before .before .args .path) (c .before .before .before .before .before .before .before .before .before .before .before .before .before .before .args .len) (c .before .before .before .before .before .before .before .before .loop .i) (c .before .before .before .before .before .before .before .before .before .before .before .before .before .before .pre .1 .1 .1 .2) (c .before .before .stepped .ensures) _ _ _ (omega (arith, c .before .before .before .before .before .before .before .before .before .before .before .before .before .before .pre .1 .1 .1 .1)) (c .before .over-type .ensures X T P)) (c .if1 .taken))
-    (λ c κs. fielding-type (c .before .before .before .before .before .before .before .before .loop .inv (c .before .before .before .before .before .before .before .before .before .before .before .before .before .before .pre .1 .1 .0 .0) (c .before .before .before .before .before .before .before .before .before .before .before .before .before .before .pre .1 .1 .0 .1)) (c .before .before .before .before .before .before .before .loop-test .taken) (c .before .before .before .before .before .before .label .ensures .0) (c .before .before .before .before .e .given .1))
+    (λ c.
+    let c2 = c .before .before in let c3 = c2 .before in let c4 = c3 .before in
+    λ X T Q. fielding-labelled (c4 .loop .inv X T) (c3 .loop-test .taken) (c2 .label .ensures .0) (c .enum-told .given .1))
+    (λ c.
+    let c8 = c .before .before .before .before .before .before .before .before in let c16 = c8 .before .before .before .before .before .before .before .before
+    in
+    omega (arith, c8 .loop-test .taken, c16 .good .1 .1 .1 .1 .1 .1 .0))
     (λ c. search needs)
-    (λ c. λ X T Q. fielding-labelled (c .before .before .before .before .loop .inv X T) (c .before .before .before .loop-test .taken) (c .before .before .label .ensures .0) (c .enum-told .given .1))
-    (λ c. omega (arith, c .before .before .before .before .before .before .before .before .loop-test .taken, c .before .before .before .before .before .before .before .before .before .before .before .before .before .before .before .fits))
-    (λ c. search needs)
-    (λ c. λ X T. fielding-more (c .before .before .before .before .before .before .before .before .before .loop .inv X T) (c .before .before .before .before .before .before .before .before .loop-test .taken) (c .before .before .before .before .before .before .before .label .ensures .0) (c .before .before .before .before .before .e .given .1) (λ P. step-leaves (c .before .before .before .before .before .before .before .before .before .before .before .before .before .before .before .args .path) (c .before .before .before .before .before .before .before .before .before .before .before .before .before .before .before .args .len) (c .before .before .before .before .before .before .before .before .before .loop .i) (c .before .before .before .before .before .before .before .before .before .before .before .before .before .before .before .pre .1 .1 .1 .2) (c .before .before .before .stepped .ensures) _ _ _ (omega (arith, c .before .before .before .before .before .before .before .before .before .before .before .before .before .before .before .pre .1 .1 .1 .1)) (c .before .before .over-type .ensures X T P)) (c .before .if1 .left) (c .skip-type .ensures))
+    (λ c.
+    let c1 = c .before in let c2 = c1 .before in let c3 = c2 .before in let c5 = c3 .before .before in let c7 = c5 .before .before in let c8 = c7 .before in
+    let c9 = c8 .before in let c16 = c9 .before .before .before .before .before .before .before in
+    λ X T. fielding-more (c9 .loop .inv X T) (c8 .loop-test .taken) (c7 .label .ensures .0) (c5 .e .given .1) (λ P. step-leaves (c16 .args .path) (c9 .loop .i)
+    (c16 .pre .1 .1 .1 .2) (c3 .part-path .ensures) _ T _ (omega (arith, c16 .pre .1 .1 .1 .1)) (λ S. c2 .over-type .ensures X S P)) (c1 .if1 .left)
+    (c .skip-type .ensures))
     (λ c. λ X T. fielding-all (c .before .loop .inv X T) (c .loop-test .left)))
     λ t. over-type-lts.spec (over-type-claims t)
     (over-type-at t)
@@ -111,29 +200,101 @@ pub +over-element+over-fields+over-type-spec : {M : Type 1} → statement M
     (λ c. search needs)
     (λ c κs. search needs)
     (λ c. search needs)
-    (λ c κs. (c .before .before .before .before .before .before .before .before .before .before .before .before .before .pre .1 .0, (c .before .before .before .before .before .before .before .before .before .before .before .before .before .pre .1 .1 .0, (omega (arith, c .before .before .before .before .before .before .before .before .before .before .before .before .before .pre .1 .1 .1 .1), c .before .before .before .before .before .before .before .before .before .before .before .before .before .pre .1 .1 .1 .2))))
+    (λ c κs.
+    let c14 = c .before .before .before .before .before .before .before .before .before .before .before .before .before .before in
+    (c14 .pre .1 .0, (c14 .pre .1 .1 .0, (omega (arith, c14 .pre .1 .1 .1 .1), c14 .pre .1 .1 .1 .2))))
     (λ c. search needs)
     (λ c. search needs)
-    (λ c. let h = deep (c .before .before .before .before .before .before .before .before .before .pre .1 .1 .1 .0) in omega (arith, h))
-    (λ c κs. let h = deep (c .before .before .before .before .before .before .before .before .before .pre .1 .1 .1 .0) in (omega (arith, c .before .before .before .before .before .before .before .before .before .pre .0, h), (c .before .before .before .before .before .before .before .before .before .pre .1 .0, (c .before .before .before .before .before .before .before .before .before .pre .1 .1 .0, (struct-at (c .before .before .before .before .before .before .before .before .before .pre .1 .1 .1 .0) (c .before .before .before .head .ensures .0) (c .before .m .given .1) .inner, omega (arith, c .before .before .before .before .before .before .before .before .before .pre .1 .1 .1 .1, h), c .before .before .before .before .before .before .before .before .before .pre .1 .1 .1 .2)))))
+    (λ c.
+    let c11 = c .before .before .before .before .before .before .before .before .before .before .before in
+    let h = deep (c11 .pre .1 .1 .1 .0) in omega (arith, h))
+    (λ c κs.
+    let c2 = c .before .before in let c4 = c2 .before .before in let c11 = c4 .before .before .before .before .before .before .before in
+    let h = deep (c11 .pre .1 .1 .1 .0) in (
+      omega (arith, c11 .pre .0, h),
+      (
+        c11 .pre .1 .0,
+        (
+          c11 .pre .1 .1 .0,
+          (
+            struct-at (c11 .pre .1 .1 .1 .0)
+                (c4 .head .ensures .0) (c2 .m .given .1) .inner,
+            omega (arith, c11 .pre .1 .1 .1 .1, h),
+            c11 .pre .1 .1 .1 .2,
+          ),
+        ),
+      ),
+    ))
     (λ c. search needs)
     (λ c κs. search needs)
     (λ c. search needs)
-    (λ c. let h = deep (c .before .before .before .before .before .before .before .before .before .before .before .before .before .pre .1 .1 .1 .0) in omega (arith, h))
-    (λ c κs. let h = deep (c .before .before .before .before .before .before .before .before .before .before .before .before .before .pre .1 .1 .1 .0) in (omega (arith, c .before .before .before .before .before .before .before .before .before .before .before .before .before .pre .0, h), (c .before .before .before .before .before .before .before .before .before .before .before .before .before .pre .1 .0, (c .before .before .before .before .before .before .before .before .before .before .before .before .before .pre .1 .1 .0, (list-at (c .before .before .before .before .before .before .before .before .before .before .before .before .before .pre .1 .1 .1 .0) (c .before .before .before .before .before .before .before .head .ensures .0) (c .before .before .before .element-label .ensures .0) (c .before .before .before .before .before .e .given .1) (c .before .f .given .1) .inner, omega (arith, c .before .before .before .before .before .before .before .before .before .before .before .before .before .pre .1 .1 .1 .1, h), c .before .before .before .before .before .before .before .before .before .before .before .before .before .pre .1 .1 .1 .2)))))
+    (λ c.
+    let c15 = c .before .before .before .before .before .before .before .before .before .before .before .before .before .before .before in
+    let h = deep (c15 .pre .1 .1 .1 .0) in omega (arith, h))
+    (λ c κs.
+    let c2 = c .before .before in let c4 = c2 .before .before in let c6 = c4 .before .before in let c8 = c6 .before .before in let c15 =
+    c8 .before .before .before .before .before .before .before in
+    let h = deep (c15 .pre .1 .1 .1 .0) in (
+      omega (arith, c15 .pre .0, h),
+      (
+        c15 .pre .1 .0,
+        (
+          c15 .pre .1 .1 .0,
+          (
+            list-at (c15 .pre .1 .1 .1 .0)
+                (c8 .head .ensures .0) (c4 .element-label .ensures .0) (c6 .e .given .1) (c2 .f .given .1) .inner,
+            omega (arith, c15 .pre .1 .1 .1 .1, h),
+            c15 .pre .1 .1 .1 .2,
+          ),
+        ),
+      ),
+    ))
     (λ c. search needs)
     (λ c. search needs)
     (λ c κs. search needs)
     (λ c. search needs)
-    (λ c. let h = deep (c .before .before .before .before .before .before .before .before .before .before .before .before .before .pre .1 .1 .1 .0) in omega (arith, h))
-    (λ c κs. let h = deep (c .before .before .before .before .before .before .before .before .before .before .before .before .before .pre .1 .1 .1 .0) in (omega (arith, c .before .before .before .before .before .before .before .before .before .before .before .before .before .pre .0, h), (c .before .before .before .before .before .before .before .before .before .before .before .before .before .pre .1 .0, (c .before .before .before .before .before .before .before .before .before .before .before .before .before .pre .1 .1 .0, (array-at (c .before .before .before .before .before .before .before .before .before .before .before .before .before .pre .1 .1 .1 .0) (c .before .before .before .before .before .before .before .head .ensures .0) (c .before .before .before .element-label2 .ensures .0) (c .before .before .before .before .before .e2 .given .1) (c .before .f2 .given .1) .inner, omega (arith, c .before .before .before .before .before .before .before .before .before .before .before .before .before .pre .1 .1 .1 .1, h), c .before .before .before .before .before .before .before .before .before .before .before .before .before .pre .1 .1 .1 .2)))))
+    (λ c.
+    let c15 = c .before .before .before .before .before .before .before .before .before .before .before .before .before .before .before in
+    let h = deep (c15 .pre .1 .1 .1 .0) in omega (arith, h))
+    (λ c κs.
+    let c2 = c .before .before in let c4 = c2 .before .before in let c6 = c4 .before .before in let c8 = c6 .before .before in let c15 =
+    c8 .before .before .before .before .before .before .before in
+    let h = deep (c15 .pre .1 .1 .1 .0) in (
+      omega (arith, c15 .pre .0, h),
+      (
+        c15 .pre .1 .0,
+        (
+          c15 .pre .1 .1 .0,
+          (
+            array-at (c15 .pre .1 .1 .1 .0)
+                (c8 .head .ensures .0) (c4 .element-label2 .ensures .0) (c6 .e2 .given .1) (c2 .f2 .given .1) .inner,
+            omega (arith, c15 .pre .1 .1 .1 .1, h),
+            c15 .pre .1 .1 .1 .2,
+          ),
+        ),
+      ),
+    ))
     (λ c. search needs)
     (λ c. search needs)
-    (λ c. λ X T Q. time-leaves Q (c .before .before .before .before .before .before .before .before .head .ensures .0) _ (c .before .before .before .before .before .before .l .given .1) (c .before .before .before .before .time-of .ensures) (c .before .before .u .given .1) (c .over-leaf .ensures X T))
-    (λ c. λ X T Q. never-leaves Q (c .before .before .before .before .before .before .head .ensures .0) _ (c .before .before .before .before .l .given .1) (c .before .before .time-of .ensures) (c .enum-told .given .1))
-    (λ c. λ X T Q. struct-leaves Q (c .before .before .before .before .head .ensures .0) _ (c .before .before .m .given .1) (c .over-fields .ensures X T))
-    (λ c. λ X T Q. list-leaves Q (c .before .before .before .before .before .before .before .before .head .ensures .0) _ (c .before .before .before .before .element-label .ensures .0) (c .before .before .f .given .1) (c .over-element .ensures X T) (c .before .before .before .before .before .before .e .given .1))
-    (λ c. λ X T Q. list-labelled Q (c .before .before .before .before .before .before .head .ensures .0) (c .before .before .element-label .ensures .0) (c .before .before .before .before .e .given .1) (c .enum-told2 .given .1))
-    (λ c. λ X T Q. array-leaves Q (c .before .before .before .before .before .before .before .before .head .ensures .0) _ (c .before .before .before .before .element-label2 .ensures .0) (c .before .before .f2 .given .1) (c .over-element2 .ensures X T) (c .before .before .before .before .before .before .e2 .given .1))
-    (λ c. λ X T Q. array-labelled Q (c .before .before .before .before .before .before .head .ensures .0) (c .before .before .element-label2 .ensures .0) (c .before .before .before .before .e2 .given .1) (c .enum-told3 .given .1))
+    (λ c.
+    let c2 = c .before .before in let c4 = c2 .before .before in let c6 = c4 .before .before in let c8 = c6 .before .before in
+    λ X T Q. time-leaves Q (c8 .head .ensures .0) _ (c6 .l .given .1) (c4 .time-of .ensures) (c2 .u .given .1) (c .over-leaf .ensures X T))
+    (λ c.
+    let c2 = c .before .before in let c4 = c2 .before .before in let c6 = c4 .before .before in
+    λ X T Q. never-leaves Q (c6 .head .ensures .0) _ (c4 .l .given .1) (c2 .time-of .ensures) (c .enum-told .given .1))
+    (λ c.
+    let c3 = c .before .before .before in let c5 = c3 .before .before in
+    λ X T Q. struct-leaves Q (c5 .head .ensures .0) _ (c3 .m .given .1) (c .over-fields .ensures X T))
+    (λ c.
+    let c3 = c .before .before .before in let c5 = c3 .before .before in let c7 = c5 .before .before in let c9 = c7 .before .before in
+    λ X T Q. list-leaves Q (c9 .head .ensures .0) _ (c5 .element-label .ensures .0) (c3 .f .given .1) (c .over-element .ensures X T) (c7 .e .given .1))
+    (λ c.
+    let c2 = c .before .before in let c4 = c2 .before .before in let c6 = c4 .before .before in
+    λ X T Q. list-labelled Q (c6 .head .ensures .0) (c2 .element-label .ensures .0) (c4 .e .given .1) (c .enum-told2 .given .1))
+    (λ c.
+    let c3 = c .before .before .before in let c5 = c3 .before .before in let c7 = c5 .before .before in let c9 = c7 .before .before in
+    λ X T Q. array-leaves Q (c9 .head .ensures .0) _ (c5 .element-label2 .ensures .0) (c3 .f2 .given .1) (c .over-element2 .ensures X T) (c7 .e2 .given .1))
+    (λ c.
+    let c2 = c .before .before in let c4 = c2 .before .before in let c6 = c4 .before .before in
+    λ X T Q. array-labelled Q (c6 .head .ensures .0) (c2 .element-label2 .ensures .0) (c4 .e2 .given .1) (c .enum-told3 .given .1))
     (λ c. λ X T Q. never-headless Q (c .before .before .head .ensures .0) (c .enum-told4 .given .1))

@@ -5,4 +5,13 @@ use Rattle.overflow.proofs.overflows.over_leaf.Statement.{statement}
 use Rattle.overflow.proofs.overflows.over_leaf.Tie as tie
 
 pub over-leaf-spec : {M : Type 1} → statement M
-over-leaf-spec = tie.close (tie.spec (λ c κs. search needs) (λ c κs. (c .before .before .before .before .before .pre .0, ((c .before .before .before .before .before .pre .1 .0 .0, leaf-seeks (c .before .before .before .before .before .pre .1 .0 .1) (c .before .before .before .before .before .pre .1 .1 .1) (c .before .before .before .before .before .pre .1 .1 .0) (c .start .ensures)), widest-small))) (λ c. λ X T. leaf-over T (c .before .before .before .before .before .before .pre .1 .1 .1) (c .before .before .before .before .before .before .pre .1 .1 .0) (c .before .start .ensures) _ _ (c .seek .ensures X)))
+over-leaf-spec =
+    tie.close
+    (tie.spec
+    (λ c κs. search needs)
+    (λ c κs.
+    let c5 = c .before .before .before .before .before in
+    (c5 .pre .0, ((c5 .pre .1 .0 .0, leaf-seeks (c5 .pre .1 .0 .1) (c5 .pre .1 .1 .1) (c5 .pre .1 .1 .0) (c .start .ensures)), widest-small)))
+    (λ c.
+    let c1 = c .before in let c6 = c1 .before .before .before .before .before in
+    λ X T. leaf-over T (c6 .pre .1 .1 .1) (c6 .pre .1 .1 .0) (c1 .start .ensures) _ _ (c .seek .ensures X)))

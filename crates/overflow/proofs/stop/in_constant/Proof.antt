@@ -13,9 +13,13 @@ in-constant-spec =
     (tie.spec
     (λ c κs. search needs)
     (λ c κs. search needs)
-    (λ c κs. let X = c .before .before .before .before .pre .0 in (raw-of X (c .before .before .skip-type .ensures (X .type)) .raw, c .before .before .before .before .pre .1))
+    (λ c κs.
+    let c2 = c .before .before in let c4 = c2 .before .before in
+    let X = c4 .pre .0 in (raw-of X (c2 .skip-type .ensures (X .type)) .raw, c4 .pre .1))
     (λ c. λ X. let R = raw-of X (c .before .before .before .skip-type .ensures (X .type)) in same-node _ _ (R .is) (c .in-long-constant .ensures (R .raw)))
     (λ c. search needs)
     (λ c. search needs)
-    (λ c κs. let X = c .before .before .before .before .before .pre .0 in (ends-none refl, (raw-of X (c .before .before .before .skip-type .ensures (X .type)) .raw, c .before .before .before .before .before .pre .1)))
+    (λ c κs.
+    let c3 = c .before .before .before in let c5 = c3 .before .before in
+    let X = c5 .pre .0 in (ends-none refl, (raw-of X (c3 .skip-type .ensures (X .type)) .raw, c5 .pre .1)))
     (λ c. λ X. let R = raw-of X (c .before .before .before .before .skip-type .ensures (X .type)) in same-node _ _ (R .is) (c .some-at .ensures (R .raw))))

@@ -10,5 +10,7 @@ in-long-constant-spec =
     (tie.spec
     (λ c κs. (c .before .before .pre .0 .type, clear-zeros 4098))
     (λ c. search (needs, c .before .fill-local .ensures .1))
-    (λ c κs. (c .before .fill-local .ensures .0, (c .before .before .before .before .pre .0, c .before .before .before .before .pre .1)))
+    (λ c κs.
+    let c1 = c .before in let c4 = c1 .before .before .before in
+    (c1 .fill-local .ensures .0, (c4 .pre .0, c4 .pre .1)))
     (λ c. λ X. c .some-at .ensures X))

@@ -128,7 +128,14 @@ read-struct-below t =
     and 1 read-struct-kinds.ps (falls 1 read-struct-kinds.ps _<_ μ-read-struct t) read-struct.Pre
 
 abbrev read-cast-claims : ℕ → read-cast-lts.Claims
-read-cast-claims t = (read-selector-below t, read-selector.Post, read-data-type-reads.Asked, read-data-type-reads.Learnt, read-option-reads.Asked, read-option-reads.Learnt)
+read-cast-claims t = (
+  read-selector-below t,
+  read-selector.Post,
+  read-data-type-reads.Asked,
+  read-data-type-reads.Learnt,
+  read-option-reads.Asked,
+  read-option-reads.Learnt,
+)
 
 abbrev read-element-mapping-claims : ℕ → read-element-mapping-lts.Claims
 read-element-mapping-claims t = (read-selector-below t, read-selector.Post)
@@ -137,7 +144,20 @@ abbrev read-rename-claims : ℕ → read-rename-lts.Claims
 read-rename-claims t = (read-selector-below t, read-selector.Post, read-text-reads.Asked, read-text-reads.Learnt)
 
 abbrev read-rest-claims : ℕ → read-rest-lts.Claims
-read-rest-claims t = (read-position-reads.Asked, read-position-reads.Learnt, read-constant-reads.Asked, read-constant-reads.Learnt, read-cast-below t, read-cast.Post, read-rename-below t, read-rename.Post, read-struct-below t, read-struct.Post, read-element-mapping-below t, read-element-mapping.Post)
+read-rest-claims t = (
+  read-position-reads.Asked,
+  read-position-reads.Learnt,
+  read-constant-reads.Asked,
+  read-constant-reads.Learnt,
+  read-cast-below t,
+  read-cast.Post,
+  read-rename-below t,
+  read-rename.Post,
+  read-struct-below t,
+  read-struct.Post,
+  read-element-mapping-below t,
+  read-element-mapping.Post,
+)
 
 abbrev read-selector-claims : ℕ → read-selector-lts.Claims
 read-selector-claims t = (byte-reads.Asked, byte-reads.Learnt, read-rest-below t, read-rest.Post)
@@ -149,10 +169,10 @@ abbrev read-struct-claims : ℕ → read-struct-lts.Claims
 read-struct-claims t = (read-selector-below t, read-selector.Post, short-reads.Asked, short-reads.Learnt, read-selectors-below t, read-selectors.Post)
 
 abbrev read-selectors-Inv-loop : read-selectors-lts.InvT-loop
-read-selectors-Inv-loop s depth n at₀ i₀ at i = Passing (selector depth) s n at₀ i at
+read-selectors-Inv-loop s depth n d₀ i₀ d i = Passing (selector depth) s n (d₀ .at) i (d .at)
 
 abbrev read-selectors-μ-loop : read-selectors-lts.MeasureT-loop
-read-selectors-μ-loop s depth n at₀ i₀ at i = n - i
+read-selectors-μ-loop s depth n d₀ i₀ d i = n - i
 
 pub +read-cast+read-element-mapping+read-rename+read-rest+read-selector+read-selectors+read-struct-spec : {M : Type 1} → statement M
 +read-cast+read-element-mapping+read-rename+read-rest+read-selector+read-selectors+read-struct-spec =
@@ -209,7 +229,8 @@ pub +read-cast+read-element-mapping+read-rename+read-rest+read-selector+read-sel
     (λ c. search (rest-cast, needs))
     (λ c. search (rest-rename, needs))
     (λ c. search (rest-struct, needs))
-    (λ c. rest-element _ _ _ (c .before .before .match .rest) (c .before .if1 .taken) (c .read-element-mapping .ensures .0) (c .read-element-mapping .ensures .1))
+    (λ c. rest-element _ _ _ (c .before .before .match .rest) (c .before .if1 .taken) (c .read-element-mapping .ensures .0)
+    (c .read-element-mapping .ensures .1))
     (λ c. rest-unknown _ _ _ _ (c .if1 .left)))
     (λ t. read-selector-lts.spec (read-selector-claims t)
     (read-selector-at t)
@@ -229,10 +250,12 @@ pub +read-cast+read-element-mapping+read-rename+read-rest+read-selector+read-sel
     read-selectors-μ-loop
     (λ c. search (passing-none, needs))
     (λ c κs. search needs)
-    (λ c. let h = c .before .is-position .ensures (c .if1 .taken) in search needs)
+    (λ c. let h = c .before .before .is-position .ensures (c .before .if1 .taken) in search needs)
     (λ c. search needs)
     (λ c. search needs)
-    (λ c. passing-position (c .before .before .before .loop .inv) (c .before .before .loop-test .taken) (c .before .is-position .ensures (c .if1 .taken)))
+    (λ c.
+    let c1 = c .before in let c2 = c1 .before in let c3 = c2 .before in let c4 = c3 .before in
+    passing-position (c4 .loop .inv) (c3 .loop-test .taken) (c2 .is-position .ensures (c1 .if1 .taken)))
     (λ c κs. search needs)
     (λ c. search needs)
     (λ c. search needs)
@@ -240,7 +263,7 @@ pub +read-cast+read-element-mapping+read-rename+read-rest+read-selector+read-sel
     (λ c. search passing-more)
     (λ c. search needs)
     (λ c. search passing-stopped)
-    (λ c. search passing-all))
+    (λ c. passing-all _ _ _ _ (c .before .loop .inv) (c .loop-test .left)))
     λ t. read-struct-lts.spec (read-struct-claims t)
     (read-struct-at t)
     read-struct.Post

@@ -8,8 +8,11 @@ pub run-filled-spec : {M : Type 1} → statement M
 run-filled-spec =
     tie.close
     (tie.spec
-    (λ c κs. (c .before .before .before .before .before .before .pre .0 .columns, ends-clear (clear-zeros 4098)))
-    (λ c. search (needs, c .before .before .fill-columns .ensures .1 .1))
+    (λ c κs.
+    let c8 = c .before .before .before .before .before .before .before .before in
+    (c8 .pre .0 .0 .columns, ends-clear (clear-zeros 4098)))
+    (λ c. search (needs, c .before .before .before .fill-columns .ensures .1 .1))
     (λ c κs. search needs)
+    (λ c. search needs)
     (λ c. search needs)
     (λ c. search needs))

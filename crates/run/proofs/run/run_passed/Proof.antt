@@ -12,7 +12,9 @@ run-passed-spec =
     (λ c κs. search needs)
     (λ c. search needs)
     (λ c. search needs)
-    (λ c κs. (ends-none refl, c .before .before .before .before .before .before .before .before .before .pre))
+    (λ c κs.
+    let c9 = c .before .before .before .before .before .before .before .before .before in
+    (ends-none refl, c9 .pre))
     (λ c. search needs)
     (λ c. search needs)
     (λ c κs. search needs)

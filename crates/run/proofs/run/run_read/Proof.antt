@@ -1,6 +1,6 @@
-use lib.ListN.{length}
-use denote.Ref.{now}
 use Rattle.run.proofs.Running.{ran-refused, passed-at, run-passed, check-refused}
+use denote.Ref.{now}
+use lib.ListN.{length}
 use borrow.Author.Needs.{needs}
 use Rattle.run.proofs.run.run_read.Statement.{statement}
 use Rattle.run.proofs.run.run_read.Tie as tie
@@ -9,24 +9,29 @@ pub run-read-spec : {M : Type 1} → statement M
 run-read-spec =
     tie.close
     (tie.spec
-    (λ c κs. let p = c .before .before .before .before .before .pre in (p .0, p .1 .0))
+    (λ c κs.
+    let c7 = c .before .before .before .before .before .before .before in
+    let A = c7 .pre in ((A .columns, A .selectors, A .tops), A .targets))
     (λ c. search needs)
     (λ c κs.
-    let a = c .before .before .before .before .before .before .before .before .before in
-    let (L, ss, T) = a .pre .0 in
-    passed-at L T (a .pre .1 .0) (a .pre .1 .1) (c .before .before .before .check-read .ensures L ss (a .pre .1 .0) T) (c .before .enum-told .given .1))
+    let c1 = c .before in
+    let c3 = c1 .before .before in
+    let c11 = c3 .before .before .before .before .before .before .before .before in
+    let A = c11 .pre in passed-at A (c3 .check-read .ensures (A .columns) (A .selectors) (A .targets) (A .tops)) (c1 .enum-told .given .1))
     (λ c. search needs)
     (λ c. search needs)
-    (λ c. λ L ss Q T.
-    let d = c .before .before .before .before .before .before in
-    let a = d .before .before .before .before .before .before in
-    let e = d .check-read .ensures L ss Q T in
-    let f = c .before .before .before .before .enum-told .given .1 in
-    let P = passed-at L T Q (a .pre .1 .1) e f in
-    let R = run-passed L T Q (a .pre .1 .1) (now (a .args .rec)) (length (now (a .args .output))) e f (c .before .before .run-passed .ensures P) in
-    (R .answer, R .buffer))
-    (λ c. λ L ss Q T.
-    let d = c .before .before .before in
-    let a = d .before .before .before .before .before .before in
-    let R = ran-refused (check-refused L T Q (now (a .args .rec)) (length (now (a .args .output))) (d .check-read .ensures L ss Q T) (c .before .j .given .1)) in
-    (R .answer, R .buffer)))
+    (λ c.
+    let c2 = c .before .before in
+    let c4 = c2 .before .before in
+    let c6 = c4 .before .before in
+    let c14 = c6 .before .before .before .before .before .before .before .before in
+    λ A.
+    let e = c6 .check-read .ensures (A .columns) (A .selectors) (A .targets) (A .tops) in
+    let f = c4 .enum-told .given .1 in
+    run-passed A (now (c14 .args .rec)) (length (now (c14 .args .output))) e f (c2 .run-passed .ensures (passed-at A e f)))
+    (λ c.
+    let c1 = c .before in
+    let c3 = c1 .before .before in
+    let c11 = c3 .before .before .before .before .before .before .before .before in
+    λ A. ran-refused (check-refused A (now (c11 .args .rec)) (length (now (c11 .args .output))) (c3 .check-read .ensures (A .columns) (A .selectors)
+    (A .targets) (A .tops)) (c1 .j .given .1))))

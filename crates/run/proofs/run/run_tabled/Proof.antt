@@ -8,7 +8,9 @@ pub run-tabled-spec : {M : Type 1} → statement M
 run-tabled-spec =
     tie.close
     (tie.spec
-    (λ c κs. (c .before .before .before .before .before .before .pre .columns, ends-clear (clear-zeros 4098)))
+    (λ c κs.
+    let c7 = c .before .before .before .before .before .before .before in
+    (c7 .pre .columns, ends-clear (clear-zeros 4098)))
     (λ c. search (needs, c .before .before .fill-columns .ensures .1 .1))
     (λ c κs. search needs)
     (λ c. search needs)

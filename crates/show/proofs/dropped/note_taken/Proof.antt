@@ -7,10 +7,10 @@ use Rattle.show.proofs.dropped.note_taken.Statement.{statement}
 use Rattle.show.proofs.dropped.note_taken.Tie as tie
 
 abbrev Inv-loop : tie.InvT-loop
-Inv-loop plan n taken₀ at₀ i₀ taken at i = (i ≤ n) × (length taken ≡ length taken₀)
+Inv-loop plan n taken₀ d₀ i₀ taken d i = (i ≤ n) × (length taken ≡ length taken₀)
 
 abbrev μ-loop : tie.MeasureT-loop
-μ-loop plan n taken₀ at₀ i₀ taken at i = n - i
+μ-loop plan n taken₀ d₀ i₀ taken d i = n - i
 
 pub note-taken-spec : {M : Type 1} → statement M
 note-taken-spec =

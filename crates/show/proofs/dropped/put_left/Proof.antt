@@ -5,10 +5,10 @@ use Rattle.show.proofs.dropped.put_left.Statement.{statement}
 use Rattle.show.proofs.dropped.put_left.Tie as tie
 
 abbrev Inv-loop : tie.InvT-loop
-Inv-loop s v n taken level at₀ i₀ t13 t14 at i = i ≤ n
+Inv-loop s v n taken level d₀ i₀ t13 t14 d i = i ≤ n
 
 abbrev μ-loop : tie.MeasureT-loop
-μ-loop s v n taken level at₀ i₀ t13 t14 at i = n - i
+μ-loop s v n taken level d₀ i₀ t13 t14 d i = n - i
 
 pub put-left-spec : {M : Type 1} → statement M
 put-left-spec =

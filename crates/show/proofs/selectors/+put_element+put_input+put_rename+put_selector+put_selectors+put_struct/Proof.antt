@@ -1,4 +1,5 @@
--- The proof of the cycle of calls {put_element, put_input, put_rename, put_selector, put_selectors, put_struct}. The measure is 4 for each level left, and 2, 1, 1, 0, 1 and 2 more.
+-- The proof of the cycle of calls {put_element, put_input, put_rename, put_selector, put_selectors, put_struct}. The measure is 4 for each level left, and 2,
+-- 1, 1, 0, 1 and 2 more.
 -- Assumes nothing.
 use borrow.Author.Needs.{needs}
 use Prim.Native.Nat.{ℕ, _<_, _≤_, _+_, _-_, _*_}
@@ -126,28 +127,111 @@ put-struct-below t =
     and 3 put-struct-kinds.ps (falls 3 put-struct-kinds.ps _<_ μ-put-struct t) put-struct.Pre
 
 abbrev put-element-claims : ℕ → put-element-lts.Claims
-put-element-claims t = (put-input-below t, put-input.Post, type-of-reads.Asked, type-of-reads.Learnt, inside-reads.Asked, inside-reads.Learnt, skip-selector-reads.Asked, skip-selector-reads.Learnt, deeper-reads.Asked, deeper-reads.Learnt, put-indent-reads.Asked, put-indent-reads.Learnt, put-reads.Asked, put-reads.Learnt, put-made-element-reads.Asked, put-made-element-reads.Learnt, put-selector-below t, put-selector.Post)
+put-element-claims t = (
+  put-input-below t,
+  put-input.Post,
+  type-of-reads.Asked,
+  type-of-reads.Learnt,
+  inside-reads.Asked,
+  inside-reads.Learnt,
+  skip-selector-reads.Asked,
+  skip-selector-reads.Learnt,
+  deeper-reads.Asked,
+  deeper-reads.Learnt,
+  put-indent-reads.Asked,
+  put-indent-reads.Learnt,
+  put-reads.Asked,
+  put-reads.Learnt,
+  put-made-element-reads.Asked,
+  put-made-element-reads.Learnt,
+  put-selector-below t,
+  put-selector.Post,
+)
 
 abbrev put-input-claims : ℕ → put-input-lts.Claims
 put-input-claims t = (deeper-reads.Asked, deeper-reads.Learnt, put-from-reads.Asked, put-from-reads.Learnt, put-selector-below t, put-selector.Post)
 
 abbrev put-rename-claims : ℕ → put-rename-lts.Claims
-put-rename-claims t = (put-reads.Asked, put-reads.Learnt, rename-name-reads.Asked, rename-name-reads.Learnt, put-span-reads.Asked, put-span-reads.Learnt, deeper-reads.Asked, deeper-reads.Learnt, put-from-reads.Asked, put-from-reads.Learnt, put-selector-below t, put-selector.Post)
+put-rename-claims t = (
+  put-reads.Asked,
+  put-reads.Learnt,
+  rename-name-reads.Asked,
+  rename-name-reads.Learnt,
+  put-span-reads.Asked,
+  put-span-reads.Learnt,
+  deeper-reads.Asked,
+  deeper-reads.Learnt,
+  put-from-reads.Asked,
+  put-from-reads.Learnt,
+  put-selector-below t,
+  put-selector.Post,
+)
 
 abbrev put-selector-claims : ℕ → put-selector-lts.Claims
-put-selector-claims t = (head-reads.Asked, head-reads.Learnt, put-position-reads.Asked, put-position-reads.Learnt, put-constant-reads.Asked, put-constant-reads.Learnt, put-cast-reads.Asked, put-cast-reads.Learnt, put-input-below t, put-input.Post, put-rename-below t, put-rename.Post, put-struct-below t, put-struct.Post, put-list-reads.Asked, put-list-reads.Learnt, put-element-below t, put-element.Post, put-array-reads.Asked, put-array-reads.Learnt)
+put-selector-claims t = (
+  head-reads.Asked,
+  head-reads.Learnt,
+  put-position-reads.Asked,
+  put-position-reads.Learnt,
+  put-constant-reads.Asked,
+  put-constant-reads.Learnt,
+  put-cast-reads.Asked,
+  put-cast-reads.Learnt,
+  put-input-below t,
+  put-input.Post,
+  put-rename-below t,
+  put-rename.Post,
+  put-struct-below t,
+  put-struct.Post,
+  put-list-reads.Asked,
+  put-list-reads.Learnt,
+  put-element-below t,
+  put-element.Post,
+  put-array-reads.Asked,
+  put-array-reads.Learnt,
+)
 
 abbrev put-selectors-claims : ℕ → put-selectors-lts.Claims
-put-selectors-claims t = (put-start-reads.Asked, put-start-reads.Learnt, put-made-column-reads.Asked, put-made-column-reads.Learnt, put-selector-below t, put-selector.Post, read-selector-reads.Asked, read-selector-reads.Learnt)
+put-selectors-claims t = (
+  put-start-reads.Asked,
+  put-start-reads.Learnt,
+  put-made-column-reads.Asked,
+  put-made-column-reads.Learnt,
+  put-selector-below t,
+  put-selector.Post,
+  read-selector-reads.Asked,
+  read-selector-reads.Learnt,
+)
 
 abbrev put-struct-claims : ℕ → put-struct-lts.Claims
-put-struct-claims t = (struct-fields-reads.Asked, struct-fields-reads.Learnt, put-reads.Asked, put-reads.Learnt, put-count-reads.Asked, put-count-reads.Learnt, put-input-below t, put-input.Post, type-of-reads.Asked, type-of-reads.Learnt, inside-reads.Asked, inside-reads.Learnt, made-fields-reads.Asked, made-fields-reads.Learnt, deeper-reads.Asked, deeper-reads.Learnt, put-selectors-below t, put-selectors.Post, put-dropped-reads.Asked, put-dropped-reads.Learnt)
+put-struct-claims t = (
+  struct-fields-reads.Asked,
+  struct-fields-reads.Learnt,
+  put-reads.Asked,
+  put-reads.Learnt,
+  put-count-reads.Asked,
+  put-count-reads.Learnt,
+  put-input-below t,
+  put-input.Post,
+  type-of-reads.Asked,
+  type-of-reads.Learnt,
+  inside-reads.Asked,
+  inside-reads.Learnt,
+  made-fields-reads.Asked,
+  made-fields-reads.Learnt,
+  deeper-reads.Asked,
+  deeper-reads.Learnt,
+  put-selectors-below t,
+  put-selectors.Post,
+  put-dropped-reads.Asked,
+  put-dropped-reads.Learnt,
+)
 
 abbrev put-selectors-Inv-loop : put-selectors-lts.InvT-loop
-put-selectors-Inv-loop plan incoming scope target columns depth n level at₀ i₀ at i = (i ≤ n) × (n < 65536)
+put-selectors-Inv-loop plan incoming scope target columns depth level count d₀ i₀ d i = (i ≤ count) × (count < 65536)
 
 abbrev put-selectors-μ-loop : put-selectors-lts.MeasureT-loop
-put-selectors-μ-loop plan incoming scope target columns depth n level at₀ i₀ at i = n - i
+put-selectors-μ-loop plan incoming scope target columns depth level count d₀ i₀ d i = count - i
 
 pub +put-element+put-input+put-rename+put-selector+put-selectors+put-struct-spec : {M : Type 1} → statement M
 +put-element+put-input+put-rename+put-selector+put-selectors+put-struct-spec =

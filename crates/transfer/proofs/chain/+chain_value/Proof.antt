@@ -1,4 +1,5 @@
-use Rattle.transfer.proofs.Chaining.{node-as, chain-position, cast-takes, rename-takes, type-moved, chain-cast, chain-rename}
+use Rattle.transfer.proofs.Chaining.{chain-position, cast-takes, rename-takes, type-moved, chain-cast, chain-rename}
+use Rattle.nodes.proofs.Node.{node-as}
 use Rattle.walk.proofs.Heads.{is-position, is-cast, is-rename}
 use Rattle.plan.specs.Run.{valueAt}
 use native.Mathlib.Omega.{arith}
@@ -18,7 +19,7 @@ use Rattle.transfer.proofs.chain.+chain_value.{statement}
 use Rattle.transfer.proofs.chain.+chain_value.Tie.{close}
 
 abbrev μ-chain-value : Measures 3 chain-value-kinds.ps ℕ
-μ-chain-value κs a = a .1 .1 .1 .1 .1 .1 .0
+μ-chain-value κs a = a .1 .1 .1 .1 .1 .0
 
 abbrev chain-value-at : ℕ → In 3 chain-value-kinds.ps
 chain-value-at t =
@@ -42,20 +43,31 @@ pub +chain-value-spec : {M : Type 1} → statement M
     (λ c. search needs)
     (λ c. search needs)
     (λ c. search needs)
-    (λ c κs. (omega (arith, c .before .before .before .before .before .before .before .before .pre .0, c .before .before .before .before .if1 .left), c .before .before .before .before .before .before .before .before .pre .1))
+    (λ c κs.
+    let c4 = c .before .before .before .before in let c8 = c4 .before .before .before .before in
+    (omega (arith, c8 .pre .0, c4 .if1 .left), c8 .pre .1))
     (λ c κs. search needs)
     (λ c κs. search needs)
     (λ c. search needs)
     (λ c. search needs)
-    (λ c κs. (omega (arith, c .before .before .before .before .before .before .before .before .pre .0, c .before .before .before .before .if1 .left), c .before .before .before .before .before .before .before .before .pre .1))
+    (λ c κs.
+    let c4 = c .before .before .before .before in let c8 = c4 .before .before .before .before in
+    (omega (arith, c8 .pre .0, c4 .if1 .left), c8 .pre .1))
     (λ c. search needs)
     (λ c. search needs)
     (λ c. search needs)
     (λ c. search needs)
-    (λ c. λ ρ P N. chain-position P ρ (is-position (c .before .before .before .head .ensures P) (c .before .enum-told .given .1) .1) (c .taken-leaf .ensures _ N))
+    (λ c. λ ρ P N. chain-position P ρ (is-position (c .before .before .before .head .ensures P) (c .before .enum-told .given .1) .1) (c .taken-leaf .ensures
+    _ N))
     (λ c. search needs)
-    (λ c. λ ρ P N. let K = is-cast (c .before .before .before .before .before .before .head .ensures P) (c .before .before .before .before .input .given .1) in chain-cast P ρ K (c .cast-by .ensures _ _ (type-moved P ρ K (c .before .skip-selector .ensures (K .input))) (c .before .before .chain-value .ensures ρ (K .input) (node-as (ap (valueAt ρ) (sym (cast-takes P ρ K))) N))))
-    (λ c. λ ρ P N. let K = is-rename (c .before .before .before .before .head .ensures P) (c .before .before .input2 .given .1) in chain-rename P ρ K (c .chain-value2 .ensures ρ (K .input) (node-as (ap (valueAt ρ) (sym (rename-takes P ρ K))) N)))
+    (λ c.
+    let c1 = c .before in let c2 = c1 .before in let c4 = c2 .before .before in let c6 = c4 .before .before in
+    λ ρ P N. let K = is-cast (c6 .head .ensures P) (c4 .input .given .1) in chain-cast P ρ K (c .cast-by .ensures _ _ (type-moved P ρ K
+    (c1 .skip-selector .ensures (K .input))) (c2 .chain-value .ensures ρ (K .input) (node-as (ap (valueAt ρ) (sym (cast-takes P ρ K))) N))))
+    (λ c.
+    let c2 = c .before .before in let c4 = c2 .before .before in
+    λ ρ P N. let K = is-rename (c4 .head .ensures P) (c2 .input2 .given .1) in chain-rename P ρ K (c .chain-value2 .ensures ρ (K .input) (node-as (ap
+    (valueAt ρ) (sym (rename-takes P ρ K))) N)))
     (λ c. search needs)
     (λ c. search needs)
     (λ c. search needs)

@@ -9,9 +9,15 @@ taken-leaf-spec =
     (tie.spec
     (λ c. search needs)
     (λ c. search needs)
-    (λ c κs. let (x, N) = c .before .before .before .before .before .pre in N .here _ _ (c .before .node .given .1) .raw)
+    (λ c κs.
+    let c1 = c .before in let c5 = c1 .before .before .before .before in
+    let (x, N) = c5 .pre in N .here _ _ (c1 .at .given .1) .raw)
     (λ c. search needs)
     (λ c. search needs)
     (λ c. λ x N. taken-null (N .none (c .enum-told .given .1)))
-    (λ c. λ x N. let I = N .here _ _ (c .before .before .before .before .before .node .given .1) in chain-is (I .is) (taken-number (c .before .before .before .leaf-at .ensures (I .raw)) (c .before .kind .given .1)))
-    (λ c. λ x N. let I = N .here _ _ (c .before .before .before .before .node .given .1) in chain-is (I .is) (taken-other (c .before .before .leaf-at .ensures (I .raw)) (c .enum-told2 .given .1))))
+    (λ c.
+    let c1 = c .before in let c3 = c1 .before .before in let c5 = c3 .before .before in
+    λ x N. let I = N .here _ _ (c5 .at .given .1) in chain-is (I .is) (taken-number (c3 .leaf-at .ensures (I .raw)) (c1 .kind .given .1)))
+    (λ c.
+    let c2 = c .before .before in let c4 = c2 .before .before in
+    λ x N. let I = N .here _ _ (c4 .at .given .1) in chain-is (I .is) (taken-other (c2 .leaf-at .ensures (I .raw)) (c .enum-told2 .given .1))))

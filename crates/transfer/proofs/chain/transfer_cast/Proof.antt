@@ -6,4 +6,11 @@ use Rattle.transfer.proofs.chain.transfer_cast.Tie as tie
 pub transfer-cast-spec : {M : Type 1} → statement M
 transfer-cast-spec =
     tie.close
-    (tie.spec (λ c κs. search needs) (λ c κs. search needs) (λ c κs. search needs) (λ c. search needs) (λ c. λ ρ P N. reached-end (c .before .before .before .before .skip-selector .ensures P) (c .before .before .put-chain .ensures _ _ N (c .before .before .before .before .before .chain-value .ensures ρ P N))))
+    (tie.spec
+    (λ c κs. search needs)
+    (λ c κs. search needs)
+    (λ c κs. search needs)
+    (λ c. search needs)
+    (λ c.
+    let c2 = c .before .before in let c4 = c2 .before .before in let c5 = c4 .before in
+    λ ρ P N. reached-end (c4 .skip-selector .ensures P) (c2 .put-chain .ensures _ _ N (c5 .chain-value .ensures ρ P N))))

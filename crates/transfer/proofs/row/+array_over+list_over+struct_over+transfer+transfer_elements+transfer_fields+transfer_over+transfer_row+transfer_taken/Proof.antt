@@ -5,7 +5,8 @@ use Rattle.transfer.proofs.Reaching.{unknown, reached-as, reached-end, 
 use Rattle.transfer.proofs.Origins.{position-value}
 use Rattle.raw.proofs.Storing.{lead-short}
 use Rattle.direct.proofs.Inputs.{struct-input, list-input, array-input}
-use Rattle.nodes.specs.Raw.{RowAt, ElementsAt}
+use Rattle.nodes.specs.Raw.{ElementsAt}
+use Rattle.index.specs.Indexed.{RowIn}
 use Rattle.walk.proofs.Heads.{is-position, is-constant, is-cast, is-rename, is-struct, is-list, is-array}
 use Rattle.walk.specs.Stands.{SelectorAt, SelectorsAt}
 use Rattle.plan.specs.Run.{eval}
@@ -48,6 +49,8 @@ use Rattle.transfer.proofs.row.+array_over+list_over+struct_over+transf
 use Rattle.index.proofs.columns.field_stride.Reads as field-stride-reads
 use Rattle.index.proofs.row.indexed_value.Reads as indexed-value-reads
 use Rattle.raw.proofs.copy.put_lead.Reads as put-lead-reads
+use Rattle.transfer.proofs.chain.cast_value.Reads as cast-value-reads
+use Rattle.transfer.proofs.chain.put_chain.Reads as put-chain-reads
 use Rattle.transfer.proofs.chain.transfer_cast.Reads as transfer-cast-reads
 use Rattle.transfer.proofs.leaf.limited.Reads as limited-reads
 use Rattle.transfer.proofs.leaf.put_constant.Reads as put-constant-reads
@@ -56,7 +59,6 @@ use Rattle.transfer.proofs.leaf.put_nothing.Reads as put-nothing-reads
 use Rattle.transfer.proofs.opened.open_node.Reads as open-node-reads
 use Rattle.transfer.proofs.origin.is_position.Reads as is-position-reads
 use Rattle.transfer.proofs.origin.taken_position.Reads as taken-position-reads
-use Rattle.transfer.proofs.row.cast_over.Reads as cast-over-reads
 use Rattle.transfer.proofs.row.element_node.Reads as element-node-reads
 use Rattle.transfer.proofs.row.index_fields.Reads as index-fields-reads
 use Rattle.transfer.proofs.row.past_name.Reads as past-name-reads
@@ -72,31 +74,31 @@ use Rattle.transfer.proofs.row.+array_over+list_over+struct_over+transf
 }
 
 abbrev μ-array-over : Measures 5 array-over-kinds.ps ℕ
-μ-array-over κs a = 6 * (a .1 .1 .1 .1 .1 .1 .1 .0) + 3
+μ-array-over κs a = 6 * (a .1 .1 .1 .1 .0 .levels) + 3
 
 abbrev μ-list-over : Measures 5 list-over-kinds.ps ℕ
-μ-list-over κs a = 6 * (a .1 .1 .1 .1 .1 .1 .1 .0) + 3
+μ-list-over κs a = 6 * (a .1 .1 .1 .1 .0 .levels) + 3
 
 abbrev μ-struct-over : Measures 5 struct-over-kinds.ps ℕ
-μ-struct-over κs a = 6 * (a .1 .1 .1 .1 .1 .1 .1 .0) + 3
+μ-struct-over κs a = 6 * (a .1 .1 .1 .1 .0 .levels) + 3
 
 abbrev μ-transfer : Measures 5 transfer-kinds.ps ℕ
-μ-transfer κs a = 6 * (a .1 .1 .1 .1 .1 .1 .0)
+μ-transfer κs a = 6 * (a .1 .1 .1 .1 .0 .levels)
 
 abbrev μ-transfer-elements : Measures 5 transfer-elements-kinds.ps ℕ
-μ-transfer-elements κs a = 6 * (a .1 .1 .1 .1 .1 .1 .1 .1 .1 .0) + 1
+μ-transfer-elements κs a = 6 * (a .1 .1 .1 .1 .0 .levels) + 1
 
 abbrev μ-transfer-fields : Measures 5 transfer-fields-kinds.ps ℕ
-μ-transfer-fields κs a = 6 * (a .1 .1 .1 .1 .1 .1 .1 .1 .1 .0) + 2
+μ-transfer-fields κs a = 6 * (a .1 .1 .1 .1 .0 .first .levels) + 2
 
 abbrev μ-transfer-over : Measures 5 transfer-over-kinds.ps ℕ
-μ-transfer-over κs a = 6 * (a .1 .1 .1 .1 .1 .1 .0) + 4
+μ-transfer-over κs a = 6 * (a .1 .1 .1 .1 .0 .levels) + 4
 
 abbrev μ-transfer-row : Measures 7 transfer-row-kinds.ps ℕ
-μ-transfer-row κs a = 6 * (a .1 .1 .1 .1 .1 .1 .1 .1 .1 .1 .1 .1 .0) + 1
+μ-transfer-row κs a = 6 * (a .1 .1 .1 .1 .1 .1 .0 .first .levels) + 1
 
 abbrev μ-transfer-taken : Measures 5 transfer-taken-kinds.ps ℕ
-μ-transfer-taken κs a = 6 * (a .1 .1 .1 .1 .1 .1 .1 .0) + 5
+μ-transfer-taken κs a = 6 * (a .1 .1 .1 .1 .0 .levels) + 5
 
 abbrev array-over-at : ℕ → In 5 array-over-kinds.ps
 array-over-at t =
@@ -201,28 +203,119 @@ transfer-taken-below t =
     transfer-taken.Pre
 
 abbrev array-over-claims : ℕ → array-over-lts.Claims
-array-over-claims t = (skip-selector-reads.Asked, skip-selector-reads.Learnt, open-node-reads.Asked, open-node-reads.Learnt, put-nothing-reads.Asked, put-nothing-reads.Learnt, put-lead-reads.Asked, put-lead-reads.Learnt, transfer-elements-below t, transfer-elements.Post)
+array-over-claims t = (
+  skip-selector-reads.Asked,
+  skip-selector-reads.Learnt,
+  open-node-reads.Asked,
+  open-node-reads.Learnt,
+  put-nothing-reads.Asked,
+  put-nothing-reads.Learnt,
+  put-lead-reads.Asked,
+  put-lead-reads.Learnt,
+  transfer-elements-below t,
+  transfer-elements.Post,
+)
 
 abbrev list-over-claims : ℕ → list-over-lts.Claims
-list-over-claims t = (skip-selector-reads.Asked, skip-selector-reads.Learnt, open-node-reads.Asked, open-node-reads.Learnt, put-nothing-reads.Asked, put-nothing-reads.Learnt, put-lead-reads.Asked, put-lead-reads.Learnt, transfer-elements-below t, transfer-elements.Post)
+list-over-claims t = (
+  skip-selector-reads.Asked,
+  skip-selector-reads.Learnt,
+  open-node-reads.Asked,
+  open-node-reads.Learnt,
+  put-nothing-reads.Asked,
+  put-nothing-reads.Learnt,
+  put-lead-reads.Asked,
+  put-lead-reads.Learnt,
+  transfer-elements-below t,
+  transfer-elements.Post,
+)
 
 abbrev struct-over-claims : ℕ → struct-over-lts.Claims
-struct-over-claims t = (open-node-reads.Asked, open-node-reads.Learnt, skip-selector-reads.Asked, skip-selector-reads.Learnt, put-nothing-reads.Asked, put-nothing-reads.Learnt, put-lead-reads.Asked, put-lead-reads.Learnt, struct-fields-reads.Asked, struct-fields-reads.Learnt, transfer-fields-below t, transfer-fields.Post)
+struct-over-claims t = (
+  open-node-reads.Asked,
+  open-node-reads.Learnt,
+  skip-selector-reads.Asked,
+  skip-selector-reads.Learnt,
+  put-nothing-reads.Asked,
+  put-nothing-reads.Learnt,
+  put-lead-reads.Asked,
+  put-lead-reads.Learnt,
+  struct-fields-reads.Asked,
+  struct-fields-reads.Learnt,
+  field-stride-reads.Asked,
+  field-stride-reads.Learnt,
+  transfer-fields-below t,
+  transfer-fields.Post,
+)
 
 abbrev transfer-claims : ℕ → transfer-lts.Claims
-transfer-claims t = (head-reads.Asked, head-reads.Learnt, skip-selector-reads.Asked, skip-selector-reads.Learnt, put-node-reads.Asked, put-node-reads.Learnt, put-constant-reads.Asked, put-constant-reads.Learnt, transfer-below t, transfer.Post, past-name-reads.Asked, past-name-reads.Learnt, transfer-cast-reads.Asked, transfer-cast-reads.Learnt, transfer-taken-below t, transfer-taken.Post)
+transfer-claims t = (
+  head-reads.Asked,
+  head-reads.Learnt,
+  skip-selector-reads.Asked,
+  skip-selector-reads.Learnt,
+  put-node-reads.Asked,
+  put-node-reads.Learnt,
+  put-constant-reads.Asked,
+  put-constant-reads.Learnt,
+  transfer-below t,
+  transfer.Post,
+  past-name-reads.Asked,
+  past-name-reads.Learnt,
+  transfer-cast-reads.Asked,
+  transfer-cast-reads.Learnt,
+  transfer-taken-below t,
+  transfer-taken.Post,
+)
 
 abbrev transfer-elements-claims : ℕ → transfer-elements-lts.Claims
-transfer-elements-claims t = (taken-position-reads.Asked, taken-position-reads.Learnt, skip-value-reads.Asked, skip-value-reads.Learnt, element-node-reads.Asked, element-node-reads.Learnt, transfer-below t, transfer.Post, limited-reads.Asked, limited-reads.Learnt)
+transfer-elements-claims t = (
+  taken-position-reads.Asked,
+  taken-position-reads.Learnt,
+  skip-value-reads.Asked,
+  skip-value-reads.Learnt,
+  element-node-reads.Asked,
+  element-node-reads.Learnt,
+  transfer-below t,
+  transfer.Post,
+  limited-reads.Asked,
+  limited-reads.Learnt,
+)
 
 abbrev transfer-fields-claims : ℕ → transfer-fields-lts.Claims
-transfer-fields-claims t = (field-stride-reads.Asked, field-stride-reads.Learnt, index-fields-reads.Asked, index-fields-reads.Learnt, transfer-row-below t, transfer-row.Post)
+transfer-fields-claims t = (index-fields-reads.Asked, index-fields-reads.Learnt, transfer-row-below t, transfer-row.Post)
 
 abbrev transfer-over-claims : ℕ → transfer-over-lts.Claims
-transfer-over-claims t = (head-reads.Asked, head-reads.Learnt, cast-over-reads.Asked, cast-over-reads.Learnt, skip-selector-reads.Asked, skip-selector-reads.Learnt, put-node-reads.Asked, put-node-reads.Learnt, struct-over-below t, struct-over.Post, list-over-below t, list-over.Post, array-over-below t, array-over.Post)
+transfer-over-claims t = (
+  head-reads.Asked,
+  head-reads.Learnt,
+  cast-value-reads.Asked,
+  cast-value-reads.Learnt,
+  skip-selector-reads.Asked,
+  skip-selector-reads.Learnt,
+  put-chain-reads.Asked,
+  put-chain-reads.Learnt,
+  put-node-reads.Asked,
+  put-node-reads.Learnt,
+  struct-over-below t,
+  struct-over.Post,
+  list-over-below t,
+  list-over.Post,
+  array-over-below t,
+  array-over.Post,
+)
 
 abbrev transfer-row-claims : ℕ → transfer-row-lts.Claims
-transfer-row-claims t = (taken-position-reads.Asked, taken-position-reads.Learnt, indexed-value-reads.Asked, indexed-value-reads.Learnt, transfer-below t, transfer.Post, limited-reads.Asked, limited-reads.Learnt)
+transfer-row-claims t = (
+  taken-position-reads.Asked,
+  taken-position-reads.Learnt,
+  indexed-value-reads.Asked,
+  indexed-value-reads.Learnt,
+  transfer-below t,
+  transfer.Post,
+  limited-reads.Asked,
+  limited-reads.Learnt,
+)
 
 abbrev transfer-taken-claims : ℕ → transfer-taken-lts.Claims
 transfer-taken-claims t = (is-position-reads.Asked, is-position-reads.Learnt, transfer-over-below t, transfer-over.Post)
@@ -237,24 +330,46 @@ array-over-enum-told : (t : ℕ) → array-over-lts.Need-enum-told (array-over-c
 array-over-enum-told t c = search needs
 
 array-over-put-nothing-requires : (t : ℕ) → array-over-lts.Need-put-nothing-requires (array-over-claims t) (array-over-at t) array-over.Post
-array-over-put-nothing-requires t c κs = c .before .before .before .before .before .before .before .before .before .before .pre .1 .1 .1 .1 .2
+array-over-put-nothing-requires t c κs =
+    let c10 = c .before .before .before .before .before .before .before .before .before .before in
+    c10 .pre .1 .1 .1 .1 .2
 
 array-over-enum-known-m : (t : ℕ) → array-over-lts.Need-enum-known-m (array-over-claims t) (array-over-at t) array-over.Post
 array-over-enum-known-m t c = search needs
 
 array-over-put-lead-requires : (t : ℕ) → array-over-lts.Need-put-lead-requires (array-over-claims t) (array-over-at t) array-over.Post
-array-over-put-lead-requires t c κs = omega (arith, c .before .before .before .before .before .before .before .before .before .before .before .pre .1 .1 .1 .1 .2)
+array-over-put-lead-requires t c κs =
+    let c11 = c .before .before .before .before .before .before .before .before .before .before .before in
+    omega (arith, c11 .pre .1 .1 .1 .1 .2)
 
 array-over-skip-selector-requires-2 : (t : ℕ) → array-over-lts.Need-skip-selector-requires-2 (array-over-claims t) (array-over-at t) array-over.Post
 array-over-skip-selector-requires-2 t c κs = search needs
 
 array-over-transfer-elements-requires : (t : ℕ) → array-over-lts.Need-transfer-elements-requires (array-over-claims t) (array-over-at t) array-over.Post
 array-over-transfer-elements-requires t c κs =
-    let (x, N) = c .before .before .before .before .before .before .before .before .before .before .before .before .before .before .before .before .pre .1 .1 .0 in
-    let (P, K) = c .before .before .before .before .before .before .before .before .before .before .before .before .before .before .before .before .pre .1 .1 .1 .0 in
-    let B = c .before .before .before .before .before .before .before .before .before .before .before .before .before .before .before .before .pre .1 .1 .1 .1 in
-    let D = opened-by (c .before .before .before .before .before .before .before .before .before .open-node .ensures x N) (c .before .before .before .before .before .before .before .m .given .1) in
-    (omega (arith, c .before .before .before .before .before .before .before .before .before .before .before .before .before .before .before .before .pre .0), (c .before .before .before .before .before .before .before .before .before .before .before .before .before .before .before .before .pre .1 .0, (D .elements, (selector-moved (K .element) (c .before .skip-selector2 .ensures (K .input)), (B .0, B .1, omega (arith, c .before .before .before .before .put-lead .ensures .ends, lead-short false (c .before .before .before .before .before .before .before .m .given .0 .0), B .2))))))
+    let c1 = c .before in let c4 = c1 .before .before .before in let c7 = c4 .before .before .before in let c9 = c7 .before .before in let c16 =
+    c9 .before .before .before .before .before .before .before in
+    let (x, N) = c16 .pre .1 .1 .0 in
+    let (P, K) = c16 .pre .1 .1 .1 .0 in
+    let B = c16 .pre .1 .1 .1 .1 in
+    let D = opened-by (c9 .open-node .ensures x N) (c7 .m .given .1) in (
+      omega (arith, c16 .pre .0),
+      (
+        c16 .pre .1 .0,
+        (
+          D .elements,
+          (
+            selector-moved (K .element) (c1 .skip-selector2 .ensures (K .input)),
+            (
+              B .0,
+              B .1,
+              omega
+                  (arith, c4 .put-lead .ensures .ends, lead-short false (c7 .m .given .0 .0), B .2),
+            ),
+          ),
+        ),
+      ),
+    )
 
 array-over-enum-told-2 : (t : ℕ) → array-over-lts.Need-enum-told-2 (array-over-claims t) (array-over-at t) array-over.Post
 array-over-enum-told-2 t c = search needs
@@ -269,17 +384,23 @@ array-over-same-length : (t : ℕ) → array-over-lts.Need-same-length (array-ov
 array-over-same-length t c = search needs
 
 array-over-returns : (t : ℕ) → array-over-lts.Need-returns (array-over-claims t) (array-over-at t) array-over.Post
-array-over-returns t c = λ ρ P K N. reached-end (c .before .before .before .before .before .before .before .skip-selector .ensures P) (reached-null (array-null ρ K (c .before .before .before .before .before .before .open-node .ensures _ N) (c .before .before .before .before .enum-told .given .1)) (c .before .before .put-nothing .ensures))
+array-over-returns t c =
+    let c2 = c .before .before in let c4 = c2 .before .before in let c6 = c4 .before .before in let c7 = c6 .before in
+    λ ρ P K N. reached-end (c7 .skip-selector .ensures P) (reached-null (array-null ρ K (c6 .open-node .ensures _ N) (c4 .enum-told .given .1))
+    (c2 .put-nothing .ensures))
 
 array-over-same-length-2 : (t : ℕ) → array-over-lts.Need-same-length-2 (array-over-claims t) (array-over-at t) array-over.Post
 array-over-same-length-2 t c = search needs
 
 array-over-returns-2 : (t : ℕ) → array-over-lts.Need-returns-2 (array-over-claims t) (array-over-at t) array-over.Post
 array-over-returns-2 t c =
+    let c2 = c .before .before in let c4 = c2 .before .before in let c7 = c4 .before .before .before in let c10 = c7 .before .before .before in let c12 =
+    c10 .before .before in let c13 = c12 .before in
     λ ρ P K N.
-    let O = c .before .before .before .before .before .before .before .before .before .before .before .before .open-node .ensures _ N in
-    let f = c .before .before .before .before .before .before .before .before .before .before .m .given .1 in
-    reached-end (c .before .before .before .before .before .before .before .before .before .before .before .before .before .skip-selector .ensures P) (array-reached ρ K O f (c .before .before .before .before .before .before .before .put-lead .ensures) (c .before .before .transfer-elements .ensures (array-row ρ K O f .elements) (selector-moved (K .element) (c .before .before .before .before .skip-selector2 .ensures (K .input)))))
+    let O = c12 .open-node .ensures _ N in
+    let f = c10 .m .given .1 in
+    reached-end (c13 .skip-selector .ensures P) (array-reached ρ K O f (c7 .put-lead .ensures) (c2 .transfer-elements .ensures (array-row ρ K O f .elements)
+    (selector-moved (K .element) (c4 .skip-selector2 .ensures (K .input)))))
 
 array-over-returns-3 : (t : ℕ) → array-over-lts.Need-returns-3 (array-over-claims t) (array-over-at t) array-over.Post
 array-over-returns-3 t c = λ ρ P K N. unknown
@@ -300,24 +421,46 @@ list-over-enum-told : (t : ℕ) → list-over-lts.Need-enum-told (list-over-clai
 list-over-enum-told t c = search needs
 
 list-over-put-nothing-requires : (t : ℕ) → list-over-lts.Need-put-nothing-requires (list-over-claims t) (list-over-at t) list-over.Post
-list-over-put-nothing-requires t c κs = c .before .before .before .before .before .before .before .before .before .before .pre .1 .1 .1 .1 .2
+list-over-put-nothing-requires t c κs =
+    let c10 = c .before .before .before .before .before .before .before .before .before .before in
+    c10 .pre .1 .1 .1 .1 .2
 
 list-over-enum-known-m : (t : ℕ) → list-over-lts.Need-enum-known-m (list-over-claims t) (list-over-at t) list-over.Post
 list-over-enum-known-m t c = search needs
 
 list-over-put-lead-requires : (t : ℕ) → list-over-lts.Need-put-lead-requires (list-over-claims t) (list-over-at t) list-over.Post
-list-over-put-lead-requires t c κs = omega (arith, c .before .before .before .before .before .before .before .before .before .before .before .pre .1 .1 .1 .1 .2)
+list-over-put-lead-requires t c κs =
+    let c11 = c .before .before .before .before .before .before .before .before .before .before .before in
+    omega (arith, c11 .pre .1 .1 .1 .1 .2)
 
 list-over-skip-selector-requires-2 : (t : ℕ) → list-over-lts.Need-skip-selector-requires-2 (list-over-claims t) (list-over-at t) list-over.Post
 list-over-skip-selector-requires-2 t c κs = search needs
 
 list-over-transfer-elements-requires : (t : ℕ) → list-over-lts.Need-transfer-elements-requires (list-over-claims t) (list-over-at t) list-over.Post
 list-over-transfer-elements-requires t c κs =
-    let (x, N) = c .before .before .before .before .before .before .before .before .before .before .before .before .before .before .before .before .pre .1 .1 .0 in
-    let (P, K) = c .before .before .before .before .before .before .before .before .before .before .before .before .before .before .before .before .pre .1 .1 .1 .0 in
-    let B = c .before .before .before .before .before .before .before .before .before .before .before .before .before .before .before .before .pre .1 .1 .1 .1 in
-    let D = opened-by (c .before .before .before .before .before .before .before .before .before .open-node .ensures x N) (c .before .before .before .before .before .before .before .m .given .1) in
-    (omega (arith, c .before .before .before .before .before .before .before .before .before .before .before .before .before .before .before .before .pre .0), (c .before .before .before .before .before .before .before .before .before .before .before .before .before .before .before .before .pre .1 .0, (D .elements, (selector-moved (K .element) (c .before .skip-selector2 .ensures (K .input)), (B .0, B .1, omega (arith, c .before .before .before .before .put-lead .ensures .ends, lead-short true (c .before .before .before .before .before .before .before .m .given .0 .0), B .2))))))
+    let c1 = c .before in let c4 = c1 .before .before .before in let c7 = c4 .before .before .before in let c9 = c7 .before .before in let c16 =
+    c9 .before .before .before .before .before .before .before in
+    let (x, N) = c16 .pre .1 .1 .0 in
+    let (P, K) = c16 .pre .1 .1 .1 .0 in
+    let B = c16 .pre .1 .1 .1 .1 in
+    let D = opened-by (c9 .open-node .ensures x N) (c7 .m .given .1) in (
+      omega (arith, c16 .pre .0),
+      (
+        c16 .pre .1 .0,
+        (
+          D .elements,
+          (
+            selector-moved (K .element) (c1 .skip-selector2 .ensures (K .input)),
+            (
+              B .0,
+              B .1,
+              omega
+                  (arith, c4 .put-lead .ensures .ends, lead-short true (c7 .m .given .0 .0), B .2),
+            ),
+          ),
+        ),
+      ),
+    )
 
 list-over-enum-told-2 : (t : ℕ) → list-over-lts.Need-enum-told-2 (list-over-claims t) (list-over-at t) list-over.Post
 list-over-enum-told-2 t c = search needs
@@ -332,17 +475,23 @@ list-over-same-length : (t : ℕ) → list-over-lts.Need-same-length (list-over-
 list-over-same-length t c = search needs
 
 list-over-returns : (t : ℕ) → list-over-lts.Need-returns (list-over-claims t) (list-over-at t) list-over.Post
-list-over-returns t c = λ ρ P K N. reached-end (c .before .before .before .before .before .before .before .skip-selector .ensures P) (reached-null (list-null ρ K (c .before .before .before .before .before .before .open-node .ensures _ N) (c .before .before .before .before .enum-told .given .1)) (c .before .before .put-nothing .ensures))
+list-over-returns t c =
+    let c2 = c .before .before in let c4 = c2 .before .before in let c6 = c4 .before .before in let c7 = c6 .before in
+    λ ρ P K N. reached-end (c7 .skip-selector .ensures P) (reached-null (list-null ρ K (c6 .open-node .ensures _ N) (c4 .enum-told .given .1))
+    (c2 .put-nothing .ensures))
 
 list-over-same-length-2 : (t : ℕ) → list-over-lts.Need-same-length-2 (list-over-claims t) (list-over-at t) list-over.Post
 list-over-same-length-2 t c = search needs
 
 list-over-returns-2 : (t : ℕ) → list-over-lts.Need-returns-2 (list-over-claims t) (list-over-at t) list-over.Post
 list-over-returns-2 t c =
+    let c2 = c .before .before in let c4 = c2 .before .before in let c7 = c4 .before .before .before in let c10 = c7 .before .before .before in let c12 =
+    c10 .before .before in let c13 = c12 .before in
     λ ρ P K N.
-    let O = c .before .before .before .before .before .before .before .before .before .before .before .before .open-node .ensures _ N in
-    let f = c .before .before .before .before .before .before .before .before .before .before .m .given .1 in
-    reached-end (c .before .before .before .before .before .before .before .before .before .before .before .before .before .skip-selector .ensures P) (list-reached ρ K O f (c .before .before .before .before .before .before .before .put-lead .ensures) (c .before .before .transfer-elements .ensures (list-row ρ K O f .elements) (selector-moved (K .element) (c .before .before .before .before .skip-selector2 .ensures (K .input)))))
+    let O = c12 .open-node .ensures _ N in
+    let f = c10 .m .given .1 in
+    reached-end (c13 .skip-selector .ensures P) (list-reached ρ K O f (c7 .put-lead .ensures) (c2 .transfer-elements .ensures (list-row ρ K O f .elements)
+    (selector-moved (K .element) (c4 .skip-selector2 .ensures (K .input)))))
 
 list-over-returns-3 : (t : ℕ) → list-over-lts.Need-returns-3 (list-over-claims t) (list-over-at t) list-over.Post
 list-over-returns-3 t c = λ ρ P K N. unknown
@@ -363,24 +512,47 @@ struct-over-skip-selector-requires : (t : ℕ) → struct-over-lts.Need-skip-sel
 struct-over-skip-selector-requires t c κs = search needs
 
 struct-over-put-nothing-requires : (t : ℕ) → struct-over-lts.Need-put-nothing-requires (struct-over-claims t) (struct-over-at t) struct-over.Post
-struct-over-put-nothing-requires t c κs = c .before .before .before .before .before .before .before .before .before .before .pre .1 .1 .1 .1 .2
+struct-over-put-nothing-requires t c κs =
+    let c10 = c .before .before .before .before .before .before .before .before .before .before in
+    c10 .pre .1 .1 .1 .1 .2
 
 struct-over-enum-known-n : (t : ℕ) → struct-over-lts.Need-enum-known-n (struct-over-claims t) (struct-over-at t) struct-over.Post
 struct-over-enum-known-n t c = search needs
 
 struct-over-put-lead-requires : (t : ℕ) → struct-over-lts.Need-put-lead-requires (struct-over-claims t) (struct-over-at t) struct-over.Post
-struct-over-put-lead-requires t c κs = omega (arith, c .before .before .before .before .before .before .before .before .before .before .pre .1 .1 .1 .1 .2)
+struct-over-put-lead-requires t c κs =
+    let c10 = c .before .before .before .before .before .before .before .before .before .before in
+    omega (arith, c10 .pre .1 .1 .1 .1 .2)
 
 struct-over-struct-fields-requires : (t : ℕ) → struct-over-lts.Need-struct-fields-requires (struct-over-claims t) (struct-over-at t) struct-over.Post
 struct-over-struct-fields-requires t c κs = search needs
 
+struct-over-field-stride-requires : (t : ℕ) → struct-over-lts.Need-field-stride-requires (struct-over-claims t) (struct-over-at t) struct-over.Post
+struct-over-field-stride-requires t c κs = search needs
+
 struct-over-transfer-fields-requires : (t : ℕ) → struct-over-lts.Need-transfer-fields-requires (struct-over-claims t) (struct-over-at t) struct-over.Post
 struct-over-transfer-fields-requires t c κs =
-    let (x, N) = c .before .before .before .before .before .before .before .before .before .before .before .before .before .before .before .pre .1 .1 .0 in
-    let (P, K) = c .before .before .before .before .before .before .before .before .before .before .before .before .before .before .before .pre .1 .1 .1 .0 in
-    let B = c .before .before .before .before .before .before .before .before .before .before .before .before .before .before .before .pre .1 .1 .1 .1 in
-    let D = opened-by (c .before .before .before .before .before .before .before .before .before .open-node .ensures x N) (c .before .before .before .before .before .before .before .n .given .1) in
-    (omega (arith, c .before .before .before .before .before .before .before .before .before .before .before .before .before .before .before .pre .0), (c .before .before .before .before .before .before .before .before .before .before .before .before .before .before .before .pre .1 .0, (D .row, (fields-at K (c .before .struct-fields .ensures (K .input) (K .fields)), (B .0, B .1, omega (arith, c .before .before .before .before .put-lead .ensures .ends, B .2))))))
+    let c1 = c .before in let c3 = c1 .before .before in let c6 = c3 .before .before .before in let c9 = c6 .before .before .before in let c11 =
+    c9 .before .before in let c17 = c11 .before .before .before .before .before .before in
+    let (x, N) = c17 .pre .1 .1 .0 in
+    let (P, K) = c17 .pre .1 .1 .1 .0 in
+    let B = c17 .pre .1 .1 .1 .1 in
+    let D = opened-by (c11 .open-node .ensures x N) (c9 .n .given .1) in (
+      omega (arith, c17 .pre .0),
+      (
+        c17 .pre .1 .0,
+        (
+          D .row,
+          (
+            c1 .field-stride .ensures,
+            (
+              fields-at K (c3 .struct-fields .ensures (K .input) (K .fields)),
+              (B .0, B .1, omega (arith, c6 .put-lead .ensures .ends, B .2)),
+            ),
+          ),
+        ),
+      ),
+    )
 
 struct-over-enum-told-2 : (t : ℕ) → struct-over-lts.Need-enum-told-2 (struct-over-claims t) (struct-over-at t) struct-over.Post
 struct-over-enum-told-2 t c = search needs
@@ -395,17 +567,23 @@ struct-over-same-length : (t : ℕ) → struct-over-lts.Need-same-length (struct
 struct-over-same-length t c = search needs
 
 struct-over-returns : (t : ℕ) → struct-over-lts.Need-returns (struct-over-claims t) (struct-over-at t) struct-over.Post
-struct-over-returns t c = λ ρ P K N. reached-end (c .before .before .before .before .skip-selector .ensures P) (reached-null (struct-null ρ K (c .before .before .before .before .before .before .before .open-node .ensures _ N) (c .before .before .before .before .before .enum-told .given .1)) (c .before .before .put-nothing .ensures))
+struct-over-returns t c =
+    let c2 = c .before .before in let c4 = c2 .before .before in let c5 = c4 .before in let c7 = c5 .before .before in
+    λ ρ P K N. reached-end (c4 .skip-selector .ensures P) (reached-null (struct-null ρ K (c7 .open-node .ensures _ N) (c5 .enum-told .given .1))
+    (c2 .put-nothing .ensures))
 
 struct-over-same-length-2 : (t : ℕ) → struct-over-lts.Need-same-length-2 (struct-over-claims t) (struct-over-at t) struct-over.Post
 struct-over-same-length-2 t c = search needs
 
 struct-over-returns-2 : (t : ℕ) → struct-over-lts.Need-returns-2 (struct-over-claims t) (struct-over-at t) struct-over.Post
 struct-over-returns-2 t c =
+    let c2 = c .before .before in let c6 = c2 .before .before .before .before in let c9 = c6 .before .before .before in let c12 = c9 .before .before .before
+    in let c14 = c12 .before .before in
     λ ρ P K N.
-    let O = c .before .before .before .before .before .before .before .before .before .before .before .before .open-node .ensures _ N in
-    let f = c .before .before .before .before .before .before .before .before .before .before .n .given .1 in
-    reached-end (K .ends .1) (struct-reached ρ K O f (c .before .before .before .before .before .before .before .put-lead .ensures) (c .before .before .transfer-fields .ensures (struct-row ρ K O f .row) (fields-at K (c .before .before .before .before .struct-fields .ensures (K .input) (K .fields)))))
+    let O = c14 .open-node .ensures _ N in
+    let f = c12 .n .given .1 in
+    reached-end (K .ends .1) (struct-reached ρ K O f (c9 .put-lead .ensures) (c2 .transfer-fields .ensures (struct-row ρ K O f .row) (fields-at K
+    (c6 .struct-fields .ensures (K .input) (K .fields)))))
 
 struct-over-returns-3 : (t : ℕ) → struct-over-lts.Need-returns-3 (struct-over-claims t) (struct-over-at t) struct-over.Post
 struct-over-returns-3 t c = λ ρ P K N. unknown
@@ -422,6 +600,9 @@ transfer-returns t c = λ ρ P N. unknown
 transfer-returns-2 : (t : ℕ) → transfer-lts.Need-returns-2 (transfer-claims t) (transfer-at t) transfer.Post
 transfer-returns-2 t c = λ ρ P N. unknown
 
+transfer-sub-levels : (t : ℕ) → transfer-lts.Need-sub-levels (transfer-claims t) (transfer-at t) transfer.Post
+transfer-sub-levels t c = search needs
+
 transfer-head-requires : (t : ℕ) → transfer-lts.Need-head-requires (transfer-claims t) (transfer-at t) transfer.Post
 transfer-head-requires t c κs = search needs
 
@@ -432,7 +613,10 @@ transfer-skip-selector-requires : (t : ℕ) → transfer-lts.Need-skip-selector-
 transfer-skip-selector-requires t c κs = search needs
 
 transfer-put-node-requires : (t : ℕ) → transfer-lts.Need-put-node-requires (transfer-claims t) (transfer-at t) transfer.Post
-transfer-put-node-requires t c κs = (c .before .before .before .before .before .before .before .before .before .before .before .before .pre .1 .0, (c .before .before .before .before .before .before .before .before .before .before .before .before .pre .1 .1 .0, (c .before .before .before .before .before .before .before .before .before .before .before .before .pre .1 .1 .1 .1 .0, c .before .before .before .before .before .if2 .left)))
+transfer-put-node-requires t c κs =
+    let c7 = c .before .before .before .before .before .before .before in let c16 =
+    c7 .before .before .before .before .before .before .before .before .before in
+    (c16 .pre .1 .0, (c16 .pre .1 .1 .0, (c16 .pre .1 .1 .1 .1 .0, c7 .if2 .left)))
 
 transfer-enum-known-t : (t : ℕ) → transfer-lts.Need-enum-known-t (transfer-claims t) (transfer-at t) transfer.Post
 transfer-enum-known-t t c = search needs
@@ -442,20 +626,21 @@ transfer-skip-selector-requires-2 t c κs = search needs
 
 transfer-put-constant-requires : (t : ℕ) → transfer-lts.Need-put-constant-requires (transfer-claims t) (transfer-at t) transfer.Post
 transfer-put-constant-requires t c κs =
-    let K = is-constant (c .before .before .before .before .before .head .ensures (c .before .before .before .before .before .before .before .before .before .before .before .before .before .pre .1 .1 .1 .0)) (c .before .before .before .t .given .1) in
-    (record { type = K .type; value = K .value }, (c .before .before .before .before .before .before .before .before .before .before .before .before .before .pre .1 .1 .1 .1 .1, c .before .before .before .before .before .before .if2 .left))
+    let c3 = c .before .before .before in let c5 = c3 .before .before in let c8 = c5 .before .before .before in let c17 =
+    c8 .before .before .before .before .before .before .before .before .before in
+    let K = is-constant (c5 .head .ensures (c17 .pre .1 .1 .1 .0)) (c3 .t .given .1) in
+    (record { type = K .type; value = K .value }, (c17 .pre .1 .1 .1 .1 .1, c8 .if2 .left))
 
 transfer-enum-known-input : (t : ℕ) → transfer-lts.Need-enum-known-input (transfer-claims t) (transfer-at t) transfer.Post
 transfer-enum-known-input t c = search needs
 
-transfer-sub-transfer : (t : ℕ) → transfer-lts.Need-sub-transfer (transfer-claims t) (transfer-at t) transfer.Post
-transfer-sub-transfer t c = search needs
-
 transfer-transfer-requires : (t : ℕ) → transfer-lts.Need-transfer-requires (transfer-claims t) (transfer-at t) transfer.Post
 transfer-transfer-requires t c κs =
-    let B = c .before .before .before .before .before .before .before .before .before .before .before .before .pre .1 .1 .1 .1 in
-    let K = is-rename (c .before .before .before .before .head .ensures (c .before .before .before .before .before .before .before .before .before .before .before .before .pre .1 .1 .1 .0)) (c .before .before .input .given .1) in
-    (omega (arith, c .before .before .before .before .before .before .before .before .before .before .before .before .pre .0, c .before .before .before .before .before .before .if1 .left), (c .before .before .before .before .before .before .before .before .before .before .before .before .pre .1 .0, (c .before .before .before .before .before .before .before .before .before .before .before .before .pre .1 .1 .0, (K .input, (B .0, B .1, omega (arith, c .before .before .before .before .before .if2 .left))))))
+    let c2 = c .before .before in let c4 = c2 .before .before in let c7 = c4 .before .before .before in let c9 = c7 .before .before in let c16 =
+    c9 .before .before .before .before .before .before .before in
+    let B = c16 .pre .1 .1 .1 .1 in
+    let K = is-rename (c4 .head .ensures (c16 .pre .1 .1 .1 .0)) (c2 .input .given .1) in
+    (omega (arith, c16 .pre .0, c9 .if1 .left), (c16 .pre .1 .0, (c16 .pre .1 .1 .0, (K .input, (B .0, B .1, omega (arith, c7 .if2 .left))))))
 
 transfer-past-name-requires : (t : ℕ) → transfer-lts.Need-past-name-requires (transfer-claims t) (transfer-at t) transfer.Post
 transfer-past-name-requires t c κs = search needs
@@ -464,40 +649,39 @@ transfer-enum-told-2 : (t : ℕ) → transfer-lts.Need-enum-told-2 (transfer-cla
 transfer-enum-told-2 t c = search needs
 
 transfer-transfer-cast-requires : (t : ℕ) → transfer-lts.Need-transfer-cast-requires (transfer-claims t) (transfer-at t) transfer.Post
-transfer-transfer-cast-requires t c κs = (c .before .before .before .before .before .before .before .before .before .before .before .pre .1 .0, (c .before .before .before .before .before .before .before .before .before .before .before .pre .1 .1 .0, (c .before .before .before .before .before .before .before .before .before .before .before .pre .1 .1 .1 .1 .0, c .before .before .before .before .if2 .left)))
+transfer-transfer-cast-requires t c κs =
+    let c6 = c .before .before .before .before .before .before in let c15 = c6 .before .before .before .before .before .before .before .before .before in
+    (c15 .pre .1 .0, (c15 .pre .1 .1 .0, (c15 .pre .1 .1 .1 .1 .0, c6 .if2 .left)))
 
 transfer-enum-known-input-2 : (t : ℕ) → transfer-lts.Need-enum-known-input-2 (transfer-claims t) (transfer-at t) transfer.Post
 transfer-enum-known-input-2 t c = search needs
 
-transfer-sub-transfer-taken : (t : ℕ) → transfer-lts.Need-sub-transfer-taken (transfer-claims t) (transfer-at t) transfer.Post
-transfer-sub-transfer-taken t c = search needs
-
 transfer-transfer-taken-requires : (t : ℕ) → transfer-lts.Need-transfer-taken-requires (transfer-claims t) (transfer-at t) transfer.Post
 transfer-transfer-taken-requires t c κs =
-    let B = c .before .before .before .before .before .before .before .before .before .before .before .before .pre .1 .1 .1 .1 in
-    (omega (arith, c .before .before .before .before .before .before .before .before .before .before .before .before .pre .0, c .before .before .before .before .before .before .if1 .left), (c .before .before .before .before .before .before .before .before .before .before .before .before .pre .1 .0, (c .before .before .before .before .before .before .before .before .before .before .before .before .pre .1 .1 .0, (c .before .before .before .before .before .before .before .before .before .before .before .before .pre .1 .1 .1 .0, (B .0, B .1, c .before .before .before .before .before .if2 .left)))))
+    let c7 = c .before .before .before .before .before .before .before in let c9 = c7 .before .before in let c16 =
+    c9 .before .before .before .before .before .before .before in
+    let B = c16 .pre .1 .1 .1 .1 in
+    (omega (arith, c16 .pre .0, c9 .if1 .left), (c16 .pre .1 .0, (c16 .pre .1 .1 .0, (c16 .pre .1 .1 .1 .0, (B .0, B .1, c7 .if2 .left)))))
 
 transfer-enum-known-input-3 : (t : ℕ) → transfer-lts.Need-enum-known-input-3 (transfer-claims t) (transfer-at t) transfer.Post
 transfer-enum-known-input-3 t c = search needs
 
-transfer-sub-transfer-taken-2 : (t : ℕ) → transfer-lts.Need-sub-transfer-taken-2 (transfer-claims t) (transfer-at t) transfer.Post
-transfer-sub-transfer-taken-2 t c = search needs
-
 transfer-transfer-taken-requires-2 : (t : ℕ) → transfer-lts.Need-transfer-taken-requires-2 (transfer-claims t) (transfer-at t) transfer.Post
 transfer-transfer-taken-requires-2 t c κs =
-    let B = c .before .before .before .before .before .before .before .before .before .before .before .before .pre .1 .1 .1 .1 in
-    (omega (arith, c .before .before .before .before .before .before .before .before .before .before .before .before .pre .0, c .before .before .before .before .before .before .if1 .left), (c .before .before .before .before .before .before .before .before .before .before .before .before .pre .1 .0, (c .before .before .before .before .before .before .before .before .before .before .before .before .pre .1 .1 .0, (c .before .before .before .before .before .before .before .before .before .before .before .before .pre .1 .1 .1 .0, (B .0, B .1, c .before .before .before .before .before .if2 .left)))))
+    let c7 = c .before .before .before .before .before .before .before in let c9 = c7 .before .before in let c16 =
+    c9 .before .before .before .before .before .before .before in
+    let B = c16 .pre .1 .1 .1 .1 in
+    (omega (arith, c16 .pre .0, c9 .if1 .left), (c16 .pre .1 .0, (c16 .pre .1 .1 .0, (c16 .pre .1 .1 .1 .0, (B .0, B .1, c7 .if2 .left)))))
 
 transfer-enum-known-input-4 : (t : ℕ) → transfer-lts.Need-enum-known-input-4 (transfer-claims t) (transfer-at t) transfer.Post
 transfer-enum-known-input-4 t c = search needs
 
-transfer-sub-transfer-taken-3 : (t : ℕ) → transfer-lts.Need-sub-transfer-taken-3 (transfer-claims t) (transfer-at t) transfer.Post
-transfer-sub-transfer-taken-3 t c = search needs
-
 transfer-transfer-taken-requires-3 : (t : ℕ) → transfer-lts.Need-transfer-taken-requires-3 (transfer-claims t) (transfer-at t) transfer.Post
 transfer-transfer-taken-requires-3 t c κs =
-    let B = c .before .before .before .before .before .before .before .before .before .before .before .before .pre .1 .1 .1 .1 in
-    (omega (arith, c .before .before .before .before .before .before .before .before .before .before .before .before .pre .0, c .before .before .before .before .before .before .if1 .left), (c .before .before .before .before .before .before .before .before .before .before .before .before .pre .1 .0, (c .before .before .before .before .before .before .before .before .before .before .before .before .pre .1 .1 .0, (c .before .before .before .before .before .before .before .before .before .before .before .before .pre .1 .1 .1 .0, (B .0, B .1, c .before .before .before .before .before .if2 .left)))))
+    let c7 = c .before .before .before .before .before .before .before in let c9 = c7 .before .before in let c16 =
+    c9 .before .before .before .before .before .before .before in
+    let B = c16 .pre .1 .1 .1 .1 in
+    (omega (arith, c16 .pre .0, c9 .if1 .left), (c16 .pre .1 .0, (c16 .pre .1 .1 .0, (c16 .pre .1 .1 .1 .0, (B .0, B .1, c7 .if2 .left)))))
 
 transfer-enum-told-3 : (t : ℕ) → transfer-lts.Need-enum-told-3 (transfer-claims t) (transfer-at t) transfer.Post
 transfer-enum-told-3 t c = search needs
@@ -506,25 +690,30 @@ transfer-same-length : (t : ℕ) → transfer-lts.Need-same-length (transfer-cla
 transfer-same-length t c = search needs
 
 transfer-returns-3 : (t : ℕ) → transfer-lts.Need-returns-3 (transfer-claims t) (transfer-at t) transfer.Post
-transfer-returns-3 t c = λ ρ P N. reached-end (c .before .before .before .before .skip-selector .ensures P) (reached-as (position-value P (is-position (c .before .before .before .before .before .before .before .head .ensures P) (c .before .before .before .before .before .enum-told .given .1) .1) ρ) (c .before .before .put-node .ensures _ N))
+transfer-returns-3 t c =
+    let c2 = c .before .before in let c4 = c2 .before .before in let c5 = c4 .before in let c7 = c5 .before .before in
+    λ ρ P N. reached-end (c4 .skip-selector .ensures P) (reached-as (position-value P (is-position (c7 .head .ensures P) (c5 .enum-told .given .1) .1) ρ)
+    (c2 .put-node .ensures _ N))
 
 transfer-same-length-2 : (t : ℕ) → transfer-lts.Need-same-length-2 (transfer-claims t) (transfer-at t) transfer.Post
 transfer-same-length-2 t c = search needs
 
 transfer-returns-4 : (t : ℕ) → transfer-lts.Need-returns-4 (transfer-claims t) (transfer-at t) transfer.Post
 transfer-returns-4 t c =
+    let c2 = c .before .before in let c4 = c2 .before .before in let c6 = c4 .before .before in let c8 = c6 .before .before in
     λ ρ P N.
-    let K = is-constant (c .before .before .before .before .before .before .before .before .head .ensures P) (c .before .before .before .before .before .before .t .given .1) in
-    reached-end (c .before .before .before .before .skip-selector2 .ensures P) (constant-reached ρ K (c .before .before .put-constant .ensures (record { type = K .type; value = K .value })))
+    let K = is-constant (c8 .head .ensures P) (c6 .t .given .1) in
+    reached-end (c4 .skip-selector2 .ensures P) (constant-reached ρ K (c2 .put-constant .ensures (record { type = K .type; value = K .value })))
 
 transfer-same-length-3 : (t : ℕ) → transfer-lts.Need-same-length-3 (transfer-claims t) (transfer-at t) transfer.Post
 transfer-same-length-3 t c = search needs
 
 transfer-returns-5 : (t : ℕ) → transfer-lts.Need-returns-5 (transfer-claims t) (transfer-at t) transfer.Post
 transfer-returns-5 t c =
+    let c3 = c .before .before .before in let c6 = c3 .before .before .before in let c8 = c6 .before .before in
     λ ρ P N.
-    let K = is-rename (c .before .before .before .before .before .before .before .before .head .ensures P) (c .before .before .before .before .before .before .input .given .1) in
-    reached-end (K .ends) (c .past-name .ensures _ _ _ _ _ _ (K .name) (rename-reached ρ K (c .before .before .before .transfer .ensures ρ (K .input) (rename-takes ρ N K))))
+    let K = is-rename (c8 .head .ensures P) (c6 .input .given .1) in
+    reached-end (K .ends) (c .past-name .ensures _ _ _ _ _ _ (K .name) (rename-reached ρ K (c3 .transfer .ensures ρ (K .input) (rename-takes ρ N K))))
 
 transfer-same-length-4 : (t : ℕ) → transfer-lts.Need-same-length-4 (transfer-claims t) (transfer-at t) transfer.Post
 transfer-same-length-4 t c = search needs
@@ -536,47 +725,61 @@ transfer-same-length-5 : (t : ℕ) → transfer-lts.Need-same-length-5 (transfer
 transfer-same-length-5 t c = search needs
 
 transfer-returns-7 : (t : ℕ) → transfer-lts.Need-returns-7 (transfer-claims t) (transfer-at t) transfer.Post
-transfer-returns-7 t c = λ ρ P N. c .before .before .transfer-taken .ensures ρ P (struct-input (is-struct (c .before .before .before .before .before .before .before .head .ensures P) (c .before .before .before .before .before .input2 .given .1)) .parts) N
+transfer-returns-7 t c =
+    let c2 = c .before .before in let c5 = c2 .before .before .before in let c7 = c5 .before .before in
+    λ ρ P N. c2 .transfer-taken .ensures ρ P (struct-input (is-struct (c7 .head .ensures P) (c5 .input2 .given .1)) .parts) N
 
 transfer-same-length-6 : (t : ℕ) → transfer-lts.Need-same-length-6 (transfer-claims t) (transfer-at t) transfer.Post
 transfer-same-length-6 t c = search needs
 
 transfer-returns-8 : (t : ℕ) → transfer-lts.Need-returns-8 (transfer-claims t) (transfer-at t) transfer.Post
-transfer-returns-8 t c = λ ρ P N. c .before .before .transfer-taken2 .ensures ρ P (list-input (is-list (c .before .before .before .before .before .before .before .head .ensures P) (c .before .before .before .before .before .input3 .given .1)) .parts) N
+transfer-returns-8 t c =
+    let c2 = c .before .before in let c5 = c2 .before .before .before in let c7 = c5 .before .before in
+    λ ρ P N. c2 .transfer-taken2 .ensures ρ P (list-input (is-list (c7 .head .ensures P) (c5 .input3 .given .1)) .parts) N
 
 transfer-same-length-7 : (t : ℕ) → transfer-lts.Need-same-length-7 (transfer-claims t) (transfer-at t) transfer.Post
 transfer-same-length-7 t c = search needs
 
 transfer-returns-9 : (t : ℕ) → transfer-lts.Need-returns-9 (transfer-claims t) (transfer-at t) transfer.Post
-transfer-returns-9 t c = λ ρ P N. c .before .before .transfer-taken3 .ensures ρ P (array-input (is-array (c .before .before .before .before .before .before .before .head .ensures P) (c .before .before .before .before .before .input4 .given .1)) .parts) N
+transfer-returns-9 t c =
+    let c2 = c .before .before in let c5 = c2 .before .before .before in let c7 = c5 .before .before in
+    λ ρ P N. c2 .transfer-taken3 .ensures ρ P (array-input (is-array (c7 .head .ensures P) (c5 .input4 .given .1)) .parts) N
 
 transfer-returns-10 : (t : ℕ) → transfer-lts.Need-returns-10 (transfer-claims t) (transfer-at t) transfer.Post
 transfer-returns-10 t c = λ ρ P N. unknown
 
 abbrev transfer-elements-Inv-loop : transfer-elements-lts.InvT-loop
-transfer-elements-Inv-loop lay v m t rec plan element end levels out₀ k ends p at₀ from₀ i₀ out at from i = (length out ≡ length out₀) × (at ≤ 16387) × ((X : ElementsAt v lay m (t .at) rec from₀) (P : SelectorAt plan (element .at)) → Going (λ x. eval (vcons x vnil) (P .tree)) X out₀ k i from at out)
+transfer-elements-Inv-loop lay rec elements plan end out₀ ends v m t element levels p k₀ c₀ i₀ out k c i =
+    (length out ≡ length out₀) × (k ≤ 16387)
+    × ((X : ElementsAt v lay m (t .at) rec (c₀ .at)) (P : SelectorAt plan (element .at)) → Going (λ x. eval (vcons x vnil) (P .tree)) X out₀ k₀ i (c .at) k out)
 
 abbrev transfer-elements-μ-loop : transfer-elements-lts.MeasureT-loop
-transfer-elements-μ-loop lay v m t rec plan element end levels out₀ k ends p at₀ from₀ i₀ out at from i = m - i
+transfer-elements-μ-loop lay rec elements plan end out₀ ends v m t element levels p k₀ c₀ i₀ out k c i = m - i
 
 transfer-elements-taken-position-requires :
     (t : ℕ) → transfer-elements-lts.Need-taken-position-requires (transfer-elements-claims t) (transfer-elements-at t) transfer-elements.Post
     transfer-elements-Inv-loop
     transfer-elements-μ-loop
-transfer-elements-taken-position-requires t c κs = c .before .before .before .before .before .pre .1 .1 .1 .0
+transfer-elements-taken-position-requires t c κs =
+    let c7 = c .before .before .before .before .before .before .before in
+    c7 .pre .1 .1 .1 .0
 
 transfer-elements-loop-holds : (t : ℕ) → transfer-elements-lts.Need-loop-holds (transfer-elements-claims t) (transfer-elements-at t) transfer-elements.Post
     transfer-elements-Inv-loop
     transfer-elements-μ-loop
-transfer-elements-loop-holds t c = (refl, c .before .before .before .before .before .before .pre .1 .1 .1 .1 .2, λ X P. going-none (λ x. eval (vcons x vnil) (P .tree)) X _ _)
+transfer-elements-loop-holds t c =
+    let c9 = c .before .before .before .before .before .before .before .before .before in
+    (refl, c9 .pre .1 .1 .1 .1 .2, λ X P. going-none (λ x. eval (vcons x vnil) (P .tree)) X _ _)
 
-transfer-elements-skip-value-requires : (t : ℕ) → transfer-elements-lts.Need-skip-value-requires (transfer-elements-claims t) (transfer-elements-at t) transfer-elements.Post
+transfer-elements-skip-value-requires :
+    (t : ℕ) → transfer-elements-lts.Need-skip-value-requires (transfer-elements-claims t) (transfer-elements-at t) transfer-elements.Post
     transfer-elements-Inv-loop
     transfer-elements-μ-loop
 transfer-elements-skip-value-requires t c κs =
-    let X = c .before .before .before .before .before .before .before .before .pre .1 .1 .0 in
-    let P = c .before .before .before .before .before .before .before .before .pre .1 .1 .1 .0 in
-    (c .before .before .before .before .before .before .before .before .pre .1 .0, going-value (λ x. eval (vcons x vnil) (P .tree)) X (c .before .loop .inv .2 X P) (c .loop-test .taken))
+    let c1 = c .before in let c11 = c1 .before .before .before .before .before .before .before .before .before .before in
+    let X = c11 .pre .1 .1 .0 in
+    let P = c11 .pre .1 .1 .1 .0 in
+    (c11 .pre .1 .0, going-value (λ x. eval (vcons x vnil) (P .tree)) X (c1 .loop .inv .2 X P) (c .loop-test .taken))
 
 transfer-elements-element-node-requires :
     (t : ℕ) → transfer-elements-lts.Need-element-node-requires (transfer-elements-claims t) (transfer-elements-at t) transfer-elements.Post
@@ -584,17 +787,33 @@ transfer-elements-element-node-requires :
     transfer-elements-μ-loop
 transfer-elements-element-node-requires t c κs = search needs
 
-transfer-elements-transfer-requires : (t : ℕ) → transfer-elements-lts.Need-transfer-requires (transfer-elements-claims t) (transfer-elements-at t) transfer-elements.Post
+transfer-elements-transfer-requires :
+    (t : ℕ) → transfer-elements-lts.Need-transfer-requires (transfer-elements-claims t) (transfer-elements-at t) transfer-elements.Post
     transfer-elements-Inv-loop
     transfer-elements-μ-loop
 transfer-elements-transfer-requires t c κs =
-    let X = c .before .before .before .before .before .before .before .before .before .before .before .pre .1 .1 .0 in
-    let P = c .before .before .before .before .before .before .before .before .before .before .before .pre .1 .1 .1 .0 in
-    let B = c .before .before .before .before .before .before .before .before .before .before .before .pre .1 .1 .1 .1 in
-    let (l, b, f) = c .before .before .before .before .loop .inv in
-    (omega (arith, c .before .before .before .before .before .before .before .before .before .before .before .pre .0), (c .before .before .before .before .before .before .before .before .before .before .before .pre .1 .0, ((_, c .before .element-node .ensures _ _ _ (going-value (λ x. eval (vcons x vnil) (P .tree)) X (f X P) (c .before .before .before .loop-test .taken))), (P, (B .0, B .1, b)))))
+    let c1 = c .before in let c3 = c1 .before .before in let c4 = c3 .before in let c14 =
+    c4 .before .before .before .before .before .before .before .before .before .before in
+    let X = c14 .pre .1 .1 .0 in
+    let P = c14 .pre .1 .1 .1 .0 in
+    let B = c14 .pre .1 .1 .1 .1 in
+    let (l, b, f) = c4 .loop .inv in (
+      omega (arith, c14 .pre .0),
+      (
+        c14 .pre .1 .0,
+        (
+          (
+            _,
+            c1 .element-node .ensures _ _ _ (going-value (λ x. eval (vcons x vnil) (P .tree)) X (f X P)
+                (c3 .loop-test .taken)),
+          ),
+          (P, (B .0, B .1, b)),
+        ),
+      ),
+    )
 
-transfer-elements-enum-known-r : (t : ℕ) → transfer-elements-lts.Need-enum-known-r (transfer-elements-claims t) (transfer-elements-at t) transfer-elements.Post
+transfer-elements-enum-known-r :
+    (t : ℕ) → transfer-elements-lts.Need-enum-known-r (transfer-elements-claims t) (transfer-elements-at t) transfer-elements.Post
     transfer-elements-Inv-loop
     transfer-elements-μ-loop
 transfer-elements-enum-known-r t c = search needs
@@ -607,7 +826,9 @@ transfer-elements-enum-told t c = search needs
 transfer-elements-same-length : (t : ℕ) → transfer-elements-lts.Need-same-length (transfer-elements-claims t) (transfer-elements-at t) transfer-elements.Post
     transfer-elements-Inv-loop
     transfer-elements-μ-loop
-transfer-elements-same-length t c = c .before .before .before .before .transfer .kept .1 .1 .1 .1 .1 .1 .1 .0 ∙ c .before .before .before .before .before .before .before .before .before .loop .inv .0
+transfer-elements-same-length t c =
+    let c4 = c .before .before .before .before in let c9 = c4 .before .before .before .before .before in
+    c4 .transfer .kept .1 .1 .1 .1 .1 .0 ∙ c9 .loop .inv .0
 
 transfer-elements-returns : (t : ℕ) → transfer-elements-lts.Need-returns (transfer-elements-claims t) (transfer-elements-at t) transfer-elements.Post
     transfer-elements-Inv-loop
@@ -617,36 +838,47 @@ transfer-elements-returns t c = λ X P. unknown
 transfer-elements-add-i : (t : ℕ) → transfer-elements-lts.Need-add-i (transfer-elements-claims t) (transfer-elements-at t) transfer-elements.Post
     transfer-elements-Inv-loop
     transfer-elements-μ-loop
-transfer-elements-add-i t c = omega (arith, c .before .before .before .before .before .before .before .before .before .loop-test .taken)
+transfer-elements-add-i t c =
+    let c9 = c .before .before .before .before .before .before .before .before .before in let c20 =
+    c9 .before .before .before .before .before .before .before .before .before .before .before in
+    omega (arith, c9 .loop-test .taken, c20 .good .1 .1 .0)
 
 transfer-elements-loop-less : (t : ℕ) → transfer-elements-lts.Need-loop-less (transfer-elements-claims t) (transfer-elements-at t) transfer-elements.Post
     transfer-elements-Inv-loop
     transfer-elements-μ-loop
-transfer-elements-loop-less t c = omega (arith, c .before .before .before .before .before .before .before .before .before .loop-test .taken)
+transfer-elements-loop-less t c =
+    let c9 = c .before .before .before .before .before .before .before .before .before in
+    omega (arith, c9 .loop-test .taken)
 
 transfer-elements-loop-again : (t : ℕ) → transfer-elements-lts.Need-loop-again (transfer-elements-claims t) (transfer-elements-at t) transfer-elements.Post
     transfer-elements-Inv-loop
     transfer-elements-μ-loop
 transfer-elements-loop-again t c =
-    let (l, b, f) = c .before .before .before .before .before .before .before .before .before .before .loop .inv in
-    let h = c .before .before .before .before .before .before .before .before .before .loop-test .taken in
-    let X = c .before .before .before .before .before .before .before .before .before .before .before .before .before .before .before .before .before .pre .1 .1 .0 in
-    let P = c .before .before .before .before .before .before .before .before .before .before .before .before .before .before .before .before .before .pre .1 .1 .1 .0 in
+    let c1 = c .before in let c5 = c1 .before .before .before .before in let c7 = c5 .before .before in let c8 = c7 .before in let c9 = c8 .before in let c10
+    = c9 .before in let c12 = c10 .before .before in let c20 = c12 .before .before .before .before .before .before .before .before in
+    let (l, b, f) = c10 .loop .inv in
+    let h = c9 .loop-test .taken in
+    let X = c20 .pre .1 .1 .0 in
+    let P = c20 .pre .1 .1 .1 .0 in
     let W = going-value (λ x. eval (vcons x vnil) (P .tree)) X (f X P) h in
-    let K = reached-to (c .before .before .before .before .before .transfer .ensures (vcons (W .value .tree) vnil) P (taken-node (vcons (W .value .tree) vnil) (c .before .before .before .before .before .before .before .before .before .before .before .taken-position .ensures P) (c .before .before .before .before .before .before .before .element-node .ensures _ _ _ W))) (c .before .r .given .1) in (
-      c .before .before .before .before .before .transfer .kept .1 .1 .1 .1 .1 .1 .1 .0 ∙ l,
+    let K = reached-to (c5 .transfer .ensures (vcons (W .value .tree) vnil) P (taken-node (vcons (W .value .tree) vnil) (c12 .taken-position .ensures P)
+    (c7 .element-node .ensures _ _ _ W))) (c1 .r .given .1) in (
+      c5 .transfer .kept .1 .1 .1 .1 .1 .0 ∙ l,
       omega (arith, K .1 .within),
       λ X P.
           let W = going-value (λ x. eval (vcons x vnil) (P .tree)) X (f X P) h in
-          going-more (λ x. eval (vcons x vnil) (P .tree)) X (f X P) h (c .before .before .before .before .before .before .before .before .skip-value .ensures W) (c .before .before .before .before .before .transfer .ensures (vcons (W .value .tree) vnil) P (taken-node (vcons (W .value .tree) vnil) (c .before .before .before .before .before .before .before .before .before .before .before .taken-position .ensures P) (c .before .before .before .before .before .before .before .element-node .ensures _ _ _ W))) (c .before .r .given .1),
+          going-more (λ x. eval (vcons x vnil) (P .tree)) X (f X P) h (c8 .skip-value .ensures W) (c5 .transfer .ensures (vcons (W .value .tree) vnil) P
+          (taken-node (vcons (W .value .tree) vnil) (c12 .taken-position .ensures P) (c7 .element-node .ensures _ _ _ W))) (c1 .r .given .1),
     )
 
-transfer-elements-limited-requires : (t : ℕ) → transfer-elements-lts.Need-limited-requires (transfer-elements-claims t) (transfer-elements-at t) transfer-elements.Post
+transfer-elements-limited-requires :
+    (t : ℕ) → transfer-elements-lts.Need-limited-requires (transfer-elements-claims t) (transfer-elements-at t) transfer-elements.Post
     transfer-elements-Inv-loop
     transfer-elements-μ-loop
 transfer-elements-limited-requires t c κs = search needs
 
-transfer-elements-same-length-2 : (t : ℕ) → transfer-elements-lts.Need-same-length-2 (transfer-elements-claims t) (transfer-elements-at t) transfer-elements.Post
+transfer-elements-same-length-2 :
+    (t : ℕ) → transfer-elements-lts.Need-same-length-2 (transfer-elements-claims t) (transfer-elements-at t) transfer-elements.Post
     transfer-elements-Inv-loop
     transfer-elements-μ-loop
 transfer-elements-same-length-2 t c = c .before .before .loop .inv .0
@@ -659,9 +891,6 @@ transfer-elements-returns-2 t c =
     let (a, b) = going-all (λ x. eval (vcons x vnil) (P .tree)) X (c .before .before .loop .inv .2 X P) (c .before .loop-test .left) in
     c .limited .ensures _ _ _ _ _ a b
 
-transfer-fields-field-stride-requires : (t : ℕ) → transfer-fields-lts.Need-field-stride-requires (transfer-fields-claims t) (transfer-fields-at t) transfer-fields.Post
-transfer-fields-field-stride-requires t c κs = search needs
-
 transfer-fields-slice-aggregate-index-fields :
     (t : ℕ) → transfer-fields-lts.Need-slice-aggregate-index-fields (transfer-fields-claims t) (transfer-fields-at t) transfer-fields.Post
 transfer-fields-slice-aggregate-index-fields t c = search needs
@@ -670,8 +899,11 @@ transfer-fields-slice-aggregate-index-fields-2 :
     (t : ℕ) → transfer-fields-lts.Need-slice-aggregate-index-fields-2 (transfer-fields-claims t) (transfer-fields-at t) transfer-fields.Post
 transfer-fields-slice-aggregate-index-fields-2 t c = search needs
 
-transfer-fields-index-fields-requires : (t : ℕ) → transfer-fields-lts.Need-index-fields-requires (transfer-fields-claims t) (transfer-fields-at t) transfer-fields.Post
-transfer-fields-index-fields-requires t c κs = (c .before .before .before .before .before .before .before .before .pre .1 .0, c .before .before .before .before .before .before .before .before .pre .1 .1 .0)
+transfer-fields-index-fields-requires :
+    (t : ℕ) → transfer-fields-lts.Need-index-fields-requires (transfer-fields-claims t) (transfer-fields-at t) transfer-fields.Post
+transfer-fields-index-fields-requires t c κs =
+    let c7 = c .before .before .before .before .before .before .before in
+    (c7 .pre .1 .0, c7 .pre .1 .1 .0)
 
 transfer-fields-array-share-prefix-types :
     (t : ℕ) → transfer-fields-lts.Need-array-share-prefix-types (transfer-fields-claims t) (transfer-fields-at t) transfer-fields.Post
@@ -689,8 +921,25 @@ transfer-fields-slice-aggregate-transfer-row-2 :
     (t : ℕ) → transfer-fields-lts.Need-slice-aggregate-transfer-row-2 (transfer-fields-claims t) (transfer-fields-at t) transfer-fields.Post
 transfer-fields-slice-aggregate-transfer-row-2 t c = sym (length-take-le _ _ (c .before .before .before .before .index-fields .ensures .1 .0))
 
-transfer-fields-transfer-row-requires : (t : ℕ) → transfer-fields-lts.Need-transfer-row-requires (transfer-fields-claims t) (transfer-fields-at t) transfer-fields.Post
-transfer-fields-transfer-row-requires t c κs = (omega (arith, c .before .before .before .before .before .before .before .before .before .before .before .before .before .before .pre .0), (c .before .before .before .before .before .before .before .before .before .before .before .before .before .before .pre .1 .0, (c .before .before .before .before .before .before .before .before .before .before .before .before .before .before .pre .1 .1 .0, ((c .before .before .before .before .before .index-fields .ensures .1 .1, c .before .before .before .before .before .before .before .before .field-stride .ensures), (c .before .before .before .before .before .before .before .before .before .before .before .before .before .before .pre .1 .1 .1 .0, c .before .before .before .before .before .before .before .before .before .before .before .before .before .before .pre .1 .1 .1 .1)))))
+transfer-fields-transfer-row-requires :
+    (t : ℕ) → transfer-fields-lts.Need-transfer-row-requires (transfer-fields-claims t) (transfer-fields-at t) transfer-fields.Post
+transfer-fields-transfer-row-requires t c κs =
+    let c5 = c .before .before .before .before .before in let c13 = c5 .before .before .before .before .before .before .before .before in (
+      omega (arith, c13 .pre .0),
+      (
+        c13 .pre .1 .0,
+        (
+          c13 .pre .1 .1 .0,
+          (
+            (c5 .index-fields .ensures .1 .1, c13 .pre .1 .1 .1 .0),
+            (
+              c13 .pre .1 .1 .1 .1 .0,
+              c13 .pre .1 .1 .1 .1 .1,
+            ),
+          ),
+        ),
+      ),
+    )
 
 transfer-fields-same-length : (t : ℕ) → transfer-fields-lts.Need-same-length (transfer-fields-claims t) (transfer-fields-at t) transfer-fields.Post
 transfer-fields-same-length t c = search needs
@@ -701,8 +950,8 @@ transfer-fields-returns t c = λ X S. c .before .before .transfer-row .ensures X
 transfer-over-returns : (t : ℕ) → transfer-over-lts.Need-returns (transfer-over-claims t) (transfer-over-at t) transfer-over.Post
 transfer-over-returns t c = λ ρ P N. unknown
 
-transfer-over-sub-l : (t : ℕ) → transfer-over-lts.Need-sub-l (transfer-over-claims t) (transfer-over-at t) transfer-over.Post
-transfer-over-sub-l t c = search needs
+transfer-over-sub-t16 : (t : ℕ) → transfer-over-lts.Need-sub-t16 (transfer-over-claims t) (transfer-over-at t) transfer-over.Post
+transfer-over-sub-t16 t c = search needs
 
 transfer-over-head-requires : (t : ℕ) → transfer-over-lts.Need-head-requires (transfer-over-claims t) (transfer-over-at t) transfer-over.Post
 transfer-over-head-requires t c κs = search needs
@@ -716,41 +965,94 @@ transfer-over-enum-told-2 t c = search needs
 transfer-over-enum-known-input : (t : ℕ) → transfer-over-lts.Need-enum-known-input (transfer-over-claims t) (transfer-over-at t) transfer-over.Post
 transfer-over-enum-known-input t c = search needs
 
-transfer-over-cast-over-requires : (t : ℕ) → transfer-over-lts.Need-cast-over-requires (transfer-over-claims t) (transfer-over-at t) transfer-over.Post
-transfer-over-cast-over-requires t c κs = (c .before .before .before .before .before .before .before .before .before .before .before .pre .1 .0, (c .before .before .before .before .before .before .before .before .before .before .before .pre .1 .1 .0, (c .before .before .before .before .before .before .before .before .before .before .before .pre .1 .1 .1 .1 .0, c .before .before .before .before .before .before .before .before .before .before .before .pre .1 .1 .1 .1 .2)))
+transfer-over-cast-value-requires : (t : ℕ) → transfer-over-lts.Need-cast-value-requires (transfer-over-claims t) (transfer-over-at t) transfer-over.Post
+transfer-over-cast-value-requires t c κs =
+    let c13 = c .before .before .before .before .before .before .before .before .before .before .before .before .before in
+    c13 .pre .1 .1 .0
+
+transfer-over-skip-selector-requires :
+    (t : ℕ) → transfer-over-lts.Need-skip-selector-requires (transfer-over-claims t) (transfer-over-at t) transfer-over.Post
+transfer-over-skip-selector-requires t c κs = search needs
+
+transfer-over-put-chain-requires : (t : ℕ) → transfer-over-lts.Need-put-chain-requires (transfer-over-claims t) (transfer-over-at t) transfer-over.Post
+transfer-over-put-chain-requires t c κs =
+    let c16 = c .before .before .before .before .before .before .before .before .before .before .before .before .before .before .before .before in
+    (c16 .pre .1 .0, (c16 .pre .1 .1 .0, (c16 .pre .1 .1 .1 .1 .0, c16 .pre .1 .1 .1 .1 .2)))
 
 transfer-over-enum-told-3 : (t : ℕ) → transfer-over-lts.Need-enum-told-3 (transfer-over-claims t) (transfer-over-at t) transfer-over.Post
 transfer-over-enum-told-3 t c = search needs
 
-transfer-over-skip-selector-requires : (t : ℕ) → transfer-over-lts.Need-skip-selector-requires (transfer-over-claims t) (transfer-over-at t) transfer-over.Post
-transfer-over-skip-selector-requires t c κs = search needs
+transfer-over-skip-selector-requires-2 :
+    (t : ℕ) → transfer-over-lts.Need-skip-selector-requires-2 (transfer-over-claims t) (transfer-over-at t) transfer-over.Post
+transfer-over-skip-selector-requires-2 t c κs = search needs
 
 transfer-over-put-node-requires : (t : ℕ) → transfer-over-lts.Need-put-node-requires (transfer-over-claims t) (transfer-over-at t) transfer-over.Post
-transfer-over-put-node-requires t c κs = (c .before .before .before .before .before .before .before .before .before .before .before .pre .1 .0, (c .before .before .before .before .before .before .before .before .before .before .before .pre .1 .1 .0, (c .before .before .before .before .before .before .before .before .before .before .before .pre .1 .1 .1 .1 .0, c .before .before .before .before .before .before .before .before .before .before .before .pre .1 .1 .1 .1 .2)))
+transfer-over-put-node-requires t c κs =
+    let c14 = c .before .before .before .before .before .before .before .before .before .before .before .before .before .before in
+    (c14 .pre .1 .0, (c14 .pre .1 .1 .0, (c14 .pre .1 .1 .1 .1 .0, c14 .pre .1 .1 .1 .1 .2)))
 
 transfer-over-enum-known-input-2 : (t : ℕ) → transfer-over-lts.Need-enum-known-input-2 (transfer-over-claims t) (transfer-over-at t) transfer-over.Post
 transfer-over-enum-known-input-2 t c = search needs
 
 transfer-over-struct-over-requires : (t : ℕ) → transfer-over-lts.Need-struct-over-requires (transfer-over-claims t) (transfer-over-at t) transfer-over.Post
 transfer-over-struct-over-requires t c κs =
-    let P = c .before .before .before .before .before .before .before .before .before .before .before .pre .1 .1 .1 .0 in
-    (omega (arith, c .before .before .before .before .before .before .before .before .before .before .before .pre .0, c .before .before .before .before .before .if1 .left), (c .before .before .before .before .before .before .before .before .before .before .before .pre .1 .0, (c .before .before .before .before .before .before .before .before .before .before .before .pre .1 .1 .0, ((P, is-struct (c .before .before .before .before .head .ensures P) (c .before .before .input2 .given .1)), c .before .before .before .before .before .before .before .before .before .before .before .pre .1 .1 .1 .1))))
+    let c2 = c .before .before in let c4 = c2 .before .before in let c7 = c4 .before .before .before in let c14 =
+    c7 .before .before .before .before .before .before .before in
+    let P = c14 .pre .1 .1 .1 .0 in (
+      omega (arith, c14 .pre .0, c7 .if1 .left),
+      (
+        c14 .pre .1 .0,
+        (
+          c14 .pre .1 .1 .0,
+          (
+            (P, is-struct (c4 .head .ensures P) (c2 .input2 .given .1)),
+            c14 .pre .1 .1 .1 .1,
+          ),
+        ),
+      ),
+    )
 
 transfer-over-enum-known-input-3 : (t : ℕ) → transfer-over-lts.Need-enum-known-input-3 (transfer-over-claims t) (transfer-over-at t) transfer-over.Post
 transfer-over-enum-known-input-3 t c = search needs
 
 transfer-over-list-over-requires : (t : ℕ) → transfer-over-lts.Need-list-over-requires (transfer-over-claims t) (transfer-over-at t) transfer-over.Post
 transfer-over-list-over-requires t c κs =
-    let P = c .before .before .before .before .before .before .before .before .before .before .before .pre .1 .1 .1 .0 in
-    (omega (arith, c .before .before .before .before .before .before .before .before .before .before .before .pre .0, c .before .before .before .before .before .if1 .left), (c .before .before .before .before .before .before .before .before .before .before .before .pre .1 .0, (c .before .before .before .before .before .before .before .before .before .before .before .pre .1 .1 .0, ((P, is-list (c .before .before .before .before .head .ensures P) (c .before .before .input3 .given .1)), c .before .before .before .before .before .before .before .before .before .before .before .pre .1 .1 .1 .1))))
+    let c2 = c .before .before in let c4 = c2 .before .before in let c7 = c4 .before .before .before in let c14 =
+    c7 .before .before .before .before .before .before .before in
+    let P = c14 .pre .1 .1 .1 .0 in (
+      omega (arith, c14 .pre .0, c7 .if1 .left),
+      (
+        c14 .pre .1 .0,
+        (
+          c14 .pre .1 .1 .0,
+          (
+            (P, is-list (c4 .head .ensures P) (c2 .input3 .given .1)),
+            c14 .pre .1 .1 .1 .1,
+          ),
+        ),
+      ),
+    )
 
 transfer-over-enum-known-input-4 : (t : ℕ) → transfer-over-lts.Need-enum-known-input-4 (transfer-over-claims t) (transfer-over-at t) transfer-over.Post
 transfer-over-enum-known-input-4 t c = search needs
 
 transfer-over-array-over-requires : (t : ℕ) → transfer-over-lts.Need-array-over-requires (transfer-over-claims t) (transfer-over-at t) transfer-over.Post
 transfer-over-array-over-requires t c κs =
-    let P = c .before .before .before .before .before .before .before .before .before .before .before .pre .1 .1 .1 .0 in
-    (omega (arith, c .before .before .before .before .before .before .before .before .before .before .before .pre .0, c .before .before .before .before .before .if1 .left), (c .before .before .before .before .before .before .before .before .before .before .before .pre .1 .0, (c .before .before .before .before .before .before .before .before .before .before .before .pre .1 .1 .0, ((P, is-array (c .before .before .before .before .head .ensures P) (c .before .before .input4 .given .1)), c .before .before .before .before .before .before .before .before .before .before .before .pre .1 .1 .1 .1))))
+    let c2 = c .before .before in let c4 = c2 .before .before in let c7 = c4 .before .before .before in let c14 =
+    c7 .before .before .before .before .before .before .before in
+    let P = c14 .pre .1 .1 .1 .0 in (
+      omega (arith, c14 .pre .0, c7 .if1 .left),
+      (
+        c14 .pre .1 .0,
+        (
+          c14 .pre .1 .1 .0,
+          (
+            (P, is-array (c4 .head .ensures P) (c2 .input4 .given .1)),
+            c14 .pre .1 .1 .1 .1,
+          ),
+        ),
+      ),
+    )
 
 transfer-over-enum-told-4 : (t : ℕ) → transfer-over-lts.Need-enum-told-4 (transfer-over-claims t) (transfer-over-at t) transfer-over.Post
 transfer-over-enum-told-4 t c = search needs
@@ -765,121 +1067,194 @@ transfer-over-same-length : (t : ℕ) → transfer-over-lts.Need-same-length (tr
 transfer-over-same-length t c = search needs
 
 transfer-over-returns-4 : (t : ℕ) → transfer-over-lts.Need-returns-4 (transfer-over-claims t) (transfer-over-at t) transfer-over.Post
-transfer-over-returns-4 t c = λ ρ P N. let K = is-cast (c .before .before .before .before .before .before .before .head .ensures P) (c .before .before .before .before .before .input .given .1) in c .before .before .cast-over .ensures ρ P K (cast-given ρ N K)
+transfer-over-returns-4 t c =
+    let c2 = c .before .before in let c4 = c2 .before .before in let c5 = c4 .before in let c7 = c5 .before .before in let c9 = c7 .before .before in
+    λ ρ P N. let K = is-cast (c9 .head .ensures P) (c7 .input .given .1) in let G = cast-given ρ N K in reached-end (c4 .skip-selector .ensures P)
+    (c2 .put-chain .ensures _ _ G (c5 .cast-value .ensures ρ P K G))
 
 transfer-over-same-length-2 : (t : ℕ) → transfer-over-lts.Need-same-length-2 (transfer-over-claims t) (transfer-over-at t) transfer-over.Post
 transfer-over-same-length-2 t c = search needs
 
 transfer-over-returns-5 : (t : ℕ) → transfer-over-lts.Need-returns-5 (transfer-over-claims t) (transfer-over-at t) transfer-over.Post
 transfer-over-returns-5 t c =
-    λ ρ P N.
-    let K = is-rename (c .before .before .before .before .before .before .before .head .ensures P) (c .before .before .before .before .before .enum-told3 .given .1) in
-    reached-end (c .before .before .before .before .skip-selector .ensures P) (rename-reached ρ K (c .before .before .put-node .ensures _ (rename-given ρ N K)))
+    let c2 = c .before .before in let c4 = c2 .before .before in let c5 = c4 .before in let c7 = c5 .before .before in
+    λ ρ P N. let K = is-rename (c7 .head .ensures P) (c5 .enum-told3 .given .1) in reached-end (c4 .skip-selector2 .ensures P) (rename-reached ρ K
+    (c2 .put-node .ensures _ (rename-given ρ N K)))
 
 transfer-over-same-length-3 : (t : ℕ) → transfer-over-lts.Need-same-length-3 (transfer-over-claims t) (transfer-over-at t) transfer-over.Post
 transfer-over-same-length-3 t c = search needs
 
 transfer-over-returns-6 : (t : ℕ) → transfer-over-lts.Need-returns-6 (transfer-over-claims t) (transfer-over-at t) transfer-over.Post
-transfer-over-returns-6 t c = λ ρ P N. let K = is-struct (c .before .before .before .before .before .before .before .head .ensures P) (c .before .before .before .before .before .input2 .given .1) in c .before .before .struct-over .ensures ρ P K (struct-given ρ N K)
+transfer-over-returns-6 t c =
+    let c2 = c .before .before in let c5 = c2 .before .before .before in let c7 = c5 .before .before in
+    λ ρ P N. let K = is-struct (c7 .head .ensures P) (c5 .input2 .given .1) in c2 .struct-over .ensures ρ P K (struct-given ρ N K)
 
 transfer-over-same-length-4 : (t : ℕ) → transfer-over-lts.Need-same-length-4 (transfer-over-claims t) (transfer-over-at t) transfer-over.Post
 transfer-over-same-length-4 t c = search needs
 
 transfer-over-returns-7 : (t : ℕ) → transfer-over-lts.Need-returns-7 (transfer-over-claims t) (transfer-over-at t) transfer-over.Post
-transfer-over-returns-7 t c = λ ρ P N. let K = is-list (c .before .before .before .before .before .before .before .head .ensures P) (c .before .before .before .before .before .input3 .given .1) in c .before .before .list-over .ensures ρ P K (list-given ρ N K)
+transfer-over-returns-7 t c =
+    let c2 = c .before .before in let c5 = c2 .before .before .before in let c7 = c5 .before .before in
+    λ ρ P N. let K = is-list (c7 .head .ensures P) (c5 .input3 .given .1) in c2 .list-over .ensures ρ P K (list-given ρ N K)
 
 transfer-over-same-length-5 : (t : ℕ) → transfer-over-lts.Need-same-length-5 (transfer-over-claims t) (transfer-over-at t) transfer-over.Post
 transfer-over-same-length-5 t c = search needs
 
 transfer-over-returns-8 : (t : ℕ) → transfer-over-lts.Need-returns-8 (transfer-over-claims t) (transfer-over-at t) transfer-over.Post
-transfer-over-returns-8 t c = λ ρ P N. let K = is-array (c .before .before .before .before .before .before .before .head .ensures P) (c .before .before .before .before .before .input4 .given .1) in c .before .before .array-over .ensures ρ P K (array-given ρ N K)
+transfer-over-returns-8 t c =
+    let c2 = c .before .before in let c5 = c2 .before .before .before in let c7 = c5 .before .before in
+    λ ρ P N. let K = is-array (c7 .head .ensures P) (c5 .input4 .given .1) in c2 .array-over .ensures ρ P K (array-given ρ N K)
 
 transfer-over-returns-9 : (t : ℕ) → transfer-over-lts.Need-returns-9 (transfer-over-claims t) (transfer-over-at t) transfer-over.Post
 transfer-over-returns-9 t c = λ ρ P N. unknown
 
 abbrev transfer-row-Inv-loop : transfer-row-lts.InvT-loop
-transfer-row-Inv-loop lay v n t rec d types values stride plan count levels out₀ k ends at₀ from₀ i₀ out at from i = (length out ≡ length out₀) × (at ≤ 16387) × ((X : RowAt v lay n (t .at) rec (d .at)) (S : SelectorsAt plan count from₀) → Running (X .values .values) S out₀ k i from at out)
+transfer-row-Inv-loop lay rec row types values plan out₀ ends v count levels k₀ c₀ i₀ out k c i =
+    (length out ≡ length out₀) × (k ≤ 16387) × ((X : RowIn lay rec row) (S : SelectorsAt plan count (c₀ .at)) → Running (X .values .values) S out₀ k₀ i (c .at) k out)
 
 abbrev transfer-row-μ-loop : transfer-row-lts.MeasureT-loop
-transfer-row-μ-loop lay v n t rec d types values stride plan count levels out₀ k ends at₀ from₀ i₀ out at from i = count - i
+transfer-row-μ-loop lay rec row types values plan out₀ ends v count levels k₀ c₀ i₀ out k c i = count - i
 
-transfer-row-loop-holds : (t : ℕ) → transfer-row-lts.Need-loop-holds (transfer-row-claims t) (transfer-row-at t) transfer-row.Post transfer-row-Inv-loop transfer-row-μ-loop
-transfer-row-loop-holds t c = (refl, c .before .before .before .before .before .before .before .pre .1 .1 .1 .1 .1 .2, λ X S. running-none (X .values .values) S _ _)
+transfer-row-loop-holds : (t : ℕ) → transfer-row-lts.Need-loop-holds (transfer-row-claims t) (transfer-row-at t) transfer-row.Post
+    transfer-row-Inv-loop
+    transfer-row-μ-loop
+transfer-row-loop-holds t c =
+    let c9 = c .before .before .before .before .before .before .before .before .before in
+    (refl, c9 .pre .1 .1 .1 .1 .1 .2, λ X S. running-none (X .values .values) S _ _)
 
-transfer-row-taken-position-requires : (t : ℕ) → transfer-row-lts.Need-taken-position-requires (transfer-row-claims t) (transfer-row-at t) transfer-row.Post transfer-row-Inv-loop transfer-row-μ-loop
+transfer-row-taken-position-requires : (t : ℕ) → transfer-row-lts.Need-taken-position-requires (transfer-row-claims t) (transfer-row-at t) transfer-row.Post
+    transfer-row-Inv-loop
+    transfer-row-μ-loop
 transfer-row-taken-position-requires t c κs =
-    let X = c .before .before .before .before .before .before .before .before .before .pre .1 .1 .0 in
-    let S = c .before .before .before .before .before .before .before .before .before .pre .1 .1 .1 .1 .0 in
-    running-head (X .values .values) S (c .before .loop .inv .2 X S) (c .loop-test .taken)
+    let c1 = c .before in let c11 = c1 .before .before .before .before .before .before .before .before .before .before in
+    let X = c11 .pre .1 .1 .0 in
+    let S = c11 .pre .1 .1 .1 .1 .0 in
+    running-head (X .values .values) S (c1 .loop .inv .2 X S) (c .loop-test .taken)
 
-transfer-row-indexed-value-requires : (t : ℕ) → transfer-row-lts.Need-indexed-value-requires (transfer-row-claims t) (transfer-row-at t) transfer-row.Post transfer-row-Inv-loop transfer-row-μ-loop
-transfer-row-indexed-value-requires t c κs = (c .before .before .before .before .before .before .before .before .before .before .pre .1 .1 .0, (c .before .before .before .before .before .before .before .before .before .before .pre .1 .1 .1 .0 .0, (c .before .before .before .before .before .before .before .before .before .before .pre .1 .1 .1 .0 .1, c .before .before .before .before .before .before .before .before .before .before .pre .1 .0)))
+transfer-row-indexed-value-requires : (t : ℕ) → transfer-row-lts.Need-indexed-value-requires (transfer-row-claims t) (transfer-row-at t) transfer-row.Post
+    transfer-row-Inv-loop
+    transfer-row-μ-loop
+transfer-row-indexed-value-requires t c κs =
+    let c12 = c .before .before .before .before .before .before .before .before .before .before .before .before in
+    (c12 .pre .1 .1 .0, (c12 .pre .1 .1 .1 .0 .0, (c12 .pre .1 .1 .1 .0 .1, c12 .pre .1 .0)))
 
-transfer-row-transfer-requires : (t : ℕ) → transfer-row-lts.Need-transfer-requires (transfer-row-claims t) (transfer-row-at t) transfer-row.Post transfer-row-Inv-loop transfer-row-μ-loop
+transfer-row-transfer-requires : (t : ℕ) → transfer-row-lts.Need-transfer-requires (transfer-row-claims t) (transfer-row-at t) transfer-row.Post
+    transfer-row-Inv-loop
+    transfer-row-μ-loop
 transfer-row-transfer-requires t c κs =
-    let X = c .before .before .before .before .before .before .before .before .before .before .before .before .pre .1 .1 .0 in
-    let S = c .before .before .before .before .before .before .before .before .before .before .before .before .pre .1 .1 .1 .1 .0 in
-    let B = c .before .before .before .before .before .before .before .before .before .before .before .before .pre .1 .1 .1 .1 .1 in
-    let (l, b, f) = c .before .before .before .before .loop .inv in
-    (omega (arith, c .before .before .before .before .before .before .before .before .before .before .before .before .pre .0), (c .before .before .before .before .before .before .before .before .before .before .before .before .pre .1 .0, ((_, c .before .indexed-value .ensures X), (running-head (X .values .values) S (f X S) (c .before .before .before .loop-test .taken), (B .0, B .1, b)))))
+    let c1 = c .before in let c3 = c1 .before .before in let c4 = c3 .before in let c14 =
+    c4 .before .before .before .before .before .before .before .before .before .before in
+    let X = c14 .pre .1 .1 .0 in
+    let S = c14 .pre .1 .1 .1 .1 .0 in
+    let B = c14 .pre .1 .1 .1 .1 .1 in
+    let (l, b, f) = c4 .loop .inv in (
+      omega (arith, c14 .pre .0),
+      (
+        c14 .pre .1 .0,
+        (
+          (_, c1 .indexed-value .ensures X),
+          (
+            running-head (X .values .values) S (f X S) (c3 .loop-test .taken),
+            (B .0, B .1, b),
+          ),
+        ),
+      ),
+    )
 
-transfer-row-enum-known-e : (t : ℕ) → transfer-row-lts.Need-enum-known-e (transfer-row-claims t) (transfer-row-at t) transfer-row.Post transfer-row-Inv-loop transfer-row-μ-loop
+transfer-row-enum-known-e : (t : ℕ) → transfer-row-lts.Need-enum-known-e (transfer-row-claims t) (transfer-row-at t) transfer-row.Post
+    transfer-row-Inv-loop
+    transfer-row-μ-loop
 transfer-row-enum-known-e t c = search needs
 
-transfer-row-enum-told : (t : ℕ) → transfer-row-lts.Need-enum-told (transfer-row-claims t) (transfer-row-at t) transfer-row.Post transfer-row-Inv-loop transfer-row-μ-loop
+transfer-row-enum-told : (t : ℕ) → transfer-row-lts.Need-enum-told (transfer-row-claims t) (transfer-row-at t) transfer-row.Post
+    transfer-row-Inv-loop
+    transfer-row-μ-loop
 transfer-row-enum-told t c = search needs
 
-transfer-row-same-length : (t : ℕ) → transfer-row-lts.Need-same-length (transfer-row-claims t) (transfer-row-at t) transfer-row.Post transfer-row-Inv-loop transfer-row-μ-loop
-transfer-row-same-length t c = c .before .before .before .before .transfer .kept .1 .1 .1 .1 .1 .1 .1 .0 ∙ c .before .before .before .before .before .before .before .before .before .loop .inv .0
+transfer-row-same-length : (t : ℕ) → transfer-row-lts.Need-same-length (transfer-row-claims t) (transfer-row-at t) transfer-row.Post
+    transfer-row-Inv-loop
+    transfer-row-μ-loop
+transfer-row-same-length t c =
+    let c4 = c .before .before .before .before in let c9 = c4 .before .before .before .before .before in
+    c4 .transfer .kept .1 .1 .1 .1 .1 .0 ∙ c9 .loop .inv .0
 
-transfer-row-returns : (t : ℕ) → transfer-row-lts.Need-returns (transfer-row-claims t) (transfer-row-at t) transfer-row.Post transfer-row-Inv-loop transfer-row-μ-loop
+transfer-row-returns : (t : ℕ) → transfer-row-lts.Need-returns (transfer-row-claims t) (transfer-row-at t) transfer-row.Post
+    transfer-row-Inv-loop
+    transfer-row-μ-loop
 transfer-row-returns t c = λ X S. unknown
 
-transfer-row-add-i : (t : ℕ) → transfer-row-lts.Need-add-i (transfer-row-claims t) (transfer-row-at t) transfer-row.Post transfer-row-Inv-loop transfer-row-μ-loop
-transfer-row-add-i t c = let k = c .before .before .before .before .before .before .before .before .before .before .before .before .before .before .before .before .before .before .fits in omega (arith, c .before .before .before .before .before .before .before .before .before .loop-test .taken)
+transfer-row-add-i : (t : ℕ) → transfer-row-lts.Need-add-i (transfer-row-claims t) (transfer-row-at t) transfer-row.Post
+    transfer-row-Inv-loop
+    transfer-row-μ-loop
+transfer-row-add-i t c =
+    let c9 = c .before .before .before .before .before .before .before .before .before in let c20 =
+    c9 .before .before .before .before .before .before .before .before .before .before .before in
+    omega (arith, c9 .loop-test .taken, c20 .good .1 .1 .1 .1 .1 .1 .0)
 
-transfer-row-loop-less : (t : ℕ) → transfer-row-lts.Need-loop-less (transfer-row-claims t) (transfer-row-at t) transfer-row.Post transfer-row-Inv-loop transfer-row-μ-loop
-transfer-row-loop-less t c = omega (arith, c .before .before .before .before .before .before .before .before .before .loop-test .taken)
+transfer-row-loop-less : (t : ℕ) → transfer-row-lts.Need-loop-less (transfer-row-claims t) (transfer-row-at t) transfer-row.Post
+    transfer-row-Inv-loop
+    transfer-row-μ-loop
+transfer-row-loop-less t c =
+    let c9 = c .before .before .before .before .before .before .before .before .before in
+    omega (arith, c9 .loop-test .taken)
 
-transfer-row-loop-again : (t : ℕ) → transfer-row-lts.Need-loop-again (transfer-row-claims t) (transfer-row-at t) transfer-row.Post transfer-row-Inv-loop transfer-row-μ-loop
+transfer-row-loop-again : (t : ℕ) → transfer-row-lts.Need-loop-again (transfer-row-claims t) (transfer-row-at t) transfer-row.Post
+    transfer-row-Inv-loop
+    transfer-row-μ-loop
 transfer-row-loop-again t c =
-    let (l, b, f) = c .before .before .before .before .before .before .before .before .before .before .loop .inv in
-    let h = c .before .before .before .before .before .before .before .before .before .loop-test .taken in
-    let X = c .before .before .before .before .before .before .before .before .before .before .before .before .before .before .before .before .before .before .pre .1 .1 .0 in
-    let S = c .before .before .before .before .before .before .before .before .before .before .before .before .before .before .before .before .before .before .pre .1 .1 .1 .1 .0 in
+    let c1 = c .before in let c5 = c1 .before .before .before .before in let c7 = c5 .before .before in let c8 = c7 .before in let c9 = c8 .before in let c10
+    = c9 .before in let c20 = c10 .before .before .before .before .before .before .before .before .before .before in
+    let (l, b, f) = c10 .loop .inv in
+    let h = c9 .loop-test .taken in
+    let X = c20 .pre .1 .1 .0 in
+    let S = c20 .pre .1 .1 .1 .1 .0 in
     let P = running-head (X .values .values) S (f X S) h in
-    let K = reached-to (c .before .before .before .before .before .transfer .ensures (X .values .values) P (taken-node (X .values .values) (c .before .before .before .before .before .before .before .before .taken-position .ensures P) (c .before .before .before .before .before .before .before .indexed-value .ensures X))) (c .before .e .given .1) in (
-      c .before .before .before .before .before .transfer .kept .1 .1 .1 .1 .1 .1 .1 .0 ∙ l,
+    let K = reached-to (c5 .transfer .ensures (X .values .values) P (taken-node (X .values .values) (c8 .taken-position .ensures P)
+    (c7 .indexed-value .ensures X))) (c1 .e .given .1) in (
+      c5 .transfer .kept .1 .1 .1 .1 .1 .0 ∙ l,
       omega (arith, K .1 .within),
       λ X S.
           let P = running-head (X .values .values) S (f X S) h in
-          running-more (X .values .values) S (f X S) h (c .before .before .before .before .before .transfer .ensures (X .values .values) P (taken-node (X .values .values) (c .before .before .before .before .before .before .before .before .taken-position .ensures P) (c .before .before .before .before .before .before .before .indexed-value .ensures X))) (c .before .e .given .1),
+          running-more (X .values .values) S (f X S) h (c5 .transfer .ensures (X .values .values) P (taken-node (X .values .values)
+          (c8 .taken-position .ensures P) (c7 .indexed-value .ensures X))) (c1 .e .given .1),
     )
 
-transfer-row-limited-requires : (t : ℕ) → transfer-row-lts.Need-limited-requires (transfer-row-claims t) (transfer-row-at t) transfer-row.Post transfer-row-Inv-loop transfer-row-μ-loop
+transfer-row-limited-requires : (t : ℕ) → transfer-row-lts.Need-limited-requires (transfer-row-claims t) (transfer-row-at t) transfer-row.Post
+    transfer-row-Inv-loop
+    transfer-row-μ-loop
 transfer-row-limited-requires t c κs = search needs
 
-transfer-row-same-length-2 : (t : ℕ) → transfer-row-lts.Need-same-length-2 (transfer-row-claims t) (transfer-row-at t) transfer-row.Post transfer-row-Inv-loop transfer-row-μ-loop
+transfer-row-same-length-2 : (t : ℕ) → transfer-row-lts.Need-same-length-2 (transfer-row-claims t) (transfer-row-at t) transfer-row.Post
+    transfer-row-Inv-loop
+    transfer-row-μ-loop
 transfer-row-same-length-2 t c = c .before .before .loop .inv .0
 
-transfer-row-returns-2 : (t : ℕ) → transfer-row-lts.Need-returns-2 (transfer-row-claims t) (transfer-row-at t) transfer-row.Post transfer-row-Inv-loop transfer-row-μ-loop
+transfer-row-returns-2 : (t : ℕ) → transfer-row-lts.Need-returns-2 (transfer-row-claims t) (transfer-row-at t) transfer-row.Post
+    transfer-row-Inv-loop
+    transfer-row-μ-loop
 transfer-row-returns-2 t c =
     λ X S.
     let R = c .before .before .loop .inv .2 X S in
     let (a, b) = running-all (X .values .values) S R (c .before .loop-test .left) in
     reached-end (running-ends (X .values .values) S R (c .before .loop-test .left)) (c .limited .ensures _ _ _ _ _ a b)
 
-transfer-taken-is-position-requires : (t : ℕ) → transfer-taken-lts.Need-is-position-requires (transfer-taken-claims t) (transfer-taken-at t) transfer-taken.Post
+transfer-taken-is-position-requires :
+    (t : ℕ) → transfer-taken-lts.Need-is-position-requires (transfer-taken-claims t) (transfer-taken-at t) transfer-taken.Post
 transfer-taken-is-position-requires t c κs = search needs
 
-transfer-taken-transfer-over-requires : (t : ℕ) → transfer-taken-lts.Need-transfer-over-requires (transfer-taken-claims t) (transfer-taken-at t) transfer-taken.Post
-transfer-taken-transfer-over-requires t c κs = (omega (arith, c .before .before .before .before .before .before .before .before .pre .0), (c .before .before .before .before .before .before .before .before .pre .1 .0, c .before .before .before .before .before .before .before .before .pre .1 .1))
+transfer-taken-transfer-over-requires :
+    (t : ℕ) → transfer-taken-lts.Need-transfer-over-requires (transfer-taken-claims t) (transfer-taken-at t) transfer-taken.Post
+transfer-taken-transfer-over-requires t c κs =
+    let c8 = c .before .before .before .before .before .before .before .before in
+    (omega (arith, c8 .pre .0), (c8 .pre .1 .0, c8 .pre .1 .1))
 
 transfer-taken-same-length : (t : ℕ) → transfer-taken-lts.Need-same-length (transfer-taken-claims t) (transfer-taken-at t) transfer-taken.Post
 transfer-taken-same-length t c = search needs
 
 transfer-taken-returns : (t : ℕ) → transfer-taken-lts.Need-returns (transfer-taken-claims t) (transfer-taken-at t) transfer-taken.Post
-transfer-taken-returns t c = λ ρ P I N. c .before .before .transfer-over .ensures ρ P (input-gives ρ I (c .before .before .before .before .before .is-position .ensures (I .input) (c .before .before .before .before .if1 .taken) ρ) N)
+transfer-taken-returns t c =
+    let c2 = c .before .before in let c4 = c2 .before .before in let c5 = c4 .before in
+    λ ρ P I N. c2 .transfer-over .ensures ρ P (input-gives ρ I (c5 .is-position .ensures (I .input) (c4 .if1 .taken) ρ) N)
 
 transfer-taken-returns-2 : (t : ℕ) → transfer-taken-lts.Need-returns-2 (transfer-taken-claims t) (transfer-taken-at t) transfer-taken.Post
 transfer-taken-returns-2 t c = λ ρ P I N. unknown
@@ -949,6 +1324,7 @@ pub +array-over+list-over+struct-over+transfer+transfer-elements+transfer-fields
     (struct-over-enum-known-n t)
     (struct-over-put-lead-requires t)
     (struct-over-struct-fields-requires t)
+    (struct-over-field-stride-requires t)
     (struct-over-transfer-fields-requires t)
     (struct-over-enum-told-2 t)
     (struct-over-enum-told-3 t)
@@ -965,6 +1341,7 @@ pub +array-over+list-over+struct-over+transfer+transfer-elements+transfer-fields
     transfer.Post
     (transfer-returns t)
     (transfer-returns-2 t)
+    (transfer-sub-levels t)
     (transfer-head-requires t)
     (transfer-enum-told t)
     (transfer-skip-selector-requires t)
@@ -973,19 +1350,15 @@ pub +array-over+list-over+struct-over+transfer+transfer-elements+transfer-fields
     (transfer-skip-selector-requires-2 t)
     (transfer-put-constant-requires t)
     (transfer-enum-known-input t)
-    (transfer-sub-transfer t)
     (transfer-transfer-requires t)
     (transfer-past-name-requires t)
     (transfer-enum-told-2 t)
     (transfer-transfer-cast-requires t)
     (transfer-enum-known-input-2 t)
-    (transfer-sub-transfer-taken t)
     (transfer-transfer-taken-requires t)
     (transfer-enum-known-input-3 t)
-    (transfer-sub-transfer-taken-2 t)
     (transfer-transfer-taken-requires-2 t)
     (transfer-enum-known-input-4 t)
-    (transfer-sub-transfer-taken-3 t)
     (transfer-transfer-taken-requires-3 t)
     (transfer-enum-told-3 t)
     (transfer-same-length t)
@@ -1026,7 +1399,6 @@ pub +array-over+list-over+struct-over+transfer+transfer-elements+transfer-fields
     (λ t. transfer-fields-lts.spec (transfer-fields-claims t)
     (transfer-fields-at t)
     transfer-fields.Post
-    (transfer-fields-field-stride-requires t)
     (transfer-fields-slice-aggregate-index-fields t)
     (transfer-fields-slice-aggregate-index-fields-2 t)
     (transfer-fields-index-fields-requires t)
@@ -1041,14 +1413,16 @@ pub +array-over+list-over+struct-over+transfer+transfer-elements+transfer-fields
     (transfer-over-at t)
     transfer-over.Post
     (transfer-over-returns t)
-    (transfer-over-sub-l t)
+    (transfer-over-sub-t16 t)
     (transfer-over-head-requires t)
     (transfer-over-enum-told t)
     (transfer-over-enum-told-2 t)
     (transfer-over-enum-known-input t)
-    (transfer-over-cast-over-requires t)
-    (transfer-over-enum-told-3 t)
+    (transfer-over-cast-value-requires t)
     (transfer-over-skip-selector-requires t)
+    (transfer-over-put-chain-requires t)
+    (transfer-over-enum-told-3 t)
+    (transfer-over-skip-selector-requires-2 t)
     (transfer-over-put-node-requires t)
     (transfer-over-enum-known-input-2 t)
     (transfer-over-struct-over-requires t)

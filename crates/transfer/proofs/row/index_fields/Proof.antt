@@ -8,4 +8,9 @@ use Rattle.transfer.proofs.row.index_fields.Tie as tie
 
 pub index-fields-spec : {M : Type 1} → statement M
 index-fields-spec =
-    tie.close (tie.spec (λ c. (omega arith, (omega arith, row-indexed-none refl))) (λ c κs. search needs) (λ c. search needs) (λ c. search needs) (λ c. search needs))
+    tie.close (tie.spec
+    (λ c. (omega arith, (omega arith, row-indexed-none refl)))
+    (λ c κs. search needs)
+    (λ c. search needs)
+    (λ c. search needs)
+    (λ c. search needs))

@@ -1,4 +1,5 @@
--- The proof of the cycle of calls {marked_content, marked_element, marked_elements, marked_fields, marked_list, marked_nested, marked_value}. The measure is 5 for
+-- The proof of the cycle of calls {marked_content, marked_element, marked_elements, marked_fields, marked_list, marked_nested, marked_value}. The measure is 5
+-- for
 -- each level left, and 1, 2, 3, 3, 4, 0 and 2 more. `Fielding` and `Repeating` hold at the heads of the loops; each way has its law in `Walk`. Assumes nothing.
 use Rattle.values.proofs.Walk.{content-leaf, content-no-leaf, content-struct, content-list, content-array, element-null, element-to, element-stopped, element-refused, repeating-none, repeating-stopped, repeating-more, repeating-all, fielding-none, fielding-first, fielding-refused, fielding-labelled, fielding-more, fielding-all, list-counted, list-uncounted, value-null, value-present, value-refused, Fielding, Repeating}
 use Rattle.values.proofs.Numbers.{number-read}
@@ -150,22 +151,46 @@ abbrev marked-list-claims : ℕ → marked-list-lts.Claims
 marked-list-claims t = (short-reads.Asked, short-reads.Learnt, marked-elements-below t, marked-elements.Post)
 
 abbrev marked-nested-claims : ℕ → marked-nested-lts.Claims
-marked-nested-claims t = (head-reads.Asked, head-reads.Learnt, read-leaf-reads.Asked, read-leaf-reads.Learnt, marked-fields-below t, marked-fields.Post, element-label-reads.Asked, element-label-reads.Learnt, is-required-reads.Asked, is-required-reads.Learnt, marked-list-below t, marked-list.Post, marked-elements-below t, marked-elements.Post)
+marked-nested-claims t = (
+  head-reads.Asked,
+  head-reads.Learnt,
+  read-leaf-reads.Asked,
+  read-leaf-reads.Learnt,
+  marked-fields-below t,
+  marked-fields.Post,
+  element-label-reads.Asked,
+  element-label-reads.Learnt,
+  is-required-reads.Asked,
+  is-required-reads.Learnt,
+  marked-list-below t,
+  marked-list.Post,
+  marked-elements-below t,
+  marked-elements.Post,
+)
 
 abbrev marked-value-claims : ℕ → marked-value-lts.Claims
-marked-value-claims t = (marked-presence-reads.Asked, marked-presence-reads.Learnt, pass-type-reads.Asked, pass-type-reads.Learnt, marked-content-below t, marked-content.Post)
+marked-value-claims t = (
+  marked-presence-reads.Asked,
+  marked-presence-reads.Learnt,
+  pass-type-reads.Asked,
+  pass-type-reads.Learnt,
+  marked-content-below t,
+  marked-content.Post,
+)
 
 abbrev marked-elements-Inv-loop : marked-elements-lts.InvT-loop
-marked-elements-Inv-loop lay cx required n t rec ends at₀ i₀ at i = Repeating (marksOf (cx .marks)) required (cx .edition) (cx .depth) lay (t .at) rec n at₀ i at
+marked-elements-Inv-loop lay cx required n t rec ends d₀ i₀ d i = Repeating (marksOf (cx .marks)) required (cx .edition) (cx .depth) lay (t .at) rec n (d₀ .at)
+    i (d .at)
 
 abbrev marked-elements-μ-loop : marked-elements-lts.MeasureT-loop
-marked-elements-μ-loop lay cx required n t rec ends at₀ i₀ at i = n - i
+marked-elements-μ-loop lay cx required n t rec ends d₀ i₀ d i = n - i
 
 abbrev marked-fields-Inv-loop : marked-fields-lts.InvT-loop
-marked-fields-Inv-loop lay cx n rec ends v at₀ to₀ i₀ at to i = Fielding (marksOf (cx .marks)) (cx .edition) (cx .depth) lay n at₀ rec to₀ i at to
+marked-fields-Inv-loop lay cx n rec ends v d₀ b₀ i₀ d b i = Fielding (marksOf (cx .marks)) (cx .edition) (cx .depth) lay n (d₀ .at) rec (b₀ .at) i (d .at)
+    (b .at)
 
 abbrev marked-fields-μ-loop : marked-fields-lts.MeasureT-loop
-marked-fields-μ-loop lay cx n rec ends v at₀ to₀ i₀ at to i = n - i
+marked-fields-μ-loop lay cx n rec ends v d₀ b₀ i₀ d b i = n - i
 
 pub +marked-content+marked-element+marked-elements+marked-fields+marked-list+marked-nested+marked-value-spec : {M : Type 1} → statement M
 +marked-content+marked-element+marked-elements+marked-fields+marked-list+marked-nested+marked-value-spec =
@@ -183,7 +208,9 @@ pub +marked-content+marked-element+marked-elements+marked-fields+marked-list+mar
     (λ c κs. search needs)
     (λ c. search needs)
     (λ c. search needs)
-    (λ c κs. (omega (arith, c .before .before .before .before .before .before .pre .0), c .before .before .before .before .before .before .pre .1))
+    (λ c κs.
+    let c6 = c .before .before .before .before .before .before in
+    (omega (arith, c6 .pre .0), c6 .pre .1))
     (λ c. λ P. number-read _ _ _ (c .before .before .before .read-number .ensures _ _ _ P) (c .before .r .given .1))
     (λ c. c .marked-nested .ensures))
     (λ t. marked-element-lts.spec (marked-element-claims t)
@@ -192,13 +219,19 @@ pub +marked-content+marked-element+marked-elements+marked-fields+marked-list+mar
     (λ c κs. search needs)
     (λ c. search needs)
     (λ c. search needs)
-    (λ c κs. (omega (arith, c .before .before .before .before .before .before .before .pre .0), c .before .before .before .before .before .before .before .pre .1))
+    (λ c κs.
+    let c7 = c .before .before .before .before .before .before .before in
+    (omega (arith, c7 .pre .0), c7 .pre .1))
     (λ c. search needs)
     (λ c. search needs)
     (λ c. search needs)
     (λ c. λ P. element-null (P .end) _ _ (P .tree) _ _ (c .before .before .before .marked-presence .ensures) (c .before .d .given .1))
-    (λ c. λ P. element-to (P .end) _ _ (P .tree) _ _ (c .before .before .before .before .before .before .before .marked-presence .ensures) (c .before .before .before .before .before .d2 .given .1) (c .before .before .before .marked-content .ensures P) (c .before .e .given .1))
-    (λ c. λ P. element-stopped (P .end) _ _ (P .tree) _ _ (c .before .before .before .before .before .before .before .marked-presence .ensures) (c .before .before .before .before .before .d2 .given .1) (c .before .before .before .marked-content .ensures P) (c .before .k .given .1))
+    (λ c.
+    let c1 = c .before in let c3 = c1 .before .before in let c5 = c3 .before .before in let c7 = c5 .before .before in
+    λ P. element-to (P .end) _ _ (P .tree) _ _ (c7 .marked-presence .ensures) (c5 .d2 .given .1) (c3 .marked-content .ensures P) (c1 .e .given .1))
+    (λ c.
+    let c1 = c .before in let c3 = c1 .before .before in let c5 = c3 .before .before in let c7 = c5 .before .before in
+    λ P. element-stopped (P .end) _ _ (P .tree) _ _ (c7 .marked-presence .ensures) (c5 .d2 .given .1) (c3 .marked-content .ensures P) (c1 .k .given .1))
     (λ c. λ P. element-refused (P .end) _ _ (P .tree) _ _ (c .before .before .before .marked-presence .ensures) (c .before .k2 .given .1)))
     (λ t. marked-elements-lts.spec (marked-elements-claims t)
     (marked-elements-at t)
@@ -206,13 +239,19 @@ pub +marked-content+marked-element+marked-elements+marked-fields+marked-list+mar
     marked-elements-Inv-loop
     marked-elements-μ-loop
     (λ c. repeating-none _ _ _ _ _ (c .before .before .before .pre .1 .0))
-    (λ c κs. (omega (arith, c .before .before .before .before .before .pre .0), c .before .before .before .before .before .pre .1))
+    (λ c κs.
+    let c5 = c .before .before .before .before .before in
+    (omega (arith, c5 .pre .0), c5 .pre .1))
     (λ c. search needs)
     (λ c. search needs)
-    (λ c. repeating-stopped (c .before .before .before .before .before .loop .inv) (c .before .before .before .before .loop-test .taken) (c .before .before .before .marked-element .ensures) (c .before .k .given .1))
+    (λ c.
+    let c1 = c .before in let c3 = c1 .before .before in let c4 = c3 .before in let c5 = c4 .before in
+    repeating-stopped (c5 .loop .inv) (c4 .loop-test .taken) (c3 .marked-element .ensures) (c1 .k .given .1))
     (λ c. omega arith)
     (λ c. omega arith)
-    (λ c. repeating-more (c .before .before .before .before .before .loop .inv) (c .before .before .before .before .loop-test .taken) (c .before .before .before .marked-element .ensures) (c .before .e .given .1))
+    (λ c.
+    let c1 = c .before in let c3 = c1 .before .before in let c4 = c3 .before in let c5 = c4 .before in
+    repeating-more (c5 .loop .inv) (c4 .loop-test .taken) (c3 .marked-element .ensures) (c1 .e .given .1))
     (λ c κs. c .before .before .before .before .before .pre .1)
     (λ c. repeating-all (c .before .before .loop .inv) (c .before .loop-test .left) (c .pass-type .ensures)))
     (λ t. marked-fields-lts.spec (marked-fields-claims t)
@@ -225,16 +264,34 @@ pub +marked-content+marked-element+marked-elements+marked-fields+marked-list+mar
     (λ c. search needs)
     (λ c κs. search needs)
     (λ c κs.
-    let F = fielding-first (c .before .before .before .before .before .before .loop .inv) (c .before .before .before .before .before .loop-test .taken) (c .before .before .before .before .label .ensures .0) (c .before .before .l .given .1) in
-    (omega (arith, c .before .before .before .before .before .before .before .before .before .before .pre .0), (F .head, c .before .before .before .before .before .before .before .before .before .before .pre .1 .1)))
+    let F = fielding-first (c .before .before .before .before .before .before .loop .inv) (c .before .before .before .before .before .loop-test .taken)
+    (c .before .before .before .before .label .ensures .0) (c .before .before .l .given .1) in (
+      omega (arith, c .before .before .before .before .before .before .before .before .before .before .pre .0),
+      (
+        F .head,
+        c .before .before .before .before .before .before .before .before .before .before .pre .1 .1,
+      ),
+    ))
     (λ c. search needs)
     (λ c. search needs)
-    (λ c. fielding-refused (c .before .before .before .before .before .before .before .before .before .before .loop .inv) (c .before .before .before .before .before .before .before .before .before .loop-test .taken) (c .before .before .before .before .before .before .before .before .label .ensures .0) (c .before .before .before .before .before .before .l .given .1) (c .before .before .before .before .is-required .ensures) (c .before .before .before .marked-value .ensures) (c .before .k .given .1))
+    (λ c.
+    let c1 = c .before in let c3 = c1 .before .before in let c4 = c3 .before in let c6 = c4 .before .before in let c8 = c6 .before .before in let c9 =
+    c8 .before in let c10 = c9 .before in
+    fielding-refused (c10 .loop .inv) (c9 .loop-test .taken) (c8 .label .ensures .0) (c6 .l .given .1) (c4 .is-required .ensures) (c3 .marked-value .ensures)
+    (c1 .k .given .1))
     (λ c. search needs)
-    (λ c. λ P. fielding-labelled (c .before .before .before .before .before .loop .inv) (c .before .before .before .before .loop-test .taken) (c .before .before .before .label .ensures .0) (c .before .k2 .given .1))
-    (λ c. omega (arith, c .before .before .before .before .before .before .before .before .before .before .before .before .before .before .fits .n, c .before .before .before .before .before .before .before .before .before .loop-test .taken))
+    (λ c.
+    let c1 = c .before in let c3 = c1 .before .before in let c4 = c3 .before in let c5 = c4 .before in
+    λ P. fielding-labelled (c5 .loop .inv) (c4 .loop-test .taken) (c3 .label .ensures .0) (c1 .k2 .given .1))
+    (λ c.
+    let c9 = c .before .before .before .before .before .before .before .before .before in let c14 = c9 .before .before .before .before .before in
+    omega (arith, c14 .fits .n, c9 .loop-test .taken))
     (λ c. omega arith)
-    (λ c. fielding-more (c .before .before .before .before .before .before .before .before .before .before .loop .inv) (c .before .before .before .before .before .before .before .before .before .loop-test .taken) (c .before .before .before .before .before .before .before .before .label .ensures .0) (c .before .before .before .before .before .before .l .given .1) (c .before .before .before .before .is-required .ensures) (c .before .before .before .marked-value .ensures) (c .before .f .given .1))
+    (λ c.
+    let c1 = c .before in let c3 = c1 .before .before in let c4 = c3 .before in let c6 = c4 .before .before in let c8 = c6 .before .before in let c9 =
+    c8 .before in let c10 = c9 .before in
+    fielding-more (c10 .loop .inv) (c9 .loop-test .taken) (c8 .label .ensures .0) (c6 .l .given .1) (c4 .is-required .ensures) (c3 .marked-value .ensures)
+    (c1 .f .given .1))
     (λ c. fielding-all (c .before .loop .inv) (c .loop-test .left)))
     (λ t. marked-list-lts.spec (marked-list-claims t)
     (marked-list-at t)
@@ -242,9 +299,13 @@ pub +marked-content+marked-element+marked-elements+marked-fields+marked-list+mar
     (λ c κs. search needs)
     (λ c. search needs)
     (λ c. search needs)
-    (λ c κs. (omega (arith, c .before .before .before .before .before .before .before .pre .0), c .before .before .before .before .before .before .before .pre .1))
+    (λ c κs.
+    let c7 = c .before .before .before .before .before .before .before in
+    (omega (arith, c7 .pre .0), c7 .pre .1))
     (λ c. search needs)
-    (λ c. λ P. list-counted (P .end) (valueMarked _ _ (P .tree)) _ _ (c .before .before .before .before .short .ensures) (c .before .before .n .given .1) (c .marked-elements .ensures P))
+    (λ c.
+    let c2 = c .before .before in let c4 = c2 .before .before in
+    λ P. list-counted (P .end) (valueMarked _ _ (P .tree)) _ _ (c4 .short .ensures) (c2 .n .given .1) (c .marked-elements .ensures P))
     (λ c. λ P. list-uncounted (P .end) (valueMarked _ _ (P .tree)) _ _ (c .before .before .before .short .ensures) (c .before .k .given .1)))
     (λ t. marked-nested-lts.spec (marked-nested-claims t)
     (marked-nested-at t)
@@ -258,8 +319,14 @@ pub +marked-content+marked-element+marked-elements+marked-fields+marked-list+mar
     (λ c. search needs)
     (λ c κs.
     let P = c .before .before .before .before .before .before .before .before .pre .1 .0 in
-    let z = deep P in
-    (omega (arith, c .before .before .before .before .before .before .before .before .pre .0), (struct-at P (c .before .before .before .head .ensures .0) (c .before .n .given .1) .inner, c .before .before .before .before .before .before .before .before .pre .1 .1)))
+    let z = deep P in (
+      omega (arith, c .before .before .before .before .before .before .before .before .pre .0),
+      (
+        struct-at P (c .before .before .before .head .ensures .0)
+            (c .before .n .given .1) .inner,
+        c .before .before .before .before .before .before .before .before .pre .1 .1,
+      ),
+    ))
     (λ c. search needs)
     (λ c κs. search needs)
     (λ c. search needs)
@@ -267,8 +334,15 @@ pub +marked-content+marked-element+marked-elements+marked-fields+marked-list+mar
     (λ c κs.
     let P = c .before .before .before .before .before .before .before .before .before .before .before .before .before .pre .1 .0 in
     let z = deep P in
-    let L = list-at P (c .before .before .before .before .before .before .before .before .head .ensures .0) (c .before .before .before .before .element-label .ensures .0) (c .before .before .before .before .before .before .e .given .1) (c .before .before .l2 .given .1) in
-    (omega (arith, c .before .before .before .before .before .before .before .before .before .before .before .before .before .pre .0), (L .inner, c .before .before .before .before .before .before .before .before .before .before .before .before .before .pre .1 .1)))
+    let L = list-at P (c .before .before .before .before .before .before .before .before .head .ensures .0)
+    (c .before .before .before .before .element-label .ensures .0) (c .before .before .before .before .before .before .e .given .1)
+    (c .before .before .l2 .given .1) in (
+      omega (arith, c .before .before .before .before .before .before .before .before .before .before .before .before .before .pre .0),
+      (
+        L .inner,
+        c .before .before .before .before .before .before .before .before .before .before .before .before .before .pre .1 .1,
+      ),
+    ))
     (λ c. search needs)
     (λ c. search needs)
     (λ c κs. search needs)
@@ -277,27 +351,58 @@ pub +marked-content+marked-element+marked-elements+marked-fields+marked-list+mar
     (λ c κs.
     let P = c .before .before .before .before .before .before .before .before .before .before .before .before .before .pre .1 .0 in
     let z = deep P in
-    let L = array-at P (c .before .before .before .before .before .before .before .before .head .ensures .0) (c .before .before .before .before .element-label2 .ensures .0) (c .before .before .before .before .before .before .w .given .1) (c .before .before .l3 .given .1) in
-    (omega (arith, c .before .before .before .before .before .before .before .before .before .before .before .before .before .pre .0), (L .inner, c .before .before .before .before .before .before .before .before .before .before .before .before .before .pre .1 .1)))
+    let L = array-at P (c .before .before .before .before .before .before .before .before .head .ensures .0)
+    (c .before .before .before .before .element-label2 .ensures .0) (c .before .before .before .before .before .before .w .given .1)
+    (c .before .before .l3 .given .1) in (
+      omega (arith, c .before .before .before .before .before .before .before .before .before .before .before .before .before .pre .0),
+      (
+        L .inner,
+        c .before .before .before .before .before .before .before .before .before .before .before .before .before .pre .1 .1,
+      ),
+    ))
     (λ c. search needs)
     (λ c. search needs)
-    (λ c. λ P. content-leaf _ P _ _ (c .before .before .before .before .before .before .before .head .ensures .0) (c .before .before .before .before .before .l .given .1) (c .before .before .before .read-leaf .ensures) (c .before .d .given .1))
-    (λ c. λ P. content-no-leaf _ P _ _ (c .before .before .before .before .before .before .before .head .ensures .0) (c .before .before .before .before .before .l .given .1) (c .before .before .before .read-leaf .ensures) (c .before .k .given .1))
-    (λ c. λ P. content-struct _ P _ _ (c .before .before .before .before .head .ensures .0) (c .before .before .n .given .1) (c .marked-fields .ensures))
-    (λ c. λ P. content-list _ P _ _ (c .before .before .before .before .before .before .before .before .before .head .ensures .0) (c .before .before .before .before .before .element-label .ensures .0) (c .before .before .before .l2 .given .1) (c .before .is-required .ensures) (c .before .before .before .before .before .before .before .e .given .1) (c .marked-list .ensures))
-    (λ c. λ P. list-labelled P (c .before .before .before .before .before .before .before .head .ensures .0) (c .before .before .before .element-label .ensures .0) (c .before .before .before .before .before .e .given .1) (c .before .k2 .given .1))
-    (λ c. λ P. content-array _ P _ _ (c .before .before .before .before .before .before .before .before .before .head .ensures .0) (c .before .before .before .before .before .element-label2 .ensures .0) (c .before .before .before .l3 .given .1) (c .before .is-required2 .ensures) (c .before .before .before .before .before .before .before .w .given .1) (c .marked-elements .ensures))
-    (λ c. λ P. array-labelled P (c .before .before .before .before .before .before .before .head .ensures .0) (c .before .before .before .element-label2 .ensures .0) (c .before .before .before .before .before .w .given .1) (c .before .k3 .given .1))
+    (λ c.
+    let c1 = c .before in let c3 = c1 .before .before in let c5 = c3 .before .before in let c7 = c5 .before .before in
+    λ P. content-leaf _ P _ _ (c7 .head .ensures .0) (c5 .l .given .1) (c3 .read-leaf .ensures) (c1 .d .given .1))
+    (λ c.
+    let c1 = c .before in let c3 = c1 .before .before in let c5 = c3 .before .before in let c7 = c5 .before .before in
+    λ P. content-no-leaf _ P _ _ (c7 .head .ensures .0) (c5 .l .given .1) (c3 .read-leaf .ensures) (c1 .k .given .1))
+    (λ c.
+    let c2 = c .before .before in let c4 = c2 .before .before in
+    λ P. content-struct _ P _ _ (c4 .head .ensures .0) (c2 .n .given .1) (c .marked-fields .ensures))
+    (λ c.
+    let c1 = c .before in let c3 = c1 .before .before in let c5 = c3 .before .before in let c7 = c5 .before .before in let c9 = c7 .before .before in
+    λ P. content-list _ P _ _ (c9 .head .ensures .0) (c5 .element-label .ensures .0) (c3 .l2 .given .1) (c1 .is-required .ensures) (c7 .e .given .1)
+    (c .marked-list .ensures))
+    (λ c.
+    let c1 = c .before in let c3 = c1 .before .before in let c5 = c3 .before .before in let c7 = c5 .before .before in
+    λ P. list-labelled P (c7 .head .ensures .0) (c3 .element-label .ensures .0) (c5 .e .given .1) (c1 .k2 .given .1))
+    (λ c.
+    let c1 = c .before in let c3 = c1 .before .before in let c5 = c3 .before .before in let c7 = c5 .before .before in let c9 = c7 .before .before in
+    λ P. content-array _ P _ _ (c9 .head .ensures .0) (c5 .element-label2 .ensures .0) (c3 .l3 .given .1) (c1 .is-required2 .ensures) (c7 .w .given .1)
+    (c .marked-elements .ensures))
+    (λ c.
+    let c1 = c .before in let c3 = c1 .before .before in let c5 = c3 .before .before in let c7 = c5 .before .before in
+    λ P. array-labelled P (c7 .head .ensures .0) (c3 .element-label2 .ensures .0) (c5 .w .given .1) (c1 .k3 .given .1))
     (λ c. λ P. never-headless P (c .before .before .before .head .ensures .0) (c .before .k4 .given .1)))
     λ t. marked-value-lts.spec (marked-value-claims t)
     (marked-value-at t)
     marked-value.Post
     (λ c κs. search needs)
     (λ c. search needs)
-    (λ c κs. c .before .before .before .before .before .before .before .pre .1)
+    (λ c κs.
+    let c7 = c .before .before .before .before .before .before .before in
+    c7 .pre .1)
     (λ c. search needs)
-    (λ c κs. (omega (arith, c .before .before .before .before .before .before .before .pre .0), c .before .before .before .before .before .before .before .pre .1))
+    (λ c κs.
+    let c7 = c .before .before .before .before .before .before .before in
+    (omega (arith, c7 .pre .0), c7 .pre .1))
     (λ c. search needs)
-    (λ c. λ P. value-null (P .end) _ _ (P .tree) _ _ (c .before .before .before .before .marked-presence .ensures) (c .before .before .d .given .1) (c .pass-type .ensures P))
-    (λ c. λ P. value-present (P .end) _ _ (P .tree) _ _ (c .before .before .before .before .marked-presence .ensures) (c .before .before .d2 .given .1) (c .marked-content .ensures P))
+    (λ c.
+    let c2 = c .before .before in let c4 = c2 .before .before in
+    λ P. value-null (P .end) _ _ (P .tree) _ _ (c4 .marked-presence .ensures) (c2 .d .given .1) (c .pass-type .ensures P))
+    (λ c.
+    let c2 = c .before .before in let c4 = c2 .before .before in
+    λ P. value-present (P .end) _ _ (P .tree) _ _ (c4 .marked-presence .ensures) (c2 .d2 .given .1) (c .marked-content .ensures P))
     (λ c. λ P. value-refused (P .end) _ _ (P .tree) _ _ (c .before .before .before .marked-presence .ensures) (c .before .k .given .1))
