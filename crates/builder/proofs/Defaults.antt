@@ -12,13 +12,13 @@ use Rattle.store.proofs.Holds.{holds-exact, holds-before, holds-append, holds-o
 use Rattle.layout.specs.Bytes.{Bytes, AllBytes}
 use Rattle.layout.specs.Parser.{ok, choose}
 use Rattle.layout.specs.Tree.{LeafType, Label, ColumnType, cleaf, cstruct, clist, carray, Columns, ccons, DataType, leaf, dtypeOf}
-use Rattle.layout.specs.Layout.{Kind, aStruct, aList, anArray, kind}
-use Rattle.layout.specs.Answers.{headRes, leafAt, movedOf}
-use Rattle.layout.specs.Stands.{TypeAt}
+use Rattle.layout.specs.Layout.{Head, aStruct, aList, anArray, kind}
+use Rattle.layout.specs.code.Answers.{headRes, leafAt, movedOf}
+use Rattle.layout.specs.code.Stands.{TypeAt}
 use Rattle.layout.specs.declared.columns.FieldId.{FieldId}
 use Rattle.layout.specs.declared.cursor.Cursor.{Cursor}
 use Rattle.layout.specs.declared.cursor.Moved.{Moved}
-use Rattle.layout.specs.declared.types.Head.{Head}
+use Rattle.layout.specs.declared.types.Head.{Head as HeadSpan}
 use Rattle.layout.specs.declared.types.LeafType.{LeafType as LeafSpan}
 use Rattle.layout.specs.declared.edition.Edition.{Edition}
 use Rattle.layout.proofs.Ways.{clash, moved-to, moved-refused}
@@ -34,7 +34,7 @@ use Rattle.rules.proofs.PairRule.{equal-untouched, untouched-equal}
 use Rattle.values.specs.Value.{Value, vnull}
 use Rattle.values.specs.Reading.{value}
 use Rattle.values.specs.Encode.{encodeValue, encodeValues}
-use Rattle.values.specs.Stands.{ValueAt}
+use Rattle.values.specs.code.Stands.{ValueAt}
 use Rattle.values.proofs.Stand.{stand-bytes}
 use Rattle.values.proofs.Back.{value-back}
 use Rattle.defaults.specs.Lookup.{Taken, refused, nothing}
@@ -42,8 +42,10 @@ use Rattle.defaults.proofs.Whole.{DefaultAt}
 use Rattle.plan.specs.Result.{Result, gives, refuses, _>>=_, demand}
 use Rattle.plan.specs.Nullness.{required, topOf, ofValue, ofFields}
 use Rattle.plan.specs.Marks.{allowed, meets, meetsAll}
-use Rattle.matching.specs.Default.{Defaults, Default, none, some, orNull, isSome, leafDefault, FieldDefaults, withField, structDefault, buildIcebergDefaultValue, defaultsOf}
-use Rattle.builder.specs.Answers.{filledIn, anyFilled, defaultMade, defaultsMade, isDefaultRefused, isSomeMade, fillsMade, valueLen, failedDefault, joinDefaults, WroteDefault, WroteDefaults, MakesDefault, MakesDefaults}
+use Rattle.matching.specs.Default.{Defaults, Default, none, some, orNull, isSome, leafDefault, FieldDefaults, withField, structDefault}
+use Rattle.matching.specs.Default.{buildIcebergDefaultValue, defaultsOf}
+use Rattle.builder.specs.code.Answers.{filledIn, anyFilled, defaultMade, defaultsMade, isDefaultRefused, isSomeMade, fillsMade, valueLen, failedDefault}
+use Rattle.builder.specs.code.Answers.{joinDefaults, WroteDefault, WroteDefaults, MakesDefault, MakesDefaults}
 use Rattle.builder.specs.declared.default.DefaultMade.{DefaultMade}
 use Rattle.builder.specs.declared.default.DefaultsMade.{DefaultsMade}
 use Rattle.builder.proofs.Matching.{hasElement, differ, head-is}
@@ -75,7 +77,8 @@ module _ (p : Policy) (a b : LeafType) (x : Outcome) (e : verdictOf x ≡ pairRu
 -- ---- a leaf's default
 
 module _ {f : Value → Bool} {b e : ℕ} (out : Bytes) (k : ℕ) where
-  pub none-made : {X : Result Default} {r : DefaultMade} {o : Bytes} → X ≡ gives none → r ≡ DefaultMade.None → o ≡ overlay out k (encodeValue vnull) → b < e → MakesDefault f b e out k X r o
+  pub none-made : {X : Result Default} {r : DefaultMade} {o : Bytes} → X ≡ gives none → r ≡ DefaultMade.None → o ≡ overlay out k (encodeValue vnull) → b
+      < e → MakesDefault f b e out k X r o
   unfolding defaultMade WroteDefault encodeValue
   none-made h q z lt = rw (h, q) (record { answer = refl; wrote = (holds-exact out k (encodeValue vnull) z, omega arith) })
 
@@ -113,7 +116,8 @@ demand-pass true n Y h = refl
 demand-pass false n Y h = clash (cc)
 
 module _ {t : DataType} {s : Bytes} {at : ℕ} (P : ValueAt t s at) (like : Bool) {x : Bool} (same : x ≡ like) where
-  pub taken-unlike : {b e : ℕ} (out : Bytes) (k : ℕ) (o : Bytes) → not x ≡ true → MakesDefault anyFilled b e out k (demand like 28 (gives (some (P .tree)))) (DefaultMade.Refused 28) o
+  pub taken-unlike : {b e : ℕ} (out : Bytes) (k : ℕ) (o : Bytes) → not x ≡ true → MakesDefault anyFilled b e out k
+      (demand like 28 (gives (some (P .tree)))) (DefaultMade.Refused 28) o
   taken-unlike out k o h = default-refused out k o (demand-stop like 28 (gives (some (P .tree))) (ap not (sym same) ∙ h))
 
 module _ {t : DataType} {s : Bytes} {at : ℕ} (P : ValueAt t s at) {r : Moved} (f : r ≡ movedOf (value t s at)) where
@@ -131,7 +135,8 @@ module _ {t : DataType} {s : Bytes} {at : ℕ} (P : ValueAt t s at) {r : Moved} 
         let z = ends in
         (omega (arith, Z .longer), omega (arith, Z .stands .within))
 
-    pub taken-made : (like : Bool) {x : Bool} {b e : ℕ} (out : Bytes) (k : ℕ) {o : Bytes} → x ≡ like → not x ≡ false → o ≡ overlay out k (slice at (c .at) s) → length s ≤ 16384 → b < e
+    pub taken-made : (like : Bool) {x : Bool} {b e : ℕ} (out : Bytes) (k : ℕ) {o : Bytes} → x ≡ like → not x ≡ false → o ≡ overlay out k
+        (slice at (c .at) s) → length s ≤ 16384 → b < e
         → MakesDefault anyFilled b e out k (demand like 28 (gives (some (P .tree)))) (DefaultMade.Some (c .at - at) true) o
     unfolding defaultMade WroteDefault
     taken-made like {x} {b} {e} out k {o} q h w short lt =
@@ -142,7 +147,13 @@ module _ {t : DataType} {s : Bytes} {at : ℕ} (P : ValueAt t s at) {r : Moved} 
         let u : slice at (c .at) s ≡ encodeValue (P .tree) =
         ap (λ (j : ℕ). slice at j s) i ∙ slice-take s at (P .end - at) (omega (arith, Z .longer, Z .stands .within)) ∙ stand-bytes (Z .stands) in
         default-as out k (DefaultMade.Some (c .at - at) true) o (demand-pass like 28 (gives (some (P .tree))) (ap not (sym q) ∙ h))
-        (record { answer = ap (λ (n : ℕ). DefaultMade.Some n true) l; wrote = (holds-exact out k (encodeValue (P .tree)) (w ∙ ap (overlay out k) u), omega (arith, Z .stands .ends, Z .stands .within)) })
+        (record {
+          answer = ap (λ (n : ℕ). DefaultMade.Some n true) l;
+          wrote = (
+            holds-exact out k (encodeValue (P .tree)) (w ∙ ap (overlay out k) u),
+            omega (arith, Z .stands .ends, Z .stands .within),
+          );
+        })
 
 -- ---- a type's default, by its head
 
@@ -154,7 +165,8 @@ leaf-made l out k r o (gives none) A = record { answer = A .answer; wrote = A .w
 leaf-made l out k r o (gives (some x)) A =
     record { answer = A .answer ∙ ap (DefaultMade.Some (length (encodeValue x))) (sym (leaf-filled l x)); wrote = A .wrote }
 
-no-default : (d : Defaults) (i : FieldId) (t : ColumnType) {k : Kind} → k ≡ headOf (dtypeOf t) → hasElement k ≡ true → buildIcebergDefaultValue d i t ≡ gives none
+no-default : (d : Defaults) (i : FieldId) (t : ColumnType) {k : Head} → k ≡ headOf (dtypeOf t) → hasElement k ≡ true → buildIcebergDefaultValue d i t ≡
+    gives none
 unfolding buildIcebergDefaultValue dtypeOf headOf
 no-default d i (cleaf l) e f = differ f refl (ap hasElement e)
 no-default d i (cstruct cs) e f = differ f refl (ap hasElement e)
@@ -162,7 +174,7 @@ no-default d i (clist l t) e f = refl
 no-default d i (carray w l t) e f = refl
 
 module _ (d : Defaults) (i : FieldId) {v : Edition} {n : ℕ} {s : Bytes} {at : ℕ} (P : TypeAt v n s at) where
-  pub of-leaf : {p : Head} {l : LeafSpan} {c : Cursor} → headRes s p ≡ kind s at → p ≡ Head.Leaf l c
+  pub of-leaf : {p : HeadSpan} {l : LeafSpan} {c : Cursor} → headRes s p ≡ kind s at → p ≡ HeadSpan.Leaf l c
       → {b z : ℕ} (out : Bytes) (k : ℕ) (r : DefaultMade) (o : Bytes) → MakesDefault anyFilled b z out k (leafDefault (leafAt s l) (d i)) r o
       → MakesDefault (filledIn (P .tree)) b z out k (buildIcebergDefaultValue d i (P .tree)) r o
   unfolding buildIcebergDefaultValue
@@ -177,18 +189,20 @@ module _ (d : Defaults) (i : FieldId) {v : Edition} {n : ℕ} {s : Bytes} {at : 
   unfolding buildIcebergDefaultValue
   struct-as S b out k r o A =
       subst (λ (t : ColumnType). MakesDefault (filledIn t) b (P .end) out k (buildIcebergDefaultValue d i t) r o) (sym (S .is))
-      (subst (λ (e : ℕ). MakesDefault (filledIn (cstruct (S .inner .columns))) b e out k (defaultsOf d (S .inner .columns) >>= λ g. gives (structDefault g)) r o) (S .ends) A)
+      (subst (λ (e : ℕ). MakesDefault (filledIn (cstruct (S .inner .columns))) b e out k
+      (defaultsOf d (S .inner .columns) >>= λ g. gives (structDefault g)) r o) (S .ends) A)
 
   -- lists and arrays have none
-  module _ {p : Head} (e : headRes s p ≡ kind s at) where
-    pub of-list : {c : Cursor} → p ≡ Head.List c → buildIcebergDefaultValue d i (P .tree) ≡ gives none
+  module _ {p : HeadSpan} (e : headRes s p ≡ kind s at) where
+    pub of-list : {c : Cursor} → p ≡ HeadSpan.List c → buildIcebergDefaultValue d i (P .tree) ≡ gives none
     of-list f = no-default d i (P .tree) (head-is P aList (sym e ∙ ap (headRes s) f) .0) refl
 
-    pub of-array : {w : ℕ} {c : Cursor} → p ≡ Head.Array w c → buildIcebergDefaultValue d i (P .tree) ≡ gives none
+    pub of-array : {w : ℕ} {c : Cursor} → p ≡ HeadSpan.Array w c → buildIcebergDefaultValue d i (P .tree) ≡ gives none
     of-array {w} f = no-default d i (P .tree) (head-is P (anArray w) (sym e ∙ ap (headRes s) f) .0) refl
 
 -- a struct's columns begin behind its code
-pub struct-after : {v : Edition} {d : ℕ} {s : Bytes} {at : ℕ} (P : TypeAt v d s at) {p : Head} {n : ℕ} {c : Cursor} → headRes s p ≡ kind s at → p ≡ Head.Struct n c → at < c .at
+pub struct-after : {v : Edition} {d : ℕ} {s : Bytes} {at : ℕ} (P : TypeAt v d s at) {p : HeadSpan} {n : ℕ} {c : Cursor} → headRes s p ≡ kind s at → p ≡
+    HeadSpan.Struct n c → at < c .at
 unfolding kindForm u16Bytes
 struct-after {s = s} P {n = n} e f = let h = head-is P (aStruct n) (sym e ∙ ap (headRes s) f) .1 in omega arith
 
@@ -203,7 +217,8 @@ module _ (cs : Columns) {b e : ℕ} (out : Bytes) (k : ℕ) (o₁ o₂ : Bytes) 
       let y : n ≡ m = cc in
       record { answer = ap DefaultMade.Refused y; wrote = tt }
   struct-refused (gives g) b₀ {n} A q =
-      let z : DefaultsMade.Done (g .any) (meetsAll (ofFields (g .values)) cs) (length (encodeValues (g .values))) ≡ DefaultsMade.Failed n = sym (A .answer) ∙ q in
+      let z : DefaultsMade.Done (g .any) (meetsAll (ofFields (g .values)) cs) (length (encodeValues (g .values))) ≡ DefaultsMade.Failed n = sym
+      (A .answer) ∙ q in
       clash (cc)
 
   module _ {any filled : Bool} {len : ℕ} (q : r ≡ DefaultsMade.Done any filled len) where
@@ -243,7 +258,8 @@ module _ (cs : Columns) {b e : ℕ} (out : Bytes) (k : ℕ) (o₁ o₂ : Bytes) 
 pub defaults-room : (cs : Columns) (X : Result FieldDefaults) {b e : ℕ} {out : Bytes} {k : ℕ} {r : DefaultsMade} {o : Bytes} {any filled : Bool} {len : ℕ}
     → MakesDefaults cs b e out k X r o → r ≡ DefaultsMade.Done any filled len → len + 16384 * b ≤ 16384 * e
 unfolding defaultsMade WroteDefaults
-defaults-room cs (refuses m) {any = any} {filled} {len} A q = let z : DefaultsMade.Failed m ≡ DefaultsMade.Done any filled len = sym (A .answer) ∙ q in clash (cc)
+defaults-room cs (refuses m) {any = any} {filled} {len} A q = let z : DefaultsMade.Failed m ≡ DefaultsMade.Done any filled len = sym (A .answer) ∙ q in
+    clash (cc)
 defaults-room cs (gives g) {any = any} {filled} {len} A q =
     let z : DefaultsMade.Done (g .any) (meetsAll (ofFields (g .values)) cs) (length (encodeValues (g .values))) ≡ DefaultsMade.Done any filled len =
     sym (A .answer) ∙ q in
@@ -277,7 +293,8 @@ module _ {f : Value → Bool} {b e : ℕ} {out : Bytes} {k : ℕ} {r : DefaultMa
   pub default-room : (X : Result Default) → MakesDefault f b e out k X r o → isDefaultRefused r ≡ false → valueLen r + 16384 * b ≤ 16384 * e
   unfolding defaultMade WroteDefault
   default-room (refuses n) A h = differ {a = isDefaultRefused (DefaultMade.Refused n)} refl h (ap isDefaultRefused (sym (A .answer)))
-  default-room (gives x) A h = let l = A .wrote .1 in let q : valueLen r ≡ length (encodeValue (orNull x)) = ap valueLen (A .answer) ∙ default-len f x in omega arith
+  default-room (gives x) A h = let l = A .wrote .1 in let q : valueLen r ≡ length (encodeValue (orNull x)) = ap valueLen (A .answer) ∙ default-len f x
+      in omega arith
 
   pub fields-stop : (cs : Columns) (X : Result Default) (Y : Result FieldDefaults) → MakesDefault f b e out k X r o → isDefaultRefused r ≡ true
       → failedDefault r ≡ defaultsMade cs (beforeDefaults X Y)
@@ -285,27 +302,31 @@ module _ {f : Value → Bool} {b e : ℕ} {out : Bytes} {k : ℕ} {r : DefaultMa
   fields-stop cs (refuses n) Y A h = ap failedDefault (A .answer)
   fields-stop cs (gives x) Y A h = differ h (default-given f x) (ap isDefaultRefused (A .answer))
 
-  pub fields-wrote-stopped : (X : Result Default) (Y : Result FieldDefaults) (b′ e′ : ℕ) (out′ : Bytes) (k′ : ℕ) (o′ : Bytes) → MakesDefault f b e out k X r o → isDefaultRefused r ≡ true
+  pub fields-wrote-stopped : (X : Result Default) (Y : Result FieldDefaults) (b′ e′ : ℕ) (out′ : Bytes) (k′ : ℕ) (o′ : Bytes) → MakesDefault f b e out k
+      X r o → isDefaultRefused r ≡ true
       → WroteDefaults b′ e′ out′ k′ (beforeDefaults X Y) o′
   unfolding _>>=_ defaultMade WroteDefaults
   fields-wrote-stopped (refuses n) Y b′ e′ out′ k′ o′ A h = tt
   fields-wrote-stopped (gives x) Y b′ e′ out′ k′ o′ A h = differ h (default-given f x) (ap isDefaultRefused (A .answer))
 
-  pub fields-wrote : (X : Result Default) (Y : Result FieldDefaults) (b′ e′ : ℕ) (o′ : Bytes) → MakesDefault f b e out k X r o → isDefaultRefused r ≡ false → length o ≡ length out → b′ ≤ b
+  pub fields-wrote : (X : Result Default) (Y : Result FieldDefaults) (b′ e′ : ℕ) (o′ : Bytes) → MakesDefault f b e out k X r o → isDefaultRefused r ≡
+      false → length o ≡ length out → b′ ≤ b
       → WroteDefaults e e′ o (k + valueLen r) Y o′ → WroteDefaults b′ e′ out k (beforeDefaults X Y) o′
   unfolding _>>=_ defaultMade WroteDefault WroteDefaults withField encodeValues
   fields-wrote (refuses n) Y b′ e′ o′ A h l le w = differ {a = isDefaultRefused (DefaultMade.Refused n)} refl h (ap isDefaultRefused (sym (A .answer)))
   fields-wrote (gives x) (refuses n) b′ e′ o′ A h l le w = tt
   fields-wrote (gives x) (gives g) b′ e′ o′ A h l le w =
       let q : valueLen r ≡ length (encodeValue (orNull x)) = ap valueLen (A .answer) ∙ default-len f x in
-      let u : Holds o (k + length (encodeValue (orNull x))) (encodeValues (g .values)) o′ = subst (λ (n : ℕ). Holds o (k + n) (encodeValues (g .values)) o′) q (w .0) in
+      let u : Holds o (k + length (encodeValue (orNull x))) (encodeValues (g .values)) o′ = subst
+      (λ (n : ℕ). Holds o (k + n) (encodeValues (g .values)) o′) q (w .0) in
       let j = A .wrote .1 in
       let i = w .1 in
       let v = length-append (encodeValue (orNull x)) (encodeValues (g .values)) in
       (holds-append out k (encodeValue (orNull x)) (encodeValues (g .values)) o o′ l (A .wrote .0) u, omega arith)
 
 -- a field of the label l and the type t before the fields cs
-pub fields-more : (l : Label) (t : ColumnType) (cs : Columns) (X : Result Default) (Y : Result FieldDefaults) {b e : ℕ} {out : Bytes} {k : ℕ} {r : DefaultMade} {o : Bytes}
+pub fields-more : (l : Label) (t : ColumnType) (cs : Columns) (X : Result Default) (Y : Result FieldDefaults) {b e : ℕ} {out : Bytes} {k : ℕ}
+    {r : DefaultMade} {o : Bytes}
     → MakesDefault (filledIn t) b e out k X r o → isDefaultRefused r ≡ false → ((x : Value) → X ≡ gives (some x) → topOf (ofValue x) ≡ required)
     → defaultsMade (ccons l t cs) (beforeDefaults X Y) ≡ joinDefaults (isSomeMade r) (fillsMade (l .required) r) (valueLen r) (defaultsMade cs Y)
 unfolding _>>=_ defaultMade defaultsMade withField encodeValues ofFields meetsAll

@@ -10,14 +10,14 @@ use lib.Dec.{eqb}
 use Rattle.layout.specs.Bytes.{Bytes}
 use Rattle.layout.specs.Parser.{Res, ok}
 use Rattle.layout.specs.Tree.{LeafType, leafType, leafOf, Label, ColumnType, cleaf, cstruct, clist, carray, Columns, dtypeOf}
-use Rattle.layout.specs.Layout.{Kind, aLeaf, aStruct, aList, anArray, kind, elementLabel}
-use Rattle.layout.specs.Answers.{headRes, headIn, leafAt, labelRes, labelAt, labelIn, spanAt, spanIn}
-use Rattle.layout.specs.Stands.{TypeAt, ColumnsAt}
+use Rattle.layout.specs.Layout.{Head, aLeaf, aStruct, aList, anArray, kind, elementLabel}
+use Rattle.layout.specs.code.Answers.{headRes, headIn, leafAt, labelRes, labelAt, labelIn, spanAt, spanIn}
+use Rattle.layout.specs.code.Stands.{TypeAt, ColumnsAt}
 use Rattle.layout.specs.declared.columns.Position.{Position}
 use Rattle.layout.specs.declared.columns.Label.{Label as LabelSpan}
 use Rattle.layout.specs.declared.columns.Labelled.{Labelled}
 use Rattle.layout.specs.declared.cursor.Cursor.{Cursor}
-use Rattle.layout.specs.declared.types.Head.{Head}
+use Rattle.layout.specs.declared.types.Head.{Head as HeadSpan}
 use Rattle.layout.specs.declared.types.LeafType.{LeafType as LeafSpan}
 use Rattle.layout.specs.declared.edition.Edition.{Edition}
 use Rattle.layout.specs.declared.edition.Edition.the-variants.{One, Two, Three}
@@ -40,7 +40,8 @@ use Rattle.plan.specs.Selector.{Selector}
 use Rattle.matching.specs.Default.{Defaults, noDefaults}
 use Rattle.matching.specs.Build.{leafPart, structPart, isNullType, ruled, attachTransforms}
 use Rattle.matching.specs.Calls.{takes}
-use Rattle.builder.specs.Answers.{LeafIs, LeafPartIs, StructIs, StructPartIs, Inner, noElement, listElement, arrayElement, elementOf, ElementIs, ElementPartIs, needsRename, madeOf, Wrote, Makes, byRule}
+use Rattle.builder.specs.code.Answers.{LeafIs, LeafPartIs, StructIs, StructPartIs, Inner, noElement, listElement, arrayElement, elementOf, ElementIs}
+use Rattle.builder.specs.code.Answers.{ElementPartIs, needsRename, madeOf, Wrote, Makes, byRule}
 use Rattle.builder.specs.declared.answer.Made.{Made}
 use Rattle.builder.specs.declared.parts.LeafPart.{LeafPart}
 use Rattle.builder.specs.declared.parts.StructPart.{StructPart}
@@ -48,19 +49,19 @@ use Rattle.builder.specs.declared.parts.ElementPart.{ElementPart}
 
 -- ---- kinds
 
-abbrev isLeafKind : Kind → Bool
+abbrev isLeafKind : Head → Bool
 isLeafKind (aLeaf l) = true
 isLeafKind (aStruct n) = false
 isLeafKind aList = false
 isLeafKind (anArray w) = false
 
-abbrev isStructKind : Kind → Bool
+abbrev isStructKind : Head → Bool
 isStructKind (aLeaf l) = false
 isStructKind (aStruct n) = true
 isStructKind aList = false
 isStructKind (anArray w) = false
 
-abbrev pub hasElement : Kind → Bool
+abbrev pub hasElement : Head → Bool
 hasElement (aLeaf l) = false
 hasElement (aStruct n) = false
 hasElement aList = true
@@ -69,21 +70,21 @@ hasElement (anArray w) = true
 pub differ : {B : Type 0} {a b : Bool} → a ≡ true → b ≡ false → a ≡ b → B
 differ p q r = let z : true ≡ false = sym p ∙ r ∙ q in clash (cc)
 
-no-leaf : (t : ColumnType) {k : Kind} → k ≡ headOf (dtypeOf t) → isLeafKind k ≡ false → leafPart t ≡ refuses 24
+no-leaf : (t : ColumnType) {k : Head} → k ≡ headOf (dtypeOf t) → isLeafKind k ≡ false → leafPart t ≡ refuses 24
 unfolding leafPart dtypeOf headOf
 no-leaf (cleaf l) e f = differ refl f (ap isLeafKind (sym e))
 no-leaf (cstruct cs) e f = refl
 no-leaf (clist l t) e f = refl
 no-leaf (carray w l t) e f = refl
 
-no-struct : (t : ColumnType) {k : Kind} → k ≡ headOf (dtypeOf t) → isStructKind k ≡ false → structPart t ≡ refuses 24
+no-struct : (t : ColumnType) {k : Head} → k ≡ headOf (dtypeOf t) → isStructKind k ≡ false → structPart t ≡ refuses 24
 unfolding structPart dtypeOf headOf
 no-struct (cleaf l) e f = refl
 no-struct (cstruct cs) e f = differ refl f (ap isStructKind (sym e))
 no-struct (clist l t) e f = refl
 no-struct (carray w l t) e f = refl
 
-no-element : (t : ColumnType) {k : Kind} → k ≡ headOf (dtypeOf t) → hasElement k ≡ false → elementOf t ≡ noElement
+no-element : (t : ColumnType) {k : Head} → k ≡ headOf (dtypeOf t) → hasElement k ≡ false → elementOf t ≡ noElement
 unfolding elementOf dtypeOf headOf
 no-element (cleaf l) e f = refl
 no-element (cstruct cs) e f = refl
@@ -96,7 +97,8 @@ unfolding textBytes
 named-ends at l (a, (b, (c, d))) = (omega arith, c)
 
 -- an element's label
-element-label-ends : (s : Bytes) (v : Edition) (at : ℕ) {l : Label} {i : ℕ} → elementLabel v s at ≡ ok l i → (at + length (l .name) ≤ i) × (length (l .name) ≤ 63)
+element-label-ends : (s : Bytes) (v : Edition) (at : ℕ) {l : Label} {i : ℕ} → elementLabel v s at ≡ ok l i → (at + length (l .name) ≤ i) ×
+    (length (l .name) ≤ 63)
 unfolding elementLabel textBytes
 element-label-ends s One at e = let (p, q) = ok-eq e in let h = ap (λ (x : Label). length (x .name)) p in (omega arith, omega arith)
 element-label-ends s Two at {l} e = named-ends at l (label-ends s Two at e)
@@ -113,40 +115,46 @@ element-label-later s Three at e how x y t h = let (a, (b, c)) = label-ends s Th
 
 module _ {v : Edition} {d : ℕ} {s : Bytes} {at : ℕ} (P : TypeAt v d s at) where
   -- the head, by the parser's answer
-  pub head-is : (k : Kind) {m : ℕ} → kind s at ≡ ok k m → (k ≡ headOf (dtypeOf (P .tree))) × (at + length (kindForm k) ≡ m) × (m ≤ length s)
+  pub head-is : (k : Head) {m : ℕ} → kind s at ≡ ok k m → (k ≡ headOf (dtypeOf (P .tree))) × (at + length (kindForm k) ≡ m) × (m ≤ length s)
   head-is k {m} h =
       let H = head-at P {c = record { at = at }} refl refl in
       let (a, b) = ok-eq (sym h ∙ H .reads) in
-      (a, ap (λ (j : Kind). at + length (kindForm j)) a ∙ H .long ∙ sym b, let t = H .to in omega arith)
+      (a, ap (λ (j : Head). at + length (kindForm j)) a ∙ H .long ∙ sym b, let t = H .to in omega arith)
 
-  pub leaf-none : (k : Kind) {m : ℕ} → kind s at ≡ ok k m → isLeafKind k ≡ false → leafPart (P .tree) ≡ refuses 24
+  pub leaf-none : (k : Head) {m : ℕ} → kind s at ≡ ok k m → isLeafKind k ≡ false → leafPart (P .tree) ≡ refuses 24
   leaf-none k h f = no-leaf (P .tree) (head-is k h .0) f
 
-  pub leaf-mismatch : (k : Kind) {m : ℕ} → kind s at ≡ ok k m → isLeafKind k ≡ false → LeafPartIs s (leafPart (P .tree)) LeafPart.Mismatch
+  pub leaf-mismatch : (k : Head) {m : ℕ} → kind s at ≡ ok k m → isLeafKind k ≡ false → LeafPartIs s (leafPart (P .tree)) LeafPart.Mismatch
   leaf-mismatch k h f = subst (λ (x : Result LeafType). LeafPartIs s x LeafPart.Mismatch) (sym (leaf-none k h f)) (refl, refl)
 
-  pub struct-mismatch : (k : Kind) {m : ℕ} → kind s at ≡ ok k m → isStructKind k ≡ false → StructPartIs v d s at (structPart (P .tree)) (P .end) StructPart.Mismatch
-  struct-mismatch k h f = subst (λ (x : Result Columns). StructPartIs v d s at x (P .end) StructPart.Mismatch) (sym (no-struct (P .tree) (head-is k h .0) f)) (refl, refl)
+  pub struct-mismatch : (k : Head) {m : ℕ} → kind s at ≡ ok k m → isStructKind k ≡ false → StructPartIs v d s at (structPart (P .tree)) (P .end)
+      StructPart.Mismatch
+  struct-mismatch k h f = subst (λ (x : Result Columns). StructPartIs v d s at x (P .end) StructPart.Mismatch)
+      (sym (no-struct (P .tree) (head-is k h .0) f)) (refl, refl)
 
-  pub element-mismatch : (k : Kind) {m : ℕ} → kind s at ≡ ok k m → hasElement k ≡ false → ElementPartIs v d s at (elementOf (P .tree)) (P .end) ElementPart.Mismatch
+  pub element-mismatch : (k : Head) {m : ℕ} → kind s at ≡ ok k m → hasElement k ≡ false → ElementPartIs v d s at (elementOf (P .tree)) (P .end)
+      ElementPart.Mismatch
   element-mismatch k h f = subst (λ (x : Inner). ElementPartIs v d s at x (P .end) ElementPart.Mismatch) (sym (no-element (P .tree) (head-is k h .0) f)) refl
 
 -- where an element's label stands
-label-bounds : (s : Bytes) (v : Edition) (c : Cursor) {q : Labelled} {l : LabelSpan} {b : Cursor} → labelRes s q ≡ elementLabel v s (c .at) → labelIn s q → q ≡ Labelled.Is l b
-    → (spanIn s (l .name)) × (c .at ≤ b .at) × (l .name .len ≤ 63) × ((how : Matching) (x y : Label) → takes how v ≡ true → needsRename how x y ≡ true → c .at < b .at)
+label-bounds : (s : Bytes) (v : Edition) (c : Cursor) {q : Labelled} {l : LabelSpan} {b : Cursor} → labelRes s q ≡ elementLabel v s (c .at) → labelIn s
+    q → q ≡ Labelled.Is l b
+    → (spanIn s (l .name)) × (c .at ≤ b .at) × (l .name .len ≤ 63) × ((how : Matching) (x y : Label) → takes how v ≡ true → needsRename how x y ≡ true →
+    c .at < b .at)
 label-bounds s v c {q} {l} g i k =
     let h = label-in s i k in
     let (x, y) = element-label-ends s v (c .at) (label-got s g k) in
     let z = span-long s (l .name) h in
     (h, omega arith, omega arith, element-label-later s v (c .at) (label-got s g k))
 
-module _ {v : Edition} {d : ℕ} {s : Bytes} {at : ℕ} (P : TypeAt v d s at) {p : Head} (e : headRes s p ≡ kind s at) where
-  pub leaf-taken : {l : LeafSpan} {c : Cursor} → headIn s p → p ≡ Head.Leaf l c → LeafPartIs s (leafPart (P .tree)) (LeafPart.Is l)
+module _ {v : Edition} {d : ℕ} {s : Bytes} {at : ℕ} (P : TypeAt v d s at) {p : HeadSpan} (e : headRes s p ≡ kind s at) where
+  pub leaf-taken : {l : LeafSpan} {c : Cursor} → headIn s p → p ≡ HeadSpan.Leaf l c → LeafPartIs s (leafPart (P .tree)) (LeafPart.Is l)
   unfolding leafPart
   leaf-taken {l} i f =
-      subst (λ (t : ColumnType). LeafPartIs s (leafPart t) (LeafPart.Is l)) (sym (leaf-at P e f .0)) (record { span = l; is = refl; leaf = refl; inside = head-in s i f })
+      subst (λ (t : ColumnType). LeafPartIs s (leafPart t) (LeafPart.Is l)) (sym (leaf-at P e f .0))
+      (record { span = l; is = refl; leaf = refl; inside = head-in s i f })
 
-  pub struct-taken : {n : ℕ} {c : Cursor} → p ≡ Head.Struct n c → StructPartIs v d s at (structPart (P .tree)) (P .end) (StructPart.Is n c)
+  pub struct-taken : {n : ℕ} {c : Cursor} → p ≡ HeadSpan.Struct n c → StructPartIs v d s at (structPart (P .tree)) (P .end) (StructPart.Is n c)
   unfolding structPart kindForm u16Bytes
   struct-taken {n} {c} f =
       let S = struct-at P e f in
@@ -154,24 +162,51 @@ module _ {v : Edition} {d : ℕ} {s : Bytes} {at : ℕ} (P : TypeAt v d s at) {p
       subst (λ (t : ColumnType). StructPartIs v d s at (structPart t) (P .end) (StructPart.Is n c)) (sym (S .is))
       (record { count = n; start = c; is = refl; inner = S .inner; columns = refl; ends = S .ends; after = omega arith; within = w })
 
-  module _ {c : Cursor} {q : Labelled} (g : labelRes s q ≡ elementLabel v s (c .at)) (i : labelIn s q) {l : LabelSpan} {b : Cursor} (k : q ≡ Labelled.Is l b) where
-    pub list-taken : p ≡ Head.List c → ElementPartIs v d s at (elementOf (P .tree)) (P .end) (ElementPart.List l b)
+  module _ {c : Cursor} {q : Labelled} (g : labelRes s q ≡ elementLabel v s (c .at)) (i : labelIn s q) {l : LabelSpan} {b : Cursor}
+      (k : q ≡ Labelled.Is l b) where
+    pub list-taken : p ≡ HeadSpan.List c → ElementPartIs v d s at (elementOf (P .tree)) (P .end) (ElementPart.List l b)
     unfolding elementOf kindForm
     list-taken f =
         let L = list-at P e g f k in
         let (h, x, y, n) = label-bounds s v c g i k in
         let z = head-is P aList (sym e ∙ ap (headRes s) f) .1 in
         subst (λ (t : ColumnType). ElementPartIs v d s at (elementOf t) (P .end) (ElementPart.List l b)) (sym (L .is))
-        (record { span = l; start = b; is = refl; label = refl; inside = h; short = y; inner = L .inner; tree = refl; ends = L .ends; after = omega arith; named = λ how x y t p. let q = n how x y t p in omega arith })
+        (record {
+          span = l;
+          start = b;
+          is = refl;
+          label = refl;
+          inside = h;
+          short = y;
+          inner = L .inner;
+          tree = refl;
+          ends = L .ends;
+          after = omega
+              arith;
+          named = λ how x y t p. let q = n how x y t p in omega arith;
+        })
 
-    pub array-taken : {w : ℕ} → p ≡ Head.Array w c → ElementPartIs v d s at (elementOf (P .tree)) (P .end) (ElementPart.Array w l b)
+    pub array-taken : {w : ℕ} → p ≡ HeadSpan.Array w c → ElementPartIs v d s at (elementOf (P .tree)) (P .end) (ElementPart.Array w l b)
     unfolding elementOf kindForm u32Bytes u16Bytes
     array-taken {w} f =
         let L = array-at P e g f k in
         let (h, x, y, n) = label-bounds s v c g i k in
         let z = head-is P (anArray w) (sym e ∙ ap (headRes s) f) .1 in
         subst (λ (t : ColumnType). ElementPartIs v d s at (elementOf t) (P .end) (ElementPart.Array w l b)) (sym (L .is))
-        (record { span = l; start = b; is = refl; label = refl; inside = h; short = y; inner = L .inner; tree = refl; ends = L .ends; after = omega arith; named = λ how x y t p. let q = n how x y t p in omega arith })
+        (record {
+          span = l;
+          start = b;
+          is = refl;
+          label = refl;
+          inside = h;
+          short = y;
+          inner = L .inner;
+          tree = refl;
+          ends = L .ends;
+          after = omega
+              arith;
+          named = λ how x y t p. let q = n how x y t p in omega arith;
+        })
 
 -- ---- what a taken part says
 
@@ -205,15 +240,19 @@ null-other (clist l t) h = refl
 null-other (carray w l t) h = refl
 
 -- whether the incoming type is null, by what was taken
-pub null-part : (s : Bytes) (t : ColumnType) {r : LeafPart} {l : LeafSpan} {k : ℕ} → LeafPartIs s (leafPart t) r → r ≡ LeafPart.Is l → k ≡ kindOf (l .leaf) → eqb k 0 ≡ isNullType t
+pub null-part : (s : Bytes) (t : ColumnType) {r : LeafPart} {l : LeafSpan} {k : ℕ} → LeafPartIs s (leafPart t) r → r ≡ LeafPart.Is l → k ≡ kindOf
+    (l .leaf) → eqb k 0 ≡ isNullType t
 null-part s t {r} {l} h e = null-leaf s t l (part-leaf s (leafPart t) h e .0)
 
 -- the zones, by the parts of the bytes that were lent
 pub rule-spans : (p : Policy) (s t : Bytes) (l u : LeafSpan) {x : Verdict}
-    → x ≡ pairRule p (leafType (l .leaf) (take (l .zone .start + l .zone .len - l .zone .start) (drop (l .zone .start) s))) (leafType (u .leaf) (take (u .zone .start + u .zone .len - u .zone .start) (drop (u .zone .start) t)))
+    → x ≡ pairRule p (leafType (l .leaf) (take (l .zone .start + l .zone .len - l .zone .start) (drop (l .zone .start) s)))
+    (leafType (u .leaf) (take (u .zone .start + u .zone .len - u .zone .start) (drop (u .zone .start) t)))
     → x ≡ pairRule p (leafAt s l) (leafAt t u)
 rule-spans p s t l u e =
-    e ∙ ap (λ (n : ℕ). pairRule p (leafType (l .leaf) (take n (drop (l .zone .start) s))) (leafType (u .leaf) (take (u .zone .start + u .zone .len - u .zone .start) (drop (u .zone .start) t)))) (add-sub-cancel-left (l .zone .start) (l .zone .len))
+    e ∙ ap (λ (n : ℕ). pairRule p (leafType (l .leaf) (take n (drop (l .zone .start) s)))
+    (leafType (u .leaf) (take (u .zone .start + u .zone .len - u .zone .start) (drop (u .zone .start) t))))
+    (add-sub-cancel-left (l .zone .start) (l .zone .len))
     ∙ ap (λ (n : ℕ). pairRule p (leafAt s l) (leafType (u .leaf) (take n (drop (u .zone .start) t)))) (add-sub-cancel-left (u .zone .start) (u .zone .len))
 
 -- ---- the leaf case

@@ -12,8 +12,8 @@ use Rattle.layout.specs.Bytes.{Bytes}
 use Rattle.layout.specs.Parser.{ok}
 use Rattle.layout.specs.Tree.{Label, ColumnType, Columns, cnil, ccons, DataType, dtypeOf}
 use Rattle.layout.specs.Layout.{label, columns, type}
-use Rattle.layout.specs.Answers.{labelRes, labelAt, spanAt, spanIn}
-use Rattle.layout.specs.Stands.{TypeAt, ColumnsAt}
+use Rattle.layout.specs.code.Answers.{labelRes, labelAt, spanAt, spanIn}
+use Rattle.layout.specs.code.Stands.{TypeAt, ColumnsAt}
 use Rattle.layout.specs.declared.bytes.Span.{Span}
 use Rattle.layout.specs.declared.columns.Label.{Label as LabelSpan}
 use Rattle.layout.specs.declared.columns.Labelled.{Labelled}
@@ -34,7 +34,8 @@ use Rattle.plan.specs.Selector.{Selector, constant}
 use Rattle.plan.specs.Encode.{encodeSelector}
 use Rattle.matching.specs.Default.{Defaults, Default, none, some, orNull, FieldDefaults, buildIcebergDefaultValue, defaultsOf, missingValue}
 use Rattle.matching.specs.Build.{fillsRequired, missing}
-use Rattle.builder.specs.Answers.{madeOf, Wrote, Makes, filledIn, fillsMade, defaultMade, defaultsMade, isDefaultRefused, isSomeMade, valueLen, failedDefault, joinDefaults, constantMade, constantHead, WroteDefault, WroteDefaults, MakesDefault, MakesDefaults}
+use Rattle.builder.specs.code.Answers.{madeOf, Wrote, Makes, filledIn, fillsMade, defaultMade, defaultsMade, isDefaultRefused, isSomeMade, valueLen}
+use Rattle.builder.specs.code.Answers.{failedDefault, joinDefaults, constantMade, constantHead, WroteDefault, WroteDefaults, MakesDefault, MakesDefaults}
 use Rattle.builder.specs.declared.answer.Made.{Made}
 use Rattle.builder.specs.declared.default.DefaultMade.{DefaultMade}
 use Rattle.builder.specs.declared.default.DefaultsMade.{DefaultsMade}
@@ -75,7 +76,8 @@ join-failed a f n (DefaultMade.Some l g) h = clash (cc)
 
 -- ---- the loop: after i of n fields, what is still to be done
 
-pub record Defaulting (d : Defaults) (v : Edition) (depth : ℕ) (s : Bytes) (n from : ℕ) (out₀ : Bytes) (k : ℕ) (out : Bytes) (at to : ℕ) (any filled : Bool) (i : ℕ) : Type 0 where
+pub record Defaulting (d : Defaults) (v : Edition) (depth : ℕ) (s : Bytes) (n from : ℕ) (out₀ : Bytes) (k : ℕ) (out : Bytes) (at to : ℕ)
+    (any filled : Bool) (i : ℕ) : Type 0 where
   pub within : i ≤ n
   pub room : to + 16384 * length s < 2 ^ 64 + 16384 * at
   pub over : k ≤ to
@@ -84,10 +86,12 @@ pub record Defaulting (d : Defaults) (v : Edition) (depth : ℕ) (s : Bytes) (n 
   pub ends : (P : ColumnsAt v depth s n from) → rest .end ≡ P .end
   pub answer : (P : ColumnsAt v depth s n from)
       → defaultsMade (P .columns) (defaultsOf d (P .columns)) ≡ joinDefaults any filled (to - k) (defaultsMade (rest .columns) (defaultsOf d (rest .columns)))
-  pub stores : (P : ColumnsAt v depth s n from) (o : Bytes) → WroteDefaults at (rest .end) out to (defaultsOf d (rest .columns)) o → WroteDefaults from (P .end) out₀ k (defaultsOf d (P .columns)) o
+  pub stores : (P : ColumnsAt v depth s n from) (o : Bytes) → WroteDefaults at (rest .end) out to (defaultsOf d (rest .columns)) o → WroteDefaults from
+      (P .end) out₀ k (defaultsOf d (P .columns)) o
 
 module _ (d : Defaults) {v : Edition} {depth : ℕ} {s : Bytes} {n from : ℕ} {out₀ : Bytes} {k : ℕ} where
-  pub defaulting-none : ColumnsAt v depth s n from → k + 16384 * length s < 2 ^ 64 + 16384 * from → Defaulting d v depth s n from out₀ k out₀ from k false true 0
+  pub defaulting-none : ColumnsAt v depth s n from → k + 16384 * length s < 2 ^ 64 + 16384 * from → Defaulting d v depth s n from out₀ k out₀ from k
+      false true 0
   defaulting-none Q h =
       let e : n ≡ n - 0 = omega arith in
       record {
@@ -98,12 +102,14 @@ module _ (d : Defaults) {v : Edition} {depth : ℕ} {s : Bytes} {n from : ℕ} {
         rest = record { columns = Q .columns; end = Q .end; reads = ap (λ (m : ℕ). columns v Free (type v Free depth) m [] s from) (sym e) ∙ Q .reads };
         ends = λ P. same-columns Q P .1;
         answer = λ P. ap (λ (cs : Columns). defaultsMade cs (defaultsOf d cs)) (same-columns P Q .0) ∙ join-none _ (omega arith);
-        stores = λ P o w. let (a, b) = same-columns Q P in subst (λ (cs : Columns). WroteDefaults from (P .end) out₀ k (defaultsOf d cs) o) a (subst (λ (x : ℕ). WroteDefaults from x out₀ k (defaultsOf d (Q .columns)) o) b w);
+        stores = λ P o w. let (a, b) = same-columns Q P in subst (λ (cs : Columns). WroteDefaults from (P .end) out₀ k (defaultsOf d cs) o) a
+            (subst (λ (x : ℕ). WroteDefaults from x out₀ k (defaultsOf d (Q .columns)) o) b w);
       }
 
   module _ {out : Bytes} {at to : ℕ} {any filled : Bool} {i : ℕ} (W : Defaulting d v depth s n from out₀ k out at to any filled i) where
     -- no field is left
-    pub defaulting-all : n ≤ i → (P : ColumnsAt v depth s n from) → MakesDefaults (P .columns) from (P .end) out₀ k (defaultsOf d (P .columns)) (DefaultsMade.Done any filled (to - k)) out
+    pub defaulting-all : n ≤ i → (P : ColumnsAt v depth s n from) → MakesDefaults (P .columns) from (P .end) out₀ k (defaultsOf d (P .columns))
+        (DefaultsMade.Done any filled (to - k)) out
     unfolding defaultsOf defaultsMade WroteDefaults encodeValues overlay meetsAll
     defaulting-all h P =
         let (z, q) = no-column (W .rest) (let y : n - i ≡ 0 = omega arith in y) in
@@ -143,7 +149,8 @@ module _ (d : Defaults) {v : Edition} {depth : ℕ} {s : Bytes} {n from : ℕ} {
       unfolding defaultsOf
       made-split = ap (λ (cs : Columns). defaultsMade cs (defaultsOf d cs)) (field .is)
 
-      module _ {r : DefaultMade} {o : Bytes} (A : MakesDefault (filledIn (field .head .tree)) (c .at) (field .head .end) out to (buildIcebergDefaultValue d (l .id) (field .head .tree)) r o) where
+      module _ {r : DefaultMade} {o : Bytes} (A : MakesDefault (filledIn (field .head .tree)) (c .at) (field .head .end) out to
+          (buildIcebergDefaultValue d (l .id) (field .head .tree)) r o) where
         pub defaulting-stop : {x : Bool} {y : DefaultsMade} → x ≡ isDefaultRefused r → x ≡ true → y ≡ failedDefault r → (P : ColumnsAt v depth s n from)
             → MakesDefaults (P .columns) from (P .end) out₀ k (defaultsOf d (P .columns)) y o
         defaulting-stop {x} {y} g h u P =
@@ -153,7 +160,8 @@ module _ (d : Defaults) {v : Edition} {depth : ℕ} {s : Bytes} {n from : ℕ} {
             let here : defaultsMade (W .rest .columns) (defaultsOf d (W .rest .columns)) ≡ failedDefault r = made-split ∙ sym (fields-stop _ X Y A z) in
             record {
               answer = u ∙ sym (W .answer P ∙ ap (joinDefaults any filled (to - k)) here ∙ join-failed any filled (to - k) r z);
-              wrote = W .stores P o (subst (λ (g : Result FieldDefaults). WroteDefaults at (W .rest .end) out to g o) (sym split) (fields-wrote-stopped X Y at (W .rest .end) out to o A z));
+              wrote = W .stores P o (subst (λ (g : Result FieldDefaults). WroteDefaults at (W .rest .end) out to g o) (sym split)
+                  (fields-wrote-stopped X Y at (W .rest .end) out to o A z));
             }
 
         module _ {x : Bool} (g : x ≡ isDefaultRefused r) (h : x ≡ false) where
@@ -177,7 +185,8 @@ module _ (d : Defaults) {v : Edition} {depth : ℕ} {s : Bytes} {n from : ℕ} {
               let Z = defaultsMade (field .tail .columns) Y in
               let here : defaultsMade (W .rest .columns) (defaultsOf d (W .rest .columns)) ≡ joinDefaults b x m Z =
               made-split ∙ fields-more (labelAt s l) (field .head .tree) (field .tail .columns) X Y A z (λ y e. default-top d D (l .id) (field .head .tree) y e)
-              ∙ ap (λ (w : Bool). joinDefaults w (fillsMade (l .required) r) (valueLen r) Z) (sym p) ∙ ap (λ (w : Bool). joinDefaults b w (valueLen r) Z) (sym p′)
+              ∙ ap (λ (w : Bool). joinDefaults w (fillsMade (l .required) r) (valueLen r) Z) (sym p) ∙ ap
+              (λ (w : Bool). joinDefaults b w (valueLen r) Z) (sym p′)
               ∙ ap (λ (w : ℕ). joinDefaults b x w Z) (sym u) in
               record {
                 within = omega arith;
@@ -192,23 +201,29 @@ module _ (d : Defaults) {v : Edition} {depth : ℕ} {s : Bytes} {n from : ℕ} {
                 stores = λ P o′ w. W .stores P o′ (whole o′ E u w);
               }
             where
-              tail-reads : {y : ℕ} → n - i - 1 ≡ n - (i + 1) → y ≡ field .head .end → columns v Free (type v Free depth) (n - (i + 1)) [] s y ≡ ok (field .tail .columns) (field .tail .end)
+              tail-reads : {y : ℕ} → n - i - 1 ≡ n - (i + 1) → y ≡ field .head .end → columns v Free (type v Free depth) (n - (i + 1)) [] s y ≡ ok
+                  (field .tail .columns) (field .tail .end)
               tail-reads less E = rw (← less, E) (field .tail .reads)
 
-              whole : (o′ : Bytes) {y m : ℕ} → y ≡ field .head .end → m ≡ valueLen r → WroteDefaults y (field .tail .end) o (to + m) (defaultsOf d (field .tail .columns)) o′
+              whole : (o′ : Bytes) {y m : ℕ} → y ≡ field .head .end → m ≡ valueLen r → WroteDefaults y (field .tail .end) o (to + m)
+                  (defaultsOf d (field .tail .columns)) o′
                   → WroteDefaults at (W .rest .end) out to (defaultsOf d (W .rest .columns)) o′
               whole o′ {y} {m} E u w =
                   let X = buildIcebergDefaultValue d (l .id) (field .head .tree) in
                   let Y = defaultsOf d (field .tail .columns) in
                   let w₁ : WroteDefaults (field .head .end) (field .tail .end) o (to + valueLen r) Y o′ =
-                  subst (λ (j : ℕ). WroteDefaults (field .head .end) (field .tail .end) o (to + j) Y o′) u (subst (λ (j : ℕ). WroteDefaults j (field .tail .end) o (to + m) Y o′) E w) in
-                  let w₂ : WroteDefaults at (field .tail .end) out to (beforeDefaults X Y) o′ = fields-wrote X Y at (field .tail .end) o′ A (sym g ∙ h) len field-after w₁ in
-                  subst (λ (g : Result FieldDefaults). WroteDefaults at (W .rest .end) out to g o′) (sym split) (subst (λ (j : ℕ). WroteDefaults at j out to (beforeDefaults X Y) o′) (field .ends) w₂)
+                  subst (λ (j : ℕ). WroteDefaults (field .head .end) (field .tail .end) o (to + j) Y o′) u
+                  (subst (λ (j : ℕ). WroteDefaults j (field .tail .end) o (to + m) Y o′) E w) in
+                  let w₂ : WroteDefaults at (field .tail .end) out to (beforeDefaults X Y) o′ = fields-wrote X Y at (field .tail .end) o′ A (sym g ∙ h)
+                  len field-after w₁ in
+                  subst (λ (g : Result FieldDefaults). WroteDefaults at (W .rest .end) out to g o′) (sym split)
+                  (subst (λ (j : ℕ). WroteDefaults at j out to (beforeDefaults X Y) o′) (field .ends) w₂)
 
 -- ---- the constant
 
 -- how long it is before its value
-pub head-short : {v : Edition} {d : ℕ} {s : Bytes} {at : ℕ} (Q : TypeAt v d s at) (p : Span) {h : ℕ} → spanIn s p → p .len ≤ 63 → h ≡ length (constantHead (spanAt s p) (dtypeOf (Q .tree))) → h + at ≤ 65 + Q .end
+pub head-short : {v : Edition} {d : ℕ} {s : Bytes} {at : ℕ} (Q : TypeAt v d s at) (p : Span) {h : ℕ} → spanIn s p → p .len ≤ 63 → h ≡ length
+    (constantHead (spanAt s p) (dtypeOf (Q .tree))) → h + at ≤ 65 + Q .end
 head-short {s = s} Q p inside short e =
     let a = text-long s p inside in
     let g = constant-head-long (spanAt s p) (dtypeOf (Q .tree)) refl refl in
@@ -216,7 +231,8 @@ head-short {s = s} Q p inside short e =
     omega arith
 
 -- how long the value is, whatever was answered
-pub value-short : (X : Result Default) {f : Value → Bool} {b e : ℕ} {out : Bytes} {k : ℕ} {r : DefaultMade} {o : Bytes} → MakesDefault f b e out k X r o → valueLen r ≤ 16384 * e
+pub value-short : (X : Result Default) {f : Value → Bool} {b e : ℕ} {out : Bytes} {k : ℕ} {r : DefaultMade} {o : Bytes} → MakesDefault f b e out k X r o
+    → valueLen r ≤ 16384 * e
 unfolding defaultMade
 value-short (refuses n) A = let q = ap valueLen (A .answer) in omega arith
 value-short (gives none) A = let q = default-room (gives none) A (ap isDefaultRefused (A .answer)) in omega arith
@@ -231,14 +247,17 @@ module _ (name : Bytes) (t : DataType) {h : ℕ} (long : h ≡ length (constantH
       let u = length-append (textBytes name) (form t) in
       omega arith
 
-  constant-holds : (x : Value) (out : Bytes) (k : ℕ) (o₁ o₂ : Bytes) → o₁ ≡ overlay out k (constantHead name t) → length o₁ ≡ length out → Holds o₁ (k + h) (encodeValue x) o₂ → Holds out k (encodeSelector (constant name t x)) o₂
+  constant-holds : (x : Value) (out : Bytes) (k : ℕ) (o₁ o₂ : Bytes) → o₁ ≡ overlay out k (constantHead name t) → length o₁ ≡ length out → Holds o₁
+      (k + h) (encodeValue x) o₂ → Holds out k (encodeSelector (constant name t x)) o₂
   unfolding encodeSelector
   constant-holds x out k o₁ o₂ p l w =
       let u : Holds o₁ (k + length (constantHead name t)) (encodeValue x) o₂ = subst (λ (j : ℕ). Holds o₁ (k + j) (encodeValue x) o₂) long w in
-      subst (λ (z : Bytes). Holds out k (1 ∷ z) o₂) (append-assoc (textBytes name) (form t) (encodeValue x)) (holds-append out k (constantHead name t) (encodeValue x) o₁ o₂ l (holds-exact out k (constantHead name t) p) u)
+      subst (λ (z : Bytes). Holds out k (1 ∷ z) o₂) (append-assoc (textBytes name) (form t) (encodeValue x))
+      (holds-append out k (constantHead name t) (encodeValue x) o₁ o₂ l (holds-exact out k (constantHead name t) p) u)
 
   -- the default that X is, in a constant of that name and type
-  pub constant-makes : (X : Result Default) (from : ℕ) {f : Value → Bool} {b e : ℕ} (out : Bytes) (k : ℕ) {o₁ o₂ : Bytes} {r : DefaultMade} {y : Made} → o₁ ≡ overlay out k (constantHead name t) → length o₁ ≡ length out → MakesDefault f b e o₁ (k + h) X r o₂ → y ≡ constantMade h r
+  pub constant-makes : (X : Result Default) (from : ℕ) {f : Value → Bool} {b e : ℕ} (out : Bytes) (k : ℕ) {o₁ o₂ : Bytes} {r : DefaultMade} {y : Made} →
+      o₁ ≡ overlay out k (constantHead name t) → length o₁ ≡ length out → MakesDefault f b e o₁ (k + h) X r o₂ → y ≡ constantMade h r
       → h + b ≤ 65 + e → from < b → Makes from e out k ((X >>= λ x. gives (orNull x)) >>= λ x. gives (constant name t x)) y o₂
   unfolding _>>=_ madeOf Wrote defaultMade WroteDefault encodeValue
   constant-makes (refuses n) from out k p l A q le lt = record { answer = q ∙ ap (constantMade h) (A .answer); wrote = tt }

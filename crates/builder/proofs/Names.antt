@@ -8,9 +8,9 @@ use Rattle.layout.specs.Bytes.{Bytes}
 use Rattle.layout.specs.Tree.{Label, ColumnType, Columns, cnil, ccons}
 use Rattle.layout.specs.Layout.{label, columns, type}
 use Rattle.layout.specs.declared.columns.Siblings.the-variants.{Free}
-use Rattle.layout.specs.Answers.{labelRes, labelAt, spanAt}
-use Rattle.layout.specs.Find.{Lookup, absent, at, columnNamed, counterpart, Finds}
-use Rattle.layout.specs.Stands.{TypeAt, ColumnsAt}
+use Rattle.layout.specs.code.Answers.{labelRes, labelAt, spanAt}
+use Rattle.layout.specs.Find.{Lookup, absent, present, columnNamed, counterpart, Finds}
+use Rattle.layout.specs.code.Stands.{TypeAt, ColumnsAt}
 use Rattle.layout.specs.declared.columns.Position.{Position}
 use Rattle.layout.specs.declared.columns.Label.{Label as LabelSpan}
 use Rattle.layout.specs.declared.columns.Labelled.{Labelled}
@@ -28,11 +28,11 @@ use Rattle.matching.specs.Build.{isAbsent, distinctNames, distinct, noExtra}
 module _ (v : Edition) (d : ℕ) (s : Bytes) where
   pub found-some : (x : Lookup) {r : Found} {k : Position} {l : LabelSpan} {c : Cursor} → Finds v d s x r → r ≡ Found.At k l c → true ≡ not (isAbsent x)
   found-some absent {r} {k} {l} {c} f e = let z : Found.Absent ≡ Found.At k l c = sym f ∙ e in clash (cc)
-  found-some (at k l t) f e = refl
+  found-some (present k l t) f e = refl
 
   pub found-none : (x : Lookup) {r : Found} → Finds v d s x r → r ≡ Found.Absent → false ≡ not (isAbsent x)
   found-none absent f e = refl
-  found-none (at k l t) f e = let z : Found.At k (f .span) (f .start) ≡ Found.Absent = sym (f .is) ∙ e in clash (cc)
+  found-none (present k l t) f e = let z : Found.At k (f .span) (f .start) ≡ Found.Absent = sym (f .is) ∙ e in clash (cc)
 
 -- ---- 12
 
@@ -81,13 +81,15 @@ module _ {v : Edition} {d : ℕ} {s : Bytes} (f : Columns → Bool) {n from : �
               reads = ap (λ (o : ℕ). columns v Free (type v Free d) (left - 1) [] s o) q ∙ column .tail .reads;
             }) .0
 
-        pub passing-stop : {e : ℕ} (q : e ≡ column .head .end) (T : ColumnsAt v d s (left - 1) e) → f (ccons (labelAt s l) (column .head .tree) (T .columns)) ≡ false
+        pub passing-stop : {e : ℕ} (q : e ≡ column .head .end) (T : ColumnsAt v d s (left - 1) e) → f
+            (ccons (labelAt s l) (column .head .tree) (T .columns)) ≡ false
             → (P : ColumnsAt v d s n from) → false ≡ f (P .columns)
         passing-stop q T e P =
             sym (ap f (same-columns P (a .whole) .0) ∙ a .is ∙ ap f (column .is)
             ∙ ap (λ (cs : Columns). f (ccons (labelAt s l) (column .head .tree) cs)) (sym (tail-is q T)) ∙ e)
 
-        pub passing-more : {e : ℕ} (q : e ≡ column .head .end) (T : ColumnsAt v d s (left - 1) e) → f (ccons (labelAt s l) (column .head .tree) (T .columns)) ≡ f (T .columns)
+        pub passing-more : {e : ℕ} (q : e ≡ column .head .end) (T : ColumnsAt v d s (left - 1) e) → f
+            (ccons (labelAt s l) (column .head .tree) (T .columns)) ≡ f (T .columns)
             → Passing v d s f n from (left - 1) e
         passing-more q T e = record {
           whole = a .whole;
@@ -96,7 +98,8 @@ module _ {v : Edition} {d : ℕ} {s : Bytes} (f : Columns → Bool) {n from : �
         }
 
 -- one more column, by the test that was made
-distinct-stop : (l : Label) (t : ColumnType) (cs : Columns) {b : Bool} → b ≡ not (isAbsent (columnNamed (l .name) cs)) → b ≡ true → distinctNames (ccons l t cs) ≡ false
+distinct-stop : (l : Label) (t : ColumnType) (cs : Columns) {b : Bool} → b ≡ not (isAbsent (columnNamed (l .name) cs)) → b ≡ true → distinctNames
+    (ccons l t cs) ≡ false
 unfolding distinctNames
 distinct-stop l t cs {b} e h = go (isAbsent (columnNamed (l .name) cs)) (sym e ∙ h)
   where
@@ -104,7 +107,8 @@ distinct-stop l t cs {b} e h = go (isAbsent (columnNamed (l .name) cs)) (sym e �
     go true z = clash (cc)
     go false z = refl
 
-distinct-more : (l : Label) (t : ColumnType) (cs : Columns) {b : Bool} → b ≡ not (isAbsent (columnNamed (l .name) cs)) → b ≡ false → distinctNames (ccons l t cs) ≡ distinctNames cs
+distinct-more : (l : Label) (t : ColumnType) (cs : Columns) {b : Bool} → b ≡ not (isAbsent (columnNamed (l .name) cs)) → b ≡ false → distinctNames
+    (ccons l t cs) ≡ distinctNames cs
 unfolding distinctNames
 distinct-more l t cs {b} e h = go (isAbsent (columnNamed (l .name) cs)) (sym e ∙ h)
   where
@@ -148,7 +152,8 @@ module _ (how : Matching) {v : Edition} {d : ℕ} {s : Bytes} (gs : Columns) {n 
 
   pub fields-stop : not b ≡ true → (P : ColumnsAt v d s n from) → false ≡ noExtra how (P .columns) gs
   unfolding extra-column
-  fields-stop z = passing-stop (λ cs. noExtra how cs gs) a lt g h refl (extra-column .tail) (extra-stop how (labelAt s l) _ (extra-column .tail .columns) gs t (not-true b z))
+  fields-stop z = passing-stop (λ cs. noExtra how cs gs) a lt g h refl (extra-column .tail)
+      (extra-stop how (labelAt s l) _ (extra-column .tail .columns) gs t (not-true b z))
 
   pub fields-more : not b ≡ false → {e : ℕ} → ((P : TypeAt v d s (c .at)) → e ≡ P .end) → Passing v d s (λ cs. noExtra how cs gs) n from (left - 1) e
   unfolding extra-column

@@ -16,7 +16,7 @@ use Rattle.plan.specs.Nullness.{Place, required, optional, novalue, Nullness, n
 use Rattle.plan.specs.Marks.{allowed, meets}
 use Rattle.plan.proofs.Exact.{leaf-meets}
 use Rattle.matching.specs.Default.{Defaults, Default, none, some, orNull, leafDefault, FieldDefaults, structDefault, buildIcebergDefaultValue, defaultsOf}
-use Rattle.builder.specs.Answers.{filledIn, defaultMade, fillsMade}
+use Rattle.builder.specs.code.Answers.{filledIn, defaultMade, fillsMade}
 
 -- ---- what a table gives
 
@@ -99,7 +99,8 @@ struct-top (gives g) x e = go (g .any) e
     go true e = let z : vstruct (g .values) ≡ x = cc in ap (λ (y : Value). topOf (ofValue y)) (sym z)
     go false e = clash (cc)
 
-pub default-top : (d : Defaults) → Present d → (i : FieldId) (t : ColumnType) (x : Value) → buildIcebergDefaultValue d i t ≡ gives (some x) → topOf (ofValue x) ≡ required
+pub default-top : (d : Defaults) → Present d → (i : FieldId) (t : ColumnType) (x : Value) → buildIcebergDefaultValue d i t ≡ gives (some x) → topOf
+    (ofValue x) ≡ required
 unfolding buildIcebergDefaultValue
 default-top d D i (cleaf l) x e = leaf-top l (d i) x (D .always i) e
 default-top d D i (cstruct cs) x e = struct-top (defaultsOf d cs) x e

@@ -18,8 +18,9 @@ use Rattle.forms.specs.Form.{u16Bytes, textBytes}
 use Rattle.plan.specs.Result.{Result, gives, refuses, _>>=_}
 use Rattle.plan.specs.Selector.{Selector, position, constant, cast, rename, structMapping, listMapping, arrayMapping, Selectors, snil, scons, countSelectors}
 use Rattle.plan.specs.Encode.{encodeSelector, encodeSelectors}
-use Rattle.matching.specs.Build.{isPosition, inPlace, listSelector, arraySelector, structSelector, attachFields, sought, missing, attachTransforms, renamed, inserts}
-use Rattle.builder.specs.Answers.{madeOf, rowOf, isRefused, isBare, lenOf, failedOf, refusedRow, joinRow, Wrote, WroteRow, Makes, MakesRow, Maps}
+use Rattle.matching.specs.Build.{isPosition, inPlace, listSelector, arraySelector, structSelector, attachFields, sought, missing, attachTransforms, renamed}
+use Rattle.matching.specs.Build.{inserts}
+use Rattle.builder.specs.code.Answers.{madeOf, rowOf, isRefused, isBare, lenOf, failedOf, refusedRow, joinRow, Wrote, WroteRow, Makes, MakesRow, Maps}
 use Rattle.builder.specs.declared.answer.Made.{Made}
 use Rattle.builder.specs.declared.answer.Made.the-variants.{Refused, Bare, Built}
 use Rattle.builder.specs.declared.answer.Row.{Row}
@@ -72,7 +73,8 @@ module _ {b e : ℕ} {out : Bytes} {k : ℕ} {r : Made} {o : Bytes} where
   makes-room (gives s) m h = let l = m .wrote .1 in let q : lenOf r ≡ length (encodeSelector s) = ap lenOf (m .answer) ∙ len-is s in omega arith
 
   -- a refusal goes on
-  pub makes-stopped : (X : Result Selector) (f : Selector → Result Selector) (b′ e′ : ℕ) (out′ : Bytes) (k′ : ℕ) (o′ : Bytes) → Makes b e out k X r o → isRefused r ≡ true
+  pub makes-stopped : (X : Result Selector) (f : Selector → Result Selector) (b′ e′ : ℕ) (out′ : Bytes) (k′ : ℕ) (o′ : Bytes) → Makes b e out k X r o →
+      isRefused r ≡ true
       → Makes b′ e′ out′ k′ (X >>= f) r o′
   unfolding madeOf Wrote _>>=_
   makes-stopped (refuses n) f b′ e′ out′ k′ o′ m h = record { answer = m .answer; wrote = tt }
@@ -107,8 +109,10 @@ module _ {k : Position} {c : ℕ} {f g : Selector → Selector} (M : Maps k c f 
       let y : isPosition 0 s ≡ true = sym (bare-is 0 s) ∙ ap (isBare 0) (sym p) ∙ q in
       let x : f s ≡ position k = M .chooses s ∙ ap (λ (t : Bool). choose t (position k) (g s)) y in
       let i = position-long k in
-      let u : Agree to o₂ out = agree-less to (to + 4) o₂ o₁ out (omega arith) (holds-before o₁ (to + 4) (encodeSelector s) o₂ w) (holds-before out to (c ∷ encodeSelector (position k)) o₁ (holds-exact out to (c ∷ encodeSelector (position k)) h)) in
-      subst (λ (t : Selector). Makes b₀ e out to (gives t) (Bare k) o₃) (sym x) (record { answer = refl; wrote = (holds-over out to (encodeSelector (position k)) o₂ l u z, omega arith) })
+      let u : Agree to o₂ out = agree-less to (to + 4) o₂ o₁ out (omega arith) (holds-before o₁ (to + 4) (encodeSelector s) o₂ w)
+      (holds-before out to (c ∷ encodeSelector (position k)) o₁ (holds-exact out to (c ∷ encodeSelector (position k)) h)) in
+      subst (λ (t : Selector). Makes b₀ e out to (gives t) (Bare k) o₃) (sym x) (record
+      { answer = refl; wrote = (holds-over out to (encodeSelector (position k)) o₂ l u z, omega arith) })
 
   pub mapped : (X : Result Selector) (b₀ : ℕ) (o₁ o₂ : Bytes) → length o₁ ≡ length out → o₁ ≡ overlay out to (c ∷ encodeSelector (position k))
       → Makes b e o₁ (to + 4) X r o₂ → isRefused r ≡ false → isBare 0 r ≡ false → b₀ < b → Makes b₀ e out to (X >>= λ s. gives (f s)) (Built (4 + lenOf r)) o₂
@@ -126,14 +130,19 @@ module _ {k : Position} {c : ℕ} {f g : Selector → Selector} (M : Maps k c f 
       let v = length-append (encodeSelector (position k)) (encodeSelector s) in
       let z : 4 + lenOf r ≡ length (encodeSelector (g s)) = omega arith in
       let at4 : to + length (c ∷ encodeSelector (position k)) ≡ to + 4 = omega arith in
-      let w′ : Holds o₁ (to + length (c ∷ encodeSelector (position k))) (encodeSelector s) o₂ = subst (λ (t : ℕ). Holds o₁ t (encodeSelector s) o₂) (sym at4) w in
-      let u : Holds out to (encodeSelector (g s)) o₂ = subst (λ (t : Bytes). Holds out to t o₂) (sym (M .bytes s)) (holds-append out to (c ∷ encodeSelector (position k)) (encodeSelector s) o₁ o₂ l (holds-exact out to (c ∷ encodeSelector (position k)) h) w′) in
-      subst (λ (t : Selector). Makes b₀ e out to (gives t) (Built (4 + lenOf r)) o₂) (sym x) (record { answer = ap Built z ∙ sym (M .made s); wrote = (u, omega arith) })
+      let w′ : Holds o₁ (to + length (c ∷ encodeSelector (position k))) (encodeSelector s) o₂ = subst (λ (t : ℕ). Holds o₁ t (encodeSelector s) o₂)
+      (sym at4) w in
+      let u : Holds out to (encodeSelector (g s)) o₂ = subst (λ (t : Bytes). Holds out to t o₂) (sym (M .bytes s))
+      (holds-append out to (c ∷ encodeSelector (position k)) (encodeSelector s) o₁ o₂ l (holds-exact out to (c ∷ encodeSelector (position k)) h) w′)
+      in
+      subst (λ (t : Selector). Makes b₀ e out to (gives t) (Built (4 + lenOf r)) o₂) (sym x)
+      (record { answer = ap Built z ∙ sym (M .made s); wrote = (u, omega arith) })
 
 -- ---- a rename outside
 
 module _ {b e : ℕ} {r : Made} (out : Bytes) (to : ℕ) where
-  pub renamed-around : (X : Result Selector) (name : Bytes) (b₀ : ℕ) (o₁ o₂ : Bytes) {o₃ : Bytes} {n : ℕ} → length o₁ ≡ length out → length o₂ ≡ length out → o₁ ≡ set out to 3
+  pub renamed-around : (X : Result Selector) (name : Bytes) (b₀ : ℕ) (o₁ o₂ : Bytes) {o₃ : Bytes} {n : ℕ} → length o₁ ≡ length out → length o₂ ≡ length
+      out → o₁ ≡ set out to 3
       → Makes b e o₁ (to + 1) X r o₂ → isRefused r ≡ false → n ≡ length (textBytes name) → o₃ ≡ overlay o₂ (to + 1 + lenOf r) (textBytes name) → n ≤ 64 → b₀ < b
       → Makes b₀ e out to (X >>= λ s. gives (rename s name)) (Built (1 + lenOf r + n)) o₃
   unfolding madeOf Wrote _>>=_ overlay encodeSelector
@@ -146,7 +155,8 @@ module _ {b e : ℕ} {r : Made} (out : Bytes) (to : ℕ) where
       let u : Holds out to (3 ∷ encodeSelector s) o₂ = holds-append out to (3 ∷ []) (encodeSelector s) o₁ o₂ l (holds-exact out to (3 ∷ []) h) w in
       let i : to + 1 + lenOf r ≡ to + length (3 ∷ encodeSelector s) = omega arith in
       let y : Holds out to ((3 ∷ encodeSelector s) ++ textBytes name) o₃ =
-      holds-append out to (3 ∷ encodeSelector s) (textBytes name) o₂ o₃ l₂ u (holds-exact o₂ (to + length (3 ∷ encodeSelector s)) (textBytes name) (z ∙ ap (λ (t : ℕ). overlay o₂ t (textBytes name)) i)) in
+      holds-append out to (3 ∷ encodeSelector s) (textBytes name) o₂ o₃ l₂ u (holds-exact o₂ (to + length (3 ∷ encodeSelector s)) (textBytes name)
+      (z ∙ ap (λ (t : ℕ). overlay o₂ t (textBytes name)) i)) in
       let x : 1 + lenOf r + n ≡ length (encodeSelector (rename s name)) = omega arith in
       record { answer = ap Built x; wrote = (y, omega arith) }
 
@@ -160,7 +170,8 @@ row-count (refuses k) Y ss n f h = clash (cc)
 row-count (gives s) (refuses k) ss n f h = clash (cc)
 row-count (gives s) (gives rs) ss n f h = let q : ss ≡ scons s rs = cc in rw q (ap suc (f rs refl))
 
-pub count-is : (v : Matching) (p : Policy) (d : Defaults) (gs fs : Columns) (ss : Selectors) → attachFields v p d gs fs ≡ gives ss → countSelectors ss ≡ countColumns gs
+pub count-is : (v : Matching) (p : Policy) (d : Defaults) (gs fs : Columns) (ss : Selectors) → attachFields v p d gs fs ≡ gives ss → countSelectors ss ≡
+    countColumns gs
 unfolding attachFields countColumns countSelectors
 count-is v p d cnil fs ss h = let q : ss ≡ snil = cc in rw q
 count-is v p d (ccons l u gs) fs ss h = row-count _ (attachFields v p d gs fs) ss (countColumns gs) (count-is v p d gs fs) h
@@ -173,7 +184,8 @@ module _ (k : Position) (fs : Columns) {b e : ℕ} (out : Bytes) (to : ℕ) wher
   struct-stopped (gives ss) b₀ o₁ o₂ {n = n} A q = let z : Done (inPlace 0 ss) (length (encodeSelectors ss)) ≡ Failed n = sym (A .answer) ∙ q in clash (cc)
 
   module _ {n m : ℕ} (count : countColumns fs ≡ n) {same : Bool} {len : ℕ} {r : Row} (q : r ≡ Done same len) where
-    pub struct-bare : (X : Result Selectors) (b₀ i : ℕ) (o₁ o₂ : Bytes) {o₃ : Bytes} → ((ss : Selectors) → X ≡ gives ss → countSelectors ss ≡ m) → MakesRow b e o₁ i X r o₂
+    pub struct-bare : (X : Result Selectors) (b₀ i : ℕ) (o₁ o₂ : Bytes) {o₃ : Bytes} → ((ss : Selectors) → X ≡ gives ss → countSelectors ss ≡ m) →
+        MakesRow b e o₁ i X r o₂
         → (eqb n m && same) ≡ true → length o₂ ≡ length out → Agree to o₁ out → to ≤ i → o₃ ≡ overlay o₂ to (encodeSelector (position k)) → b₀ < e
         → Makes b₀ e out to (X >>= λ ss. gives (structSelector k fs ss)) (Bare k) o₃
     unfolding madeOf Wrote WroteRow _>>=_ rowOf structSelector choose
@@ -185,8 +197,10 @@ module _ (k : Position) (fs : Columns) {b e : ℕ} (out : Bytes) (to : ℕ) wher
         let u : Agree to o₂ out = agree-less to i o₂ o₁ out le (holds-before o₁ i (encodeSelectors ss) o₂ (A .wrote .0)) h in
         rw (count, f ss refl, s, t) (record { answer = refl; wrote = (holds-over out to (encodeSelector (position k)) o₂ l u z, omega arith) })
 
-    pub struct-mapped : (X : Result Selectors) (b₀ : ℕ) (o₁ o₂ o₃ : Bytes) → ((ss : Selectors) → X ≡ gives ss → countSelectors ss ≡ m) → MakesRow b e o₂ (to + 6) X r o₃
-        → (eqb n m && same) ≡ false → length o₂ ≡ length out → o₁ ≡ overlay out to (4 ∷ encodeSelector (position k)) → o₂ ≡ overlay o₁ (to + 4) (u16Bytes m) → b₀ < b
+    pub struct-mapped : (X : Result Selectors) (b₀ : ℕ) (o₁ o₂ o₃ : Bytes) → ((ss : Selectors) → X ≡ gives ss → countSelectors ss ≡ m) → MakesRow b e o₂
+        (to + 6) X r o₃
+        → (eqb n m && same) ≡ false → length o₂ ≡ length out → o₁ ≡ overlay out to (4 ∷ encodeSelector (position k)) → o₂ ≡ overlay o₁ (to + 4)
+        (u16Bytes m) → b₀ < b
         → Makes b₀ e out to (X >>= λ ss. gives (structSelector k fs ss)) (Built (6 + len)) o₃
     unfolding madeOf Wrote WroteRow _>>=_ rowOf structSelector choose encodeSelector u16Bytes
     struct-mapped (refuses x) b₀ o₁ o₂ o₃ f A t l h₁ h₂ lt = let y : Failed x ≡ Done same len = sym (A .answer) ∙ q in clash (cc)
@@ -195,11 +209,14 @@ module _ (k : Position) (fs : Columns) {b e : ℕ} (out : Bytes) (to : ℕ) wher
         let s : inPlace 0 ss ≡ same = cc in
         let g : length (encodeSelectors ss) ≡ len = cc in
         let j = A .wrote .1 in
-        let head : o₂ ≡ overlay out to ((4 ∷ encodeSelector (position k)) ++ u16Bytes m) = h₂ ∙ ap (λ (o : Bytes). overlay o (to + 4) (u16Bytes m)) h₁ ∙ overlay-append out to (4 ∷ encodeSelector (position k)) (u16Bytes m) in
-        let w = holds-append out to ((4 ∷ encodeSelector (position k)) ++ u16Bytes m) (encodeSelectors ss) o₂ o₃ l (holds-exact out to ((4 ∷ encodeSelector (position k)) ++ u16Bytes m) head) (A .wrote .0) in
+        let head : o₂ ≡ overlay out to ((4 ∷ encodeSelector (position k)) ++ u16Bytes m) = h₂ ∙ ap (λ (o : Bytes). overlay o (to + 4) (u16Bytes m)) h₁ ∙
+        overlay-append out to (4 ∷ encodeSelector (position k)) (u16Bytes m) in
+        let w = holds-append out to ((4 ∷ encodeSelector (position k)) ++ u16Bytes m) (encodeSelectors ss) o₂ o₃ l
+        (holds-exact out to ((4 ∷ encodeSelector (position k)) ++ u16Bytes m) head) (A .wrote .0) in
         let bytes : ((4 ∷ encodeSelector (position k)) ++ u16Bytes m) ++ encodeSelectors ss ≡ encodeSelector (structMapping (position k) ss) =
         ap (λ (x : ℕ). ((4 ∷ encodeSelector (position k)) ++ u16Bytes x) ++ encodeSelectors ss) (sym (f ss refl)) in
-        let x : 6 + len ≡ length (encodeSelector (structMapping (position k) ss)) = let x : 6 + len ≡ suc (suc (suc (suc (suc (suc (length (encodeSelectors ss))))))) = omega arith in x in
+        let x : 6 + len ≡ length (encodeSelector (structMapping (position k) ss)) = let x : 6 + len ≡ suc
+        (suc (suc (suc (suc (suc (length (encodeSelectors ss))))))) = omega arith in x in
         let is : structSelector k fs ss ≡ structMapping (position k) ss = rw (count, f ss refl, s, t) in
         subst (λ (t : Selector). Makes b₀ e out to (gives t) (Built (6 + len)) o₃) (sym is)
         (record { answer = ap Built x; wrote = (subst (λ (t : Bytes). Holds out to t o₃) bytes w, omega arith) })
@@ -225,7 +242,8 @@ row-more i (gives s) (gives ss) {r} e h =
     rw (p, q) (ap (λ (l : ℕ). Done (isPosition i s && inPlace (i + 1) ss) l) (length-append (encodeSelector s) (encodeSelectors ss)))
 
 module _ {b e : ℕ} {out : Bytes} {k : ℕ} {r : Made} {o : Bytes} where
-  pub row-wrote-stopped : (X : Result Selector) (Y : Result Selectors) (b′ e′ : ℕ) (out′ : Bytes) (k′ : ℕ) (o′ : Bytes) → Makes b e out k X r o → isRefused r ≡ true
+  pub row-wrote-stopped : (X : Result Selector) (Y : Result Selectors) (b′ e′ : ℕ) (out′ : Bytes) (k′ : ℕ) (o′ : Bytes) → Makes b e out k X r o →
+      isRefused r ≡ true
       → WroteRow b′ e′ out′ k′ (before X Y) o′
   unfolding _>>=_ madeOf WroteRow
   row-wrote-stopped (refuses n) Y b′ e′ out′ k′ o′ A h = tt

@@ -8,9 +8,9 @@ use borrow.Author.Tests.{eq-eqb, ne-eqb}
 use Rattle.layout.specs.Bytes.{Bytes}
 use Rattle.layout.specs.Tree.{Label, ColumnType, cleaf, cstruct, clist, carray, Columns}
 use Rattle.layout.specs.Layout.{columns, type}
-use Rattle.layout.specs.Answers.{labelAt, spanIn}
-use Rattle.layout.specs.Stands.{TypeAt, ColumnsAt}
-use Rattle.layout.specs.Find.{Lookup, absent, at, Finds}
+use Rattle.layout.specs.code.Answers.{labelAt, spanIn}
+use Rattle.layout.specs.code.Stands.{TypeAt, ColumnsAt}
+use Rattle.layout.specs.Find.{Lookup, absent, present, Finds}
 use Rattle.layout.specs.declared.columns.Position.{Position}
 use Rattle.layout.specs.declared.columns.Label.{Label as LabelSpan}
 use Rattle.layout.specs.declared.columns.Siblings.the-variants.{Free}
@@ -22,7 +22,8 @@ use Rattle.layout.proofs.Ways.{clash}
 use Rattle.plan.specs.Result.{Result, gives, refuses, demand}
 use Rattle.matching.specs.Build.{Element, listPart, arrayPart}
 use Rattle.matching.specs.Calls.{takes}
-use Rattle.builder.specs.Answers.{StructPartIs, Inner, noElement, listElement, arrayElement, elementOf, ElementIs, ElementPartIs, InnerPartIs, needsRename}
+use Rattle.builder.specs.code.Answers.{StructPartIs, Inner, noElement, listElement, arrayElement, elementOf, ElementIs, ElementPartIs, InnerPartIs}
+use Rattle.builder.specs.code.Answers.{needsRename}
 use Rattle.builder.specs.declared.parts.StructPart.{StructPart}
 use Rattle.builder.specs.declared.parts.ElementPart.{ElementPart}
 use Rattle.builder.specs.declared.parts.InnerPart.{InnerPart}
@@ -72,7 +73,8 @@ pub record ElementTaken (v : Edition) (d : ℕ) (s : Bytes) (at : ℕ) (a : Labe
   pub after : at < c .at
   pub named : (how : Matching) (x y : Label) → takes how v ≡ true → needsRename how x y ≡ true → at + 1 < c .at
 
-taken : {R : Type 0} {v : Edition} {d : ℕ} {s : Bytes} {at : ℕ} {a : Label} {t : ColumnType} {e : ℕ} {f : LabelSpan → Cursor → R} {r : R} {l : LabelSpan} {c : Cursor}
+taken : {R : Type 0} {v : Edition} {d : ℕ} {s : Bytes} {at : ℕ} {a : Label} {t : ColumnType} {e : ℕ} {f : LabelSpan → Cursor → R} {r : R}
+    {l : LabelSpan} {c : Cursor}
     (E : ElementIs v d s at a t e f r) → E .span ≡ l → E .start ≡ c → ElementTaken v d s at a t e l c
 taken {v = v} {d} {s} {at} {c = c} E y x = record {
   inside = subst (λ (b : LabelSpan). spanIn s (b .name)) y (E .inside);
@@ -86,7 +88,8 @@ taken {v = v} {d} {s} {at} {c = c} E y x = record {
 }
 
 -- the same under the names of the answer
-renewed : {R S : Type 0} {v : Edition} {d : ℕ} {s : Bytes} {at : ℕ} {a : Label} {t : ColumnType} {e : ℕ} {f : LabelSpan → Cursor → R} {r : R} (g : LabelSpan → Cursor → S) {l : LabelSpan} {c : Cursor}
+renewed : {R S : Type 0} {v : Edition} {d : ℕ} {s : Bytes} {at : ℕ} {a : Label} {t : ColumnType} {e : ℕ} {f : LabelSpan → Cursor → R} {r : R}
+    (g : LabelSpan → Cursor → S) {l : LabelSpan} {c : Cursor}
     (E : ElementIs v d s at a t e f r) → E .span ≡ l → E .start ≡ c → ElementIs v d s at a t e g (g l c)
 renewed g {l} {c} E y x = record {
   span = E .span;
@@ -103,14 +106,16 @@ renewed g {l} {c} E y x = record {
 }
 
 -- the target's
-pub record InnerTaken (v : Edition) (d : ℕ) (s : Bytes) (at : ℕ) (X : Inner) (g : Label → ColumnType → Inner) (e : ℕ) (l : LabelSpan) (c : Cursor) : Type 0 where
+pub record InnerTaken (v : Edition) (d : ℕ) (s : Bytes) (at : ℕ) (X : Inner) (g : Label → ColumnType → Inner) (e : ℕ) (l : LabelSpan) (c : Cursor) :
+    Type 0 where
   pub label : Label
   pub type : ColumnType
   pub is : X ≡ g label type
   pub element : ElementTaken v d s at label type e l c
 
 module _ (v : Edition) (d : ℕ) (s : Bytes) (at : ℕ) {r : ElementPart} where
-  pub part-list : (X : Inner) (e : ℕ) {l : LabelSpan} {c : Cursor} → ElementPartIs v d s at X e r → r ≡ ElementPart.List l c → InnerTaken v d s at X (λ a t. listElement a t) e l c
+  pub part-list : (X : Inner) (e : ℕ) {l : LabelSpan} {c : Cursor} → ElementPartIs v d s at X e r → r ≡ ElementPart.List l c → InnerTaken v d s at X
+      (λ a t. listElement a t) e l c
   part-list noElement e {l} {c} h q = let z : ElementPart.Mismatch ≡ ElementPart.List l c = sym h ∙ q in clash (cc)
   part-list (listElement a t) e {l} {c} h q =
       let z : ElementPart.List (h .span) (h .start) ≡ ElementPart.List l c = sym (h .is) ∙ q in
@@ -119,7 +124,8 @@ module _ (v : Edition) (d : ℕ) (s : Bytes) (at : ℕ) {r : ElementPart} where
       record { label = a; type = t; is = refl; element = taken h y x }
   part-list (arrayElement w a t) e {l} {c} h q = let z : ElementPart.Array w (h .span) (h .start) ≡ ElementPart.List l c = sym (h .is) ∙ q in clash (cc)
 
-  pub part-array : (X : Inner) (e : ℕ) {w : ℕ} {l : LabelSpan} {c : Cursor} → ElementPartIs v d s at X e r → r ≡ ElementPart.Array w l c → InnerTaken v d s at X (λ a t. arrayElement w a t) e l c
+  pub part-array : (X : Inner) (e : ℕ) {w : ℕ} {l : LabelSpan} {c : Cursor} → ElementPartIs v d s at X e r → r ≡ ElementPart.Array w l c → InnerTaken v
+      d s at X (λ a t. arrayElement w a t) e l c
   part-array noElement e {w} {l} {c} h q = let z : ElementPart.Mismatch ≡ ElementPart.Array w l c = sym h ∙ q in clash (cc)
   part-array (listElement a t) e {w} {l} {c} h q = let z : ElementPart.List (h .span) (h .start) ≡ ElementPart.Array w l c = sym (h .is) ∙ q in clash (cc)
   part-array (arrayElement x a t) e {w} {l} {c} h q =
@@ -135,7 +141,8 @@ module _ (v : Edition) (d : ℕ) (s : Bytes) (at : ℕ) {r : ElementPart} where
   part-no-element (arrayElement w a t) e h q = let z : ElementPart.Array w (h .span) (h .start) ≡ ElementPart.Mismatch = sym (h .is) ∙ q in clash (cc)
 
   -- the incoming type's, by its kind
-  pub list-is : (t : ColumnType) (e : ℕ) {l : LabelSpan} {c : Cursor} → ElementPartIs v d s at (elementOf t) e r → r ≡ ElementPart.List l c → InnerPartIs v d s at (listPart t) e (InnerPart.Is l c)
+  pub list-is : (t : ColumnType) (e : ℕ) {l : LabelSpan} {c : Cursor} → ElementPartIs v d s at (elementOf t) e r → r ≡ ElementPart.List l c →
+      InnerPartIs v d s at (listPart t) e (InnerPart.Is l c)
   unfolding elementOf listPart
   list-is (cleaf a) e {l} {c} h q = let z : ElementPart.Mismatch ≡ ElementPart.List l c = sym h ∙ q in clash (cc)
   list-is (cstruct cs) e {l} {c} h q = let z : ElementPart.Mismatch ≡ ElementPart.List l c = sym h ∙ q in clash (cc)
@@ -146,14 +153,16 @@ module _ (v : Edition) (d : ℕ) (s : Bytes) (at : ℕ) {r : ElementPart} where
       renewed (λ a b. InnerPart.Is a b) h y x
   list-is (carray w a t) e {l} {c} h q = let z : ElementPart.Array w (h .span) (h .start) ≡ ElementPart.List l c = sym (h .is) ∙ q in clash (cc)
 
-  pub list-array : (t : ColumnType) (e : ℕ) {w : ℕ} {l : LabelSpan} {c : Cursor} → ElementPartIs v d s at (elementOf t) e r → r ≡ ElementPart.Array w l c → InnerPartIs v d s at (listPart t) e InnerPart.Mismatch
+  pub list-array : (t : ColumnType) (e : ℕ) {w : ℕ} {l : LabelSpan} {c : Cursor} → ElementPartIs v d s at (elementOf t) e r → r ≡ ElementPart.Array w l
+      c → InnerPartIs v d s at (listPart t) e InnerPart.Mismatch
   unfolding elementOf listPart
   list-array (cleaf a) e h q = (refl, refl)
   list-array (cstruct cs) e h q = (refl, refl)
   list-array (clist a t) e {w} {l} {c} h q = let z : ElementPart.List (h .span) (h .start) ≡ ElementPart.Array w l c = sym (h .is) ∙ q in clash (cc)
   list-array (carray w a t) e h q = (refl, refl)
 
-  pub list-none : (t : ColumnType) (e : ℕ) → ElementPartIs v d s at (elementOf t) e r → r ≡ ElementPart.Mismatch → InnerPartIs v d s at (listPart t) e InnerPart.Mismatch
+  pub list-none : (t : ColumnType) (e : ℕ) → ElementPartIs v d s at (elementOf t) e r → r ≡ ElementPart.Mismatch → InnerPartIs v d s at (listPart t) e
+      InnerPart.Mismatch
   unfolding elementOf listPart
   list-none (cleaf a) e h q = (refl, refl)
   list-none (cstruct cs) e h q = (refl, refl)
@@ -161,14 +170,16 @@ module _ (v : Edition) (d : ℕ) (s : Bytes) (at : ℕ) {r : ElementPart} where
   list-none (carray w a t) e h q = (refl, refl)
 
   module _ (w : ℕ) where
-    pub array-list : (t : ColumnType) (e : ℕ) {l : LabelSpan} {c : Cursor} → ElementPartIs v d s at (elementOf t) e r → r ≡ ElementPart.List l c → InnerPartIs v d s at (arrayPart w t) e InnerPart.Mismatch
+    pub array-list : (t : ColumnType) (e : ℕ) {l : LabelSpan} {c : Cursor} → ElementPartIs v d s at (elementOf t) e r → r ≡ ElementPart.List l c →
+        InnerPartIs v d s at (arrayPart w t) e InnerPart.Mismatch
     unfolding elementOf arrayPart
     array-list (cleaf a) e h q = (refl, refl)
     array-list (cstruct cs) e h q = (refl, refl)
     array-list (clist a t) e h q = (refl, refl)
     array-list (carray x a t) e {l} {c} h q = let z : ElementPart.Array x (h .span) (h .start) ≡ ElementPart.List l c = sym (h .is) ∙ q in clash (cc)
 
-    pub array-none : (t : ColumnType) (e : ℕ) → ElementPartIs v d s at (elementOf t) e r → r ≡ ElementPart.Mismatch → InnerPartIs v d s at (arrayPart w t) e InnerPart.Mismatch
+    pub array-none : (t : ColumnType) (e : ℕ) → ElementPartIs v d s at (elementOf t) e r → r ≡ ElementPart.Mismatch → InnerPartIs v d s at
+        (arrayPart w t) e InnerPart.Mismatch
     unfolding elementOf arrayPart
     array-none (cleaf a) e h q = (refl, refl)
     array-none (cstruct cs) e h q = (refl, refl)
@@ -176,7 +187,8 @@ module _ (v : Edition) (d : ℕ) (s : Bytes) (at : ℕ) {r : ElementPart} where
     array-none (carray x a t) e h q = let z : ElementPart.Array x (h .span) (h .start) ≡ ElementPart.Mismatch = sym (h .is) ∙ q in clash (cc)
 
     module _ {x : ℕ} {l : LabelSpan} {c : Cursor} where
-      pub array-is : (t : ColumnType) (e : ℕ) → ElementPartIs v d s at (elementOf t) e r → r ≡ ElementPart.Array x l c → x ≡ w → InnerPartIs v d s at (arrayPart w t) e (InnerPart.Is l c)
+      pub array-is : (t : ColumnType) (e : ℕ) → ElementPartIs v d s at (elementOf t) e r → r ≡ ElementPart.Array x l c → x ≡ w → InnerPartIs v d s at
+          (arrayPart w t) e (InnerPart.Is l c)
       unfolding elementOf arrayPart demand
       array-is (cleaf a) e h q i = let z : ElementPart.Mismatch ≡ ElementPart.Array x l c = sym h ∙ q in clash (cc)
       array-is (cstruct cs) e h q i = let z : ElementPart.Mismatch ≡ ElementPart.Array x l c = sym h ∙ q in clash (cc)
@@ -188,7 +200,8 @@ module _ (v : Edition) (d : ℕ) (s : Bytes) (at : ℕ) {r : ElementPart} where
           let o : h .start ≡ c = cc in
           rw (eq-eqb y w (u ∙ i)) (renewed (λ a b. InnerPart.Is a b) h b o)
 
-      pub array-width : (t : ColumnType) (e : ℕ) → ElementPartIs v d s at (elementOf t) e r → r ≡ ElementPart.Array x l c → (x ≡ w → ⊥) → InnerPartIs v d s at (arrayPart w t) e InnerPart.Mismatch
+      pub array-width : (t : ColumnType) (e : ℕ) → ElementPartIs v d s at (elementOf t) e r → r ≡ ElementPart.Array x l c → (x ≡ w → ⊥) → InnerPartIs v
+          d s at (arrayPart w t) e InnerPart.Mismatch
       unfolding elementOf arrayPart demand
       array-width (cleaf a) e h q i = (refl, refl)
       array-width (cstruct cs) e h q i = (refl, refl)
@@ -220,23 +233,23 @@ module _ (v : Edition) (d : ℕ) (s : Bytes) (at : ℕ) {r : InnerPart} where
 
 pub record FoundHere (v : Edition) (d : ℕ) (s : Bytes) (X : Lookup) (k : Position) (m : LabelSpan) (c : Cursor) : Type 0 where
   pub inner : TypeAt v d s (c .at)
-  pub is : X ≡ at k (labelAt s m) (inner .tree)
+  pub is : X ≡ present k (labelAt s m) (inner .tree)
   pub inside : spanIn s (m .name)
 
 module _ (v : Edition) (d : ℕ) (s : Bytes) {r : Found} where
   pub found-here : (X : Lookup) {k : Position} {m : LabelSpan} {c : Cursor} → Finds v d s X r → r ≡ Found.At k m c → FoundHere v d s X k m c
   found-here absent {k} {m} {c} h q = let z : Found.Absent ≡ Found.At k m c = sym h ∙ q in clash (cc)
-  found-here (at i l t) {k} {m} {c} h q =
+  found-here (present i l t) {k} {m} {c} h q =
       let z : Found.At i (h .span) (h .start) ≡ Found.At k m c = sym (h .is) ∙ q in
       let u : i ≡ k = cc in
       let y : h .span ≡ m = cc in
       let o : h .start ≡ c = cc in
       record {
         inner = record { tree = t; end = h .end; reads = ap (λ (b : Cursor). type v Free d s (b .at)) (sym o) ∙ h .reads };
-        is = ap (λ (j : Position). at j l t) u ∙ ap (λ (a : Label). at k a t) (sym (h .label) ∙ ap (labelAt s) y);
+        is = ap (λ (j : Position). present j l t) u ∙ ap (λ (a : Label). present k a t) (sym (h .label) ∙ ap (labelAt s) y);
         inside = subst (λ (b : LabelSpan). spanIn s (b .name)) y (h .inside);
       }
 
   pub found-absent : (X : Lookup) → Finds v d s X r → r ≡ Found.Absent → X ≡ absent
   found-absent absent h q = refl
-  found-absent (at i l t) h q = let z : Found.At i (h .span) (h .start) ≡ Found.Absent = sym (h .is) ∙ q in clash (cc)
+  found-absent (present i l t) h q = let z : Found.At i (h .span) (h .start) ≡ Found.Absent = sym (h .is) ∙ q in clash (cc)

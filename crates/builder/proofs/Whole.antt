@@ -11,7 +11,7 @@ use Rattle.store.proofs.Holds.{holds-exact}
 use Rattle.layout.specs.Bytes.{Bytes, sameBytes}
 use Rattle.layout.specs.Parser.{choose}
 use Rattle.layout.specs.Tree.{Label, ColumnType, Columns, dtypeOf}
-use Rattle.layout.specs.Stands.{TypeAt}
+use Rattle.layout.specs.code.Stands.{TypeAt}
 use Rattle.layout.specs.declared.columns.FieldId.{FieldId}
 use Rattle.layout.specs.declared.columns.Position.{Position}
 use Rattle.layout.specs.declared.edition.Edition.{Edition}
@@ -26,7 +26,7 @@ use Rattle.plan.specs.Selector.{Selector, position, cast, rename}
 use Rattle.plan.specs.Encode.{encodeSelector}
 use Rattle.matching.specs.Build.{isByName, isNullType, sameElement, renamed, distinct, noExtra, ignores, keepsRequired}
 use Rattle.builder.proofs.Names.{not-true, not-false}
-use Rattle.builder.specs.Answers.{madeOf, Wrote, Makes, needsRename, faultOf, nullCast}
+use Rattle.builder.specs.code.Answers.{madeOf, Wrote, Makes, needsRename, faultOf, nullCast}
 use Rattle.builder.specs.declared.answer.Made.{Made}
 use Rattle.builder.proofs.Putting.{cast-long, form-some}
 
@@ -100,7 +100,8 @@ module _ (p : Policy) (v : Matching) (gs fs : Columns) {a : Bool} (ea : a ≡ di
 
       pub fault-ignored : {c : Bool} → c ≡ ignores (p .«extra_struct_fields») → c ≡ true → 0 ≡ faultOf p v gs fs
       unfolding choose
-      fault-ignored e h = let z : ignores (p .«extra_struct_fields») ≡ true = sym e ∙ h in sym (both-passed ∙ ap (λ (x : Bool). choose (x || noExtra v fs gs) 0 13) z)
+      fault-ignored e h = let z : ignores (p .«extra_struct_fields») ≡ true = sym e ∙ h in sym
+          (both-passed ∙ ap (λ (x : Bool). choose (x || noExtra v fs gs) 0 13) z)
 
       module _ {c n : Bool} (ec : c ≡ ignores (p .«extra_struct_fields»)) (hc : c ≡ false) (en : n ≡ noExtra v fs gs) where
         by-extra : faultOf p v gs fs ≡ choose n 0 13
@@ -120,7 +121,8 @@ module _ (p : Policy) (v : Matching) (gs fs : Columns) {a : Bool} (ea : a ≡ di
 
 module _ (p : Policy) (k : Position) {v : Edition} {d : ℕ} {s : Bytes} {at : ℕ} (Q : TypeAt v d s at) (out : Bytes) (to : ℕ) where
   pub null-cast : {n : ℕ} {o : Bytes} → p .«null_upcast» ≡ true → n ≡ length (encodeSelector (cast (position k) (dtypeOf (Q .tree)) NonStrict))
-      → o ≡ overlay out to (encodeSelector (cast (position k) (dtypeOf (Q .tree)) NonStrict)) → Makes at (Q .end) out to (nullCast p k (Q .tree)) (Made.Built n) o
+      → o ≡ overlay out to (encodeSelector (cast (position k) (dtypeOf (Q .tree)) NonStrict)) → Makes at (Q .end) out to (nullCast p k (Q .tree))
+      (Made.Built n) o
   unfolding demand madeOf Wrote
   null-cast h l e =
       let f = cast-long k (dtypeOf (Q .tree)) NonStrict refl in

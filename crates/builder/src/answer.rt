@@ -2,7 +2,7 @@
 ghost use mathlib.Core.Path.{_≡_};
 ghost use mathlib.Core.Bool.{_&&_};
 ghost use lib.Dec.{eqb};
-ghost use Rattle.builder.specs.Answers.{isRefused, isBare, lenOf, failedOf, refusedRow};
+ghost use Rattle.builder.specs.code.Answers.{isRefused, isBare, lenOf, failedOf, refusedRow};
 use layout::columns::Position;
 
 // A refusal's number; a bare position; or the length of the selector that was written.

@@ -2,12 +2,12 @@
 ghost use mathlib.Core.Path.{_≡_};
 ghost use Prim.Native.Nat.{_+_, _*_, _^_, _≤_, _<_};
 ghost use lib.ListN.{length};
-ghost use Rattle.layout.specs.Answers.{leafAt, spanIn};
-ghost use Rattle.layout.specs.Stands.{TypeAt};
+ghost use Rattle.layout.specs.code.Answers.{leafAt, spanIn};
+ghost use Rattle.layout.specs.code.Stands.{TypeAt};
 ghost use Rattle.rules.specs.Outcomes.{verdictOf};
 ghost use Rattle.rules.specs.Pairs.{pairRule};
-ghost use Rattle.builder.specs.Answers.{Ruled};
-ghost use Rattle.builder.specs.Bundles.{TypesAt, LeafStands, AttachedLeaf};
+ghost use Rattle.builder.specs.code.Answers.{Ruled};
+ghost use Rattle.builder.specs.code.Bundles.{TypesAt, LeafStands, AttachedLeaf};
 use crate::answer::Made;
 use crate::build::Build;
 use crate::build::Types;

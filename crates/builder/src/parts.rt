@@ -1,10 +1,10 @@
 // A type's parts, or else the plain mismatch.
 ghost use mathlib.Core.Path.{_≡_};
 ghost use Prim.Native.Nat.{ℕ};
-ghost use Rattle.layout.specs.Stands.{TypeAt};
+ghost use Rattle.layout.specs.code.Stands.{TypeAt};
 ghost use Rattle.layout.specs.declared.edition.Edition.{Edition as EditionOf};
 ghost use Rattle.matching.specs.Build.{leafPart, structPart, listPart, arrayPart, isNullType};
-ghost use Rattle.builder.specs.Answers.{LeafPartIs, StructPartIs, ElementPartIs, elementOf, InnerPartIs};
+ghost use Rattle.builder.specs.code.Answers.{LeafPartIs, StructPartIs, ElementPartIs, elementOf, InnerPartIs};
 use layout::columns::Label;
 use layout::columns::Labelled;
 use layout::cursor::Cursor;

@@ -16,8 +16,8 @@ use Rattle.layout.specs.Bytes.{Bytes}
 use Rattle.layout.specs.Parser.{Res, refuse, ok}
 use Rattle.layout.specs.Tree.{Columns, cnil, ccons, countColumns, Layout}
 use Rattle.layout.specs.Layout.{columns, type, deepest, layout}
-use Rattle.layout.specs.Answers.{layoutOf}
-use Rattle.layout.specs.Stands.{ColumnsAt, LayoutAt}
+use Rattle.layout.specs.code.Answers.{layoutOf}
+use Rattle.layout.specs.code.Stands.{ColumnsAt, LayoutAt}
 use Rattle.layout.specs.declared.columns.Siblings.the-variants.{Free}
 use Rattle.layout.specs.declared.cursor.Cursor.{Cursor}
 use Rattle.layout.specs.declared.read.LayoutRead.{LayoutRead}
@@ -37,8 +37,8 @@ use Rattle.defaults.specs.declared.read.TableVersion.{TableVersion}
 use Rattle.defaults.specs.declared.read.TableVersion.the-variants.{Shared}
 use Rattle.defaults.specs.Table.{Entry, entriesOf, entries, table}
 use Rattle.defaults.specs.Lookup.{getDefaultValue, firstEntry}
-use Rattle.defaults.specs.Stands.{TableAt}
-use Rattle.defaults.specs.Index.{Indexed, IndexedTable}
+use Rattle.defaults.specs.code.Stands.{TableAt}
+use Rattle.defaults.specs.code.Index.{Indexed, IndexedTable}
 use Rattle.defaults.specs.declared.read.TableRead.{TableRead}
 use Rattle.defaults.proofs.Whole.{TableGot}
 use Rattle.plan.specs.Result.{Result, gives, refuses, demand, Answer, accepted, refusedAt, placed, answered}
@@ -49,7 +49,7 @@ use Rattle.matching.specs.Default.{Defaults, noDefaults}
 use Rattle.matching.specs.Build.{extraColumns, buildFrom, build}
 use Rattle.plan.specs.Calls.{readAt, writeResult, bufferAfter}
 use Rattle.matching.specs.Calls.{takes, ofEdition, bothLayouts, roomFor, writtenPlan, buildByName, buildByNumber}
-use Rattle.calls.specs.Answers.{BothAt, BothIs, extraAnswer, columnsMade, WroteColumns, MakesColumns, planHead, written, LongerThan, Attempted}
+use Rattle.calls.specs.code.Answers.{BothAt, BothIs, extraAnswer, columnsMade, WroteColumns, MakesColumns, planHead, written, LongerThan, Attempted}
 use Rattle.calls.specs.declared.write.Attempt.{Attempt}
 use Rattle.plan.specs.declared.answer.WriteResult.{WriteResult}
 use Rattle.calls.specs.declared.layouts.BothRead.{BothRead}
@@ -75,11 +75,13 @@ module _ (v : Matching) (incoming target : Bytes) (f : Columns → Columns → A
     unfolding bothLayouts readAt ofEdition
     both-tested g q = rw (h, g, q)
 
-    pub editions-refused : {b : Layout} {n : ℕ} → layout target ≡ ok b n → (takes v (a .edition) && takes v (b .edition)) ≡ false → bothLayouts v incoming target f ≡ refusedAt 10 0
+    pub editions-refused : {b : Layout} {n : ℕ} → layout target ≡ ok b n → (takes v (a .edition) && takes v (b .edition)) ≡ false → bothLayouts v
+        incoming target f ≡ refusedAt 10 0
     unfolding placed demand
     editions-refused g q = both-tested g q
 
-    pub editions-taken : {b : Layout} {n : ℕ} → layout target ≡ ok b n → (takes v (a .edition) && takes v (b .edition)) ≡ true → bothLayouts v incoming target f ≡ f (a .columns) (b .columns)
+    pub editions-taken : {b : Layout} {n : ℕ} → layout target ≡ ok b n → (takes v (a .edition) && takes v (b .edition)) ≡ true → bothLayouts v incoming
+        target f ≡ f (a .columns) (b .columns)
     unfolding placed demand
     editions-taken g q = both-tested g q
 
@@ -95,7 +97,8 @@ columns-of {s} {v} {n} {at} L z = record {
   reads = ap (λ (j : ℕ). columns v Free (type v Free deepest) n [] s j) z ∙ L .columns .reads;
 }
 
-module _ (how : Matching) (incoming target : Bytes) {r q : LayoutRead} (e : r ≡ layoutOf (layout incoming)) (g : q ≡ layoutOf (layout target)) {a w : Edition} {n m : ℕ} {c b : Cursor}
+module _ (how : Matching) (incoming target : Bytes) {r q : LayoutRead} (e : r ≡ layoutOf (layout incoming)) (g : q ≡ layoutOf (layout target))
+    {a w : Edition} {n m : ℕ} {c b : Cursor}
     (f : r ≡ LayoutRead.Read a n c) (h : q ≡ LayoutRead.Read w m b) {x y z : Bool} (i : x ≡ takes how a) (j : y ≡ takes how w) (t : z ≡ (x && y)) where
   tested : {o : Bool} → z ≡ o → (takes how a && takes how w) ≡ o
   tested u = sym (ap (λ (k : Bool). k && takes how w) i) ∙ sym (ap (λ (k : Bool). x && k) j) ∙ sym t ∙ u
@@ -151,18 +154,23 @@ module _ (room : ℕ) (p : Bytes) where
 
     pub within-both : len ≤ room → len ≤ longestPlan → written room p ≡ accepted p
     unfolding roomFor
-    within-both h g = fits (ap (λ (b : Bool). b && leb (length p) longestPlan) (le-leb (length p) room (omega arith)) ∙ le-leb (length p) longestPlan (omega arith))
+    within-both h g = fits (ap (λ (b : Bool). b && leb (length p) longestPlan) (le-leb (length p) room (omega arith)) ∙ le-leb (length p) longestPlan
+        (omega arith))
 
 -- a refusal changes nothing
 pub plan-kept : {X : Answer Bytes} {n k : ℕ} (out : Bytes) → X ≡ refusedAt n k → (WriteResult.Refused n k ≡ writeResult X) × (out ≡ bufferAfter X out)
 plan-kept out h = (sym (ap writeResult h), sym (ap (λ (x : Answer Bytes). bufferAfter x out) h))
 
 -- the front of what was built, copied
-pub plan-copied : (s : Bytes) {len : ℕ} (p : Bytes) (X : Answer Bytes) (out : Bytes) {o : Bytes} → len ≡ length p → take len s ≡ p → X ≡ accepted p → len ≤ length s → len ≤ length out → o ≡ overlay out 0 (slice 0 len s)
+pub plan-copied : (s : Bytes) {len : ℕ} (p : Bytes) (X : Answer Bytes) (out : Bytes) {o : Bytes} → len ≡ length p → take len s ≡ p → X ≡ accepted p →
+    len ≤ length s → len ≤ length out → o ≡ overlay out 0 (slice 0 len s)
     → (WriteResult.Written len ≡ writeResult X) × (o ≡ bufferAfter X out)
 plan-copied s {len} p X out {o} e t h l m w =
-    let z : slice 0 len s ≡ p = ap (λ (j : ℕ). slice 0 j s) (sym (zero-add len)) ∙ slice-take s 0 len (omega arith) ∙ t in
-    (ap WriteResult.Written e ∙ sym (ap writeResult h), w ∙ ap (overlay out 0) z ∙ overlay-front out p (omega arith) ∙ sym (ap (λ (x : Answer Bytes). bufferAfter x out) h))
+    let z : slice 0 len s ≡ p = ap (λ (j : ℕ). slice 0 j s) (sym (zero-add len)) ∙ slice-take s 0 len (omega arith) ∙ t in (
+      ap WriteResult.Written e ∙ sym (ap writeResult h),
+      w ∙ ap (overlay out 0) z ∙ overlay-front out p (omega arith) ∙ sym
+          (ap (λ (x : Answer Bytes). bufferAfter x out) h),
+    )
 
 -- ---- the plan
 
@@ -174,12 +182,14 @@ one-more i (refuses k) Y ss n f h = clash (cc)
 one-more i (gives s) (refusedAt k j) ss n f h = clash (cc)
 one-more i (gives s) (accepted rs) ss n f h = let q : ss ≡ scons s rs = cc in rw q (ap suc (f rs refl))
 
-count-built : (v : Matching) (p : Policy) (d : Defaults) (gs fs : Columns) (i : ℕ) (ss : Selectors) → buildFrom v p d gs fs i ≡ accepted ss → countSelectors ss ≡ countColumns gs
+count-built : (v : Matching) (p : Policy) (d : Defaults) (gs fs : Columns) (i : ℕ) (ss : Selectors) → buildFrom v p d gs fs i ≡ accepted ss →
+    countSelectors ss ≡ countColumns gs
 unfolding buildFrom countColumns countSelectors
 count-built v p d cnil fs i ss h = let q : ss ≡ snil = cc in rw q
 count-built v p d (ccons l u gs) fs i ss h = one-more i _ (buildFrom v p d gs fs (i + 1)) ss (countColumns gs) (count-built v p d gs fs (i + 1)) h
 
-pub count-is : (how : Matching) (p : Policy) (d : Defaults) (fs : Columns) {v : Edition} {s : Bytes} {m at : ℕ} (Q : ColumnsAt v deepest s m at) (ss : Selectors)
+pub count-is : (how : Matching) (p : Policy) (d : Defaults) (fs : Columns) {v : Edition} {s : Bytes} {m at : ℕ} (Q : ColumnsAt v deepest s m at)
+    (ss : Selectors)
     → buildFrom how p d (Q .columns) fs 0 ≡ accepted ss → countSelectors ss ≡ m
 count-is how p d fs {v} {s} {m} {at} Q ss h =
     count-built how p d (Q .columns) fs 0 ss h ∙ columns-count v Free (type v Free deepest) m [] s at (Q .columns) (Q .end) (Q .reads)
@@ -195,7 +205,8 @@ columns-end {v} {d} {s} (suc n) {at} Q =
     omega arith
 
 -- the index behind the selectors stays in its bounds
-pub columns-room : (X : Answer Selectors) {v : Edition} {d : ℕ} {s : Bytes} {n at : ℕ} (Q : ColumnsAt v d s n at) {out : Bytes} {k : ℕ} {r : ColumnsMade} {o : Bytes} {len : ℕ}
+pub columns-room : (X : Answer Selectors) {v : Edition} {d : ℕ} {s : Bytes} {n at : ℕ} (Q : ColumnsAt v d s n at) {out : Bytes} {k : ℕ}
+    {r : ColumnsMade} {o : Bytes} {len : ℕ}
     → MakesColumns at (Q .end) out k X r o → r ≡ ColumnsMade.Done len → len ≤ 65536 * length s
 unfolding columnsMade WroteColumns
 columns-room (refusedAt m j) Q {len = len} A q = let z : ColumnsMade.Failed m j ≡ ColumnsMade.Done len = sym (A .answer) ∙ q in clash (cc)
@@ -207,7 +218,8 @@ columns-room (accepted ss) {n = n} Q {len = len} A q =
     omega arith
 
 -- a stronger fact of a plan that is longer than the room
-attempt-as : {Long Longer : Type 0} (X : Answer Bytes) (out : Bytes) (y : Attempt) (o : Bytes) → (Longer → Long) → Attempted Longer X out y o → Attempted Long X out y o
+attempt-as : {Long Longer : Type 0} (X : Answer Bytes) (out : Bytes) (y : Attempt) (o : Bytes) → (Longer → Long) → Attempted Longer X out y o →
+    Attempted Long X out y o
 attempt-as X out (Attempt.Answer r) o f h = h
 attempt-as X out Attempt.Short o f (l, k) = (f l, k)
 
@@ -215,11 +227,13 @@ module _ (plan : Bytes) {b e : ℕ} {o₁ o₂ : Bytes} {r : ColumnsMade} where
   pub plan-refused : (X : Answer Selectors) {n i : ℕ} → MakesColumns b e o₁ 7 X r o₂ → r ≡ ColumnsMade.Failed n i
       → (WriteResult.Refused n i ≡ writeResult (answered X (writtenPlan (length plan)))) × (plan ≡ bufferAfter (answered X (writtenPlan (length plan))) plan)
   unfolding answered columnsMade
-  plan-refused (refusedAt m j) {n} {i} A q = let z : ColumnsMade.Failed m j ≡ ColumnsMade.Failed n i = sym (A .answer) ∙ q in let x : m ≡ n = cc in let y : j ≡ i = cc in (rw (x, y), refl)
+  plan-refused (refusedAt m j) {n} {i} A q = let z : ColumnsMade.Failed m j ≡ ColumnsMade.Failed n i = sym (A .answer) ∙ q in let x : m ≡ n = cc in let
+      y : j ≡ i = cc in (rw (x, y), refl)
   plan-refused (accepted ss) {n} {i} A q = let z : ColumnsMade.Done (length (encodeSelectors ss)) ≡ ColumnsMade.Failed n i = sym (A .answer) ∙ q in clash (cc)
 
   -- the plan that X is, where y and o are what `write_plan` made of its bytes
-  pub plan-written : (room : Bytes) (X : Answer Selectors) {m len : ℕ} (y : Attempt) (o : Bytes) → ((ss : Selectors) → X ≡ accepted ss → countSelectors ss ≡ m) → MakesColumns b e o₁ 7 X r o₂ → r ≡ ColumnsMade.Done len
+  pub plan-written : (room : Bytes) (X : Answer Selectors) {m len : ℕ} (y : Attempt) (o : Bytes) →
+      ((ss : Selectors) → X ≡ accepted ss → countSelectors ss ≡ m) → MakesColumns b e o₁ 7 X r o₂ → r ≡ ColumnsMade.Done len
       → o₁ ≡ overlay room 0 (planHead m) → length o₁ ≡ length room → length o₂ ≡ length room
       → ((p : Bytes) → 7 + len ≡ length p → (7 + len ≤ length o₂ → take (7 + len) o₂ ≡ p) → Attempted (length o₂ < length p) (written (length plan) p) plan y o)
       → Attempted (LongerThan (length room) X) (answered X (writtenPlan (length plan))) plan y o
@@ -228,7 +242,8 @@ module _ (plan : Bytes) {b e : ℕ} {o₁ o₂ : Bytes} {r : ColumnsMade} where
   plan-written room (accepted ss) {m} {len} y o f A q h l z g =
       let x : ColumnsMade.Done (length (encodeSelectors ss)) ≡ ColumnsMade.Done len = sym (A .answer) ∙ q in
       let n : length (encodeSelectors ss) ≡ len = cc in
-      let w : Holds room 0 (planHead m ++ encodeSelectors ss) o₂ = holds-append room 0 (planHead m) (encodeSelectors ss) o₁ o₂ l (holds-exact room 0 (planHead m) h) (A .wrote .0) in
+      let w : Holds room 0 (planHead m ++ encodeSelectors ss) o₂ = holds-append room 0 (planHead m) (encodeSelectors ss) o₁ o₂ l
+      (holds-exact room 0 (planHead m) h) (A .wrote .0) in
       let c : planHead m ++ encodeSelectors ss ≡ encodePlan ss = ap (λ (k : ℕ). planHead k ++ encodeSelectors ss) (sym (f ss refl)) in
       let u : 7 + len ≡ length (encodePlan ss) = let u : 7 + len ≡ suc (suc (suc (suc (suc (suc (suc (length (encodeSelectors ss)))))))) = omega arith in u in
       let w′ : Holds room 0 (encodePlan ss) o₂ = subst (λ (k : Bytes). Holds room 0 k o₂) c w in
@@ -249,7 +264,8 @@ pub plan-long : (plan : Bytes) {X : Answer Selectors} {o : Bytes} → LongerThan
     → (WriteResult.Refused 27 0 ≡ writeResult (answered X (writtenPlan (length plan)))) × (o ≡ bufferAfter (answered X (writtenPlan (length plan))) plan)
 unfolding answered writtenPlan
 plan-long plan {X} W k =
-    let h : answered X (writtenPlan (length plan)) ≡ refusedAt 27 0 = ap (λ (x : Answer Selectors). answered x (writtenPlan (length plan))) (W .accepts) ∙ past-limit (length plan) (encodePlan (W .selectors)) refl (W .longer) in
+    let h : answered X (writtenPlan (length plan)) ≡ refusedAt 27 0 = ap (λ (x : Answer Selectors). answered x (writtenPlan (length plan))) (W .accepts)
+    ∙ past-limit (length plan) (encodePlan (W .selectors)) refl (W .longer) in
     let (a, b) = plan-kept plan h in
     (a, k ∙ b)
 
@@ -257,7 +273,8 @@ plan-long plan {X} W k =
 pub plan-again : (X : Answer Selectors) {plan same : Bytes} {y : WriteResult} {o : Bytes} → same ≡ plan
     → (y ≡ writeResult (answered X (writtenPlan (length same)))) × (o ≡ bufferAfter (answered X (writtenPlan (length same))) same)
     → (y ≡ writeResult (answered X (writtenPlan (length plan)))) × (o ≡ bufferAfter (answered X (writtenPlan (length plan))) plan)
-plan-again X {y = y} {o = o} e h = subst (λ (p : Bytes). (y ≡ writeResult (answered X (writtenPlan (length p)))) × (o ≡ bufferAfter (answered X (writtenPlan (length p))) p)) e h
+plan-again X {y = y} {o = o} e h = subst (λ (p : Bytes). (y ≡ writeResult (answered X (writtenPlan (length p)))) ×
+    (o ≡ bufferAfter (answered X (writtenPlan (length p))) p)) e h
 
 -- ---- 53, and what a build is after it
 
@@ -297,14 +314,16 @@ no-entries T k =
     ap (λ (es : List Entry). getDefaultValue es k) e ∙ (λ i j. noDefaults j)
 
 module _ (p : Policy) (incoming target : Bytes) (room : ℕ) where
-  pub by-name-refused : {n k : ℕ} → ((f : Columns → Columns → Answer Bytes) → bothLayouts ByName incoming target f ≡ refusedAt n k) → buildByName p incoming target room ≡ refusedAt n k
+  pub by-name-refused : {n k : ℕ} → ((f : Columns → Columns → Answer Bytes) → bothLayouts ByName incoming target f ≡ refusedAt n k) → buildByName p
+      incoming target room ≡ refusedAt n k
   unfolding buildByName
   by-name-refused h = h _
 
   pub by-name-built : {v w : Edition} {both : Both} (B : BothAt ByName incoming target v w both) {s : Bytes} (T : TableAt s noValues) (k : ℕ)
       → buildByName p incoming target room ≡ answered (build ByName p (getDefaultValue (T .entries) k) (B .from .columns) (B .to .columns)) (writtenPlan room)
   unfolding buildByName
-  by-name-built B T k = B .is _ ∙ ap (λ (d : Defaults). answered (build ByName p d (B .from .columns) (B .to .columns)) (writtenPlan room)) (sym (no-entries T k))
+  by-name-built B T k = B .is _ ∙ ap (λ (d : Defaults). answered (build ByName p d (B .from .columns) (B .to .columns)) (writtenPlan room))
+      (sym (no-entries T k))
 
 module _ (p : Policy) (index owner : ℕ) (incoming target defaults : Bytes) (room : ℕ) where
   pub by-number-refused : {n k : ℕ} → ((f : Columns → Columns → Answer Bytes) → bothLayouts ByNumber incoming target f ≡ refusedAt n k)
@@ -334,5 +353,6 @@ pub indexed-read : {s : Bytes} {index : List ℕ} (r : TableRead) {v : TableVers
 indexed-read {s} {index} r h e = subst (λ (x : TableRead). IndexedTable s x index) e h
 
 -- an answer and a buffer, under another name of what they are
-pub plan-as : {X Y : Answer Bytes} {y : WriteResult} {o : Bytes} (out : Bytes) → X ≡ Y → (y ≡ writeResult Y) × (o ≡ bufferAfter Y out) → (y ≡ writeResult X) × (o ≡ bufferAfter X out)
+pub plan-as : {X Y : Answer Bytes} {y : WriteResult} {o : Bytes} (out : Bytes) → X ≡ Y → (y ≡ writeResult Y) × (o ≡ bufferAfter Y out) →
+    (y ≡ writeResult X) × (o ≡ bufferAfter X out)
 plan-as out h (a, b) = (a ∙ sym (ap writeResult h), b ∙ sym (ap (λ (x : Answer Bytes). bufferAfter x out) h))

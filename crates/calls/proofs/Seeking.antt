@@ -8,9 +8,9 @@ use Rattle.layout.specs.Bytes.{Bytes}
 use Rattle.layout.specs.Parser.{ok, choose}
 use Rattle.layout.specs.Tree.{Columns, cnil}
 use Rattle.layout.specs.Layout.{label, columns, type, deepest}
-use Rattle.layout.specs.Find.{Lookup, absent, at, Finds, counterpart}
-use Rattle.layout.specs.Answers.{labelRes, labelAt}
-use Rattle.layout.specs.Stands.{TypeAt, ColumnsAt}
+use Rattle.layout.specs.Find.{Lookup, absent, present, Finds, counterpart}
+use Rattle.layout.specs.code.Answers.{labelRes, labelAt}
+use Rattle.layout.specs.code.Stands.{TypeAt, ColumnsAt}
 use Rattle.layout.specs.declared.columns.Label.{Label as LabelSpan}
 use Rattle.layout.specs.declared.columns.Labelled.{Labelled}
 use Rattle.layout.specs.declared.columns.Position.{Position}
@@ -25,7 +25,7 @@ use Rattle.rules.specs.declared.policy.ExtraColumnsPolicy.{ExtraColumnsPolicy}
 use Rattle.rules.specs.declared.policy.ExtraColumnsPolicy.the-variants.{Ignore, Raise}
 use Rattle.plan.specs.Result.{Answer, accepted, refusedAt}
 use Rattle.matching.specs.Build.{isAbsent, extraColumnErr, extraColumns}
-use Rattle.calls.specs.Answers.{extraAnswer}
+use Rattle.calls.specs.code.Answers.{extraAnswer}
 use Rattle.calls.specs.declared.extra.ExtraColumn.{ExtraColumn}
 
 -- ---- a look-up
@@ -33,11 +33,11 @@ use Rattle.calls.specs.declared.extra.ExtraColumn.{ExtraColumn}
 module _ (v : Edition) (s : Bytes) where
   pub found-some : (x : Lookup) {r : Found} {k : Position} {l : LabelSpan} {c : Cursor} → Finds v deepest s x r → r ≡ Found.At k l c → false ≡ isAbsent x
   found-some absent {r} {k} {l} {c} f e = let z : Found.Absent ≡ Found.At k l c = sym f ∙ e in clash (cc)
-  found-some (at k l t) f e = refl
+  found-some (present k l t) f e = refl
 
   pub found-none : (x : Lookup) {r : Found} → Finds v deepest s x r → r ≡ Found.Absent → true ≡ isAbsent x
   found-none absent f e = refl
-  found-none (at k l t) f e = let z : Found.At k (f .span) (f .start) ≡ Found.Absent = sym (f .is) ∙ e in clash (cc)
+  found-none (present k l t) f e = let z : Found.At k (f .span) (f .start) ≡ Found.Absent = sym (f .is) ∙ e in clash (cc)
 
 -- ---- the loop: after i of n columns
 
@@ -76,7 +76,8 @@ module _ {how : Matching} {v : Edition} {gs : Columns} {s : Bytes} {n from here 
     abbrev from-here : Bool → Answer (Unit {0})
     from-here b = choose b (refusedAt 53 i) (extraColumnErr how (column .tail .columns) gs (i + 1))
 
-    split : {b : Bool} → b ≡ isAbsent (counterpart how (labelAt s l) gs) → (P : ColumnsAt v deepest s n from) → extraColumnErr how (P .columns) gs 0 ≡ from-here b
+    split : {b : Bool} → b ≡ isAbsent (counterpart how (labelAt s l) gs) → (P : ColumnsAt v deepest s n from) → extraColumnErr how (P .columns) gs 0 ≡
+        from-here b
     unfolding extraColumnErr
     split g P = W .answer P ∙ ap (λ (cs : Columns). extraColumnErr how cs gs i) (column .is) ∙ ap from-here (sym g)
 
@@ -95,7 +96,8 @@ module _ {how : Matching} {v : Edition} {gs : Columns} {s : Bytes} {n from here 
             answer = λ P. split g P ∙ ap from-here h;
           }
         where
-          tail-reads : {y : ℕ} → n - i - 1 ≡ n - (i + 1) → y ≡ column .head .end → columns v Free (type v Free deepest) (n - (i + 1)) [] s y ≡ ok (column .tail .columns) (column .tail .end)
+          tail-reads : {y : ℕ} → n - i - 1 ≡ n - (i + 1) → y ≡ column .head .end → columns v Free (type v Free deepest) (n - (i + 1)) [] s y ≡ ok
+              (column .tail .columns) (column .tail .end)
           tail-reads less E = rw (← less, E) (column .tail .reads)
 
 -- ---- the policy

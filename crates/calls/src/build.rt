@@ -2,7 +2,7 @@
 ghost use mathlib.Core.Path.{_≡_};
 ghost use Prim.Native.Nat.{_≤_, _<_};
 ghost use lib.ListN.{length};
-ghost use Rattle.defaults.specs.Index.{links};
+ghost use Rattle.defaults.specs.code.Index.{links};
 ghost use Rattle.plan.specs.Calls.{bufferAfter, writeResult};
 ghost use Rattle.matching.specs.Calls.{buildByName, buildByNumber};
 use crate::layouts::BothRead;

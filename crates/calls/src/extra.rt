@@ -3,10 +3,10 @@
 ghost use mathlib.Core.Path.{_≡_};
 ghost use Prim.Native.Nat.{_<_};
 ghost use lib.ListN.{length};
-ghost use Rattle.layout.specs.Answers.{labelAt, spanIn};
+ghost use Rattle.layout.specs.code.Answers.{labelAt, spanIn};
 ghost use Rattle.layout.specs.Layout.{deepest};
-ghost use Rattle.builder.specs.Bundles.{FieldsAt, TableOf};
-ghost use Rattle.calls.specs.Answers.{BothIn, IsExtra, FoundExtra, ExtraFound};
+ghost use Rattle.builder.specs.code.Bundles.{FieldsAt, TableOf};
+ghost use Rattle.calls.specs.code.Answers.{BothIn, IsExtra, FoundExtra, ExtraFound};
 use crate::layouts::Both;
 use builder::build::Build;
 use builder::build::Fields;

@@ -1,7 +1,7 @@
 // The two layouts of a build.
 ghost use mathlib.Core.Path.{_≡_};
 ghost use Rattle.matching.specs.Calls.{takes as takesEdition};
-ghost use Rattle.calls.specs.Answers.{BothIs};
+ghost use Rattle.calls.specs.code.Answers.{BothIs};
 use builder::answer::both;
 use builder::build::Fields;
 use layout::edition::Edition;

@@ -7,9 +7,9 @@ use native.Mathlib.Omega.{arith}
 use Rattle.layout.specs.Bytes.{Bytes, sameBytes}
 use Rattle.layout.specs.Parser.{ok}
 use Rattle.layout.specs.Tree.{Label, Columns, DataType, struct, list, array, Fields, fcons, countFields, dtypeOf, fieldsOf}
-use Rattle.layout.specs.Layout.{Kind, kind, aLeaf, aStruct, aList, anArray, label, columns as columnsOf, type}
-use Rattle.layout.specs.Answers.{spanAt, labelRes}
-use Rattle.layout.specs.Stands.{TypeAt, ColumnsAt}
+use Rattle.layout.specs.Layout.{Head, kind, aLeaf, aStruct, aList, anArray, label, columns as columnsOf, type}
+use Rattle.layout.specs.code.Answers.{spanAt, labelRes}
+use Rattle.layout.specs.code.Stands.{TypeAt, ColumnsAt}
 use Rattle.layout.specs.declared.columns.Label.{Label as LabelSpan}
 use Rattle.layout.specs.declared.columns.Labelled.{Labelled}
 use Rattle.layout.specs.declared.columns.Siblings.the-variants.{Free}
@@ -19,22 +19,22 @@ use borrow.Author.Tests.{eq-eqb}
 use Rattle.layout.proofs.Ways.{clash}
 use Rattle.layout.proofs.View.{same-columns, label-got, no-column}
 use Rattle.forms.specs.Form.{headOf}
-use Rattle.forms.specs.Compare.{sameDtype, sameFields}
-use Rattle.forms.specs.Labelled.{ElementAt, ColumnAt}
-use Rattle.forms.specs.Answers.{endOf, sameOf}
+use Rattle.forms.specs.code.Compare.{sameDtype, sameFields}
+use Rattle.forms.specs.code.Labelled.{ElementAt, ColumnAt}
+use Rattle.forms.specs.code.Answers.{endOf, sameOf}
 use Rattle.forms.specs.declared.compare.Same.{Same}
 use Rattle.forms.proofs.Read.{ok-eq}
 use Rattle.forms.proofs.Equal.{same-dtype-eq}
 use Rattle.forms.proofs.Heads.{head-at}
 use Rattle.forms.proofs.Comparing.{struct-known, list-known, array-known, StructIs, ListIs, ArrayIs, split, Split}
 use Rattle.plan.specs.Check.{Column, column}
-use Rattle.walk.specs.Stands.{SelectorAt}
+use Rattle.walk.specs.code.Stands.{SelectorAt}
 use Rattle.walk.specs.declared.walk.Walk.{Walk}
 use Rattle.plan.proofs.Results.{true≠false}
-use Rattle.nodes.specs.Typed.{TypeIs}
-use Rattle.checker.specs.Standing.{PartOf, NamedAt, MappedAt, ResolvedAt, headKind, TypeHeadIs}
-use Rattle.walk.specs.Children.{PassedTo}
-use Rattle.checker.specs.Same.{endsFrom, endsOf, codeOf}
+use Rattle.nodes.specs.code.Typed.{TypeIs}
+use Rattle.checker.specs.code.TypesAt.{PartOf, NamedAt, MappedAt, ResolvedAt, headKind, TypeHeadIs}
+use Rattle.walk.specs.code.Children.{PassedTo}
+use Rattle.checker.specs.code.Same.{endsFrom, endsOf, codeOf}
 use Rattle.checker.specs.declared.same.Ends.{Ends}
 use Rattle.checker.specs.declared.same.HeadCode.{HeadCode}
 use Rattle.checker.specs.declared.place.TypeHead.{TypeHead}
@@ -73,13 +73,15 @@ differ t u e f = go (sameDtype t u) refl
     go false p = refl
 
 -- a type in bytes
-pub raw-ends : {v : Edition} {s : Bytes} {at : ℕ} {t : DataType} (T : TypeIs v s at t) {w : Edition} {d : ℕ} {b : Bytes} {bt : ℕ} (Q : TypeAt w d b bt) {x : Same} {r : Ends}
-    → x ≡ sameOf (sameDtype (dtypeOf (T .type .tree)) (dtypeOf (Q .tree))) (T .type .end) (Q .end) → r ≡ endsFrom x → r ≡ endsOf (sameDtype t (dtypeOf (Q .tree))) (Q .end)
+pub raw-ends : {v : Edition} {s : Bytes} {at : ℕ} {t : DataType} (T : TypeIs v s at t) {w : Edition} {d : ℕ} {b : Bytes} {bt : ℕ} (Q : TypeAt w d b bt)
+    {x : Same} {r : Ends}
+    → x ≡ sameOf (sameDtype (dtypeOf (T .type .tree)) (dtypeOf (Q .tree))) (T .type .end) (Q .end) → r ≡ endsFrom x → r ≡ endsOf
+    (sameDtype t (dtypeOf (Q .tree))) (Q .end)
 raw-ends T Q e f = f ∙ ap endsFrom e ∙ ends-from _ _ _ ∙ ap (λ (u : DataType). endsOf (sameDtype u (dtypeOf (Q .tree))) (Q .end)) (T .is)
 
 -- ---- heads
 
-code-same : (j k : Kind) → codeOf j .code ≡ codeOf k .code → codeOf j .number ≡ codeOf k .number → 0 < codeOf j .code → j ≡ k
+code-same : (j k : Head) → codeOf j .code ≡ codeOf k .code → codeOf j .number ≡ codeOf k .number → 0 < codeOf j .code → j ≡ k
 code-same (aLeaf l) k a b f = absurd (omega arith)
 code-same (aStruct n) (aLeaf l) a b f = absurd (omega arith)
 code-same (aStruct n) (aStruct m) a b f = ap aStruct b
@@ -94,8 +96,10 @@ code-same (anArray x) (aStruct m) a b f = absurd (omega arith)
 code-same (anArray x) aList a b f = absurd (omega arith)
 code-same (anArray x) (anArray w) a b f = ap anArray b
 
-module _ {incoming plan : Bytes} {t : DataType} {h : TypeHead} (H : TypeHeadIs incoming plan t h) {a b : HeadCode} (x : (i p : Bytes) → a ≡ codeOf (headKind i p h))
-    {v : Edition} {d : ℕ} {s : Bytes} {at : ℕ} (Q : TypeAt v d s at) (y : (w : Edition) (e : ℕ) (R : TypeAt w e s at) → b ≡ codeOf (headOf (dtypeOf (R .tree)))) where
+module _ {incoming plan : Bytes} {t : DataType} {h : TypeHead} (H : TypeHeadIs incoming plan t h) {a b : HeadCode}
+    (x : (i p : Bytes) → a ≡ codeOf (headKind i p h))
+    {v : Edition} {d : ℕ} {s : Bytes} {at : ℕ} (Q : TypeAt v d s at) (y : (w : Edition) (e : ℕ) (R : TypeAt w e s at) → b ≡ codeOf
+    (headOf (dtypeOf (R .tree)))) where
   left-code : a ≡ codeOf (headOf t)
   left-code = x incoming plan ∙ ap codeOf (H .kind)
 
@@ -113,12 +117,12 @@ module _ {incoming plan : Bytes} {t : DataType} {h : TypeHead} (H : TypeHeadIs i
 
   module _ (e : a .code ≡ b .code) (f : a .number ≡ b .number) {c g : Cursor} (ce : c .at ≡ at) (z : g ≡ endOf (kind s (c .at)) c) where
     -- the target's head, where ours is no leaf
-    head-there : {k : Kind} → headOf t ≡ k → 0 < codeOf k .code → kind s at ≡ ok k (g .at)
+    head-there : {k : Head} → headOf t ≡ k → 0 < codeOf k .code → kind s at ≡ ok k (g .at)
     head-there {k} p n =
         let q : k ≡ headOf (dtypeOf (Q .tree)) = code-same k _
-        (ap (λ (j : Kind). codeOf j .code) (sym p) ∙ ap (λ (c : HeadCode). c .code) (sym left-code) ∙ e ∙ ap (λ (c : HeadCode). c .code) right-code)
-        (ap (λ (j : Kind). codeOf j .number) (sym p) ∙ ap (λ (c : HeadCode). c .number) (sym left-code) ∙ f ∙ ap (λ (c : HeadCode). c .number) right-code) n in
-        head-at Q ce z .reads ∙ ap (λ (j : Kind). ok j (g .at)) (sym q)
+        (ap (λ (j : Head). codeOf j .code) (sym p) ∙ ap (λ (c : HeadCode). c .code) (sym left-code) ∙ e ∙ ap (λ (c : HeadCode). c .code) right-code)
+        (ap (λ (j : Head). codeOf j .number) (sym p) ∙ ap (λ (c : HeadCode). c .number) (sym left-code) ∙ f ∙ ap (λ (c : HeadCode). c .number) right-code) n in
+        head-at Q ce z .reads ∙ ap (λ (j : Head). ok j (g .at)) (sym q)
 
     pub struct-there : {n : ℕ} → h ≡ TypeHead.Struct n → StructIs v d s at Q n (g .at)
     struct-there {n} i = struct-known Q (head-there (sym (H .kind) ∙ ap (headKind incoming plan) i) (omega arith))
@@ -144,7 +148,8 @@ module _ {incoming plan : Bytes} {t : DataType} {h : TypeHead} (H : TypeHeadIs i
           ∙ ap (λ (u : DataType). endsOf (sameDtype u (dtypeOf (Q .tree))) (Q .end)) (sym p)
 
       pub lists-same : (i : h ≡ TypeHead.List)
-          → ((u : DataType) (a : Column) (E : ElementAt v (d - 1) s (g .at)) → ResolvedAt incoming m n plan q u → PartOf u 0 a → r ≡ endsOf (sameDtype (a .type) (dtypeOf (E .inner .tree))) (E .inner .end))
+          → ((u : DataType) (a : Column) (E : ElementAt v (d - 1) s (g .at)) → ResolvedAt incoming m n plan q u → PartOf u 0 a → r ≡ endsOf
+          (sameDtype (a .type) (dtypeOf (E .inner .tree))) (E .inner .end))
           → r ≡ endsOf (sameDtype t (dtypeOf (Q .tree))) (Q .end)
       unfolding sameDtype dtypeOf
       lists-same i o =
@@ -156,7 +161,8 @@ module _ {incoming plan : Bytes} {t : DataType} {h : TypeHead} (H : TypeHeadIs i
           ∙ ap (λ (y : DataType). endsOf (sameDtype y (dtypeOf (Q .tree))) (Q .end)) (sym p)
 
       pub arrays-same : {w : ℕ} (i : h ≡ TypeHead.Array w)
-          → ((u : DataType) (a : Column) (E : ElementAt v (d - 1) s (g .at)) → ResolvedAt incoming m n plan q u → PartOf u 0 a → r ≡ endsOf (sameDtype (a .type) (dtypeOf (E .inner .tree))) (E .inner .end))
+          → ((u : DataType) (a : Column) (E : ElementAt v (d - 1) s (g .at)) → ResolvedAt incoming m n plan q u → PartOf u 0 a → r ≡ endsOf
+          (sameDtype (a .type) (dtypeOf (E .inner .tree))) (E .inner .end))
           → r ≡ endsOf (sameDtype t (dtypeOf (Q .tree))) (Q .end)
       unfolding sameDtype dtypeOf
       arrays-same {w} i o =
@@ -170,10 +176,12 @@ module _ {incoming plan : Bytes} {t : DataType} {h : TypeHead} (H : TypeHeadIs i
 
 -- ---- same_field
 
-name-of : {v : Edition} {d : ℕ} {s : Bytes} {at : ℕ} (E : ColumnAt v d s at) {q : Labelled} {l : LabelSpan} {c : Cursor} → labelRes s q ≡ label v s at → q ≡ Labelled.Is l c → E .label .name ≡ spanAt s (l .name)
+name-of : {v : Edition} {d : ℕ} {s : Bytes} {at : ℕ} (E : ColumnAt v d s at) {q : Labelled} {l : LabelSpan} {c : Cursor} → labelRes s q ≡ label v s at →
+    q ≡ Labelled.Is l c → E .label .name ≡ spanAt s (l .name)
 name-of {s = s} E e f = ap (λ (x : Label). x .name) (ok-eq (sym (E .labelled) ∙ label-got s e f) .0)
 
-module _ {v : Edition} {d : ℕ} {s : Bytes} {at : ℕ} (E : ColumnAt v d s at) {q : Labelled} {l : LabelSpan} {c : Cursor} (e : labelRes s q ≡ label v s at) (f : q ≡ Labelled.Is l c) (a : Column)
+module _ {v : Edition} {d : ℕ} {s : Bytes} {at : ℕ} (E : ColumnAt v d s at) {q : Labelled} {l : LabelSpan} {c : Cursor}
+    (e : labelRes s q ≡ label v s at) (f : q ≡ Labelled.Is l c) (a : Column)
     {b : Bool} (g : b ≡ sameBytes (a .name) (spanAt s (l .name))) where
   so : sameBytes (a .name) (E .label .name) ≡ b
   so = ap (λ (n : Bytes). sameBytes (a .name) n) (name-of E e f) ∙ sym g
@@ -190,7 +198,12 @@ module _ {v : Edition} {d : ℕ} {s : Bytes} {at : ℕ} (E : ColumnAt v d s at) 
 
 abbrev pub columns-as : {v : Edition} {d : ℕ} {s : Bytes} {n m at to : ℕ} → n ≡ m → at ≡ to → ColumnsAt v d s n at → ColumnsAt v d s m to
 columns-as {v} {d} {s} {n} {m} {at} {to} e g P =
-    record { columns = P .columns; end = P .end; reads = sym (ap (λ (k : ℕ). columnsOf v Free (type v Free d) k [] s at) e ∙ ap (λ (o : ℕ). columnsOf v Free (type v Free d) m [] s o) g) ∙ P .reads }
+    record {
+      columns = P .columns;
+      end = P .end;
+      reads = sym (ap (λ (k : ℕ). columnsOf v Free (type v Free d) k [] s at) e ∙ ap
+          (λ (o : ℕ). columnsOf v Free (type v Free d) m [] s o) g) ∙ P .reads;
+    }
 
 pub record Matching (incoming : Bytes) (v : Edition) (n : ℕ) (plan : Bytes) (w : Walk) (count : ℕ) (target : Bytes) (vt : Edition)
     (depth base from at k : ℕ) : Type 0 where

@@ -9,8 +9,8 @@ use lib.Dec.{leb}
 use Rattle.layout.specs.Bytes.{Bytes}
 use Rattle.layout.specs.Parser.{choose}
 use Rattle.layout.specs.Tree.{DataType, leaf, struct, list, array, Fields, countFields, fieldsOf, dtypeOf}
-use Rattle.layout.specs.Layout.{Kind, aLeaf, aStruct, aList, anArray, type}
-use Rattle.layout.specs.Stands.{TypeAt, ColumnsAt}
+use Rattle.layout.specs.Layout.{Head, aLeaf, aStruct, aList, anArray, type}
+use Rattle.layout.specs.code.Stands.{TypeAt, ColumnsAt}
 use Rattle.layout.specs.declared.columns.Siblings.the-variants.{Free}
 use Rattle.layout.specs.declared.edition.Edition.{Edition}
 use Rattle.layout.specs.declared.edition.Edition.the-variants.{One}
@@ -22,14 +22,14 @@ use Rattle.forms.proofs.Heads.{count-fields}
 use Rattle.rules.specs.declared.outcome.CastOption.{CastOption}
 use Rattle.plan.specs.Result.{Result, gives, refuses, _>>=_, demand}
 use Rattle.plan.specs.Check.{Column, column, columnAt, castFits, withinLimits, resulting, checkCast}
-use Rattle.walk.specs.State.{Frame}
-use Rattle.walk.specs.Types.{ScopeOf, c-top, c-fields, c-list, c-array}
-use Rattle.walk.specs.Parts.{OptionAt}
+use Rattle.walk.specs.code.State.{Frame}
+use Rattle.walk.specs.code.Types.{ScopeOf, c-top, c-fields, c-list, c-array}
+use Rattle.walk.specs.code.Parts.{OptionAt}
 use Rattle.walk.specs.declared.walk.Walk.{Walk}
-use Rattle.nodes.specs.Typed.{TypeIs}
-use Rattle.checker.specs.Standing.{partsOf, headKind, TypeHeadIs, ResolvedAt, ScopedAt, EnclosingIs}
-use Rattle.checker.specs.Limits.{fitOf, typeFit, sizeOf}
-use Rattle.checker.specs.Checking.{checkedOf, droppedOf, measuredOf, fittingOf}
+use Rattle.nodes.specs.code.Typed.{TypeIs}
+use Rattle.checker.specs.code.TypesAt.{partsOf, headKind, TypeHeadIs, ResolvedAt, ScopedAt, EnclosingIs}
+use Rattle.checker.specs.code.Limits.{fitOf, typeFit, sizeOf}
+use Rattle.checker.specs.code.Checking.{checkedOf, droppedOf, measuredOf, fittingOf}
 use Rattle.checker.specs.declared.limits.Fit.{Fit}
 use Rattle.checker.specs.declared.limits.Size.{Size}
 use Rattle.checker.specs.declared.selector.Measured.{Measured}
@@ -108,7 +108,7 @@ module _ {incoming : Bytes} {v : Edition} {n : ℕ} {plan : Bytes} {w : Walk} {�
       go C (c-array s g i) q = absurd (omega arith)
 
 -- how many parts a head says
-abbrev pub countOf : Kind → ℕ
+abbrev pub countOf : Head → ℕ
 countOf (aLeaf l) = 0
 countOf (aStruct n) = n
 countOf aList = 1
@@ -124,7 +124,8 @@ parts-count (array w t) e = sym e
 module _ {incoming : Bytes} {v : Edition} {n : ℕ} {plan : Bytes} {w : Walk} {Δ : Fields} {r : Resolved} (E : EnclosingIs incoming v n plan w Δ r) {h : TypeHead}
     (H : (t : DataType) → ResolvedAt incoming v n plan r t → TypeHeadIs incoming plan t h) where
   pub scope-parts : {k : TypeHead} → h ≡ k → countOf (headKind incoming plan k) ≡ countFields Δ
-  scope-parts {k} e = parts-count (E .type) (ap countOf (sym (H (E .type) (E .resolved) .kind)) ∙ ap (λ (x : TypeHead). countOf (headKind incoming plan x)) e) ∙ ap countFields (E .parts)
+  scope-parts {k} e = parts-count (E .type) (ap countOf (sym (H (E .type) (E .resolved) .kind)) ∙ ap
+      (λ (x : TypeHead). countOf (headKind incoming plan x)) e) ∙ ap countFields (E .parts)
 
 pub position-there : (Δ : Fields) (k : ℕ) {c : ℕ} → c ≡ countFields Δ → k < c → Measured.Passed Size.Unknown ≡ measuredOf false (columnAt Δ k)
 position-there Δ k e h = let (a, q) = column-there Δ k (omega arith) in ap (measuredOf false) (sym q)
@@ -141,12 +142,14 @@ pub record CastType (plan : Bytes) (m : ℕ) (t : DataType) (o : CastOption) : T
   pub chosen : option .option ≡ o
 
 pub cast-type : {plan : Bytes} {m at : ℕ} (T : TypeAt One 16 plan m) (O : OptionAt plan (T .end)) → at ≡ m → CastType plan at (dtypeOf (T .tree)) (O .option)
-cast-type {plan} T O e = subst (λ (i : ℕ). CastType plan i (dtypeOf (T .tree)) (O .option)) (sym e) (record { type = T; option = O; tree = refl; chosen = refl })
+cast-type {plan} T O e = subst (λ (i : ℕ). CastType plan i (dtypeOf (T .tree)) (O .option)) (sym e)
+    (record { type = T; option = O; tree = refl; chosen = refl })
 
 module _ {plan : Bytes} {m : ℕ} {t : DataType} {o : CastOption} (K : CastType plan m t o) (a : Column) where
   module _ {p : CastOption} {b : Bool} (f : p ≡ K .option .option) (g : b ≡ castFits (a .type) (dtypeOf (K .type .tree)) p) where
     cast-so : castFits (a .type) t o ≡ b
-    cast-so = ap (λ (u : DataType). castFits (a .type) u o) (sym (K .tree)) ∙ ap (λ (q : CastOption). castFits (a .type) (dtypeOf (K .type .tree)) q) (sym (f ∙ K .chosen)) ∙ sym g
+    cast-so = ap (λ (u : DataType). castFits (a .type) u o) (sym (K .tree)) ∙ ap (λ (q : CastOption). castFits (a .type) (dtypeOf (K .type .tree)) q)
+        (sym (f ∙ K .chosen)) ∙ sym g
 
     pub cast-refused : b ≡ false → Measured.Refused 32 ≡ measuredOf true (checkCast t o a)
     cast-refused e = cast-no t o a (cast-so ∙ e)

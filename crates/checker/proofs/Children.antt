@@ -7,12 +7,12 @@ use Rattle.layout.specs.Tree.{struct, Fields, countFields}
 use Rattle.layout.specs.declared.edition.Edition.{Edition}
 use Rattle.plan.specs.Result.{gives}
 use Rattle.plan.specs.Check.{Column, columnAt}
-use Rattle.walk.specs.Children.{PartStands, PassedTo}
-use Rattle.walk.specs.Stands.{SelectorAt}
+use Rattle.walk.specs.code.Children.{PartStands, PassedTo}
+use Rattle.walk.specs.code.Stands.{SelectorAt}
 use Rattle.walk.specs.declared.walk.Walk.{Walk}
 use Rattle.walk.proofs.Children.{ChildAt, part-stands, passed-more}
-use Rattle.walk.proofs.Standing.{walk-small}
-use Rattle.checker.specs.Standing.{NamedAt, MappedAt}
+use Rattle.walk.proofs.Walks.{walk-small}
+use Rattle.checker.specs.code.TypesAt.{NamedAt, MappedAt}
 use Rattle.checker.proofs.Making.{made-parts}
 use Rattle.checker.proofs.Parting.{made-deep, child-named}
 

@@ -8,9 +8,9 @@ use borrow.Author.Tests.{eq-eqb, ne-eqb}
 use Rattle.layout.specs.Bytes.{Bytes}
 use Rattle.layout.specs.Parser.{choose}
 use Rattle.layout.specs.Tree.{Label, ColumnType, Columns, cnil, ccons, Fields, fnil, fcons, dtypeOf, fieldsOf, countFields}
-use Rattle.layout.specs.Stands.{TypeAt, ColumnsAt}
-use Rattle.layout.specs.Answers.{spanAt, spanIn}
-use Rattle.layout.specs.Find.{Lookup, at, findFrom, FoundAt, Finds, columnAt as lookupAt}
+use Rattle.layout.specs.code.Stands.{TypeAt, ColumnsAt}
+use Rattle.layout.specs.code.Answers.{spanAt, spanIn}
+use Rattle.layout.specs.Find.{Lookup, present, findFrom, FoundAt, Finds, columnAt as lookupAt}
 use Rattle.layout.specs.declared.columns.Position.{Position}
 use Rattle.layout.specs.declared.columns.Label.{Label as LabelSpan}
 use Rattle.layout.specs.declared.cursor.Cursor.{Cursor}
@@ -40,7 +40,7 @@ column-past (fcons n t fs) (suc k) h = column-past fs k (omega arith)
 record LookedUp (f : ℕ → Label → Bool) (i : ℕ) (cs : Columns) (k : Position) (c : Column) : Type 0 where
   label : Label
   type : ColumnType
-  is : findFrom f i cs ≡ at k label type
+  is : findFrom f i cs ≡ present k label type
   name : label .name ≡ c .name
   typed : dtypeOf type ≡ c .type
 
@@ -53,7 +53,7 @@ looked-up k (ccons l t cs) i zero {c} e h =
     record {
       label = l;
       type = t;
-      is = rw (eq-eqb i (k .0) q) (ap (λ (n : ℕ). at (record { 0 = n }) l t) q);
+      is = rw (eq-eqb i (k .0) q) (ap (λ (n : ℕ). present (record { 0 = n }) l t) q);
       name = ap (λ (x : Column). x .name) g;
       typed = ap (λ (x : Column). x .type) g;
     }
@@ -71,7 +71,8 @@ pub record FieldFound (v : Edition) (d : ℕ) (s : Bytes) (c : Column) (r : Foun
   pub inside : spanIn s (label .name)
   pub name : spanAt s (label .name) ≡ c .name
 
-pub field-found : {v : Edition} {d : ℕ} {s : Bytes} {n from : ℕ} (C : ColumnsAt v d s n from) (k : Position) {c : Column} {r : Found} → columnAt (fieldsOf (C .columns)) (k .0) ≡ gives c
+pub field-found : {v : Edition} {d : ℕ} {s : Bytes} {n from : ℕ} (C : ColumnsAt v d s n from) (k : Position) {c : Column} {r : Found} → columnAt
+    (fieldsOf (C .columns)) (k .0) ≡ gives c
     → Finds v d s (lookupAt k (C .columns)) r → FieldFound v d s c r
 field-found {v} {d} {s} C k {c} {r} h F =
     let L = looked-up k (C .columns) 0 (k .0) (omega arith) h in

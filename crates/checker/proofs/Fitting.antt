@@ -19,14 +19,14 @@ use Rattle.forms.specs.Readable.{depthOf, depthOfFields}
 use Rattle.plan.specs.Result.{gives}
 use Rattle.plan.specs.Check.{Column, column, columnAt}
 use Rattle.plan.proofs.Results.{never-refused, gives-eq}
-use Rattle.walk.specs.Stands.{SelectorAt}
+use Rattle.walk.specs.code.Stands.{SelectorAt}
 use Rattle.walk.specs.declared.walk.Walk.{Walk}
-use Rattle.nodes.specs.Typed.{TypeIs, SizeOf}
+use Rattle.nodes.specs.code.Typed.{TypeIs, SizeOf}
 use Rattle.nodes.specs.declared.types.FormSize.{FormSize}
-use Rattle.direct.specs.Places.{bytesOf, NameAt}
-use Rattle.checker.specs.Standing.{partsOf, PartOf, NamedAt, Made, made-struct, made-list, made-array, MappedAt, ResolvedAt, headKind, TypeHeadIs}
-use Rattle.walk.specs.Children.{PassedTo}
-use Rattle.checker.specs.Limits.{fitOf, typeFit, fieldsFit, columnFit, aroundOf, joinedOf, addedOf, restFit, Bounded, sizeOf}
+use Rattle.direct.specs.code.Places.{bytesOf, NameAt}
+use Rattle.checker.specs.code.TypesAt.{partsOf, PartOf, NamedAt, Made, made-struct, made-list, made-array, MappedAt, ResolvedAt, headKind, TypeHeadIs}
+use Rattle.walk.specs.code.Children.{PassedTo}
+use Rattle.checker.specs.code.Limits.{fitOf, typeFit, fieldsFit, columnFit, aroundOf, joinedOf, addedOf, restFit, Bounded, sizeOf}
 use Rattle.checker.specs.declared.limits.Fit.{Fit}
 use Rattle.checker.specs.declared.limits.Size.{Size}
 use Rattle.direct.specs.declared.place.Name.{Name}
@@ -244,7 +244,8 @@ bounded-sum r B h s d e = let (m, n) = B s d e in omega arith
 -- ---- raw_fit
 
 -- by the type's other name
-pub sized-as : {v : Edition} {s : Bytes} {at : ℕ} {t : DataType} (T : TypeIs v s at t) {z : FormSize} → SizeOf (dtypeOf (T .type .tree)) (T .type .end) z → SizeOf t (T .type .end) z
+pub sized-as : {v : Edition} {s : Bytes} {at : ℕ} {t : DataType} (T : TypeIs v s at t) {z : FormSize} → SizeOf (dtypeOf (T .type .tree)) (T .type .end)
+    z → SizeOf t (T .type .end) z
 sized-as T {z} Z = subst (λ (u : DataType). SizeOf u (T .type .end) z) (T .is) Z
 
 pub raw-is : {v : Edition} {s : Bytes} {at : ℕ} {t : DataType} (T : TypeIs v s at t) {z : FormSize} → SizeOf (dtypeOf (T .type .tree)) (T .type .end) z →
@@ -254,7 +255,8 @@ raw-is T Z l r e = let S = sized-as T Z in e ∙ fit-as l r (S .deep) (S .size)
 
 -- ---- mapped_fit
 
-pub made-no-leaf : {X : Type 0} {incoming : Bytes} {v : Edition} {n : ℕ} {plan : Bytes} {r : Resolved} {t : DataType} → ResolvedAt incoming v n plan r t → r .source ≡ Source.Mapped
+pub made-no-leaf : {X : Type 0} {incoming : Bytes} {v : Edition} {n : ℕ} {plan : Bytes} {r : Resolved} {t : DataType} → ResolvedAt incoming v n plan r t
+    → r .source ≡ Source.Mapped
     → {h : TypeHead} {p : Place} {l : _} → TypeHeadIs incoming plan t h → h ≡ TypeHead.Leaf p l → X
 unfolding headOf
 made-no-leaf {incoming = incoming} {plan = plan} R e H f = go (from-mapping R e .made) (sym (H .kind) ∙ ap (headKind incoming plan) f)
@@ -382,7 +384,8 @@ pub name-long : {incoming plan : Bytes} {m : Name} {b : Bytes} → NameAt incomi
 name-long {incoming} {plan} {m} {b} N =
     let s = bytesOf incoming plan (m .place) in
     let i = N .inside in
-    sym (length-take-le (m .span .len) (drop (m .span .start) (bytesOf incoming plan (m .place))) (let e = length-drop (m .span .start) (bytesOf incoming plan (m .place)) in omega arith)) ∙ ap length (N .is)
+    sym (length-take-le (m .span .len) (drop (m .span .start) (bytesOf incoming plan (m .place)))
+    (let e = length-drop (m .span .start) (bytesOf incoming plan (m .place)) in omega arith)) ∙ ap length (N .is)
 
 -- what is known of a type
 size-known : (b : Bool) (t : DataType) {z : Size} {x y : ℕ} → z ≡ sizeOf b t → z ≡ Size.Is x y → (x ≡ length (form t)) × (y ≡ depthOf t)

@@ -8,7 +8,8 @@ use Rattle.layout.specs.Tree.{DataType, struct, list, array, Fields, fnil, fcon
 use Rattle.rules.specs.declared.outcome.CastOption.{CastOption}
 use Rattle.plan.specs.Result.{gives}
 use Rattle.plan.specs.Selector.{Selector, cast, rename, structMapping, listMapping, arrayMapping, Selectors, snil, scons, countSelectors}
-use Rattle.plan.specs.Check.{Column, column, columnAt, elementOf, castFits, withinLimits, resulting, checkCast, checkRename, checkStruct, checkList, checkArray, typeOf, typesOf}
+use Rattle.plan.specs.Check.{Column, column, columnAt, elementOf, castFits, withinLimits, resulting, checkCast, checkRename, checkStruct, checkList, checkArray}
+use Rattle.plan.specs.Check.{typeOf, typesOf}
 use Rattle.plan.specs.Reach.{SelectorAt as Nth, s-here, s-there}
 use Rattle.plan.proofs.Results.{never-refused, gives-eq, bind-gives, demand-gives}
 use Rattle.plan.proofs.Typed.{struct-is, list-is, array-is}

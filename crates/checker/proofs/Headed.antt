@@ -6,33 +6,33 @@ use native.Mathlib.Omega.{arith}
 use Rattle.layout.specs.Bytes.{Bytes}
 use Rattle.layout.specs.Parser.{ok}
 use Rattle.layout.specs.Tree.{DataType, array, dtypeOf}
-use Rattle.layout.specs.Layout.{Kind, kind, aLeaf, aStruct, anArray}
-use Rattle.layout.specs.Answers.{headRes, headIn, leafAt, spanIn}
+use Rattle.layout.specs.Layout.{Head, kind, aLeaf, aStruct, anArray}
+use Rattle.layout.specs.code.Answers.{headRes, headIn, leafAt, spanIn}
 use Rattle.layout.specs.declared.bytes.Span.{Span}
 use Rattle.layout.specs.declared.columns.Position.{Position}
 use Rattle.layout.specs.declared.cursor.Cursor.{Cursor}
-use Rattle.layout.specs.declared.types.Head.{Head}
+use Rattle.layout.specs.declared.types.Head.{Head as HeadSpan}
 use Rattle.layout.specs.declared.types.LeafType.{LeafType as LeafSpan}
 use Rattle.layout.specs.declared.edition.Edition.{Edition}
 use Rattle.layout.proofs.Ways.{clash}
 use Rattle.layout.proofs.View.{never-headless}
 use Rattle.forms.specs.Form.{headOf}
-use Rattle.forms.specs.Answers.{endOf}
+use Rattle.forms.specs.code.Answers.{endOf}
 use Rattle.forms.proofs.Heads.{head-at}
 use Rattle.plan.specs.Selector.{Selector}
-use Rattle.walk.specs.State.{State, state}
-use Rattle.walk.specs.Moves.{Input}
-use Rattle.walk.specs.Stands.{SelectorAt}
-use Rattle.walk.specs.Parts.{HeadIs, CountedAt, CountedIs}
-use Rattle.walk.specs.Standing.{WalkAt, rank, StepsTo}
+use Rattle.walk.specs.code.State.{State, state}
+use Rattle.walk.specs.code.Moves.{Input}
+use Rattle.walk.specs.code.Stands.{SelectorAt}
+use Rattle.walk.specs.code.Parts.{HeadIs, CountedAt, CountedIs}
+use Rattle.walk.specs.code.Walks.{WalkAt, rank, StepsTo}
 use Rattle.walk.specs.declared.walk.Walk.{Walk}
 use Rattle.walk.specs.declared.head.SelectorHead.{SelectorHead}
 use Rattle.walk.specs.declared.head.StructFields.{StructFields}
 use Rattle.walk.proofs.Heads.{is-position, is-constant, is-cast, is-rename, is-struct, is-list, is-array}
 use Rattle.walk.proofs.View.{selectors-counted}
-use Rattle.nodes.specs.Typed.{TypeIs}
-use Rattle.direct.specs.Places.{bytesOf}
-use Rattle.checker.specs.Standing.{TypeHeadIs, TypedAt, MappedAt, SourceAt, ResolvedAt, Resolves}
+use Rattle.nodes.specs.code.Typed.{TypeIs}
+use Rattle.direct.specs.code.Places.{bytesOf}
+use Rattle.checker.specs.code.TypesAt.{TypeHeadIs, TypedAt, MappedAt, SourceAt, ResolvedAt, Resolves}
 use Rattle.direct.specs.declared.place.Place.{Place}
 use Rattle.checker.specs.declared.place.TypeHead.{TypeHead}
 use Rattle.checker.specs.declared.resolve.Source.{Source}
@@ -42,9 +42,9 @@ use Rattle.checker.proofs.Outer.{behind}
 
 -- ---- a type that stands in bytes
 
-module _ {s : Bytes} {v : Edition} {at : ℕ} {t : DataType} (R : TypeIs v s at t) {p : Head} (e : headRes s p ≡ kind s at) where
+module _ {s : Bytes} {v : Edition} {at : ℕ} {t : DataType} (R : TypeIs v s at t) {p : HeadSpan} (e : headRes s p ≡ kind s at) where
   -- by what the head was
-  pub raw-kind : {q : Head} → p ≡ q → {k : Kind} {m : ℕ} → headRes s q ≡ ok k m → k ≡ headOf t
+  pub raw-kind : {q : HeadSpan} → p ≡ q → {k : Head} {m : ℕ} → headRes s q ≡ ok k m → k ≡ headOf t
   raw-kind {q} i {k} {m} g =
       let f : headRes s p ≡ ok k m = ap (headRes s) i ∙ g in
       let H = head-at (R .type) {c = record { at = at }} {x = endOf (kind s at) (record { at = at })} refl refl in
@@ -53,43 +53,43 @@ module _ {s : Bytes} {v : Edition} {at : ℕ} {t : DataType} (R : TypeIs v s at 
       y ∙ ap headOf (R .is)
 
   module _ {incoming plan : Bytes} {q : Place} (b : bytesOf incoming plan q ≡ s) where
-    pub raw-leaf : {l : LeafSpan} {c : Cursor} → headIn s p → p ≡ Head.Leaf l c → TypeHeadIs incoming plan t (TypeHead.Leaf q l)
+    pub raw-leaf : {l : LeafSpan} {c : Cursor} → headIn s p → p ≡ HeadSpan.Leaf l c → TypeHeadIs incoming plan t (TypeHead.Leaf q l)
     raw-leaf {l} i f =
         record {
           kind = ap (λ (x : Bytes). aLeaf (leafAt x l)) b ∙ raw-kind f refl;
-          inside = subst (λ (x : Bytes). spanIn x (l .zone)) (sym b) (subst (λ (x : Head). headIn s x) f i);
+          inside = subst (λ (x : Bytes). spanIn x (l .zone)) (sym b) (subst (λ (x : HeadSpan). headIn s x) f i);
         }
 
   module _ {incoming plan : Bytes} where
-    pub raw-struct : {n : ℕ} {c : Cursor} → p ≡ Head.Struct n c → TypeHeadIs incoming plan t (TypeHead.Struct n)
+    pub raw-struct : {n : ℕ} {c : Cursor} → p ≡ HeadSpan.Struct n c → TypeHeadIs incoming plan t (TypeHead.Struct n)
     raw-struct f = record { kind = raw-kind f refl; inside = tt }
 
-    pub raw-list : {c : Cursor} → p ≡ Head.List c → TypeHeadIs incoming plan t TypeHead.List
+    pub raw-list : {c : Cursor} → p ≡ HeadSpan.List c → TypeHeadIs incoming plan t TypeHead.List
     raw-list f = record { kind = raw-kind f refl; inside = tt }
 
-    pub raw-array : {w : ℕ} {c : Cursor} → p ≡ Head.Array w c → TypeHeadIs incoming plan t (TypeHead.Array w)
+    pub raw-array : {w : ℕ} {c : Cursor} → p ≡ HeadSpan.Array w c → TypeHeadIs incoming plan t (TypeHead.Array w)
     raw-array f = record { kind = raw-kind f refl; inside = tt }
 
-  pub raw-never : {X : Type 0} {n : ℕ} → p ≡ Head.Refused n → X
+  pub raw-never : {X : Type 0} {n : ℕ} → p ≡ HeadSpan.Refused n → X
   raw-never f = never-headless (R .type) e f
 
-module _ {s : Bytes} {v : Edition} {at w : ℕ} {t : DataType} (R : TypeIs v s at (array w t)) {p : Head} (e : headRes s p ≡ kind s at) where
-  pub width-is : {x : ℕ} {c : Cursor} → p ≡ Head.Array x c → x ≡ w
+module _ {s : Bytes} {v : Edition} {at w : ℕ} {t : DataType} (R : TypeIs v s at (array w t)) {p : HeadSpan} (e : headRes s p ≡ kind s at) where
+  pub width-is : {x : ℕ} {c : Cursor} → p ≡ HeadSpan.Array x c → x ≡ w
   unfolding headOf
   width-is {x} f = let z : anArray x ≡ anArray w = raw-kind R e f refl in cc
 
   -- no other head
-  width-never : {X : Type 0} {q : Head} → p ≡ q → {k : Kind} {m : ℕ} → headRes s q ≡ ok k m → (anArray w ≡ k → X) → X
+  width-never : {X : Type 0} {q : HeadSpan} → p ≡ q → {k : Head} {m : ℕ} → headRes s q ≡ ok k m → (anArray w ≡ k → X) → X
   unfolding headOf
   width-never f i g = g (sym (raw-kind R e f i))
 
-  pub width-leaf : {X : Type 0} {l : LeafSpan} {c : Cursor} → p ≡ Head.Leaf l c → X
+  pub width-leaf : {X : Type 0} {l : LeafSpan} {c : Cursor} → p ≡ HeadSpan.Leaf l c → X
   width-leaf f = width-never f refl (λ z. clash (cc))
 
-  pub width-struct : {X : Type 0} {n : ℕ} {c : Cursor} → p ≡ Head.Struct n c → X
+  pub width-struct : {X : Type 0} {n : ℕ} {c : Cursor} → p ≡ HeadSpan.Struct n c → X
   width-struct f = width-never f refl (λ z. clash (cc))
 
-  pub width-list : {X : Type 0} {c : Cursor} → p ≡ Head.List c → X
+  pub width-list : {X : Type 0} {c : Cursor} → p ≡ HeadSpan.List c → X
   width-list f = width-never f refl (λ z. clash (cc))
 
 -- ---- by the source
@@ -122,7 +122,8 @@ module _ {incoming : Bytes} {v : Edition} {n : ℕ} {plan : Bytes} where
   pub widening-start : {w : Walk} {x : ℕ} {t : DataType} → MappedAt incoming v n plan w (array x t) → Widening incoming v n plan w w
   widening-start {w} {x} {t} M = record { width = x; element = t; start = M; keeps = λ y u N. (u, N) }
 
-  module _ {x y : Walk} (g : (p : Bytes) (z : State) (s : Selector) → WalkAt p x z → Input (z .selector) s → StepsTo p (state s (z .frames) (z .path)) x y) where
+  module _ {x y : Walk} (g : (p : Bytes) (z : State) (s : Selector) → WalkAt p x z → Input (z .selector) s → StepsTo p (state s (z .frames) (z .path)) x
+      y) where
     -- the input of a mapping that makes an array
     input-array : {k : ℕ} {t : DataType} → MappedAt incoming v n plan x (array k t) → (u : DataType) × TypedAt incoming v n plan y (array k u)
     input-array {k} M =
@@ -153,7 +154,8 @@ module _ {incoming : Bytes} {v : Edition} {n : ℕ} {plan : Bytes} where
             let (z, T) = input-array N in
             (z, h (array k z) T .resolved)
 
-        pub widening-incoming : r .source ≡ Source.Incoming → {a : ℕ} → ((v : Edition) (w : ℕ) (t : DataType) → TypeIs v incoming (r .at .at) (array w t) → a ≡ w)
+        pub widening-incoming : r .source ≡ Source.Incoming → {a : ℕ} → ((v : Edition) (w : ℕ) (t : DataType) → TypeIs v incoming (r .at .at)
+            (array w t) → a ≡ w)
             → (k : ℕ) (t : DataType) → MappedAt incoming v n plan w (array k t) → a ≡ k
         widening-incoming e f k t M = let (z, R) = at-input M in f v k z (from-incoming R e)
 
@@ -185,7 +187,8 @@ module _ {incoming : Bytes} {v : Edition} {n : ℕ} {plan : Bytes} {w : Walk} {t
   place-is : {s : Selector} → M .standing .here .tree ≡ s → M .place .selector ≡ s
   place-is e = sym (M .standing .selector) ∙ e
 
-  pub made-struct-is : {c : Cursor} {f : StructFields} → r ≡ SelectorHead.Struct c → (g : (P : SelectorAt plan (c .at)) (Q : CountedAt plan (P .end)) → CountedIs plan (P .end) Q f)
+  pub made-struct-is : {c : Cursor} {f : StructFields} → r ≡ SelectorHead.Struct c →
+      (g : (P : SelectorAt plan (c .at)) (Q : CountedAt plan (P .end)) → CountedIs plan (P .end) Q f)
       → TypeHeadIs incoming plan t (TypeHead.Struct (f .count))
   made-struct-is {f = f} e g =
       let S = is-struct h e in
@@ -200,7 +203,8 @@ module _ {incoming : Bytes} {v : Edition} {n : ℕ} {plan : Bytes} {w : Walk} {t
       let A = made-array-head (M .made) (place-is (is-array h e .is)) in
       (A .width, A .element, subst (λ (u : DataType). MappedAt incoming v n plan w u) (A .is) M)
 
-  pub made-array-is : {c : Cursor} {a : ℕ} → r ≡ SelectorHead.Array c → ((x : ℕ) (u : DataType) → MappedAt incoming v n plan w (array x u) → a ≡ x) → TypeHeadIs incoming plan t (TypeHead.Array a)
+  pub made-array-is : {c : Cursor} {a : ℕ} → r ≡ SelectorHead.Array c → ((x : ℕ) (u : DataType) → MappedAt incoming v n plan w (array x u) → a ≡ x) →
+      TypeHeadIs incoming plan t (TypeHead.Array a)
   unfolding headOf
   made-array-is e f =
       let A = made-array-head (M .made) (place-is (is-array h e .is)) in

@@ -12,11 +12,11 @@ use Rattle.plan.specs.Selector.{Selector, position, constant, cast, rename, str
 use Rattle.plan.specs.Check.{Column, column, columnAt, elementOf, typeOf}
 use Rattle.plan.specs.Reach.{SelectorAt as Nth, s-here, s-there}
 use Rattle.plan.proofs.Results.{gives-eq}
-use Rattle.walk.specs.State.{Frame, fields, element, State, state}
-use Rattle.walk.specs.Moves.{Input, i-array, Part, p-field, p-list, p-array}
-use Rattle.walk.specs.Types.{ScopeOf, c-fields, c-list, c-array, Along, a-here, Gives}
-use Rattle.checker.specs.Shallow.{Shallow}
-use Rattle.checker.specs.Standing.{partsOf, Made, made-struct, made-list, made-array}
+use Rattle.walk.specs.code.State.{Frame, fields, element, State, state}
+use Rattle.walk.specs.code.Moves.{Input, i-array, Part, p-field, p-list, p-array}
+use Rattle.walk.specs.code.Types.{ScopeOf, c-fields, c-list, c-array, Along, a-here, Gives}
+use Rattle.checker.specs.code.Shallow.{Shallow}
+use Rattle.checker.specs.code.TypesAt.{partsOf, Made, made-struct, made-list, made-array}
 use Rattle.checker.proofs.Given.{part-gives, types-count, column-below}
 use Rattle.checker.proofs.Steps.{element-is}
 use Rattle.checker.proofs.Room.{array-shallow, field-shallow, element-shallow, array-element-shallow}
@@ -29,7 +29,8 @@ made-ends (made-array a b c d) = refl
 
 -- ---- the head
 
-pub made-struct-head : {Γ : Fields} {x : State} {t : DataType} {s : Selector} {ss : Selectors} → Made Γ x t → x .selector ≡ structMapping s ss → aStruct (countSelectors ss) ≡ headOf t
+pub made-struct-head : {Γ : Fields} {x : State} {t : DataType} {s : Selector} {ss : Selectors} → Made Γ x t → x .selector ≡ structMapping s ss → aStruct
+    (countSelectors ss) ≡ headOf t
 unfolding headOf
 made-struct-head {ss = ss} (made-struct {ss = rs} {fs = fs} {gs = gs} a b c d) e =
     let q : rs ≡ ss = cc in

@@ -7,12 +7,12 @@ use lib.ListN.{getD}
 use lib.Seq.{slice-empty}
 use Rattle.layout.specs.Bytes.{Bytes}
 use Rattle.layout.proofs.Ways.{clash}
-use Rattle.walk.specs.State.{Frame, State, state}
-use Rattle.walk.specs.Stands.{SelectorAt}
-use Rattle.walk.specs.Standing.{Entered, e-fields, e-list, e-array, Entries, e-none, e-more, WalkAt, rank, StepsTo}
+use Rattle.walk.specs.code.State.{Frame, State, state}
+use Rattle.walk.specs.code.Stands.{SelectorAt}
+use Rattle.walk.specs.code.Walks.{Entered, e-fields, e-list, e-array, Entries, e-none, e-more, WalkAt, rank, StepsTo}
 use Rattle.walk.specs.declared.walk.Walk.{Walk}
 use Rattle.walk.proofs.Forward.{selector-behind}
-use Rattle.checker.specs.Shallow.{inputOf}
+use Rattle.checker.specs.code.Shallow.{inputOf}
 
 pub behind : {s : Bytes} {at : ℕ} (P : SelectorAt s at) → at < P .end
 behind {s} {at} P = let h = selector-behind s 64 at (P .tree) (P .end) (P .reads) in omega arith
@@ -41,7 +41,8 @@ record Innermost (plan : Bytes) (maps path : List ℕ) (d p : ℕ) (f : Frame) (
   input : InputAt plan (getD maps (d - 1) 0) p f
   rest : Entries plan maps path (d - 1) (getD maps (d - 1) 0) E
 
-innermost : {plan : Bytes} {maps path : List ℕ} {d p : ℕ} {F E : List Frame} {f : Frame} → Entries plan maps path d p F → F ≡ f ∷ E → Innermost plan maps path d p f E
+innermost : {plan : Bytes} {maps path : List ℕ} {d p : ℕ} {F E : List Frame} {f : Frame} → Entries plan maps path d p F → F ≡ f ∷ E → Innermost plan
+    maps path d p f E
 innermost e-none e = clash (cc)
 innermost {plan} {maps} {path} {p = p} {E = E} {f = f} (e-more {d = d} {f = g} {E = G} x r) e =
     let a : g ≡ f = cc in
@@ -69,7 +70,15 @@ module _ {plan : Bytes} {w : Walk} {x : State} {f : Frame} {E : List Frame} (e :
       let c = behind (W .here) in
       omega (arith, W .ends, W .bound, W .small)
 
-  pub outer-at : StepsTo plan (state (inputOf f) E []) w (record { at = getD (w .maps) (w .deep - 1) 0 + 1; lim = w .at; deep = w .deep - 1; len = w .deep - 1; maps = w .maps; path = w .path })
+  pub outer-at : StepsTo plan (state (inputOf f) E []) w (record {
+    at = getD (w .maps) (w .deep - 1) 0 + 1;
+    lim = w .at;
+    deep = w .deep - 1;
+    len =
+        w .deep - 1;
+    maps = w .maps;
+    path = w .path;
+  })
   unfolding rank inside
   outer-at =
       let a = behind (inside .input .here) in

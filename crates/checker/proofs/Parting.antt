@@ -12,14 +12,15 @@ use Rattle.plan.specs.Result.{gives}
 use Rattle.plan.specs.Selector.{Selector, nesting}
 use Rattle.plan.specs.Check.{Column, columnAt}
 use Rattle.plan.proofs.Results.{never-refused}
-use Rattle.walk.specs.State.{Frame, fields, element, State, state}
-use Rattle.walk.specs.Moves.{Part}
-use Rattle.walk.specs.Types.{ScopeOf, c-top, c-fields, c-list, c-array, Along, a-here, a-field, a-list, a-array, Gives}
-use Rattle.walk.specs.Standing.{WalkAt, rank, StepsTo}
+use Rattle.walk.specs.code.State.{Frame, fields, element, State, state}
+use Rattle.walk.specs.code.Moves.{Part}
+use Rattle.walk.specs.code.Types.{ScopeOf, c-top, c-fields, c-list, c-array, Along, a-here, a-field, a-list, a-array, Gives}
+use Rattle.walk.specs.code.Walks.{WalkAt, rank, StepsTo}
 use Rattle.walk.specs.declared.walk.Walk.{Walk}
-use Rattle.nodes.specs.Typed.{TypeIs, LeadsAt}
-use Rattle.checker.specs.Shallow.{Shallow, inputOf}
-use Rattle.checker.specs.Standing.{partsOf, PartOf, TypedAt, NamedAt, Made, made-struct, made-list, made-array, MappedAt, ResolvedAt, Resolves, ScopedAt, EnclosingIs}
+use Rattle.nodes.specs.code.Typed.{TypeIs, LeadsAt}
+use Rattle.checker.specs.code.Shallow.{Shallow, inputOf}
+use Rattle.checker.specs.code.TypesAt.{partsOf, PartOf, TypedAt, NamedAt, Made, made-struct, made-list, made-array, MappedAt, ResolvedAt, Resolves}
+use Rattle.checker.specs.code.TypesAt.{ScopedAt, EnclosingIs}
 use Rattle.checker.specs.declared.resolve.Source.{Source}
 use Rattle.checker.specs.declared.resolve.Resolved.{Resolved}
 use Rattle.checker.proofs.Steps.{element-is}
@@ -32,14 +33,18 @@ pub part-along : (t : DataType) {k : ℕ} {a : Column} → PartOf t k a → Alon
 unfolding partsOf columnAt
 part-along (leaf l) P = never-refused (P .found) refl
 part-along (struct fs) P = a-field (P .found) a-here
-part-along (list t) {k} P = let e = ap (λ (c : Column). c .type) (element-is {k = k} (P .found) .1) in a-list (subst (λ (u : DataType). Along t [] u) (sym e) a-here)
-part-along (array w t) {k} P = let e = ap (λ (c : Column). c .type) (element-is {k = k} (P .found) .1) in a-array (subst (λ (u : DataType). Along t [] u) (sym e) a-here)
+part-along (list t) {k} P = let e = ap (λ (c : Column). c .type) (element-is {k = k} (P .found) .1) in a-list
+    (subst (λ (u : DataType). Along t [] u) (sym e) a-here)
+part-along (array w t) {k} P = let e = ap (λ (c : Column). c .type) (element-is {k = k} (P .found) .1) in a-array
+    (subst (λ (u : DataType). Along t [] u) (sym e) a-here)
 
-pub part-leads : {v : Edition} {s : Bytes} {at : ℕ} {t : DataType} {k : ℕ} {a : Column} {p : List ℕ} → TypeIs v s at t → PartOf t k a → p ≡ k ∷ [] → LeadsAt v s at p (a .type)
+pub part-leads : {v : Edition} {s : Bytes} {at : ℕ} {t : DataType} {k : ℕ} {a : Column} {p : List ℕ} → TypeIs v s at t → PartOf t k a → p ≡ k ∷ [] →
+    LeadsAt v s at p (a .type)
 part-leads {t = t} {k = k} {a = a} {p = p} T P e =
     record {
       type = T .type;
-      along = subst (λ (q : List ℕ). Along (dtypeOf (T .type .tree)) q (a .type)) (sym e) (subst (λ (u : DataType). Along u (k ∷ []) (a .type)) (sym (T .is)) (part-along t P));
+      along = subst (λ (q : List ℕ). Along (dtypeOf (T .type .tree)) q (a .type)) (sym e)
+          (subst (λ (u : DataType). Along u (k ∷ []) (a .type)) (sym (T .is)) (part-along t P));
     }
 
 -- ---- a mapping's part
@@ -57,7 +62,8 @@ module _ {incoming : Bytes} {v : Edition} {n : ℕ} {plan : Bytes} {w : Walk} wh
   pub child-asks : {t : DataType} → MappedAt incoming v n plan w t → ((x : State) × WalkAt plan w x) × (w .deep < 64)
   child-asks M = ((M .place, M .standing), made-deep M)
 
-  module _ {k : ℕ} {y : Walk} (g : (x : State) (f : Frame) (s : Selector) → WalkAt plan w x → x .path ≡ [] → Part (x .selector) k f s → StepsTo plan (state s (f ∷ x .frames) []) w y) where
+  module _ {k : ℕ} {y : Walk} (g : (x : State) (f : Frame) (s : Selector) → WalkAt plan w x → x .path ≡ [] → Part (x .selector) k f s → StepsTo plan
+      (state s (f ∷ x .frames) []) w y) where
     pub child-typed : {t : DataType} {a : Column} → MappedAt incoming v n plan w t → PartOf t k a → TypedAt incoming v n plan y (a .type)
     child-typed {a = a} M P =
         let Q = part-made k (M .made) (P .found) in
@@ -66,7 +72,14 @@ module _ {incoming : Bytes} {v : Edition} {n : ℕ} {plan : Bytes} {w : Walk} wh
           place = state (Q .part) (Q .frame ∷ M .place .frames) [];
           standing = g (M .place) (Q .frame) (Q .part) (M .standing) (made-ends (M .made)) (Q .takes) .standing;
           shallow = Q .shallow (M .shallow);
-          typed = record { scope = Q .scope; column = Q .column; scoped = Q .scoped; passes = Q .passes; along = subst (λ (u : DataType). Along u [] (a .type)) (sym (Q .typed)) a-here };
+          typed = record {
+            scope = Q .scope;
+            column = Q .column;
+            scoped = Q .scoped;
+            passes = Q .passes;
+            along = subst
+                (λ (u : DataType). Along u [] (a .type)) (sym (Q .typed)) a-here;
+          };
         }
 
     pub child-named : {gs : Fields} {a : Column} → MappedAt incoming v n plan w (struct gs) → columnAt gs k ≡ gives a → NamedAt incoming v n plan y a
@@ -149,17 +162,26 @@ module _ {incoming : Bytes} {v : Edition} {n : ℕ} {plan : Bytes} {w : Walk} {�
   pub outer-asks : (p : Bytes) × (x : State) × (f : Frame) × (E : List Frame) × (x .frames ≡ f ∷ E) × WalkAt p w x
   outer-asks = (plan, S .place, made .frame, made .outer, made .is, S .standing)
 
-  module _ {y : Walk} (g : (p : Bytes) (x : State) (f : Frame) (E : List Frame) → x .frames ≡ f ∷ E → WalkAt p w x → StepsTo p (state (inputOf f) E []) w y) where
+  module _ {y : Walk} (g : (p : Bytes) (x : State) (f : Frame) (E : List Frame) → x .frames ≡ f ∷ E → WalkAt p w x → StepsTo p (state (inputOf f) E [])
+      w y) where
     stepped : StepsTo plan (state (inputOf (made .frame)) (made .outer) []) w y
     stepped = g plan (S .place) (made .frame) (made .outer) (made .is) (S .standing)
 
     typed : TypedAt incoming v n plan y (made .type)
-    typed = record { columns = S .columns; place = _; standing = stepped .standing; shallow = input-shallow (made .frame) (made .is) (S .shallow); typed = made .given }
+    typed = record {
+      columns = S .columns;
+      place = _;
+      standing = stepped .standing;
+      shallow = input-shallow (made .frame) (made .is) (S .shallow);
+      typed
+          = made .given;
+    }
 
     pub enclosing-asks : (t : DataType) × TypedAt incoming v n plan y t
     enclosing-asks = (made .type, typed)
 
-    pub enclosing-is : {r : Resolved} → ((t : DataType) → TypedAt incoming v n plan y t → Resolves incoming v n plan y t r) → EnclosingIs incoming v n plan w Δ r
+    pub enclosing-is : {r : Resolved} → ((t : DataType) → TypedAt incoming v n plan y t → Resolves incoming v n plan y t r) → EnclosingIs incoming v n
+        plan w Δ r
     enclosing-is f =
         let R = f (made .type) typed in
         let a = stepped .falls in

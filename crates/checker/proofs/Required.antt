@@ -6,7 +6,7 @@ use native.Mathlib.Omega.{arith}
 use lib.ListN.{length}
 use Rattle.layout.specs.Bytes.{Bytes}
 use Rattle.layout.specs.Tree.{fieldsOf}
-use Rattle.layout.specs.Stands.{ColumnsAt}
+use Rattle.layout.specs.code.Stands.{ColumnsAt}
 use Rattle.layout.specs.declared.edition.Edition.{Edition}
 use Rattle.layout.specs.declared.edition.Edition.the-variants.{One, Two, Three}
 use Rattle.layout.proofs.Ways.{clash}
@@ -18,8 +18,8 @@ use Rattle.plan.specs.Nullness.{nullnessesOf}
 use Rattle.plan.specs.Marks.{givens, meetsAll, checkMarked}
 use Rattle.plan.proofs.Unmarked.{meet-unmarked}
 use Rattle.walk.proofs.View.{selectors-longer}
-use Rattle.overflow.specs.Overflows.{PlanAt}
-use Rattle.checker.specs.Tops.{planChecked, TopsAt}
+use Rattle.overflow.specs.code.Overflows.{PlanAt}
+use Rattle.checker.specs.code.Tops.{planChecked, TopsAt}
 use Rattle.checker.specs.declared.tops.PlanChecked.{PlanChecked}
 use Rattle.checker.proofs.Topping.{passed-accepted}
 
@@ -44,7 +44,8 @@ module _ {incoming : Bytes} {v : Edition} {n : ℕ} {plan : Bytes} {count : ℕ}
   types-refused {j} {k} q = go (check (fieldsOf (L .columns)) (fieldsOf (Q .columns)) ss) (sym e ∙ q)
     where
       go : (x : Answer (Unit {0})) → planChecked x ≡ PlanChecked.Refused j k
-          → PlanChecked.Refused j k ≡ planChecked (answered x (λ u. placed 0 (demand (meetsAll (nullnessesOf (givens (L .columns)) ss) (Q .columns)) 55 (gives u)) accepted))
+          → PlanChecked.Refused j k ≡ planChecked (answered x (λ u. placed 0 (demand (meetsAll (nullnessesOf (givens (L .columns)) ss) (Q .columns)) 55
+          (gives u)) accepted))
       go (accepted u) f = clash (cc)
       go (refusedAt a b) f = sym f
 

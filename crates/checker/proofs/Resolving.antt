@@ -15,17 +15,17 @@ use Rattle.layout.specs.declared.edition.Edition.{Edition}
 use Rattle.layout.specs.declared.edition.Edition.the-variants.{One}
 use Rattle.plan.specs.Selector.{Selector, nesting}
 use Rattle.plan.specs.Check.{Column}
-use Rattle.nodes.specs.Typed.{LeadsAt}
-use Rattle.checker.specs.Shallow.{Shallow}
-use Rattle.walk.specs.State.{State, state}
-use Rattle.walk.specs.Moves.{Input, i-rename}
-use Rattle.walk.specs.Types.{Along, a-here}
-use Rattle.walk.specs.Standing.{WalkAt, rank, Located, StepsTo}
-use Rattle.walk.specs.Parts.{HeadIs}
+use Rattle.nodes.specs.code.Typed.{LeadsAt}
+use Rattle.checker.specs.code.Shallow.{Shallow}
+use Rattle.walk.specs.code.State.{State, state}
+use Rattle.walk.specs.code.Moves.{Input, i-rename}
+use Rattle.walk.specs.code.Types.{Along, a-here}
+use Rattle.walk.specs.code.Walks.{WalkAt, rank, Located, StepsTo}
+use Rattle.walk.specs.code.Parts.{HeadIs}
 use Rattle.walk.specs.declared.walk.Walk.{Walk}
 use Rattle.walk.specs.declared.head.SelectorHead.{SelectorHead}
 use Rattle.walk.proofs.Heads.{is-position, is-constant, is-cast, is-rename, is-struct, is-list, is-array}
-use Rattle.checker.specs.Standing.{ColumnAlong, TypedAt, NamedAt, SourceAt, Resolves, StoppedAt, RenameStop, stopAnswer, StopIs}
+use Rattle.checker.specs.code.TypesAt.{ColumnAlong, TypedAt, NamedAt, SourceAt, Resolves, StoppedAt, RenameStop, stopAnswer, StopIs}
 use Rattle.checker.specs.declared.resolve.Stop.{Stop}
 use Rattle.checker.specs.declared.resolve.Source.{Source}
 use Rattle.checker.specs.declared.resolve.Resolved.{Resolved}
@@ -40,7 +40,8 @@ pub selected : {x : State} {s : Selector} → x .selector ≡ s → Shallow x �
 selected {x} e H = record { here = subst (λ (y : Selector). nesting y + length (x .frames) ≤ 64) e (H .here); frames = H .frames }
 
 -- at a selector, with no path left
-pub named-typed : {incoming : Bytes} {v : Edition} {n : ℕ} {plan : Bytes} {w : Walk} {a : Column} → NamedAt incoming v n plan w a → TypedAt incoming v n plan w (a .type)
+pub named-typed : {incoming : Bytes} {v : Edition} {n : ℕ} {plan : Bytes} {w : Walk} {a : Column} → NamedAt incoming v n plan w a → TypedAt incoming v n
+    plan w (a .type)
 named-typed {a = a} N = record {
   columns = N .columns;
   place = state (N .selector) (N .frames) [];
@@ -79,7 +80,8 @@ module _ {incoming : Bytes} {v : Edition} {n : ℕ} {plan : Bytes} where
         let C = is-constant h e in
         record { type = C .type; along = along-path (constant-stop (place-is (C .is)) (S .typed .typed)) }
 
-    pub stop-cast : {c d : Cursor} (e : r ≡ SelectorHead.Cast c) → d .at ≡ is-cast h e .input .end → LeadsAt One plan (d .at) (slice (w .deep) (w .len) (w .path)) t
+    pub stop-cast : {c d : Cursor} (e : r ≡ SelectorHead.Cast c) → d .at ≡ is-cast h e .input .end → LeadsAt One plan (d .at)
+        (slice (w .deep) (w .len) (w .path)) t
     stop-cast e f =
         let C = is-cast h e in
         subst (λ (i : ℕ). LeadsAt One plan i (slice (w .deep) (w .len) (w .path)) t) (sym f)
@@ -103,23 +105,57 @@ module _ {incoming : Bytes} {v : Edition} {n : ℕ} {plan : Bytes} where
     pub stop-struct : {c : Cursor} → r ≡ SelectorHead.Struct c → StopIs incoming v n plan w t Stop.Mapping
     stop-struct e =
         let T = S .typed in
-        record { answer = record { columns = T .columns; place = T .place; standing = T .standing; shallow = T .shallow; made = struct-stop (S .stopped) (place-is (is-struct h e .is)) (T .typed) } }
+        record {
+          answer = record {
+            columns = T .columns;
+            place = T .place;
+            standing = T .standing;
+            shallow = T .shallow;
+            made = struct-stop (S .stopped)
+                (place-is (is-struct h e .is)) (T .typed);
+          };
+        }
 
     pub stop-list : {c : Cursor} → r ≡ SelectorHead.List c → StopIs incoming v n plan w t Stop.Mapping
     stop-list e =
         let T = S .typed in
-        record { answer = record { columns = T .columns; place = T .place; standing = T .standing; shallow = T .shallow; made = list-stop (S .stopped) (place-is (is-list h e .is)) (T .typed) } }
+        record {
+          answer = record {
+            columns = T .columns;
+            place = T .place;
+            standing = T .standing;
+            shallow = T .shallow;
+            made = list-stop (S .stopped)
+                (place-is (is-list h e .is)) (T .typed);
+          };
+        }
 
     pub stop-array : {c : Cursor} → r ≡ SelectorHead.Array c → StopIs incoming v n plan w t Stop.Mapping
     stop-array e =
         let T = S .typed in
-        record { answer = record { columns = T .columns; place = T .place; standing = T .standing; shallow = T .shallow; made = array-stop (S .stopped) (place-is (is-array h e .is)) (T .typed) } }
+        record {
+          answer = record {
+            columns = T .columns;
+            place = T .place;
+            standing = T .standing;
+            shallow = T .shallow;
+            made = array-stop (S .stopped)
+                (place-is (is-array h e .is)) (T .typed);
+          };
+        }
 
   -- ---- resolve
 
   pub located-typed : {x y : Walk} {t : DataType} (T : TypedAt incoming v n plan x t) → Located plan (T .place) x y → StoppedAt incoming v n plan y t
   located-typed T L = record {
-    typed = record { columns = T .columns; place = L .state; standing = L .standing; shallow = shallow-moved (L .moves) (T .shallow); typed = gives-moved (L .moves) (T .typed) };
+    typed = record {
+      columns = T .columns;
+      place = L .state;
+      standing = L .standing;
+      shallow = shallow-moved (L .moves) (T .shallow);
+      typed =
+          gives-moved (L .moves) (T .typed);
+    };
     stopped = L .stopped;
   }
 
@@ -147,22 +183,33 @@ module _ {incoming : Bytes} {v : Edition} {n : ℕ} {plan : Bytes} where
       resolves e f t T =
           subst (λ (q : Resolved). Resolves incoming v n plan w t q) (sym e) (record { resolved = record { stands = f t (stops T) }; falls = lower })
 
-      pub resolves-incoming : {c : Cursor} {q : Resolved} → r ≡ Stop.Incoming c → q ≡ record { source = Source.Incoming; at = c; walk = y } → (t : DataType) → TypedAt incoming v n plan w t → Resolves incoming v n plan w t q
+      pub resolves-incoming : {c : Cursor} {q : Resolved} → r ≡ Stop.Incoming c → q ≡ record { source = Source.Incoming; at = c; walk = y } →
+          (t : DataType) → TypedAt incoming v n plan w t → Resolves incoming v n plan w t q
       resolves-incoming e f = resolves f (λ t S. opened e S)
 
-      pub resolves-plan : {c : Cursor} {q : Resolved} → r ≡ Stop.Plan c → q ≡ record { source = Source.Plan; at = c; walk = y } → (t : DataType) → TypedAt incoming v n plan w t → Resolves incoming v n plan w t q
+      pub resolves-plan : {c : Cursor} {q : Resolved} → r ≡ Stop.Plan c → q ≡ record { source = Source.Plan; at = c; walk = y } → (t : DataType) →
+          TypedAt incoming v n plan w t → Resolves incoming v n plan w t q
       resolves-plan e f = resolves f (λ t S. opened e S)
 
-      pub resolves-mapped : {c : Cursor} {q : Resolved} → r ≡ Stop.Mapping → q ≡ record { source = Source.Mapped; at = c; walk = y } → (t : DataType) → TypedAt incoming v n plan w t → Resolves incoming v n plan w t q
+      pub resolves-mapped : {c : Cursor} {q : Resolved} → r ≡ Stop.Mapping → q ≡ record { source = Source.Mapped; at = c; walk = y } → (t : DataType) →
+          TypedAt incoming v n plan w t → Resolves incoming v n plan w t q
       resolves-mapped e f = resolves f (λ t S. opened e S)
 
       module _ (e : r ≡ Stop.Rename) where
         pub before-end : y .at < y .lim
         before-end = let W = opened e onward-stops .standing in let b = behind (W .here) in omega (arith, W .ends)
 
-        module _ {z : Walk} (g : (p : Bytes) (x : State) (s : Selector) → WalkAt p y x → Input (x .selector) s → StepsTo p (state s (x .frames) (x .path)) y z) where
+        module _ {z : Walk} (g : (p : Bytes) (x : State) (s : Selector) → WalkAt p y x → Input (x .selector) s → StepsTo p
+            (state s (x .frames) (x .path)) y z) where
           goes : {t : DataType} → RenameStop incoming v n plan y t → TypedAt incoming v n plan z t
-          goes R = record { columns = R .columns; place = _; standing = g plan (R .place) (R .input) (R .standing) (R .renamed) .standing; shallow = R .shallow; typed = R .typed }
+          goes R = record {
+            columns = R .columns;
+            place = _;
+            standing = g plan (R .place) (R .input) (R .standing) (R .renamed) .standing;
+            shallow =
+                R .shallow;
+            typed = R .typed;
+          }
 
           pub onward-less : rank z < rank x
           onward-less =
@@ -176,8 +223,10 @@ module _ {incoming : Bytes} {v : Edition} {n : ℕ} {plan : Bytes} where
               let a = onward-less in
               record { some = O .some; start = goes (opened e onward-stops); keeps = λ t T. goes (opened e (stops T)); falls = omega (arith, O .falls) }
 
-pub column-type : {s : Bytes} {v : Edition} {n : ℕ} {k : Position} {p : List ℕ} {t : DataType} (A : ColumnAlong s v n k p t) {l : LabelSpan} {e : ℕ} → FieldHere v 16 s (A .column) l e → LeadsAt v s e p t
+pub column-type : {s : Bytes} {v : Edition} {n : ℕ} {k : Position} {p : List ℕ} {t : DataType} (A : ColumnAlong s v n k p t) {l : LabelSpan} {e : ℕ} →
+    FieldHere v 16 s (A .column) l e → LeadsAt v s e p t
 column-type {p = p} {t = t} A F = record { type = F .type; along = subst (λ (u : DataType). Along u p t) (sym (F .typed)) (A .along) }
 
-pub stop-bounds : {incoming : Bytes} {v : Edition} {n : ℕ} {plan : Bytes} {w : Walk} {t : DataType} → StoppedAt incoming v n plan w t → (w .deep ≤ w .len) × (w .len ≤ length (w .path))
+pub stop-bounds : {incoming : Bytes} {v : Edition} {n : ℕ} {plan : Bytes} {w : Walk} {t : DataType} → StoppedAt incoming v n plan w t →
+    (w .deep ≤ w .len) × (w .len ≤ length (w .path))
 stop-bounds S = let W = S .typed .standing in (W .deep, let r = W .room .1 in omega (arith, W .short))

@@ -9,10 +9,10 @@ use Rattle.layout.specs.Tree.{DataType}
 use Rattle.rules.specs.declared.outcome.CastOption.{CastOption}
 use Rattle.plan.specs.Selector.{Selector, cast, rename, structMapping, listMapping, arrayMapping, Selectors, nesting, nestingAll}
 use Rattle.plan.specs.Reach.{SelectorAt as Nth, s-here, s-there}
-use Rattle.walk.specs.State.{Frame, fields, element, State, state}
-use Rattle.walk.specs.Moves.{Moves, m-here, m-rename, m-field, m-list, m-array, m-leave, m-leave-element}
-use Rattle.walk.specs.Standing.{Entries, e-none, e-more}
-use Rattle.checker.specs.Shallow.{Shallow}
+use Rattle.walk.specs.code.State.{Frame, fields, element, State, state}
+use Rattle.walk.specs.code.Moves.{Moves, m-here, m-rename, m-field, m-list, m-array, m-leave, m-leave-element}
+use Rattle.walk.specs.code.Walks.{Entries, e-none, e-more}
+use Rattle.checker.specs.code.Shallow.{Shallow}
 
 pub nth-nests : {ss : Selectors} {k : ℕ} {s : Selector} → Nth ss k s → nesting s ≤ nestingAll ss
 unfolding nestingAll

@@ -6,45 +6,49 @@ use mathlib.Core.List.{[], _∷_}
 use native.Mathlib.Omega.{arith}
 use Rattle.layout.specs.Bytes.{Bytes}
 use Rattle.layout.specs.Tree.{DataType, leaf, struct, list, array, Fields, fcons, countFields, dtypeOf}
-use Rattle.layout.specs.Layout.{Kind}
+use Rattle.layout.specs.Layout.{Head}
 use Rattle.layout.specs.declared.bytes.Span.{Span}
 use Rattle.layout.specs.declared.columns.Position.{Position}
 use Rattle.layout.specs.declared.cursor.Cursor.{Cursor}
 use Rattle.layout.specs.declared.edition.Edition.{Edition}
 use Rattle.layout.specs.declared.edition.Edition.the-variants.{One}
-use Rattle.nodes.specs.Typed.{TypeIs}
+use Rattle.nodes.specs.code.Typed.{TypeIs}
 use Rattle.plan.proofs.Results.{gives-eq}
 use lib.ListN.{length}
 use Rattle.forms.specs.Form.{form, headOf}
 use Rattle.forms.specs.Readable.{depthOf}
 use Rattle.plan.specs.Result.{Result, gives, refuses, _>>=_}
 use Rattle.rules.specs.declared.outcome.CastOption.{CastOption}
-use Rattle.plan.specs.Selector.{Selector, position, constant, cast, rename, structMapping, listMapping, arrayMapping, Selectors, snil, scons, countSelectors, nesting}
-use Rattle.plan.specs.Check.{Column, columnAt, elementOf, structOf, listOf, arrayOf, withinLimits, resulting, checkCast, checkRename, checkStruct, checkList, checkArray, typeOf, typesOf}
+use Rattle.plan.specs.Selector.{Selector, position, constant, cast, rename, structMapping, listMapping, arrayMapping, Selectors, snil, scons, countSelectors}
+use Rattle.plan.specs.Selector.{nesting}
+use Rattle.plan.specs.Check.{Column, columnAt, elementOf, structOf, listOf, arrayOf, withinLimits, resulting, checkCast, checkRename, checkStruct, checkList}
+use Rattle.plan.specs.Check.{checkArray, typeOf, typesOf}
 use Rattle.plan.specs.Reach.{SelectorAt as Nth, s-here, s-there}
-use Rattle.walk.specs.State.{Frame, fields, element, State, state}
-use Rattle.walk.specs.Moves.{Input, i-cast, i-rename, i-struct, i-list, i-array, Part, p-field, p-list, p-array}
-use Rattle.walk.specs.Types.{c-fields, c-list, c-array}
-use Rattle.walk.specs.Stands.{SelectorAt}
-use Rattle.walk.specs.Parts.{CastAt, RenameAt, StructAt, ListAt, ArrayAt, HeadIs}
-use Rattle.walk.specs.Standing.{WalkAt, rank, StepsTo}
+use Rattle.walk.specs.code.State.{Frame, fields, element, State, state}
+use Rattle.walk.specs.code.Moves.{Input, i-cast, i-rename, i-struct, i-list, i-array, Part, p-field, p-list, p-array}
+use Rattle.walk.specs.code.Types.{c-fields, c-list, c-array}
+use Rattle.walk.specs.code.Stands.{SelectorAt}
+use Rattle.walk.specs.code.Parts.{CastAt, RenameAt, StructAt, ListAt, ArrayAt, HeadIs}
+use Rattle.walk.specs.code.Walks.{WalkAt, rank, StepsTo}
 use Rattle.walk.specs.declared.walk.Walk.{Walk}
 use Rattle.walk.specs.declared.head.SelectorHead.{SelectorHead}
 use Rattle.walk.proofs.Heads.{is-position, is-constant}
-use Rattle.walk.proofs.Standing.{walk-small}
-use Rattle.checker.specs.Shallow.{Shallow}
-use Rattle.checker.specs.Same.{codeOf}
-use Rattle.checker.specs.Standing.{headKind, TypeHeadIs, TypedAt, NamedAt, ScopedAt}
-use Rattle.walk.specs.Children.{PartStands, PassedTo}
-use Rattle.checker.specs.Limits.{fitOf, typeFit, aroundOf, addedOf, restFit, Bounded, sizeOf, withinFit, Limited, ScopeIs}
-use Rattle.checker.specs.Checking.{measuredOf, MeasuredIs, fittingOf, isTransform, CheckingAt, PassedInput, nothingLeft, fieldsLeft, listedLeft, arrayedLeft, restAnswer, RestIs, MappingAt, Elements, of-list, of-array, fieldsResult, elementResult}
+use Rattle.walk.proofs.Walks.{walk-small}
+use Rattle.checker.specs.code.Shallow.{Shallow}
+use Rattle.checker.specs.code.Same.{codeOf}
+use Rattle.checker.specs.code.TypesAt.{headKind, TypeHeadIs, TypedAt, NamedAt, ScopedAt}
+use Rattle.walk.specs.code.Children.{PartStands, PassedTo}
+use Rattle.checker.specs.code.Limits.{fitOf, typeFit, aroundOf, addedOf, restFit, Bounded, sizeOf, withinFit, Limited, ScopeIs}
+use Rattle.checker.specs.code.Checking.{measuredOf, MeasuredIs, fittingOf, isTransform, CheckingAt, PassedInput, nothingLeft, fieldsLeft, listedLeft}
+use Rattle.checker.specs.code.Checking.{arrayedLeft, restAnswer, RestIs, MappingAt, Elements, of-list, of-array, fieldsResult, elementResult}
 use Rattle.checker.specs.declared.limits.Fit.{Fit}
 use Rattle.checker.specs.declared.limits.Size.{Size}
 use Rattle.checker.specs.declared.selector.Measured.{Measured}
 use Rattle.checker.specs.declared.selector.Rest.{Rest}
 use Rattle.checker.specs.declared.selector.ScopeColumns.{ScopeColumns}
 use Rattle.checker.specs.declared.place.TypeHead.{TypeHead}
-use Rattle.checker.proofs.Room.{cast-shallow, rename-shallow, struct-shallow, list-shallow, array-shallow, field-shallow, element-shallow, array-element-shallow, entries-count}
+use Rattle.checker.proofs.Room.{cast-shallow, rename-shallow, struct-shallow, list-shallow, array-shallow, field-shallow, element-shallow}
+use Rattle.checker.proofs.Room.{array-element-shallow, entries-count}
 use Rattle.checker.proofs.Resolving.{selected, named-typed}
 use Rattle.checker.proofs.Making.{nth-there}
 use Rattle.walk.proofs.Children.{ChildAt, part-stands, passed-more}
@@ -57,7 +61,8 @@ abbrev ToInput : Walk → Walk → Type 0
 ToInput w x = (p : Bytes) (z : State) (s : Selector) → WalkAt p w z → Input (z .selector) s → StepsTo p (state s (z .frames) (z .path)) w x
 
 abbrev ToChild : Bytes → Walk → ℕ → Walk → Type 0
-ToChild plan w k x = (z : State) (f : Frame) (s : Selector) → WalkAt plan w z → z .path ≡ [] → Part (z .selector) k f s → StepsTo plan (state s (f ∷ z .frames) []) w x
+ToChild plan w k x = (z : State) (f : Frame) (s : Selector) → WalkAt plan w z → z .path ≡ [] → Part (z .selector) k f s → StepsTo plan
+    (state s (f ∷ z .frames) []) w x
 
 abbrev Answers : Bytes → Edition → ℕ → Bytes → Walk → ScopeColumns → Measured → Type 0
 Answers incoming v n plan x m r = (s : Selector) (Δ : Fields) → CheckingAt incoming v n plan x s Δ → ScopeIs m Δ → MeasuredIs r (typeOf Δ s)
@@ -150,23 +155,47 @@ module _ {incoming : Bytes} {v : Edition} {n : ℕ} {plan : Bytes} {w : Walk} {s
 
   of-cast : {i : Selector} {t : DataType} {o : CastOption} → s ≡ cast i t o → Transforms i (checkCast t o)
   unfolding typeOf
-  of-cast {i} e = record { takes = subst (λ (x : Selector). Input x i) (sym e) i-cast; shallow = cast-shallow (selected e (C .shallow)); typed = ap (λ (x : Selector). typeOf Δ x) e }
+  of-cast {i} e = record {
+    takes = subst (λ (x : Selector). Input x i) (sym e) i-cast;
+    shallow = cast-shallow (selected e (C .shallow));
+    typed = ap
+        (λ (x : Selector). typeOf Δ x) e;
+  }
 
   of-rename : {i : Selector} {name : Bytes} → s ≡ rename i name → Transforms i (checkRename name)
   unfolding typeOf
-  of-rename {i} e = record { takes = subst (λ (x : Selector). Input x i) (sym e) i-rename; shallow = rename-shallow (selected e (C .shallow)); typed = ap (λ (x : Selector). typeOf Δ x) e }
+  of-rename {i} e = record {
+    takes = subst (λ (x : Selector). Input x i) (sym e) i-rename;
+    shallow = rename-shallow (selected e (C .shallow));
+    typed =
+        ap (λ (x : Selector). typeOf Δ x) e;
+  }
 
   of-struct : {i : Selector} {ss : Selectors} → s ≡ structMapping i ss → Transforms i (checkStruct (λ fs. typesOf fs ss))
   unfolding typeOf
-  of-struct {i} e = record { takes = subst (λ (x : Selector). Input x i) (sym e) i-struct; shallow = struct-shallow (selected e (C .shallow)); typed = ap (λ (x : Selector). typeOf Δ x) e }
+  of-struct {i} e = record {
+    takes = subst (λ (x : Selector). Input x i) (sym e) i-struct;
+    shallow = struct-shallow (selected e (C .shallow));
+    typed =
+        ap (λ (x : Selector). typeOf Δ x) e;
+  }
 
   of-list-mapping : {i d : Selector} → s ≡ listMapping i d → Transforms i (checkList (λ fs. typeOf fs d))
   unfolding typeOf
-  of-list-mapping {i} e = record { takes = subst (λ (x : Selector). Input x i) (sym e) i-list; shallow = list-shallow (selected e (C .shallow)); typed = ap (λ (x : Selector). typeOf Δ x) e }
+  of-list-mapping {i} e = record {
+    takes = subst (λ (x : Selector). Input x i) (sym e) i-list;
+    shallow = list-shallow (selected e (C .shallow));
+    typed =
+        ap (λ (x : Selector). typeOf Δ x) e;
+  }
 
   of-array-mapping : {i d : Selector} → s ≡ arrayMapping i d → Transforms i (checkArray (λ fs. typeOf fs d))
   unfolding typeOf
-  of-array-mapping {i} e = record { takes = subst (λ (x : Selector). Input x i) (sym e) i-array; shallow = array-shallow (selected e (C .shallow)); typed = ap (λ (x : Selector). typeOf Δ x) e }
+  of-array-mapping {i} e = record {
+    takes = subst (λ (x : Selector). Input x i) (sym e) i-array;
+    shallow = array-shallow (selected e (C .shallow));
+    typed = ap (λ (x : Selector). typeOf Δ x) e;
+  }
 
   pub record Transform : Type 0 where
     pub input : Selector
@@ -191,7 +220,8 @@ module _ {incoming : Bytes} {v : Edition} {n : ℕ} {plan : Bytes} {w : Walk} {s
   pub by-rename : {m : ℕ} (K : RenameAt plan (w .at) (C .standing .here) m) → Transforms (K .input .tree) (checkRename (K .name .bytes))
   by-rename K = of-rename (stands-for (K .is))
 
-  pub by-struct : {m : ℕ} (K : StructAt plan (w .at) (C .standing .here) m) → Transforms (K .input .tree) (checkStruct (λ fs. typesOf fs (K .fields .selectors .trees)))
+  pub by-struct : {m : ℕ} (K : StructAt plan (w .at) (C .standing .here) m) → Transforms (K .input .tree)
+      (checkStruct (λ fs. typesOf fs (K .fields .selectors .trees)))
   by-struct K = of-struct (stands-for (K .is))
 
   pub by-list : {m : ℕ} (K : ListAt plan (w .at) (C .standing .here) m) → Transforms (K .input .tree) (checkList (λ fs. typeOf fs (K .element .tree)))
@@ -286,12 +316,24 @@ module _ {incoming : Bytes} {v : Edition} {n : ℕ} {plan : Bytes} {w x : Walk} 
     -- the mapping t, once the kind of its input is known
     pub input-mapping : {t : Selector} {u : DataType} → C .standing .here .tree ≡ t → R .column .type ≡ u → MappingAt incoming v n plan w t i u
     input-mapping {t} {u} p q = subst (λ (y : Selector). MappingAt incoming v n plan w y i u) (sym (C .standing .selector) ∙ p)
-        (record { columns = C .columns; frames = C .frames; standing = C .standing; shallow = C .shallow; scope = Δ; scoped = C .scoped; column = R .column; passes = passes; kind = q })
+        (record {
+          columns = C .columns;
+          frames = C .frames;
+          standing = C .standing;
+          shallow = C .shallow;
+          scope = Δ;
+          scoped = C .scoped;
+          column =
+              R .column;
+          passes = passes;
+          kind = q;
+        })
 
 -- ---- the kind of a mapping's input
 
-pub kind-code : {incoming plan : Bytes} {t : DataType} {h k : TypeHead} → TypeHeadIs incoming plan t h → h ≡ k → codeOf (headOf t) .code ≡ codeOf (headKind incoming plan k) .code
-kind-code {incoming} {plan} H e = ap (λ (j : Kind). codeOf j .code) (sym (H .kind)) ∙ ap (λ (x : TypeHead). codeOf (headKind incoming plan x) .code) e
+pub kind-code : {incoming plan : Bytes} {t : DataType} {h k : TypeHead} → TypeHeadIs incoming plan t h → h ≡ k → codeOf (headOf t) .code ≡ codeOf
+    (headKind incoming plan k) .code
+kind-code {incoming} {plan} H e = ap (λ (j : Head). codeOf j .code) (sym (H .kind)) ∙ ap (λ (x : TypeHead). codeOf (headKind incoming plan x) .code) e
 
 module _ (a : Column) where
   pub no-struct : (f : Fields → Result Fields) → (codeOf (headOf (a .type)) .code ≡ 18 → ⊥) → Measured.Refused 32 ≡ measuredOf true (checkStruct f a)
@@ -378,7 +420,8 @@ module _ {incoming : Bytes} {v : Edition} {n : ℕ} {plan : Bytes} {w x : Walk} 
   abbrev D : CheckingAt incoming v n plan w s Δ
   D = R .checking
 
-  pub some-fields : {m : ℕ} (K : StructAt plan (w .at) (D .standing .here) m) {h : TypeHead} {r : Rest} {count : ℕ} → TypeHeadIs incoming plan (R .column .type) h
+  pub some-fields : {m : ℕ} (K : StructAt plan (w .at) (D .standing .here) m) {h : TypeHead} {r : Rest} {count : ℕ} → TypeHeadIs incoming plan
+      (R .column .type) h
       → countSelectors (K .fields .selectors .trees) ≡ count → r ≡ fieldsLeft h count → RestIs incoming v n plan w within s Δ r
   some-fields K {h} {r} {count} H c e = go h H e
     where
@@ -406,7 +449,8 @@ module _ {incoming : Bytes} {v : Edition} {n : ℕ} {plan : Bytes} {w x : Walk} 
       go TypeHead.List H e = rest-as e (refused H (λ z. omega arith))
       go (TypeHead.Array k) H e = rest-as e (refused H (λ z. omega arith))
 
-  pub some-list : {m : ℕ} (K : ListAt plan (w .at) (D .standing .here) m) {h : TypeHead} {r : Rest} → TypeHeadIs incoming plan (R .column .type) h → r ≡ listedLeft h → RestIs incoming v n plan w within s Δ r
+  pub some-list : {m : ℕ} (K : ListAt plan (w .at) (D .standing .here) m) {h : TypeHead} {r : Rest} → TypeHeadIs incoming plan (R .column .type) h → r ≡
+      listedLeft h → RestIs incoming v n plan w within s Δ r
   some-list K {h} {r} H e = go h H e
     where
       T : Transforms D (K .input .tree) (checkList (λ fs. typeOf fs (K .element .tree)))
@@ -432,7 +476,8 @@ module _ {incoming : Bytes} {v : Edition} {n : ℕ} {plan : Bytes} {w x : Walk} 
           })
       go (TypeHead.Array k) H e = rest-as e (refused H (λ z. omega arith))
 
-  pub some-array : {m : ℕ} (K : ArrayAt plan (w .at) (D .standing .here) m) {h : TypeHead} {r : Rest} → TypeHeadIs incoming plan (R .column .type) h → r ≡ arrayedLeft h → RestIs incoming v n plan w within s Δ r
+  pub some-array : {m : ℕ} (K : ArrayAt plan (w .at) (D .standing .here) m) {h : TypeHead} {r : Rest} → TypeHeadIs incoming plan (R .column .type) h → r
+      ≡ arrayedLeft h → RestIs incoming v n plan w within s Δ r
   some-array K {h} {r} H e = go h H e
     where
       T : Transforms D (K .input .tree) (checkArray (λ fs. typeOf fs (K .element .tree)))
@@ -485,19 +530,45 @@ pub record ElementStep (incoming : Bytes) (v : Edition) (n : ℕ) (plan : Bytes)
 module _ {incoming : Bytes} {v : Edition} {n : ℕ} {plan : Bytes} {w : Walk} where
   pub element-child-asks : {t : DataType} {e : Selector} {f : DataType → DataType} {head : ℕ} → Elements incoming v n plan w t e f head →
       ((x : State) × WalkAt plan w x) × (w .deep < 64)
-  element-child-asks (of-list {i = i} {e = e} M) =
-      ((state (listMapping i e) (M .frames) [], M .standing), let a = entries-count (M .standing .entries) in let b = nests-list i e in omega (arith, M .shallow .here))
-  element-child-asks (of-array {i = i} {e = e} M) =
-      ((state (arrayMapping i e) (M .frames) [], M .standing), let a = entries-count (M .standing .entries) in let b = nests-array i e in omega (arith, M .shallow .here))
+  element-child-asks (of-list {i = i} {e = e} M) = (
+    (state (listMapping i e) (M .frames) [], M .standing),
+    let a = entries-count (M .standing .entries) in let b = nests-list i e in omega
+        (arith, M .shallow .here),
+  )
+  element-child-asks (of-array {i = i} {e = e} M) = (
+    (state (arrayMapping i e) (M .frames) [], M .standing),
+    let a = entries-count (M .standing .entries) in let b = nests-array i e in omega
+        (arith, M .shallow .here),
+  )
 
   pub element-step : {t : DataType} {e : Selector} {f : DataType → DataType} {head : ℕ} {x : Walk} → Elements incoming v n plan w t e f head
       → ToChild plan w 0 x → ElementStep incoming v n plan w t e x
   element-step (of-list {i = i} {e = e} M) g =
       let S = g (state (listMapping i e) (M .frames) []) (element i 0) e (M .standing) refl p-list in
-      record { checking = record { columns = M .columns; frames = element i 0 ∷ M .frames; standing = S .standing; shallow = element-shallow (M .shallow); scoped = c-list (M .scoped) (M .passes) (M .kind) }; falls = S .falls }
+      record {
+        checking = record {
+          columns = M .columns;
+          frames = element i 0 ∷ M .frames;
+          standing = S .standing;
+          shallow = element-shallow
+              (M .shallow);
+          scoped = c-list (M .scoped) (M .passes) (M .kind);
+        };
+        falls = S .falls;
+      }
   element-step (of-array {i = i} {e = e} M) g =
       let S = g (state (arrayMapping i e) (M .frames) []) (element i 0) e (M .standing) refl p-array in
-      record { checking = record { columns = M .columns; frames = element i 0 ∷ M .frames; standing = S .standing; shallow = array-element-shallow (M .shallow); scoped = c-array (M .scoped) (M .passes) (M .kind) }; falls = S .falls }
+      record {
+        checking = record {
+          columns = M .columns;
+          frames = element i 0 ∷ M .frames;
+          standing = S .standing;
+          shallow = array-element-shallow
+              (M .shallow);
+          scoped = c-array (M .scoped) (M .passes) (M .kind);
+        };
+        falls = S .falls;
+      }
 
   pub element-small : {t : DataType} {e : Selector} {f : DataType → DataType} {head : ℕ} → Elements incoming v n plan w t e f head → head < 16384
   element-small (of-list M) = omega arith
@@ -639,14 +710,21 @@ module _ {incoming : Bytes} {v : Edition} {n : ℕ} {plan : Bytes} {w : Walk} {c
         checking : CheckingAt incoming v n plan x part fs
         falls : rank x < rank w
 
-      child : {i : Selector} {ss : Selectors} {fs : Fields} → MappingAt incoming v n plan w (structMapping i ss) i (struct fs) → countSelectors ss ≡ count → Child ss fs
+      child : {i : Selector} {ss : Selectors} {fs : Fields} → MappingAt incoming v n plan w (structMapping i ss) i (struct fs) → countSelectors ss ≡
+          count → Child ss fs
       child {i} {ss} {fs} M c =
           let (s, N) = nth-there ss k (omega arith) in
           let S = g (state (structMapping i ss) (M .frames) []) (fields i) s (M .standing) refl (p-field N) in
           record {
             part = s;
             nth = N;
-            checking = record { columns = M .columns; frames = fields i ∷ M .frames; standing = S .standing; shallow = field-shallow N (M .shallow); scoped = c-fields (M .scoped) (M .passes) (M .kind) };
+            checking = record {
+              columns = M .columns;
+              frames = fields i ∷ M .frames;
+              standing = S .standing;
+              shallow = field-shallow N (M .shallow);
+              scoped = c-fields (M .scoped) (M .passes) (M .kind);
+            };
             falls = S .falls;
           }
 

@@ -1,4 +1,5 @@
--- A walk through selectors that passed the check keeps the type where it stands, and where it stops a path is left only of a column, a constant or a cast. Assumes nothing.
+-- A walk through selectors that passed the check keeps the type where it stands, and where it stops a path is left only of a column, a constant or a cast.
+-- Assumes nothing.
 use Prim.Native.Nat.{ℕ, zero, suc, _≤_, _<_}
 use mathlib.Core.Path.{_≡_, refl, sym, ap, _∙_, subst}
 use mathlib.Core.List.{List, [], _∷_}
@@ -12,9 +13,9 @@ use Rattle.plan.specs.Selector.{Selector, position, rename, structMapping, list
 use Rattle.plan.specs.Check.{Column, column, columnAt, elementOf, typeOf}
 use Rattle.plan.specs.Reach.{SelectorAt as Nth}
 use Rattle.plan.proofs.Results.{never-refused, gives-eq}
-use Rattle.walk.specs.State.{Frame, fields, element, State, state}
-use Rattle.walk.specs.Moves.{Moves, m-here, m-rename, m-field, m-list, m-array, m-leave, m-leave-element}
-use Rattle.walk.specs.Types.{ScopeOf, c-fields, c-list, c-array, Along, a-field, a-list, a-array, Gives}
+use Rattle.walk.specs.code.State.{Frame, fields, element, State, state}
+use Rattle.walk.specs.code.Moves.{Moves, m-here, m-rename, m-field, m-list, m-array, m-leave, m-leave-element}
+use Rattle.walk.specs.code.Types.{ScopeOf, c-fields, c-list, c-array, Along, a-field, a-list, a-array, Gives}
 use Rattle.checker.proofs.Given.{rename-gives, struct-gives, list-gives, array-gives, part-gives, types-count, column-below}
 
 -- ---- along a path
@@ -25,7 +26,8 @@ pub record FieldAlong (fs : Fields) (k : ℕ) (p : List ℕ) (u : DataType) : Ty
   pub along : Along (column .type) p u
 
 pub along-field : {t u : DataType} {fs : Fields} {k : ℕ} {p : List ℕ} → t ≡ struct fs → Along t (k ∷ p) u → FieldAlong fs k p u
-along-field {fs = fs} {k = k} e (a-field {fs = gs} {c = c} h a) = let q : gs ≡ fs = cc in record { column = c; found = ap (λ (x : Fields). columnAt x k) (sym q) ∙ h; along = a }
+along-field {fs = fs} {k = k} e (a-field {fs = gs} {c = c} h a) = let q : gs ≡ fs = cc in record
+    { column = c; found = ap (λ (x : Fields). columnAt x k) (sym q) ∙ h; along = a }
 along-field e (a-list a) = clash (cc)
 along-field e (a-array a) = clash (cc)
 
@@ -59,7 +61,8 @@ module _ {Γ : Fields} {E : List Frame} {t : DataType} where
       let R = rename-gives (G .passes) in
       record { scope = G .scope; column = R .input; scoped = G .scoped; passes = R .passes; along = along-of (type-of (R .is)) (G .along) }
 
-  pub field-step : {s x : Selector} {ss : Selectors} {k : ℕ} {p : List ℕ} → Nth ss k x → Gives Γ (state (structMapping s ss) E (k ∷ p)) t → Gives Γ (state x (fields s ∷ E) p) t
+  pub field-step : {s x : Selector} {ss : Selectors} {k : ℕ} {p : List ℕ} → Nth ss k x → Gives Γ (state (structMapping s ss) E (k ∷ p)) t → Gives Γ
+      (state x (fields s ∷ E) p) t
   field-step h G =
       let R = struct-gives (G .passes) in
       let A = along-field (type-of (R .is)) (G .along) in
@@ -98,16 +101,33 @@ module _ {Γ : Fields} {E : List Frame} {t : DataType} where
   unfolding typeOf
   leave-step G = go (G .scoped) (G .passes) (G .along)
     where
-      go : {s : Selector} {k : Position} {p : List ℕ} {Δ : Fields} {c : Column} → ScopeOf Γ (fields s ∷ E) Δ → columnAt Δ (k .0) ≡ gives c → Along (c .type) p t → Gives Γ (state s E (k .0 ∷ p)) t
+      go : {s : Selector} {k : Position} {p : List ℕ} {Δ : Fields} {c : Column} → ScopeOf Γ (fields s ∷ E) Δ → columnAt Δ (k .0) ≡ gives c → Along
+          (c .type) p t → Gives Γ (state s E (k .0 ∷ p)) t
       go (c-fields {c = d} {Δ = Δ} sc h q) e a = record { scope = Δ; column = d; scoped = sc; passes = h; along = along-of (sym q) (a-field e a) }
 
-  pub leave-element-step : {s : Selector} {k : Position} {i : ℕ} {p : List ℕ} → Gives Γ (state (position k) (element s i ∷ E) p) t → Gives Γ (state s E (i ∷ p)) t
+  pub leave-element-step : {s : Selector} {k : Position} {i : ℕ} {p : List ℕ} → Gives Γ (state (position k) (element s i ∷ E) p) t → Gives Γ
+      (state s E (i ∷ p)) t
   unfolding typeOf
   leave-element-step {k = k} G = go k (G .scoped) (G .passes) (G .along)
     where
-      go : {s : Selector} (k : Position) {i : ℕ} {p : List ℕ} {Δ : Fields} {c : Column} → ScopeOf Γ (element s i ∷ E) Δ → columnAt Δ (k .0) ≡ gives c → Along (c .type) p t → Gives Γ (state s E (i ∷ p)) t
-      go k (c-list {c = d} {Δ = Δ} sc h q) e a = record { scope = Δ; column = d; scoped = sc; passes = h; along = along-of (sym q) (a-list (along-of (type-of (element-is e .1)) a)) }
-      go k (c-array {c = d} {Δ = Δ} sc h q) e a = record { scope = Δ; column = d; scoped = sc; passes = h; along = along-of (sym q) (a-array (along-of (type-of (element-is e .1)) a)) }
+      go : {s : Selector} (k : Position) {i : ℕ} {p : List ℕ} {Δ : Fields} {c : Column} → ScopeOf Γ (element s i ∷ E) Δ → columnAt Δ (k .0) ≡ gives c →
+          Along (c .type) p t → Gives Γ (state s E (i ∷ p)) t
+      go k (c-list {c = d} {Δ = Δ} sc h q) e a = record {
+        scope = Δ;
+        column = d;
+        scoped = sc;
+        passes = h;
+        along = along-of (sym q)
+            (a-list (along-of (type-of (element-is e .1)) a));
+      }
+      go k (c-array {c = d} {Δ = Δ} sc h q) e a = record {
+        scope = Δ;
+        column = d;
+        scoped = sc;
+        passes = h;
+        along = along-of (sym q)
+            (a-array (along-of (type-of (element-is e .1)) a));
+      }
 
 pub gives-moved : {Γ : Fields} {x y : State} {t : DataType} → Moves x y → Gives Γ x t → Gives Γ y t
 gives-moved m-here G = G
@@ -120,11 +140,13 @@ gives-moved (m-leave-element h m) G = gives-moved m (leave-element-step G)
 
 -- ---- no walk of what passed is stuck
 
-pub no-element-never : {X : Type 0} {Γ : Fields} {s : Selector} {k : Position} {i : ℕ} {E : List Frame} {p : List ℕ} {t : DataType} → 0 < k .0 → Gives Γ (state (position k) (element s i ∷ E) p) t → X
+pub no-element-never : {X : Type 0} {Γ : Fields} {s : Selector} {k : Position} {i : ℕ} {E : List Frame} {p : List ℕ} {t : DataType} → 0 < k .0 → Gives Γ
+    (state (position k) (element s i ∷ E) p) t → X
 unfolding typeOf
 no-element-never h G = go h (G .scoped) (G .passes)
   where
-    go : {X : Type 0} {Γ : Fields} {s : Selector} {k : Position} {i : ℕ} {E : List Frame} {Δ : Fields} {c : Column} → 0 < k .0 → ScopeOf Γ (element s i ∷ E) Δ → columnAt Δ (k .0) ≡ gives c → X
+    go : {X : Type 0} {Γ : Fields} {s : Selector} {k : Position} {i : ℕ} {E : List Frame} {Δ : Fields} {c : Column} → 0 < k .0 → ScopeOf Γ
+        (element s i ∷ E) Δ → columnAt Δ (k .0) ≡ gives c → X
     go h (c-list sc g q) e = let z = element-is e .0 in absurd (omega arith)
     go h (c-array sc g q) e = let z = element-is e .0 in absurd (omega arith)
 

@@ -12,10 +12,10 @@ use Rattle.plan.specs.Result.{gives}
 use Rattle.plan.specs.Selector.{Selector, position, constant, cast, rename, structMapping, listMapping, arrayMapping, Selectors}
 use Rattle.plan.specs.Check.{Column, column, columnAt, typeOf}
 use Rattle.plan.proofs.Results.{gives-eq}
-use Rattle.walk.specs.State.{Frame, State, state}
-use Rattle.walk.specs.Moves.{Stopped, s-column, s-constant, s-cast, s-rename, s-struct, s-list, s-array, s-no-element, s-no-field}
-use Rattle.walk.specs.Types.{ScopeOf, c-top, Along, a-here, Gives}
-use Rattle.checker.specs.Standing.{Made, made-struct, made-list, made-array}
+use Rattle.walk.specs.code.State.{Frame, State, state}
+use Rattle.walk.specs.code.Moves.{Stopped, s-column, s-constant, s-cast, s-rename, s-struct, s-list, s-array, s-no-element, s-no-field}
+use Rattle.walk.specs.code.Types.{ScopeOf, c-top, Along, a-here, Gives}
+use Rattle.checker.specs.code.TypesAt.{Made, made-struct, made-list, made-array}
 use Rattle.checker.proofs.Given.{cast-gives, struct-gives, list-gives, array-gives}
 use Rattle.checker.proofs.Steps.{rename-step, no-element-never, no-field-never}
 
@@ -51,7 +51,14 @@ column-stop (s-no-field h) e G = clash (cc)
 
 module _ {Γ : Fields} {x : State} {t : DataType} where
   selects : {s : Selector} → x .selector ≡ s → Gives Γ x t → Gives Γ (state s (x .frames) (x .path)) t
-  selects {s} e G = record { scope = G .scope; column = G .column; scoped = G .scoped; passes = ap (λ (y : Selector). typeOf (G .scope) y) (sym e) ∙ G .passes; along = G .along }
+  selects {s} e G = record {
+    scope = G .scope;
+    column = G .column;
+    scoped = G .scoped;
+    passes = ap (λ (y : Selector). typeOf (G .scope) y) (sym e) ∙
+        G .passes;
+    along = G .along;
+  }
 
   pub constant-stop : {n : Bytes} {u : DataType} {v : Value} → x .selector ≡ constant n u v → Gives Γ x t → Along u (x .path) t
   unfolding typeOf
@@ -71,19 +78,23 @@ module _ {Γ : Fields} {E : List Frame} {t : DataType} where
   struct-there : {s : Selector} {ss : Selectors} → Gives Γ (state (structMapping s ss) E []) t → Made Γ (state (structMapping s ss) E []) t
   struct-there {s} {ss} G =
       let R = struct-gives (G .passes) in
-      subst (λ (u : DataType). Made Γ (state (structMapping s ss) E []) u) (sym (type-of (R .is)) ∙ along-end (G .along)) (made-struct (G .scoped) (R .passes) (R .kind) (R .parts))
+      subst (λ (u : DataType). Made Γ (state (structMapping s ss) E []) u) (sym (type-of (R .is)) ∙ along-end (G .along))
+      (made-struct (G .scoped) (R .passes) (R .kind) (R .parts))
 
   list-there : {s e : Selector} → Gives Γ (state (listMapping s e) E []) t → Made Γ (state (listMapping s e) E []) t
   list-there {s} {e} G =
       let R = list-gives (G .passes) in
-      subst (λ (u : DataType). Made Γ (state (listMapping s e) E []) u) (sym (type-of (R .is)) ∙ along-end (G .along)) (made-list (G .scoped) (R .passes) (R .kind) (R .part))
+      subst (λ (u : DataType). Made Γ (state (listMapping s e) E []) u) (sym (type-of (R .is)) ∙ along-end (G .along))
+      (made-list (G .scoped) (R .passes) (R .kind) (R .part))
 
   array-there : {s e : Selector} → Gives Γ (state (arrayMapping s e) E []) t → Made Γ (state (arrayMapping s e) E []) t
   array-there {s} {e} G =
       let R = array-gives (G .passes) in
-      subst (λ (u : DataType). Made Γ (state (arrayMapping s e) E []) u) (sym (type-of (R .is)) ∙ along-end (G .along)) (made-array (G .scoped) (R .passes) (R .kind) (R .part))
+      subst (λ (u : DataType). Made Γ (state (arrayMapping s e) E []) u) (sym (type-of (R .is)) ∙ along-end (G .along))
+      (made-array (G .scoped) (R .passes) (R .kind) (R .part))
 
-pub struct-stop : {Γ : Fields} {x : State} {t : DataType} {s : Selector} {ss : Selectors} → Stopped x → x .selector ≡ structMapping s ss → Gives Γ x t → Made Γ x t
+pub struct-stop : {Γ : Fields} {x : State} {t : DataType} {s : Selector} {ss : Selectors} → Stopped x → x .selector ≡ structMapping s ss → Gives Γ x t →
+    Made Γ x t
 struct-stop s-column e G = clash (cc)
 struct-stop s-constant e G = clash (cc)
 struct-stop s-cast e G = clash (cc)

@@ -9,7 +9,7 @@ use Rattle.layout.specs.Bytes.{Bytes, AllBytes, sameBytes}
 use Rattle.layout.specs.Parser.{Res, refuse, ok}
 use Rattle.layout.specs.Tree.{Columns, Fields, fnil, fcons, countFields, dtypeOf, fieldsOf}
 use Rattle.layout.specs.Layout.{layout, type, ended}
-use Rattle.layout.specs.Stands.{ColumnsAt, LayoutAt}
+use Rattle.layout.specs.code.Stands.{ColumnsAt, LayoutAt}
 use Rattle.layout.specs.declared.columns.Siblings.the-variants.{Free}
 use Rattle.layout.specs.declared.cursor.Cursor.{Cursor}
 use Rattle.layout.specs.declared.edition.Edition.{Edition}
@@ -17,8 +17,8 @@ use Rattle.layout.proofs.Ways.{clash}
 use Rattle.layout.proofs.Top.{columns-count}
 use Rattle.layout.proofs.View.{next-ok, same-columns, no-column}
 use Rattle.layout.proofs.Whole.{u16-at, tested}
-use Rattle.forms.specs.Compare.{sameDtype, sameFields}
-use Rattle.forms.specs.Labelled.{ColumnAt}
+use Rattle.forms.specs.code.Compare.{sameDtype, sameFields}
+use Rattle.forms.specs.code.Labelled.{ColumnAt}
 use Rattle.forms.proofs.Equal.{same-fields-eq, same-fields-equal}
 use Rattle.forms.proofs.Heads.{count-fields}
 use Rattle.forms.proofs.Read.{chosen, ok-eq}
@@ -29,24 +29,24 @@ use Rattle.plan.specs.Result.{Result, gives, refuses, _>>=_, demand, Answer, ac
 use Rattle.plan.specs.Selector.{Selector, Selectors, snil, scons, countSelectors, nesting, nestingAll}
 use Rattle.plan.specs.Check.{Column, typeOf, typesOf, topTypes, against, check}
 use Rattle.plan.specs.Read.{selectors as selectorsOf, selector, planFrom, planSized, planVersion, planCounted, plan as readPlan}
-use Rattle.plan.specs.Answers.{planRead}
+use Rattle.plan.specs.code.Answers.{planRead}
 use Rattle.plan.specs.declared.read.PlanRead.{PlanRead}
 use Rattle.plan.proofs.Results.{bind-gives as bind-given, gives-eq, accepted-eq, placed-accepted, answered-accepted, true≠false}
 use Rattle.plan.proofs.ReadBack.{plan-back}
 use Rattle.plan.specs.Calls.{readAt}
 use Rattle.plan.specs.Marks.{checkMarked}
-use Rattle.walk.specs.State.{state}
-use Rattle.walk.specs.Stands.{SelectorAt, SelectorsAt}
-use Rattle.walk.specs.Types.{ScopeOf, c-top}
-use Rattle.walk.specs.Standing.{WalkAt}
+use Rattle.walk.specs.code.State.{state}
+use Rattle.walk.specs.code.Stands.{SelectorAt, SelectorsAt}
+use Rattle.walk.specs.code.Types.{ScopeOf, c-top}
+use Rattle.walk.specs.code.Walks.{WalkAt}
 use Rattle.walk.specs.declared.walk.Walk.{Walk}
 use Rattle.walk.proofs.View.{first-at, no-selector, selectors-counted}
 use Rattle.walk.proofs.Forward.{selectors-from, selector-behind}
-use Rattle.checker.specs.Shallow.{Shallow}
-use Rattle.checker.specs.Standing.{NamedAt}
-use Rattle.checker.specs.Same.{endsOf}
-use Rattle.checker.specs.Checking.{checkedOf, CheckingAt}
-use Rattle.checker.specs.Tops.{planChecked, TopsAt, TypedTops}
+use Rattle.checker.specs.code.Shallow.{Shallow}
+use Rattle.checker.specs.code.TypesAt.{NamedAt}
+use Rattle.checker.specs.code.Same.{endsOf}
+use Rattle.checker.specs.code.Checking.{checkedOf, CheckingAt}
+use Rattle.checker.specs.code.Tops.{planChecked, TopsAt, TypedTops}
 use Rattle.plan.specs.Calls.{checkPlan, readPlan as layoutsRead}
 use Rattle.checker.specs.declared.same.Ends.{Ends}
 use Rattle.checker.specs.declared.selector.Checked.{Checked}
@@ -56,11 +56,13 @@ use Rattle.checker.proofs.Alike.{ends-at, ends-differ, columns-as}
 
 -- ---- trees
 
-top-refused : (Γ : Fields) (s : Selector) (ss : Selectors) (k : ℕ) {j : ℕ} → checkedOf (typeOf Γ s) ≡ Checked.Refused j → planChecked (topTypes Γ (scons s ss) k) ≡ PlanChecked.Refused j k
+top-refused : (Γ : Fields) (s : Selector) (ss : Selectors) (k : ℕ) {j : ℕ} → checkedOf (typeOf Γ s) ≡ Checked.Refused j → planChecked
+    (topTypes Γ (scons s ss) k) ≡ PlanChecked.Refused j k
 unfolding topTypes placed
 top-refused Γ s ss k {j} e = go (typeOf Γ s) e
   where
-    go : (x : Result Column) → checkedOf x ≡ Checked.Refused j → planChecked (placed k x (λ c. answered (topTypes Γ ss (k + 1)) (λ fs. accepted (fcons (c .name) (c .type) fs)))) ≡ PlanChecked.Refused j k
+    go : (x : Result Column) → checkedOf x ≡ Checked.Refused j → planChecked (placed k x
+        (λ c. answered (topTypes Γ ss (k + 1)) (λ fs. accepted (fcons (c .name) (c .type) fs)))) ≡ PlanChecked.Refused j k
     go (gives a) e = clash (cc)
     go (refuses n) e = let q : n ≡ j = cc in ap (λ (i : ℕ). PlanChecked.Refused i k) q
 
@@ -68,7 +70,8 @@ passes-gives : {A : Type 0} (x : Result A) → checkedOf x ≡ Checked.Passed �
 passes-gives (gives a) e = (a, refl)
 passes-gives (refuses n) e = clash (cc)
 
-top-passed : (Γ : Fields) (s : Selector) (ss : Selectors) (k : ℕ) → checkedOf (typeOf Γ s) ≡ Checked.Passed → planChecked (topTypes Γ (scons s ss) k) ≡ planChecked (topTypes Γ ss (k + 1))
+top-passed : (Γ : Fields) (s : Selector) (ss : Selectors) (k : ℕ) → checkedOf (typeOf Γ s) ≡ Checked.Passed → planChecked (topTypes Γ (scons s ss) k) ≡
+    planChecked (topTypes Γ ss (k + 1))
 unfolding topTypes placed answered
 top-passed Γ s ss k e = let (a, q) = passes-gives (typeOf Γ s) e in rw q (go a (topTypes Γ ss (k + 1)))
   where
@@ -99,13 +102,15 @@ pub record FirstTop (incoming : Bytes) (v : Edition) (n : ℕ) (plan : Bytes) (c
   pub nests : nesting (head .tree) ≤ 64
   pub tail : TopsAt incoming v n plan (count - 1) (head .end) Γ parts
 
-pub first-top : {incoming : Bytes} {v : Edition} {n : ℕ} {plan : Bytes} {count at : ℕ} {Γ : Fields} {ss : Selectors} → TopsAt incoming v n plan count at Γ ss → 0 < count → FirstTop incoming v n plan count at Γ ss
+pub first-top : {incoming : Bytes} {v : Edition} {n : ℕ} {plan : Bytes} {count at : ℕ} {Γ : Fields} {ss : Selectors} → TopsAt incoming v n plan count at
+    Γ ss → 0 < count → FirstTop incoming v n plan count at Γ ss
 unfolding nestingAll
 first-top {plan = plan} {ss = ss} T h =
     let F = first-at (T .selectors) h in
     let q : ss ≡ scons (F .head .tree) (F .tail .trees) = sym (T .is) ∙ F .is in
     let d : nestingAll (scons (F .head .tree) (F .tail .trees)) ≤ 64 = subst (λ (rs : Selectors). nestingAll rs ≤ 64) q (T .nests) in
-    let l = selectors-from plan (selector 64) (λ at x m e. let b = selector-behind plan 64 at x m e in omega arith) _ _ (F .tail .trees) (F .tail .end) (F .tail .reads) in
+    let l = selectors-from plan (selector 64) (λ at x m e. let b = selector-behind plan 64 at x m e in omega arith) _ _ (F .tail .trees) (F .tail .end)
+    (F .tail .reads) in
     let e = F .ends in
     record {
       head = F .head;
@@ -113,10 +118,20 @@ first-top {plan = plan} {ss = ss} T h =
       is = q;
       ends = omega (arith, T .ends);
       nests = omega arith;
-      tail = record { columns = T .columns; are = T .are; selectors = F .tail; is = refl; ends = omega (arith, T .ends); small = T .small; nests = omega arith };
+      tail = record {
+        columns = T .columns;
+        are = T .are;
+        selectors = F .tail;
+        is = refl;
+        ends = omega (arith, T .ends);
+        small = T .small;
+        nests = omega
+            arith;
+      };
     }
 
-module _ {incoming : Bytes} {v : Edition} {n : ℕ} {plan : Bytes} {count at : ℕ} {Γ : Fields} {ss : Selectors} (T : TopsAt incoming v n plan count at Γ ss) (h : 0 < count) where
+module _ {incoming : Bytes} {v : Edition} {n : ℕ} {plan : Bytes} {count at : ℕ} {Γ : Fields} {ss : Selectors}
+    (T : TopsAt incoming v n plan count at Γ ss) (h : 0 < count) where
   abbrev first : FirstTop incoming v n plan count at Γ ss
   first = first-top T h
 
@@ -125,7 +140,8 @@ module _ {incoming : Bytes} {v : Edition} {n : ℕ} {plan : Bytes} {count at : �
     pub next-tops : TopsAt incoming v n plan (count - 1) (e .at) Γ (first .parts)
     next-tops = subst (λ (i : ℕ). TopsAt incoming v n plan (count - 1) i Γ (first .parts)) (sym (ends (first .head))) (first .tail)
 
-    module _ {w : Walk} (g : (p : Bytes) (P : SelectorAt p at) → P .end ≤ e .at → e .at ≤ length p → length p ≤ 65536 → WalkAt p w (state (P .tree) [] [])) where
+    module _ {w : Walk} (g : (p : Bytes) (P : SelectorAt p at) → P .end ≤ e .at → e .at ≤ length p → length p ≤ 65536 → WalkAt p w
+        (state (P .tree) [] [])) where
       standing : WalkAt plan w (state (first .head .tree) [] [])
       standing = let z = ends (first .head) in g plan (first .head) (omega arith) (omega (arith, first .ends)) (T .small)
 
@@ -139,9 +155,19 @@ module _ {incoming : Bytes} {v : Edition} {n : ℕ} {plan : Bytes} {count at : �
       top-checking = record { columns = T .columns; frames = []; standing = standing; shallow = top-shallow; scoped = top-scope }
 
       pub top-named : {a : Column} → typeOf Γ (first .head .tree) ≡ gives a → NamedAt incoming v n plan w a
-      top-named q = record { columns = T .columns; selector = first .head .tree; frames = []; standing = standing; shallow = top-shallow; scope = Γ; scoped = top-scope; passes = q }
+      top-named q = record {
+        columns = T .columns;
+        selector = first .head .tree;
+        frames = [];
+        standing = standing;
+        shallow = top-shallow;
+        scope = Γ;
+        scoped = top-scope;
+        passes = q;
+      }
 
-tops-as : {incoming : Bytes} {v : Edition} {n : ℕ} {plan : Bytes} {m count at : ℕ} {Γ : Fields} {ss : Selectors} → m ≡ count → TopsAt incoming v n plan m at Γ ss → TopsAt incoming v n plan count at Γ ss
+tops-as : {incoming : Bytes} {v : Edition} {n : ℕ} {plan : Bytes} {m count at : ℕ} {Γ : Fields} {ss : Selectors} → m ≡ count → TopsAt incoming v n plan
+    m at Γ ss → TopsAt incoming v n plan count at Γ ss
 tops-as {incoming} {v} {n} {plan} {at = at} {Γ = Γ} {ss = ss} e T = subst (λ (k : ℕ). TopsAt incoming v n plan k at Γ ss) e T
 
 -- ---- check_tops
@@ -182,11 +208,13 @@ module _ {incoming : Bytes} {v : Edition} {n : ℕ} {plan : Bytes} {count from :
       topping-asks = (_, O .scope, top-checking (O .start) more s g)
 
       module _ {r : Checked} (f : (x : Selector) (Δ : Fields) → CheckingAt incoming v n plan w x Δ → r ≡ checkedOf (typeOf Δ x)) where
-        pub topping-refused : {j : ℕ} → r ≡ Checked.Refused j → (Γ : Fields) (ss : Selectors) → TopsAt incoming v n plan count from Γ ss → PlanChecked.Refused j k ≡ planChecked (topTypes Γ ss 0)
+        pub topping-refused : {j : ℕ} → r ≡ Checked.Refused j → (Γ : Fields) (ss : Selectors) → TopsAt incoming v n plan count from Γ ss →
+            PlanChecked.Refused j k ≡ planChecked (topTypes Γ ss 0)
         topping-refused q Γ ss T =
             let (rs, (U, d)) = O .keeps Γ ss T in
             let F = first-top U more in
-            sym (d ∙ ap (λ (ts : Selectors). planChecked (topTypes Γ ts k)) (F .is) ∙ top-refused Γ (F .head .tree) (F .parts) k (sym (f (F .head .tree) Γ (top-checking U more s g)) ∙ q))
+            sym (d ∙ ap (λ (ts : Selectors). planChecked (topTypes Γ ts k)) (F .is) ∙ top-refused Γ (F .head .tree) (F .parts) k
+            (sym (f (F .head .tree) Γ (top-checking U more s g)) ∙ q))
 
         pub topping-more : r ≡ Checked.Passed → Topping incoming v n plan count from (e .at) (k + 1)
         topping-more q =
@@ -198,8 +226,14 @@ module _ {incoming : Bytes} {v : Edition} {n : ℕ} {plan : Bytes} {count from :
               start = tops-as z (next-tops (O .start) more s);
               keeps = λ Γ ss T.
                   let (rs, (U, d)) = O .keeps Γ ss T in
-                  let F = first-top U more in
-                  (F .parts, (tops-as z (next-tops U more s), d ∙ ap (λ (ts : Selectors). planChecked (topTypes Γ ts k)) (F .is) ∙ top-passed Γ (F .head .tree) (F .parts) k (sym (f (F .head .tree) Γ (top-checking U more s g)) ∙ q)));
+                  let F = first-top U more in (
+                    F .parts,
+                    (
+                      tops-as z (next-tops U more s),
+                      d ∙ ap (λ (ts : Selectors). planChecked (topTypes Γ ts k)) (F .is) ∙ top-passed Γ
+                          (F .head .tree) (F .parts) k (sym (f (F .head .tree) Γ (top-checking U more s g)) ∙ q),
+                    ),
+                  );
             }
 
 -- ---- same_tops
@@ -211,7 +245,8 @@ record FirstTyped (incoming : Bytes) (v : Edition) (n : ℕ) (plan : Bytes) (cou
   named : NamedAt incoming v n plan w column
   tail : TypedTops incoming v n plan (count - 1) (e .at) rest
 
-first-typed : {incoming : Bytes} {v : Edition} {n : ℕ} {plan : Bytes} {count at : ℕ} {fs : Fields} (T : TypedTops incoming v n plan count at fs) → 0 < count → {e : Cursor} → Skips plan at e → {w : Walk} → Tops at e w
+first-typed : {incoming : Bytes} {v : Edition} {n : ℕ} {plan : Bytes} {count at : ℕ} {fs : Fields} (T : TypedTops incoming v n plan count at fs) → 0 <
+    count → {e : Cursor} → Skips plan at e → {w : Walk} → Tops at e w
     → FirstTyped incoming v n plan count at fs w e
 unfolding typesOf
 first-typed T h {e} s {w} g =
@@ -227,7 +262,8 @@ first-typed T h {e} s {w} g =
       tail = record { scope = T .scope; parts = F .parts; tops = next-tops (T .tops) h s; typed = p₁ };
     }
 
-typed-as : {incoming : Bytes} {v : Edition} {n : ℕ} {plan : Bytes} {m count at : ℕ} {fs : Fields} → m ≡ count → TypedTops incoming v n plan m at fs → TypedTops incoming v n plan count at fs
+typed-as : {incoming : Bytes} {v : Edition} {n : ℕ} {plan : Bytes} {m count at : ℕ} {fs : Fields} → m ≡ count → TypedTops incoming v n plan m at fs →
+    TypedTops incoming v n plan count at fs
 typed-as {incoming} {v} {n} {plan} {at = at} {fs = fs} e T = subst (λ (k : ℕ). TypedTops incoming v n plan k at fs) e T
 
 pub record Alongside (incoming : Bytes) (v : Edition) (n : ℕ) (plan : Bytes) (count from : ℕ) (target : Bytes) (vt : Edition) (base at bt k : ℕ) : Type 0 where
@@ -239,7 +275,8 @@ pub record Alongside (incoming : Bytes) (v : Edition) (n : ℕ) (plan : Bytes) (
       → (gs : Fields) × (TypedTops incoming v n plan (count - k) at gs × (sameFields fs (fieldsOf (Q .columns)) ≡ sameFields gs (fieldsOf (columns .columns))))
 
 module _ {incoming : Bytes} {v : Edition} {n : ℕ} {plan : Bytes} {count from : ℕ} {target : Bytes} {vt : Edition} {base : ℕ} where
-  pub alongside-start : {fs : Fields} → TypedTops incoming v n plan count from fs → ColumnsAt vt 16 target count base → Alongside incoming v n plan count from target vt base from base 0
+  pub alongside-start : {fs : Fields} → TypedTops incoming v n plan count from fs → ColumnsAt vt 16 target count base → Alongside incoming v n plan
+      count from target vt base from base 0
   alongside-start {fs} T C =
       let z : count ≡ count - 0 = omega arith in
       record {
@@ -251,7 +288,8 @@ module _ {incoming : Bytes} {v : Edition} {n : ℕ} {plan : Bytes} {count from :
       }
 
   module _ {at bt k : ℕ} (O : Alongside incoming v n plan count from target vt base at bt k) where
-    pub alongside-end : count ≤ k → (fs : Fields) (Q : ColumnsAt vt 16 target count base) → TypedTops incoming v n plan count from fs → true ≡ sameFields fs (fieldsOf (Q .columns))
+    pub alongside-end : count ≤ k → (fs : Fields) (Q : ColumnsAt vt 16 target count base) → TypedTops incoming v n plan count from fs → true ≡
+        sameFields fs (fieldsOf (Q .columns))
     unfolding sameFields fieldsOf typesOf
     alongside-end h fs Q T =
         let z : count - k ≡ 0 = omega arith in
@@ -294,10 +332,12 @@ module _ {incoming : Bytes} {v : Edition} {n : ℕ} {plan : Bytes} {count from :
               rest = X .rest;
               tail = X .tail;
               answers = F a (S .first) (X .named);
-              is = d ∙ ap (λ (hs : Fields). sameFields hs (fieldsOf (O .columns .columns))) (X .is) ∙ ap (λ (cs : Columns). sameFields (fcons (a .name) (a .type) (X .rest)) (fieldsOf cs)) (S .is);
+              is = d ∙ ap (λ (hs : Fields). sameFields hs (fieldsOf (O .columns .columns))) (X .is) ∙ ap
+                  (λ (cs : Columns). sameFields (fcons (a .name) (a .type) (X .rest)) (fieldsOf cs)) (S .is);
             }
 
-        pub alongside-no : f ≡ Ends.Differ → (fs : Fields) (Q : ColumnsAt vt 16 target count base) → TypedTops incoming v n plan count from fs → false ≡ sameFields fs (fieldsOf (Q .columns))
+        pub alongside-no : f ≡ Ends.Differ → (fs : Fields) (Q : ColumnsAt vt 16 target count base) → TypedTops incoming v n plan count from fs → false ≡
+            sameFields fs (fieldsOf (Q .columns))
         alongside-no q fs Q T =
             let H = here fs Q T in
             sym (H .is ∙ none (H .names) (H .types) _ (ends-differ (H .names && H .types) (alongside-split .first .inner .end) (sym (H .answers) ∙ q)))
@@ -310,7 +350,8 @@ module _ {incoming : Bytes} {v : Edition} {n : ℕ} {plan : Bytes} {count from :
         at-end : {x : Cursor} → f ≡ Ends.At x → alongside-split .first .inner .end ≡ x .at
         at-end q =
             let (a, N) = alongside-asks in
-            sym (ends-at (sameBytes (a .name) (alongside-split .first .label .name) && sameDtype (a .type) (dtypeOf (alongside-split .first .inner .tree))) (alongside-split .first .inner .end) (sym (F a (alongside-split .first) N) ∙ q) .1)
+            sym (ends-at (sameBytes (a .name) (alongside-split .first .label .name) && sameDtype (a .type)
+            (dtypeOf (alongside-split .first .inner .tree))) (alongside-split .first .inner .end) (sym (F a (alongside-split .first) N) ∙ q) .1)
 
         pub alongside-more : {x : Cursor} → f ≡ Ends.At x → Alongside incoming v n plan count from target vt base (e .at) (x .at) (k + 1)
         alongside-more q =
@@ -321,8 +362,14 @@ module _ {incoming : Bytes} {v : Edition} {n : ℕ} {plan : Bytes} {count from :
               start = typed-as z (first-typed (O .start) more′ s g .tail);
               columns = columns-as z (at-end q) (alongside-split .tail);
               keeps = λ fs Q T.
-                  let H = here fs Q T in
-                  (H .rest, (typed-as z (H .tail), H .is ∙ all (H .names) (H .types) _ (ends-at (H .names && H .types) (alongside-split .first .inner .end) (sym (H .answers) ∙ q) .0)));
+                  let H = here fs Q T in (
+                    H .rest,
+                    (
+                      typed-as z (H .tail),
+                      H .is ∙ all (H .names) (H .types) _
+                          (ends-at (H .names && H .types) (alongside-split .first .inner .end) (sym (H .answers) ∙ q) .0),
+                    ),
+                  );
             }
           where
             all : (x y z : Bool) → (x && y) ≡ true → (x && (y && z)) ≡ z
@@ -332,7 +379,8 @@ module _ {incoming : Bytes} {v : Edition} {n : ℕ} {plan : Bytes} {count from :
 
 -- ---- same_plan
 
-pub counts-apart : {incoming : Bytes} {v : Edition} {n : ℕ} {plan : Bytes} {count at : ℕ} {fs : Fields} {vt : Edition} {target : Bytes} {m bt : ℕ} → (count ≡ m → ⊥) → (Q : ColumnsAt vt 16 target m bt)
+pub counts-apart : {incoming : Bytes} {v : Edition} {n : ℕ} {plan : Bytes} {count at : ℕ} {fs : Fields} {vt : Edition} {target : Bytes} {m bt : ℕ} →
+    (count ≡ m → ⊥) → (Q : ColumnsAt vt 16 target m bt)
     → TypedTops incoming v n plan count at fs → false ≡ sameFields fs (fieldsOf (Q .columns))
 counts-apart {count = count} {fs = fs} {vt = vt} {target = target} {m = m} {bt = bt} h Q T = go (sameFields fs (fieldsOf (Q .columns))) refl
   where
@@ -348,11 +396,13 @@ counts-apart {count = count} {fs = fs} {vt = vt} {target = target} {m = m} {bt =
 
 -- ---- check_read
 
-pub read-direct : {incoming : Bytes} {v : Edition} {n : ℕ} {plan : Bytes} {count at : ℕ} {Γ : Fields} {ss : Selectors} (T : TopsAt incoming v n plan count at Γ ss) (Δ : Fields)
+pub read-direct : {incoming : Bytes} {v : Edition} {n : ℕ} {plan : Bytes} {count at : ℕ} {Γ : Fields} {ss : Selectors}
+    (T : TopsAt incoming v n plan count at Γ ss) (Δ : Fields)
     → check (fieldsOf (T .columns .columns)) Δ (T .selectors .trees) ≡ accepted tt → PlanChecked.Passed ≡ planChecked (check Γ Δ ss)
 read-direct T Δ e = ap planChecked (sym ((λ i. check (sym (T .are) i) Δ (sym (T .is) i)) ∙ e))
 
-module _ {incoming : Bytes} {v : Edition} {n : ℕ} {plan : Bytes} {count at : ℕ} {Γ : Fields} {ss : Selectors} (T : TopsAt incoming v n plan count at Γ ss) {r : PlanChecked} (e : r ≡ planChecked (topTypes Γ ss 0)) where
+module _ {incoming : Bytes} {v : Edition} {n : ℕ} {plan : Bytes} {count at : ℕ} {Γ : Fields} {ss : Selectors}
+    (T : TopsAt incoming v n plan count at Γ ss) {r : PlanChecked} (e : r ≡ planChecked (topTypes Γ ss 0)) where
   module _ (p : r ≡ PlanChecked.Passed) where
     pub given : (fs : Fields) × (topTypes Γ ss 0 ≡ accepted fs)
     given = passed-accepted (topTypes Γ ss 0) (sym e ∙ p)
@@ -444,7 +494,8 @@ plan-refused s {r} {k} e f = go (readPlan s) e
     go (refuse n) e = cc
     go (ok ss m) e = clash (cc)
 
-pub plan-tops : {incoming : Bytes} {v : Edition} {n : ℕ} {plan : Bytes} {m : ℕ} (L : LayoutAt incoming v n) (P : PlanAt plan m) → TopsAt incoming v n plan m 7 (fieldsOf (L .columns .columns)) (P .parts)
+pub plan-tops : {incoming : Bytes} {v : Edition} {n : ℕ} {plan : Bytes} {m : ℕ} (L : LayoutAt incoming v n) (P : PlanAt plan m) → TopsAt incoming v n
+    plan m 7 (fieldsOf (L .columns .columns)) (P .parts)
 plan-tops L P = record { columns = L .columns; are = refl; selectors = P .selectors; is = P .is; ends = P .ends; small = P .small; nests = P .nests }
 
 -- ---- check_plan
@@ -464,6 +515,7 @@ module _ (incoming target plan : Bytes) where
       unfolding checkPlan layoutsRead readAt
       refused-third e = rw (L .reads, M .reads, e)
 
-      pub all-read : {c : ℕ} (P : PlanAt plan c) {r : PlanChecked} → r ≡ planChecked (checkMarked (L .columns .columns) (M .columns .columns) (P .parts)) → r ≡ planChecked (checkPlan incoming target plan)
+      pub all-read : {c : ℕ} (P : PlanAt plan c) {r : PlanChecked} → r ≡ planChecked
+          (checkMarked (L .columns .columns) (M .columns .columns) (P .parts)) → r ≡ planChecked (checkPlan incoming target plan)
       unfolding checkPlan layoutsRead readAt
       all-read P f = rw (L .reads, M .reads, P .reads) f

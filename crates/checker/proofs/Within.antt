@@ -11,7 +11,7 @@ use Rattle.layout.specs.Bytes.{Bytes}
 use Rattle.layout.specs.Parser.{choose}
 use Rattle.layout.specs.Tree.{Columns, DataType, struct, list, array, Fields, fnil, fcons, countFields, fieldsOf, dtypeOf}
 use Rattle.layout.specs.Layout.{deepest, aStruct, aList, anArray}
-use Rattle.layout.specs.Stands.{ColumnsAt}
+use Rattle.layout.specs.code.Stands.{ColumnsAt}
 use Rattle.layout.specs.declared.columns.Siblings.the-variants.{Free}
 use Rattle.layout.specs.declared.edition.Edition.{Edition}
 use Rattle.forms.specs.Form.{textBytes, kindForm, form, formFields}
@@ -20,14 +20,15 @@ use Rattle.forms.proofs.Read.{ColumnsRead, cr-none, cr-column, type→, columns
 use Rattle.forms.proofs.ReadBack.{type-extent}
 use Rattle.plan.specs.Result.{gives}
 use Rattle.plan.specs.Selector.{Selector, position, constant, cast, rename, structMapping, listMapping, arrayMapping}
-use Rattle.plan.specs.Check.{Column, column, columnAt, elementOf, structOf, listOf, arrayOf, castFits, withinLimits, longestType, resulting, checkCast, checkRename, checkStruct, checkList, checkArray, typeOf, typesOf}
+use Rattle.plan.specs.Check.{Column, column, columnAt, elementOf, structOf, listOf, arrayOf, castFits, withinLimits, longestType, resulting, checkCast}
+use Rattle.plan.specs.Check.{checkRename, checkStruct, checkList, checkArray, typeOf, typesOf}
 use Rattle.plan.proofs.Results.{never-refused, gives-eq, both, and-true, bind-gives, demand-gives}
-use Rattle.walk.specs.State.{Frame}
-use Rattle.walk.specs.Types.{ScopeOf, c-top, c-fields, c-list, c-array}
+use Rattle.walk.specs.code.State.{Frame}
+use Rattle.walk.specs.code.Types.{ScopeOf, c-top, c-fields, c-list, c-array}
 use Rattle.walk.specs.declared.walk.Walk.{Walk}
-use Rattle.checker.specs.Standing.{ScopedAt}
-use Rattle.checker.specs.Limits.{fitOf, typeFit, withinFit, Limited}
-use Rattle.checker.specs.Checking.{isTransform}
+use Rattle.checker.specs.code.TypesAt.{ScopedAt}
+use Rattle.checker.specs.code.Limits.{fitOf, typeFit, withinFit, Limited}
+use Rattle.checker.specs.code.Checking.{isTransform}
 use Rattle.checker.specs.declared.limits.Fit.{Fit}
 use Rattle.checker.proofs.Room.{entries-count}
 

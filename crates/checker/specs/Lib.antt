@@ -1,6 +1,1 @@
-pub mod Shallow
-pub mod Standing
-pub mod Limits
-pub mod Same
-pub mod Checking
-pub mod Tops
+pub mod code

@@ -1,10 +1,10 @@
 // "A cast passes if its leaf pair, flags all on, has that option, or null goes NonStrict to any other type; never between equal types."
 ghost use mathlib.Core.Path.{_≡_};
 ghost use Rattle.layout.specs.Tree.{DataType, dtypeOf};
-ghost use Rattle.layout.specs.Stands.{TypeAt};
+ghost use Rattle.layout.specs.code.Stands.{TypeAt};
 ghost use Rattle.layout.specs.declared.edition.Edition.{Edition as EditionOf};
 ghost use Rattle.plan.specs.Check.{castFits};
-ghost use Rattle.checker.specs.Standing.{TypeHeadIs};
+ghost use Rattle.checker.specs.code.TypesAt.{TypeHeadIs};
 use crate::place::TypeHead;
 use direct::cast::leaf_fits;
 use direct::place::Place;

@@ -1,14 +1,14 @@
 // The check of a plan: the layouts, 30, each selector (31, 32), 33, and 55 last.
 ghost use mathlib.Core.Path.{_≡_};
 ghost use Rattle.layout.specs.Tree.{Fields, fieldsOf};
-ghost use Rattle.layout.specs.Stands.{ColumnsAt};
-ghost use Rattle.forms.specs.Compare.{sameFields};
+ghost use Rattle.layout.specs.code.Stands.{ColumnsAt};
+ghost use Rattle.forms.specs.code.Compare.{sameFields};
 ghost use Rattle.plan.specs.Selector.{Selectors};
 ghost use Rattle.plan.specs.Check.{topTypes, check};
 ghost use Rattle.plan.specs.Nullness.{nullnessesOf};
 ghost use Rattle.plan.specs.Marks.{givens, meetsAll, checkMarked};
-ghost use Rattle.overflow.specs.Overflows.{PlanAt};
-ghost use Rattle.checker.specs.Tops.{planChecked, TopsAt, TypedTops};
+ghost use Rattle.overflow.specs.code.Overflows.{PlanAt};
+ghost use Rattle.checker.specs.code.Tops.{planChecked, TopsAt, TypedTops};
 ghost use Rattle.plan.specs.Calls.{checkPlan};
 use crate::same::Ends;
 use crate::same::same_column;

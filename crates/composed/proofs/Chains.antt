@@ -3,8 +3,8 @@ use Prim.Native.Nat.{ℕ, _-_, _<_}
 use native.Mathlib.Omega.{arith}
 use lib.ListN.{length}
 use Rattle.layout.specs.Bytes.{Bytes}
-use Rattle.walk.specs.Stands.{SelectorAt}
-use Rattle.walk.specs.Parts.{CastAt, RenameAt}
+use Rattle.walk.specs.code.Stands.{SelectorAt}
+use Rattle.walk.specs.code.Parts.{CastAt, RenameAt}
 use Rattle.walk.proofs.View.{starts-inside}
 
 module _ {s : Bytes} {at m : ℕ} (P : SelectorAt s at) where

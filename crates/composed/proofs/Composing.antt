@@ -20,8 +20,8 @@ use Rattle.values.proofs.Stand.{ok-same}
 use Rattle.values.proofs.Back.{value-back, values-back}
 use Rattle.values.proofs.Round.{value-round}
 use Rattle.plan.specs.Selector.{Selector}
-use Rattle.plan.specs.Formed.{Formed}
-use Rattle.plan.specs.Fits.{FitsAllOver}
+use Rattle.plan.specs.code.Formed.{Formed}
+use Rattle.plan.specs.code.Fits.{FitsAllOver}
 use Rattle.plan.specs.Result.{gives}
 use Rattle.plan.specs.Check.{column, typeOf}
 use Rattle.plan.specs.Run.{eval, clean}
@@ -29,23 +29,23 @@ use Rattle.plan.proofs.Over.{all-over, clean-fits}
 use Rattle.plan.proofs.Preserve.{eval-over}
 use Rattle.plan.proofs.ReadBack.{selector-back}
 use Rattle.plan.proofs.Typed.{check→typed}
-use Rattle.walk.specs.Stands.{SelectorAt}
-use Rattle.nodes.specs.Raw.{RawAt, RowAt, NodeOf}
+use Rattle.walk.specs.code.Stands.{SelectorAt}
+use Rattle.nodes.specs.code.Raw.{RawAt, RowAt, NodeOf}
 use Rattle.nodes.specs.declared.raw.NodeAt.{NodeAt}
 use Rattle.nodes.proofs.Node.{raw-moved, standing}
-use Rattle.index.specs.Indexed.{IndexedRow}
+use Rattle.index.specs.code.Indexed.{IndexedRow}
 use Rattle.index.proofs.Rows.{indexed-types}
-use Rattle.direct.specs.Inputs.{InputAt, inputParts, InputIs}
+use Rattle.direct.specs.code.Inputs.{InputAt, inputParts, InputIs}
 use Rattle.direct.specs.declared.input.Input.{Input}
-use Rattle.direct.specs.Scopes.{ScopeAt}
+use Rattle.direct.specs.code.Scopes.{ScopeAt}
 use Rattle.direct.specs.declared.scope.Scope.{Scope}
-use Rattle.infer.specs.Writing.{InferredTo, inferredParts, InferredIs}
+use Rattle.infer.specs.code.Writing.{InferredTo, inferredParts, InferredIs}
 use Rattle.infer.specs.declared.form.Inferred.{Inferred}
-use Rattle.infer.proofs.Standing.{standing as written, standing-is as written-is}
-use Rattle.transfer.specs.Reaching.{Kept, ReachedIs}
+use Rattle.infer.proofs.FormsAt.{standing as written, standing-is as written-is}
+use Rattle.transfer.specs.code.Reaching.{Kept, ReachedIs}
 use Rattle.transfer.specs.declared.leaf.Reached.{Reached}
 use Rattle.transfer.proofs.Reaching.{reached-to}
-use Rattle.composed.specs.Composing.{Composed}
+use Rattle.composed.specs.code.Composing.{Composed}
 
 -- ---- what was read
 
@@ -59,16 +59,26 @@ fits-read (fcons n t fs) s o at vs m e =
     let Q = values-back fs s o i ws j (P .stands .within) q in
     ok-same (λ vs m. FitsAll (fcons n t fs) vs) e (all-cons (P .fits) (Q .fits))
 
-pub row-fits : {v : Edition} {lay : Bytes} {n t : ℕ} {rec : Bytes} {c : ℕ} → AllBytes rec → (X : RowAt v lay n t rec c) → FitsAllOver (fieldsOf (X .columns .columns)) (X .values .values)
+pub row-fits : {v : Edition} {lay : Bytes} {n t : ℕ} {rec : Bytes} {c : ℕ} → AllBytes rec → (X : RowAt v lay n t rec c) → FitsAllOver
+    (fieldsOf (X .columns .columns)) (X .values .values)
 row-fits {rec = rec} {c} o X = all-over (fits-read (fieldsOf (X .columns .columns)) rec o c (X .values .values) (X .values .end) (X .values .reads))
 
 pub formed-at : {plan : Bytes} {at : ℕ} → AllBytes plan → (P : SelectorAt plan at) → Formed (P .tree)
 formed-at {plan} {at} o P = selector-back plan o 64 at (P .tree) (P .end) (P .reads) .formed
 
 -- the columns of a row, with the index of their types
-abbrev pub row-scope : {v : Edition} {lay : Bytes} {n : ℕ} {t : Cursor} {rec : Bytes} {c stride : ℕ} {types values : List ℕ} → RowAt v lay n (t .at) rec c → IndexedRow v lay n (t .at) rec c stride types values × (0 < stride)
+abbrev pub row-scope : {v : Edition} {lay : Bytes} {n : ℕ} {t : Cursor} {rec : Bytes} {c stride : ℕ} {types values : List ℕ} → RowAt v lay n (t .at) rec
+    c → IndexedRow v lay n (t .at) rec c stride types values × (0 < stride)
     → ScopeAt lay v (Scope.Columns n t) types stride
-row-scope X I = record { fields = fieldsOf (X .columns .columns); parts = record { columns = X .columns; are = refl; indexed = indexed-types X (I .0); strides = I .1 } }
+row-scope X I = record {
+  fields = fieldsOf (X .columns .columns);
+  parts = record {
+    columns = X .columns;
+    are = refl;
+    indexed = indexed-types X (I .0);
+    strides = I .1;
+  };
+}
 
 -- ---- what was written
 
@@ -85,7 +95,8 @@ module _ {Γ : Fields} {ρ : Values} {s : Selector} (F : Formed s) (A : FitsAllO
           value = record {
             tree = eval ρ s;
             end = _;
-            reads = ap (λ (t : DataType). value t w 0) (written-is (I .writes)) ∙ ap (λ (b : Bytes). value (I .type) b 0) (K .stores .stored ∙ overlay-front o (encodeValue (eval ρ s)) long) ∙ back;
+            reads = ap (λ (t : DataType). value t w 0) (written-is (I .writes)) ∙ ap (λ (b : Bytes). value (I .type) b 0)
+                (K .stores .stored ∙ overlay-front o (encodeValue (eval ρ s)) long) ∙ back;
           };
         };
         is = refl;
@@ -94,7 +105,8 @@ module _ {Γ : Fields} {ρ : Values} {s : Selector} (F : Formed s) (A : FitsAllO
       }
 
   pub composed-answer : {out : Bytes} {q : Inferred} {len : ℕ} {new : Bytes} → InferredIs (typeOf Γ s) 16 out 0 q new → q ≡ Inferred.Is len
-      → {e : ℕ} {o : Bytes} {r : Reached} {w : Bytes} → ReachedIs (clean (eval ρ s)) (encodeValue (eval ρ s)) e o 0 r w → ((c : Cursor) × (end : ℕ) × (r ≡ Reached.To c end) × (end ≤ length o)) → Composed Γ ρ s new w
+      → {e : ℕ} {o : Bytes} {r : Reached} {w : Bytes} → ReachedIs (clean (eval ρ s)) (encodeValue (eval ρ s)) e o 0 r w →
+      ((c : Cursor) × (end : ℕ) × (r ≡ Reached.To c end) × (end ≤ length o)) → Composed Γ ρ s new w
   composed-answer {out} {q} {len} {new} I f R (c, end, g, h) =
       composed-by (subst (λ (z : Inferred). inferredParts (typeOf Γ s) 16 out 0 z new) f (I .parts)) (reached-to R g .1) h
 
@@ -103,10 +115,12 @@ pub composed-as : {Γ : Fields} {ρ : Values} {s t : Selector} {form value : Byt
 composed-as {Γ} {ρ} {form = form} {value} e C = subst (λ (x : Selector). Composed Γ ρ x form value) e C
 
 -- the value that stands there
-pub raw-node : {form value : Bytes} {t c : Cursor} → t .at ≡ 0 → c .at ≡ 0 → (X : RawAt One form 0 value 0) → NodeOf One form value (X .value .tree) (NodeAt.At t c)
+pub raw-node : {form value : Bytes} {t c : Cursor} → t .at ≡ 0 → c .at ≡ 0 → (X : RawAt One form 0 value 0) → NodeOf One form value (X .value .tree)
+    (NodeAt.At t c)
 raw-node e f X = standing (raw-moved (sym e) (sym f) (record { raw = X; is = refl }))
 
-pub composed-node : {Γ : Fields} {ρ : Values} {s : Selector} {form value : Bytes} {t c : Cursor} → t .at ≡ 0 → c .at ≡ 0 → Composed Γ ρ s form value → NodeOf One form value (eval ρ s) (NodeAt.At t c)
+pub composed-node : {Γ : Fields} {ρ : Values} {s : Selector} {form value : Bytes} {t c : Cursor} → t .at ≡ 0 → c .at ≡ 0 → Composed Γ ρ s form value →
+    NodeOf One form value (eval ρ s) (NodeAt.At t c)
 composed-node e f C = standing (raw-moved (sym e) (sym f) (record { raw = C .raw; is = C .is }))
 
 -- the input that was found

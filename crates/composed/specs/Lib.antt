@@ -1,2 +1,1 @@
-pub mod Composing
-pub mod Transferring
+pub mod code

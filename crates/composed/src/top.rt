@@ -1,11 +1,11 @@
 // What top selectors give over a record.
 ghost use Prim.Native.Nat.{_≤_, _<_};
 ghost use lib.ListN.{length};
-ghost use Rattle.ends.specs.Ends.{Ends};
-ghost use Rattle.walk.specs.Stands.{SelectorAt};
-ghost use Rattle.index.specs.Indexed.{RowIn, IndexedIn};
-ghost use Rattle.direct.specs.Inputs.{InputAt};
-ghost use Rattle.transfer.specs.Given.{SelectorsIn, SelectorReached, RowReached};
+ghost use Rattle.ends.specs.code.Ends.{Ends};
+ghost use Rattle.walk.specs.code.Stands.{SelectorAt};
+ghost use Rattle.index.specs.code.Indexed.{RowIn, IndexedIn};
+ghost use Rattle.direct.specs.code.Inputs.{InputAt};
+ghost use Rattle.transfer.specs.code.Given.{SelectorsIn, SelectorReached, RowReached};
 use crate::compose::compose_value;
 use direct::input::Input;
 use direct::input::input_of;

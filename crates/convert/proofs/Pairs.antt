@@ -20,7 +20,7 @@ use Rattle.values.specs.Content.{contentOf, widthIn, widthOf}
 use Rattle.values.specs.Encode.{encodeValue}
 use Rattle.values.specs.declared.content.Content.{Content}
 use Rattle.plan.specs.Convert.{unitChange, counted, rescaled, convertAs, convert}
-use Rattle.convert.specs.Converted.{changeOf, Positive, valueOf}
+use Rattle.convert.specs.code.Converted.{changeOf, Positive, valueOf}
 use Rattle.rules.specs.declared.kinds.Class.{Class}
 use Rattle.rules.specs.Classes.{classOf}
 use Rattle.convert.specs.declared.leaf.UnitChange.{UnitChange}
@@ -36,7 +36,8 @@ module _ {c : UnitChange} where
   divides h e = rw e at h
 
   module _ (k : Leaf) (n : ℕ) where
-    pub rescaled-count : {f m : ℕ} {p : Finer} → c ≡ UnitChange.Multiply f → p ≡ finer (signed 64 n) f → p ≡ Finer.Count m → vnumber k m ≡ rescaled (changeOf c) k n
+    pub rescaled-count : {f m : ℕ} {p : Finer} → c ≡ UnitChange.Multiply f → p ≡ finer (signed 64 n) f → p ≡ Finer.Count m → vnumber k m ≡ rescaled
+        (changeOf c) k n
     unfolding rescaled counted
     rescaled-count e g h = rw (e, ← g, h)
 
@@ -136,7 +137,8 @@ pub number-long : (k : Leaf) (n : ℕ) {w : ℕ} → w ≡ widthOf k → w + 1 �
 unfolding encodeValue
 number-long k n {w} e = let z = length-little (widthOf k) n in omega arith
 
-pub number-stored : (kind : Leaf) (n : ℕ) (out : Bytes) (k : ℕ) {w : ℕ} {o o′ : Bytes} → w ≡ widthOf kind → o ≡ set out k 1 → o′ ≡ overlay o (k + 1) (littleBytes w n)
+pub number-stored : (kind : Leaf) (n : ℕ) (out : Bytes) (k : ℕ) {w : ℕ} {o o′ : Bytes} → w ≡ widthOf kind → o ≡ set out k 1 → o′ ≡ overlay o (k + 1)
+    (littleBytes w n)
     → o′ ≡ overlay out k (encodeValue (vnumber kind n))
 unfolding encodeValue overlay
 number-stored kind n out k e f g = rw (g, f, e)

@@ -1,1 +1,1 @@
-pub mod Converted
+pub mod code

@@ -5,7 +5,7 @@ ghost use Rattle.layout.specs.declared.leaf.Leaf.{Leaf};
 ghost use Rattle.rules.specs.Classes.{classOf};
 ghost use Rattle.rules.specs.declared.kinds.Class.{Class as ClassOf};
 ghost use Rattle.plan.specs.Convert.{unitChange, rescaled, convertAs, convert};
-ghost use Rattle.convert.specs.Converted.{changeOf, Positive, valueOf};
+ghost use Rattle.convert.specs.code.Converted.{changeOf, Positive, valueOf};
 use layout::leaf::Leaf;
 use layout::leaf::TimeUnit;
 use numeric::floats::Format;

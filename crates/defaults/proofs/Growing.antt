@@ -6,7 +6,7 @@ use native.Mathlib.Omega.{arith}
 use Rattle.layout.specs.Bytes.{Bytes}
 use Rattle.layout.specs.Parser.{Res, refuse, ok, Parser, next, choose, byte, chunk, u16}
 use Rattle.layout.specs.Tree.{LeafType, leafOf, leaf}
-use Rattle.layout.specs.Layout.{Kind, aLeaf, aStruct, aList, anArray, plainLeaf, text, unit, leafKind, datetimeKind, decimalParams, decimalKind}
+use Rattle.layout.specs.Layout.{Head, aLeaf, aStruct, aList, anArray, plainLeaf, text, unit, leafHead, datetimeHead, decimalParams, decimalHead}
 use Rattle.layout.specs.declared.leaf.Leaf.{Leaf}
 use Rattle.layout.specs.declared.types.PlainLeaf.{PlainLeaf}
 use Rattle.layout.specs.declared.types.PlainLeaf.the-variants.{Known, Unknown}
@@ -72,22 +72,22 @@ module _ (s : Bytes) where
       ends-next (one-byte at)
       (λ u i. ends-choose _ (ends-ok (omega arith)) (ends-choose _ (ends-ok (omega arith)) (ends-choose _ (ends-ok (omega arith)) ends-refuse)))
 
-  leaf-kind-ends : (l : PlainLeaf) (at : ℕ) → Ends at (leafKind l s at)
-  unfolding leafKind
+  leaf-kind-ends : (l : PlainLeaf) (at : ℕ) → Ends at (leafHead l s at)
+  unfolding leafHead
   leaf-kind-ends (Known l) at = ends-ok (omega arith)
   leaf-kind-ends Unknown at = ends-refuse
 
-  datetime-kind-ends : (at : ℕ) → Ends at (datetimeKind s at)
-  unfolding datetimeKind
+  datetime-kind-ends : (at : ℕ) → Ends at (datetimeHead s at)
+  unfolding datetimeHead
   datetime-kind-ends at = ends-next (unit-ends at) (λ u i. ends-next (text-ends i) (λ z j. ends-ok (omega arith)))
 
-  decimal-kind-ends : (at : ℕ) → Ends at (decimalKind s at)
-  unfolding decimalKind decimalParams
+  decimal-kind-ends : (at : ℕ) → Ends at (decimalHead s at)
+  unfolding decimalHead decimalParams
   decimal-kind-ends at =
       ends-next (ends-next (one-byte at) (λ p i. ends-next (one-byte i) (λ c j. ends-choose _ (ends-ok (omega arith)) ends-refuse)))
       (λ d i. ends-ok (omega arith))
 
-  only-leaf-ends : (k : Kind) (at : ℕ) → Ends at (onlyLeaf k s at)
+  only-leaf-ends : (k : Head) (at : ℕ) → Ends at (onlyLeaf k s at)
   unfolding onlyLeaf
   only-leaf-ends (aLeaf l) at = ends-ok (omega arith)
   only-leaf-ends (aStruct n) at = ends-refuse

@@ -12,7 +12,7 @@ use lib.Seq.{getD-set-same, getD-set-other}
 use borrow.Author.Tests.{eqb-true, eq-eqb, ne-eqb, ltb-true, ltb-false}
 use Rattle.layout.specs.Bytes.{Bytes}
 use Rattle.layout.specs.Parser.{Res, refuse, ok, next, choose, u16, u32}
-use Rattle.layout.specs.Answers.{longRes, movedOf}
+use Rattle.layout.specs.code.Answers.{longRes, movedOf}
 use Rattle.layout.specs.declared.columns.FieldId.{FieldId}
 use Rattle.layout.specs.declared.cursor.Cursor.{Cursor}
 use Rattle.layout.specs.declared.cursor.Long.{Long}
@@ -24,9 +24,10 @@ use Rattle.layout.proofs.OfBytes.{both}
 use Rattle.values.proofs.Inside.{renumber-ok}
 use Rattle.values.proofs.Stand.{byte-back}
 use Rattle.defaults.specs.Table.{Given, Entry, kindOf, countsFor, sameKind, sameOwner, entryKind, givenOf, tableNumber, entry, ownerOf, entries}
-use Rattle.defaults.specs.Answers.{kindRes, ownerRes, entryOf, entryAfter, entryRead}
-use Rattle.defaults.specs.Scan.{isOf, seekOn, seek, isFound}
-use Rattle.defaults.specs.Index.{EntryHead, entryHead, entryHeadRes, ownerIn, links, headOf, pushed, Cleared, foundOr, follow, followed, Inside, Indexed}
+use Rattle.defaults.specs.code.Answers.{kindRes, ownerRes, entryOf, entryAfter, entryRead}
+use Rattle.defaults.specs.code.Scan.{isOf, seekOn, seek, isFound}
+use Rattle.defaults.specs.code.Index.{EntryHead, entryHead, entryHeadRes, ownerIn, links, headOf, pushed, Cleared, foundOr, follow, followed, Inside}
+use Rattle.defaults.specs.code.Index.{Indexed}
 use Rattle.defaults.specs.declared.read.Owner.{Owner}
 use Rattle.defaults.specs.declared.read.TableVersion.{TableVersion}
 use Rattle.defaults.specs.declared.read.TableVersion.the-variants.{Shared, ByOwner}

@@ -8,7 +8,7 @@ use native.Mathlib.Omega.{arith}
 use lib.Dec.{eqb}
 use Rattle.layout.specs.Bytes.{Bytes}
 use Rattle.layout.specs.Parser.{Res, refuse, ok, next, choose, byte, u16, u32}
-use Rattle.layout.specs.Answers.{longRes, movedOf}
+use Rattle.layout.specs.code.Answers.{longRes, movedOf}
 use Rattle.layout.specs.declared.columns.FieldId.{FieldId}
 use Rattle.layout.specs.declared.cursor.Cursor.{Cursor}
 use Rattle.layout.specs.declared.cursor.Long.{Long}
@@ -20,8 +20,8 @@ use Rattle.values.specs.Record.{renumber}
 use Rattle.values.proofs.Inside.{renumber-ok}
 use Rattle.defaults.specs.Table.{Given, initial, partition, failed, Entry, OwnedEntry, kindOf, repeatsOwned, repeatsAnyEntry}
 use Rattle.defaults.specs.Table.{initialEntry, loadedEntry, partitionEntry, entryKind, givenOf, tableNumber, entry, ownerOf, ownedEntry, entries}
-use Rattle.defaults.specs.Answers.{kindRes, ownerRes, entryOf, entryAfter, entryRead}
-use Rattle.defaults.specs.Scan.{isOf, seekOn, seek, isFound}
+use Rattle.defaults.specs.code.Answers.{kindRes, ownerRes, entryOf, entryAfter, entryRead}
+use Rattle.defaults.specs.code.Scan.{isOf, seekOn, seek, isFound}
 use Rattle.defaults.specs.declared.read.Owner.{Owner}
 use Rattle.defaults.specs.declared.read.TableVersion.{TableVersion}
 use Rattle.defaults.specs.declared.read.EntryKind.{EntryKind}

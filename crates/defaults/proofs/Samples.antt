@@ -6,7 +6,7 @@ use lib.ListN.{replicate, take}
 use Rattle.layout.specs.Bytes.{Bytes, sameBytes}
 use Rattle.layout.specs.Parser.{Res, refuse, ok, next, choose, byte, chunk, u16, u32}
 use Rattle.layout.specs.Tree.{integer}
-use Rattle.layout.specs.Layout.{text, unit, leafKind, datetimeKind, decimalParams, decimalKind, sized, ended}
+use Rattle.layout.specs.Layout.{text, unit, leafHead, datetimeHead, decimalParams, decimalHead, sized, ended}
 use Rattle.layout.specs.declared.leaf.Leaf.{Leaf}
 use Rattle.values.specs.Record.{renumber}
 use Rattle.values.specs.Value.{vnull, vnumber, vnil, vcons}
@@ -32,7 +32,10 @@ tabled n rest = versioned 1 n rest
 
 -- opens every definition that a sample computes through
 computed : Bytes → Res TableTree
-unfolding table tableFrom countedTable tableVersion sameBytes sized ended entries ownedEntry ownerOf entry tableNumber renumber entryKind givenOf partitionEntry loadedEntry initialEntry defaultType onlyLeaf sameKind sameOwner countsFor repeatsAnyEntry leafKind datetimeKind unit text byte chunk u16 u32 value content presence nullable flag little longText contentBy leafContent times next choose decimalKind decimalParams decimal withinPrecision signed
+unfolding table tableFrom countedTable tableVersion sameBytes sized ended entries ownedEntry ownerOf entry tableNumber renumber entryKind givenOf
+    partitionEntry loadedEntry initialEntry defaultType onlyLeaf sameKind sameOwner countsFor repeatsAnyEntry leafHead datetimeHead unit text byte chunk
+    u16 u32 value content presence nullable flag little longText contentBy leafContent times next choose decimalHead decimalParams decimal
+    withinPrecision signed
 computed s = table s
 
 -- the default of an id for an owner, where the table is read
@@ -66,7 +69,8 @@ entryFor i g = owned Owner.Every i g
 abbrev tree : TableVersion → List OwnedEntry → TableTree
 tree v es = record { version = v; entries = es }
 
-good-read : table good ≡ ok (tree Shared (entryFor 5 (initial (integer Int8) (vnumber (Leaf.Integer Int8) 7)) ∷ entryFor 5 (partition (integer Int8) (vcons vnull (vcons (vnumber (Leaf.Integer Int8) 9) vnil)))
+good-read : table good ≡ ok (tree Shared (entryFor 5 (initial (integer Int8) (vnumber (Leaf.Integer Int8) 7)) ∷ entryFor 5
+    (partition (integer Int8) (vcons vnull (vcons (vnumber (Leaf.Integer Int8) 9) vnil)))
     ∷ entryFor 6 (initial (integer Int8) (vnumber (Leaf.Integer Int8) 8)) ∷ entryFor 7 failed ∷ entryFor 8 (initial (integer Int8) vnull) ∷ [])) 48
 unfolding computed good
 good-read = refl
@@ -77,7 +81,8 @@ unfolding looked good
 good-defaults = refl
 
 -- an initial one, a failed one, a null initial one, and an id that the table does not have
-other-defaults : map (λ i. default 0 i (table good)) (6 ∷ 7 ∷ 8 ∷ 9 ∷ []) ≡ taken (integer Int8) (vnumber (Leaf.Integer Int8) 8) ∷ refused 26 ∷ nothing ∷ nothing ∷ []
+other-defaults : map (λ i. default 0 i (table good)) (6 ∷ 7 ∷ 8 ∷ 9 ∷ []) ≡ taken (integer Int8) (vnumber (Leaf.Integer Int8) 8) ∷ refused 26 ∷ nothing
+    ∷ nothing ∷ []
 unfolding looked good
 other-defaults = refl
 

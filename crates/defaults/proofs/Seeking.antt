@@ -15,8 +15,8 @@ use Rattle.layout.proofs.OfBytes.{both}
 use Rattle.defaults.specs.Table.{Given, initial, partition, failed, Entry, OwnedEntry, kindOf, isPartition, sameKind, countsFor, sameOwner, entriesOf}
 use Rattle.defaults.specs.Table.{givenOf, entries}
 use Rattle.defaults.specs.Lookup.{Taken, nothing, givenTo, isPartitionOf, isInitialOf, firstEntry, getDefaultValue}
-use Rattle.defaults.specs.Scan.{seek}
-use Rattle.defaults.specs.Stands.{TableAt, GivenAt, First, absent, first, FindsEntry, Answers}
+use Rattle.defaults.specs.code.Scan.{seek}
+use Rattle.defaults.specs.code.Stands.{TableAt, GivenAt, First, absent, first, FindsEntry, Answers}
 use Rattle.defaults.specs.declared.lookup.DefaultFieldValues.{DefaultFieldValues}
 use Rattle.defaults.specs.declared.lookup.DefaultValue.{DefaultValue}
 use Rattle.defaults.specs.declared.read.Owner.{Owner}
@@ -86,7 +86,8 @@ unfolding firstEntry choose
 chosen-first f g d [] = refl
 chosen-first f g d (e ∷ es) = go (f e) (chosen-first f g d es)
   where
-    go : (b : Bool) → firstEntry f g es d ≡ chosen g d (firstEntry f first es absent) → choose b (g (e .given)) (firstEntry f g es d) ≡ chosen g d (choose b (first (e .given)) (firstEntry f first es absent))
+    go : (b : Bool) → firstEntry f g es d ≡ chosen g d (firstEntry f first es absent) → choose b (g (e .given)) (firstEntry f g es d) ≡ chosen g d
+        (choose b (first (e .given)) (firstEntry f first es absent))
     go true h = refl
     go false h = h
 

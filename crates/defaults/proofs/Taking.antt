@@ -8,7 +8,7 @@ use borrow.Author.Tests.{ne-eqb}
 use Rattle.layout.specs.Bytes.{Bytes}
 use Rattle.layout.specs.Parser.{Res, refuse, ok, next, choose, Parser, byte, u16}
 use Rattle.layout.specs.Tree.{LeafType, leaf}
-use Rattle.layout.specs.Answers.{stepRes, shortRes, leafAt, spanIn, movedOf}
+use Rattle.layout.specs.code.Answers.{stepRes, shortRes, leafAt, spanIn, movedOf}
 use Rattle.layout.specs.declared.cursor.Cursor.{Cursor}
 use Rattle.layout.specs.declared.cursor.Step.{Step}
 use Rattle.layout.specs.declared.cursor.Short.{Short}
@@ -20,15 +20,15 @@ use Rattle.layout.proofs.View.{next-ok}
 use Rattle.values.specs.Value.{Value, vnull, vnumber, vtext, Values, vnil, vcons, countValues, isNullValue}
 use Rattle.values.specs.Content.{contentOf}
 use Rattle.values.specs.Reading.{presence, nullable, little, contentBy, leafContent, content, value, times}
-use Rattle.values.specs.Answers.{presenceRes}
-use Rattle.values.specs.Stands.{ValueAt, EachAt}
+use Rattle.values.specs.code.Answers.{presenceRes}
+use Rattle.values.specs.code.Stands.{ValueAt, EachAt}
 use Rattle.values.specs.declared.content.Content.{Content}
 use Rattle.values.specs.declared.content.Content.the-variants.{Nothing, Flag, Number, Decimal, Text}
 use Rattle.values.specs.declared.leaf.Presence.{Presence}
 use Rattle.defaults.specs.Table.{initial, partition, failed, defaultType, initialEntry, loadedEntry, partitionEntry, givenOf}
 use Rattle.defaults.specs.Lookup.{Taken, nothing, taken, unlessNull, ofSource, givenTo}
-use Rattle.defaults.specs.Answers.{leafRes, leafIn}
-use Rattle.defaults.specs.Stands.{GivenAt, LoadedAt, Answers}
+use Rattle.defaults.specs.code.Answers.{leafRes, leafIn}
+use Rattle.defaults.specs.code.Stands.{GivenAt, LoadedAt, Answers}
 use Rattle.defaults.specs.declared.lookup.DefaultValue.{DefaultValue}
 use Rattle.defaults.specs.declared.types.LeafRead.{LeafRead}
 use Rattle.defaults.specs.declared.read.EntryKind.the-variants.{Initial, Partition}
@@ -54,7 +54,8 @@ unfolding unlessNull choose
 unless-present l v h = rw h
 
 module _ (s : Bytes) (l : LeafSpan) (c : Cursor) {p : Presence} (e : presenceRes p ≡ presence s (c .at)) where
-  pub null-taken : {d : Cursor} → p ≡ Presence.Null d → (P : ValueAt (leaf (leafAt s l)) s (c .at)) → Answers s (unlessNull (leafAt s l) (P .tree)) DefaultValue.Nothing
+  pub null-taken : {d : Cursor} → p ≡ Presence.Null d → (P : ValueAt (leaf (leafAt s l)) s (c .at)) → Answers s (unlessNull (leafAt s l) (P .tree))
+      DefaultValue.Nothing
   unfolding value nullable next choose unlessNull
   null-taken {d} f P =
       let h : ok vnull (d .at) ≡ ok (P .tree) (P .end) = rw (← e, f) at (P .reads) in
@@ -65,7 +66,8 @@ module _ (s : Bytes) (l : LeafSpan) (c : Cursor) {p : Presence} (e : presenceRes
   unfolding value nullable next
   never-taken {k = k} f P = let h : refuse k ≡ ok (P .tree) (P .end) = rw (← e, f) at (P .reads) in clash (cc)
 
-  pub present-taken : {d : Cursor} → p ≡ Presence.Present d → spanIn s (l .zone) → (P : ValueAt (leaf (leafAt s l)) s (c .at)) → Answers s (unlessNull (leafAt s l) (P .tree)) (DefaultValue.At l c)
+  pub present-taken : {d : Cursor} → p ≡ Presence.Present d → spanIn s (l .zone) → (P : ValueAt (leaf (leafAt s l)) s (c .at)) → Answers s
+      (unlessNull (leafAt s l) (P .tree)) (DefaultValue.At l c)
   unfolding value nullable next choose leafContent
   present-taken {d} f inside P =
       let h : content (leaf (leafAt s l)) s (d .at) ≡ ok (P .tree) (P .end) = rw (← e, f) at (P .reads) in
@@ -100,7 +102,8 @@ pub record SourceAt (p : Parser Value) (s : Bytes) (at : ℕ) (vs : Values) (k :
   pub reads : p s start ≡ ok tree end
   pub is : (l : LeafType) → ofSource l vs k ≡ unlessNull l tree
 
-times-suc : (n : ℕ) (p : Parser Value) (s : Bytes) (at : ℕ) {v : Value} {vs : Values} {i m : ℕ} → p s at ≡ ok v i → times n p s i ≡ ok vs m → times (suc n) p s at ≡ ok (vcons v vs) m
+times-suc : (n : ℕ) (p : Parser Value) (s : Bytes) (at : ℕ) {v : Value} {vs : Values} {i m : ℕ} → p s at ≡ ok v i → times n p s i ≡ ok vs m → times
+    (suc n) p s at ≡ ok (vcons v vs) m
 unfolding times next
 times-suc n p s at a b = rw (a, b)
 
@@ -138,7 +141,8 @@ module _ {s : Bytes} (l : LeafSpan) {n at : ℕ} (k : ℕ) (P : EachAt (leaf (le
     S = source-at k n (value (leaf (leafAt s l))) s at lt (P .reads)
 
     pub source-stuck : {B : Type 0} {o : ℕ} → r ≡ Moved.Refused o → B
-    source-stuck {o = o} f = let z : refuse o ≡ ok (S .before) (S .start) = sym (moved-refused (times k (value (leaf (leafAt s l))) s at) e f) ∙ S .passed in clash (cc)
+    source-stuck {o = o} f = let z : refuse o ≡ ok (S .before) (S .start) = sym (moved-refused (times k (value (leaf (leafAt s l))) s at) e f) ∙
+        S .passed in clash (cc)
 
     module _ {d : Cursor} (f : r ≡ Moved.To d) where
       starts : S .start ≡ d .at
@@ -180,18 +184,21 @@ module _ {s : Bytes} {at : ℕ} (P : GivenAt Initial s at) where
       pub initial-value : ValueAt (leaf (leafAt s l)) s (d .at)
       unfolding initialEntry next
       initial-value =
-          let h : next (value (leaf (leafAt s l)) s (d .at)) (λ v m. ok (initial (leafAt s l) v) m) ≡ ok (P .given) (P .end) = rw (type-got s e f) at initial-reads in
+          let h : next (value (leaf (leafAt s l)) s (d .at)) (λ v m. ok (initial (leafAt s l) v) m) ≡ ok (P .given) (P .end) = rw (type-got s e f) at
+          initial-reads in
           let (v, m, a, b) = next-ok _ _ h in
           record { tree = v; end = m; reads = a }
 
       initial-is : P .given ≡ initial (leafAt s l) (initial-value .tree)
       unfolding initialEntry next
       initial-is =
-          let h : next (value (leaf (leafAt s l)) s (d .at)) (λ v m. ok (initial (leafAt s l) v) m) ≡ ok (P .given) (P .end) = rw (type-got s e f) at initial-reads in
+          let h : next (value (leaf (leafAt s l)) s (d .at)) (λ v m. ok (initial (leafAt s l) v) m) ≡ ok (P .given) (P .end) = rw (type-got s e f) at
+          initial-reads in
           let h₁ : ok (initial (leafAt s l) (initial-value .tree)) (initial-value .end) ≡ ok (P .given) (P .end) = rw (initial-value .reads) at h in
           cc
 
-      pub initial-taken : (k : ℕ) (x : DefaultValue) → ((W : ValueAt (leaf (leafAt s l)) s (d .at)) → Answers s (unlessNull (leafAt s l) (W .tree)) x) → Answers s (givenTo k (P .given)) x
+      pub initial-taken : (k : ℕ) (x : DefaultValue) → ((W : ValueAt (leaf (leafAt s l)) s (d .at)) → Answers s (unlessNull (leafAt s l) (W .tree)) x) →
+          Answers s (givenTo k (P .given)) x
       unfolding givenTo
       initial-taken k x g = answers-as s x (ap (givenTo k) initial-is) (g initial-value)
 
@@ -224,7 +231,8 @@ module _ {s : Bytes} {at : ℕ} (P : LoadedAt s at) {q : LeafRead} (e : leafRes 
             let z : ok (partition (leafAt s l) (loaded-values .values)) (loaded-values .end) ≡ ok (P .given) (P .end) = rw (loaded-values .reads) at timed in
             cc
 
-        pub loaded-taken : (k : ℕ) (x : DefaultValue) → ((E : EachAt (leaf (leafAt s l)) n s (c .at)) → Answers s (ofSource (leafAt s l) (E .values) k) x) → Answers s (givenTo k (P .given)) x
+        pub loaded-taken : (k : ℕ) (x : DefaultValue) → ((E : EachAt (leaf (leafAt s l)) n s (c .at)) → Answers s (ofSource (leafAt s l) (E .values) k)
+            x) → Answers s (givenTo k (P .given)) x
         unfolding givenTo
         loaded-taken k x i = answers-as s x (ap (givenTo k) loaded-is) (i loaded-values)
 

@@ -10,7 +10,7 @@ use borrow.Author.Tests.{le-leb, lt-leb, eq-eqb, ne-eqb}
 use Rattle.layout.specs.Bytes.{Bytes, sameBytes}
 use Rattle.layout.specs.Parser.{refuse, ok, next, choose, test, u16}
 use Rattle.layout.specs.Layout.{sized, ended}
-use Rattle.layout.specs.Answers.{movedOf, shortRes}
+use Rattle.layout.specs.code.Answers.{movedOf, shortRes}
 use Rattle.layout.specs.declared.columns.FieldId.{FieldId}
 use Rattle.layout.specs.declared.cursor.Cursor.{Cursor}
 use Rattle.layout.specs.declared.cursor.Moved.{Moved}
@@ -20,8 +20,8 @@ use Rattle.layout.proofs.View.{next-ok}
 use Rattle.layout.proofs.Whole.{tested, u16-at}
 use Rattle.defaults.specs.Table.{OwnedEntry, repeatsAnyEntry, ownedEntry, entries, tableMark, tableVersion, countedTable, tableFrom, table}
 use Rattle.defaults.specs.Table.{countsFor, sameKind, sameOwner}
-use Rattle.defaults.specs.Answers.{versionRes, tableOf}
-use Rattle.defaults.specs.Scan.{isOf}
+use Rattle.defaults.specs.code.Answers.{versionRes, tableOf}
+use Rattle.defaults.specs.code.Scan.{isOf}
 use Rattle.defaults.specs.declared.read.Owner.{Owner}
 use Rattle.defaults.specs.declared.read.EntryKind.{EntryKind}
 use Rattle.defaults.specs.declared.read.EntryKind.the-variants.{Initial, Partition}

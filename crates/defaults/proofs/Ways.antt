@@ -6,8 +6,8 @@ use borrow.Author.Tests.{ne-eqb}
 use Rattle.layout.specs.Bytes.{Bytes}
 use Rattle.layout.specs.Parser.{Res, refuse, ok, next, choose, byte, u16}
 use Rattle.layout.specs.Tree.{LeafType, leafType, leafOf, leaf}
-use Rattle.layout.specs.Layout.{kind, kindOf, leafKind}
-use Rattle.layout.specs.Answers.{stepRes, shortRes, headRes, leafAt, movedOf}
+use Rattle.layout.specs.Layout.{kind, kindOf, leafHead}
+use Rattle.layout.specs.code.Answers.{stepRes, shortRes, headRes, leafAt, movedOf}
 use Rattle.layout.specs.declared.cursor.Cursor.{Cursor}
 use Rattle.layout.specs.declared.cursor.Step.{Step}
 use Rattle.layout.specs.declared.cursor.Short.{Short}
@@ -19,10 +19,10 @@ use Rattle.layout.proofs.Leaves.{leaf-of-type}
 use Rattle.layout.proofs.Ways.{moved-to, moved-refused, to-pure}
 use Rattle.values.specs.Value.{vcons}
 use Rattle.values.specs.Reading.{presence, nullable, leafContent, content, value, times}
-use Rattle.values.specs.Answers.{presenceRes}
+use Rattle.values.specs.code.Answers.{presenceRes}
 use Rattle.values.specs.declared.leaf.Presence.{Presence}
 use Rattle.defaults.specs.Table.{initial, partition, onlyLeaf, defaultType, initialEntry, loadedEntry, partitionEntry, givenOf, ownerOf}
-use Rattle.defaults.specs.Answers.{leafRes}
+use Rattle.defaults.specs.code.Answers.{leafRes}
 use Rattle.defaults.specs.declared.types.LeafRead.{LeafRead}
 use Rattle.defaults.specs.declared.read.Owner.{Owner}
 use Rattle.defaults.specs.declared.read.TableVersion.{TableVersion}
@@ -62,15 +62,15 @@ module _ (s : Bytes) (at : ℕ) {p : Step} (e : stepRes p ≡ byte s at) where
 
   module _ {k : ℕ} {c : Cursor} (f : p ≡ Step.Byte k c) where
     pub type-struct : k ≡ 18 → refuse 3 ≡ defaultType s at
-    unfolding defaultType next choose leafKind
+    unfolding defaultType next choose leafHead
     type-struct h = rw (← e, f, h)
 
     pub type-list : k ≡ 19 → refuse 3 ≡ defaultType s at
-    unfolding defaultType next choose leafKind
+    unfolding defaultType next choose leafHead
     type-list h = rw (← e, f, h)
 
     pub type-array : k ≡ 20 → refuse 3 ≡ defaultType s at
-    unfolding defaultType next choose leafKind
+    unfolding defaultType next choose leafHead
     type-array h = rw (← e, f, h)
 
     pub type-other : {r : Res LeafType} → (k ≡ 18 → ⊥) → (k ≡ 19 → ⊥) → (k ≡ 20 → ⊥) → r ≡ next (kind s at) (λ k m. onlyLeaf k s m) → r ≡ defaultType s at
@@ -95,7 +95,8 @@ module _ (s : Bytes) (l : LeafSpan) (at : ℕ) {p : Presence} (e : presenceRes p
   unfolding value nullable next movedOf
   leaf-refused f = rw (← e, f)
 
-  pub leaf-present : {d : Cursor} {r : Moved} → p ≡ Presence.Present d → r ≡ movedOf (leafContent (l .leaf) s (d .at)) → r ≡ movedOf (value (leaf (leafAt s l)) s at)
+  pub leaf-present : {d : Cursor} {r : Moved} → p ≡ Presence.Present d → r ≡ movedOf (leafContent (l .leaf) s (d .at)) → r ≡ movedOf
+      (value (leaf (leafAt s l)) s at)
   unfolding value nullable next choose
   leaf-present {d} f g = rw (← e, f) (g ∙ ap movedOf (sym (leaf-content s l (d .at))))
 
@@ -109,7 +110,11 @@ pub record Repeating (s : Bytes) (l : LeafSpan) (n c i at : ℕ) : Type 0 where
 
 module _ (s : Bytes) (l : LeafSpan) (n c : ℕ) where
   pub repeating-none : Repeating s l n c 0 c
-  repeating-none = record { within = omega arith; same = ap (λ (k : ℕ). movedOf (times k (value (leaf (leafAt s l))) s c)) (let e : n ≡ n - 0 = omega arith in e) }
+  repeating-none = record {
+    within = omega arith;
+    same = ap (λ (k : ℕ). movedOf (times k (value (leaf (leafAt s l))) s c))
+        (let e : n ≡ n - 0 = omega arith in e);
+  }
 
   module _ (i at : ℕ) (a : Repeating s l n c i at) where
     pub repeating-all : n ≤ i → Moved.To (record { at = at }) ≡ movedOf (times n (value (leaf (leafAt s l))) s c)
@@ -154,7 +159,8 @@ module _ (s : Bytes) (at : ℕ) {p : LeafRead} (e : leafRes s p ≡ defaultType 
       unfolding loadedEntry next movedOf
       loaded-uncounted h = rw (← e, f, ← g, h)
 
-      pub loaded-counted : {n : ℕ} {d : Cursor} {r : Moved} → q ≡ Short.Is n d → r ≡ movedOf (times n (value (leaf (leafAt s l))) s (d .at)) → r ≡ movedOf (loadedEntry s at)
+      pub loaded-counted : {n : ℕ} {d : Cursor} {r : Moved} → q ≡ Short.Is n d → r ≡ movedOf (times n (value (leaf (leafAt s l))) s (d .at)) → r ≡
+          movedOf (loadedEntry s at)
       unfolding loadedEntry next
       loaded-counted {n} {d} h i = rw (← e, f, ← g, h) (to-pure (partition (leafAt s l)) (times n (value (leaf (leafAt s l))) s (d .at)) i)
 

@@ -11,7 +11,7 @@ use Rattle.layout.specs.Bytes.{Bytes, AllBytes, sameBytes}
 use Rattle.layout.specs.Parser.{Res, refuse, ok, next, choose, byte}
 use Rattle.layout.specs.Tree.{LeafType, leaf}
 use Rattle.layout.specs.Layout.{sized, ended}
-use Rattle.layout.specs.Answers.{leafAt, spanIn}
+use Rattle.layout.specs.code.Answers.{leafAt, spanIn}
 use Rattle.layout.specs.declared.columns.FieldId.{FieldId}
 use Rattle.layout.specs.declared.cursor.Cursor.{Cursor}
 use Rattle.layout.specs.declared.types.LeafType.{LeafType as LeafSpan}
@@ -25,8 +25,8 @@ use Rattle.values.proofs.Round.{value-fits}
 use Rattle.defaults.specs.Table.{Given, initial, partition, failed, Entry, entriesOf, entries, tableMark, tableVersion, TableTree}
 use Rattle.defaults.specs.Table.{countedTable, tableFrom, table}
 use Rattle.defaults.specs.Lookup.{Taken, refused, nothing, taken, unlessNull, ofSource, givenTo, isPartitionOf, isInitialOf, firstEntry, getDefaultValue}
-use Rattle.defaults.specs.Answers.{tableOf}
-use Rattle.defaults.specs.Stands.{TableAt, Answers}
+use Rattle.defaults.specs.code.Answers.{tableOf}
+use Rattle.defaults.specs.code.Stands.{TableAt, Answers}
 use Rattle.defaults.specs.declared.lookup.DefaultFieldValues.{DefaultFieldValues}
 use Rattle.defaults.specs.declared.lookup.DefaultValue.{DefaultValue}
 use Rattle.defaults.specs.declared.read.TableVersion.{TableVersion}
@@ -151,7 +151,8 @@ module _ (s : Bytes) {r : DefaultValue} where
       let w : t ≡ leafAt s l = sym (h .type) ∙ ap (leafAt s) p in
       made v (h .end) p q w (h .inside) (h .reads)
     where
-      made : {t : LeafType} {l m : LeafSpan} {b c : Cursor} (v : Value) (o : ℕ) → m ≡ l → b ≡ c → t ≡ leafAt s l → spanIn s (m .zone) → value (leaf t) s (b .at) ≡ ok v o
+      made : {t : LeafType} {l m : LeafSpan} {b c : Cursor} (v : Value) (o : ℕ) → m ≡ l → b ≡ c → t ≡ leafAt s l → spanIn s (m .zone) → value (leaf t) s
+          (b .at) ≡ ok v o
           → DefaultAt s (taken t v) l (c .at)
       made {t} {l} {m} {b} {c} v o p q w i h = record {
         tree = v;
@@ -193,7 +194,8 @@ unfolding firstEntry choose
 first-taken f k [] r i h = i h
 first-taken f k (e ∷ es) r {m} {w} i h = go (f e) (first-taken f k es r i) h
   where
-    go : (b : Bool) → (firstEntry f (givenTo k) es r ≡ taken m w → isNullValue w ≡ false) → choose b (givenTo k (e .given)) (firstEntry f (givenTo k) es r) ≡ taken m w → isNullValue w ≡ false
+    go : (b : Bool) → (firstEntry f (givenTo k) es r ≡ taken m w → isNullValue w ≡ false) → choose b (givenTo k (e .given))
+        (firstEntry f (givenTo k) es r) ≡ taken m w → isNullValue w ≡ false
     go true j q = given-taken k (e .given) q
     go false j q = j q
 
@@ -213,7 +215,8 @@ presence-ends s at {b} {m} e =
     go i false true e = cc
     go i false false e = clash (cc)
 
-pub present-byte : (l : LeafType) (s : Bytes) (at : ℕ) {v : Value} {m : ℕ} → value (leaf l) s at ≡ ok v m → isNullValue v ≡ false → presence s at ≡ ok true (at + 1)
+pub present-byte : (l : LeafType) (s : Bytes) (at : ℕ) {v : Value} {m : ℕ} → value (leaf l) s at ≡ ok v m → isNullValue v ≡ false → presence s at ≡ ok
+    true (at + 1)
 unfolding value nullable choose
 present-byte l s at {v} {m} h n =
     let (b, i, a, q) = next-ok (presence s at) _ h in

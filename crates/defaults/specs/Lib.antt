@@ -1,6 +1,3 @@
 pub mod Table
 pub mod Lookup
-pub mod Answers
-pub mod Scan
-pub mod Index
-pub mod Stands
+pub mod code

@@ -11,7 +11,7 @@ use lib.Dec.{eqb}
 use Rattle.layout.specs.Bytes.{Bytes, sameBytes}
 use Rattle.layout.specs.Parser.{Res, refuse, ok, Parser, next, choose, _>>=_, _>>_, pure, fail, test, if, byte, u16, u32}
 use Rattle.layout.specs.Tree.{LeafType, leaf}
-use Rattle.layout.specs.Layout.{Kind, aLeaf, aStruct, aList, anArray, plainLeaf, leafKind, datetimeKind, decimalKind, sized, ended}
+use Rattle.layout.specs.Layout.{Head, aLeaf, aStruct, aList, anArray, plainLeaf, leafHead, datetimeHead, decimalHead, sized, ended}
 use Rattle.layout.specs.declared.columns.FieldId.{FieldId}
 use Rattle.values.specs.Value.{Value, Values}
 use Rattle.values.specs.Reading.{value, times}
@@ -83,7 +83,7 @@ repeatsAnyEntry e (f ∷ fs) = repeatsOwned e f || repeatsAnyEntry e fs
 
 -- ---- an entry
 
-unfoldable pub onlyLeaf : Kind → Parser LeafType
+unfoldable pub onlyLeaf : Head → Parser LeafType
 onlyLeaf (aLeaf l) = pure l
 onlyLeaf (aStruct n) = fail 3
 onlyLeaf aList = fail 3
@@ -93,7 +93,7 @@ onlyLeaf (anArray w) = fail 3
 unfoldable pub defaultType : Parser LeafType
 defaultType = do
   c ← byte
-  k ← if (eqb c 14) datetimeKind (if (eqb c 21) decimalKind (leafKind (plainLeaf c)))
+  k ← if (eqb c 14) datetimeHead (if (eqb c 21) decimalHead (leafHead (plainLeaf c)))
   onlyLeaf k
 
 unfoldable pub initialEntry : Parser Given

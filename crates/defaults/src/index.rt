@@ -4,7 +4,7 @@
 ghost use mathlib.Core.Path.{_≡_};
 ghost use Prim.Native.Nat.{_≤_, _<_, _/_};
 ghost use lib.ListN.{length};
-ghost use Rattle.defaults.specs.Index.{links, headOf, pushed, Cleared};
+ghost use Rattle.defaults.specs.code.Index.{links, headOf, pushed, Cleared};
 use layout::columns::FieldId;
 
 // Where the head of an id's chain stands, in an index of this size for a table of this length.

@@ -2,10 +2,10 @@
 ghost use mathlib.Core.Path.{_≡_};
 ghost use Prim.Native.Nat.{ℕ};
 ghost use Rattle.layout.specs.Tree.{leaf};
-ghost use Rattle.layout.specs.Answers.{leafAt, spanIn};
-ghost use Rattle.values.specs.Stands.{ValueAt, EachAt};
+ghost use Rattle.layout.specs.code.Answers.{leafAt, spanIn};
+ghost use Rattle.values.specs.code.Stands.{ValueAt, EachAt};
 ghost use Rattle.defaults.specs.Lookup.{unlessNull, ofSource, givenTo, getDefaultValue};
-ghost use Rattle.defaults.specs.Stands.{TableAt, IndexedTableAt, GivenAt, LoadedAt, Answers};
+ghost use Rattle.defaults.specs.code.Stands.{TableAt, IndexedTableAt, GivenAt, LoadedAt, Answers};
 ghost use Rattle.defaults.specs.declared.read.EntryKind.the-variants.{Initial, Partition};
 use crate::read::EntryFound;
 use crate::read::EntryKind;

@@ -41,7 +41,8 @@ use Rattle.demands.proofs.Refusing.{RefusesIn, refused-in, Answers, in-
 use Rattle.demands.proofs.Numbers.{DefaultsIn, none-in, lookup-in, build-in}
 use Rattle.demands.proofs.Passed.{ok-eq, number-eq}
 
-pub built-passes : {v : Matching} {p : Policy} {d : Defaults} {incoming target bytes : Bytes} → Built v p d incoming target bytes → checkPlan incoming target bytes ≡ accepted tt
+pub built-passes : {v : Matching} {p : Policy} {d : Defaults} {incoming target bytes : Bytes} → Built v p d incoming target bytes → checkPlan incoming
+    target bytes ≡ accepted tt
 unfolding checkPlan readPlan readAt
 built-passes B = rw (B .incomingRead .reads, B .targetRead .reads, B .reads, B .passes)
 
@@ -54,7 +55,8 @@ module _ {v : Matching} {p : Policy} {d : Defaults} {incoming target bytes rec :
   record-reads = ap (λ (cs : Columns). recordMarked requiredOf cs rec) (sym from-eq) ∙ F .reads
 
   pub record-fits : FitsAll (fieldsOf (B .from)) (F .values)
-  record-fits = record-back (fieldsOf (B .from)) rec or (F .values) (F .end) (record-kept requiredOf rec (B .from) .forth (F .values) (F .end) record-reads .0) .fits
+  record-fits = record-back (fieldsOf (B .from)) rec or (F .values) (F .end) (record-kept requiredOf rec (B .from) .forth (F .values) (F .end)
+      record-reads .0) .fits
 
   pub run-is : (room : ℕ) → runPlan incoming target bytes rec room ≡ run (F .values) (B .selectors) room
   unfolding runPlan readPlan readAt answered
@@ -144,13 +146,15 @@ module _ (v : Matching) (p : Policy) (incoming target : Bytes) (space : ℕ) whe
       let (ss, h, l) = built-long v space (build-in v p d o a b (named-unmarked v r)) e in
       record { defined = record { from = a; to = b; incomingRead = q; targetRead = r; selectors = ss; built = h }; long = l }
 
-pub by-name-past : (p : Policy) (incoming target : Bytes) (space : ℕ) → buildByName p incoming target space ≡ refusedAt 27 0 → PlanTooLong ByName p noDefaults incoming target space
+pub by-name-past : (p : Policy) (incoming target : Bytes) (space : ℕ) → buildByName p incoming target space ≡ refusedAt 27 0 → PlanTooLong ByName p
+    noDefaults incoming target space
 unfolding buildByName isIn
 by-name-past p incoming target space e =
     let (a, b, q, r, e) = layouts-past ByName incoming target _ refl (λ h. omega (arith, h)) e in
     built-past ByName p incoming target space noDefaults (none-in (columnRefusals ByName)) a b q r e
 
-pub by-name-back : (p : Policy) (incoming target : Bytes) (space : ℕ) → PlanTooLong ByName p noDefaults incoming target space → buildByName p incoming target space ≡ refusedAt 27 0
+pub by-name-back : (p : Policy) (incoming target : Bytes) (space : ℕ) → PlanTooLong ByName p noDefaults incoming target space → buildByName p incoming
+    target space ≡ refusedAt 27 0
 unfolding buildByName bothLayouts ofEdition readAt placed demand answered
 by-name-back p incoming target space L =
     let I = L .defined .incomingRead in

@@ -4,7 +4,7 @@ use mathlib.Core.Path.{_≡_, refl}
 use mathlib.Core.List.{[], _∷_, _++_}
 use Rattle.layout.specs.Bytes.{Bytes}
 use Rattle.layout.specs.Parser.{refuse}
-use Rattle.layout.specs.Layout.{decimalParams, decimalKind, layout}
+use Rattle.layout.specs.Layout.{decimalParams, decimalHead, layout}
 use Rattle.rules.specs.declared.policy.Policy.{Policy}
 use Rattle.rules.specs.Policies.{policyOf}
 use Rattle.rules.specs.Params.{decimalsOf}
@@ -17,7 +17,7 @@ use Rattle.plan.proofs.Samples.{read, checked, ran, recorded}
 use Rattle.matching.specs.Calls.{buildByName, buildByNumber}
 use Rattle.matching.proofs.Samples.{built}
 use Rattle.demands.specs.Refusals.{isIn, placeOf}
-use Rattle.demands.proofs.Table.{marking, on, lay, pln, casting, build, run, int64}
+use Rattle.demands.proofs.DefaultsTable.{marking, on, lay, pln, casting, build, run, int64}
 
 -- every flag on but decimal_widening
 abbrev off : Policy
@@ -109,7 +109,8 @@ pub record Decimals : Type 0 where
   pub plan-large : checkPlan (lay (digits 9 2)) (lay (digits 9 2)) (pln (1 ∷ 1 ∷ 0x74 ∷ (digits 9 2 ++ large-9))) ≡ refusedAt 30 0
 
 pub decimals : Decimals
-unfolding built read checked ran recorded marking checkPlan runPlan readPlan decimalParams decimalKind decimalsOf decimal withinPrecision recordNumber placeOf isIn
+unfolding built read checked ran recorded marking checkPlan runPlan readPlan decimalParams decimalHead decimalsOf decimal withinPrecision recordNumber
+    placeOf isIn
 decimals =
     record {
       smallest = refl;

@@ -1,4 +1,5 @@
--- Demands 1 and 3, sentence by sentence, over bytes and in the terms of the exported calls' contracts: `checkPlan`, `runPlan`, `bufferAfter` (crate plan, specs/Calls.antt), `buildByName`,
+-- Demands 1 and 3, sentence by sentence, over bytes and in the terms of the exported calls' contracts: `checkPlan`, `runPlan`, `bufferAfter` (crate plan,
+-- specs/Calls.antt), `buildByName`,
 -- `buildByNumber` (crate matching, specs/Calls.antt). `AllBytes` says that a list's numbers are below 256, as those of every lent slice are. Assumes nothing.
 use Prim.Native.Nat.{ℕ, _<_, _^_}
 use mathlib.Core.Path.{_≡_, refl, sym, ap, _∙_, subst}
@@ -46,12 +47,13 @@ use Rattle.defaults.specs.Table.{entriesOf, TableTree, table}
 use Rattle.defaults.specs.Lookup.{getDefaultValue}
 use Rattle.rules.specs.declared.policy.Policy.{Policy}
 use Rattle.rules.specs.declared.policy.ExtraColumnsPolicy.the-variants.{Ignore}
-use Rattle.layout.specs.Find.{at, columnAt}
+use Rattle.layout.specs.Find.{present, columnAt}
 use Rattle.layout.specs.declared.columns.Position.{Position}
 use Rattle.layout.specs.declared.matching.Matching.the-variants.{ByName, ByNumber}
 use Rattle.demands.specs.Refusals.{isIn, tableRefusals, Call, readingLayout, building, checkingPlan, running, placeOf}
 use Rattle.demands.specs.Refusals.{refusalIn, Refusal, Placed, readLayout, layoutsRead, tableRead, columnCount, selectorCount}
-use Rattle.demands.specs.Stated.{FitsLayout, SelectorsOf, LayoutOf, columnsOf, output, Running, PlanTooLong, NumberTooLong, ExtraColumn, NumberExtraColumn}
+use Rattle.demands.specs.Stated.{FitsLayout, SelectorsOf, LayoutOf, columnsOf, output, Running, PlanTooLong, NumberTooLong, ExtraColumn}
+use Rattle.demands.specs.Stated.{NumberExtraColumn}
 use Rattle.demands.proofs.Refusing.{refused-in, refused-as}
 use Rattle.demands.proofs.Parsers.{table-in, plan-in}
 use Rattle.demands.proofs.Refusals.{read-layout-in, by-name-in, by-number-in, check-plan-in, run-plan-in, refusal-placed}
@@ -59,8 +61,10 @@ use Rattle.demands.proofs.Passed.{passed-runs, exceeds-exactly, ok-eq}
 use Rattle.demands.proofs.Built.{built-passes, built-due, by-name-past, by-name-back, by-number-past, by-number-back}
 use Rattle.demands.proofs.Extra.{by-name-raised, by-name-raises, name-ignoring, by-number-raised, by-number-raises, number-ignoring}
 
--- ---- Demand 1: "No input, however broken, stops a call, and nothing is written by a refused one: it returns its number from document 01 and every lent buffer is unchanged."
--- A call's contract (crate selector) has no `requires`, and gives its answer and its buffer at exit by these definitions for all bytes; `bufferAfter` is what stands in the buffer.
+-- ---- Demand 1: "No input, however broken, stops a call, and nothing is written by a refused one: it returns its number from document 01 and every lent
+-- buffer is unchanged."
+-- A call's contract (crate selector) has no `requires`, and gives its answer and its buffer at exit by these definitions for all bytes; `bufferAfter` is what
+-- stands in the buffer.
 
 pub refused-unchanged : (n k : ℕ) (buffer : Bytes) → bufferAfter (refusedAt n k) buffer ≡ buffer
 refused-unchanged n k buffer = refl
@@ -70,7 +74,8 @@ pub accepted-written : (result buffer : Bytes) → bufferAfter (accepted result)
 accepted-written result buffer = refl
 
 -- "It returns its number from document 01": a refused call's number is in the call's list (`refusalsOf`) and never 0, and it is met at k: of 1 to 6 and 50
--- the first layout or table that is refused, which is refused with this number; of 11 to 26, 28, 51, 54 and 55 a position below the number of the target's columns, of
+-- the first layout or table that is refused, which is refused with this number; of 11 to 26, 28, 51, 54 and 55 a position below the number of the target's
+-- columns, of
 -- 31 and 32 below that of the plan's top selectors; of 53 below the number of the incoming columns; of all others 0 (`Refusal`, specs/Refusals.antt).
 
 pub read-layout-refused : (s : Bytes) {n k : ℕ} → readLayout s ≡ refusedAt n k → Refusal readingLayout (refusalIn (layout s) ∷ []) 0 0 n k
@@ -97,15 +102,20 @@ module _ (incoming target bytes : Bytes) where
 
 -- The place of a refusal is the one that goes with its number: `placeOf n k` is k where the number has a place, and of all others, 50 to 52 and 54 to 56
 -- among them, 0 (`Placed`). How number and place are read out of the word that a call returns stands in crate selector, proofs/Decoded.antt.
-pub refused-placed : {c : Call} {things : List ℕ} {incoming columns n k : ℕ} → Refusal c things incoming columns n k → Placed things incoming columns n (placeOf n k)
+pub refused-placed : {c : Call} {things : List ℕ} {incoming columns n k : ℕ} → Refusal c things incoming columns n k → Placed things incoming columns n
+    (placeOf n k)
 refused-placed R = refusal-placed R
 
--- ---- Demand 3: "For every plan that passes the check from one layout to another, and every record that fits the first: the run refuses with 44 exactly when a strict cast that it
--- reaches multiplies a non-null date-time beyond signed 64 bits. Otherwise, given space, it writes a record that fits the second; short of space it refuses with 45, and
--- no other refusal is left." `ReachesOverflow` (crate plan, specs/Reach.antt) is the condition of 44; the defined output is `output`, and there is space for it where
+-- ---- Demand 3: "For every plan that passes the check from one layout to another, and every record that fits the first: the run refuses with 44 exactly when
+-- a strict cast that it
+-- reaches multiplies a non-null date-time beyond signed 64 bits. Otherwise, given space, it writes a record that fits the second; short of space it refuses
+-- with 45, and
+-- no other refusal is left." `ReachesOverflow` (crate plan, specs/Reach.antt) is the condition of 44; the defined output is `output`, and there is space for
+-- it where
 -- `spacious` says so: for the buffer and for 16,384 bytes.
 
-module _ (incoming target bytes rec : Bytes) (ob : AllBytes bytes) (or : AllBytes rec) (passes : checkPlan incoming target bytes ≡ accepted tt) (F : FitsLayout incoming rec) (room : ℕ) where
+module _ (incoming target bytes rec : Bytes) (ob : AllBytes bytes) (or : AllBytes rec) (passes : checkPlan incoming target bytes ≡ accepted tt)
+    (F : FitsLayout incoming rec) (room : ℕ) where
   pub run-passed : Running incoming target bytes rec F room
   run-passed = passed-runs incoming target bytes rec ob or passes F room
 
@@ -117,7 +127,8 @@ module _ {incoming target bytes rec : Bytes} {F : FitsLayout incoming rec} {room
 
 -- ---- "Every plan that either builder writes passes this check between its own two layouts."
 
-module _ (p : Policy) (incoming target : Bytes) (oi : AllBytes incoming) (ot : AllBytes target) (space : ℕ) {bytes : Bytes} (built : buildByName p incoming target space ≡ accepted bytes) where
+module _ (p : Policy) (incoming target : Bytes) (oi : AllBytes incoming) (ot : AllBytes target) (space : ℕ) {bytes : Bytes}
+    (built : buildByName p incoming target space ≡ accepted bytes) where
   pub by-name-passes : checkPlan incoming target bytes ≡ accepted tt
   by-name-passes = built-passes (by-name-built p incoming target space oi ot built)
 
@@ -126,11 +137,14 @@ module _ (p : Policy) (index owner : ℕ) (incoming target defaults : Bytes) (oi
   pub by-number-passes : checkPlan incoming target bytes ≡ accepted tt
   by-number-passes = built-passes (by-number-built p index owner incoming target defaults space oi ot od built .built)
 
--- ---- "For every record that fits the incoming one, the run of such a plan between these same two, unless it refuses as just said, writes exactly the record that document 01
--- calls due: each target field holds the incoming field of the same path, converted by rule, or else its default or null." The due values are `dues` (crate matching,
+-- ---- "For every record that fits the incoming one, the run of such a plan between these same two, unless it refuses as just said, writes exactly the record
+-- that document 01
+-- calls due: each target field holds the incoming field of the same path, converted by rule, or else its default or null." The due values are `dues` (crate
+-- matching,
 -- specs/Due.antt), from the build's arguments and the record alone; `written` refuses them with 44 or 45 as above and else gives their bytes.
 
-module _ (p : Policy) (incoming target rec : Bytes) (oi : AllBytes incoming) (ot : AllBytes target) (or : AllBytes rec) (space : ℕ) {bytes : Bytes} (built : buildByName p incoming target space ≡ accepted bytes)
+module _ (p : Policy) (incoming target rec : Bytes) (oi : AllBytes incoming) (ot : AllBytes target) (or : AllBytes rec) (space : ℕ) {bytes : Bytes}
+    (built : buildByName p incoming target space ≡ accepted bytes)
     (F : FitsLayout incoming rec) (T : LayoutOf target) (room : ℕ) where
   pub by-name-due : runPlan incoming target bytes rec room ≡ written (dues ByName noDefaults (T .read .columns) (columnsOf F) (F .values)) room
   by-name-due = built-due (by-name-built p incoming target space oi ot built) or F T room
@@ -148,12 +162,15 @@ module _ (p : Policy) (index owner : ℕ) (incoming target defaults rec : Bytes)
       ∙ ap (λ (x : TableTree). written (dues ByNumber (getDefaultValue (entriesOf owner (x .entries)) index) (T .read .columns) (columnsOf F) (F .values)) room)
       (ok-eq (B .tableRead) r)
 
--- ---- "Matched by name, a built plan leaves a target column untouched exactly when the incoming column of that name has an equal type." The target column at the position j
+-- ---- "Matched by name, a built plan leaves a target column untouched exactly when the incoming column of that name has an equal type." The target column at
+-- the position j
 -- has the label b and the type u; its selector is s.
 
-module _ (p : Policy) (incoming target : Bytes) (oi : AllBytes incoming) (ot : AllBytes target) (space : ℕ) {bytes : Bytes} (built : buildByName p incoming target space ≡ accepted bytes)
+module _ (p : Policy) (incoming target : Bytes) (oi : AllBytes incoming) (ot : AllBytes target) (space : ℕ) {bytes : Bytes}
+    (built : buildByName p incoming target space ≡ accepted bytes)
     (I : LayoutOf incoming) (T : LayoutOf target) (S : SelectorsOf bytes) where
-  pub by-name-untouched : (j : Position) {k : Position} {b : Label} {u : ColumnType} {s : Selector} → columnAt j (T .read .columns) ≡ at k b u → SelectorAt (S .selectors) (j .0) s
+  pub by-name-untouched : (j : Position) {k : Position} {b : Label} {u : ColumnType} {s : Selector} → columnAt j (T .read .columns) ≡ present k b u →
+      SelectorAt (S .selectors) (j .0) s
       → Untouched (I .read .columns) b s ↔ EqualType (I .read .columns) b u
   by-name-untouched j {k} {b} {u} {s} e x =
       let B = by-name-built p incoming target space oi ot built in
@@ -162,7 +179,8 @@ module _ (p : Policy) (incoming target : Bytes) (oi : AllBytes incoming) (ot : A
       let g : S .selectors ≡ B .selectors = ok-eq (S .reads) (B .reads) in
       rw f (build-untouched p noDefaults (B .from) (B .to) (B .built) j (ap (columnAt j) (sym t) ∙ e) (subst (λ (ss : Selectors). SelectorAt ss (j .0) s) g x))
 
--- ---- 27 "just when the defined output is too long, for the buffer or for the fixed limit": the layouts read, the columns all matched, and there is no room for the plan's bytes
+-- ---- 27 "just when the defined output is too long, for the buffer or for the fixed limit": the layouts read, the columns all matched, and there is no room
+-- for the plan's bytes
 
 module _ (p : Policy) (incoming target : Bytes) (space : ℕ) where
   pub by-name-too-long : (buildByName p incoming target space ≡ refusedAt 27 0) ↔ PlanTooLong ByName p noDefaults incoming target space
@@ -178,7 +196,8 @@ module _ (p : Policy) (index owner : ℕ) (incoming target defaults : Bytes) (sp
 -- "value an i64 of magnitude below ten to the precision": so is every decimal of a record that fits, at whatever level
 module _ {lay rec : Bytes} (or : AllBytes rec) (F : FitsLayout lay rec) where
   pub values-fit : FitsAll (fieldsOf (columnsOf F)) (F .values)
-  values-fit = record-back (fieldsOf (columnsOf F)) rec or (F .values) (F .end) (record-kept requiredOf rec (columnsOf F) .forth (F .values) (F .end) (F .reads) .0) .fits
+  values-fit = record-back (fieldsOf (columnsOf F)) rec or (F .values) (F .end) (record-kept requiredOf rec (columnsOf F) .forth (F .values) (F .end)
+      (F .reads) .0) .fits
 
 pub decimal-within : {d : Decimal} {k : Leaf} {n : ℕ} → Fits (leaf (decimal d)) (vnumber k n) → natAbs (signed 64 n) < 10 ^ (d .precision)
 unfolding withinPrecision
@@ -229,7 +248,8 @@ pub plan-refused : (bytes : Bytes) {n : ℕ} → plan bytes ≡ refuse n → isI
 plan-refused bytes e = refused-in (plan-in bytes) e
 
 -- ---- Document 02, L3, "Strict top columns": "the first incoming column with no target counterpart refuses the build", "53 for such a column, tested after the
--- defaults are read and before the first target column, its place being the incoming position". 53 holds exactly where the layouts are read and of an edition that is taken,
+-- defaults are read and before the first target column, its place being the incoming position". 53 holds exactly where the layouts are read and of an edition
+-- that is taken,
 -- by number the table too, a column is extra under Raise, and the place is the first one's position (`ExtraColumn`, specs/Stated.antt).
 
 module _ (p : Policy) (incoming target : Bytes) (space : ℕ) where
@@ -238,7 +258,8 @@ module _ (p : Policy) (incoming target : Bytes) (space : ℕ) where
 
   -- "Ignore is as before": every answer is what it was, without the test
   pub by-name-ignoring : p .«extra_columns» ≡ Ignore
-      → buildByName p incoming target space ≡ bothLayouts ByName incoming target (λ a b. answered (buildFrom ByName p noDefaults b a 0) (λ ss. writtenPlan space ss))
+      → buildByName p incoming target space ≡ bothLayouts ByName incoming target (λ a b. answered (buildFrom ByName p noDefaults b a 0)
+      (λ ss. writtenPlan space ss))
   by-name-ignoring h = name-ignoring p incoming target space h
 
 module _ (p : Policy) (index owner : ℕ) (incoming target defaults : Bytes) (space : ℕ) where
@@ -251,10 +272,12 @@ module _ (p : Policy) (index owner : ℕ) (incoming target defaults : Bytes) (sp
       answered (buildFrom ByNumber p (getDefaultValue (entriesOf owner (t .entries)) index) b a 0) (λ ss. writtenPlan space ss)))
   by-number-ignoring h = number-ignoring p index owner incoming target defaults space h
 
--- ---- Document 02, L5, "Required fields". 54, 55 and 56 are in the lists above, 54 and 55 for a build by number alone; what passes the check, 55 included, and what
+-- ---- Document 02, L5, "Required fields". 54, 55 and 56 are in the lists above, 54 and 55 for a build by number alone; what passes the check, 55 included,
+-- and what
 -- fits, 56 included, is what demand 3 is said of; so is that both builders' plans pass the check.
 
--- "An accepted plan must never give null to a required field": what the run of a plan that passed writes fits the target (`run-passed`), and no null of what fits stands
+-- "An accepted plan must never give null to a required field": what the run of a plan that passed writes fits the target (`run-passed`), and no null of what
+-- fits stands
 -- in a required field, at whatever level (`FilledAll`, crate values)
 module _ {lay rec : Bytes} (F : FitsLayout lay rec) where
   pub required-filled : FilledAll requiredOf (columnsOf F) (F .values)

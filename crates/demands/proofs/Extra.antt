@@ -53,13 +53,15 @@ unextra v space (in-accepted {a = ss} u) e = absurd (omega (arith, written-lengt
 unextra v space (in-refusedAt R) e = true≠false (ap (λ (m : ℕ). isIn m (columnRefusals v)) (sym (number-eq e)) ∙ R .among) (no-column v)
 
 module _ (v : Matching) (p : Policy) (space : ℕ) where
-  raised : (d : Defaults) → DefaultsIn (columnRefusals v) d → (a b : Columns) {k : ℕ} → (v ≡ ByName → UnmarkedAll requiredOf b) → answered (build v p d a b) (λ ss. writtenPlan space ss) ≡ refusedAt 53 k
+  raised : (d : Defaults) → DefaultsIn (columnRefusals v) d → (a b : Columns) {k : ℕ} → (v ≡ ByName → UnmarkedAll requiredOf b) → answered
+      (build v p d a b) (λ ss. writtenPlan space ss) ≡ refusedAt 53 k
       → (p .«extra_columns» ≡ Raise) × FirstExtra v b a 0 k
   unfolding build answered
   raised d o a b {k} m e = go (extraColumns (p .«extra_columns») v a b) refl e
     where
       go : (x : Answer (Unit {0})) → extraColumns (p .«extra_columns») v a b ≡ x
-          → answered (answered x (λ u. buildFrom v p d b a 0)) (λ ss. writtenPlan space ss) ≡ refusedAt 53 k → (p .«extra_columns» ≡ Raise) × FirstExtra v b a 0 k
+          → answered (answered x (λ u. buildFrom v p d b a 0)) (λ ss. writtenPlan space ss) ≡ refusedAt 53 k → (p .«extra_columns» ≡ Raise) × FirstExtra
+          v b a 0 k
       go (accepted u) q e = absurd (unextra v space (from-in v p d o a b 0 (countColumns b) (omega arith) m) e)
       go (refusedAt n j) q e =
           let (r, (s, f)) = columns-refused (p .«extra_columns») v a b q in
@@ -84,7 +86,8 @@ module _ (p : Policy) (incoming target : Bytes) (space : ℕ) where
       rw (I .reads, T .reads, I .taken, T .taken, build-raised ByName p noDefaults (E .from) (E .to) (E .raises) (E .first))
 
   pub name-ignoring : p .«extra_columns» ≡ Ignore
-      → buildByName p incoming target space ≡ bothLayouts ByName incoming target (λ a b. answered (buildFrom ByName p noDefaults b a 0) (λ ss. writtenPlan space ss))
+      → buildByName p incoming target space ≡ bothLayouts ByName incoming target (λ a b. answered (buildFrom ByName p noDefaults b a 0)
+      (λ ss. writtenPlan space ss))
   unfolding buildByName
   name-ignoring h =
       ap (bothLayouts ByName incoming target)
@@ -113,7 +116,15 @@ module _ (p : Policy) (index owner : ℕ) (incoming target defaults : Bytes) (sp
       let E = N .column in
       let I = E .incomingRead in
       let T = E .targetRead in
-      rw (I .reads, T .reads, I .taken, T .taken, N .reads, build-raised ByNumber p (getDefaultValue (entriesOf owner (N .tree .entries)) index) (E .from) (E .to) (E .raises) (E .first))
+      rw (
+        I .reads,
+        T .reads,
+        I .taken,
+        T .taken,
+        N .reads,
+        build-raised ByNumber p (getDefaultValue (entriesOf owner (N .tree .entries)) index)
+            (E .from) (E .to) (E .raises) (E .first),
+      )
 
   pub number-ignoring : p .«extra_columns» ≡ Ignore
       → buildByNumber p index owner incoming target defaults space
@@ -122,4 +133,5 @@ module _ (p : Policy) (index owner : ℕ) (incoming target defaults : Bytes) (sp
   unfolding buildByNumber
   number-ignoring h =
       ap (bothLayouts ByNumber incoming target)
-      (λ i a b. readAt 3 (table defaults) (λ t. answered (build-ignoring ByNumber p (getDefaultValue (entriesOf owner (t .entries)) index) a b h i) (λ ss. writtenPlan space ss)))
+      (λ i a b. readAt 3 (table defaults) (λ t. answered (build-ignoring ByNumber p (getDefaultValue (entriesOf owner (t .entries)) index) a b h i)
+      (λ ss. writtenPlan space ss)))

@@ -8,7 +8,7 @@ use Rattle.rules.specs.Policies.{policyOf}
 use Rattle.plan.specs.Result.{Answer, accepted, refusedAt}
 use Rattle.matching.specs.Calls.{buildByName, buildByNumber}
 use Rattle.matching.proofs.Samples.{built}
-use Rattle.demands.proofs.Table.{lay, casting}
+use Rattle.demands.proofs.DefaultsTable.{lay, casting}
 
 -- every flag on; all but integer_upcast; all but missing_columns; all but this and
 -- extra_columns; integer_upcast and extra_columns alone

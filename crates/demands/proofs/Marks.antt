@@ -10,7 +10,7 @@ use Rattle.plan.proofs.Samples.{read, checked, ran, recorded}
 use Rattle.matching.specs.Calls.{buildByNumber}
 use Rattle.matching.proofs.Samples.{built}
 use Rattle.demands.specs.Refusals.{isIn, placeOf}
-use Rattle.demands.proofs.Table.{marking, on, pln}
+use Rattle.demands.proofs.DefaultsTable.{marking, on, pln}
 use Rattle.demands.proofs.Decimals.{shown}
 
 -- a layout of version 3 with n columns; a column of the id i and the mark r, all named t

@@ -9,7 +9,7 @@ use lib.Dec.{leb}
 use borrow.Author.Tests.{leb-true}
 use Rattle.layout.specs.Parser.{choose}
 use Rattle.layout.specs.Tree.{LeafType, leafOf, zoneOf, Label, ColumnType, cleaf, cstruct, clist, carray, Columns, cnil, ccons, countColumns, dtypeOf}
-use Rattle.layout.specs.Find.{Lookup, absent, at, counterpart}
+use Rattle.layout.specs.Find.{Lookup, absent, present, counterpart}
 use Rattle.layout.specs.declared.columns.FieldId.{FieldId}
 use Rattle.layout.specs.declared.columns.Position.{Position}
 use Rattle.layout.specs.declared.matching.Matching.{Matching}
@@ -18,7 +18,7 @@ use Rattle.rules.specs.declared.policy.Policy.{Policy}
 use Rattle.rules.specs.declared.policy.ExtraColumnsPolicy.{ExtraColumnsPolicy}
 use Rattle.rules.specs.declared.policy.ExtraColumnsPolicy.the-variants.{Ignore, Raise}
 use Rattle.rules.specs.declared.outcome.CastOption.{CastOption}
-use Rattle.rules.specs.Choice.{if_then_else_}
+use Rattle.rules.specs.code.Choice.{if_then_else_}
 use Rattle.rules.specs.Outcomes.{Verdict, untouched, refused, cast, need}
 use Rattle.rules.specs.Params.{paramsOf, sameAsUtc, widened}
 use Rattle.rules.specs.Classes.{isNull, isInteger, isFloat, isDatetime, unit, isCategorical, isString, isDecimal}
@@ -34,15 +34,18 @@ use Rattle.plan.specs.Encode.{encodePlan}
 use Rattle.plan.specs.Read.{longestPlan}
 use Rattle.plan.proofs.Results.{both}
 use Rattle.defaults.specs.Table.{Given, initial, partition, failed, Entry}
-use Rattle.defaults.specs.Lookup.{Taken, refused as refusedTaken, nothing, taken, unlessNull, ofSource, givenTo, firstEntry, isPartitionOf, isInitialOf, getDefaultValue}
+use Rattle.defaults.specs.Lookup.{Taken, refused as refusedTaken, nothing, taken, unlessNull, ofSource, givenTo, firstEntry, isPartitionOf, isInitialOf}
+use Rattle.defaults.specs.Lookup.{getDefaultValue}
 use Rattle.matching.specs.Default.{Defaults, noDefaults, leafDefault, buildIcebergDefaultValue, defaultsOf, missingValue}
-use Rattle.matching.specs.Build.{leafPart, structPart, listPart, arrayPart, unlessNullType, sameElement, distinct, distinctNames, missing, ruled, sought, attachTransforms, attachFields, isAbsent, extraColumnErr, extraColumns, buildColumnSelector, buildFrom, build}
+use Rattle.matching.specs.Build.{leafPart, structPart, listPart, arrayPart, unlessNullType, sameElement, distinct, distinctNames, missing, ruled, sought}
+use Rattle.matching.specs.Build.{attachTransforms, attachFields, isAbsent, extraColumnErr, extraColumns, buildColumnSelector, buildFrom, build}
 use Rattle.matching.specs.Build.{keepsRequired, fillsRequired}
 use Rattle.matching.specs.Calls.{roomFor, writtenPlan}
 use Rattle.matching.proofs.Required.{keeps-optional}
 use Rattle.matching.proofs.Unmarked.{struct-bare, list-bare, array-bare, column-bare, fills-unmarked}
 use Rattle.demands.specs.Refusals.{isIn, pairRefusals, extraRefusals, columnRefusals}
-use Rattle.demands.proofs.Refusing.{all, all-in, ResultIn, in-gives, in-refuses, bind-in, demand-in, result-choose-in, Answers, in-accepted, in-refusedAt, placed-in, answered-in, answers-as, ColumnRefusal, BuildRefusal, by-extra, by-column}
+use Rattle.demands.proofs.Refusing.{all, all-in, ResultIn, in-gives, in-refuses, bind-in, demand-in, result-choose-in, Answers, in-accepted}
+use Rattle.demands.proofs.Refusing.{in-refusedAt, placed-in, answered-in, answers-as, ColumnRefusal, BuildRefusal, by-extra, by-column}
 
 -- a target column refuses with a number of its list
 abbrev ColumnIn : {A : Type 0} → Matching → Result A → Type 0
@@ -152,7 +155,8 @@ module _ {ns : List ℕ} {d : Defaults} (o : DefaultsIn ns d) where
     defaults-in (ccons l t cs) = bind-in (default-in t (l .id)) (λ x. bind-in (defaults-in cs) (λ g. in-gives))
 
   missing-in : (insert : Bool) (n : ℕ) (l : Label) (u : ColumnType) → isIn n ns ≡ true
-      → ((x : Value) → ResultIn {A = Selector} ns (demand (fillsRequired l u x) 54 (gives (constant (l .name) (dtypeOf u) x)))) → ResultIn ns (missing d insert n l u)
+      → ((x : Value) → ResultIn {A = Selector} ns (demand (fillsRequired l u x) 54 (gives (constant (l .name) (dtypeOf u) x)))) → ResultIn ns
+      (missing d insert n l u)
   unfolding missing missingValue
   missing-in insert n l u e f = demand-in insert n e (bind-in (bind-in (default-in u (l .id)) (λ x. in-gives)) f)
 
@@ -214,7 +218,7 @@ module _ (v : Matching) where
       → ((k : Position) (l : Label) (t : ColumnType) → ColumnIn v (f k l t)) → ColumnIn v (sought x r f)
   unfolding sought
   sought-in absent o g = o
-  sought-in (at k l t) o g = g k l t
+  sought-in (present k l t) o g = g k l t
 
 -- 12 is tested by name alone, 25 by number alone
 distinct-in : (v : Matching) (cs : Columns) {A : Type 0} {r : Result A} → ColumnIn v r → ColumnIn v (demand (distinct v cs) 12 r)
@@ -234,7 +238,8 @@ unfolding demand isIn
 kept-in ByName a t b m o = rw (keeps-optional a t b (m refl)) o
 kept-in ByNumber a t b m o = demand-in (keepsRequired a t b) 55 refl o
 
-filled-in : (v : Matching) (b : Label) (u : ColumnType) → (v ≡ ByName → (b .required ≡ false) × Unmarked requiredOf u) → (x : Value) {A : Type 0} {r : Result A} → ColumnIn v r
+filled-in : (v : Matching) (b : Label) (u : ColumnType) → (v ≡ ByName → (b .required ≡ false) × Unmarked requiredOf u) → (x : Value) {A : Type 0}
+    {r : Result A} → ColumnIn v r
     → ColumnIn v (demand (fillsRequired b u x) 54 r)
 unfolding demand isIn
 filled-in ByName b u m x o = let (e, h) = m refl in rw (fills-unmarked b u x e h) o

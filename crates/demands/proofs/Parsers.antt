@@ -6,8 +6,9 @@ use mathlib.Core.List.{List, [], _∷_, _++_}
 use Rattle.layout.specs.Bytes.{Bytes}
 use Rattle.layout.specs.Parser.{Res, refuse, ok, Parser, choose, byte, chunk, u16, u32}
 use Rattle.layout.specs.Tree.{LeafType, leafOf, Label, ColumnType, cleaf, cstruct, clist, carray, Columns, cnil, ccons, leaf}
-use Rattle.layout.specs.Layout.{Kind, aLeaf, aStruct, aList, anArray, plainLeaf, text, unit, leafKind, datetimeKind, decimalParams, decimalKind}
-use Rattle.layout.specs.Layout.{structKind, arrayKind, kindOf, kind, fieldId, requiredMark, fieldMark, labelRest, label, elementLabel, columns, listType, arrayType, structType, body}
+use Rattle.layout.specs.Layout.{Head, aLeaf, aStruct, aList, anArray, plainLeaf, text, unit, leafHead, datetimeHead, decimalParams, decimalHead}
+use Rattle.layout.specs.Layout.{structHead, arrayHead, kindOf, kind, fieldId, requiredMark, fieldMark, labelRest, label, elementLabel, columns, listType}
+use Rattle.layout.specs.Layout.{arrayType, structType, body}
 use Rattle.layout.specs.Layout.{type, topRule, innerRule, deepest, edition, sized, ended, counted, layoutFrom, layout}
 use Rattle.layout.specs.declared.leaf.Leaf.{Leaf}
 use Rattle.layout.specs.declared.types.PlainLeaf.{PlainLeaf}
@@ -76,17 +77,17 @@ module _ (s : Bytes) where
   unfolding unit isIn
   unit-in at = next-in (byte-in refl s at) (λ u i. choose-in _ in-ok (choose-in _ in-ok (choose-in _ in-ok (in-refuse refl))))
 
-  leaf-kind-in : (l : PlainLeaf) (at : ℕ) → RefusesIn tableRefusals (leafKind l s at)
-  unfolding leafKind isIn
+  leaf-kind-in : (l : PlainLeaf) (at : ℕ) → RefusesIn tableRefusals (leafHead l s at)
+  unfolding leafHead isIn
   leaf-kind-in (Known l) at = in-ok
   leaf-kind-in Unknown at = in-refuse refl
 
-  datetime-kind-in : (at : ℕ) → RefusesIn tableRefusals (datetimeKind s at)
-  unfolding datetimeKind
+  datetime-kind-in : (at : ℕ) → RefusesIn tableRefusals (datetimeHead s at)
+  unfolding datetimeHead
   datetime-kind-in at = next-in (unit-in at) (λ u i. next-in (text-in i) (λ z j. in-ok))
 
-  decimal-kind-in : (at : ℕ) → RefusesIn (2 ∷ 50 ∷ []) (decimalKind s at)
-  unfolding decimalKind decimalParams isIn
+  decimal-kind-in : (at : ℕ) → RefusesIn (2 ∷ 50 ∷ []) (decimalHead s at)
+  unfolding decimalHead decimalParams isIn
   decimal-kind-in at =
       next-in (next-in (byte-in refl s at) (λ p i. next-in (byte-in refl s i) (λ c j. choose-in _ in-ok (in-refuse refl)))) (λ d i. in-ok)
 
@@ -100,12 +101,12 @@ module _ (s : Bytes) where
 
   -- ---- a layout
 
-  struct-kind-in : (at : ℕ) → RefusesIn layoutRefusals (structKind s at)
-  unfolding structKind isIn
+  struct-kind-in : (at : ℕ) → RefusesIn layoutRefusals (structHead s at)
+  unfolding structHead isIn
   struct-kind-in at = next-in (u16-in refl s at) (λ n i. in-ok)
 
-  array-kind-in : (at : ℕ) → RefusesIn layoutRefusals (arrayKind s at)
-  unfolding arrayKind isIn
+  array-kind-in : (at : ℕ) → RefusesIn layoutRefusals (arrayHead s at)
+  unfolding arrayHead isIn
   array-kind-in at = next-in (u32-in refl s at) (λ w i. in-ok)
 
   kind-of-in : (c at : ℕ) → RefusesIn layoutRefusals (kindOf c s at)
@@ -154,7 +155,7 @@ module _ (s : Bytes) where
         next-in (choose-in _ in-ok (in-refuse refl)) (λ u k.
         next-in (columns-in n (earlier ++ (l ∷ [])) k) (λ cs m. in-ok))))
 
-    body-in : (k : Kind) (at : ℕ) → RefusesIn layoutRefusals (body v r p k s at)
+    body-in : (k : Head) (at : ℕ) → RefusesIn layoutRefusals (body v r p k s at)
     unfolding body structType listType arrayType
     body-in (aLeaf l) at = in-ok
     body-in (aStruct n) at = next-in (columns-in n [] at) (λ cs i. in-ok)
@@ -234,7 +235,7 @@ module _ (s : Bytes) where
 
   -- ---- a table of defaults
 
-  only-leaf-in : (k : Kind) (at : ℕ) → RefusesIn tableRefusals (onlyLeaf k s at)
+  only-leaf-in : (k : Head) (at : ℕ) → RefusesIn tableRefusals (onlyLeaf k s at)
   unfolding onlyLeaf isIn
   only-leaf-in (aLeaf l) at = in-ok
   only-leaf-in (aStruct n) at = in-refuse refl

@@ -57,7 +57,8 @@ unfolding checkMarked
 types-pass Γ Δ ss e = answered-accepted _ _ e .1
 
 -- the run of what passed, over a record that was read
-run-is : {incoming target bytes : Bytes} (P : Passed incoming target bytes) (rec : Bytes) {ρ : Values} {k : ℕ} → recordMarked requiredOf (P .from .columns) rec ≡ ok ρ k → (room : ℕ)
+run-is : {incoming target bytes : Bytes} (P : Passed incoming target bytes) (rec : Bytes) {ρ : Values} {k : ℕ} → recordMarked requiredOf
+    (P .from .columns) rec ≡ ok ρ k → (room : ℕ)
     → runPlan incoming target bytes rec room ≡ run ρ (P .plan .selectors) room
 unfolding runPlan readPlan readAt answered
 run-is P rec r room = rw (P .fromReads, P .toReads, P .plan .reads, P .passes, r)
@@ -66,10 +67,12 @@ pub ok-eq : {A : Type 0} {x : Res A} {a b : A} {m n : ℕ} → x ≡ ok a m → 
 ok-eq p q = cc
 
 -- a layout reads as one
-same-read : {incoming target bytes rec : Bytes} (P : Passed incoming target bytes) (F : FitsLayout incoming rec) → recordMarked requiredOf (P .from .columns) rec ≡ ok (F .values) (F .end)
+same-read : {incoming target bytes rec : Bytes} (P : Passed incoming target bytes) (F : FitsLayout incoming rec) → recordMarked requiredOf
+    (P .from .columns) rec ≡ ok (F .values) (F .end)
 same-read {rec = rec} P F = ap (λ (l : Layout). recordMarked requiredOf (l .columns) rec) (ok-eq (P .fromReads) (F .layoutReads)) ∙ F .reads
 
-module _ (incoming target bytes rec : Bytes) (ob : AllBytes bytes) (or : AllBytes rec) (passes : checkPlan incoming target bytes ≡ accepted tt) (F : FitsLayout incoming rec) (room : ℕ) where
+module _ (incoming target bytes rec : Bytes) (ob : AllBytes bytes) (or : AllBytes rec) (passes : checkPlan incoming target bytes ≡ accepted tt)
+    (F : FitsLayout incoming rec) (room : ℕ) where
   P : Passed incoming target bytes
   P = passed incoming target bytes passes
 
@@ -78,7 +81,8 @@ module _ (incoming target bytes rec : Bytes) (ob : AllBytes bytes) (or : AllByte
   unmarked-read = record-kept requiredOf rec (P .from .columns) .forth (F .values) (F .end) (same-read P F)
 
   runs : Runs (fieldsOf (P .to .columns)) (F .values) (P .plan .selectors) room
-  runs = bytes-run (fieldsOf (P .from .columns)) (fieldsOf (P .to .columns)) bytes rec ob or (P .plan .reads) (unmarked-read .0) (types-pass _ _ _ (P .passes)) room
+  runs = bytes-run (fieldsOf (P .from .columns)) (fieldsOf (P .to .columns)) bytes rec ob or (P .plan .reads) (unmarked-read .0)
+      (types-pass _ _ _ (P .passes)) room
 
   -- "An accepted plan must never give null to a required field" (document 02, L5)
   output-filled : FilledAll requiredOf (P .to .columns) (evals (F .values) (P .plan .selectors))
@@ -91,7 +95,8 @@ module _ (incoming target bytes rec : Bytes) (ob : AllBytes bytes) (or : AllByte
 
   -- the output's bytes are read as its values, 56 tested
   output-reads : (ReachesOverflow (F .values) (P .plan .selectors) → ⊥) → spacious room (output (F .values) (P .plan .selectors)) ≡ true
-      → recordMarked requiredOf (P .to .columns) (output (F .values) (P .plan .selectors)) ≡ ok (evals (F .values) (P .plan .selectors)) (length (output (F .values) (P .plan .selectors)))
+      → recordMarked requiredOf (P .to .columns) (output (F .values) (P .plan .selectors)) ≡ ok (evals (F .values) (P .plan .selectors))
+      (length (output (F .values) (P .plan .selectors)))
   unfolding spacious
   output-reads n s =
       let (w, (f, r)) = runs .writes n s in
@@ -99,7 +104,8 @@ module _ (incoming target bytes rec : Bytes) (ob : AllBytes bytes) (or : AllByte
       record-kept requiredOf (output (F .values) (P .plan .selectors)) (P .to .columns) .back _ _ (record-forth f l) output-filled
 
   writes : (ReachesOverflow (F .values) (P .plan .selectors) → ⊥) → spacious room (output (F .values) (P .plan .selectors)) ≡ true
-      → (runPlan incoming target bytes rec room ≡ accepted (output (F .values) (P .plan .selectors))) × FitsLayout target (output (F .values) (P .plan .selectors))
+      → (runPlan incoming target bytes rec room ≡ accepted (output (F .values) (P .plan .selectors))) × FitsLayout target
+      (output (F .values) (P .plan .selectors))
   writes n s = (
     is ∙ runs .writes n s .0,
     record { read = P .to; layoutEnd = P .toEnd; layoutReads = P .toReads; values = _; end = _; reads = output-reads n s },
@@ -110,12 +116,14 @@ module _ (incoming target bytes rec : Bytes) (ob : AllBytes bytes) (or : AllByte
   exceeds n s = is ∙ runs .exceeds n s
 
   only : (runPlan incoming target bytes rec room ≡ refusedAt 44 0)
-      ⊎ ((runPlan incoming target bytes rec room ≡ refusedAt 45 0) ⊎ ((b : Bytes) × (runPlan incoming target bytes rec room ≡ accepted b) × FitsLayout target b))
+      ⊎ ((runPlan incoming target bytes rec room ≡ refusedAt 45 0) ⊎ ((b : Bytes) × (runPlan incoming target bytes rec room ≡ accepted b) × FitsLayout
+      target b))
   only = go (runs .reached) (spacious room (output (F .values) (P .plan .selectors))) refl
     where
       go : Dec (ReachesOverflow (F .values) (P .plan .selectors)) → (s : Bool) → spacious room (output (F .values) (P .plan .selectors)) ≡ s
           → (runPlan incoming target bytes rec room ≡ refusedAt 44 0)
-          ⊎ ((runPlan incoming target bytes rec room ≡ refusedAt 45 0) ⊎ ((b : Bytes) × (runPlan incoming target bytes rec room ≡ accepted b) × FitsLayout target b))
+          ⊎ ((runPlan incoming target bytes rec room ≡ refusedAt 45 0) ⊎ ((b : Bytes) × (runPlan incoming target bytes rec room ≡ accepted b) ×
+          FitsLayout target b))
       go (yes r) s e = inl (is ∙ runs .overflow .1 r)
       go (no n) true e = inr (inr (output (F .values) (P .plan .selectors), writes n e .0, writes n e .1))
       go (no n) false e = inr (inl (exceeds n e))
@@ -140,10 +148,12 @@ module _ {incoming target bytes rec : Bytes} {F : FitsLayout incoming rec} {room
       unreached : runPlan incoming target bytes rec room ≡ refusedAt 45 0 → ReachesOverflow (F .values) (R .plan .selectors) → ⊥
       unreached e r = omega (arith, number-eq (sym e ∙ R .overflow .1 r))
 
-      short : (ReachesOverflow (F .values) (R .plan .selectors) → ⊥) → runPlan incoming target bytes rec room ≡ refusedAt 45 0 → (s : Bool) → spacious room (output (F .values) (R .plan .selectors)) ≡ s
+      short : (ReachesOverflow (F .values) (R .plan .selectors) → ⊥) → runPlan incoming target bytes rec room ≡ refusedAt 45 0 → (s : Bool) → spacious
+          room (output (F .values) (R .plan .selectors)) ≡ s
           → spacious room (output (F .values) (R .plan .selectors)) ≡ false
       short n e true q = let w = R .writes n q .0 in clash (cc)
       short n e false q = q
 
-      to : runPlan incoming target bytes rec room ≡ refusedAt 45 0 → (ReachesOverflow (F .values) (R .plan .selectors) → ⊥) × (spacious room (output (F .values) (R .plan .selectors)) ≡ false)
+      to : runPlan incoming target bytes rec room ≡ refusedAt 45 0 → (ReachesOverflow (F .values) (R .plan .selectors) → ⊥) ×
+          (spacious room (output (F .values) (R .plan .selectors)) ≡ false)
       to e = (unreached e, short (unreached e) e (spacious room (output (F .values) (R .plan .selectors))) refl)

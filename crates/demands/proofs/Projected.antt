@@ -80,7 +80,8 @@ module _ {p : Policy} {d : Defaults} {incoming target bytes rec : Bytes} (B : Bu
 
     output-is : G .values ≡ evals (F .values) (B .selectors)
     output-is =
-        ok-eq (ap (λ (cs : Columns). recordOf (fieldsOf cs) out) (sym to-eq) ∙ record-kept requiredOf out (columnsOf G) .forth (G .values) (G .end) (G .reads) .0)
+        ok-eq (ap (λ (cs : Columns). recordOf (fieldsOf cs) out) (sym to-eq) ∙ record-kept requiredOf out (columnsOf G) .forth (G .values) (G .end)
+        (G .reads) .0)
         (output-reads (built-runs B (record-fits B or F) room) (sym (run-is B or F room) ∙ ran))
 
 -- For every plan that `buildByNumber` writes, with the owner's entries of the defaults table that was read, and every record that fits the

@@ -29,10 +29,13 @@ use Rattle.defaults.specs.Lookup.{getDefaultValue}
 use Rattle.matching.specs.Default.{Defaults, noDefaults}
 use Rattle.matching.specs.Build.{build}
 use Rattle.matching.specs.Calls.{takes, ofEdition, ReadFor, bothLayouts, writtenPlan, buildByName, buildByNumber}
-use Rattle.demands.specs.Refusals.{isIn, layoutRefusals, tableRefusals, extraRefusals, columnRefusals, recordRefusals, Call, readingLayout, building, checkingPlan}
-use Rattle.demands.specs.Refusals.{refusalsOf, layoutPlaced, columnPlaced, incomingPlaced, placeOf, layoutMet, columnMet, refusalIn, FirstRefused, Refusal, Placed}
+use Rattle.demands.specs.Refusals.{isIn, layoutRefusals, tableRefusals, extraRefusals, columnRefusals, recordRefusals, Call, readingLayout, building}
+use Rattle.demands.specs.Refusals.{checkingPlan}
+use Rattle.demands.specs.Refusals.{refusalsOf, layoutPlaced, columnPlaced, incomingPlaced, placeOf, layoutMet, columnMet, refusalIn, FirstRefused}
+use Rattle.demands.specs.Refusals.{Refusal, Placed}
 use Rattle.demands.specs.Refusals.{running, readLayout, layoutsRead, tableRead, columnsIn, columnCount, selectorsIn, selectorCount}
-use Rattle.demands.proofs.Refusing.{all, all-in, RefusesIn, refused-in, Answers, in-accepted, in-refusedAt, read-in, answered-in, BuildRefusal, by-extra, by-column}
+use Rattle.demands.proofs.Refusing.{all, all-in, RefusesIn, refused-in, Answers, in-accepted, in-refusedAt, read-in, answered-in, BuildRefusal, by-extra}
+use Rattle.demands.proofs.Refusing.{by-column}
 use Rattle.demands.proofs.Parsers.{layout-in, table-in, record-in, plan-in}
 use Rattle.demands.proofs.Built.{named-unmarked}
 use Rattle.demands.proofs.Numbers.{DefaultsIn, none-in, lookup-in, build-in, plan-written-in}
@@ -178,7 +181,8 @@ module _ {A B : Type 0} {Q : B → Type 0} {c : Call} {things : List ℕ} {incom
 
 module _ (c : Call) (incoming target : Bytes) (ms : List ℕ) {B : Type 0} {Q : B → Type 0} {arriving columns : ℕ} where
   layouts-in : {g : Layout → Layout → Answer B}
-      → ((a b : Layout) (i j : ℕ) → layout incoming ≡ ok a i → layout target ≡ ok b j → Answers Q (Refusal c (layoutsRead incoming target ms) arriving columns) (g a b))
+      → ((a b : Layout) (i j : ℕ) → layout incoming ≡ ok a i → layout target ≡ ok b j → Answers Q
+      (Refusal c (layoutsRead incoming target ms) arriving columns) (g a b))
       → Answers Q (Refusal c (layoutsRead incoming target ms) arriving columns) (readAt 1 (layout incoming) (λ a. readAt 2 (layout target) (λ b. g a b)))
   layouts-in h =
       thing-in 1 (refusalIn (layout target) ∷ ms) (layout-in incoming) (layouts-as c) (λ n f. f) (λ a i p.
@@ -210,7 +214,8 @@ module _ (v : Matching) (p : Policy) (incoming target : Bytes) (ms : List ℕ) (
   taken-in false y h = in-refusedAt (at-zero (all-in (asOther (building v)) (10 ∷ []) 10 (edition-as v) refl) refl)
 
   build-layouts-in : (f : Columns → Columns → Answer Bytes)
-      → ((a b : Layout) (i j : ℕ) → layout incoming ≡ ok a i → layout target ≡ ok b j → takes v (b .edition) ≡ true → Answers Short Refused (f (a .columns) (b .columns)))
+      → ((a b : Layout) (i j : ℕ) → layout incoming ≡ ok a i → layout target ≡ ok b j → takes v (b .edition) ≡ true → Answers Short Refused
+      (f (a .columns) (b .columns)))
       → Answers Short Refused (bothLayouts v incoming target f)
   unfolding bothLayouts ofEdition
   build-layouts-in f h =
@@ -226,7 +231,8 @@ module _ (v : Matching) (p : Policy) (incoming target : Bytes) (ms : List ℕ) (
       → takes v (b .edition) ≡ true → Answers Short Refused (answered (build v p d (a .columns) (b .columns)) (λ ss. writtenPlan space ss))
   columns-in d o {a} {b} {j = j} e q y =
       let R : ReadFor v target (b .columns) = record { edition = b .edition; end = j; reads = q; taken = y } in
-      answered-in (build-in v p d o (a .columns) (b .columns) (named-unmarked v R)) (built-in e q) (λ ss x. plan-written-in space ss (at-zero (plan-length-as v) refl))
+      answered-in (build-in v p d o (a .columns) (b .columns) (named-unmarked v R)) (built-in e q)
+      (λ ss x. plan-written-in space ss (at-zero (plan-length-as v) refl))
 
 pub by-name-in : (p : Policy) (incoming target : Bytes) (space : ℕ)
     → Answers (λ b. length b ≤ longestPlan) (Refusal (building ByName) (layoutsRead incoming target []) (columnCount incoming) (columnCount target))
@@ -237,7 +243,8 @@ by-name-in p incoming target space =
     columns-in ByName p incoming target [] space noDefaults (none-in (columnRefusals ByName)) r q y)
 
 pub by-number-in : (p : Policy) (index owner : ℕ) (incoming target defaults : Bytes) (space : ℕ)
-    → Answers (λ b. length b ≤ longestPlan) (Refusal (building ByNumber) (layoutsRead incoming target (tableRead defaults)) (columnCount incoming) (columnCount target))
+    → Answers (λ b. length b ≤ longestPlan) (Refusal (building ByNumber) (layoutsRead incoming target (tableRead defaults)) (columnCount incoming)
+    (columnCount target))
     (buildByNumber p index owner incoming target defaults space)
 unfolding buildByNumber
 by-number-in p index owner incoming target defaults space =
@@ -331,7 +338,8 @@ unfolding all isIn
 met-at-column n e = all-in (λ m. isIn m columnMet) columnPlaced n refl e
 
 -- a number that has the place of a layout or table, or of a column, is met there; any other has the place 0
-pub refusal-placed : {c : Call} {things : List ℕ} {incoming columns n k : ℕ} → Refusal c things incoming columns n k → Placed things incoming columns n (placeOf n k)
+pub refusal-placed : {c : Call} {things : List ℕ} {incoming columns n k : ℕ} → Refusal c things incoming columns n k → Placed things incoming columns n
+    (placeOf n k)
 unfolding placeOf choose
 refusal-placed {things = things} {incoming} {columns} {n} {k} R =
     record {

@@ -15,13 +15,15 @@ use Rattle.values.specs.Record.{longest}
 use Rattle.plan.specs.Result.{gives, refuses, demand, accepted, placed}
 use Rattle.plan.specs.Selector.{Selector, position, constant, cast, rename, structMapping, listMapping, arrayMapping, Selectors, snil, scons, countSelectors}
 use Rattle.forms.specs.Same.{equalFields}
-use Rattle.plan.specs.Check.{columnAt, elementOf, structOf, listOf, arrayOf, resulting, checkCast, checkRename, checkStruct, checkList, checkArray, typeOf, typesOf, topTypes, against, check}
+use Rattle.plan.specs.Check.{columnAt, elementOf, structOf, listOf, arrayOf, resulting, checkCast, checkRename, checkStruct, checkList, checkArray, typeOf}
+use Rattle.plan.specs.Check.{typesOf, topTypes, against, check}
 use Rattle.plan.specs.Nullness.{nnil, nullnessesOf}
 use Rattle.plan.specs.Marks.{givens, meetsAll, checkMarked}
 use Rattle.plan.specs.Run.{evals, cleanAll, spacious, written, run}
 use Rattle.plan.proofs.Results.{both, true≠false}
 use Rattle.demands.specs.Refusals.{isIn}
-use Rattle.demands.proofs.Refusing.{ResultIn, in-gives, in-refuses, bind-in, demand-in, Answers, in-accepted, in-refusedAt, placed-in, answered-in, ColumnRefusal}
+use Rattle.demands.proofs.Refusing.{ResultIn, in-gives, in-refuses, bind-in, demand-in, Answers, in-accepted, in-refusedAt, placed-in, answered-in}
+use Rattle.demands.proofs.Refusing.{ColumnRefusal}
 
 -- a selector's numbers
 abbrev pub selectorRefusals : List ℕ
@@ -116,10 +118,12 @@ check-in Γ Δ ss {P} c p = answered-in (top-in Γ ss 0 (countSelectors ss) (ome
     go false = in-refusedAt p
 
 -- 55, last: there is a selector where it is met
-pub check-marked-in : (Γ Δ : Columns) (ss : Selectors) {P : ℕ → ℕ → Type 0} → ((n k : ℕ) → ColumnRefusal selectorRefusals (countSelectors ss) n k → P n k) → P 33 0
+pub check-marked-in : (Γ Δ : Columns) (ss : Selectors) {P : ℕ → ℕ → Type 0} → ((n k : ℕ) → ColumnRefusal selectorRefusals (countSelectors ss) n k → P n
+    k) → P 33 0
     → (0 < countSelectors ss → P 55 0) → Answers (λ x. Unit {0}) P (checkMarked Γ Δ ss)
 unfolding checkMarked placed demand
-check-marked-in Γ Δ ss {P} c p q = answered-in (check-in (fieldsOf Γ) (fieldsOf Δ) ss c p) (λ n k r. r) (λ u x. go (meetsAll (nullnessesOf (givens Γ) ss) Δ) refl)
+check-marked-in Γ Δ ss {P} c p q = answered-in (check-in (fieldsOf Γ) (fieldsOf Δ) ss c p) (λ n k r. r)
+    (λ u x. go (meetsAll (nullnessesOf (givens Γ) ss) Δ) refl)
   where
     go : (b : Bool) → meetsAll (nullnessesOf (givens Γ) ss) Δ ≡ b → Answers (λ (x : Unit {0}). Unit {0}) P (placed 0 (demand b 55 (gives tt)) accepted)
     go true e = in-accepted tt

@@ -70,7 +70,8 @@ pub record Running (incoming target bytes rec : Bytes) (F : FitsLayout incoming 
   pub exceeds : (ReachesOverflow (F .values) (plan .selectors) → ⊥) → spacious room (output (F .values) (plan .selectors)) ≡ false
       → runPlan incoming target bytes rec room ≡ refusedAt 45 0
   pub only : (runPlan incoming target bytes rec room ≡ refusedAt 44 0)
-      ⊎ ((runPlan incoming target bytes rec room ≡ refusedAt 45 0) ⊎ ((b : Bytes) × (runPlan incoming target bytes rec room ≡ accepted b) × FitsLayout target b))
+      ⊎ ((runPlan incoming target bytes rec room ≡ refusedAt 45 0) ⊎ ((b : Bytes) × (runPlan incoming target bytes rec room ≡ accepted b) × FitsLayout
+      target b))
 
 -- ---- a plan that is too long
 

@@ -10,10 +10,10 @@ use Rattle.layout.specs.declared.cursor.Cursor.{Cursor}
 use Rattle.plan.specs.Result.{gives}
 use Rattle.plan.specs.Selector.{Selector}
 use Rattle.plan.specs.Check.{column, withinLimits, typeOf}
-use Rattle.walk.specs.Stands.{SelectorAt}
-use Rattle.walk.specs.Parts.{CastAt, RenameAt, StructAt, ListAt, ArrayAt}
+use Rattle.walk.specs.code.Stands.{SelectorAt}
+use Rattle.walk.specs.code.Parts.{CastAt, RenameAt, StructAt, ListAt, ArrayAt}
 use Rattle.walk.proofs.View.{same-selector, starts-inside}
-use Rattle.direct.specs.Inputs.{inputOf, InputAt, InputIs, Unrenamed}
+use Rattle.direct.specs.code.Inputs.{inputOf, InputAt, InputIs, Unrenamed}
 use Rattle.direct.specs.declared.input.Input.{Input}
 use Rattle.direct.proofs.Trees.{rename-gives}
 
@@ -43,7 +43,8 @@ module _ {s : Bytes} {at : ℕ} {P : SelectorAt s at} {c : Cursor} where
 -- the selector at `to` is inside renames that begin at `at`
 pub record Inside (s : Bytes) (at to : ℕ) : Type 0 where
   pub here : SelectorAt s to
-  pub typed : (P : SelectorAt s at) (Γ : Fields) {n : Bytes} {t : DataType} → typeOf Γ (here .tree) ≡ gives (column n t) → withinLimits t ≡ true → (b : Bytes) × (typeOf Γ (P .tree) ≡ gives (column b t))
+  pub typed : (P : SelectorAt s at) (Γ : Fields) {n : Bytes} {t : DataType} → typeOf Γ (here .tree) ≡ gives (column n t) → withinLimits t ≡ true →
+      (b : Bytes) × (typeOf Γ (P .tree) ≡ gives (column b t))
 
 pub inside-start : {s : Bytes} {at : ℕ} → SelectorAt s at → Inside s at at
 inside-start Q = record { here = Q; typed = λ P Γ {n} {t} e w. (n, ap (typeOf Γ) (same-selector P Q .0) ∙ e) }

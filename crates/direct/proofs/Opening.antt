@@ -5,8 +5,8 @@ use native.Mathlib.Omega.{arith}
 use Rattle.layout.specs.Bytes.{Bytes}
 use Rattle.layout.specs.Tree.{dtypeOf}
 use Rattle.layout.specs.Layout.{kind, elementLabel}
-use Rattle.layout.specs.Answers.{headRes, labelRes}
-use Rattle.layout.specs.Stands.{TypeAt}
+use Rattle.layout.specs.code.Answers.{headRes, labelRes}
+use Rattle.layout.specs.code.Stands.{TypeAt}
 use Rattle.layout.specs.declared.columns.Label.{Label as LabelSpan}
 use Rattle.layout.specs.declared.columns.Labelled.{Labelled}
 use Rattle.layout.specs.declared.cursor.Cursor.{Cursor}
@@ -16,14 +16,21 @@ use Rattle.layout.proofs.View.{struct-at, list-at, array-at}
 use Rattle.nodes.proofs.Deeper.{deeper-type, deeper-columns}
 use Rattle.direct.specs.declared.inside.Inside.{Inside}
 use Rattle.direct.specs.declared.inside.Both.{Both}
-use Rattle.direct.specs.Insides.{StructIn, ListIn, ArrayIn, ArraysIn, insideParts, InsideIs, bothParts, BothIs}
+use Rattle.direct.specs.code.Insides.{StructIn, ListIn, ArrayIn, ArraysIn, insideParts, InsideIs, bothParts, BothIs}
 
 -- ---- inside_of
 
 module _ {v : Edition} {s : Bytes} {at : ℕ} (T : TypeAt v 16 s at) {p : Head} (e : headRes s p ≡ kind s at) where
   pub struct-in : {n : ℕ} {d : Cursor} → p ≡ Head.Struct n d → InsideIs v s at T (Inside.Struct n d)
   unfolding dtypeOf deeper-columns
-  struct-in f = let S = struct-at T e f in record { parts = record { columns = deeper-columns (omega arith) (S .inner); is = ap dtypeOf (S .is); ends = S .ends } }
+  struct-in f = let S = struct-at T e f in record {
+    parts = record {
+      columns = deeper-columns (omega arith) (S .inner);
+      is = ap dtypeOf (S .is);
+      ends =
+          S .ends;
+    };
+  }
 
   module _ {d : Cursor} {q : Labelled} (g : labelRes s q ≡ elementLabel v s (d .at)) {l : LabelSpan} {b : Cursor} (k : q ≡ Labelled.Is l b) where
     pub list-in : p ≡ Head.List d → InsideIs v s at T (Inside.List b)
@@ -32,7 +39,14 @@ module _ {v : Edition} {s : Bytes} {at : ℕ} (T : TypeAt v 16 s at) {p : Head} 
 
     pub array-in : {w : ℕ} → p ≡ Head.Array w d → InsideIs v s at T (Inside.Array w b)
     unfolding dtypeOf deeper-type
-    array-in f = let L = array-at T e g f k in record { parts = record { type = deeper-type (omega arith) (L .inner); is = ap dtypeOf (L .is); ends = L .ends } }
+    array-in f = let L = array-at T e g f k in record {
+      parts = record {
+        type = deeper-type (omega arith) (L .inner);
+        is = ap dtypeOf (L .is);
+        ends =
+            L .ends;
+      };
+    }
 
 -- ---- both_inside
 
@@ -49,7 +63,8 @@ module _ {v : Edition} {s : Bytes} {at : ℕ} {T : TypeAt v 16 s at} {r : Inside
   array-there : {w : ℕ} {c : Cursor} → r ≡ Inside.Array w c → ArrayIn v s at T w (c .at)
   array-there e = opened e
 
-module _ {va : Edition} {a : Bytes} {at : ℕ} {T : TypeAt va 16 a at} {p : Inside} (I : InsideIs va a at T p) {vb : Edition} {b : Bytes} {bt : ℕ} {Q : TypeAt vb 16 b bt} {q : Inside} (J : InsideIs vb b bt Q q) where
+module _ {va : Edition} {a : Bytes} {at : ℕ} {T : TypeAt va 16 a at} {p : Inside} (I : InsideIs va a at T p) {vb : Edition} {b : Bytes} {bt : ℕ}
+    {Q : TypeAt vb 16 b bt} {q : Inside} (J : InsideIs vb b bt Q q) where
   pub structs-in : {n m : ℕ} {c d : Cursor} → p ≡ Inside.Struct n c → q ≡ Inside.Struct m d → BothIs va a at T vb b bt Q (Both.Structs n c m d)
   structs-in e f = record { parts = (struct-there I e, struct-there J f) }
 
@@ -57,10 +72,18 @@ module _ {va : Edition} {a : Bytes} {at : ℕ} {T : TypeAt va 16 a at} {p : Insi
   lists-in e f = record { parts = (list-there I e, list-there J f) }
 
   pub arrays-in : {w x : ℕ} {c d : Cursor} → p ≡ Inside.Array w c → q ≡ Inside.Array x d → w ≡ x → BothIs va a at T vb b bt Q (Both.Arrays c d)
-  arrays-in {w} {d = d} e f g = record { parts = record { width = w; first = array-there I e; second = subst (λ (x : ℕ). ArrayIn vb b bt Q x (d .at)) (sym g) (array-there J f) } }
+  arrays-in {w} {d = d} e f g = record {
+    parts = record {
+      width = w;
+      first = array-there I e;
+      second = subst (λ (x : ℕ). ArrayIn vb b bt Q x (d .at))
+          (sym g) (array-there J f);
+    };
+  }
 
 -- what a caller gets from an answer
-module _ {va : Edition} {a : Bytes} {at : ℕ} {T : TypeAt va 16 a at} {vb : Edition} {b : Bytes} {bt : ℕ} {Q : TypeAt vb 16 b bt} {r : Both} (B : BothIs va a at T vb b bt Q r) where
+module _ {va : Edition} {a : Bytes} {at : ℕ} {T : TypeAt va 16 a at} {vb : Edition} {b : Bytes} {bt : ℕ} {Q : TypeAt vb 16 b bt} {r : Both}
+    (B : BothIs va a at T vb b bt Q r) where
   both-opened : {q : Both} → r ≡ q → bothParts va a at T vb b bt Q q
   both-opened e = subst (λ (q : Both). bothParts va a at T vb b bt Q q) e (B .parts)
 

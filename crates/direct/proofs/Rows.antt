@@ -8,8 +8,8 @@ use lib.ListN.{length}
 use Rattle.layout.specs.Bytes.{Bytes, sameBytes}
 use Rattle.layout.specs.Tree.{Label, Columns, dtypeOf, fieldsOf}
 use Rattle.layout.specs.Layout.{label, type, columns as columnsOf}
-use Rattle.layout.specs.Stands.{ColumnsAt}
-use Rattle.layout.specs.Answers.{spanAt, labelRes}
+use Rattle.layout.specs.code.Stands.{ColumnsAt}
+use Rattle.layout.specs.code.Answers.{spanAt, labelRes}
 use Rattle.layout.specs.declared.columns.Label.{Label as LabelSpan}
 use Rattle.layout.specs.declared.columns.Labelled.{Labelled}
 use Rattle.layout.specs.declared.columns.Siblings.the-variants.{Free}
@@ -24,12 +24,12 @@ use Rattle.plan.specs.Result.{gives}
 use Rattle.plan.specs.Selector.{Selectors}
 use Rattle.plan.specs.Check.{column, typeOf, typesOf}
 use Rattle.plan.specs.Read.{selector}
-use Rattle.walk.specs.Stands.{SelectorsAt}
+use Rattle.walk.specs.code.Stands.{SelectorsAt}
 use Rattle.walk.proofs.View.{FirstAt, first-at, no-selector, selectors-moved}
-use Rattle.index.specs.Indexed.{Indexed}
+use Rattle.index.specs.code.Indexed.{Indexed}
 use Rattle.direct.specs.declared.place.Name.{Name}
 use Rattle.direct.specs.declared.scope.Scope.{Scope}
-use Rattle.direct.specs.Fits.{FitAt, FitTo, ColumnFitAt, FitsColumn, FieldsFitAt, FitsFields}
+use Rattle.direct.specs.code.Fits.{FitAt, FitTo, ColumnFitAt, FitsColumn, FieldsFitAt, FitsFields}
 use Rattle.direct.proofs.Fitting.{gives-to}
 use Rattle.direct.proofs.Trees.{fields-give}
 

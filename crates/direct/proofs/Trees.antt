@@ -7,7 +7,7 @@ use lib.ListN.{length}
 use borrow.Author.Tests.{le-leb}
 use Rattle.layout.specs.Bytes.{Bytes}
 use Rattle.layout.specs.Tree.{DataType, struct, list, array, Fields, fcons, dtypeOf}
-use Rattle.layout.specs.Stands.{TypeAt}
+use Rattle.layout.specs.code.Stands.{TypeAt}
 use Rattle.layout.specs.declared.edition.Edition.{Edition}
 use Rattle.forms.specs.Form.{form}
 use Rattle.forms.specs.Readable.{depthOf}
@@ -17,7 +17,8 @@ use Rattle.nodes.proofs.Sizes.{depth-within}
 use Rattle.rules.specs.declared.outcome.CastOption.{CastOption}
 use Rattle.plan.specs.Result.{gives, _>>=_, demand, accepted, placed, answered}
 use Rattle.plan.specs.Selector.{Selector, cast, rename, structMapping, listMapping, arrayMapping, Selectors, snil, scons}
-use Rattle.plan.specs.Check.{Column, column, elementOf, structOf, listOf, arrayOf, castFits, withinLimits, resulting, checkCast, checkRename, checkStruct, checkList, checkArray, typeOf, typesOf, topTypes, against, check}
+use Rattle.plan.specs.Check.{Column, column, elementOf, structOf, listOf, arrayOf, castFits, withinLimits, resulting, checkCast, checkRename, checkStruct}
+use Rattle.plan.specs.Check.{checkList, checkArray, typeOf, typesOf, topTypes, against, check}
 use Rattle.plan.proofs.Results.{and-true, bind-gives, gives-eq}
 
 -- a type that stands in bytes no longer than a result may be
@@ -36,20 +37,24 @@ module _ (Γ : Fields) (s : Selector) {n : Bytes} {t : DataType} (e : typeOf Γ 
   unfolding typeOf _>>=_ checkRename resulting demand
   rename-gives m w = rw (e, w)
 
-  pub struct-gives : (ss : Selectors) {fs gs : Fields} → t ≡ struct fs → typesOf fs ss ≡ gives gs → withinLimits (struct gs) ≡ true → typeOf Γ (structMapping s ss) ≡ gives (column n (struct gs))
+  pub struct-gives : (ss : Selectors) {fs gs : Fields} → t ≡ struct fs → typesOf fs ss ≡ gives gs → withinLimits (struct gs) ≡ true → typeOf Γ
+      (structMapping s ss) ≡ gives (column n (struct gs))
   unfolding typeOf _>>=_ checkStruct structOf resulting demand
   struct-gives ss p f w = rw (e, p, f, w)
 
-  pub list-gives : (x : Selector) {u w : DataType} {m : Bytes} → t ≡ list u → typeOf (elementOf u) x ≡ gives (column m w) → withinLimits (list w) ≡ true → typeOf Γ (listMapping s x) ≡ gives (column n (list w))
+  pub list-gives : (x : Selector) {u w : DataType} {m : Bytes} → t ≡ list u → typeOf (elementOf u) x ≡ gives (column m w) → withinLimits (list w) ≡ true
+      → typeOf Γ (listMapping s x) ≡ gives (column n (list w))
   unfolding typeOf _>>=_ checkList listOf resulting demand
   list-gives x p f w = rw (e, p, f, w)
 
-  pub array-gives : (x : Selector) {k : ℕ} {u w : DataType} {m : Bytes} → t ≡ array k u → typeOf (elementOf u) x ≡ gives (column m w) → withinLimits (array k w) ≡ true
+  pub array-gives : (x : Selector) {k : ℕ} {u w : DataType} {m : Bytes} → t ≡ array k u → typeOf (elementOf u) x ≡ gives (column m w) → withinLimits
+      (array k w) ≡ true
       → typeOf Γ (arrayMapping s x) ≡ gives (column n (array k w))
   unfolding typeOf _>>=_ checkArray arrayOf resulting demand
   array-gives x p f w = rw (e, p, f, w)
 
-pub fields-give : (Γ : Fields) (s : Selector) (ss : Selectors) {c : Column} {fs : Fields} → typeOf Γ s ≡ gives c → typesOf Γ ss ≡ gives fs → typesOf Γ (scons s ss) ≡ gives (fcons (c .name) (c .type) fs)
+pub fields-give : (Γ : Fields) (s : Selector) (ss : Selectors) {c : Column} {fs : Fields} → typeOf Γ s ≡ gives c → typesOf Γ ss ≡ gives fs → typesOf Γ
+    (scons s ss) ≡ gives (fcons (c .name) (c .type) fs)
 unfolding typesOf _>>=_
 fields-give Γ s ss e f = rw (e, f)
 

@@ -1,5 +1,1 @@
-pub mod Places
-pub mod Scopes
-pub mod Insides
-pub mod Fits
-pub mod Inputs
+pub mod code

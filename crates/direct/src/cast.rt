@@ -1,8 +1,8 @@
 // "A cast passes if its leaf pair, flags all on, has that option, or null goes NonStrict to any other type; never between equal types."
 ghost use mathlib.Core.Path.{_≡_};
 ghost use Rattle.layout.specs.Tree.{leaf, LeafType as LeafTypeOf, leafOf, dtypeOf};
-ghost use Rattle.layout.specs.Answers.{leafAt, spanIn};
-ghost use Rattle.layout.specs.Stands.{TypeAt};
+ghost use Rattle.layout.specs.code.Answers.{leafAt, spanIn};
+ghost use Rattle.layout.specs.code.Stands.{TypeAt};
 ghost use Rattle.layout.specs.declared.edition.Edition.{Edition as EditionOf};
 ghost use Rattle.rules.specs.Pairs.{castPasses};
 ghost use Rattle.plan.specs.Check.{castFits, fromNull};

@@ -1,6 +1,6 @@
 // The input of a transform, and what stands inside renames.
-ghost use Rattle.walk.specs.Stands.{SelectorAt};
-ghost use Rattle.direct.specs.Inputs.{InputIs, Unrenamed};
+ghost use Rattle.walk.specs.code.Stands.{SelectorAt};
+ghost use Rattle.direct.specs.code.Inputs.{InputIs, Unrenamed};
 use layout::cursor::Cursor;
 use walk::head::SelectorHead;
 use walk::head::head;

@@ -1,6 +1,6 @@
 // Where the parts of a type stand.
-ghost use Rattle.layout.specs.Stands.{TypeAt};
-ghost use Rattle.direct.specs.Insides.{InsideIs, BothIs};
+ghost use Rattle.layout.specs.code.Stands.{TypeAt};
+ghost use Rattle.direct.specs.code.Insides.{InsideIs, BothIs};
 use layout::columns::Labelled;
 use layout::cursor::Cursor;
 use layout::edition::Edition;

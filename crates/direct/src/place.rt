@@ -1,8 +1,8 @@
 // Names and zones stand in the incoming layout or in the plan.
 ghost use mathlib.Core.Path.{_≡_};
 ghost use Rattle.layout.specs.Bytes.{Bytes, sameBytes};
-ghost use Rattle.layout.specs.Answers.{spanAt, spanIn};
-ghost use Rattle.direct.specs.Places.{NameAt};
+ghost use Rattle.layout.specs.code.Answers.{spanAt, spanIn};
+ghost use Rattle.direct.specs.code.Places.{NameAt};
 use forms::compare::same_text;
 use layout::bytes::Span;
 

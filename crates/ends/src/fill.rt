@@ -1,8 +1,8 @@
 // Filling the table, in one pass over columns that were read before.
 ghost use mathlib.Core.Path.{_≡_};
 ghost use lib.ListN.{length};
-ghost use Rattle.layout.specs.Stands.{TypeAt, ColumnsAt};
-ghost use Rattle.ends.specs.Ends.{Ends};
+ghost use Rattle.layout.specs.code.Stands.{TypeAt, ColumnsAt};
+ghost use Rattle.ends.specs.code.Ends.{Ends};
 use crate::plain::plain_end;
 use crate::table::EndFound;
 use crate::table::keep_end;

@@ -1,8 +1,8 @@
 // A type that is a code alone, as most are.
 ghost use Prim.Native.Nat.{ℕ};
-ghost use Rattle.layout.specs.Stands.{TypeAt};
+ghost use Rattle.layout.specs.code.Stands.{TypeAt};
 ghost use Rattle.layout.specs.declared.edition.Edition.{Edition as EditionOf};
-ghost use Rattle.ends.specs.Ends.{FoundIs};
+ghost use Rattle.ends.specs.code.Ends.{FoundIs};
 use crate::table::EndFound;
 use layout::cursor::Cursor;
 use layout::cursor::Step;

@@ -1,7 +1,7 @@
 // Passing over what was read before, with a table of where structs end.
 ghost use mathlib.Core.Path.{_≡_};
-ghost use Rattle.layout.specs.Stands.{TypeAt, ColumnsAt};
-ghost use Rattle.ends.specs.Ends.{Ends};
+ghost use Rattle.layout.specs.code.Stands.{TypeAt, ColumnsAt};
+ghost use Rattle.ends.specs.code.Ends.{Ends};
 use crate::plain::plain_end;
 use crate::table::EndFound;
 use crate::table::find_end;

@@ -11,7 +11,7 @@ ghost use Prim.Native.Nat.{_+_, _<_};
 ghost use lib.ListN.{length, getD};
 ghost use Rattle.layout.specs.Bytes.{Bytes};
 ghost use Rattle.layout.specs.declared.edition.Edition.{Edition as EditionOf};
-ghost use Rattle.ends.specs.Ends.{LengthIs, Ends, EndAt, FoundIs};
+ghost use Rattle.ends.specs.code.Ends.{LengthIs, Ends, EndAt, FoundIs};
 use layout::bytes::wide;
 
 pub enum EndFound {

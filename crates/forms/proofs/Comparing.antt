@@ -11,13 +11,15 @@ use lib.Seq.{slice}
 use borrow.Author.Tests.{eq-eqb}
 use Rattle.layout.specs.Bytes.{Bytes, sameBytes, AllBytes}
 use Rattle.layout.specs.Parser.{Res, refuse, ok, next, Parser, test}
-use Rattle.layout.specs.Tree.{LeafType, Label, ColumnType, cleaf, cstruct, clist, carray, Columns, cnil, ccons, DataType, Fields, fnil, fcons, dtypeOf, fieldsOf}
-use Rattle.layout.specs.Layout.{Kind, aLeaf, aStruct, aList, anArray, kind, body, structType, listType, arrayType, label, elementLabel, columns, type, repeatsAny}
-use Rattle.layout.specs.Answers.{spanAt, spanIn, headRes, leafAt, labelRes, labelAt}
-use Rattle.layout.specs.Stands.{TypeAt, ColumnsAt}
+use Rattle.layout.specs.Tree.{LeafType, Label, ColumnType, cleaf, cstruct, clist, carray, Columns, cnil, ccons, DataType, Fields, fnil, fcons, dtypeOf}
+use Rattle.layout.specs.Tree.{fieldsOf}
+use Rattle.layout.specs.Layout.{Head, aLeaf, aStruct, aList, anArray, kind, body, structType, listType, arrayType, label, elementLabel, columns, type}
+use Rattle.layout.specs.Layout.{repeatsAny}
+use Rattle.layout.specs.code.Answers.{spanAt, spanIn, headRes, leafAt, labelRes, labelAt}
+use Rattle.layout.specs.code.Stands.{TypeAt, ColumnsAt}
 use Rattle.layout.specs.declared.bytes.Span.{Span}
 use Rattle.layout.specs.declared.cursor.Cursor.{Cursor}
-use Rattle.layout.specs.declared.types.Head.{Head}
+use Rattle.layout.specs.declared.types.Head.{Head as HeadSpan}
 use Rattle.layout.specs.declared.types.LeafType.{LeafType as LeafSpan}
 use Rattle.layout.specs.declared.columns.Label.{Label as LabelSpan}
 use Rattle.layout.specs.declared.columns.Labelled.{Labelled}
@@ -26,9 +28,9 @@ use Rattle.layout.specs.declared.edition.Edition.{Edition}
 use Rattle.layout.proofs.Ways.{clash}
 use Rattle.layout.proofs.View.{next-ok, deep, label-got, label-none, same-columns, columns-any, no-column}
 use Rattle.forms.specs.Form.{kindForm, headOf}
-use Rattle.forms.specs.Compare.{sameLeaf, sameDtype, sameFields}
-use Rattle.forms.specs.Answers.{sameOf}
-use Rattle.forms.specs.Labelled.{LabelledAt, ElementAt, ColumnAt}
+use Rattle.forms.specs.code.Compare.{sameLeaf, sameDtype, sameFields}
+use Rattle.forms.specs.code.Answers.{sameOf}
+use Rattle.forms.specs.code.Labelled.{LabelledAt, ElementAt, ColumnAt}
 use Rattle.forms.specs.declared.compare.Same.{Same}
 use Rattle.forms.proofs.Equal.{kind-eq, same-dtype-refl, same-dtype-eq}
 use Rattle.layout.proofs.OfBytes.{same-bytes-refl, same-bytes-eq}
@@ -56,7 +58,7 @@ differ t u e = go (sameDtype t u) refl
         sym z ∙ e
     go false h = refl
 
-alike : (k j : Kind) → sameBytes (kindForm k) (kindForm j) ≡ true → k ≡ j
+alike : (k j : Head) → sameBytes (kindForm k) (kindForm j) ≡ true → k ≡ j
 alike k j e = kind-eq k j (ap (λ (x : Bytes). x ++ []) (same-bytes-eq (kindForm k) (kindForm j) e)) .0
 
 -- the bytes of a head
@@ -86,16 +88,16 @@ module _ {va : Edition} {da : ℕ} {a : Bytes} {at x : ℕ} {vb : Edition} {db :
   heads-differ h = rw (differ (dtypeOf (P .tree)) (dtypeOf (Q .tree)) (sym by-kinds ∙ h))
 
   -- both heads are the one that was read of the first
-  pub heads-alike : r ≡ true → {k : Kind} {m : ℕ} → kind a at ≡ ok k m → (kind a at ≡ ok k x) × (kind b bt ≡ ok k y)
+  pub heads-alike : r ≡ true → {k : Head} {m : ℕ} → kind a at ≡ ok k m → (kind a at ≡ ok k x) × (kind b bt ≡ ok k y)
   heads-alike h {k} {m} f =
       let z : k ≡ headOf (dtypeOf (P .tree)) = ok-eq (sym f ∙ H .reads) .0 in
       let w : headOf (dtypeOf (P .tree)) ≡ headOf (dtypeOf (Q .tree)) = alike (headOf (dtypeOf (P .tree))) (headOf (dtypeOf (Q .tree))) (sym by-kinds ∙ h) in
-      (H .reads ∙ ap (λ (j : Kind). ok j x) (sym z), G .reads ∙ ap (λ (j : Kind). ok j y) (sym w ∙ sym z))
+      (H .reads ∙ ap (λ (j : Head). ok j x) (sym z), G .reads ∙ ap (λ (j : Head). ok j y) (sym w ∙ sym z))
 
 -- ---- the parts of a type whose head is known
 
 module _ {v : Edition} {d : ℕ} {s : Bytes} {at : ℕ} (P : TypeAt v d s at) {m : ℕ} where
-  behind : (k : Kind) → kind s at ≡ ok k m → body v Free (type v Free (d - 1)) k s m ≡ ok (P .tree) (P .end)
+  behind : (k : Head) → kind s at ≡ ok k m → body v Free (type v Free (d - 1)) k s m ≡ ok (P .tree) (P .end)
   unfolding type next
   behind k q =
       let e : suc (d - 1) ≡ d = let z = deep P in omega arith in
@@ -149,17 +151,17 @@ module _ {v : Edition} {d : ℕ} {s : Bytes} {at : ℕ} (P : TypeAt v d s at) {m
 module _ {va : Edition} {da : ℕ} {a : Bytes} {at x : ℕ} {vb : Edition} {db : ℕ} {b : Bytes} {bt y : ℕ} {P : TypeAt va da a at} {Q : TypeAt vb db b bt}
     (H : HeadAt va da a at P x) (G : HeadAt vb db b bt Q y) (oa : AllBytes a) (ob : AllBytes b) {r : Bool}
     (e : r ≡ sameBytes (spanAt a (headSpan at x)) (spanAt b (headSpan bt y)))
-    (t : r ≡ true) {h : Head} (f : headRes a h ≡ kind a at) where
-  pub leaf-both : {l : LeafSpan} {d : Cursor} → h ≡ Head.Leaf l d → (kind a at ≡ ok (aLeaf (leafAt a l)) x) × (kind b bt ≡ ok (aLeaf (leafAt a l)) y)
+    (t : r ≡ true) {h : HeadSpan} (f : headRes a h ≡ kind a at) where
+  pub leaf-both : {l : LeafSpan} {d : Cursor} → h ≡ HeadSpan.Leaf l d → (kind a at ≡ ok (aLeaf (leafAt a l)) x) × (kind b bt ≡ ok (aLeaf (leafAt a l)) y)
   leaf-both g = heads-alike H G oa ob e t (sym f ∙ ap (headRes a) g)
 
-  pub struct-both : {n : ℕ} {d : Cursor} → h ≡ Head.Struct n d → StructIs va da a at P n x × StructIs vb db b bt Q n y
+  pub struct-both : {n : ℕ} {d : Cursor} → h ≡ HeadSpan.Struct n d → StructIs va da a at P n x × StructIs vb db b bt Q n y
   struct-both g = let (p, q) = heads-alike H G oa ob e t (sym f ∙ ap (headRes a) g) in (struct-known P p, struct-known Q q)
 
-  pub list-both : {d : Cursor} → h ≡ Head.List d → ListIs va da a at P x × ListIs vb db b bt Q y
+  pub list-both : {d : Cursor} → h ≡ HeadSpan.List d → ListIs va da a at P x × ListIs vb db b bt Q y
   list-both g = let (p, q) = heads-alike H G oa ob e t (sym f ∙ ap (headRes a) g) in (list-known P p, list-known Q q)
 
-  pub array-both : {w : ℕ} {d : Cursor} → h ≡ Head.Array w d → ArrayIs va da a at P w x × ArrayIs vb db b bt Q w y
+  pub array-both : {w : ℕ} {d : Cursor} → h ≡ HeadSpan.Array w d → ArrayIs va da a at P w x × ArrayIs vb db b bt Q w y
   array-both g = let (p, q) = heads-alike H G oa ob e t (sym f ∙ ap (headRes a) g) in (array-known P p, array-known Q q)
 
 -- ---- the answers for two types

@@ -9,7 +9,7 @@ use lib.Dec.{eqb}
 use borrow.Author.Tests.{eq-eqb, eqb-true}
 use Rattle.layout.specs.Bytes.{Bytes, sameBytes}
 use Rattle.layout.specs.Tree.{LeafType, leafType, datetime, decimal, DataType, leaf, struct, list, array, Fields, fnil, fcons, countFields}
-use Rattle.layout.specs.Layout.{Kind, aLeaf, aStruct, aList, anArray, plainLeaf}
+use Rattle.layout.specs.Layout.{Head, aLeaf, aStruct, aList, anArray, plainLeaf}
 use Rattle.layout.specs.declared.leaf.Leaf.{Leaf}
 use Rattle.layout.specs.declared.leaf.Decimal.{Decimal}
 use Rattle.layout.specs.declared.leaf.TimeUnit.{TimeUnit}
@@ -20,7 +20,7 @@ use Rattle.layout.proofs.OfBytes.{same-bytes-refl, both, same-bytes-eq}
 use Rattle.layout.specs.Layout.{unitCode}
 use Rattle.forms.specs.Form.{u16Bytes, u32Bytes, textBytes, leafForm, kindForm, form, formFields, headOf, restForm}
 use Rattle.forms.specs.Same.{equalTypes, equalFields}
-use Rattle.forms.specs.Compare.{sameLeaf, sameDtype, sameFields}
+use Rattle.forms.specs.code.Compare.{sameLeaf, sameDtype, sameFields}
 use Rattle.forms.proofs.Leaves.{LeafCase, plain, timed, scaled, leafCase}
 
 -- ---- each form is read in one way
@@ -120,7 +120,7 @@ leaf-code l r {c} {q} e m = go (leafCase l)
         let g : 21 ∷ (d .precision ∷ (d .scale ∷ r)) ≡ c ∷ q = rw f at e in
         sym (head-eq g)
 
-pub kind-eq : (k j : Kind) {r q : Bytes} → kindForm k ++ r ≡ kindForm j ++ q → (k ≡ j) × (r ≡ q)
+pub kind-eq : (k j : Head) {r q : Bytes} → kindForm k ++ r ≡ kindForm j ++ q → (k ≡ j) × (r ≡ q)
 unfolding kindForm
 kind-eq (aLeaf a) (aLeaf b) e = let (p, q) = leaf-eq a b e in (ap aLeaf p, q)
 kind-eq (aLeaf a) (aStruct n) e = absurd (omega (arith, leaf-code a _ e (omega arith)))
@@ -151,7 +151,8 @@ form-kind (array w t) = refl
 -- forms with bytes behind them that are equal begin alike
 begins : (t u : DataType) (r q : Bytes) → form t ++ r ≡ form u ++ q → (headOf t ≡ headOf u) × (restForm t ++ r ≡ restForm u ++ q)
 begins t u r q e =
-    kind-eq (headOf t) (headOf u) (sym (append-assoc (kindForm (headOf t)) (restForm t) r) ∙ (rw (form-kind t, form-kind u) at e) ∙ append-assoc (kindForm (headOf u)) (restForm u) q)
+    kind-eq (headOf t) (headOf u) (sym (append-assoc (kindForm (headOf t)) (restForm t) r) ∙ (rw (form-kind t, form-kind u) at e) ∙ append-assoc
+    (kindForm (headOf u)) (restForm u) q)
 
 fcons-eq : {n m : Bytes} {t u : DataType} {fs gs : Fields} → n ≡ m → t ≡ u → fs ≡ gs → fcons n t fs ≡ fcons m u gs
 fcons-eq p q r = cc

@@ -71,7 +71,8 @@ Coded (Unknown ∷ xs) i = Coded xs (suc i)
 known-is : {k l : Leaf} → Known k ≡ Known l → k ≡ l
 known-is e = cc
 
-coded-at : (xs : List PlainLeaf) (i c : ℕ) {l : Leaf} → Coded xs i → getD xs c Unknown ≡ Known l → (leafForm (leafType l []) ≡ (i + c) ∷ []) × ReadableLeaf (leafType l [])
+coded-at : (xs : List PlainLeaf) (i c : ℕ) {l : Leaf} → Coded xs i → getD xs c Unknown ≡ Known l → (leafForm (leafType l []) ≡ (i + c) ∷ []) ×
+    ReadableLeaf (leafType l [])
 coded-at [] i c h e = clash (cc)
 coded-at (Known k ∷ xs) i zero h e = rw (← known-is e) (h .0 .0 ∙ ap (λ (n : ℕ). n ∷ []) (let z : i ≡ i + 0 = omega arith in z), h .0 .1)
 coded-at (Unknown ∷ xs) i zero h e = clash (cc)
@@ -84,8 +85,43 @@ coded-at (Unknown ∷ xs) i (suc c) h e =
 
 all-coded : Coded plainLeaves 0
 unfolding leafForm carried
-all-coded =
-    ((refl, tt), ((refl, tt), ((refl, tt), ((refl, tt), ((refl, tt), ((refl, tt), ((refl, tt), ((refl, tt), ((refl, tt), ((refl, tt), ((refl, tt), ((refl, tt), ((refl, tt), ((refl, tt), ((refl, tt), ((refl, tt), ((refl, tt), tt)))))))))))))))))
+all-coded = (
+  (refl, tt),
+  (
+    (refl, tt),
+    (
+      (refl, tt),
+      (
+        (refl, tt),
+        (
+          (refl, tt),
+          (
+            (refl, tt),
+            (
+              (refl, tt),
+              (
+                (refl, tt),
+                (
+                  (refl, tt),
+                  (
+                    (refl, tt),
+                    (
+                      (refl, tt),
+                      (
+                        (refl, tt),
+                        ((refl, tt), ((refl, tt), ((refl, tt), ((refl, tt), ((refl, tt), tt))))),
+                      ),
+                    ),
+                  ),
+                ),
+              ),
+            ),
+          ),
+        ),
+      ),
+    ),
+  ),
+)
 
 pub plain-form : (c : ℕ) {l : Leaf} → plainLeaf c ≡ Known l → (leafForm (leafType l []) ≡ c ∷ []) × ReadableLeaf (leafType l [])
 plain-form c e =

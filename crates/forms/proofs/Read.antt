@@ -10,7 +10,9 @@ use borrow.Author.Tests.{ltb-true, leb-true, eqb-true}
 use Rattle.layout.specs.Bytes.{Bytes, AllBytes}
 use Rattle.layout.specs.Parser.{Res, refuse, ok, next, choose, Parser, byte, chunk, u16, u32, test}
 use Rattle.layout.specs.Tree.{LeafType, leafType, datetime, decimal, Label, ColumnType, cleaf, cstruct, clist, carray, Columns, cnil, ccons}
-use Rattle.layout.specs.Layout.{Kind, aLeaf, aStruct, aList, anArray, text, unit, validDecimal, decimalParams, plainLeaf, leafKind, datetimeKind, decimalKind, structKind, arrayKind, kindOf, kind, fieldId, requiredMark, fieldMark, labelRest, label, elementLabel, repeatsAny, columns, body, structType, listType, arrayType, type}
+use Rattle.layout.specs.Layout.{Head, aLeaf, aStruct, aList, anArray, text, unit, validDecimal, decimalParams, plainLeaf, leafHead, datetimeHead, decimalHead}
+use Rattle.layout.specs.Layout.{structHead, arrayHead, kindOf, kind, fieldId, requiredMark, fieldMark, labelRest, label, elementLabel, repeatsAny, columns}
+use Rattle.layout.specs.Layout.{body, structType, listType, arrayType, type}
 use Rattle.layout.specs.declared.leaf.TimeUnit.{TimeUnit}
 use Rattle.layout.specs.declared.leaf.TimeUnit.the-variants.{Nanoseconds, Microseconds, Milliseconds}
 use Rattle.layout.specs.declared.leaf.Leaf.{Leaf}
@@ -177,7 +179,7 @@ decimal-stands s at {d} {m} e =
     let q = byte-stands s i g .0 in
     scaled-as (ok-eq f .0) (ok-eq f .1) (stands-append p q) t
 
-pub data KindRead (s : Bytes) (at : ℕ) : Kind → ℕ → Type 0 where
+pub data KindRead (s : Bytes) (at : ℕ) : Head → ℕ → Type 0 where
   kr-plain : {c m : ℕ} {l : Leaf} {k : LeafType} → byte s at ≡ ok c m → plainLeaf c ≡ Known l → leafType l [] ≡ k → KindRead s at (aLeaf k) m
   kr-timed : {i j m : ℕ} {u : TimeUnit} {z : Bytes} → byte s at ≡ ok 14 i → unit s i ≡ ok u j → text s j ≡ ok z m → KindRead s at (aLeaf (datetime u z)) m
   kr-scaled : {i m : ℕ} {d : Decimal} → byte s at ≡ ok 21 i → decimalParams s i ≡ ok d m → KindRead s at (aLeaf (decimal d)) m
@@ -185,19 +187,19 @@ pub data KindRead (s : Bytes) (at : ℕ) : Kind → ℕ → Type 0 where
   kr-list : {m : ℕ} → byte s at ≡ ok 19 m → KindRead s at aList m
   kr-array : {i w m : ℕ} → byte s at ≡ ok 20 i → u32 s i ≡ ok w m → KindRead s at (anArray w) m
 
-kr-is : {s : Bytes} {at : ℕ} {k k′ : Kind} {m m′ : ℕ} → k ≡ k′ → m ≡ m′ → KindRead s at k m → KindRead s at k′ m′
+kr-is : {s : Bytes} {at : ℕ} {k k′ : Head} {m m′ : ℕ} → k ≡ k′ → m ≡ m′ → KindRead s at k m → KindRead s at k′ m′
 kr-is p q r = rw (← p, ← q) r
 
-plain-read : (s : Bytes) (at c i : ℕ) (p : PlainLeaf) {k : Kind} {m : ℕ} → byte s at ≡ ok c i → plainLeaf c ≡ p → leafKind p s i ≡ ok k m → KindRead s at k m
-unfolding leafKind
+plain-read : (s : Bytes) (at c i : ℕ) (p : PlainLeaf) {k : Head} {m : ℕ} → byte s at ≡ ok c i → plainLeaf c ≡ p → leafHead p s i ≡ ok k m → KindRead s at k m
+unfolding leafHead
 plain-read s at c i (Known l) {k} {m} h q e =
     let y : i ≡ m = cc in
     let z : aLeaf (leafType l []) ≡ k = cc in
     kr-is z y (kr-plain h q refl)
 plain-read s at c i Unknown h q e = clash (cc)
 
-pub kind→ : (s : Bytes) (at : ℕ) {k : Kind} {m : ℕ} → kind s at ≡ ok k m → KindRead s at k m
-unfolding kind kindOf datetimeKind decimalKind structKind arrayKind
+pub kind→ : (s : Bytes) (at : ℕ) {k : Head} {m : ℕ} → kind s at ≡ ok k m → KindRead s at k m
+unfolding kind kindOf datetimeHead decimalHead structHead arrayHead
 kind→ s at {k} {m} e =
     let (c, i, h, f) = next-ok _ _ e in
     case c 14 _ _ f (λ z f.
@@ -228,13 +230,13 @@ kind→ s at {k} {m} e =
     plain-read s at c i (plainLeaf c) h refl f)))))
 
 -- what follows of a kind that was read
-abbrev pub ReadableKind : Kind → Type 0
+abbrev pub ReadableKind : Head → Type 0
 ReadableKind (aLeaf l) = ReadableLeaf l
 ReadableKind (aStruct n) = n < 65536
 ReadableKind aList = Unit {0}
 ReadableKind (anArray w) = w < 4294967296
 
-pub kind-ends : (s : Bytes) (at : ℕ) {k : Kind} {m : ℕ} → KindRead s at k m → (m ≤ length s) × (at + length (kindForm k) ≡ m)
+pub kind-ends : (s : Bytes) (at : ℕ) {k : Head} {m : ℕ} → KindRead s at k m → (m ≤ length s) × (at + length (kindForm k) ≡ m)
 unfolding kindForm leafForm carried textBytes u16Bytes u32Bytes
 kind-ends s at (kr-plain {c = c} {k = k} h q z) =
     let (p, y) = byte-ends s at h in
@@ -265,7 +267,7 @@ kind-ends s at (kr-array h q) =
     (omega arith, omega arith)
 
 module _ (s : Bytes) (o : AllBytes s) (at : ℕ) where
-  pub kind-stands : {k : Kind} {m : ℕ} → KindRead s at k m → Stands s at m (kindForm k) × ReadableKind k
+  pub kind-stands : {k : Head} {m : ℕ} → KindRead s at k m → Stands s at m (kindForm k) × ReadableKind k
   unfolding kindForm leafForm carried
   kind-stands (kr-plain {c = c} {l = l} h q z) =
       let (p, y) = byte-stands s at h in
@@ -308,7 +310,8 @@ module _ (s : Bytes) where
       let c : j ≡ i = case m 0 _ _ g (λ z q. ok-eq q .1) (λ q. case m 1 _ _ q (λ z q. ok-eq q .1) (λ q. clash (cc))) in
       (omega arith, omega arith)
 
-  pub label-ends : (v : Edition) (at : ℕ) {l : Label} {i : ℕ} → label v s at ≡ ok l i → (i ≤ length s) × ((at + length (textBytes (l .name)) ≤ i) × ((length (l .name) ≤ 63) × (AllBytes s → AllBytes (l .name))))
+  pub label-ends : (v : Edition) (at : ℕ) {l : Label} {i : ℕ} → label v s at ≡ ok l i → (i ≤ length s) ×
+      ((at + length (textBytes (l .name)) ≤ i) × ((length (l .name) ≤ 63) × (AllBytes s → AllBytes (l .name))))
   unfolding label labelRest
   label-ends v at {l} {i} e =
       let (b, j, h, f) = next-ok _ _ e in
@@ -374,7 +377,8 @@ passed false s e = clash (cc)
 
 module _ (v : Edition) (r : Siblings) (s : Bytes) where
   module _ (d : ℕ) (deeper : (at : ℕ) (t : ColumnType) (e : ℕ) → type v r d s at ≡ ok t e → TypeRead v s d at t e) where
-    pub columns→ : (n : ℕ) (earlier : List Label) (at : ℕ) {cs : Columns} {e : ℕ} → columns v r (type v r d) n earlier s at ≡ ok cs e → ColumnsRead v s d n at cs e
+    pub columns→ : (n : ℕ) (earlier : List Label) (at : ℕ) {cs : Columns} {e : ℕ} → columns v r (type v r d) n earlier s at ≡ ok cs e → ColumnsRead v s
+        d n at cs e
     unfolding columns
     columns→ zero earlier at h = let (p, q) = ok-eq h in columns-is p q cr-none
     columns→ (suc n) earlier at h =
@@ -386,7 +390,7 @@ module _ (v : Edition) (r : Siblings) (s : Bytes) where
         let z : j ≡ k = passed (not (repeatsAny r l earlier)) s h₃ in
         columns-is p q (cr-column h₁ (type-is refl z (deeper i t _ h₂)) (columns→ n (earlier ++ (l ∷ [])) k h₄))
 
-    body→ : (k : Kind) (at m : ℕ) {c : ColumnType} {e : ℕ} → KindRead s at k m → body v r (type v r d) k s m ≡ ok c e → TypeRead v s (suc d) at c e
+    body→ : (k : Head) (at m : ℕ) {c : ColumnType} {e : ℕ} → KindRead s at k m → body v r (type v r d) k s m ≡ ok c e → TypeRead v s (suc d) at c e
     unfolding body structType listType arrayType
     body→ (aLeaf l) at m h g = let (p, q) = ok-eq g in type-is p q (tr-leaf h)
     body→ (aStruct n) at m h g =

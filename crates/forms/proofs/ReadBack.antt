@@ -8,13 +8,14 @@ use lib.ListN.{length, length-append}
 use Rattle.layout.specs.Bytes.{Bytes, AllBytes}
 use Rattle.layout.specs.Parser.{ok}
 use Rattle.layout.specs.Tree.{ColumnType, cleaf, cstruct, clist, carray, Columns, cnil, ccons, dtypeOf, fieldsOf, countFields}
-use Rattle.layout.specs.Layout.{Kind, aLeaf, aStruct, aList, anArray}
+use Rattle.layout.specs.Layout.{Head, aLeaf, aStruct, aList, anArray}
 use Rattle.layout.specs.declared.edition.Edition.{Edition}
 use Rattle.layout.specs.declared.edition.Edition.the-variants.{One}
 use Rattle.forms.specs.Form.{textBytes, leafForm, kindForm, form, formFields}
 use Rattle.forms.specs.Readable.{Readable, ReadableFields, depthOf, depthOfFields}
 use Rattle.forms.proofs.Slices.{Stands, stands-eq, stands-none, stands-append, stands-length}
-use Rattle.forms.proofs.Read.{KindRead, kind-ends, kind-stands, label-ends, element-ends, label-stands, element-stands, TypeRead, tr-leaf, tr-struct, tr-list, tr-array, ColumnsRead, cr-none, cr-column}
+use Rattle.forms.proofs.Read.{KindRead, kind-ends, kind-stands, label-ends, element-ends, label-stands, element-stands, TypeRead, tr-leaf, tr-struct}
+use Rattle.forms.proofs.Read.{tr-list, tr-array, ColumnsRead, cr-none, cr-column}
 
 -- from `at` up to e, of which n are needed, and k of d levels
 pub record Extent (s : Bytes) (d at e n k : ℕ) : Type 0 where
@@ -37,7 +38,8 @@ around a p q r =
 mutual
   unfolding dtypeOf fieldsOf form formFields kindForm depthOf depthOfFields countFields
 
-  pub type-extent : {v : Edition} {s : Bytes} {d at e : ℕ} {c : ColumnType} → TypeRead v s d at c e → Extent s d at e (length (form (dtypeOf c))) (depthOf (dtypeOf c))
+  pub type-extent : {v : Edition} {s : Bytes} {d at e : ℕ} {c : ColumnType} → TypeRead v s d at c e → Extent s d at e (length (form (dtypeOf c)))
+      (depthOf (dtypeOf c))
   type-extent {s = s} {at = at} (tr-leaf {l = l} h) =
       let (p, q) = kind-ends s at h in
       let z : length (kindForm (aLeaf l)) ≡ length (leafForm l) = refl in
@@ -45,7 +47,8 @@ mutual
   type-extent {v = v} {s = s} {at = at} (tr-struct {n = n} {cs = cs} h g) =
       let (p, q) = kind-ends s at h in
       let (r, c) = columns-extent g p in
-      extent-is (ap (λ (m : ℕ). length (kindForm (aStruct m) ++ formFields (fieldsOf cs))) c ∙ length-append (kindForm (aStruct n)) (formFields (fieldsOf cs))) refl (around _ q (omega arith) r)
+      extent-is (ap (λ (m : ℕ). length (kindForm (aStruct m) ++ formFields (fieldsOf cs))) c ∙ length-append (kindForm (aStruct n))
+      (formFields (fieldsOf cs))) refl (around _ q (omega arith) r)
   type-extent {v = v} {s = s} {at = at} (tr-list {t = t} h l g) =
       let (p, q) = kind-ends s at h in
       let (a, b) = element-ends s v _ l p in

@@ -10,7 +10,7 @@ use Rattle.layout.specs.declared.leaf.TimeUnit.the-variants.{Microseconds, Mill
 use Rattle.layout.specs.Layout.{unitCode}
 use Rattle.forms.specs.Form.{u16Bytes, u32Bytes, textBytes, carried, leafForm, kindForm, form, formFields}
 use Rattle.forms.specs.Same.{equalTypes}
-use Rattle.forms.specs.Compare.{sameLeaf, sameDtype, sameFields}
+use Rattle.forms.specs.code.Compare.{sameLeaf, sameDtype, sameFields}
 use Rattle.numeric.specs.declared.integers.Integer.the-variants.{Int32}
 
 -- open every definition that a sample computes through
@@ -28,7 +28,8 @@ unfolding written
 fields-of-two = refl
 
 -- an array of 70,000 lists of µs with zone UTC: 70,000 is 0x11170
-nested : form (array 70000 (list (leaf (datetime Microseconds (0x55 ∷ 0x54 ∷ 0x43 ∷ []))))) ≡ 20 ∷ 0x70 ∷ 0x11 ∷ 1 ∷ 0 ∷ 19 ∷ 14 ∷ 1 ∷ 3 ∷ 0x55 ∷ 0x54 ∷ 0x43 ∷ []
+nested : form (array 70000 (list (leaf (datetime Microseconds (0x55 ∷ 0x54 ∷ 0x43 ∷ []))))) ≡ 20 ∷ 0x70 ∷ 0x11 ∷ 1 ∷ 0 ∷ 19 ∷ 14 ∷ 1 ∷ 3 ∷ 0x55 ∷ 0x54 ∷
+    0x43 ∷ []
 unfolding written
 nested = refl
 

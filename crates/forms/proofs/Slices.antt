@@ -29,7 +29,12 @@ module _ {s : Bytes} where
 
   pub stands-one : (at : ℕ) → at < length s → Stands s at (at + 1) (getD s at 0 ∷ [])
   stands-one at h =
-      record { from = omega arith; to = omega arith; is = slice-cons at (at + 1) s 0 (omega arith) (omega arith) ∙ ap (λ (r : Bytes). getD s at 0 ∷ r) (rw add-one (slice-empty (suc at) s)) }
+      record {
+        from = omega arith;
+        to = omega arith;
+        is = slice-cons at (at + 1) s 0 (omega arith) (omega arith) ∙ ap (λ (r : Bytes). getD s at 0 ∷ r)
+            (rw add-one (slice-empty (suc at) s));
+      }
 
   -- one part after another
   pub stands-append : {at m e : ℕ} {xs ys : Bytes} → Stands s at m xs → Stands s m e ys → Stands s at e (xs ++ ys)

@@ -11,14 +11,14 @@ use Rattle.layout.specs.Bytes.{Bytes, sameBytes, AllBytes}
 use Rattle.layout.specs.Parser.{ok}
 use Rattle.layout.specs.Tree.{ColumnType, DataType, Fields, dtypeOf, fieldsOf, countFields}
 use Rattle.layout.specs.Layout.{type}
-use Rattle.layout.specs.Stands.{ColumnsAt}
+use Rattle.layout.specs.code.Stands.{ColumnsAt}
 use Rattle.layout.specs.declared.edition.Edition.{Edition}
 use Rattle.layout.specs.declared.edition.Edition.the-variants.{One}
 use Rattle.layout.specs.declared.columns.Siblings.{Siblings}
 use Rattle.layout.specs.declared.columns.Siblings.the-variants.{Free}
 use Rattle.forms.specs.Form.{form, formFields}
 use Rattle.forms.specs.Same.{equalTypes, equalFields}
-use Rattle.forms.specs.Compare.{sameDtype}
+use Rattle.forms.specs.code.Compare.{sameDtype}
 use Rattle.forms.specs.Readable.{Readable, depthOf, labelled}
 use Rattle.forms.proofs.Equal.{form-eq, equal-types-refl, equal-types-eq, equal-fields-refl, equal-fields-eq, same-is-equal}
 use Rattle.layout.proofs.OfBytes.{same-bytes-refl, same-bytes-eq}
@@ -60,7 +60,8 @@ form-read t d pre post h p = (type-at t d (pre ++ (form t ++ post)) (length pre)
 -- ---- 3. what was read as a type
 
 -- version 1: the bytes that were read are the type's form
-pub read-form : (r : Siblings) (d : ℕ) (s : Bytes) (at : ℕ) {c : ColumnType} {m : ℕ} → AllBytes s → type One r d s at ≡ ok c m → form (dtypeOf c) ≡ take (m - at) (drop at s)
+pub read-form : (r : Siblings) (d : ℕ) (s : Bytes) (at : ℕ) {c : ColumnType} {m : ℕ} → AllBytes s → type One r d s at ≡ ok c m → form (dtypeOf c) ≡ take
+    (m - at) (drop at s)
 read-form r d s at {c} {m} o e =
     let S = type-stands o (type→ One r s d at e) in
     let a = S .from in
@@ -77,7 +78,8 @@ read-extent v r d s at e =
     let b = E .long in
     (a, E .to, omega arith, E .deep)
 
-pub read-readable : (v : Edition) (r : Siblings) (d : ℕ) (s : Bytes) (at : ℕ) {c : ColumnType} {m : ℕ} → AllBytes s → type v r d s at ≡ ok c m → Readable (dtypeOf c)
+pub read-readable : (v : Edition) (r : Siblings) (d : ℕ) (s : Bytes) (at : ℕ) {c : ColumnType} {m : ℕ} → AllBytes s → type v r d s at ≡ ok c m →
+    Readable (dtypeOf c)
 read-readable v r d s at o e = type-readable o (type→ v r s d at e)
 
 -- columns that stand: their form is not longer than their bytes, and there are as many as were asked for

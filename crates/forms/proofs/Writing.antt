@@ -10,21 +10,22 @@ use Rattle.store.proofs.Overlay.{overlay-append}
 use Rattle.layout.specs.Bytes.{Bytes, AllBytes}
 use Rattle.layout.specs.Parser.{Res, ok}
 use Rattle.layout.specs.Tree.{ColumnType, Columns, cnil, ccons, dtypeOf, fieldsOf}
-use Rattle.layout.specs.Layout.{Kind, kind, label, elementLabel, type, columns}
-use Rattle.layout.specs.Answers.{spanAt, spanIn, headRes, labelRes, labelAt, labelIn}
-use Rattle.layout.specs.Stands.{TypeAt, ColumnsAt}
+use Rattle.layout.specs.Layout.{Head, kind, label, elementLabel, type, columns}
+use Rattle.layout.specs.code.Answers.{spanAt, spanIn, headRes, labelRes, labelAt, labelIn}
+use Rattle.layout.specs.code.Stands.{TypeAt, ColumnsAt}
 use Rattle.layout.specs.declared.bytes.Span.{Span}
 use Rattle.layout.specs.declared.cursor.Cursor.{Cursor}
-use Rattle.layout.specs.declared.types.Head.{Head}
+use Rattle.layout.specs.declared.types.Head.{Head as HeadSpan}
 use Rattle.layout.specs.declared.types.LeafType.{LeafType as LeafSpan}
 use Rattle.layout.specs.declared.columns.Label.{Label as LabelSpan}
 use Rattle.layout.specs.declared.columns.Labelled.{Labelled}
 use Rattle.layout.specs.declared.edition.Edition.{Edition}
 use Rattle.layout.specs.declared.columns.Siblings.the-variants.{Free}
 use Rattle.layout.proofs.Ways.{label-in}
-use Rattle.layout.proofs.View.{label-got, leaf-at, StructAt, struct-at, ListAt, list-at, ArrayAt, array-at, same-type, same-columns, no-column, FirstAt, first-at, first-labelled}
+use Rattle.layout.proofs.View.{label-got, leaf-at, StructAt, struct-at, ListAt, list-at, ArrayAt, array-at, same-type, same-columns, no-column, FirstAt}
+use Rattle.layout.proofs.View.{first-at, first-labelled}
 use Rattle.forms.specs.Form.{textBytes, kindForm, form, formFields, headOf, restForm}
-use Rattle.forms.specs.Answers.{endOf}
+use Rattle.forms.specs.code.Answers.{endOf}
 use Rattle.forms.proofs.Equal.{form-kind}
 use Rattle.store.proofs.Overlay.{slice-take}
 use Rattle.forms.proofs.Read.{kind→, kind-stands, label-ends, element-ends, type→}
@@ -71,7 +72,7 @@ form-written {s = s} {at} {m} P H b out k e f =
 -- ---- what follows the head
 
 module _ {v : Edition} {d : ℕ} {s : Bytes} {at : ℕ} (P : TypeAt v d s at) where
-  pub rest-leaf : {p : Head} {l : LeafSpan} {c : Cursor} → headRes s p ≡ kind s at → p ≡ Head.Leaf l c → (restOf (P .tree) ≡ []) × (c .at ≡ P .end)
+  pub rest-leaf : {p : HeadSpan} {l : LeafSpan} {c : Cursor} → headRes s p ≡ kind s at → p ≡ HeadSpan.Leaf l c → (restOf (P .tree) ≡ []) × (c .at ≡ P .end)
   unfolding dtypeOf restForm
   rest-leaf e f = let (p, q) = leaf-at P e f in (rw p, q)
 
@@ -93,10 +94,11 @@ unfolding overlay
 none-stored out k e = rw e
 
 -- there is room for what follows the head
-pub rest-room : (n : ℕ) (c : Cursor) {x : Cursor} (z : Res Kind) → x ≡ endOf z c → n < 2 ^ 64 + endOf z c .at → n < 2 ^ 64 + x .at
+pub rest-room : (n : ℕ) (c : Cursor) {x : Cursor} (z : Res Head) → x ≡ endOf z c → n < 2 ^ 64 + endOf z c .at → n < 2 ^ 64 + x .at
 rest-room n c z e h = rw (← e) at h
 
-pub element-room : (n : ℕ) (c : Cursor) {v : Edition} {d : ℕ} {s : Bytes} {x b : Cursor} {q : Labelled} {l : LabelSpan} → TypeAt v d s (c .at) → x ≡ endOf (kind s (c .at)) c
+pub element-room : (n : ℕ) (c : Cursor) {v : Edition} {d : ℕ} {s : Bytes} {x b : Cursor} {q : Labelled} {l : LabelSpan} → TypeAt v d s (c .at) → x ≡
+    endOf (kind s (c .at)) c
     → labelRes s q ≡ elementLabel v s (x .at) → q ≡ Labelled.Is l b → n < 2 ^ 64 + endOf (kind s (c .at)) c .at → n < 2 ^ 64 + b .at
 element-room n c {v} {s = s} {x} P e g f h =
     let H = head-at P refl e in
@@ -140,7 +142,8 @@ module _ {v : Edition} {d : ℕ} {s : Bytes} {n from : ℕ} {out₀ : Bytes} {k 
       }
 
   module _ {out : Bytes} {at to i : ℕ} (W : Writing v d s n from out₀ k out at to i) where
-    pub writing-all : n ≤ i → (P : ColumnsAt v d s n from) → (to - k ≡ length (fieldBytes (P .columns))) × (at ≡ P .end) × (out ≡ overlay out₀ k (fieldBytes (P .columns)))
+    pub writing-all : n ≤ i → (P : ColumnsAt v d s n from) → (to - k ≡ length (fieldBytes (P .columns))) × (at ≡ P .end) ×
+        (out ≡ overlay out₀ k (fieldBytes (P .columns)))
     unfolding overlay formFields fieldsOf
     writing-all h P =
         let z : n - i ≡ 0 = let w = W .within in omega arith in
@@ -175,7 +178,8 @@ module _ {v : Edition} {d : ℕ} {s : Bytes} {n from : ℕ} {out₀ : Bytes} {k 
       columns-first = ap (λ (cs : Columns). fieldBytes cs) (column .is)
 
       pub writing-more : {m x y : ℕ} {o o′ : Bytes} → m ≡ length (textBytes (spanAt s (l .name))) → o ≡ overlay out to (textBytes (spanAt s (l .name)))
-          → (x ≡ length (bytesOf (column .head .tree))) × (y ≡ column .head .end) → o′ ≡ overlay o (to + m) (bytesOf (column .head .tree)) → length o′ ≡ length out
+          → (x ≡ length (bytesOf (column .head .tree))) × (y ≡ column .head .end) → o′ ≡ overlay o (to + m) (bytesOf (column .head .tree)) → length o′ ≡
+          length out
           → Writing v d s n from out₀ k o′ y (to + m + x) (i + 1)
       writing-more {m} {x} {y} {o} {o′} a b (p, q) t u =
           let N = column-name .2 in
@@ -188,7 +192,8 @@ module _ {v : Edition} {d : ℕ} {s : Bytes} {n from : ℕ} {out₀ : Bytes} {k 
           let lg = length-append (bytesOf (column .head .tree)) (fieldBytes (column .tail .columns)) in
           let r : overlay o′ (to + m + x) (fieldBytes (column .tail .columns)) ≡ overlay out to (fieldBytes (W .rest .columns)) =
           rw (t, b, F, a, p)
-          (overlay-append (overlay out to (textBytes (spanAt s (l .name)))) (to + length (textBytes (spanAt s (l .name)))) (bytesOf (column .head .tree)) (fieldBytes (column .tail .columns))
+          (overlay-append (overlay out to (textBytes (spanAt s (l .name)))) (to + length (textBytes (spanAt s (l .name))))
+          (bytesOf (column .head .tree)) (fieldBytes (column .tail .columns))
           ∙ overlay-append out to (textBytes (spanAt s (l .name))) (bytesOf (column .head .tree) ++ fieldBytes (column .tail .columns))) in
           record {
             within = omega arith;
@@ -201,5 +206,6 @@ module _ {v : Edition} {d : ℕ} {s : Bytes} {n from : ℕ} {out₀ : Bytes} {k 
             stores = λ P. r ∙ W .stores P;
           }
         where
-          tail-reads : {y : ℕ} → n - i - 1 ≡ n - (i + 1) → y ≡ column .head .end → columns v Free (type v Free d) (n - (i + 1)) [] s y ≡ ok (column .tail .columns) (column .tail .end)
+          tail-reads : {y : ℕ} → n - i - 1 ≡ n - (i + 1) → y ≡ column .head .end → columns v Free (type v Free d) (n - (i + 1)) [] s y ≡ ok
+              (column .tail .columns) (column .tail .end)
           tail-reads z q = rw (← z, q) (column .tail .reads)

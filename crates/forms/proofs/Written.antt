@@ -10,8 +10,11 @@ use lib.Dec.{leb, ltb, eqb}
 use borrow.Author.Tests.{lt-ltb, le-leb, ne-eqb}
 use Rattle.layout.specs.Bytes.{Bytes}
 use Rattle.layout.specs.Parser.{Res, ok, next, choose, byte, chunk, u16, u32}
-use Rattle.layout.specs.Tree.{LeafType, leafType, datetime, decimal, Label, ColumnType, cleaf, cstruct, clist, carray, Columns, cnil, ccons, DataType, leaf, struct, list, array, Fields, fnil, fcons, countFields, dtypeOf, fieldsOf}
-use Rattle.layout.specs.Layout.{Kind, aLeaf, aStruct, aList, anArray, text, unit, validDecimal, decimalParams, plainLeaf, leafKind, datetimeKind, decimalKind, structKind, arrayKind, kindOf, kind, fieldId, fieldMark, labelRest, label, elementLabel, columns, body, structType, listType, arrayType, type}
+use Rattle.layout.specs.Tree.{LeafType, leafType, datetime, decimal, Label, ColumnType, cleaf, cstruct, clist, carray, Columns, cnil, ccons, DataType, leaf}
+use Rattle.layout.specs.Tree.{struct, list, array, Fields, fnil, fcons, countFields, dtypeOf, fieldsOf}
+use Rattle.layout.specs.Layout.{Head, aLeaf, aStruct, aList, anArray, text, unit, validDecimal, decimalParams, plainLeaf, leafHead, datetimeHead, decimalHead}
+use Rattle.layout.specs.Layout.{structHead, arrayHead, kindOf, kind, fieldId, fieldMark, labelRest, label, elementLabel, columns, body, structType, listType}
+use Rattle.layout.specs.Layout.{arrayType, type}
 use Rattle.layout.specs.declared.leaf.TimeUnit.{TimeUnit}
 use Rattle.layout.specs.declared.leaf.Decimal.{Decimal}
 use Rattle.layout.specs.declared.leaf.TimeUnit.the-variants.{Nanoseconds, Microseconds, Milliseconds}
@@ -81,7 +84,7 @@ unit-at s at Milliseconds e = rw (byte-at s at e)
 
 timed-at : (s : Bytes) (at : ℕ) (u : TimeUnit) (z r : Bytes) → length z ≤ 63 → drop at s ≡ leafForm (datetime u z) ++ r
     → kind s at ≡ ok (aLeaf (datetime u z)) (at + length (leafForm (datetime u z)))
-unfolding kind kindOf datetimeKind next choose leafForm carried
+unfolding kind kindOf datetimeHead next choose leafForm carried
 timed-at s at u z r l e =
     let f = behind s at (14 ∷ []) _ e in
     let g = behind s (at + 1) (unitCode u ∷ []) _ f in
@@ -90,30 +93,42 @@ timed-at s at u z r l e =
 
 scaled-at : (s : Bytes) (at : ℕ) (d : Decimal) (r : Bytes) → validDecimal (d .precision) (d .scale) ≡ true → drop at s ≡ leafForm (decimal d) ++ r
     → kind s at ≡ ok (aLeaf (decimal d)) (at + length (leafForm (decimal d)))
-unfolding kind kindOf decimalKind decimalParams next choose leafForm carried
+unfolding kind kindOf decimalHead decimalParams next choose leafForm carried
 scaled-at s at d r h e =
     let f = behind s at (21 ∷ []) _ e in
     let g = behind s (at + 1) (d .precision ∷ []) _ f in
     let y : at + 1 + 1 + 1 ≡ at + 3 = omega arith in
     rw (byte-at s at e, byte-at s (at + 1) f, byte-at s (at + 1 + 1) g, h, y)
 
-plain-at : (s : Bytes) (at : ℕ) (l : LeafType) (r : Bytes) → LeafCase l → ReadableLeaf l → drop at s ≡ leafForm l ++ r → kind s at ≡ ok (aLeaf l) (at + length (leafForm l))
-unfolding kind kindOf next choose leafKind
+plain-at : (s : Bytes) (at : ℕ) (l : LeafType) (r : Bytes) → LeafCase l → ReadableLeaf l → drop at s ≡ leafForm l ++ r → kind s at ≡ ok (aLeaf l)
+    (at + length (leafForm l))
+unfolding kind kindOf next choose leafHead
 plain-at s at l r (plain k c b n p i f) h e =
     let g : drop at s ≡ c ∷ r = rw f at e in
-    rw (f, byte-at s at g, ne-eqb c 14 n, ne-eqb c 18 (λ z. omega arith), ne-eqb c 19 (λ z. omega arith), ne-eqb c 20 (λ z. omega arith), ne-eqb c 21 (λ z. omega arith), p, i)
+    rw (
+      f,
+      byte-at s at g,
+      ne-eqb c 14 n,
+      ne-eqb c 18 (λ z. omega arith),
+      ne-eqb c 19 (λ z. omega arith),
+      ne-eqb c 20 (λ z. omega arith),
+      ne-eqb c 21
+          (λ z. omega arith),
+      p,
+      i,
+    )
 plain-at s at l r (timed u z i f) h e = let k : ReadableLeaf (datetime u z) = rw i at h in rw i (timed-at s at u z r (k .0) (rw i at e))
 plain-at s at l r (scaled d i f) h e = rw i (scaled-at s at d r (rw i at h) (rw i at e))
 
 -- what a kind asks to be read
-abbrev Shown : Kind → Type 0
+abbrev Shown : Head → Type 0
 Shown (aLeaf l) = ReadableLeaf l
 Shown (aStruct n) = Unit {0}
 Shown aList = Unit {0}
 Shown (anArray w) = Unit {0}
 
-kind-at : (s : Bytes) (at : ℕ) (k : Kind) (r : Bytes) → Shown k → drop at s ≡ kindForm k ++ r → kind s at ≡ ok k (at + length (kindForm k))
-unfolding kind kindOf structKind arrayKind next choose kindForm u16Bytes u32Bytes
+kind-at : (s : Bytes) (at : ℕ) (k : Head) (r : Bytes) → Shown k → drop at s ≡ kindForm k ++ r → kind s at ≡ ok k (at + length (kindForm k))
+unfolding kind kindOf structHead arrayHead next choose kindForm u16Bytes u32Bytes
 kind-at s at (aLeaf l) r h e = plain-at s at l r (leafCase l) h e
 kind-at s at (aStruct n) r h e =
     let z : at + 1 + 2 ≡ at + 3 = omega arith in
@@ -135,7 +150,8 @@ ends : (at : ℕ) (xs ys : Bytes) → at + length xs + length ys ≡ at + length
 ends at xs ys = let h = length-append xs ys in omega arith
 
 mutual
-  unfolding form formFields kindForm depthOf depthOfFields labelled labelledFields countFields type body structType listType arrayType elementLabel columns next choose
+  unfolding form formFields kindForm depthOf depthOfFields labelled labelledFields countFields type body structType listType arrayType elementLabel
+      columns next choose
 
   pub type-at : (t : DataType) (d : ℕ) (s : Bytes) (at : ℕ) (r : Bytes) → Readable t → depthOf t ≤ d → drop at s ≡ form t ++ r
       → type One Free d s at ≡ ok (labelled t) (at + length (form t))
@@ -144,7 +160,12 @@ mutual
   type-at (struct fs) zero s at r h p e = absurd (omega arith)
   type-at (struct fs) (suc d) s at r h p e =
       let (f, g) = parts s at (kindForm (aStruct (countFields fs))) (formFields fs) r e in
-      rw (kind-at s at (aStruct (countFields fs)) (formFields fs ++ r) tt f, fields-at fs d s _ r [] (h .1) (omega arith) g, ends at (kindForm (aStruct (countFields fs))) (formFields fs))
+      rw (
+        kind-at s at (aStruct (countFields fs)) (formFields fs ++ r) tt f,
+        fields-at fs d s _ r [] (h .1) (omega arith) g,
+        ends at
+            (kindForm (aStruct (countFields fs))) (formFields fs),
+      )
   type-at (list t) zero s at r h p e = absurd (omega arith)
   type-at (list t) (suc d) s at r h p e =
       let (f, g) = parts s at (kindForm aList) (form t) r e in
@@ -154,14 +175,22 @@ mutual
       let (f, g) = parts s at (kindForm (anArray w)) (form t) r e in
       rw (kind-at s at (anArray w) (form t ++ r) tt f, type-at t d s _ r (h .1) (omega arith) g, ends at (kindForm (anArray w)) (form t))
 
-  pub fields-at : (fs : Fields) (d : ℕ) (s : Bytes) (at : ℕ) (r : Bytes) (earlier : List Label) → ReadableFields fs → depthOfFields fs ≤ d → drop at s ≡ formFields fs ++ r
+  pub fields-at : (fs : Fields) (d : ℕ) (s : Bytes) (at : ℕ) (r : Bytes) (earlier : List Label) → ReadableFields fs → depthOfFields fs ≤ d → drop at s ≡
+      formFields fs ++ r
       → columns One Free (type One Free d) (countFields fs) earlier s at ≡ ok (labelledFields fs) (at + length (formFields fs))
   fields-at fnil d s at r earlier h p e = let z : at ≡ at + 0 = omega arith in ap (λ (m : ℕ). ok cnil m) z
   fields-at (fcons n t fs) d s at r earlier h p e =
       let (f, g) = parts s at (textBytes n) (form t ++ formFields fs) r e in
       let (i, j) = parts s (at + length (textBytes n)) (form t) (formFields fs) r g in
-      rw (label-at s at n _ (h .0 .0) f, type-at t d s _ _ (h .1 .0) (omega arith) i, repeats-free (named n) earlier, fields-at fs d s _ r (earlier ++ (named n ∷ [])) (h .1 .1) (omega arith) j)
-      (ap (λ (m : ℕ). ok (labelledFields (fcons n t fs)) m) (ends (at + length (textBytes n)) (form t) (formFields fs) ∙ ends at (textBytes n) (form t ++ formFields fs)))
+      rw (
+        label-at s at n _ (h .0 .0) f,
+        type-at t d s _ _ (h .1 .0) (omega arith) i,
+        repeats-free (named n) earlier,
+        fields-at fs d s _ r
+            (earlier ++ (named n ∷ [])) (h .1 .1) (omega arith) j,
+      )
+      (ap (λ (m : ℕ). ok (labelledFields (fcons n t fs)) m) (ends (at + length (textBytes n)) (form t) (formFields fs) ∙ ends at (textBytes n)
+      (form t ++ formFields fs)))
 
 mutual
   unfolding dtypeOf fieldsOf labelled labelledFields

@@ -3,8 +3,9 @@ use Prim.Native.Nat.{ℕ, _/_, _%_}
 use mathlib.Core.List.{[], _∷_, _++_}
 use lib.ListN.{length}
 use Rattle.layout.specs.Bytes.{Bytes}
-use Rattle.layout.specs.Tree.{LeafType, leafOf, null, boolean, integer, float, date, datetime, string, binary, categorical, decimal, DataType, leaf, struct, list, array, Fields, fnil, fcons, countFields}
-use Rattle.layout.specs.Layout.{Kind, aLeaf, aStruct, aList, anArray, codeOf, unitCode}
+use Rattle.layout.specs.Tree.{LeafType, leafOf, null, boolean, integer, float, date, datetime, string, binary, categorical, decimal, DataType, leaf, struct}
+use Rattle.layout.specs.Tree.{list, array, Fields, fnil, fcons, countFields}
+use Rattle.layout.specs.Layout.{Head, aLeaf, aStruct, aList, anArray, codeOf, unitCode}
 
 -- Numbers are little-endian. The last byte is not cut to eight bits: a number that fits its field has the field's bytes
 -- (`little-u16`, `little-u32`), and two numbers never have the same, whatever they are.
@@ -35,7 +36,7 @@ unfoldable pub leafForm : LeafType → Bytes
 leafForm l = codeOf (leafOf l) ∷ carried l
 
 -- what a type begins with
-unfoldable pub kindForm : Kind → Bytes
+unfoldable pub kindForm : Head → Bytes
 kindForm (aLeaf l) = leafForm l
 kindForm (aStruct n) = 18 ∷ u16Bytes n
 kindForm aList = 19 ∷ []
@@ -53,7 +54,7 @@ unfoldable mutual
   formFields (fcons n t fs) = textBytes n ++ (form t ++ formFields fs)
 
 -- what a type begins with, and the form of what follows: a struct's columns or an element
-unfoldable pub headOf : DataType → Kind
+unfoldable pub headOf : DataType → Head
 headOf (leaf l) = aLeaf l
 headOf (struct fs) = aStruct (countFields fs)
 headOf (list t) = aList

@@ -8,7 +8,8 @@ use mathlib.Core.Path.{_≡_}
 use mathlib.Core.Bool.{true, false}
 use Rattle.layout.specs.Limits.{longestName}
 use Rattle.layout.specs.Layout.{validDecimal}
-use Rattle.layout.specs.Tree.{LeafType, null, boolean, integer, float, date, datetime, string, binary, categorical, decimal, Label, ColumnType, cleaf, cstruct, clist, carray, Columns, cnil, ccons, DataType, leaf, struct, list, array, Fields, fnil, fcons, countFields}
+use Rattle.layout.specs.Tree.{LeafType, null, boolean, integer, float, date, datetime, string, binary, categorical, decimal, Label, ColumnType, cleaf, cstruct}
+use Rattle.layout.specs.Tree.{clist, carray, Columns, cnil, ccons, DataType, leaf, struct, list, array, Fields, fnil, fcons, countFields}
 
 -- a name or a zone
 abbrev pub ShortText : Bytes → Type 0

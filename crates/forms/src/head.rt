@@ -2,7 +2,7 @@
 // an array's width.
 ghost use mathlib.Core.Path.{_≡_};
 ghost use Rattle.layout.specs.Layout.{kind};
-ghost use Rattle.forms.specs.Answers.{endOf};
+ghost use Rattle.forms.specs.code.Answers.{endOf};
 use layout::cursor::Cursor;
 use layout::types::Head;
 

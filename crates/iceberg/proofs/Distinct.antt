@@ -8,7 +8,8 @@ use borrow.Author.Tests.{eqb-false}
 use Rattle.layout.specs.Bytes.{Bytes}
 use Rattle.layout.specs.Parser.{ok, choose, Parser, test}
 use Rattle.layout.specs.Tree.{Label, ColumnType, cleaf, cstruct, clist, carray, Columns, cnil, ccons, Layout}
-use Rattle.layout.specs.Layout.{Kind, aLeaf, aStruct, aList, anArray, repeatsAny, columns, listType, arrayType, structType, body, type, topRule, innerRule, deepest, counted}
+use Rattle.layout.specs.Layout.{Head, aLeaf, aStruct, aList, anArray, repeatsAny, columns, listType, arrayType, structType, body, type, topRule, innerRule}
+use Rattle.layout.specs.Layout.{deepest, counted}
 use Rattle.layout.specs.Layout.{layoutFrom, layout}
 use Rattle.layout.specs.declared.columns.FieldId.{FieldId}
 use Rattle.layout.specs.declared.columns.Siblings.{Siblings}
@@ -82,7 +83,7 @@ module _ (s : Bytes) (v : Edition) where
       let (x, z) = lack-first cs ms l x in
       ok-same (λ cs. LackAll cs ms × DistinctIdsAll cs) e (lack-column cs ms l t (passed _ 5 s j c) x, (z, (h i t j b, y)))
 
-  body-distinct : (p : Parser ColumnType) → ((at : ℕ) (t : ColumnType) (m : ℕ) → p s at ≡ ok t m → DistinctIds t) → (k : Kind) (at : ℕ) {t : ColumnType} {m : ℕ}
+  body-distinct : (p : Parser ColumnType) → ((at : ℕ) (t : ColumnType) (m : ℕ) → p s at ≡ ok t m → DistinctIds t) → (k : Head) (at : ℕ) {t : ColumnType} {m : ℕ}
       → body v Ids p k s at ≡ ok t m → DistinctIds t
   unfolding body structType listType arrayType
   body-distinct p h (aLeaf l) at e = ok-same DistinctIds e tt
@@ -117,7 +118,8 @@ module _ (s : Bytes) (v : Edition) where
       let (cs, j, b, e) = next-ok _ _ e in
       let (u, k, c, e) = next-ok _ _ e in
       ok-same (λ (l : Layout). DistinctIdsAll (l .columns)) e
-      (columns-distinct (type v Ids deepest) (λ at t m e. type-distinct deepest at e) n [] i (sym (ap₂ (λ (p q : Siblings). columns v p (type v q deepest) n [] s i) x y) ∙ b) .1)
+      (columns-distinct (type v Ids deepest) (λ at t m e. type-distinct deepest at e) n [] i
+      (sym (ap₂ (λ (p q : Siblings). columns v p (type v q deepest) n [] s i) x y) ∙ b) .1)
 
   counted-edition : (at : ℕ) {l : Layout} {m : ℕ} → counted v s at ≡ ok l m → l .edition ≡ v
   unfolding counted

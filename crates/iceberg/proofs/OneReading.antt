@@ -231,7 +231,8 @@ never-both (id-there h) (lacks-cons n l) = never-both h l
 pub lacks-id : {cs : Columns} {i j : FieldId} → i ≡ j → Lacks cs i → Lacks cs j
 lacks-id e l = rw (← e) l
 
-pub one-place : {cs : Columns} {i : FieldId} {j k : ℕ} {a b : Label} {t u : ColumnType} → DistinctIdsAll cs → HasId cs i j a t → HasId cs i k b u → (j ≡ k) × (t ≡ u)
+pub one-place : {cs : Columns} {i : FieldId} {j k : ℕ} {a b : Label} {t u : ColumnType} → DistinctIdsAll cs → HasId cs i j a t → HasId cs i k b u →
+    (j ≡ k) × (t ≡ u)
 one-place d (id-here e) (id-here f) = (refl, refl)
 one-place d (id-here e) (id-there h) = never-both h (lacks-id e (d .0))
 one-place d (id-there h) (id-here e) = never-both h (lacks-id e (d .0))

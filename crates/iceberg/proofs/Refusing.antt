@@ -7,7 +7,7 @@ use lib.Dec.{eqb}
 use borrow.Author.Tests.{eqb-true, eqb-false}
 use Rattle.layout.specs.Parser.{choose}
 use Rattle.layout.specs.Tree.{LeafType, leafOf, Label, ColumnType, cleaf, cstruct, clist, carray, Columns, cnil, ccons}
-use Rattle.layout.specs.Find.{Lookup, absent, at, counterpart}
+use Rattle.layout.specs.Find.{Lookup, absent, present as found, counterpart}
 use Rattle.layout.specs.declared.columns.FieldId.{FieldId}
 use Rattle.layout.specs.declared.columns.Position.{Position}
 use Rattle.layout.specs.declared.matching.Matching.the-variants.{ByNumber}
@@ -27,7 +27,8 @@ use Rattle.defaults.specs.Lookup.{Taken, refused, nothing, taken, unlessNull, o
 use Rattle.defaults.specs.Lookup.{getDefaultValue}
 use Rattle.matching.specs.Default.{noDefaults, leafDefault, buildIcebergDefaultValue, defaultsOf, missingValue}
 use Rattle.matching.specs.Build.{Element, leafPart, structPart, listPart, arrayPart, unlessNullType, renamed, elementDefaultId, sameElement, isAbsent, distinct}
-use Rattle.matching.specs.Build.{isNullType, keepsRequired, fillsRequired, noExtra, ignores, inserts, missing, ruled, sought, first, arraySelector, attachTransforms, attachFields, buildColumnSelector}
+use Rattle.matching.specs.Build.{isNullType, keepsRequired, fillsRequired, noExtra, ignores, inserts, missing, ruled, sought, first, arraySelector}
+use Rattle.matching.specs.Build.{attachTransforms, attachFields, buildColumnSelector}
 use Rattle.matching.specs.Build.{extraColumns, buildFrom, build}
 use Rattle.matching.specs.Extra.{FirstExtra, first-here, first-later}
 use Rattle.matching.proofs.Extra.{columns-refused}
@@ -139,11 +140,11 @@ has-extra (ccons l t fs) gs e = go (counterpart ByNumber l gs) refl e (λ e. has
     go : (x : Lookup) → counterpart ByNumber l gs ≡ x → (not (isAbsent x) && noExtra ByNumber fs gs) ≡ false → (noExtra ByNumber fs gs ≡ false → Extra fs gs)
         → Extra (ccons l t fs) gs
     go absent q e ih = extra-here (counterpart-lacks l gs q)
-    go (at k a u) q e ih = extra-there (ih e)
+    go (found k a u) q e ih = extra-there (ih e)
 
 absent-is : (x : Lookup) → isAbsent x ≡ true → x ≡ absent
 absent-is absent e = refl
-absent-is (at k l t) e = clash (cc)
+absent-is (found k l t) e = clash (cc)
 
 first-extra : {fs gs : Columns} {i j : ℕ} → FirstExtra ByNumber gs fs i j → Extra fs gs
 first-extra (first-here {l = l} q) = extra-here (counterpart-lacks l _ (absent-is _ q))
@@ -242,7 +243,7 @@ module _ (p : Policy) (nulls : Bool) (es : List Entry) (k : ℕ) (empties : Fiel
             demand-refused _ _ _ e (λ i s. rw (← s) (missing-raised l (raises m i)))
             (λ i e. bind-refused _ _ e (λ s. default-missing q b u l s)
             (λ y g e. demand-refused _ _ _ e (λ f s. rw (← s) (missing-required l (value-at nulls es k empties q b u refl g .reads) f)) (λ f s. never-given s)))
-        go (at j a t) h e =
+        go (found j a t) h e =
             let x = counterpart-selected b fs h in
             demand-refused _ _ _ e (λ f s. let (r, o) = mark-lost a t b f in rw (← s) (optional-selected x r o))
             (λ f e. bind-refused _ _ e (λ s. at-selected x (step j t s)) (λ y q s. never-given s))

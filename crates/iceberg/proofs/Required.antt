@@ -32,7 +32,8 @@ module _ (converted : LeafType → LeafType → Value → Value) (M : Metadata) 
   required-errs l m e (reads-missing {b = b} {u} k n r rs) = true≠false (sym (ap (present b u) (missing-one M r (missing-specified M m refl))) ∙ n) e
 
   -- "Widening from optional to required is not allowed"
-  pub optional-errs : {a b : Label} {t u : ColumnType} {gs fs : Columns} {k : ℕ} {xs ys : Values} → DistinctIdsAll fs → HasId fs (b .id) k a t → b .required ≡ true
+  pub optional-errs : {a b : Label} {t u : ColumnType} {gs fs : Columns} {k : ℕ} {xs ys : Values} → DistinctIdsAll fs → HasId fs (b .id) k a t →
+      b .required ≡ true
       → a .required ≡ false → ReadsAll converted M (ccons b u gs) fs xs ys → ⊥
   optional-errs {a} d h r o (reads-selected {b = b} g n x rs) = true≠false n (ap (λ (c : Label). mayBecome c b) (sym (one-label d h g)) ∙ not-allowed a b r o)
   optional-errs d h r o (reads-missing k n x rs) = never-both h k

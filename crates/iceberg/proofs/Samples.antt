@@ -40,18 +40,21 @@ use Rattle.plan.specs.Marks.{allowed, meets, meetsAll}
 use Rattle.plan.specs.Run.{valueAt, mapValues, onStruct, onList, onArray, castLeaf, castValue, eval, evals}
 use Rattle.plan.proofs.Results.{true≠false}
 use Rattle.matching.specs.Default.{leafDefault, withField, structDefault, buildIcebergDefaultValue, defaultsOf, missingValue}
-use Rattle.matching.specs.Build.{leafPart, structPart, listPart, arrayPart, isNullType, unlessNullType, renamed, sameElement, distinct, noExtra, extraColumnErr, extraColumns, missing, ruled}
+use Rattle.matching.specs.Build.{leafPart, structPart, listPart, arrayPart, isNullType, unlessNullType, renamed, sameElement, distinct, noExtra, extraColumnErr}
+use Rattle.matching.specs.Build.{extraColumns, missing, ruled}
 use Rattle.matching.specs.Build.{isPosition, inPlace, structSelector, listSelector, arraySelector, sought, attachTransforms, attachFields, buildColumnSelector}
 use Rattle.matching.specs.Build.{keepsRequired, fillsRequired, buildFrom, build}
 use Rattle.matching.specs.Due.{dueLeaf}
 use Rattle.matching.proofs.Samples.{laidOut}
-use Rattle.iceberg.specs.Specification.{HasId, id-here, id-there, lacks-nil, lacks-cons, Metadata, no-transform, not-present, nothing-defined, present, mayBecome, promotes}
+use Rattle.iceberg.specs.Specification.{HasId, id-here, id-there, lacks-nil, lacks-cons, Metadata, no-transform, not-present, nothing-defined, present}
+use Rattle.iceberg.specs.Specification.{mayBecome, promotes}
 use Rattle.iceberg.specs.Specification.{by-default, by-empty-struct, by-empty-list, by-null, initial-nil, initial-cons, by-partition, by-null-partition}
 use Rattle.iceberg.specs.Specification.{by-initial, Reads, reads-leaf, reads-null, reads-struct, reads-list, ReadsAll, reads-nil, reads-selected}
 use Rattle.iceberg.specs.Specification.{reads-missing, reads-none, reads-more}
 use Rattle.iceberg.specs.Differences.{Differences, hiddenDefault, structTogether, structOfNone, partitionInStruct, listDefault, ownPartition, ownDefault}
 use Rattle.iceberg.specs.Differences.{inElement, anyElement, arrayRead, leafConverted, hides-not-present, unseen-value, nested-struct, OneIsAny}
-use Rattle.iceberg.specs.Differences.{incoming-is-any, valued, outside, Missing′, by-default′, by-none′, hidden-default, struct-of-none, partition-in-struct}
+use Rattle.iceberg.specs.Differences.{incoming-is-any, valued, outside, Missing′, by-default′, by-none′, hidden-default, struct-of-none}
+use Rattle.iceberg.specs.Differences.{partition-in-struct}
 use Rattle.iceberg.specs.Differences.{list-default, own-default, by-empty-struct′, initial-nil′, initial-cons′, by-null′, struct-together}
 use Rattle.iceberg.specs.Differences.{by-null-partition′, by-initial′, own-partition, in-element, missing-nil′, missing-cons′, target-is-any, reads-leaf′}
 use Rattle.iceberg.specs.Differences.{reads-struct′, reads-list′, any-element, array-read, leaf-converted, ReadsAll′, reads-nil′, reads-selected′}
@@ -59,7 +62,8 @@ use Rattle.iceberg.specs.Differences.{reads-missing′, reads-none′, r
 use Rattle.iceberg.specs.Differences.{agrees-leaf, agrees-struct}
 use Rattle.iceberg.specs.Refusals.{entry-here, entry-there, of-initial, leaf-for-nested, extra-here, partition-failed, default-type, leaf-pair}
 use Rattle.iceberg.specs.Refusals.{not-required, optional-selected, missing-required}
-use Rattle.iceberg.specs.Refusals.{other-kind, list-ids, extra-field, in-struct, RefusesAny, at-selected, missing-raised, missing-default, RefusesBuild, extra-column}
+use Rattle.iceberg.specs.Refusals.{other-kind, list-ids, extra-field, in-struct, RefusesAny, at-selected, missing-raised, missing-default, RefusesBuild}
+use Rattle.iceberg.specs.Refusals.{extra-column}
 use Rattle.iceberg.specs.Stated.{tupleAt, partitionOf, initialOf, stated}
 use Rattle.iceberg.proofs.Facts.{hiding-null}
 use Rattle.iceberg.proofs.Required.{required-errs, optional-errs}
@@ -70,7 +74,8 @@ computed : Policy → List Entry → Columns → Columns → Values → Answer V
 unfolding keepsRequired fillsRequired present mayBecome allowed meets meetsAll ofValue ofFields ofElements nullnessAt
     build buildFrom buildColumnSelector attachTransforms attachFields sought missing missingValue buildIcebergDefaultValue defaultsOf leafDefault
     withField structDefault getDefaultValue firstEntry givenTo ofSource unlessNull leafPart structPart listPart arrayPart isNullType unlessNullType renamed
-    sameElement distinct noExtra extraColumnErr extraColumns ruled isPosition inPlace structSelector listSelector arraySelector findFrom sameBytes equalTypes form leafForm carried
+    sameElement distinct noExtra extraColumnErr extraColumns ruled isPosition inPlace structSelector listSelector arraySelector findFrom sameBytes
+    equalTypes form leafForm carried
     dtypeOf fieldsOf countColumns countSelectors choose _>>=_ demand placed answered eval evals valueAt mapValues onStruct onList onArray castLeaf castValue
     pairRule chain paramsOf decimalsOf zonesOf readZone isUtc convert convertAs counted rescaled widened numberOf signed unsigned pattern
 computed p es Γ Δ ρ = answered (build ByNumber p (getDefaultValue es 0) Γ Δ) (λ ss. accepted (evals ρ ss))
@@ -158,7 +163,8 @@ added =
       reads =
           reads-selected′ (id-here refl) refl
           (reads-struct′ (reads-missing′ lacks-nil refl (by-initial′ refl no-transform (by-default′ refl refl)) reads-nil′ refl)) reads-nil′ refl;
-      theirs = reads-selected (id-here refl) refl (reads-struct (reads-missing lacks-nil refl (by-initial refl no-transform (by-default refl)) reads-nil)) reads-nil;
+      theirs = reads-selected (id-here refl) refl (reads-struct (reads-missing lacks-nil refl (by-initial refl no-transform (by-default refl))
+          reads-nil)) reads-nil;
     }
 
 -- whatever the record holds
@@ -199,7 +205,8 @@ hidden =
           reads-selected′ (id-here refl) refl
           (reads-struct′ (reads-missing′ lacks-nil refl (by-initial′ refl not-present (hidden-default refl hides-not-present refl)) reads-nil′ refl))
           reads-nil′ refl;
-      theirs = reads-selected (id-here refl) refl (reads-struct (reads-missing lacks-nil refl (by-initial refl not-present (by-default refl)) reads-nil)) reads-nil;
+      theirs = reads-selected (id-here refl) refl (reads-struct (reads-missing lacks-nil refl (by-initial refl not-present (by-default refl))
+          reads-nil)) reads-nil;
     }
 
 -- and one that is null, where a null is not present;
@@ -212,7 +219,8 @@ hidden-null =
           reads-selected′ (id-here refl) refl
           (reads-struct′ (reads-missing′ lacks-nil refl (by-initial′ refl not-present (hidden-default refl hides-not-present refl)) reads-nil′ refl))
           reads-nil′ refl;
-      theirs = reads-selected (id-here refl) refl (reads-struct (reads-missing lacks-nil refl (by-initial refl not-present (by-default refl)) reads-nil)) reads-nil;
+      theirs = reads-selected (id-here refl) refl (reads-struct (reads-missing lacks-nil refl (by-initial refl not-present (by-default refl))
+          reads-nil)) reads-nil;
     }
 
 -- where it is, both read null.
@@ -267,7 +275,8 @@ of-none =
       ours = refl;
       reads = reads-missing′ lacks-nil refl (by-initial′ refl no-transform (struct-of-none refl refl)) reads-nil′ refl;
       theirs =
-          reads-missing lacks-nil refl (by-initial refl no-transform (by-empty-struct refl (initial-cons (by-null refl nothing-defined) initial-nil))) reads-nil;
+          reads-missing lacks-nil refl (by-initial refl no-transform (by-empty-struct refl (initial-cons (by-null refl nothing-defined) initial-nil)))
+          reads-nil;
     }
 
 -- .. and holds partition values
@@ -277,7 +286,8 @@ partition-inside =
     record {
       ours = refl;
       reads =
-          reads-missing′ lacks-nil refl (by-initial′ refl no-transform (by-empty-struct′ refl refl (initial-cons′ (partition-in-struct refl) initial-nil′ refl)))
+          reads-missing′ lacks-nil refl (by-initial′ refl no-transform (by-empty-struct′ refl refl
+          (initial-cons′ (partition-in-struct refl) initial-nil′ refl)))
           reads-nil′ refl;
       theirs = reads-missing lacks-nil refl (by-initial refl no-transform (by-empty-struct refl (initial-cons (by-default refl) initial-nil))) reads-nil;
     }
@@ -324,12 +334,14 @@ in-elements =
           reads-selected′ (id-here refl) refl
           (reads-list′ refl refl
           (reads-more′
-          (reads-struct′ (reads-missing′ lacks-nil refl (in-element (by-initial refl no-transform (by-default {y = seven} refl)) (λ e. not-null e)) reads-nil′ refl))
+          (reads-struct′ (reads-missing′ lacks-nil refl (in-element (by-initial refl no-transform (by-default {y = seven} refl)) (λ e. not-null e))
+          reads-nil′ refl))
           reads-none′ refl))
           reads-nil′ refl;
       theirs =
           reads-selected (id-here refl) refl
-          (reads-list refl refl (reads-more (reads-struct (reads-missing lacks-nil refl (by-initial refl no-transform (by-default refl)) reads-nil)) reads-none))
+          (reads-list refl refl (reads-more (reads-struct (reads-missing lacks-nil refl (by-initial refl no-transform (by-default refl)) reads-nil))
+          reads-none))
           reads-nil;
     }
 
@@ -420,7 +432,8 @@ unloaded =
     record {
       ours = refl;
       why = at-selected (id-here refl) (in-struct (missing-default lacks-nil (partition-failed (entry-there (entry-here refl refl)))));
-      theirs = reads-selected (id-here refl) refl (reads-struct (reads-missing lacks-nil refl (by-initial refl not-present (by-default refl)) reads-nil)) reads-nil;
+      theirs = reads-selected (id-here refl) refl (reads-struct (reads-missing lacks-nil refl (by-initial refl not-present (by-default refl))
+          reads-nil)) reads-nil;
     }
 
 -- a default of another type
@@ -431,7 +444,8 @@ unlike =
     record {
       ours = refl;
       why = at-selected (id-here refl) (in-struct (missing-default lacks-nil (default-type (entry-here refl refl) of-initial refl)));
-      theirs = reads-selected (id-here refl) refl (reads-struct (reads-missing lacks-nil refl (by-initial refl no-transform (by-default refl)) reads-nil)) reads-nil;
+      theirs = reads-selected (id-here refl) refl (reads-struct (reads-missing lacks-nil refl (by-initial refl no-transform (by-default refl))
+          reads-nil)) reads-nil;
     }
 
 -- Raise: a missing column, a missing field, an extra field
@@ -451,7 +465,8 @@ raised-field =
       ours = refl;
       why = at-selected (id-here refl) (in-struct (missing-raised lacks-nil refl));
       theirs =
-          reads-selected (id-here refl) refl (reads-struct (reads-missing lacks-nil refl (by-initial refl no-transform (by-null refl nothing-defined)) reads-nil))
+          reads-selected (id-here refl) refl (reads-struct (reads-missing lacks-nil refl (by-initial refl no-transform (by-null refl nothing-defined))
+          reads-nil))
           reads-nil;
     }
 
@@ -465,7 +480,8 @@ raised-extra =
     }
 
 -- and an extra column
-raised-extra-column : (computed (policyOf 32767) [] whole none (row five) ≡ refusedAt 53 0) × RefusesBuild (policyOf 32767) [] (stated false [] 0 noneEmpty) 53 none whole
+raised-extra-column : (computed (policyOf 32767) [] whole none (row five) ≡ refusedAt 53 0) × RefusesBuild (policyOf 32767) []
+    (stated false [] 0 noneEmpty) 53 none whole
     × ReadsAll dueLeaf (stated false [] 0 noneEmpty) none whole (row five) vnil
 unfolding computed
 raised-extra-column = (refl, extra-column refl (extra-here lacks-nil), reads-nil)
@@ -485,11 +501,17 @@ not-upcast : Refusal (policyOf 65533) [] (typed (integer Int32)) (typed (integer
     (one (vnumber (Leaf.Integer Int64) 5))
 unfolding computed stated choose valueAt promotes dueLeaf equalTypes form leafForm carried sameBytes castLeaf convert convertAs counted rescaled widened
     numberOf signed unsigned pattern pairRule chain paramsOf zonesOf readZone isUtc
-not-upcast = record { ours = refl; why = at-selected (id-here refl) (leaf-pair refl); theirs = reads-selected (id-here refl) refl (reads-leaf refl refl) reads-nil }
+not-upcast = record {
+  ours = refl;
+  why = at-selected (id-here refl) (leaf-pair refl);
+  theirs = reads-selected (id-here refl) refl (reads-leaf refl refl)
+      reads-nil;
+}
 
 -- element ids are compared; the specification has no reading of them as one field
 unpaired : (computed allOn [] (listed 2 (cleaf (integer Int8))) (listed 3 (cleaf (integer Int8))) (one (vlist (one five))) ≡ refusedAt 25 0)
-    × RefusesAny allOn [] (stated false [] 0 noneEmpty) outside (allOn .«missing_columns») 11 25 (listed 3 (cleaf (integer Int8))) (listed 2 (cleaf (integer Int8)))
+    × RefusesAny allOn [] (stated false [] 0 noneEmpty) outside (allOn .«missing_columns») 11 25 (listed 3 (cleaf (integer Int8)))
+    (listed 2 (cleaf (integer Int8)))
     × ((zs : Values)
     → ReadsAll dueLeaf (stated false [] 0 noneEmpty) (listed 3 (cleaf (integer Int8))) (listed 2 (cleaf (integer Int8))) (one (vlist (one five))) zs → ⊥)
 unfolding computed
@@ -549,7 +571,12 @@ widening-agrees = agrees-selected (id-here refl) (agrees-leaf refl) agrees-nil
 not-widened : Refusal (policyOf 49151) [] (decimals 9 2) (decimals 18 2) (fixed 9 2 999999999) 51 (fixed 18 2 999999999)
 unfolding computed stated choose valueAt promotes dueLeaf equalTypes form leafForm carried sameBytes castLeaf convert convertAs pairRule chain paramsOf
     decimalsOf
-not-widened = record { ours = refl; why = at-selected (id-here refl) (leaf-pair refl); theirs = reads-selected (id-here refl) refl (reads-leaf refl refl) reads-nil }
+not-widened = record {
+  ours = refl;
+  why = at-selected (id-here refl) (leaf-pair refl);
+  theirs = reads-selected (id-here refl) refl
+      (reads-leaf refl refl) reads-nil;
+}
 
 -- refused with n, and the specification has no reading, either
 record Neither (Γ Δ : Columns) (ρ : Values) (n : ℕ) : Type 0 where
@@ -592,11 +619,13 @@ required-added =
       reads =
           reads-selected′ (id-here refl) refl
           (reads-struct′ (reads-missing′ lacks-nil refl (by-initial′ refl no-transform (by-default′ refl refl)) reads-nil′ refl)) reads-nil′ refl;
-      theirs = reads-selected (id-here refl) refl (reads-struct (reads-missing lacks-nil refl (by-initial refl no-transform (by-default refl)) reads-nil)) reads-nil;
+      theirs = reads-selected (id-here refl) refl (reads-struct (reads-missing lacks-nil refl (by-initial refl no-transform (by-default refl))
+          reads-nil)) reads-nil;
     }
 
 -- where it has none, both refuse
-required-missing : (computed allOn [] bare needed emptyRow ≡ refusedAt 54 0) × RefusesAny allOn [] (stated false [] 0 noneEmpty) outside (allOn .«missing_columns») 11 54 needed bare
+required-missing : (computed allOn [] bare needed emptyRow ≡ refusedAt 54 0) × RefusesAny allOn [] (stated false [] 0 noneEmpty) outside
+    (allOn .«missing_columns») 11 54 needed bare
     × ((ys : Values) → ReadsAll dueLeaf (stated false [] 0 noneEmpty) needed bare emptyRow ys → ⊥)
 unfolding computed stated firstEntry valueAt valued
 required-missing =
@@ -606,7 +635,8 @@ required-missing =
     none = by-initial′ refl no-transform (by-none′ refl nothing-defined (by-null′ refl))
 
     inside-errs : {y : Value}
-        → Reads dueLeaf (stated false [] 0 noneEmpty) (cstruct (ccons (record { name = 0x61 ∷ []; id = record { 0 = 2 }; required = true }) (cleaf (integer Int8)) cnil)) (cstruct cnil)
+        → Reads dueLeaf (stated false [] 0 noneEmpty) (cstruct (ccons (record { name = 0x61 ∷ []; id = record { 0 = 2 }; required = true })
+        (cleaf (integer Int8)) cnil)) (cstruct cnil)
         (vstruct vnil) y → ⊥
     inside-errs (reads-struct h) = required-errs dueLeaf (stated false [] 0 noneEmpty) lacks-nil none refl h
 
@@ -616,17 +646,26 @@ unfolding computed stated partitionOf tupleAt initialOf firstEntry choose valueA
 required-hidden =
     record {
       ours = refl;
-      why = at-selected (id-here refl) (in-struct (missing-required lacks-nil (by-initial′ refl not-present (hidden-default refl hides-not-present refl)) refl));
-      theirs = reads-selected (id-here refl) refl (reads-struct (reads-missing lacks-nil refl (by-initial refl not-present (by-default refl)) reads-nil)) reads-nil;
+      why = at-selected (id-here refl) (in-struct (missing-required lacks-nil (by-initial′ refl not-present
+          (hidden-default refl hides-not-present refl)) refl));
+      theirs = reads-selected (id-here refl) refl (reads-struct (reads-missing lacks-nil refl (by-initial refl not-present (by-default refl))
+          reads-nil)) reads-nil;
     }
 
 -- an optional column for a required one; there "not allowed"
-optional-required : (computed allOn [] whole needed (row five) ≡ refusedAt 55 0) × RefusesAny allOn [] (stated false [] 0 noneEmpty) outside (allOn .«missing_columns») 11 55 needed whole
+optional-required : (computed allOn [] whole needed (row five) ≡ refusedAt 55 0) × RefusesAny allOn [] (stated false [] 0 noneEmpty) outside
+    (allOn .«missing_columns») 11 55 needed whole
     × ((ys : Values) → ReadsAll dueLeaf (stated false [] 0 noneEmpty) needed whole (row five) ys → ⊥)
 unfolding computed stated firstEntry valueAt
-optional-required = (refl, at-selected (id-here refl) (in-struct (optional-selected (id-here refl) refl (not-required refl))), λ ys r. inside-errs (first-reads _ refl r .1))
+optional-required = (
+  refl,
+  at-selected (id-here refl) (in-struct (optional-selected (id-here refl) refl (not-required refl))),
+  λ ys r. inside-errs
+      (first-reads _ refl r .1),
+)
   where
     inside-errs : {y : Value}
-        → Reads dueLeaf (stated false [] 0 noneEmpty) (cstruct (ccons (record { name = 0x61 ∷ []; id = record { 0 = 2 }; required = true }) (cleaf (integer Int8)) cnil)) (cstruct field)
+        → Reads dueLeaf (stated false [] 0 noneEmpty) (cstruct (ccons (record { name = 0x61 ∷ []; id = record { 0 = 2 }; required = true })
+        (cleaf (integer Int8)) cnil)) (cstruct field)
         (vstruct (one five)) y → ⊥
     inside-errs (reads-struct h) = optional-errs dueLeaf (stated false [] 0 noneEmpty) (lacks-nil, (tt, tt)) (id-here refl) refl refl h

@@ -7,7 +7,7 @@ use lib.Dec.{eqb}
 use borrow.Author.Tests.{eqb-true, eqb-false}
 use Rattle.layout.specs.Parser.{choose}
 use Rattle.layout.specs.Tree.{LeafType, Label, ColumnType, Columns, cnil, ccons, leaf}
-use Rattle.layout.specs.Find.{absent, at, findFrom, counterpart}
+use Rattle.layout.specs.Find.{absent, present, findFrom, counterpart}
 use Rattle.layout.specs.declared.columns.FieldId.{FieldId}
 use Rattle.layout.specs.declared.columns.Position.{Position}
 use Rattle.layout.specs.declared.matching.Matching.the-variants.{ByNumber}
@@ -30,14 +30,14 @@ record Selected (j : FieldId) (i : ℕ) (cs : Columns) (k : Position) (a : Label
   counted : i + index ≡ k .0
   has : HasId cs j index a t
 
-selected : (j : FieldId) (i : ℕ) (cs : Columns) {k : Position} {a : Label} {t : ColumnType} → findFrom (isId j) i cs ≡ at k a t
+selected : (j : FieldId) (i : ℕ) (cs : Columns) {k : Position} {a : Label} {t : ColumnType} → findFrom (isId j) i cs ≡ present k a t
     → Selected j i cs k a t
 unfolding findFrom choose
 selected j i cnil e = never-absent e
 selected j i (ccons l u cs) {k} {a} {t} e = go (eqb (l .id .0) (j .0)) refl e (λ h. selected j (i + 1) cs h)
   where
-    go : (x : Bool) → eqb (l .id .0) (j .0) ≡ x → choose x (at (record { 0 = i }) l u) (findFrom (isId j) (i + 1) cs) ≡ at k a t
-        → (findFrom (isId j) (i + 1) cs ≡ at k a t → Selected j (i + 1) cs k a t) → Selected j i (ccons l u cs) k a t
+    go : (x : Bool) → eqb (l .id .0) (j .0) ≡ x → choose x (present (record { 0 = i }) l u) (findFrom (isId j) (i + 1) cs) ≡ present k a t
+        → (findFrom (isId j) (i + 1) cs ≡ present k a t → Selected j (i + 1) cs k a t) → Selected j i (ccons l u cs) k a t
     go true q e ih =
         let (p, (r, z)) = at-eq e in
         let w : i ≡ k .0 = ap (λ (k : Position). k .0) p in
@@ -45,7 +45,7 @@ selected j i (ccons l u cs) {k} {a} {t} e = go (eqb (l .id .0) (j .0)) refl e (�
     go false q e ih = let S = ih e in record { index = suc (S .index); counted = let c = S .counted in omega arith; has = id-there (S .has) }
 
 -- what document 01 finds by number is what the specification selects,
-pub counterpart-selected : (b : Label) (fs : Columns) {k : Position} {a : Label} {t : ColumnType} → counterpart ByNumber b fs ≡ at k a t
+pub counterpart-selected : (b : Label) (fs : Columns) {k : Position} {a : Label} {t : ColumnType} → counterpart ByNumber b fs ≡ present k a t
     → HasId fs (b .id) (k .0) a t
 counterpart-selected b fs {k} {a} {t} e =
     let S = selected (b .id) 0 fs e in
@@ -61,7 +61,7 @@ unfolding findFrom choose
 lacking j i cnil e = lacks-nil
 lacking j i (ccons l u cs) e = go (eqb (l .id .0) (j .0)) refl e (λ h. lacking j (i + 1) cs h)
   where
-    go : (x : Bool) → eqb (l .id .0) (j .0) ≡ x → choose x (at (record { 0 = i }) l u) (findFrom (isId j) (i + 1) cs) ≡ absent
+    go : (x : Bool) → eqb (l .id .0) (j .0) ≡ x → choose x (present (record { 0 = i }) l u) (findFrom (isId j) (i + 1) cs) ≡ absent
         → (findFrom (isId j) (i + 1) cs ≡ absent → Lacks cs j) → Lacks (ccons l u cs) j
     go true q e ih = clash (cc)
     go false q e ih = lacks-cons (λ p. eqb-false _ _ q (ap (λ (i : FieldId). i .0) p)) (ih e)

@@ -9,10 +9,10 @@ use lib.Dec.{eqb}
 use borrow.Author.Tests.{eq-eqb, ne-eqb}
 use Rattle.layout.specs.Parser.{choose}
 use Rattle.layout.specs.Tree.{Columns, cnil, ccons}
-use Rattle.layout.specs.Find.{at, findFrom}
+use Rattle.layout.specs.Find.{present, findFrom}
 use Rattle.values.specs.Value.{Values, vnil, vcons}
 use Rattle.plan.specs.Run.{valueAt}
-use Rattle.index.specs.Indexed.{dropColumns, firstAs, dropValues}
+use Rattle.index.specs.code.Indexed.{dropColumns, firstAs, dropValues}
 
 pub none-left : (m : ℕ) → dropColumns m cnil ≡ cnil
 unfolding dropColumns
@@ -33,7 +33,7 @@ find-drop zero i k cnil e = refl
 find-drop (suc m) i k cnil e = refl
 find-drop zero i k (ccons l t cs) e =
     let z : i ≡ k = omega arith in
-    rw (eq-eqb i k z) (ap (λ (j : ℕ). at (record { 0 = j }) l t) z)
+    rw (eq-eqb i k z) (ap (λ (j : ℕ). present (record { 0 = j }) l t) z)
 find-drop (suc m) i k (ccons l t cs) e =
     let z : eqb i k ≡ false = ne-eqb i k (λ q. omega arith) in
     rw z (find-drop m (i + 1) k cs (omega arith))

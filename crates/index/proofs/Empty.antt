@@ -6,7 +6,7 @@ use native.Mathlib.Omega.{arith}
 use lib.ListN.{length}
 use Rattle.layout.specs.Bytes.{Bytes}
 use Rattle.layout.specs.declared.edition.Edition.{Edition}
-use Rattle.index.specs.Indexed.{Indexed, IndexedRow}
+use Rattle.index.specs.code.Indexed.{Indexed, IndexedRow}
 
 pub indexed-none : {v : Edition} {s : Bytes} {n at stride : ℕ} {index : List ℕ} → length index ≡ 0 → Indexed v s n at stride index
 indexed-none e = record { starts = λ P j h. absurd (omega arith) }

@@ -11,8 +11,8 @@ use Rattle.layout.specs.Bytes.{Bytes}
 use Rattle.layout.specs.Parser.{refuse, ok}
 use Rattle.layout.specs.Tree.{Columns, cnil, ccons}
 use Rattle.layout.specs.Layout.{label, columns as columnsOf, type, deepest}
-use Rattle.layout.specs.Answers.{labelRes, labelIn, movedOf}
-use Rattle.layout.specs.Stands.{ColumnsAt}
+use Rattle.layout.specs.code.Answers.{labelRes, labelIn, movedOf}
+use Rattle.layout.specs.code.Stands.{ColumnsAt}
 use Rattle.layout.specs.Find.{Lookup, columnAt, Finds}
 use Rattle.layout.specs.declared.columns.Position.{Position}
 use Rattle.layout.specs.declared.columns.Label.{Label as LabelSpan}
@@ -25,11 +25,12 @@ use Rattle.layout.specs.declared.edition.Edition.{Edition}
 use Rattle.layout.proofs.Ways.{clash, moved-to, moved-refused}
 use Rattle.layout.proofs.View.{first-at, first-labelled, no-column}
 use Rattle.nodes.proofs.Rows.{first-column, column-before}
-use Rattle.index.specs.Indexed.{dropColumns, firstAs, StartsAt, StartsBefore, Indexed}
+use Rattle.index.specs.code.Indexed.{dropColumns, firstAs, StartsAt, StartsBefore, Indexed}
 use Rattle.index.proofs.Drop.{none-left, drop-more, find-drop, parts, next-multiple}
 
 -- as many columns, under another name of their number and place
-renamed : {v : Edition} {s : Bytes} {n m at to : ℕ} (P : ColumnsAt v deepest s n at) → n ≡ m → at ≡ to → columnsOf v Free (type v Free deepest) m [] s to ≡ ok (P .columns) (P .end)
+renamed : {v : Edition} {s : Bytes} {n m at to : ℕ} (P : ColumnsAt v deepest s n at) → n ≡ m → at ≡ to → columnsOf v Free (type v Free deepest) m [] s
+    to ≡ ok (P .columns) (P .end)
 renamed {v} {s} {n} {m} {at} {to} P e g =
     sym (ap (λ (k : ℕ). columnsOf v Free (type v Free deepest) k [] s at) e ∙ ap (λ (o : ℕ). columnsOf v Free (type v Free deepest) m [] s o) g) ∙ P .reads
 
@@ -50,20 +51,27 @@ split (suc m) {v} {s} {n} {at} P h =
     let F = first-column v deepest s (n - 1) at _ _ (renamed P (let e : n ≡ suc (n - 1) = omega arith in e) refl) in
     let S = split m (F .tail) (omega arith) in
     record {
-      front = record { columns = ccons (F .label) (F .head .tree) (S .front .columns); end = S .front .end; reads = column-before v deepest s m at (F .labelled) (F .head) (S .front) };
+      front = record {
+        columns = ccons (F .label) (F .head .tree) (S .front .columns);
+        end = S .front .end;
+        reads = column-before v deepest s m at
+            (F .labelled) (F .head) (S .front);
+      };
       back = record { columns = S .back .columns; end = S .back .end; reads = renamed (S .back) (let e : n - 1 - m ≡ n - suc m = omega arith in e) refl };
       is = S .is ∙ ap (dropColumns (suc m)) (sym (F .is));
     }
 
 -- ---- columns that were passed
 
-module _ {v : Edition} {s : Bytes} {m at : ℕ} {r : Moved} (g : r ≡ movedOf (columnsOf v Free (type v Free deepest) m [] s at)) {n : ℕ} (P : ColumnsAt v deepest s n at) (h : m ≤ n) where
+module _ {v : Edition} {s : Bytes} {m at : ℕ} {r : Moved} (g : r ≡ movedOf (columnsOf v Free (type v Free deepest) m [] s at)) {n : ℕ}
+    (P : ColumnsAt v deepest s n at) (h : m ≤ n) where
   abbrev S : Split v s n at P m
   S = split m P h
 
   pub never-passed : {B : Type 0} {k : ℕ} → r ≡ Moved.Refused k → B
   never-passed {k = k} f =
-      let z : refuse k ≡ ok (S .front .columns) (S .front .end) = sym (moved-refused (columnsOf v Free (type v Free deepest) m [] s at) g f) ∙ S .front .reads in
+      let z : refuse k ≡ ok (S .front .columns) (S .front .end) = sym (moved-refused (columnsOf v Free (type v Free deepest) m [] s at) g f) ∙
+      S .front .reads in
       clash (cc)
 
   module _ {c : Cursor} (f : r ≡ Moved.To c) where
@@ -81,7 +89,8 @@ module _ {v : Edition} {s : Bytes} {m at : ℕ} {r : Moved} (g : r ≡ movedOf (
     }
 
 -- columns that start after i others, and those after m more
-further : {v : Edition} {s : Bytes} {n at : ℕ} {P : ColumnsAt v deepest s n at} {i o m e : ℕ} (T : StartsAt v s n at P i o) → StartsAt v s (n - i) o (T .rest) m e → StartsAt v s n at P (i + m) e
+further : {v : Edition} {s : Bytes} {n at : ℕ} {P : ColumnsAt v deepest s n at} {i o m e : ℕ} (T : StartsAt v s n at P i o) → StartsAt v s (n - i) o
+    (T .rest) m e → StartsAt v s n at P (i + m) e
 further {v} {s} {n} {at} {P} {i} {o} {m} {e} T U = record {
   within = let h = T .within in let k = U .within in omega arith;
   rest = record { columns = U .rest .columns; end = U .rest .end; reads = renamed (U .rest) (let e : n - i - m ≡ n - (i + m) = omega arith in e) refl };
@@ -91,11 +100,13 @@ further {v} {s} {n} {at} {P} {i} {o} {m} {e} T U = record {
 -- ---- the column after m others
 
 module _ {v : Edition} {s : Bytes} {m at : ℕ} {r : Moved} (g : r ≡ movedOf (columnsOf v Free (type v Free deepest) m [] s at)) where
-  pub after-stuck : (k : Position) {a : ℕ} → r ≡ Moved.Refused a → (n : ℕ) (P : ColumnsAt v deepest s n at) → m < n → Finds v deepest s (firstAs k (dropColumns m (P .columns))) Found.Absent
+  pub after-stuck : (k : Position) {a : ℕ} → r ≡ Moved.Refused a → (n : ℕ) (P : ColumnsAt v deepest s n at) → m < n → Finds v deepest s
+      (firstAs k (dropColumns m (P .columns))) Found.Absent
   after-stuck k f n P h = never-passed g P (omega arith) f
 
   module _ {c : Cursor} (f : r ≡ Moved.To c) {q : Labelled} (e : labelRes s q ≡ label v s (c .at)) where
-    pub after-unlabelled : (k : Position) {a : ℕ} → q ≡ Labelled.Refused a → (n : ℕ) (P : ColumnsAt v deepest s n at) → m < n → Finds v deepest s (firstAs k (dropColumns m (P .columns))) Found.Absent
+    pub after-unlabelled : (k : Position) {a : ℕ} → q ≡ Labelled.Refused a → (n : ℕ) (P : ColumnsAt v deepest s n at) → m < n → Finds v deepest s
+        (firstAs k (dropColumns m (P .columns))) Found.Absent
     after-unlabelled k j n P h = first-labelled (passed g P (omega arith) f .rest) (λ z. omega arith) e j
 
     pub after-found : (k : Position) {l : LabelSpan} {b : Cursor} → labelIn s q → q ≡ Labelled.Is l b
@@ -115,7 +126,8 @@ module _ {v : Edition} {s : Bytes} {n at : ℕ} (P : ColumnsAt v deepest s n at)
   past-last h =
       let S = split n P (omega arith) in
       let e = no-column (S .back) (let z : n - n ≡ 0 = omega arith in z) in
-      let z : dropColumns (k .0) (P .columns) ≡ cnil = sym (drop-more n (k .0 - n) (k .0) (P .columns) (omega arith)) ∙ ap (dropColumns (k .0 - n)) (sym (S .is) ∙ e .0) ∙ none-left (k .0 - n) in
+      let z : dropColumns (k .0) (P .columns) ≡ cnil = sym (drop-more n (k .0 - n) (k .0) (P .columns) (omega arith)) ∙ ap (dropColumns (k .0 - n))
+      (sym (S .is) ∙ e .0) ∙ none-left (k .0 - n) in
       subst (λ (x : Lookup). Finds v deepest s x Found.Absent) (sym (find-drop (k .0) 0 (k .0) (P .columns) (omega arith) ∙ ap (firstAs k) z)) refl
 
   -- from the first column on

@@ -11,21 +11,21 @@ use Rattle.layout.specs.Bytes.{Bytes}
 use Rattle.layout.specs.Parser.{ok}
 use Rattle.layout.specs.Tree.{ccons, fieldsOf}
 use Rattle.layout.specs.Layout.{columns as columnsOf, type, deepest}
-use Rattle.layout.specs.Stands.{ColumnsAt}
+use Rattle.layout.specs.code.Stands.{ColumnsAt}
 use Rattle.layout.specs.declared.columns.Siblings.the-variants.{Free}
 use Rattle.layout.specs.declared.cursor.Cursor.{Cursor}
 use Rattle.layout.specs.declared.edition.Edition.{Edition}
 use Rattle.layout.proofs.View.{same-columns}
 use Rattle.values.specs.Value.{Value, Values}
 use Rattle.values.specs.Reading.{values as valuesOf}
-use Rattle.values.specs.Answers.{valueMoved}
+use Rattle.values.specs.code.Answers.{valueMoved}
 use Rattle.values.specs.declared.read.ValueRead.{ValueRead}
 use Rattle.values.proofs.Walk.{moved-value}
 use Rattle.plan.specs.Run.{valueAt}
-use Rattle.nodes.specs.Raw.{RowAt, NodeOf}
+use Rattle.nodes.specs.code.Raw.{RowAt, NodeOf}
 use Rattle.nodes.specs.declared.raw.NodeAt.{NodeAt}
 use Rattle.nodes.proofs.Rows.{FirstOf, first-of, split-of, column-before}
-use Rattle.index.specs.Indexed.{dropColumns, dropValues, RowStarts, Indexed, IndexedRow}
+use Rattle.index.specs.code.Indexed.{dropColumns, dropValues, RowStarts, Indexed, IndexedRow}
 use Rattle.index.proofs.Drop.{drop-more, drop-values-more, value-drop, parts, next-multiple}
 
 -- as many columns and values, under another name of their number and place
@@ -34,13 +34,20 @@ renamed {v} {lay} {n} {m} {t} {u} {rec} {c} {d} e f g X = record {
   columns = record {
     columns = X .columns .columns;
     end = X .columns .end;
-    reads = sym (ap (λ (k : ℕ). columnsOf v Free (type v Free deepest) k [] lay t) e ∙ ap (λ (o : ℕ). columnsOf v Free (type v Free deepest) m [] lay o) f) ∙ X .columns .reads;
+    reads = sym (ap (λ (k : ℕ). columnsOf v Free (type v Free deepest) k [] lay t) e ∙ ap (λ (o : ℕ). columnsOf v Free (type v Free deepest) m [] lay o)
+        f) ∙ X .columns .reads;
   };
-  values = record { values = X .values .values; end = X .values .end; reads = ap (λ (o : ℕ). valuesOf (fieldsOf (X .columns .columns)) rec o) (sym g) ∙ X .values .reads };
+  values = record {
+    values = X .values .values;
+    end = X .values .end;
+    reads = ap (λ (o : ℕ). valuesOf (fieldsOf (X .columns .columns)) rec o) (sym g) ∙
+        X .values .reads;
+  };
 }
 
 -- the values after the first k
-after : (k : ℕ) {v : Edition} {lay : Bytes} {n t : ℕ} {rec : Bytes} {c : ℕ} (X : RowAt v lay n t rec c) (h : k ≤ n) → split-of k X h .back .values .values ≡ dropValues k (X .values .values)
+after : (k : ℕ) {v : Edition} {lay : Bytes} {n t : ℕ} {rec : Bytes} {c : ℕ} (X : RowAt v lay n t rec c) (h : k ≤ n) → split-of k X
+    h .back .values .values ≡ dropValues k (X .values .values)
 unfolding split-of dropValues
 after zero X h = refl
 after (suc k) {n = n} X h =
@@ -48,16 +55,19 @@ after (suc k) {n = n} X h =
     after k (F .tail) (omega arith) ∙ ap (dropValues (suc k)) (sym (F .is))
 
 -- the first column, and those after it
-first-and-rest : {v : Edition} {lay : Bytes} {n t : ℕ} {rec : Bytes} {c : ℕ} (X : RowAt v lay n t rec c) (F : FirstOf v lay n t rec c X) → (n ≡ 0 → ⊥) → X .columns .columns ≡ ccons (F .label) (F .head .type .tree) (F .tail .columns .columns)
+first-and-rest : {v : Edition} {lay : Bytes} {n t : ℕ} {rec : Bytes} {c : ℕ} (X : RowAt v lay n t rec c) (F : FirstOf v lay n t rec c X) → (n ≡ 0 → ⊥) →
+    X .columns .columns ≡ ccons (F .label) (F .head .type .tree) (F .tail .columns .columns)
 first-and-rest {v} {lay} {n} {t} X F h =
     let e : suc (n - 1) ≡ n = omega arith in
     let r = ap (λ (k : ℕ). columnsOf v Free (type v Free deepest) k [] lay t) e ∙ X .columns .reads in
     let b = column-before v deepest lay (n - 1) t (F .labelled) (F .head .type) (F .tail .columns) in
-    let z : ok (X .columns .columns) (X .columns .end) ≡ ok (ccons (F .label) (F .head .type .tree) (F .tail .columns .columns)) (F .tail .columns .end) = sym r ∙ b in
+    let z : ok (X .columns .columns) (X .columns .end) ≡ ok (ccons (F .label) (F .head .type .tree) (F .tail .columns .columns)) (F .tail .columns .end)
+    = sym r ∙ b in
     cc
 
 -- the columns after the first k
-after-columns : (k : ℕ) {v : Edition} {lay : Bytes} {n t : ℕ} {rec : Bytes} {c : ℕ} (X : RowAt v lay n t rec c) (h : k ≤ n) → split-of k X h .back .columns .columns ≡ dropColumns k (X .columns .columns)
+after-columns : (k : ℕ) {v : Edition} {lay : Bytes} {n t : ℕ} {rec : Bytes} {c : ℕ} (X : RowAt v lay n t rec c) (h : k ≤ n) → split-of k X
+    h .back .columns .columns ≡ dropColumns k (X .columns .columns)
 unfolding split-of dropColumns
 after-columns zero X h = refl
 after-columns (suc k) {n = n} X h =
@@ -65,11 +75,13 @@ after-columns (suc k) {n = n} X h =
     after-columns k (F .tail) (omega arith) ∙ ap (dropColumns (suc k)) (sym (first-and-rest X F (λ z. omega arith)))
 
 -- columns that start after i others, and those after m more
-module _ {v : Edition} {lay : Bytes} {n t : ℕ} {rec : Bytes} {c : ℕ} {X : RowAt v lay n t rec c} {i a o : ℕ} (T : RowStarts v lay n t rec c X i a o) {m : ℕ} (h : m ≤ n - i) where
+module _ {v : Edition} {lay : Bytes} {n t : ℕ} {rec : Bytes} {c : ℕ} {X : RowAt v lay n t rec c} {i a o : ℕ} (T : RowStarts v lay n t rec c X i a o)
+    {m : ℕ} (h : m ≤ n - i) where
   pub front-columns : ColumnsAt v deepest lay m a
   front-columns = split-of m (T .rest) h .front .columns
 
-  pub further : {r : ValueRead} {d e : Cursor} → ((Q : ColumnsAt v deepest lay m a) → r ≡ valueMoved (Q .end) (valuesOf (fieldsOf (Q .columns)) rec o)) → r ≡ ValueRead.To d e
+  pub further : {r : ValueRead} {d e : Cursor} → ((Q : ColumnsAt v deepest lay m a) → r ≡ valueMoved (Q .end) (valuesOf (fieldsOf (Q .columns)) rec o))
+      → r ≡ ValueRead.To d e
       → RowStarts v lay n t rec c X (i + m) (d .at) (e .at)
   unfolding renamed
   further {r} {d} {e} g f =
@@ -86,7 +98,8 @@ module _ {v : Edition} {lay : Bytes} {n t : ℕ} {rec : Bytes} {c : ℕ} {X : Ro
 
 -- ---- the value of a column, from an entry on
 
-module _ {v : Edition} {lay : Bytes} {n t : ℕ} {rec : Bytes} {c stride : ℕ} {types values : List ℕ} (I : IndexedRow v lay n t rec c stride types values) (X : RowAt v lay n t rec c) (k : ℕ) {j : ℕ} (q : j ≡ k / stride) (lt : j < length types) where
+module _ {v : Edition} {lay : Bytes} {n t : ℕ} {rec : Bytes} {c stride : ℕ} {types values : List ℕ} (I : IndexedRow v lay n t rec c stride types values)
+    (X : RowAt v lay n t rec c) (k : ℕ) {j : ℕ} (q : j ≡ k / stride) (lt : j < length types) where
   entry : RowStarts v lay n t rec c X (k / stride * stride) (getD types j 0) (getD values j 0)
   entry = subst (λ (b : ℕ). RowStarts v lay n t rec c X (b * stride) (getD types j 0) (getD values j 0)) q (I .starts X j lt .1)
 
@@ -100,7 +113,8 @@ module _ {v : Edition} {lay : Bytes} {n t : ℕ} {rec : Bytes} {c stride : ℕ} 
     pub entry-row : RowAt v lay (n - k / stride * stride) a rec o
     entry-row = renamed refl (sym e) (sym f) (entry .rest)
 
-    pub from-entry : (r : NodeAt) → ((Y : RowAt v lay (n - k / stride * stride) a rec o) → NodeOf v lay rec (valueAt (Y .values .values) (k % stride)) r) → NodeOf v lay rec (valueAt (X .values .values) k) r
+    pub from-entry : (r : NodeAt) → ((Y : RowAt v lay (n - k / stride * stride) a rec o) → NodeOf v lay rec (valueAt (Y .values .values) (k % stride))
+        r) → NodeOf v lay rec (valueAt (X .values .values) k) r
     unfolding renamed entry-row
     from-entry r g =
         subst (λ (x : Value). NodeOf v lay rec x r)
@@ -108,7 +122,8 @@ module _ {v : Edition} {lay : Bytes} {n t : ℕ} {rec : Bytes} {c stride : ℕ} 
         (g entry-row)
 
 -- the table of the types, for the columns alone
-pub indexed-types : {v : Edition} {lay : Bytes} {n t : ℕ} {rec : Bytes} {c stride : ℕ} {types values : List ℕ} → RowAt v lay n t rec c → IndexedRow v lay n t rec c stride types values → Indexed v lay n t stride types
+pub indexed-types : {v : Edition} {lay : Bytes} {n t : ℕ} {rec : Bytes} {c stride : ℕ} {types values : List ℕ} → RowAt v lay n t rec c → IndexedRow v
+    lay n t rec c stride types values → Indexed v lay n t stride types
 indexed-types {stride = stride} X I = record {
   starts = λ P j h.
       let T = I .starts X j h .1 in
@@ -158,12 +173,14 @@ module _ {v : Edition} {lay : Bytes} {n t : ℕ} {rec : Bytes} {c stride : ℕ} 
     filling-end = tables types values j (a .room) (a .same) (a .filled)
 
     module _ (lt : j < length types) (lu : j < length values) where
-      stored : (X : RowAt v lay n t rec c) (e : ℕ) → e < j + 1 → RowStarts v lay n t rec c X (e * stride) (getD (set types j at) e 0) (getD (set values j to) e 0)
+      stored : (X : RowAt v lay n t rec c) (e : ℕ) → e < j + 1 → RowStarts v lay n t rec c X (e * stride) (getD (set types j at) e 0)
+          (getD (set values j to) e 0)
       stored X =
           below-more (λ e. RowStarts v lay n t rec c X (e * stride) (getD (set types j at) e 0) (getD (set values j to) e 0)) j
           (λ e h.
           subst (λ (o : ℕ). RowStarts v lay n t rec c X (e * stride) o (getD (set values j to) e 0)) (sym (getD-set-other types j e at 0 (λ z. omega arith)))
-          (subst (λ (o : ℕ). RowStarts v lay n t rec c X (e * stride) (getD types e 0) o) (sym (getD-set-other values j e to 0 (λ z. omega arith))) (a .filled X e h)))
+          (subst (λ (o : ℕ). RowStarts v lay n t rec c X (e * stride) (getD types e 0) o) (sym (getD-set-other values j e to 0 (λ z. omega arith)))
+          (a .filled X e h)))
           (subst (λ (k : ℕ). RowStarts v lay n t rec c X k (getD (set types j at) j 0) (getD (set values j to) j 0)) (a .counted)
           (subst (λ (o : ℕ). RowStarts v lay n t rec c X i o (getD (set values j to) j 0)) (sym (getD-set-same types j at 0 lt))
           (subst (λ (o : ℕ). RowStarts v lay n t rec c X i at o) (sym (getD-set-same values j to 0 lu)) (a .here X))))
@@ -181,7 +198,8 @@ module _ {v : Edition} {lay : Bytes} {n t : ℕ} {rec : Bytes} {c stride : ℕ} 
         pub filling-front : RowAt v lay n t rec c → ColumnsAt v deepest lay stride at
         filling-front X = front-columns (a .here X) (omega arith)
 
-        pub filling-more : {r : ValueRead} {d e : Cursor} → ((Q : ColumnsAt v deepest lay stride at) → r ≡ valueMoved (Q .end) (valuesOf (fieldsOf (Q .columns)) rec to)) → r ≡ ValueRead.To d e
+        pub filling-more : {r : ValueRead} {d e : Cursor} → ((Q : ColumnsAt v deepest lay stride at) → r ≡ valueMoved (Q .end)
+            (valuesOf (fieldsOf (Q .columns)) rec to)) → r ≡ ValueRead.To d e
             → Filling v lay n t rec c stride (d .at) (e .at) (i + stride) (j + 1) (set types j at) (set values j to)
         filling-more g f = record {
           within = omega arith;

@@ -1,1 +1,1 @@
-pub mod Indexed
+pub mod code

@@ -16,11 +16,12 @@ use Rattle.forms.specs.Form.{u16Bytes, u32Bytes, textBytes, kindForm, form, for
 use Rattle.forms.specs.Readable.{ShortText, depthOf, depthOfFields}
 use Rattle.plan.specs.Check.{withinLimits}
 use Rattle.plan.proofs.Results.{and-true}
-use Rattle.infer.specs.Writing.{Writes, Fills, WritesFields, lengthOf, behindOf}
+use Rattle.infer.specs.code.Writing.{Writes, Fills, WritesFields, lengthOf, behindOf}
 use Rattle.infer.specs.declared.form.Inferred.{Inferred}
 
 -- an answer behind so many bytes: unknown, or the sum, no longer than a result may be
-pub behind-split : (A : Inferred → Type 0) (head : ℕ) (r : Inferred) {q : Inferred} → q ≡ behindOf head r → A Inferred.Unknown → ((len : ℕ) → r ≡ Inferred.Is len → head + len ≤ 16384 → A (Inferred.Is (head + len))) → A q
+pub behind-split : (A : Inferred → Type 0) (head : ℕ) (r : Inferred) {q : Inferred} → q ≡ behindOf head r → A Inferred.Unknown →
+    ((len : ℕ) → r ≡ Inferred.Is len → head + len ≤ 16384 → A (Inferred.Is (head + len))) → A q
 unfolding lengthOf
 behind-split A head (Inferred.Is len) {q} e u f = go (leb (head + len) 16384) refl e
   where
@@ -54,7 +55,8 @@ module _ {a : Bytes} {out : Bytes} {k : ℕ} {o : Bytes} (F : Fills a out k o) w
   fills-room head len e f g = let z = same-size in omega arith
 
 module _ {depth : ℕ} {out : Bytes} {k len : ℕ} {o o′ : Bytes} where
-  pub list-writes : {t : DataType} → Fills (kindForm aList) out k o → Writes t depth o (k + 1) len o′ → 1 + len ≤ 16384 → Writes (list t) (depth + 1) out k (1 + len) o′
+  pub list-writes : {t : DataType} → Fills (kindForm aList) out k o → Writes t depth o (k + 1) len o′ → 1 + len ≤ 16384 → Writes (list t) (depth + 1)
+      out k (1 + len) o′
   unfolding form kindForm depthOf
   list-writes {t} F W h = record {
     stored = fills-then F (form t) refl (W .stored);
@@ -65,7 +67,8 @@ module _ {depth : ℕ} {out : Bytes} {k len : ℕ} {o o′ : Bytes} where
     readable = W .readable;
   }
 
-  pub array-writes : {w : ℕ} {t : DataType} → Fills (kindForm (anArray w)) out k o → Writes t depth o (k + 5) len o′ → w < 4294967296 → 5 + len ≤ 16384 → Writes (array w t) (depth + 1) out k (5 + len) o′
+  pub array-writes : {w : ℕ} {t : DataType} → Fills (kindForm (anArray w)) out k o → Writes t depth o (k + 5) len o′ → w < 4294967296 → 5 + len ≤ 16384
+      → Writes (array w t) (depth + 1) out k (5 + len) o′
   unfolding form kindForm u32Bytes u16Bytes depthOf
   array-writes {t = t} F W w h = record {
     stored = fills-then F (form t) refl (W .stored);
@@ -76,7 +79,8 @@ module _ {depth : ℕ} {out : Bytes} {k len : ℕ} {o o′ : Bytes} where
     readable = (w, W .readable);
   }
 
-  pub struct-writes : {n : ℕ} {fs : Fields} → Fills (kindForm (aStruct n)) out k o → WritesFields fs depth o (k + 3) len o′ → countFields fs ≡ n → n < 65536 → 3 + len ≤ 16384
+  pub struct-writes : {n : ℕ} {fs : Fields} → Fills (kindForm (aStruct n)) out k o → WritesFields fs depth o (k + 3) len o′ → countFields fs ≡ n → n <
+      65536 → 3 + len ≤ 16384
       → Writes (struct fs) (depth + 1) out k (3 + len) o′
   unfolding form kindForm u16Bytes depthOf
   struct-writes {n} {fs} F W e l h = go (subst (λ (m : ℕ). Fills (kindForm (aStruct m)) out k o) (sym e) F)
@@ -92,7 +96,8 @@ module _ {depth : ℕ} {out : Bytes} {k len : ℕ} {o o′ : Bytes} where
       }
 
   -- a name and a type
-  pub column-writes : {n : Bytes} {t : DataType} {at : ℕ} → Fills (textBytes n) out k o → at ≡ k + length (textBytes n) → Writes t depth o at len o′ → ShortText n → WritesFields (fcons n t fnil) depth out k (at - k + len) o′
+  pub column-writes : {n : Bytes} {t : DataType} {at : ℕ} → Fills (textBytes n) out k o → at ≡ k + length (textBytes n) → Writes t depth o at len o′ →
+      ShortText n → WritesFields (fcons n t fnil) depth out k (at - k + len) o′
   unfolding formFields depthOfFields
   column-writes {n} {t} {at} F e W s =
       let z : at - k ≡ length (textBytes n) = omega arith in
@@ -108,7 +113,8 @@ module _ {depth : ℕ} {out : Bytes} {k len : ℕ} {o o′ : Bytes} where
 
 -- ---- columns behind a column
 
-pub fields-writes : {n : Bytes} {t : DataType} {fs : Fields} {depth : ℕ} {out : Bytes} {k a b : ℕ} {o o′ : Bytes} → WritesFields (fcons n t fnil) depth out k a o → WritesFields fs depth o (k + a) b o′
+pub fields-writes : {n : Bytes} {t : DataType} {fs : Fields} {depth : ℕ} {out : Bytes} {k a b : ℕ} {o o′ : Bytes} → WritesFields (fcons n t fnil) depth
+    out k a o → WritesFields fs depth o (k + a) b o′
     → WritesFields (fcons n t fs) depth out k (a + b) o′
 unfolding formFields depthOfFields
 fields-writes {n} {t} {fs} {depth} {out} {k} {a} {b} {o} {o′} C W =

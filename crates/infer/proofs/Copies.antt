@@ -10,9 +10,9 @@ use Rattle.store.specs.Overlay.{overlay, littleBytes}
 use Rattle.store.proofs.Overlay.{length-little}
 use Rattle.layout.specs.Bytes.{Bytes, AllBytes}
 use Rattle.layout.specs.Tree.{dtypeOf}
-use Rattle.layout.specs.Answers.{headRes}
+use Rattle.layout.specs.code.Answers.{headRes}
 use Rattle.layout.specs.Layout.{kind, aStruct, aList, anArray}
-use Rattle.layout.specs.Stands.{TypeAt}
+use Rattle.layout.specs.code.Stands.{TypeAt}
 use Rattle.layout.specs.declared.cursor.Cursor.{Cursor}
 use Rattle.layout.specs.declared.types.Head.{Head}
 use Rattle.layout.specs.declared.types.LeafType.{LeafType as LeafSpan}
@@ -24,10 +24,10 @@ use Rattle.forms.proofs.Heads.{head-at, end-leaf}
 use Rattle.forms.proofs.Leaves.{little-u32}
 use Rattle.forms.proofs.Theorems.{read-readable}
 use Rattle.forms.proofs.Writing.{extent, form-written, rest-leaf, none-stored}
-use Rattle.nodes.specs.Typed.{SizeOf}
+use Rattle.nodes.specs.code.Typed.{SizeOf}
 use Rattle.nodes.specs.declared.types.FormSize.{FormSize}
 use Rattle.nodes.proofs.Sizes.{size-leaf}
-use Rattle.infer.specs.Writing.{Fills, LeafCopied, CopiedIs, lengthOf, behindOf}
+use Rattle.infer.specs.code.Writing.{Fills, LeafCopied, CopiedIs, lengthOf, behindOf}
 use Rattle.infer.specs.declared.form.Inferred.{Inferred}
 
 -- no answer says nothing
@@ -38,17 +38,29 @@ pub copied : {v : Edition} {s : Bytes} {at : ℕ} (T : TypeAt v 16 s at) → All
     → SizeOf (dtypeOf (T .tree)) (T .end) z → z .deep ≤ depth → z .size ≤ 16384 → k + z .size ≤ length out → new ≡ overlay out k (form (dtypeOf (T .tree)))
     → CopiedIs (dtypeOf (T .tree)) depth out k (Inferred.Is (z .size)) new
 copied {v} {s} {at} T o depth out k Z d l r e =
-    record { parts = record { stored = e; long = Z .size; room = r; short = l; deep = omega (arith, Z .deep, d); readable = read-readable v Free 16 s at o (T .reads) } }
+    record {
+      parts = record {
+        stored = e;
+        long = Z .size;
+        room = r;
+        short = l;
+        deep = omega (arith, Z .deep, d);
+        readable = read-readable v Free 16 s at
+            o (T .reads);
+      };
+    }
 
 -- ---- a leaf
 
-pub leaf-filled : (s : Bytes) (a e : ℕ) → a ≤ e → e ≤ length s → (depth : ℕ) (out : Bytes) (k : ℕ) {new : Bytes} → 0 < depth → e - a ≤ 16384 → k + (e - a) ≤ length out
+pub leaf-filled : (s : Bytes) (a e : ℕ) → a ≤ e → e ≤ length s → (depth : ℕ) (out : Bytes) (k : ℕ) {new : Bytes} → 0 < depth → e - a ≤ 16384 → k +
+    (e - a) ≤ length out
     → new ≡ overlay out k (slice a e s) → LeafCopied (slice a e s) depth out k (Inferred.Is (e - a)) new
 leaf-filled s a e h i depth out k d l r w =
     let n : length (slice a e s) ≡ e - a = length-slice a e s i in
     record { parts = (sym n, omega arith, l, record { stored = w; room = omega arith }) }
 
-module _ {v : Edition} {s : Bytes} {c : Cursor} (T : TypeAt v 16 s (c .at)) {p : Head} (e : headRes s p ≡ kind s (c .at)) {l : LeafSpan} {b : Cursor} (f : p ≡ Head.Leaf l b) where
+module _ {v : Edition} {s : Bytes} {c : Cursor} (T : TypeAt v 16 s (c .at)) {p : Head} (e : headRes s p ≡ kind s (c .at)) {l : LeafSpan} {b : Cursor}
+    (f : p ≡ Head.Leaf l b) where
   pub leaf-span : (c .at ≤ b .at) × (b .at ≤ length s)
   leaf-span =
       let (x, y) = rest-leaf T e f in
@@ -80,7 +92,8 @@ module _ {v : Edition} {s : Bytes} {c : Cursor} (T : TypeAt v 16 s (c .at)) {p :
 
 -- ---- what types begin with
 
-pub struct-put : (n : ℕ) (out : Bytes) (k : ℕ) {a b c : Bytes} → k + 3 ≤ length out → a ≡ set out k 18 → b ≡ set a (k + 1) (n % 256) → c ≡ set b (k + 2) (n / 256)
+pub struct-put : (n : ℕ) (out : Bytes) (k : ℕ) {a b c : Bytes} → k + 3 ≤ length out → a ≡ set out k 18 → b ≡ set a (k + 1) (n % 256) → c ≡ set b (k + 2)
+    (n / 256)
     → Fills (kindForm (aStruct n)) out k c
 unfolding kindForm u16Bytes overlay
 struct-put n out k h p q r =

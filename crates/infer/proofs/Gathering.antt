@@ -17,12 +17,12 @@ use Rattle.forms.proofs.Read.{ok-eq}
 use Rattle.plan.specs.Result.{Result, gives}
 use Rattle.plan.specs.Selector.{Selector, Selectors, snil, scons}
 use Rattle.plan.specs.Check.{column, typeOf, typesOf}
-use Rattle.walk.specs.Stands.{SelectorAt, SelectorsAt}
+use Rattle.walk.specs.code.Stands.{SelectorAt, SelectorsAt}
 use Rattle.walk.proofs.View.{FirstAt, first-at, no-selector, selectors-moved}
-use Rattle.direct.specs.Scopes.{ScopeAt}
+use Rattle.direct.specs.code.Scopes.{ScopeAt}
 use Rattle.direct.specs.declared.scope.Scope.{Scope}
 use Rattle.direct.proofs.Trees.{fields-give}
-use Rattle.infer.specs.Writing.{ColumnTo, ColumnIs, FieldsTo, FieldsIs}
+use Rattle.infer.specs.code.Writing.{ColumnTo, ColumnIs, FieldsTo, FieldsIs}
 use Rattle.infer.specs.declared.form.Inferred.{Inferred}
 use Rattle.infer.proofs.Behind.{fields-writes}
 use Rattle.infer.proofs.Transforms.{column-to}
@@ -30,10 +30,17 @@ use Rattle.infer.proofs.Transforms.{column-to}
 -- no column
 fields-end : (Γ : Fields) (depth : ℕ) (out : Bytes) (k : ℕ) → k ≤ length out → FieldsTo (typesOf Γ snil) 0 depth out k 0 out
 unfolding typesOf overlay formFields depthOfFields countFields
-fields-end Γ depth out k h = record { fields = fnil; typed = refl; counted = refl; writes = record { stored = refl; long = refl; room = omega arith; deep = omega arith; readable = tt } }
+fields-end Γ depth out k h = record {
+  fields = fnil;
+  typed = refl;
+  counted = refl;
+  writes = record
+      { stored = refl; long = refl; room = omega arith; deep = omega arith; readable = tt };
+}
 
 -- a column and the columns behind it
-fields-more : (Γ : Fields) (s : Selector) (ss : Selectors) {m depth : ℕ} {out : Bytes} {k a b : ℕ} {o o′ : Bytes} → ColumnTo (typeOf Γ s) depth out k a o → FieldsTo (typesOf Γ ss) m depth o (k + a) b o′
+fields-more : (Γ : Fields) (s : Selector) (ss : Selectors) {m depth : ℕ} {out : Bytes} {k a b : ℕ} {o o′ : Bytes} → ColumnTo (typeOf Γ s) depth out k a
+    o → FieldsTo (typesOf Γ ss) m depth o (k + a) b o′
     → FieldsTo (typesOf Γ (scons s ss)) (suc m) depth out k (a + b) o′
 unfolding countFields
 fields-more Γ s ss C F = record {
@@ -43,9 +50,11 @@ fields-more Γ s ss C F = record {
   writes = fields-writes (C .writes) (F .writes);
 }
 
-fields-as : {r r′ : Result Fields} {m m′ depth : ℕ} {out : Bytes} {k k′ a a′ : ℕ} {o : Bytes} → r ≡ r′ → m ≡ m′ → k ≡ k′ → a ≡ a′ → FieldsTo r m depth out k a o → FieldsTo r′ m′ depth out k′ a′ o
+fields-as : {r r′ : Result Fields} {m m′ depth : ℕ} {out : Bytes} {k k′ a a′ : ℕ} {o : Bytes} → r ≡ r′ → m ≡ m′ → k ≡ k′ → a ≡ a′ → FieldsTo r m depth
+    out k a o → FieldsTo r′ m′ depth out k′ a′ o
 fields-as {r} {r′} {m} {m′} {depth} {out} {k} {k′} {a} {a′} {o} e f g h F =
-    subst (λ (x : Result Fields). FieldsTo x m′ depth out k′ a′ o) e (subst (λ (x : ℕ). FieldsTo r x depth out k′ a′ o) f (subst (λ (x : ℕ). FieldsTo r m depth out x a′ o) g (subst (λ (x : ℕ). FieldsTo r m depth out k x o) h F)))
+    subst (λ (x : Result Fields). FieldsTo x m′ depth out k′ a′ o) e (subst (λ (x : ℕ). FieldsTo r x depth out k′ a′ o) f
+    (subst (λ (x : ℕ). FieldsTo r m depth out x a′ o) g (subst (λ (x : ℕ). FieldsTo r m depth out k x o) h F)))
 
 same-selectors : {s : Bytes} {n at : ℕ} (P Q : SelectorsAt s n at) → (P .trees ≡ Q .trees) × (P .end ≡ Q .end)
 same-selectors P Q = ok-eq (sym (P .reads) ∙ Q .reads)
@@ -53,13 +62,15 @@ same-selectors P Q = ok-eq (sym (P .reads) ∙ Q .reads)
 -- ---- the loop over selectors
 
 -- after i of n selectors, whose columns stand from k up to at: what the rest gives and writes, the whole gives and writes
-pub record Gathering (s : Bytes) (v : Edition) (scope : Scope) (index : List ℕ) (stride : ℕ) (plan : Bytes) (n depth : ℕ) (out₀ : Bytes) (k first : ℕ) (out : Bytes) (from at i : ℕ) : Type 0 where
+pub record Gathering (s : Bytes) (v : Edition) (scope : Scope) (index : List ℕ) (stride : ℕ) (plan : Bytes) (n depth : ℕ) (out₀ : Bytes) (k first : ℕ)
+    (out : Bytes) (from at i : ℕ) : Type 0 where
   pub within : i ≤ n
   pub over : k ≤ at
   pub room : at ≤ length out
   pub kept : length out ≡ length out₀
   pub left : SelectorsAt plan (n - i) from
-  pub all : (X : ScopeAt s v scope index stride) (S : SelectorsAt plan n first) (len : ℕ) (new : Bytes) → FieldsTo (typesOf (X .fields) (left .trees)) (n - i) depth out at len new
+  pub all : (X : ScopeAt s v scope index stride) (S : SelectorsAt plan n first) (len : ℕ) (new : Bytes) → FieldsTo (typesOf (X .fields) (left .trees))
+      (n - i) depth out at len new
       → FieldsTo (typesOf (X .fields) (S .trees)) n depth out₀ k (at - k + len) new
 
 module _ {s : Bytes} {v : Edition} {scope : Scope} {index : List ℕ} {stride : ℕ} {plan : Bytes} {n depth : ℕ} {out₀ : Bytes} {k first : ℕ} where
@@ -72,11 +83,13 @@ module _ {s : Bytes} {v : Edition} {scope : Scope} {index : List ℕ} {stride : 
         room = h;
         kept = refl;
         left = selectors-moved (sym e) refl Q;
-        all = λ X S len new F. fields-as (ap (λ (ss : Selectors). typesOf (X .fields) ss) (same-selectors Q S .0)) e refl (let z : len ≡ k - k + len = omega arith in z) F;
+        all = λ X S len new F. fields-as (ap (λ (ss : Selectors). typesOf (X .fields) ss) (same-selectors Q S .0)) e refl
+            (let z : len ≡ k - k + len = omega arith in z) F;
       }
 
   module _ {out : Bytes} {from at i : ℕ} (G : Gathering s v scope index stride plan n depth out₀ k first out from at i) where
-    pub gathering-all : n ≤ i → (X : ScopeAt s v scope index stride) (S : SelectorsAt plan n first) → FieldsIs (typesOf (X .fields) (S .trees)) n depth out₀ k (Inferred.Is (at - k)) out
+    pub gathering-all : n ≤ i → (X : ScopeAt s v scope index stride) (S : SelectorsAt plan n first) → FieldsIs (typesOf (X .fields) (S .trees)) n depth
+        out₀ k (Inferred.Is (at - k)) out
     gathering-all h X S =
         let z : n - i ≡ 0 = let w = G .within in omega arith in
         let (p, q) = no-selector (G .left) z in
@@ -90,12 +103,14 @@ module _ {s : Bytes} {v : Edition} {scope : Scope} {index : List ℕ} {stride : 
       pub gathering-head : SelectorAt plan from
       gathering-head = next .head
 
-      module _ {q : Inferred} {len : ℕ} {new : Bytes} (g : (X : ScopeAt s v scope index stride) (P : SelectorAt plan from) → ColumnIs (typeOf (X .fields) (P .tree)) depth out at q new) (f : q ≡ Inferred.Is len) where
+      module _ {q : Inferred} {len : ℕ} {new : Bytes} (g : (X : ScopeAt s v scope index stride) (P : SelectorAt plan from) → ColumnIs
+          (typeOf (X .fields) (P .tree)) depth out at q new) (f : q ≡ Inferred.Is len) where
         -- the next column ends inside the buffer
         pub gathering-inside : ScopeAt s v scope index stride → at + len ≤ length out
         gathering-inside X = column-to (g X (next .head)) f .writes .room
 
-        pub gathering-more : ScopeAt s v scope index stride → {e : Cursor} → ((P : SelectorAt plan from) → e .at ≡ P .end) → Gathering s v scope index stride plan n depth out₀ k first new (e .at) (at + len) (i + 1)
+        pub gathering-more : ScopeAt s v scope index stride → {e : Cursor} → ((P : SelectorAt plan from) → e .at ≡ P .end) → Gathering s v scope index
+            stride plan n depth out₀ k first new (e .at) (at + len) (i + 1)
         gathering-more B {e} w =
             let z : n - i - 1 ≡ n - (i + 1) = omega arith in
             let y : suc (n - (i + 1)) ≡ n - i = omega arith in
@@ -111,5 +126,6 @@ module _ {s : Bytes} {v : Edition} {scope : Scope} {index : List ℕ} {stride : 
               left = selectors-moved z (sym (w (next .head))) (next .tail);
               all = λ X S b new′ F.
                   fields-as refl refl refl (let u : at - k + (len + b) ≡ at + len - k + b = omega arith in u)
-                  (G .all X S (len + b) new′ (fields-as (ap (λ (ss : Selectors). typesOf (X .fields) ss) (sym (next .is))) y refl refl (fields-more (X .fields) (next .head .tree) (next .tail .trees) (column-to (g X (next .head)) f) F)));
+                  (G .all X S (len + b) new′ (fields-as (ap (λ (ss : Selectors). typesOf (X .fields) ss) (sym (next .is))) y refl refl
+                  (fields-more (X .fields) (next .head .tree) (next .tail .trees) (column-to (g X (next .head)) f) F)));
             }

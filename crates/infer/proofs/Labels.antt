@@ -7,11 +7,12 @@ use Rattle.plan.specs.Result.{Result, gives}
 use Rattle.plan.specs.Check.{Column}
 use Rattle.direct.specs.declared.place.Name.{Name}
 use Rattle.infer.specs.declared.name.Named.{Named}
-use Rattle.infer.specs.Naming.{NamedTo, namedParts, NamedIs}
+use Rattle.infer.specs.code.Naming.{NamedTo, namedParts, NamedIs}
 
 -- what a caller gets from an answer
 pub named-to : {s plan : Bytes} {r : Result Column} {q : Named} → NamedIs s plan r q → {n : Name} → q ≡ Named.Is n → NamedTo s plan r n
 named-to {s} {plan} {r} N e = subst (λ (x : Named). namedParts s plan r x) e (N .parts)
 
-pub label-is : {s plan : Bytes} {r : Result Column} {n : Name} (N : NamedTo s plan r n) {b : Bytes} {x : Bool} → x ≡ sameBytes (N .name) b → x ≡ true → (a : Column) → r ≡ gives a → a .name ≡ b
+pub label-is : {s plan : Bytes} {r : Result Column} {n : Name} (N : NamedTo s plan r n) {b : Bytes} {x : Bool} → x ≡ sameBytes (N .name) b → x ≡ true →
+    (a : Column) → r ≡ gives a → a .name ≡ b
 label-is N g h a e = N .is a e ∙ same-bytes-eq _ _ (sym g ∙ h)

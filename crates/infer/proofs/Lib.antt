@@ -3,7 +3,7 @@ pub mod Names
 pub mod Behind
 pub mod Transforms
 pub mod Gathering
-pub mod Standing
+pub mod FormsAt
 pub mod Labels
 pub mod Composing
 pub mod Targets

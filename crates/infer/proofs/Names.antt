@@ -7,7 +7,7 @@ use lib.ListN.{length}
 use Rattle.store.specs.Overlay.{overlay}
 use Rattle.layout.specs.Bytes.{Bytes, AllBytes}
 use Rattle.layout.specs.Tree.{DataType, Fields, fnil, fcons}
-use Rattle.layout.specs.Answers.{spanAt, spanIn}
+use Rattle.layout.specs.code.Answers.{spanAt, spanIn}
 use Rattle.layout.specs.declared.bytes.Span.{Span}
 use Rattle.layout.specs.declared.columns.Position.{Position}
 use Rattle.layout.specs.declared.columns.Siblings.the-variants.{Free}
@@ -22,23 +22,24 @@ use Rattle.forms.proofs.Writing.{span-long}
 use Rattle.values.specs.Value.{Value}
 use Rattle.plan.specs.Result.{Result, gives}
 use Rattle.plan.specs.Selector.{Selector, position, constant, rename}
-use Rattle.plan.specs.Check.{Column, column, columnAt, withinLimits, castFits, structOf, listOf, arrayOf, resulting, checkCast, checkRename, checkStruct, checkList, checkArray, typeOf}
-use Rattle.plan.specs.Formed.{Formed, f-constant}
+use Rattle.plan.specs.Check.{Column, column, columnAt, withinLimits, castFits, structOf, listOf, arrayOf, resulting, checkCast, checkRename, checkStruct}
+use Rattle.plan.specs.Check.{checkList, checkArray, typeOf}
+use Rattle.plan.specs.code.Formed.{Formed, f-constant}
 use Rattle.plan.proofs.Results.{never-refused, gives-eq, bind-gives, demand-gives}
 use Rattle.plan.proofs.ReadBack.{selector-back}
-use Rattle.walk.specs.Stands.{SelectorAt}
-use Rattle.walk.specs.Parts.{ConstantAt, CastAt, RenameAt, StructAt, ListAt, ArrayAt, NameIs}
+use Rattle.walk.specs.code.Stands.{SelectorAt}
+use Rattle.walk.specs.code.Parts.{ConstantAt, CastAt, RenameAt, StructAt, ListAt, ArrayAt, NameIs}
 use Rattle.walk.proofs.View.{same-selector, starts-inside}
-use Rattle.direct.specs.Places.{NameAt}
-use Rattle.direct.specs.Scopes.{scopeParts, ScopeAt, TakenIs}
+use Rattle.direct.specs.code.Places.{NameAt}
+use Rattle.direct.specs.code.Scopes.{scopeParts, ScopeAt, TakenIs}
 use Rattle.direct.specs.declared.place.Name.{Name}
 use Rattle.direct.specs.declared.place.Place.{Place}
 use Rattle.direct.specs.declared.scope.Scope.{Scope}
 use Rattle.direct.specs.declared.scope.Taken.{Taken}
 use Rattle.direct.proofs.Naming.{named-at}
 use Rattle.direct.proofs.Scoping.{taken-at}
-use Rattle.infer.specs.Naming.{NamedTo, NamedIs, NamedBy, stepParts, NameStep}
-use Rattle.infer.specs.Writing.{Fills}
+use Rattle.infer.specs.code.Naming.{NamedTo, NamedIs, NamedBy, stepParts, NameStep}
+use Rattle.infer.specs.code.Writing.{Fills}
 use Rattle.infer.specs.declared.name.Named.{Named}
 
 -- ---- names are short
@@ -46,11 +47,13 @@ use Rattle.infer.specs.declared.name.Named.{Named}
 none-short : ShortText []
 none-short = (omega arith, λ i. omega arith)
 
-pub scope-readable : {s : Bytes} {v : Edition} {scope : Scope} {index : List ℕ} {stride : ℕ} → AllBytes s → (X : ScopeAt s v scope index stride) → ReadableFields (X .fields)
+pub scope-readable : {s : Bytes} {v : Edition} {scope : Scope} {index : List ℕ} {stride : ℕ} → AllBytes s → (X : ScopeAt s v scope index stride) →
+    ReadableFields (X .fields)
 scope-readable {s} {v} {scope} {index} {stride} o X = go scope (X .fields) (X .parts)
   where
     go : (x : Scope) (Γ : Fields) → scopeParts s v x index stride Γ → ReadableFields Γ
-    go (Scope.Columns n c) Γ C = subst (λ (fs : Fields). ReadableFields fs) (C .are) (columns-readable o (columns→ v Free s 16 (λ at t e h. type→ v Free s 16 at h) n [] (c .at) (C .columns .reads)) .1)
+    go (Scope.Columns n c) Γ C = subst (λ (fs : Fields). ReadableFields fs) (C .are)
+        (columns-readable o (columns→ v Free s 16 (λ at t e h. type→ v Free s 16 at h) n [] (c .at) (C .columns .reads)) .1)
     go (Scope.Element c) Γ E = subst (λ (fs : Fields). ReadableFields fs) (E .are) (none-short, (read-readable v Free 16 s (c .at) o (E .type .reads), tt))
 
 column-short : (Γ : Fields) (k : ℕ) {c : Column} → ReadableFields Γ → columnAt Γ k ≡ gives c → ShortText (c .name)
@@ -100,7 +103,8 @@ array-named f d e =
 -- ---- one step
 
 module _ {s plan : Bytes} (Γ : Fields) {at : ℕ} {P : SelectorAt plan at} where
-  pub position-step : {v : Edition} {k : Position} {q : Taken} {n : Span} {c : Cursor} {m : Name} → ReadableFields Γ → P .tree ≡ position k → TakenIs s v (typeOf Γ (P .tree)) q → q ≡ Taken.At n c
+  pub position-step : {v : Edition} {k : Position} {q : Taken} {n : Span} {c : Cursor} {m : Name} → ReadableFields Γ → P .tree ≡ position k → TakenIs s
+      v (typeOf Γ (P .tree)) q → q ≡ Taken.At n c
       → m ≡ record { place = Place.Incoming; span = n } → NameStep s plan Γ at P (Named.Is m)
   unfolding typeOf
   position-step {k = k} {n = n} R p T f e =
@@ -114,7 +118,8 @@ module _ {s plan : Bytes} (Γ : Fields) {at : ℕ} {P : SelectorAt plan at} wher
         };
       }
 
-  pub constant-step : {n : Span} {j : ℕ} {m : Name} → AllBytes plan → ConstantAt plan at P n j → m ≡ record { place = Place.Plan; span = n } → NameStep s plan Γ at P (Named.Is m)
+  pub constant-step : {n : Span} {j : ℕ} {m : Name} → AllBytes plan → ConstantAt plan at P n j → m ≡ record { place = Place.Plan; span = n } → NameStep
+      s plan Γ at P (Named.Is m)
   unfolding typeOf
   constant-step {n = n} o K e =
       record {
@@ -126,7 +131,8 @@ module _ {s plan : Bytes} (Γ : Fields) {at : ℕ} {P : SelectorAt plan at} wher
         };
       }
 
-  pub rename-step : {j : ℕ} {n : Span} {m : Name} → AllBytes plan → (K : RenameAt plan at P j) → NameIs plan (K .input .end) (K .name) n → m ≡ record { place = Place.Plan; span = n }
+  pub rename-step : {j : ℕ} {n : Span} {m : Name} → AllBytes plan → (K : RenameAt plan at P j) → NameIs plan (K .input .end) (K .name) n → m ≡ record
+      { place = Place.Plan; span = n }
       → NameStep s plan Γ at P (Named.Is m)
   unfolding typeOf
   rename-step {n = n} o K N e =
@@ -194,14 +200,17 @@ module _ {s plan : Bytes} {Γ : Fields} {at : ℕ} {P : SelectorAt plan at} {q :
 -- whatever column the selector at `at` gives, the one at `to` gives one with the same name
 pub record Inner (s : Bytes) (v : Edition) (scope : Scope) (index : List ℕ) (stride : ℕ) (plan : Bytes) (at to : ℕ) : Type 0 where
   pub here : SelectorAt plan to
-  pub same : (X : ScopeAt s v scope index stride) (P : SelectorAt plan at) (c : Column) → typeOf (X .fields) (P .tree) ≡ gives c → (d : Column) × (typeOf (X .fields) (here .tree) ≡ gives d) × (c .name ≡ d .name)
+  pub same : (X : ScopeAt s v scope index stride) (P : SelectorAt plan at) (c : Column) → typeOf (X .fields) (P .tree) ≡ gives c → (d : Column) ×
+      (typeOf (X .fields) (here .tree) ≡ gives d) × (c .name ≡ d .name)
 
 module _ {s : Bytes} {v : Edition} {scope : Scope} {index : List ℕ} {stride : ℕ} {plan : Bytes} {at : ℕ} where
   pub inner-start : SelectorAt plan at → Inner s v scope index stride plan at at
   inner-start Q = record { here = Q; same = λ X P c e. (c, ap (typeOf (X .fields)) (same-selector Q P .0) ∙ e, refl) }
 
-  module _ {to : ℕ} (I : Inner s v scope index stride plan at to) {q : Named} (E : (X : ScopeAt s v scope index stride) (P : SelectorAt plan to) → NameStep s plan (X .fields) to P q) where
-    pub inner-named : {m : Name} → q ≡ Named.Is m → (X : ScopeAt s v scope index stride) (P : SelectorAt plan at) → NamedIs s plan (typeOf (X .fields) (P .tree)) (Named.Is m)
+  module _ {to : ℕ} (I : Inner s v scope index stride plan at to) {q : Named} (E : (X : ScopeAt s v scope index stride) (P : SelectorAt plan to) →
+      NameStep s plan (X .fields) to P q) where
+    pub inner-named : {m : Name} → q ≡ Named.Is m → (X : ScopeAt s v scope index stride) (P : SelectorAt plan at) → NamedIs s plan
+        (typeOf (X .fields) (P .tree)) (Named.Is m)
     inner-named e X P =
         let N = step-named (E X (I .here)) e in
         record { parts = record { name = N .name; named = N .named; short = N .short; is = λ c g. let (d, p, h) = I .same X P c g in h ∙ N .is d p } }
@@ -225,7 +234,8 @@ module _ {s : Bytes} {v : Edition} {scope : Scope} {index : List ℕ} {stride : 
 pub name-short : {s plan : Bytes} {n : Name} {b : Bytes} → NameAt s plan n b → ShortText b → n .span .len ≤ 63
 name-short {n = n} N S = let g = sym (span-long _ (n .span) (N .inside)) ∙ ap length (N .is) in omega (arith, g, S .0)
 
-pub name-written : (t : Bytes) (p : Span) {b : Bytes} (out : Bytes) (k : ℕ) {new : Bytes} → spanIn t p × (spanAt t p ≡ b) → k + 1 + p .len ≤ length out → new ≡ overlay out k (textBytes (spanAt t p))
+pub name-written : (t : Bytes) (p : Span) {b : Bytes} (out : Bytes) (k : ℕ) {new : Bytes} → spanIn t p × (spanAt t p ≡ b) → k + 1 + p .len ≤ length out
+    → new ≡ overlay out k (textBytes (spanAt t p))
     → (k + 1 + p .len ≡ k + length (textBytes b)) × Fills (textBytes b) out k new
 unfolding textBytes
 name-written t p out k (h, i) r e =

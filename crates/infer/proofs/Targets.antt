@@ -5,15 +5,15 @@ use mathlib.Core.List.{List}
 use Rattle.layout.specs.Bytes.{Bytes}
 use Rattle.layout.specs.Tree.{Label, DataType, dtypeOf}
 use Rattle.layout.specs.Layout.{label}
-use Rattle.layout.specs.Stands.{TypeAt}
-use Rattle.layout.specs.Answers.{spanAt, labelRes}
+use Rattle.layout.specs.code.Stands.{TypeAt}
+use Rattle.layout.specs.code.Answers.{spanAt, labelRes}
 use Rattle.layout.specs.declared.columns.Label.{Label as LabelSpan}
 use Rattle.layout.specs.declared.columns.Labelled.{Labelled}
 use Rattle.layout.specs.declared.cursor.Cursor.{Cursor}
 use Rattle.layout.specs.declared.edition.Edition.{Edition}
 use Rattle.layout.proofs.View.{label-got}
-use Rattle.forms.specs.Compare.{sameDtype}
-use Rattle.forms.specs.Answers.{sameOf}
+use Rattle.forms.specs.code.Compare.{sameDtype}
+use Rattle.forms.specs.code.Answers.{sameOf}
 use Rattle.forms.specs.declared.compare.Same.{Same}
 use Rattle.direct.specs.declared.fit.FitEnd.{FitEnd}
 use Rattle.forms.proofs.Equal.{same-dtype-eq}
@@ -21,13 +21,13 @@ use Rattle.forms.proofs.Read.{ok-eq}
 use Rattle.forms.proofs.Comparing.{same-to}
 use Rattle.plan.specs.Result.{Result, gives}
 use Rattle.plan.specs.Check.{Column, column, typeOf}
-use Rattle.walk.specs.Stands.{SelectorAt}
+use Rattle.walk.specs.code.Stands.{SelectorAt}
 use Rattle.direct.specs.declared.scope.Scope.{Scope}
-use Rattle.direct.specs.Fits.{ColumnFitAt, FitsColumn, GivesIs}
+use Rattle.direct.specs.code.Fits.{ColumnFitAt, FitsColumn, GivesIs}
 use Rattle.direct.proofs.Fitting.{none-given}
-use Rattle.infer.specs.Typed.{TypedIs}
-use Rattle.infer.specs.Writing.{InferredTo}
-use Rattle.infer.proofs.Standing.{standing, standing-is}
+use Rattle.infer.specs.code.Typed.{TypedIs}
+use Rattle.infer.specs.code.Writing.{InferredTo}
+use Rattle.infer.proofs.FormsAt.{standing, standing-is}
 
 pub not-typed : {r : Result Column} {e : ℕ} {t : DataType} {f : ℕ} → TypedIs r e t f FitEnd.Unknown
 not-typed = record { parts = tt }

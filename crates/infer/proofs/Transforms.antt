@@ -8,7 +8,7 @@ use lib.ListN.{length}
 use Rattle.layout.specs.Bytes.{Bytes, AllBytes}
 use Rattle.layout.specs.Tree.{DataType, struct, list, array, Fields, dtypeOf, fieldsOf}
 use Rattle.layout.specs.Layout.{aStruct, aList, anArray, type as typeRead}
-use Rattle.layout.specs.Stands.{TypeAt}
+use Rattle.layout.specs.code.Stands.{TypeAt}
 use Rattle.layout.specs.declared.bytes.Span.{Span}
 use Rattle.layout.specs.declared.columns.Siblings.the-variants.{Free}
 use Rattle.layout.specs.declared.cursor.Cursor.{Cursor}
@@ -21,21 +21,22 @@ use Rattle.rules.specs.declared.outcome.CastOption.{CastOption}
 use Rattle.plan.specs.Result.{Result, gives}
 use Rattle.plan.specs.Selector.{Selector}
 use Rattle.plan.specs.Check.{Column, column, elementOf, castFits, withinLimits, typeOf, typesOf}
-use Rattle.walk.specs.Stands.{SelectorAt, SelectorsAt}
-use Rattle.walk.specs.Parts.{ConstantAt, CastAt, RenameAt, StructAt, ListAt, ArrayAt, CountedIs}
+use Rattle.walk.specs.code.Stands.{SelectorAt, SelectorsAt}
+use Rattle.walk.specs.code.Parts.{ConstantAt, CastAt, RenameAt, StructAt, ListAt, ArrayAt, CountedIs}
 use Rattle.walk.specs.declared.head.StructFields.{StructFields}
 use Rattle.walk.proofs.View.{selectors-moved}
-use Rattle.index.specs.Indexed.{Indexed}
-use Rattle.direct.specs.Inputs.{inputOf, InputAt, inputParts, InputIs, Unrenamed}
-use Rattle.direct.specs.Insides.{StructIn, ListIn, ArrayIn, insideParts, InsideIs}
-use Rattle.direct.specs.Scopes.{ScopeAt, TakenAt}
+use Rattle.index.specs.code.Indexed.{Indexed}
+use Rattle.direct.specs.code.Inputs.{inputOf, InputAt, inputParts, InputIs, Unrenamed}
+use Rattle.direct.specs.code.Insides.{StructIn, ListIn, ArrayIn, insideParts, InsideIs}
+use Rattle.direct.specs.code.Scopes.{ScopeAt, TakenAt}
 use Rattle.direct.specs.declared.input.Input.{Input}
 use Rattle.direct.specs.declared.inside.Inside.{Inside}
 use Rattle.direct.specs.declared.place.Name.{Name}
 use Rattle.direct.specs.declared.scope.Scope.{Scope}
 use Rattle.direct.proofs.Trees.{cast-gives, rename-gives, struct-gives, list-gives, array-gives}
-use Rattle.infer.specs.Naming.{NamedTo, namedParts, NamedIs}
-use Rattle.infer.specs.Writing.{Fills, behindOf, CopiedIs, InferredTo, inferredParts, InferredIs, ColumnTo, columnParts, ColumnIs, FieldsTo, fieldsParts, FieldsIs}
+use Rattle.infer.specs.code.Naming.{NamedTo, namedParts, NamedIs}
+use Rattle.infer.specs.code.Writing.{Fills, behindOf, CopiedIs, InferredTo, inferredParts, InferredIs, ColumnTo, columnParts, ColumnIs, FieldsTo}
+use Rattle.infer.specs.code.Writing.{fieldsParts, FieldsIs}
 use Rattle.infer.specs.declared.form.Inferred.{Inferred}
 use Rattle.infer.specs.declared.name.Named.{Named}
 use Rattle.infer.proofs.Behind.{behind-split, limits, list-writes, array-writes, struct-writes, column-writes}
@@ -62,14 +63,17 @@ module _ {r : Result Column} {depth : ℕ} {out : Bytes} {k : ℕ} {o : Bytes} w
 pub fields-none : {r : Result Fields} {count depth : ℕ} {out : Bytes} {k : ℕ} {o : Bytes} → FieldsIs r count depth out k Inferred.Unknown o
 fields-none = record { parts = tt }
 
-pub fields-to : {r : Result Fields} {count depth : ℕ} {out : Bytes} {k : ℕ} {o : Bytes} {q : Inferred} {len : ℕ} → FieldsIs r count depth out k q o → q ≡ Inferred.Is len → FieldsTo r count depth out k len o
+pub fields-to : {r : Result Fields} {count depth : ℕ} {out : Bytes} {k : ℕ} {o : Bytes} {q : Inferred} {len : ℕ} → FieldsIs r count depth out k q o → q
+    ≡ Inferred.Is len → FieldsTo r count depth out k len o
 fields-to {r} {count} {depth} {out} {k} {o} I e = subst (λ (x : Inferred). fieldsParts r count depth out k x o) e (I .parts)
 
-pub fields-short : {r : Result Fields} {count depth : ℕ} {out : Bytes} {k : ℕ} {o : Bytes} {q : Inferred} → FieldsIs r count depth out k q o → length out ≤ 65536 → (len : ℕ) → q ≡ Inferred.Is len → len ≤ 65536
+pub fields-short : {r : Result Fields} {count depth : ℕ} {out : Bytes} {k : ℕ} {o : Bytes} {q : Inferred} → FieldsIs r count depth out k q o → length
+    out ≤ 65536 → (len : ℕ) → q ≡ Inferred.Is len → len ≤ 65536
 fields-short I h len e = let s = fields-to I e .writes .room in omega arith
 
 -- a type that was copied
-pub copied-infers : {t : DataType} {depth : ℕ} {out : Bytes} {k : ℕ} {o : Bytes} {q : Inferred} {r : Result Column} {n : Bytes} → CopiedIs t depth out k q o → (withinLimits t ≡ true → r ≡ gives (column n t)) → depth ≤ 16
+pub copied-infers : {t : DataType} {depth : ℕ} {out : Bytes} {k : ℕ} {o : Bytes} {q : Inferred} {r : Result Column} {n : Bytes} → CopiedIs t depth out k
+    q o → (withinLimits t ≡ true → r ≡ gives (column n t)) → depth ≤ 16
     → InferredIs r depth out k q o
 copied-infers {t} {depth} {out} {k} {o} {q} {r} {n} C g h = go q C
   where
@@ -77,7 +81,8 @@ copied-infers {t} {depth} {out} {k} {o} {q} {r} {n} C g h = go q C
     go (Inferred.Is len) C = record { parts = record { name = n; type = t; typed = g (limits (C .parts) h); writes = C .parts } }
     go Inferred.Unknown C = inferred-none
 
-pub depth-as : {r : Result Column} {d : ℕ} {out : Bytes} {k : ℕ} {q : Inferred} {o : Bytes} → (d ≡ 0 → ⊥) → InferredIs r (d - 1 + 1) out k q o → InferredIs r d out k q o
+pub depth-as : {r : Result Column} {d : ℕ} {out : Bytes} {k : ℕ} {q : Inferred} {o : Bytes} → (d ≡ 0 → ⊥) → InferredIs r (d - 1 + 1) out k q o →
+    InferredIs r d out k q o
 depth-as {r} {d} {out} {k} {q} {o} h I = let e : d - 1 + 1 ≡ d = omega arith in subst (λ (x : ℕ). InferredIs r x out k q o) e I
 
 -- ---- what a caller gets from an answer
@@ -104,11 +109,13 @@ array-width {v} {s} {at} T I b = subst (λ (t : DataType). Readable t) (I .is) (
 
 -- ---- positions and constants
 
-pub position-infers : {s : Bytes} {v : Edition} {r : Result Column} {n : Span} {d : ℕ} (K : TakenAt s v r n d) {depth : ℕ} {out : Bytes} {k : ℕ} {q : Inferred} {o : Bytes} → CopiedIs (dtypeOf (K .type .tree)) depth out k q o → depth ≤ 16
+pub position-infers : {s : Bytes} {v : Edition} {r : Result Column} {n : Span} {d : ℕ} (K : TakenAt s v r n d) {depth : ℕ} {out : Bytes} {k : ℕ}
+    {q : Inferred} {o : Bytes} → CopiedIs (dtypeOf (K .type .tree)) depth out k q o → depth ≤ 16
     → InferredIs r depth out k q o
 position-infers K C h = copied-infers C (λ w. K .is) h
 
-pub constant-infers : (Γ : Fields) {plan : Bytes} {at : ℕ} {P : SelectorAt plan at} {n : Span} {m : ℕ} (S : ConstantAt plan at P n m) {depth : ℕ} {out : Bytes} {k : ℕ} {q : Inferred} {o : Bytes}
+pub constant-infers : (Γ : Fields) {plan : Bytes} {at : ℕ} {P : SelectorAt plan at} {n : Span} {m : ℕ} (S : ConstantAt plan at P n m) {depth : ℕ}
+    {out : Bytes} {k : ℕ} {q : Inferred} {o : Bytes}
     → CopiedIs (dtypeOf (S .type .tree)) depth out k q o → depth ≤ 16 → InferredIs (typeOf Γ (P .tree)) depth out k q o
 unfolding typeOf
 constant-infers Γ S C h = copied-infers C (λ w. ap (λ (x : Selector). typeOf Γ x) (S .is)) h
@@ -140,21 +147,27 @@ module _ {plan : Bytes} {at : ℕ} {P : SelectorAt plan at} {m : ℕ} (Γ : Fiel
 abbrev pub cast-type : {plan : Bytes} {at : ℕ} {P : SelectorAt plan at} {m : ℕ} (S : CastAt plan at P m) {t : ℕ} → t ≡ S .input .end → TypeAt One 16 plan t
 cast-type {plan} S h = record { tree = S .type .tree; end = S .type .end; reads = ap (λ (o : ℕ). typeRead One Free 16 plan o) h ∙ S .type .reads }
 
-module _ {v : Edition} {s : Bytes} {d : ℕ} (T : TypeAt v 16 s d) {plan : Bytes} {at : ℕ} {P : SelectorAt plan at} {m : ℕ} (Γ : Fields) {n : Bytes} {depth : ℕ} {out : Bytes} {k : ℕ} {o : Bytes} where
-  pub cast-infers : (S : CastAt plan at P m) → typeOf Γ (S .input .tree) ≡ gives (column n (dtypeOf (T .tree))) → {q : Inferred} {c : CastOption} {b : Bool} → c ≡ S .option .option
-      → b ≡ castFits (dtypeOf (T .tree)) (dtypeOf (S .type .tree)) c → b ≡ true → CopiedIs (dtypeOf (S .type .tree)) depth out k q o → depth ≤ 16 → InferredIs (typeOf Γ (P .tree)) depth out k q o
+module _ {v : Edition} {s : Bytes} {d : ℕ} (T : TypeAt v 16 s d) {plan : Bytes} {at : ℕ} {P : SelectorAt plan at} {m : ℕ} (Γ : Fields) {n : Bytes}
+    {depth : ℕ} {out : Bytes} {k : ℕ} {o : Bytes} where
+  pub cast-infers : (S : CastAt plan at P m) → typeOf Γ (S .input .tree) ≡ gives (column n (dtypeOf (T .tree))) → {q : Inferred} {c : CastOption}
+      {b : Bool} → c ≡ S .option .option
+      → b ≡ castFits (dtypeOf (T .tree)) (dtypeOf (S .type .tree)) c → b ≡ true → CopiedIs (dtypeOf (S .type .tree)) depth out k q o → depth ≤ 16 →
+      InferredIs (typeOf Γ (P .tree)) depth out k q o
   cast-infers S e p f g C h =
       let u = dtypeOf (S .type .tree) in
       let fits : castFits (dtypeOf (T .tree)) u (S .option .option) ≡ true = ap (λ (c : CastOption). castFits (dtypeOf (T .tree)) u c) (sym p) ∙ sym f ∙ g in
       copied-infers C (λ w. ap (λ (x : Selector). typeOf Γ x) (S .is) ∙ cast-gives Γ (S .input .tree) e u (S .option .option) fits w) h
 
-  pub rename-infers : (S : RenameAt plan at P m) → typeOf Γ (S .input .tree) ≡ gives (column n (dtypeOf (T .tree))) → {q : Inferred} → CopiedIs (dtypeOf (T .tree)) depth out k q o → depth ≤ 16
+  pub rename-infers : (S : RenameAt plan at P m) → typeOf Γ (S .input .tree) ≡ gives (column n (dtypeOf (T .tree))) → {q : Inferred} → CopiedIs
+      (dtypeOf (T .tree)) depth out k q o → depth ≤ 16
       → InferredIs (typeOf Γ (P .tree)) depth out k q o
   rename-infers S e C h = copied-infers C (λ w. ap (λ (x : Selector). typeOf Γ x) (S .is) ∙ rename-gives Γ (S .input .tree) e (S .name .bytes) w) h
 
   module _ {r q : Inferred} {o′ : Bytes} (h : depth ≤ 15) where
-    pub list-infers : (S : ListAt plan at P m) {x : ℕ} (I : ListIn v s d T x) → typeOf Γ (S .input .tree) ≡ gives (column n (dtypeOf (T .tree))) → Fills (kindForm aList) out k o
-        → InferredIs (typeOf (elementOf (dtypeOf (I .type .tree))) (S .element .tree)) depth o (k + 1) r o′ → q ≡ behindOf 1 r → InferredIs (typeOf Γ (P .tree)) (depth + 1) out k q o′
+    pub list-infers : (S : ListAt plan at P m) {x : ℕ} (I : ListIn v s d T x) → typeOf Γ (S .input .tree) ≡ gives (column n (dtypeOf (T .tree))) → Fills
+        (kindForm aList) out k o
+        → InferredIs (typeOf (elementOf (dtypeOf (I .type .tree))) (S .element .tree)) depth o (k + 1) r o′ → q ≡ behindOf 1 r → InferredIs
+        (typeOf Γ (P .tree)) (depth + 1) out k q o′
     list-infers S I e F R g = behind-split (λ (x : Inferred). InferredIs (typeOf Γ (P .tree)) (depth + 1) out k x o′) 1 r g inferred-none (λ len f l.
         let E = inferred-to R f in
         let W = list-writes F (E .writes) l in
@@ -167,8 +180,10 @@ module _ {v : Edition} {s : Bytes} {d : ℕ} (T : TypeAt v 16 s d) {plan : Bytes
           };
         })
 
-    pub array-infers : (S : ArrayAt plan at P m) {w x : ℕ} (I : ArrayIn v s d T w x) → w < 4294967296 → typeOf Γ (S .input .tree) ≡ gives (column n (dtypeOf (T .tree))) → Fills (kindForm (anArray w)) out k o
-        → InferredIs (typeOf (elementOf (dtypeOf (I .type .tree))) (S .element .tree)) depth o (k + 5) r o′ → q ≡ behindOf 5 r → InferredIs (typeOf Γ (P .tree)) (depth + 1) out k q o′
+    pub array-infers : (S : ArrayAt plan at P m) {w x : ℕ} (I : ArrayIn v s d T w x) → w < 4294967296 → typeOf Γ (S .input .tree) ≡ gives
+        (column n (dtypeOf (T .tree))) → Fills (kindForm (anArray w)) out k o
+        → InferredIs (typeOf (elementOf (dtypeOf (I .type .tree))) (S .element .tree)) depth o (k + 5) r o′ → q ≡ behindOf 5 r → InferredIs
+        (typeOf Γ (P .tree)) (depth + 1) out k q o′
     array-infers S {w} I b e F R g = behind-split (λ (x : Inferred). InferredIs (typeOf Γ (P .tree)) (depth + 1) out k x o′) 5 r g inferred-none (λ len f l.
         let E = inferred-to R f in
         let W = array-writes F (E .writes) b l in
@@ -181,9 +196,11 @@ module _ {v : Edition} {s : Bytes} {d : ℕ} (T : TypeAt v 16 s d) {plan : Bytes
           };
         })
 
-    pub struct-infers : (S : StructAt plan at P m) {i x : ℕ} (I : StructIn v s d T i x) {w : StructFields} → CountedIs plan (S .input .end) (S .fields) w → w .count < 65536
+    pub struct-infers : (S : StructAt plan at P m) {i x : ℕ} (I : StructIn v s d T i x) {w : StructFields} → CountedIs plan (S .input .end) (S .fields)
+        w → w .count < 65536
         → typeOf Γ (S .input .tree) ≡ gives (column n (dtypeOf (T .tree))) → Fills (kindForm (aStruct (w .count))) out k o
-        → FieldsIs (typesOf (fieldsOf (I .columns .columns)) (S .fields .selectors .trees)) (w .count) depth o (k + 3) r o′ → q ≡ behindOf 3 r → InferredIs (typeOf Γ (P .tree)) (depth + 1) out k q o′
+        → FieldsIs (typesOf (fieldsOf (I .columns .columns)) (S .fields .selectors .trees)) (w .count) depth o (k + 3) r o′ → q ≡ behindOf 3 r →
+        InferredIs (typeOf Γ (P .tree)) (depth + 1) out k q o′
     struct-infers S I C b e F R g = behind-split (λ (x : Inferred). InferredIs (typeOf Γ (P .tree)) (depth + 1) out k x o′) 3 r g inferred-none (λ len f l.
         let E = fields-to R f in
         let W = struct-writes F (E .writes) (E .counted) b l in
@@ -191,29 +208,35 @@ module _ {v : Edition} {s : Bytes} {d : ℕ} (T : TypeAt v 16 s d) {plan : Bytes
           parts = record {
             name = n;
             type = struct (E .fields);
-            typed = ap (λ (x : Selector). typeOf Γ x) (S .is) ∙ struct-gives Γ (S .input .tree) e (S .fields .selectors .trees) (I .is) (E .typed) (limits W (omega arith));
+            typed = ap (λ (x : Selector). typeOf Γ x) (S .is) ∙ struct-gives Γ (S .input .tree) e (S .fields .selectors .trees) (I .is) (E .typed)
+                (limits W (omega arith));
             writes = W;
           };
         })
 
 -- ---- scopes inside
 
-abbrev pub list-scope : {v : Edition} {s : Bytes} {at : ℕ} {T : TypeAt v 16 s at} {x : Cursor} (I : ListIn v s at T (x .at)) {index : List ℕ} {stride : ℕ} → ScopeAt s v (Scope.Element x) index stride
+abbrev pub list-scope : {v : Edition} {s : Bytes} {at : ℕ} {T : TypeAt v 16 s at} {x : Cursor} (I : ListIn v s at T (x .at)) {index : List ℕ}
+    {stride : ℕ} → ScopeAt s v (Scope.Element x) index stride
 list-scope I = record { fields = elementOf (dtypeOf (I .type .tree)); parts = record { type = I .type; are = refl } }
 
-abbrev pub array-scope : {v : Edition} {s : Bytes} {at : ℕ} {T : TypeAt v 16 s at} {w : ℕ} {x : Cursor} (I : ArrayIn v s at T w (x .at)) {index : List ℕ} {stride : ℕ} → ScopeAt s v (Scope.Element x) index stride
+abbrev pub array-scope : {v : Edition} {s : Bytes} {at : ℕ} {T : TypeAt v 16 s at} {w : ℕ} {x : Cursor} (I : ArrayIn v s at T w (x .at))
+    {index : List ℕ} {stride : ℕ} → ScopeAt s v (Scope.Element x) index stride
 array-scope I = record { fields = elementOf (dtypeOf (I .type .tree)); parts = record { type = I .type; are = refl } }
 
-abbrev pub struct-scope : {v : Edition} {s : Bytes} {at : ℕ} {T : TypeAt v 16 s at} {n : ℕ} {x : Cursor} (I : StructIn v s at T n (x .at)) {index : List ℕ} {stride : ℕ} → Indexed v s n (x .at) stride index → 0 < stride
+abbrev pub struct-scope : {v : Edition} {s : Bytes} {at : ℕ} {T : TypeAt v 16 s at} {n : ℕ} {x : Cursor} (I : StructIn v s at T n (x .at))
+    {index : List ℕ} {stride : ℕ} → Indexed v s n (x .at) stride index → 0 < stride
     → ScopeAt s v (Scope.Columns n x) index stride
 struct-scope I X z = record { fields = fieldsOf (I .columns .columns); parts = record { columns = I .columns; are = refl; indexed = X; strides = z } }
 
-abbrev pub struct-selectors : {plan : Bytes} {at : ℕ} {P : SelectorAt plan at} {m : ℕ} (S : StructAt plan at P m) {w : StructFields} → CountedIs plan (S .input .end) (S .fields) w → SelectorsAt plan (w .count) (w .first .at)
+abbrev pub struct-selectors : {plan : Bytes} {at : ℕ} {P : SelectorAt plan at} {m : ℕ} (S : StructAt plan at P m) {w : StructFields} → CountedIs plan
+    (S .input .end) (S .fields) w → SelectorsAt plan (w .count) (w .first .at)
 struct-selectors S C = selectors-moved (sym (C .count)) (sym (C .first)) (S .fields .selectors)
 
 -- ---- a selector inside renames, and its column
 
-pub unrenamed-infers : {plan : Bytes} {at : ℕ} {P : SelectorAt plan at} {m : ℕ} (U : Unrenamed plan at P m) (Γ : Fields) {depth : ℕ} {out : Bytes} {k : ℕ} {q : Inferred} {o : Bytes}
+pub unrenamed-infers : {plan : Bytes} {at : ℕ} {P : SelectorAt plan at} {m : ℕ} (U : Unrenamed plan at P m) (Γ : Fields) {depth : ℕ} {out : Bytes}
+    {k : ℕ} {q : Inferred} {o : Bytes}
     → InferredIs (typeOf Γ (U .inner .tree)) depth out k q o → depth ≤ 16 → InferredIs (typeOf Γ (P .tree)) depth out k q o
 unrenamed-infers {P = P} U Γ {depth} {out} {k} {q} {o} I h = go q I
   where
@@ -224,12 +247,23 @@ unrenamed-infers {P = P} U Γ {depth} {out} {k} {q} {o} I h = go q I
     go Inferred.Unknown I = inferred-none
 
 -- the type that a transform's input takes
-pub input-takes : {plan : Bytes} {at : ℕ} {P : SelectorAt plan at} {m : ℕ} (J : InputAt plan at P m) (Γ : Fields) {r : Result Column} → typeOf Γ (J .input .tree) ≡ r → typeOf Γ (inputOf (P .tree)) ≡ r
+pub input-takes : {plan : Bytes} {at : ℕ} {P : SelectorAt plan at} {m : ℕ} (J : InputAt plan at P m) (Γ : Fields) {r : Result Column} → typeOf Γ
+    (J .input .tree) ≡ r → typeOf Γ (inputOf (P .tree)) ≡ r
 input-takes J Γ e = ap (λ (x : Selector). typeOf Γ x) (sym (J .is)) ∙ e
 
-pub column-infers : {s plan : Bytes} {r : Result Column} {n : Name} (N : NamedTo s plan r n) {depth : ℕ} {out : Bytes} {k at : ℕ} {o : Bytes} {p q : Inferred} {o′ : Bytes} → (at ≡ k + length (textBytes (N .name))) × Fills (textBytes (N .name)) out k o
+pub column-infers : {s plan : Bytes} {r : Result Column} {n : Name} (N : NamedTo s plan r n) {depth : ℕ} {out : Bytes} {k at : ℕ} {o : Bytes}
+    {p q : Inferred} {o′ : Bytes} → (at ≡ k + length (textBytes (N .name))) × Fills (textBytes (N .name)) out k o
     → InferredIs r depth o at p o′ → q ≡ behindOf (at - k) p → ColumnIs r depth out k q o′
-column-infers {r = r} N {depth} {out} {k} {at} {o} {p} {q} {o′} (a, F) I g = behind-split (λ (x : Inferred). ColumnIs r depth out k x o′) (at - k) p g column-none (λ len f l.
+column-infers {r = r} N {depth} {out} {k} {at} {o} {p} {q} {o′} (a, F) I g = behind-split (λ (x : Inferred). ColumnIs r depth out k x o′) (at - k) p g
+    column-none (λ len f l.
     let E = inferred-to I f in
     let e : E .name ≡ N .name = N .is (column (E .name) (E .type)) (E .typed) in
-    record { parts = record { name = N .name; type = E .type; typed = E .typed ∙ ap (λ (x : Bytes). gives (column x (E .type))) e; writes = column-writes F a (E .writes) (N .short) } })
+    record {
+      parts = record {
+        name = N .name;
+        type = E .type;
+        typed = E .typed ∙ ap (λ (x : Bytes). gives (column x (E .type))) e;
+        writes =
+            column-writes F a (E .writes) (N .short);
+      };
+    })

@@ -1,3 +1,1 @@
-pub mod Naming
-pub mod Writing
-pub mod Typed
+pub mod code

@@ -8,7 +8,7 @@ use lib.Seq.{length-take-le}
 use Rattle.layout.specs.Bytes.{Bytes}
 use Rattle.layout.specs.declared.edition.Edition.{Edition}
 use Rattle.layout.specs.declared.matching.Matching.{Matching}
-use Rattle.labels.specs.Table.{Table}
+use Rattle.labels.specs.code.LabelTable.{Table}
 
 all-front : (ys zs : List ℕ) → take (length ys) (ys ++ zs) ≡ ys
 all-front [] zs = refl
@@ -22,7 +22,8 @@ pub front-long : {k : ℕ} (ys zs : List ℕ) → length ys ≡ k → k ≤ leng
 front-long ys zs e = let z = length-append ys zs in omega arith
 
 -- a table that stands at the front of an arena, after what is behind it was lent
-pub table-kept : {v : Edition} {how : Matching} {d : ℕ} {s : Bytes} {n from k : ℕ} (xs ys : List ℕ) → k ≤ length xs → take k ys ≡ take k xs → (0 < k → Table v how d s n from (take k xs))
+pub table-kept : {v : Edition} {how : Matching} {d : ℕ} {s : Bytes} {n from k : ℕ} (xs ys : List ℕ) → k ≤ length xs → take k ys ≡ take k xs →
+    (0 < k → Table v how d s n from (take k xs))
     → 0 < length (take k ys) → Table v how d s n from (take k ys)
 table-kept {v} {how} {d} {s} {n} {from} {k} xs ys le e T lt =
     let z : length (take k ys) ≡ k = ap (λ (l : List ℕ). length l) e ∙ length-take-le k xs le in

@@ -13,9 +13,9 @@ use Rattle.layout.specs.Bytes.{Bytes}
 use Rattle.layout.specs.Parser.{ok, choose}
 use Rattle.layout.specs.Tree.{Label, ColumnType, Columns, cnil, ccons, countColumns}
 use Rattle.layout.specs.Layout.{label, columns as columnsOf, type}
-use Rattle.layout.specs.Answers.{labelRes, labelAt, movedOf}
-use Rattle.layout.specs.Stands.{ColumnsAt}
-use Rattle.layout.specs.Find.{Lookup, absent, at as found, findFrom}
+use Rattle.layout.specs.code.Answers.{labelRes, labelAt, movedOf}
+use Rattle.layout.specs.code.Stands.{ColumnsAt}
+use Rattle.layout.specs.Find.{Lookup, absent, present, findFrom}
 use Rattle.layout.specs.declared.columns.Label.{Label as LabelSpan}
 use Rattle.layout.specs.declared.columns.Labelled.{Labelled}
 use Rattle.layout.specs.declared.columns.Siblings.the-variants.{Free}
@@ -25,7 +25,7 @@ use Rattle.layout.specs.declared.edition.Edition.{Edition}
 use Rattle.layout.specs.declared.matching.Matching.{Matching}
 use Rattle.layout.proofs.View.{FirstAt, first-at, type-ends}
 use Rattle.layout.proofs.Top.{columns-count}
-use Rattle.labels.specs.Table.{most, none, node, slotOf, firstOf, after, Leads, Begins, Cleared, Places, Noted, Chains, Table}
+use Rattle.labels.specs.code.LabelTable.{most, none, node, slotOf, firstOf, after, Leads, Begins, Cleared, Places, Noted, Chains, Table}
 use Rattle.labels.proofs.After.{after-next, after-counts, after-all}
 
 -- ---- the heads
@@ -49,12 +49,14 @@ cleared-from e a = record { empty = λ k le lt. a .empty k (omega arith) lt }
 -- ---- the places
 
 -- as many columns, under another name of their number and place
-renamed : {v : Edition} {d : ℕ} {s : Bytes} {n m at to : ℕ} (P : ColumnsAt v d s n at) → n ≡ m → at ≡ to → columnsOf v Free (type v Free d) m [] s to ≡ ok (P .columns) (P .end)
+renamed : {v : Edition} {d : ℕ} {s : Bytes} {n m at to : ℕ} (P : ColumnsAt v d s n at) → n ≡ m → at ≡ to → columnsOf v Free (type v Free d) m [] s to ≡
+    ok (P .columns) (P .end)
 renamed {v} {d} {s} {n} {m} {at} {to} P e g =
     sym (ap (λ (k : ℕ). columnsOf v Free (type v Free d) k [] s at) e ∙ ap (λ (o : ℕ). columnsOf v Free (type v Free d) m [] s o) g) ∙ P .reads
 
 -- what the label there says of the columns that begin at a place
-pub begun : {v : Edition} {d : ℕ} {s : Bytes} {n : ℕ} {cs : Columns} {i o : ℕ} (B : Begins v d s n cs i o) → i < n → {p : Labelled} → labelRes s p ≡ label v s o → {l : LabelSpan} {c : Cursor}
+pub begun : {v : Edition} {d : ℕ} {s : Bytes} {n : ℕ} {cs : Columns} {i o : ℕ} (B : Begins v d s n cs i o) → i < n → {p : Labelled} → labelRes s p ≡
+    label v s o → {l : LabelSpan} {c : Cursor}
     → p ≡ Labelled.Is l c → FirstAt v d s (n - i) o (B .rest) (labelAt s l) (c .at)
 begun B lt g h = first-at (B .rest) (λ z. omega arith) g h
 
@@ -84,10 +86,14 @@ module _ {v : Edition} {d : ℕ} {s : Bytes} {n from : ℕ} {table : List ℕ} w
     noting-end le = record { cleared = a .cleared; places = λ P. record { begins = λ j lt. a .here P .places .begins j (omega arith) } }
 
     pub noting-more : node n ≤ length table → i < n → {p : Labelled} → labelRes s p ≡ label v s at → {l : LabelSpan} {c : Cursor} → p ≡ Labelled.Is l c
-        → {q : Moved} {b : Cursor} → q ≡ movedOf (type v Free d s (c .at)) → q ≡ Moved.To b → {k : ℕ} → k ≡ node i + 1 → Noting v d s n from (i + 1) (b .at) (set table k at)
+        → {q : Moved} {b : Cursor} → q ≡ movedOf (type v Free d s (c .at)) → q ≡ Moved.To b → {k : ℕ} → k ≡ node i + 1 → Noting v d s n from (i + 1)
+        (b .at) (set table k at)
     noting-more long lt {p} g {l} {c} h {q} {b} x y {k} kk = subst (λ (o : ℕ). Noting v d s n from (i + 1) (b .at) (set table o at)) (sym kk) (record {
       within = omega arith;
-      cleared = record { empty = λ k le m. getD-set-other table (node i + 1) k at 0 (λ z. omega arith) ∙ a .cleared .empty k le (let z = length-set table (node i + 1) at in omega arith) };
+      cleared = record {
+        empty = λ k le m. getD-set-other table (node i + 1) k at 0 (λ z. omega arith) ∙ a .cleared .empty k le
+            (let z = length-set table (node i + 1) at in omega arith);
+      };
       here = here;
     })
       where
@@ -96,10 +102,12 @@ module _ {v : Edition} {d : ℕ} {s : Bytes} {n from : ℕ} {table : List ℕ} w
 
         place : (P : ColumnsAt v d s n from) (j : ℕ) → j < i + 1 → Dec (j ≡ i) → Begins v d s n (P .columns) j (getD (set table (node i + 1) at) (node j + 1) 0)
         place P j m (yes e) =
-            let w : getD (set table (node i + 1) at) (node j + 1) 0 ≡ at = ap (λ (k : ℕ). getD (set table (node i + 1) at) (node k + 1) 0) e ∙ getD-set-same table (node i + 1) at 0 (omega arith) in
+            let w : getD (set table (node i + 1) at) (node j + 1) 0 ≡ at = ap (λ (k : ℕ). getD (set table (node i + 1) at) (node k + 1) 0) e ∙
+            getD-set-same table (node i + 1) at 0 (omega arith) in
             subst (λ (o : ℕ). Begins v d s n (P .columns) j o) (sym w) (subst (λ (k : ℕ). Begins v d s n (P .columns) k at) (sym e) (a .here P .next))
         place P j m (no e) =
-            subst (λ (o : ℕ). Begins v d s n (P .columns) j o) (sym (getD-set-other table (node i + 1) (node j + 1) at 0 (λ z. e (omega arith)))) (a .here P .places .begins j (omega arith))
+            subst (λ (o : ℕ). Begins v d s n (P .columns) j o) (sym (getD-set-other table (node i + 1) (node j + 1) at 0 (λ z. e (omega arith))))
+            (a .here P .places .begins j (omega arith))
 
         here : (P : ColumnsAt v d s n from) → NotingAt v d s n (i + 1) (b .at) (P .columns) (set table (node i + 1) at)
         here P = record {
@@ -138,7 +146,8 @@ module _ {v : Edition} {how : Matching} {d : ℕ} {s : Bytes} {heads n : ℕ} {t
     here = λ cs e P. record {
       places = P;
       chains = record {
-        first = λ h lt. leads-to {b = firstOf how heads h n (after n cs)} (sym (C .empty (node n + h) (omega arith) (omega arith))) (sym (ap (firstOf how heads h n) (after-all n cs e))) (let z : Leads none absent = refl in z);
+        first = λ h lt. leads-to {b = firstOf how heads h n (after n cs)} (sym (C .empty (node n + h) (omega arith) (omega arith)))
+            (sym (ap (firstOf how heads h n) (after-all n cs e))) (let z : Leads none absent = refl in z);
         next = λ j le l t r q. absurd (let m = after-counts j cs q in omega arith);
       };
     };
@@ -146,7 +155,8 @@ module _ {v : Edition} {how : Matching} {d : ℕ} {s : Bytes} {heads n : ℕ} {t
 
   -- the column j, which comes before those from i on
   module _ {old : List ℕ} {i : ℕ} (j : ℕ) (a : Linking v how d s heads n i old table) (e : i ≡ j + 1) (long : node n + heads ≡ length table)
-      {p : Labelled} {o : ℕ} (told : labelRes s p ≡ label v s o) (here : o ≡ getD table (node j + 1) 0) {m : LabelSpan} {c : Cursor} (f : p ≡ Labelled.Is m c) {h : ℕ} (q : h ≡ slotOf how heads (labelAt s m)) (lt : h < heads) {g : ℕ} (hg : g ≡ node n + h) where
+      {p : Labelled} {o : ℕ} (told : labelRes s p ≡ label v s o) (here : o ≡ getD table (node j + 1) 0) {m : LabelSpan} {c : Cursor}
+      (f : p ≡ Labelled.Is m c) {h : ℕ} (q : h ≡ slotOf how heads (labelAt s m)) (lt : h < heads) {g : ℕ} (hg : g ≡ node n + h) where
     once : List ℕ
     once = set table (node j) (getD table g 0)
 
@@ -185,11 +195,12 @@ module _ {v : Edition} {how : Matching} {d : ℕ} {s : Bytes} {heads n : ℕ} {t
       behind = ap (λ (k : ℕ). after k cs) e ∙ after-next j cs split
 
       step : (k : ℕ) {b : Bool} → eqb (slotOf how heads (labelAt s m)) k ≡ b
-          → firstOf how heads k j (after j cs) ≡ choose b (found (record { 0 = j }) (labelAt s m) (F .head .tree)) (firstOf how heads k (j + 1) (F .tail .columns))
+          → firstOf how heads k j (after j cs) ≡ choose b (present (record { 0 = j }) (labelAt s m) (F .head .tree))
+          (firstOf how heads k (j + 1) (F .tail .columns))
       unfolding findFrom
       step k y =
           ap (firstOf how heads k j) split
-          ∙ ap (λ (b : Bool). choose b (found (record { 0 = j }) (labelAt s m) (F .head .tree)) (firstOf how heads k (j + 1) (F .tail .columns))) y
+          ∙ ap (λ (b : Bool). choose b (present (record { 0 = j }) (labelAt s m) (F .head .tree)) (firstOf how heads k (j + 1) (F .tail .columns))) y
 
       -- what led to the chain's first from i on
       led : (k : ℕ) → k < heads → Leads (getD table (node n + k) 0) (firstOf how heads k (j + 1) (F .tail .columns))
@@ -200,22 +211,27 @@ module _ {v : Edition} {how : Matching} {d : ℕ} {s : Bytes} {heads n : ℕ} {t
       unfolding choose
       head-of k y (yes z) =
           let x = step k (eq-eqb (slotOf how heads (labelAt s m)) k (sym (z ∙ q))) in
-          leads-to (sym (ap (λ (b : ℕ). getD twice b 0) (ap (λ (b : ℕ). node n + b) z ∙ sym hg) ∙ at-head)) (sym x) (let o : Leads (node j) (found (record { 0 = j }) (labelAt s m) (F .head .tree)) = refl in o)
+          leads-to (sym (ap (λ (b : ℕ). getD twice b 0) (ap (λ (b : ℕ). node n + b) z ∙ sym hg) ∙ at-head)) (sym x)
+          (let o : Leads (node j) (present (record { 0 = j }) (labelAt s m) (F .head .tree)) = refl in o)
       head-of k y (no z) =
           let x = step k (ne-eqb (slotOf how heads (labelAt s m)) k (λ o. z (sym (q ∙ o)))) in
           leads-to (sym (elsewhere (node n + k) (λ o. z (omega arith)) (λ o. let le = a .within in omega arith))) (sym x) (led k y)
 
-      node-of : (k : ℕ) → j ≤ k → Dec (k ≡ j) → (l : Label) (t : ColumnType) (r : Columns) → after k cs ≡ ccons l t r → Leads (getD twice (node k) 0) (firstOf how heads (slotOf how heads l) (k + 1) r)
+      node-of : (k : ℕ) → j ≤ k → Dec (k ≡ j) → (l : Label) (t : ColumnType) (r : Columns) → after k cs ≡ ccons l t r → Leads (getD twice (node k) 0)
+          (firstOf how heads (slotOf how heads l) (k + 1) r)
       unfolding L
       node-of k le (yes z) l t r o =
           let x : ccons (labelAt s m) (F .head .tree) (F .tail .columns) ≡ ccons l t r = sym split ∙ ap (λ (b : ℕ). after b cs) (sym z) ∙ o in
           let y : labelAt s m ≡ l = cc in
           let u : F .tail .columns ≡ r = cc in
           leads-to (sym (ap (λ (b : ℕ). getD twice (node b) 0) z ∙ at-node))
-          (ap (λ (b : ℕ). firstOf how heads b (j + 1) (F .tail .columns)) (q ∙ ap (slotOf how heads) y) ∙ ap (λ (b : ℕ). firstOf how heads (slotOf how heads l) (b + 1) (F .tail .columns)) (sym z) ∙ ap (firstOf how heads (slotOf how heads l) (k + 1)) u)
+          (ap (λ (b : ℕ). firstOf how heads b (j + 1) (F .tail .columns)) (q ∙ ap (slotOf how heads) y) ∙ ap
+          (λ (b : ℕ). firstOf how heads (slotOf how heads l) (b + 1) (F .tail .columns)) (sym z) ∙ ap
+          (firstOf how heads (slotOf how heads l) (k + 1)) u)
           (leads-to {b = firstOf how heads h (j + 1) (F .tail .columns)} (ap (λ (b : ℕ). getD table b 0) (sym hg)) refl (led h lt))
       node-of k le (no z) l t r o =
-          leads-to {a = firstOf how heads (slotOf how heads l) (k + 1) r} (sym (elsewhere (node k) (λ x. let y = after-counts k cs o in omega arith) (λ x. z (omega arith)))) refl (L .chains .next k (omega arith) l t r o)
+          leads-to {a = firstOf how heads (slotOf how heads l) (k + 1) r} (sym (elsewhere (node k) (λ x. let y = after-counts k cs o in omega arith)
+          (λ x. z (omega arith)))) refl (L .chains .next k (omega arith) l t r o)
 
       place-of : (k : ℕ) → k < n → Begins v d s n cs k (getD twice (node k + 1) 0)
       unfolding L
@@ -231,11 +247,13 @@ module _ {v : Edition} {how : Matching} {d : ℕ} {s : Bytes} {heads n : ℕ} {t
       };
     }
 
-  pub linking-end : {old : List ℕ} {i from : ℕ} → Linking v how d s heads n i old table → i ≤ 0 → n ≤ most → 0 < heads → node n + heads ≡ length table → Noted v d s n from old → Table v how d s n from table
+  pub linking-end : {old : List ℕ} {i from : ℕ} → Linking v how d s heads n i old table → i ≤ 0 → n ≤ most → 0 < heads → node n + heads ≡ length table →
+      Noted v d s n from old → Table v how d s n from table
   linking-end {i = i} a le few some long N = record {
     few = few;
     long = omega arith;
     places = λ P. a .here (P .columns) (count-is P) (N .places P) .places;
     chains = λ P q e. subst (λ (k : ℕ). Chains how k n 0 (P .columns) table) (let z : heads ≡ q = omega arith in z)
-        (subst (λ (k : ℕ). Chains how heads n k (P .columns) table) (let z : i ≡ 0 = omega arith in z) (a .here (P .columns) (count-is P) (N .places P) .chains));
+        (subst (λ (k : ℕ). Chains how heads n k (P .columns) table) (let z : i ≡ 0 = omega arith in z)
+        (a .here (P .columns) (count-is P) (N .places P) .chains));
   }

@@ -11,10 +11,10 @@ use borrow.Author.Tests.{eq-eqb, ne-eqb}
 use Rattle.layout.specs.Bytes.{Bytes, sameBytes}
 use Rattle.layout.specs.Parser.{ok, choose}
 use Rattle.layout.specs.Tree.{Label, ColumnType, Columns, cnil, ccons}
-use Rattle.layout.specs.Layout.{label, repeats, columns, type}
-use Rattle.layout.specs.Answers.{labelRes, labelAt, labelIn, spanAt, movedOf}
-use Rattle.layout.specs.Stands.{TypeAt, ColumnsAt}
-use Rattle.layout.specs.Find.{Lookup, absent, at, findFrom, columnNamed, columnOfId, columnAt, counterpart, matchRule, FoundAt, Finds, wantedBy}
+use Rattle.layout.specs.Layout.{label, sameLabel, columns, type}
+use Rattle.layout.specs.code.Answers.{labelRes, labelAt, labelIn, spanAt, movedOf}
+use Rattle.layout.specs.code.Stands.{TypeAt, ColumnsAt}
+use Rattle.layout.specs.Find.{Lookup, absent, present, findFrom, columnNamed, columnOfId, columnAt, counterpart, matchRule, FoundAt, Finds, wantedBy}
 use Rattle.layout.specs.declared.bytes.Span.{Span}
 use Rattle.layout.specs.declared.columns.Position.{Position}
 use Rattle.layout.specs.declared.columns.Label.{Label as LabelSpan}
@@ -39,7 +39,8 @@ pub record Seeking (v : Edition) (d : ℕ) (s : Bytes) (f : ℕ → Label → Bo
   pub is : findFrom f 0 (whole .columns) ≡ findFrom f i (rest .columns)
 
 -- as many columns, under another name of their number and place
-renamed : {v : Edition} {d : ℕ} {s : Bytes} {n m at to : ℕ} (P : ColumnsAt v d s n at) → n ≡ m → at ≡ to → columns v Free (type v Free d) m [] s to ≡ ok (P .columns) (P .end)
+renamed : {v : Edition} {d : ℕ} {s : Bytes} {n m at to : ℕ} (P : ColumnsAt v d s n at) → n ≡ m → at ≡ to → columns v Free (type v Free d) m [] s to ≡ ok
+    (P .columns) (P .end)
 renamed {v} {d} {s} {n} {m} {at} {to} P e g =
     sym (ap (λ (k : ℕ). columns v Free (type v Free d) k [] s at) e ∙ ap (λ (o : ℕ). columns v Free (type v Free d) m [] s o) g) ∙ P .reads
 
@@ -74,9 +75,11 @@ module _ {v : Edition} {d : ℕ} {s : Bytes} (f : ℕ → Label → Bool) {n fro
         first = first-at (a .rest) (λ z. omega arith) g h
 
         step : {b : Bool} → f i (labelAt s l) ≡ b
-            → findFrom f i (a .rest .columns) ≡ choose b (at (record { 0 = i }) (labelAt s l) (first .head .tree)) (findFrom f (i + 1) (first .tail .columns))
+            → findFrom f i (a .rest .columns) ≡ choose b (present (record { 0 = i }) (labelAt s l) (first .head .tree))
+            (findFrom f (i + 1) (first .tail .columns))
         unfolding findFrom
-        step {b} e = ap (findFrom f i) (first .is) ∙ ap (λ (b : Bool). choose b (at (record { 0 = i }) (labelAt s l) (first .head .tree)) (findFrom f (i + 1) (first .tail .columns))) e
+        step {b} e = ap (findFrom f i) (first .is) ∙ ap (λ (b : Bool). choose b (present (record { 0 = i }) (labelAt s l) (first .head .tree))
+            (findFrom f (i + 1) (first .tail .columns))) e
 
         pub seeking-found : {b : Bool} → labelIn s p → b ≡ f i (labelAt s l) → b ≡ true
             → (P : ColumnsAt v d s n from) → Finds v d s (findFrom f 0 (P .columns)) (Found.At (record { 0 = i }) l c)
@@ -134,7 +137,8 @@ after {v} {d} {s} f (suc k) j {n} {here} P le un =
         reads = renamed (A .rest) (let e : n - 1 - k ≡ n - suc k = omega arith in e) refl;
       };
       is = ap (findFrom f j) (H .first .is)
-          ∙ ap (λ (b : Bool). choose b (at (record { 0 = j }) (H .label) (H .first .head .tree)) (findFrom f (j + 1) (H .first .tail .columns))) (un j (H .label) (omega arith))
+          ∙ ap (λ (b : Bool). choose b (present (record { 0 = j }) (H .label) (H .first .head .tree)) (findFrom f (j + 1) (H .first .tail .columns)))
+          (un j (H .label) (omega arith))
           ∙ A .is ∙ ap (λ (i : ℕ). findFrom f i (A .rest .columns)) (let e : j + 1 + k ≡ j + suc k = omega arith in e);
     }
 
@@ -147,7 +151,13 @@ module _ {v : Edition} {d : ℕ} {s : Bytes} {n from : ℕ} (k : Position) (P : 
   position-past h =
       let f : ℕ → Label → Bool = λ i l. eqb i (k .0) in
       let A = after f n 0 P (omega arith) (before (k .0) h) in
-      seeking-none f (record { whole = P; within = omega arith; rest = A .rest; is = A .is ∙ ap (λ (i : ℕ). findFrom f i (A .rest .columns)) (let e : 0 + n ≡ n = omega arith in e) }) (omega arith)
+      seeking-none f (record {
+        whole = P;
+        within = omega arith;
+        rest = A .rest;
+        is = A .is ∙ ap (λ (i : ℕ). findFrom f i (A .rest .columns))
+            (let e : 0 + n ≡ n = omega arith in e);
+      }) (omega arith)
 
   module _ (lt : k .0 < n) {r : Moved} (e : r ≡ movedOf (columns v Free (type v Free d) (k .0) [] s from)) where
     pub position-stuck : {B : Type 0} {m : ℕ} → r ≡ Moved.Refused m → B
@@ -180,14 +190,15 @@ module _ {v : Edition} {d : ℕ} {s : Bytes} {n from : ℕ} (k : Position) (P : 
 
 -- the tests of a column
 module _ (s name : Bytes) (l : LabelSpan) where
-  pub wanted-name : {w : Wanted} {b : Bool} → w ≡ Wanted.Name → b ≡ sameBytes (take (l .name .start + l .name .len - l .name .start) (drop (l .name .start) s)) name
+  pub wanted-name : {w : Wanted} {b : Bool} → w ≡ Wanted.Name → b ≡ sameBytes (take (l .name .start + l .name .len - l .name .start)
+      (drop (l .name .start) s)) name
       → b ≡ wantedBy w name (labelAt s l)
   wanted-name h e = rw h (rw (add-sub-cancel-left (l .name .start) (l .name .len)) at e)
 
 -- ---- a counterpart
 
 -- it is the first column whose label matches
-pub counterpart-first : (how : Matching) (w : Label) (cs : Columns) → counterpart how w cs ≡ findFrom (λ i l. repeats (matchRule how) l w) 0 cs
+pub counterpart-first : (how : Matching) (w : Label) (cs : Columns) → counterpart how w cs ≡ findFrom (λ i l. sameLabel (matchRule how) l w) 0 cs
 counterpart-first ByName w cs = refl
 counterpart-first ByNumber w cs = refl
 

@@ -5,7 +5,8 @@ use mathlib.Core.List.{List, [], _∷_, _++_}
 use mathlib.Core.Bool.{Bool, true, false, not}
 use Rattle.layout.specs.Parser.{Res, refuse, ok, next, choose, Parser, test}
 use Rattle.layout.specs.Tree.{Label, ColumnType, ccons, cstruct}
-use Rattle.layout.specs.Layout.{Kind, aLeaf, aStruct, aList, anArray, label, kind, body, structType, listType, arrayType, elementLabel, columns, type, repeatsAny}
+use Rattle.layout.specs.Layout.{Head, aLeaf, aStruct, aList, anArray, label, kind, body, structType, listType, arrayType, elementLabel, columns, type}
+use Rattle.layout.specs.Layout.{repeatsAny}
 use Rattle.layout.specs.declared.edition.Edition.{Edition}
 use Rattle.layout.specs.declared.columns.Siblings.{Siblings}
 use Rattle.layout.proofs.Ways.{clash}
@@ -45,7 +46,7 @@ module _ (v : Edition) (r : Siblings) (s : List ℕ) where
         next-within _ _ _ _ (same (label v s at)) (λ l i. next-within _ _ _ _ (w i) (λ t j.
         next-within _ _ _ _ (test-free r l earlier s j) (λ u k. next-within _ _ _ _ (columns-free n (earlier ++ (l ∷ [])) k) (λ cs o. same _))))
 
-    body-free : (k : Kind) (at : ℕ) → Within (body v r p k s at) (body v Siblings.Free q k s at)
+    body-free : (k : Head) (at : ℕ) → Within (body v r p k s at) (body v Siblings.Free q k s at)
     unfolding body structType listType arrayType
     body-free (aLeaf l) at = same _
     body-free (aStruct n) at = next-within _ _ _ _ (columns-free n [] at) (λ cs i. same _)

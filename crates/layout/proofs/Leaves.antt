@@ -14,7 +14,7 @@ use Rattle.numeric.specs.declared.floats.Format.the-variants.{Binary16, Binary3
 use Rattle.layout.specs.Bytes.{Bytes}
 use Rattle.layout.specs.Tree.{LeafType, leafType, leafOf, zoneOf, null, boolean, integer, float, date, datetime, string, binary, categorical, decimal}
 use Rattle.layout.specs.Parser.{ok, choose}
-use Rattle.layout.specs.Layout.{aLeaf, plainLeaf, leafKind, kindOf, integerCode, floatCode}
+use Rattle.layout.specs.Layout.{aLeaf, plainLeaf, leafHead, kindOf, integerCode, floatCode}
 use Rattle.layout.specs.declared.leaf.Leaf.{Leaf}
 use Rattle.layout.specs.declared.types.PlainLeaf.{PlainLeaf}
 use Rattle.layout.specs.declared.types.PlainLeaf.the-variants.{Known, Unknown}
@@ -79,6 +79,6 @@ pub other-code : (code n : ℕ) {k : Leaf} → plainLeaf n ≡ Unknown → plain
 other-code code n {k} e f = ne-eqb code n (λ h. let z : Unknown ≡ Known k = sym e ∙ ap plainLeaf (sym h) ∙ f in clash (cc))
 
 pub plain-kind : (code : ℕ) {k : Leaf} (s : Bytes) (at : ℕ) → plainLeaf code ≡ Known k → kindOf code s at ≡ ok (aLeaf (leafType k [])) at
-unfolding kindOf choose leafKind
+unfolding kindOf choose leafHead
 plain-kind code s at h =
     rw (other-code code 14 refl h, other-code code 18 refl h, other-code code 19 refl h, other-code code 20 refl h, other-code code 21 refl h, h)

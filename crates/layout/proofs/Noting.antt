@@ -15,11 +15,11 @@ use borrow.Author.Tests.{ltb-true, ltb-false, eqb-true, eq-eqb, ne-eqb, lt-ltb, 
 use Rattle.layout.specs.Bytes.{Bytes}
 use Rattle.layout.specs.Parser.{Res, refuse, ok, choose}
 use Rattle.layout.specs.Tree.{Label}
-use Rattle.layout.specs.Layout.{label, repeats}
-use Rattle.layout.specs.Answers.{labelAt, labelRes}
-use Rattle.layout.specs.Seen.{mixed, hashBytes, labelHash, far, firstSlot, slotAfter, slotAt, mayRepeat}
-use Rattle.layout.specs.Seen.{Meets, Empty, Searched, Keeps, Begins, Noted, Notes}
-use Rattle.layout.specs.Scan.{found, scan}
+use Rattle.layout.specs.Layout.{label, sameLabel}
+use Rattle.layout.specs.code.Answers.{labelAt, labelRes}
+use Rattle.layout.specs.code.Seen.{mixed, hashBytes, labelHash, far, firstSlot, slotAfter, slotAt, mayRepeat}
+use Rattle.layout.specs.code.Seen.{Meets, Empty, Searched, Keeps, Begins, Noted, Notes}
+use Rattle.layout.specs.code.Scan.{found, repeats}
 use Rattle.layout.specs.declared.edition.Edition.{Edition}
 use Rattle.layout.specs.declared.cursor.Cursor.{Cursor}
 use Rattle.layout.specs.declared.columns.Label.{Label as LabelSpan}
@@ -59,7 +59,7 @@ module _ (from : ℕ) (b : Bytes) where
     hashing-all le = rw (a .rest, drop-of-length-le b le)
 
 -- labels that are the same under a rule
-pub same-hash : (r : Siblings) (from : ℕ) (l k : Label) → repeats r l k ≡ true → labelHash r from l ≡ labelHash r from k
+pub same-hash : (r : Siblings) (from : ℕ) (l k : Label) → sameLabel r l k ≡ true → labelHash r from l ≡ labelHash r from k
 same-hash Siblings.Names from l k e = ap (hashBytes (from % 65536)) (same-bytes-eq (l .name) (k .name) e)
 same-hash Siblings.Ids from l k e = ap (mixed (mixed 0 (from % 65536))) (eqb-true (l .id .0) (k .id .0) e)
 same-hash Siblings.Free from l k e = clash (cc)
@@ -104,36 +104,37 @@ slot-round n first i le = choose-false (ltb i (n - first)) (first + i) (i - (n -
 module _ (v : Edition) (r : Siblings) (l : Label) (s : Bytes) (x : ℕ) where
   pub may-far : x ≡ far → true ≡ mayRepeat v r l s x
   unfolding mayRepeat
-  may-far e = choose-true (eqb x far) true (found (label v s x) (λ m e. repeats r l m)) (eq-eqb x far e) refl
+  may-far e = choose-true (eqb x far) true (found (label v s x) (λ m e. sameLabel r l m)) (eq-eqb x far e) refl
 
-  may-found : (x ≡ far → ⊥) → {b : Bool} → b ≡ found (label v s x) (λ m e. repeats r l m) → b ≡ mayRepeat v r l s x
+  may-found : (x ≡ far → ⊥) → {b : Bool} → b ≡ found (label v s x) (λ m e. sameLabel r l m) → b ≡ mayRepeat v r l s x
   unfolding mayRepeat
-  may-found e h = choose-false (eqb x far) true (found (label v s x) (λ m e. repeats r l m)) (ne-eqb x far e) h
+  may-found e h = choose-false (eqb x far) true (found (label v s x) (λ m e. sameLabel r l m)) (ne-eqb x far e) h
 
   pub may-label : (x ≡ far → ⊥) → {p : Labelled} {m : LabelSpan} {c : Cursor} {b : Bool} {at : ℕ} → at ≡ x → labelRes s p ≡ label v s at → p ≡ Labelled.Is m c
-      → b ≡ repeats r l (labelAt s m) → b ≡ mayRepeat v r l s x
+      → b ≡ sameLabel r l (labelAt s m) → b ≡ mayRepeat v r l s x
   may-label e {p} {m} {c} z f g h =
-      may-found e (h ∙ ap (λ (y : Res Label). found y (λ m e. repeats r l m)) (sym (ap (labelRes s) g) ∙ f ∙ ap (label v s) z))
+      may-found e (h ∙ ap (λ (y : Res Label). found y (λ m e. sameLabel r l m)) (sym (ap (labelRes s) g) ∙ f ∙ ap (label v s) z))
 
   pub may-none : (x ≡ far → ⊥) → {p : Labelled} {k at : ℕ} → at ≡ x → labelRes s p ≡ label v s at → p ≡ Labelled.Refused k → false ≡ mayRepeat v r l s x
-  may-none e z f g = may-found e (ap (λ (y : Res Label). found y (λ m e. repeats r l m)) (sym (ap (labelRes s) g) ∙ f ∙ ap (label v s) z))
+  may-none e z f g = may-found e (ap (λ (y : Res Label). found y (λ m e. sameLabel r l m)) (sym (ap (labelRes s) g) ∙ f ∙ ap (label v s) z))
 
-same-trans : (r : Siblings) (a b c : Label) → repeats r a b ≡ true → repeats r b c ≡ true → repeats r a c ≡ true
+same-trans : (r : Siblings) (a b c : Label) → sameLabel r a b ≡ true → sameLabel r b c ≡ true → sameLabel r a c ≡ true
 same-trans Siblings.Names a b c e f = rw (same-bytes-eq (a .name) (b .name) e) f
 same-trans Siblings.Ids a b c e f = rw (eqb-true (a .id .0) (b .id .0) e) f
 same-trans Siblings.Free a b c e f = clash (cc)
 
-found-as : (r : Siblings) (k l : Label) (y : Res Label) → repeats r k l ≡ true → found y (λ m e. repeats r l m) ≡ true → found y (λ m e. repeats r k m) ≡ true
+found-as : (r : Siblings) (k l : Label) (y : Res Label) → sameLabel r k l ≡ true → found y (λ m e. sameLabel r l m) ≡ true → found y
+    (λ m e. sameLabel r k m) ≡ true
 found-as r k l (refuse n) e f = let w : false ≡ true = f in clash (cc)
 found-as r k l (ok m o) e f = same-trans r k l m e f
 
 -- a label that repeats another
-may-as : (v : Edition) (r : Siblings) (k l : Label) (s : Bytes) (x : ℕ) → repeats r k l ≡ true → mayRepeat v r l s x ≡ true → mayRepeat v r k s x ≡ true
+may-as : (v : Edition) (r : Siblings) (k l : Label) (s : Bytes) (x : ℕ) → sameLabel r k l ≡ true → mayRepeat v r l s x ≡ true → mayRepeat v r k s x ≡ true
 unfolding mayRepeat choose
 may-as v r k l s x e f = go (eqb x far) refl f
   where
-    go : (b : Bool) → eqb x far ≡ b → choose b true (found (label v s x) (λ m e. repeats r l m)) ≡ true
-        → choose b true (found (label v s x) (λ m e. repeats r k m)) ≡ true
+    go : (b : Bool) → eqb x far ≡ b → choose b true (found (label v s x) (λ m e. sameLabel r l m)) ≡ true
+        → choose b true (found (label v s x) (λ m e. sameLabel r k m)) ≡ true
     go true q h = refl
     go false q h = found-as r k l (label v s x) e h
 
@@ -256,7 +257,7 @@ meets-kept {v} {r} {l} {s} {t} {u} {h} a M = record {
 }
 
 -- a label that repeats another is looked for at the same slots
-meets-as : {v : Edition} {r : Siblings} {k l : Label} {s : Bytes} {t : List ℕ} {h : ℕ} → repeats r k l ≡ true → Meets v r l s t h → Meets v r k s t h
+meets-as : {v : Edition} {r : Siblings} {k l : Label} {s : Bytes} {t : List ℕ} {h : ℕ} → sameLabel r k l ≡ true → Meets v r l s t h → Meets v r k s t h
 meets-as {v} {r} {k} {l} {s} {t} {h} e M = record {
   i = M .i;
   filled = M .filled;
@@ -272,10 +273,10 @@ notes-met {v} {r} {s} {from} {l} {t} {h} e M = record {
 
 -- a search that ended at an empty slot
 module _ {v : Edition} {r : Siblings} {s : Bytes} {l : Label} {t : List ℕ} {h k : ℕ} (E : Empty v r l s t h k) where
-  pub not-noted : {d n from : ℕ} → h ≡ labelHash r from l → Noted v r d l n s from t → false ≡ scan v r d l n s from
-  not-noted {d} {n} {from} e a = go (scan v r d l n s from) refl
+  pub not-noted : {d n from : ℕ} → h ≡ labelHash r from l → Noted v r d l n s from t → false ≡ repeats v r d l n s from
+  not-noted {d} {n} {from} e a = go (repeats v r d l n s from) refl
     where
-      go : (x : Bool) → scan v r d l n s from ≡ x → false ≡ x
+      go : (x : Bool) → repeats v r d l n s from ≡ x → false ≡ x
       go false q = refl
       go true q = absurd (E .new (subst (λ (o : ℕ). Meets v r l s t o) (sym e) (a .noted q)))
 
@@ -291,21 +292,21 @@ module _ {v : Edition} {r : Siblings} {s : Bytes} {l : Label} {t : List ℕ} {h 
         ap (λ (n : ℕ). getD (set t k x) (slotAfter n (firstSlot n h) (E .i)) 0) (length-set t k x)
         ∙ ap (λ (o : ℕ). getD (set t k x) o 0) (sym (E .is)) ∙ getD-set-same t k x 0 lt
 
-    tells : Begins v s at l → (m : Label) → repeats r m l ≡ true → mayRepeat v r m s x ≡ true
+    tells : Begins v s at l → (m : Label) → sameLabel r m l ≡ true → mayRepeat v r m s x ≡ true
     tells B m q = go (ℕ-discrete x far)
       where
         go : Dec (x ≡ far) → mayRepeat v r m s x ≡ true
         go (yes p) = sym (may-far v r m s x p)
         go (no n) =
             sym (may-found v r m s x n
-            (sym (ap (λ (y : Res Label). found y (λ o e. repeats r m o)) (ap (label v s) (is n) ∙ B .reads) ∙ q)))
+            (sym (ap (λ (y : Res Label). found y (λ o e. sameLabel r m o)) (ap (label v s) (is n) ∙ B .reads) ∙ q)))
 
     pub place-notes : {from : ℕ} → h ≡ labelHash r from l → Begins v s at l → Notes v r s from l (set t k x)
     place-notes {from} e B = record {
       notes = λ m q. subst (λ (o : ℕ). Meets v r m s (set t k x) o) (e ∙ sym (same-hash r from m l q)) (met m q);
     }
       where
-        met : (m : Label) → repeats r m l ≡ true → Meets v r m s (set t k x) h
+        met : (m : Label) → sameLabel r m l ≡ true → Meets v r m s (set t k x) h
         met m q = record {
           i = E .i;
           filled = λ j o. filled-kept place-keeps h j (E .filled j o);

@@ -11,9 +11,11 @@ use borrow.Author.Tests.{lt-ltb, le-ltb, eq-eqb, ne-eqb}
 use Rattle.layout.specs.Bytes.{Bytes}
 use Rattle.layout.specs.Parser.{Res, refuse, ok, next, choose, byte, u16, u32}
 use Rattle.layout.specs.Tree.{Label, ColumnType, leafType, cstruct, clist, carray}
-use Rattle.layout.specs.Layout.{Kind, aLeaf, text, unit, requiredMark, fieldId, fieldMark, labelRest, label, elementLabel, plainLeaf, leafKind, datetimeKind, decimalParams, decimalKind, structKind, arrayKind, kindOf, kind, body, structType, listType, arrayType, columns, type}
-use Rattle.layout.specs.Pass.{typeRest}
-use Rattle.layout.specs.Answers.{stepRes, shortRes, unitRes, decimalRes, markRes, textRes, movedOf}
+use Rattle.layout.specs.Layout.{Head, aLeaf, text, unit, requiredMark, fieldId, fieldMark, labelRest, label, elementLabel, plainLeaf, leafHead}
+use Rattle.layout.specs.Layout.{datetimeHead, decimalParams, decimalHead, structHead, arrayHead, kindOf, kind, body, structType, listType, arrayType}
+use Rattle.layout.specs.Layout.{columns, type}
+use Rattle.layout.specs.code.Pass.{typeRest}
+use Rattle.layout.specs.code.Answers.{stepRes, shortRes, unitRes, decimalRes, markRes, textRes, movedOf}
 use Rattle.layout.specs.declared.bytes.Span.{Span}
 use Rattle.layout.specs.declared.cursor.Cursor.{Cursor}
 use Rattle.layout.specs.declared.cursor.Step.{Step}
@@ -103,32 +105,33 @@ module _ (v : Edition) (s : Bytes) (at : ℕ) {p : Text} (e : textRes s p ≡ te
 
 module _ (s : Bytes) (at : ℕ) {p : UnitRead} (e : unitRes p ≡ unit s at) where
   module _ {u : TimeUnit} {c : Cursor} (f : p ≡ UnitRead.Is u c) {q : Text} (g : textRes s q ≡ text s (c .at)) where
-    pub datetime-whole : {z : Span} {d : Cursor} → q ≡ Text.Is z d → Moved.To d ≡ movedOf (datetimeKind s at)
-    unfolding datetimeKind next movedOf
+    pub datetime-whole : {z : Span} {d : Cursor} → q ≡ Text.Is z d → Moved.To d ≡ movedOf (datetimeHead s at)
+    unfolding datetimeHead next movedOf
     datetime-whole h = rw (← e, f, ← g, h)
 
-    pub datetime-zoneless : {k : ℕ} → q ≡ Text.Refused k → Moved.Refused k ≡ movedOf (datetimeKind s at)
-    unfolding datetimeKind next movedOf
+    pub datetime-zoneless : {k : ℕ} → q ≡ Text.Refused k → Moved.Refused k ≡ movedOf (datetimeHead s at)
+    unfolding datetimeHead next movedOf
     datetime-zoneless h = rw (← e, f, ← g, h)
 
-  pub datetime-unitless : {k : ℕ} → p ≡ UnitRead.Refused k → Moved.Refused k ≡ movedOf (datetimeKind s at)
-  unfolding datetimeKind next movedOf
+  pub datetime-unitless : {k : ℕ} → p ≡ UnitRead.Refused k → Moved.Refused k ≡ movedOf (datetimeHead s at)
+  unfolding datetimeHead next movedOf
   datetime-unitless f = rw (← e, f)
 
 -- ---- a decimal
 
 module _ (s : Bytes) (at : ℕ) {p : DecimalRead} (e : decimalRes p ≡ decimalParams s at) where
-  pub decimal-whole : {d : Decimal} {c : Cursor} → p ≡ DecimalRead.Is d c → Moved.To c ≡ movedOf (decimalKind s at)
-  unfolding decimalKind next movedOf
+  pub decimal-whole : {d : Decimal} {c : Cursor} → p ≡ DecimalRead.Is d c → Moved.To c ≡ movedOf (decimalHead s at)
+  unfolding decimalHead next movedOf
   decimal-whole f = rw (← e, f)
 
-  pub decimal-refused : {k : ℕ} → p ≡ DecimalRead.Refused k → Moved.Refused k ≡ movedOf (decimalKind s at)
-  unfolding decimalKind next movedOf
+  pub decimal-refused : {k : ℕ} → p ≡ DecimalRead.Refused k → Moved.Refused k ≡ movedOf (decimalHead s at)
+  unfolding decimalHead next movedOf
   decimal-refused f = rw (← e, f)
 
 -- ---- a type
 
-pub type-unruled : (v : Edition) (r : Siblings) (s : Bytes) (at d : ℕ) {o : Moved} → r ≡ Siblings.Free → o ≡ movedOf (type v Siblings.Free d s at) → o ≡ movedOf (type v r d s at)
+pub type-unruled : (v : Edition) (r : Siblings) (s : Bytes) (at d : ℕ) {o : Moved} → r ≡ Siblings.Free → o ≡ movedOf (type v Siblings.Free d s at) → o ≡
+    movedOf (type v r d s at)
 type-unruled v r s at d h e = rw h e
 
 pub not-plain : (code : ℕ) {q : PlainLeaf} → q ≡ plainLeaf code → q ≡ PlainLeaf.Unknown → plainLeaf code ≡ PlainLeaf.Unknown
@@ -151,10 +154,18 @@ module _ (v : Edition) (r : Siblings) (s : Bytes) (at d : ℕ) (z : d ≡ 0 → 
 
   module _ {code : ℕ} {c : Cursor} (f : p ≡ Step.Byte code c) {q : PlainLeaf} (g : q ≡ plainLeaf code) where
     pub pass-plain : {l : Leaf} → q ≡ PlainLeaf.Known l → Moved.To c ≡ movedOf (type v r d s at)
-    unfolding next movedOf typeRest kindOf choose leafKind body
+    unfolding next movedOf typeRest kindOf choose leafHead body
     pass-plain h =
         let k = sym g ∙ h in
-        rw (← level v r s at d z, ← e, f) (rw (other-code code 14 refl k, other-code code 18 refl k, other-code code 19 refl k, other-code code 20 refl k, other-code code 21 refl k, k))
+        rw (← level v r s at d z, ← e, f) (rw (
+          other-code code 14 refl k,
+          other-code code 18 refl k,
+          other-code code 19 refl k,
+          other-code code 20 refl
+              k,
+          other-code code 21 refl k,
+          k,
+        ))
 
     pub pass-on : {o : Moved} → o ≡ movedOf (typeRest v r (d - 1) code s (c .at)) → o ≡ movedOf (type v r d s at)
     unfolding next
@@ -177,8 +188,8 @@ module _ (v : Edition) (r : Siblings) (d : ℕ) (s : Bytes) where
 
 -- what follows a code
 module _ (v : Edition) (r : Siblings) (d : ℕ) (s : Bytes) (at : ℕ) {code : ℕ} where
-  pub rest-datetime : {o : Moved} → code ≡ 14 → o ≡ movedOf (datetimeKind s at) → o ≡ movedOf (typeRest v r d code s at)
-  unfolding typeRest kindOf choose datetimeKind next movedOf body
+  pub rest-datetime : {o : Moved} → code ≡ 14 → o ≡ movedOf (datetimeHead s at) → o ≡ movedOf (typeRest v r d code s at)
+  unfolding typeRest kindOf choose datetimeHead next movedOf body
   rest-datetime {o} h e = rw h (e ∙ go (unit s at) (λ m. text s m))
     where
       go : (x : Res TimeUnit) (y : ℕ → Res Bytes) → movedOf (next x (λ u m. next (y m) (λ z n. ok (aLeaf (leafType (Leaf.Datetime u) z)) n)))
@@ -191,8 +202,8 @@ module _ (v : Edition) (r : Siblings) (d : ℕ) (s : Bytes) (at : ℕ) {code : �
           zone u (refuse n) = refl
           zone u (ok z n) = refl
 
-  pub rest-decimal : {o : Moved} → code ≡ 21 → o ≡ movedOf (decimalKind s at) → o ≡ movedOf (typeRest v r d code s at)
-  unfolding typeRest kindOf choose decimalKind next movedOf body
+  pub rest-decimal : {o : Moved} → code ≡ 21 → o ≡ movedOf (decimalHead s at) → o ≡ movedOf (typeRest v r d code s at)
+  unfolding typeRest kindOf choose decimalHead next movedOf body
   rest-decimal h e = rw h (e ∙ go (decimalParams s at))
     where
       go : (x : Res Decimal) → movedOf (next x (λ p m. ok (aLeaf (leafType (Leaf.Decimal p) [])) m))
@@ -201,12 +212,13 @@ module _ (v : Edition) (r : Siblings) (d : ℕ) (s : Bytes) (at : ℕ) {code : �
       go (ok p m) = refl
 
   module _ {q : Short} (e : shortRes q ≡ u16 s at) (h : code ≡ 18) where
-    pub rest-struct : {n : ℕ} {c : Cursor} {o : Moved} → q ≡ Short.Is n c → o ≡ movedOf (columns v r (type v r d) n [] s (c .at)) → o ≡ movedOf (typeRest v r d code s at)
-    unfolding typeRest kindOf choose structKind next body structType
+    pub rest-struct : {n : ℕ} {c : Cursor} {o : Moved} → q ≡ Short.Is n c → o ≡ movedOf (columns v r (type v r d) n [] s (c .at)) → o ≡ movedOf
+        (typeRest v r d code s at)
+    unfolding typeRest kindOf choose structHead next body structType
     rest-struct {n} {c} f g = rw (h, ← e, f) (to-pure cstruct (columns v r (type v r d) n [] s (c .at)) g)
 
     pub rest-uncounted : {k : ℕ} → q ≡ Short.Refused k → Moved.Refused k ≡ movedOf (typeRest v r d code s at)
-    unfolding typeRest kindOf choose structKind next movedOf
+    unfolding typeRest kindOf choose structHead next movedOf
     rest-uncounted f = rw (h, ← e, f)
 
   pub rest-list : {o : Moved} → code ≡ 19 → o ≡ movedOf (listType v (type v r d) s at) → o ≡ movedOf (typeRest v r d code s at)
@@ -215,16 +227,16 @@ module _ (v : Edition) (r : Siblings) (d : ℕ) (s : Bytes) (at : ℕ) {code : �
 
   module _ {q : Moved} (e : q ≡ movedOf (u32 s at)) (h : code ≡ 20) where
     pub rest-array : {c : Cursor} {o : Moved} → q ≡ Moved.To c → o ≡ movedOf (listType v (type v r d) s (c .at)) → o ≡ movedOf (typeRest v r d code s at)
-    unfolding typeRest kindOf choose arrayKind next body
+    unfolding typeRest kindOf choose arrayHead next body
     rest-array {c} f g = let t = moved-to (u32 s at) e f in rw (h, t .1) (g ∙ as-list v r d s (t .0) (c .at))
 
     pub rest-widthless : {k : ℕ} → q ≡ Moved.Refused k → Moved.Refused k ≡ movedOf (typeRest v r d code s at)
-    unfolding typeRest kindOf choose arrayKind next movedOf
+    unfolding typeRest kindOf choose arrayHead next movedOf
     rest-widthless f = rw (h, moved-refused (u32 s at) e f)
 
   pub rest-unknown : (code ≡ 14 → ⊥) → (code ≡ 18 → ⊥) → (code ≡ 19 → ⊥) → (code ≡ 20 → ⊥) → (code ≡ 21 → ⊥) → plainLeaf code ≡ PlainLeaf.Unknown
       → Moved.Refused 3 ≡ movedOf (typeRest v r d code s at)
-  unfolding typeRest kindOf choose leafKind next movedOf
+  unfolding typeRest kindOf choose leafHead next movedOf
   rest-unknown a b c e g f = rw (ne-eqb code 14 a, ne-eqb code 18 b, ne-eqb code 19 c, ne-eqb code 20 e, ne-eqb code 21 g, f)
 
 -- an element's label

@@ -11,8 +11,8 @@ use lib.Seq.{drop-cons}
 use lib.Dec.{leb, eqb}
 use borrow.Author.Tests.{leb-true, leb-false, eq-eqb, ne-eqb}
 use Rattle.layout.specs.Bytes.{sameBytes}
-use Rattle.layout.specs.Layout.{repeats}
-use Rattle.layout.specs.Answers.{labelAt}
+use Rattle.layout.specs.Layout.{sameLabel}
+use Rattle.layout.specs.code.Answers.{labelAt}
 use Rattle.layout.specs.declared.columns.Label.{Label as LabelSpan}
 use Rattle.layout.specs.declared.columns.Siblings.{Siblings}
 
@@ -53,9 +53,10 @@ module _ (a b : List ℕ) where
 
 module _ (s t : List ℕ) (l m : LabelSpan) {r : Siblings} where
   pub same-names : {b : Bool} → r ≡ Siblings.Names
-      → b ≡ sameBytes (take (l .name .start + l .name .len - l .name .start) (drop (l .name .start) s)) (take (m .name .start + m .name .len - m .name .start) (drop (m .name .start) t))
-      → b ≡ repeats r (labelAt s l) (labelAt t m)
+      → b ≡ sameBytes (take (l .name .start + l .name .len - l .name .start) (drop (l .name .start) s))
+      (take (m .name .start + m .name .len - m .name .start) (drop (m .name .start) t))
+      → b ≡ sameLabel r (labelAt s l) (labelAt t m)
   same-names h e = rw h (rw (add-sub-cancel-left (l .name .start) (l .name .len), add-sub-cancel-left (m .name .start) (m .name .len)) at e)
 
-  pub same-ids : r ≡ Siblings.Ids → eqb (l .id .0) (m .id .0) ≡ repeats r (labelAt s l) (labelAt t m)
+  pub same-ids : r ≡ Siblings.Ids → eqb (l .id .0) (m .id .0) ≡ sameLabel r (labelAt s l) (labelAt t m)
   same-ids h = rw h

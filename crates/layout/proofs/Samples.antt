@@ -7,7 +7,9 @@ use lib.ListN.{replicate, take}
 use Rattle.layout.specs.Bytes.{Bytes, sameBytes}
 use Rattle.layout.specs.Parser.{Res, refuse, ok, next, choose, byte, chunk, u16, u32}
 use Rattle.layout.specs.Tree.{LeafType, string, datetime, Label, cleaf, cstruct, clist, Columns, cnil, ccons, Layout, integer}
-use Rattle.layout.specs.Layout.{text, unit, leafKind, datetimeKind, structKind, arrayKind, kindOf, kind, fieldId, requiredMark, fieldMark, labelRest, label, elementLabel, repeatsAny, columns, structType, listType, arrayType, body, type, edition, sized, ended, counted, layoutFrom, layout}
+use Rattle.layout.specs.Layout.{text, unit, leafHead, datetimeHead, structHead, arrayHead, kindOf, kind, fieldId, requiredMark, fieldMark, labelRest}
+use Rattle.layout.specs.Layout.{label, elementLabel, repeatsAny, columns, structType, listType, arrayType, body, type, edition, sized, ended, counted}
+use Rattle.layout.specs.Layout.{layoutFrom, layout}
 use Rattle.layout.specs.declared.leaf.TimeUnit.{TimeUnit}
 use Rattle.layout.specs.declared.edition.Edition.{Edition}
 use Rattle.numeric.specs.declared.integers.Integer.the-variants.{Int16, Int32}
@@ -21,7 +23,8 @@ named n i = record { name = n; id = record { 0 = i }; required = false }
 
 -- opens every definition that a sample computes through
 computed : Bytes → Res Layout
-unfolding layout layoutFrom sized edition sameBytes counted ended columns label labelRest text byte chunk u16 u32 fieldId fieldMark requiredMark type kind kindOf leafKind datetimeKind structKind arrayKind unit body structType listType arrayType elementLabel repeatsAny next choose
+unfolding layout layoutFrom sized edition sameBytes counted ended columns label labelRest text byte chunk u16 u32 fieldId fieldMark requiredMark type
+    kind kindOf leafHead datetimeHead structHead arrayHead unit body structType listType arrayType elementLabel repeatsAny next choose
 computed s = layout s
 
 -- 0 for a layout that is read, or the refusal's number
@@ -41,7 +44,11 @@ s1-incoming-read : layout s1-incoming ≡ ok (record { edition = Edition.One; co
 unfolding computed s1-incoming
 s1-incoming-read = refl
 
-s1-target-read : layout s1-target ≡ ok (record { edition = Edition.One; columns = ccons (named (0x74 ∷ []) 0) (cleaf (integer Int32)) (ccons (named (0x73 ∷ []) 0) (cleaf string) cnil) }) 13
+s1-target-read : layout s1-target ≡ ok (record {
+  edition = Edition.One;
+  columns = ccons (named (0x74 ∷ []) 0) (cleaf (integer Int32))
+      (ccons (named (0x73 ∷ []) 0) (cleaf string) cnil);
+}) 13
 unfolding computed s1-target
 s1-target-read = refl
 
@@ -54,7 +61,11 @@ s1-target-ends = refl
 -- ---- a list of date-times in version 2
 
 list-of-datetime : layout (laid 2 1 (1 ∷ 0x61 ∷ 7 ∷ 0 ∷ 0 ∷ 0 ∷ 19 ∷ 0 ∷ 8 ∷ 0 ∷ 0 ∷ 0 ∷ 14 ∷ 1 ∷ 1 ∷ 0x5A ∷ []))
-    ≡ ok (record { edition = Edition.Two; columns = ccons (named (0x61 ∷ []) 7) (clist (named [] 8) (cleaf (datetime TimeUnit.Microseconds (0x5A ∷ [])))) cnil }) 23
+    ≡ ok (record {
+      edition = Edition.Two;
+      columns = ccons (named (0x61 ∷ []) 7) (clist (named [] 8)
+          (cleaf (datetime TimeUnit.Microseconds (0x5A ∷ [])))) cnil;
+    }) 23
 unfolding computed
 list-of-datetime = refl
 
@@ -105,7 +116,11 @@ marked : Bytes
 marked = laid 3 2 (1 ∷ 0x61 ∷ 7 ∷ 0 ∷ 0 ∷ 0 ∷ 1 ∷ 3 ∷ 1 ∷ 0x62 ∷ 8 ∷ 0 ∷ 0 ∷ 0 ∷ 0 ∷ 15 ∷ [])
 
 marked-read : layout marked
-    ≡ ok (record { edition = Edition.Three; columns = ccons (demanded (0x61 ∷ []) 7) (cleaf (integer Int16)) (ccons (named (0x62 ∷ []) 8) (cleaf string) cnil) }) 23
+    ≡ ok (record {
+      edition = Edition.Three;
+      columns = ccons (demanded (0x61 ∷ []) 7) (cleaf (integer Int16))
+          (ccons (named (0x62 ∷ []) 8) (cleaf string) cnil);
+    }) 23
 unfolding computed marked
 marked-read = refl
 

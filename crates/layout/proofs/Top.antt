@@ -11,7 +11,7 @@ use Rattle.layout.specs.Parser.{Res, refuse, ok, next, choose, test, Par
 use Rattle.layout.specs.Tree.{Label, ColumnType, Columns, cnil, ccons, countColumns}
 use Rattle.layout.specs.Bytes.{sameBytes}
 use Rattle.layout.specs.Layout.{label, columns, type, repeatsAny, mark, edition, sized, ended, topRule, innerRule, counted, layoutFrom, layout}
-use Rattle.layout.specs.Answers.{movedOf, shortRes, editionRes, layoutOf}
+use Rattle.layout.specs.code.Answers.{movedOf, shortRes, editionRes, layoutOf}
 use Rattle.layout.specs.declared.cursor.Cursor.{Cursor}
 use Rattle.layout.specs.declared.cursor.Moved.{Moved}
 use Rattle.layout.specs.declared.cursor.Short.{Short}
@@ -43,7 +43,8 @@ unfolding next
 next-gives (refuse n) k P h b e j = clash (cc)
 next-gives (ok a m) k P h b e j = h a m b e j
 
-next-after : {A B : Type 0} (x : Res A) (f : A → B) (Q : A → Type 0) (P : B → Type 0) → Gives x Q → ((a : A) → Q a → P (f a)) → Gives (next x (λ a m. ok (f a) m)) P
+next-after : {A B : Type 0} (x : Res A) (f : A → B) (Q : A → Type 0) (P : B → Type 0) → Gives x Q → ((a : A) → Q a → P (f a)) → Gives
+    (next x (λ a m. ok (f a) m)) P
 unfolding next
 next-after (refuse n) f Q P h g b e j = clash (cc)
 next-after (ok a m) f Q P h g b e j = let q : f a ≡ b = cc in subst P q (g a (h a m refl))
@@ -54,7 +55,8 @@ unfolding columns countColumns
 columns-count v r p zero ms s at = λ cs m h. let e : cs ≡ cnil = cc in rw e
 columns-count v r p (suc n) ms s at =
     next-gives (label v s at) _ _ (λ l i. next-gives (p s i) _ _ (λ t j. next-gives (test (not (repeatsAny r l ms)) 5 s j) _ _ (λ u k.
-    next-after (columns v r p n (ms ++ (l ∷ [])) s k) (ccons l t) (λ ds. countColumns ds ≡ n) (λ cs. countColumns cs ≡ suc n) (columns-count v r p n (ms ++ (l ∷ [])) s k) (λ ds q. rw q))))
+    next-after (columns v r p n (ms ++ (l ∷ [])) s k) (ccons l t) (λ ds. countColumns ds ≡ n) (λ cs. countColumns cs ≡ suc n)
+    (columns-count v r p n (ms ++ (l ∷ [])) s k) (λ ds q. rw q))))
 
 -- rules for `search`
 module _ (s : List ℕ) where

@@ -7,15 +7,16 @@ use native.Mathlib.Omega.{arith}
 use Rattle.layout.specs.Bytes.{Bytes}
 use Rattle.layout.specs.Parser.{Res, refuse, ok, next, choose, Parser, test, byte}
 use Rattle.layout.specs.Tree.{LeafType, leafType, Label, ColumnType, cleaf, cstruct, clist, carray, Columns, cnil, ccons}
-use Rattle.layout.specs.Layout.{Kind, aLeaf, plainLeaf, kind, body, structType, listType, arrayType, label, label as labelOf, elementLabel, columns, type, repeatsAny}
-use Rattle.layout.specs.Answers.{stepRes, headRes, leafAt, labelRes, labelAt, movedOf}
-use Rattle.layout.specs.Stands.{TypeAt, ColumnsAt}
+use Rattle.layout.specs.Layout.{Head, aLeaf, plainLeaf, kind, body, structType, listType, arrayType, label, label as labelOf, elementLabel, columns, type}
+use Rattle.layout.specs.Layout.{repeatsAny}
+use Rattle.layout.specs.code.Answers.{stepRes, headRes, leafAt, labelRes, labelAt, movedOf}
+use Rattle.layout.specs.code.Stands.{TypeAt, ColumnsAt}
 use Rattle.layout.specs.declared.cursor.Cursor.{Cursor}
 use Rattle.layout.specs.declared.cursor.Moved.{Moved}
 use Rattle.layout.specs.declared.cursor.Step.{Step}
 use Rattle.layout.specs.declared.leaf.Leaf.{Leaf}
 use Rattle.layout.specs.declared.types.PlainLeaf.{PlainLeaf}
-use Rattle.layout.specs.declared.types.Head.{Head}
+use Rattle.layout.specs.declared.types.Head.{Head as HeadSpan}
 use Rattle.layout.specs.declared.types.LeafType.{LeafType as LeafSpan}
 use Rattle.layout.specs.declared.columns.Label.{Label as LabelSpan}
 use Rattle.layout.specs.declared.columns.Labelled.{Labelled}
@@ -68,19 +69,19 @@ module _ {v : Edition} {d : ℕ} {s : Bytes} {at : ℕ} (P : TypeAt v d s at) wh
   level = ap (λ (e : ℕ). type v Free e s at) (let e : suc (d - 1) ≡ d = let z = deep in omega arith in e) ∙ P .reads
 
   -- by what the head was
-  behind : {k : Kind} {m : ℕ} → kind s at ≡ ok k m → body v Free (type v Free (d - 1)) k s m ≡ ok (P .tree) (P .end)
+  behind : {k : Head} {m : ℕ} → kind s at ≡ ok k m → body v Free (type v Free (d - 1)) k s m ≡ ok (P .tree) (P .end)
   unfolding next
   behind q = rw q at level
 
   -- a type that stands there is not refused
-  pub never-headless : {B : Type 0} {p : Head} {n : ℕ} → headRes s p ≡ kind s at → p ≡ Head.Refused n → B
+  pub never-headless : {B : Type 0} {p : HeadSpan} {n : ℕ} → headRes s p ≡ kind s at → p ≡ HeadSpan.Refused n → B
   unfolding next
   never-headless {n = n} e f =
       let q : kind s at ≡ refuse n = sym e ∙ ap (headRes s) f in
       let h : refuse n ≡ ok (P .tree) (P .end) = rw q at level in
       clash (cc)
 
-  pub leaf-at : {p : Head} {l : LeafSpan} {c : Cursor} → headRes s p ≡ kind s at → p ≡ Head.Leaf l c → (P .tree ≡ cleaf (leafAt s l)) × (c .at ≡ P .end)
+  pub leaf-at : {p : HeadSpan} {l : LeafSpan} {c : Cursor} → headRes s p ≡ kind s at → p ≡ HeadSpan.Leaf l c → (P .tree ≡ cleaf (leafAt s l)) × (c .at ≡ P .end)
   unfolding body
   leaf-at e f = let h = behind (sym e ∙ ap (headRes s) f) in (cc, cc)
 
@@ -93,14 +94,14 @@ module _ {v : Edition} {d : ℕ} {s : Bytes} {at : ℕ} (P : TypeAt v d s at) wh
       let h = behind q in
       (cc, cc)
 
-  pub struct-at : {p : Head} {n : ℕ} {c : Cursor} → headRes s p ≡ kind s at → p ≡ Head.Struct n c → StructAt v d s at P n (c .at)
+  pub struct-at : {p : HeadSpan} {n : ℕ} {c : Cursor} → headRes s p ≡ kind s at → p ≡ HeadSpan.Struct n c → StructAt v d s at P n (c .at)
   unfolding body structType
   struct-at e f =
       let (cs, m, h, g) = next-ok _ _ (behind (sym e ∙ ap (headRes s) f)) in
       record { inner = record { columns = cs; end = m; reads = h }; is = cc; ends = cc }
 
-  module _ {p : Head} {c : Cursor} (e : headRes s p ≡ kind s at) {q : Labelled} (g : labelRes s q ≡ elementLabel v s (c .at)) where
-    pub list-at : {l : LabelSpan} {b : Cursor} → p ≡ Head.List c → q ≡ Labelled.Is l b → ListAt v d s at P (labelAt s l) (b .at)
+  module _ {p : HeadSpan} {c : Cursor} (e : headRes s p ≡ kind s at) {q : Labelled} (g : labelRes s q ≡ elementLabel v s (c .at)) where
+    pub list-at : {l : LabelSpan} {b : Cursor} → p ≡ HeadSpan.List c → q ≡ Labelled.Is l b → ListAt v d s at P (labelAt s l) (b .at)
     unfolding body listType
     list-at {l} {b} f k =
         let (m, i, h₁, g₁) = next-ok _ _ (behind (sym e ∙ ap (headRes s) f)) in
@@ -110,7 +111,7 @@ module _ {v : Edition} {d : ℕ} {s : Bytes} {at : ℕ} (P : TypeAt v d s at) wh
         let x : m ≡ labelAt s l = cc in
         record { inner = record { tree = t; end = j; reads = ap (λ (o : ℕ). type v Free (d - 1) s o) (sym y) ∙ h₂ }; is = cc; ends = cc }
 
-    pub array-at : {w : ℕ} {l : LabelSpan} {b : Cursor} → p ≡ Head.Array w c → q ≡ Labelled.Is l b → ArrayAt v d s at P w (labelAt s l) (b .at)
+    pub array-at : {w : ℕ} {l : LabelSpan} {b : Cursor} → p ≡ HeadSpan.Array w c → q ≡ Labelled.Is l b → ArrayAt v d s at P w (labelAt s l) (b .at)
     unfolding body arrayType
     array-at {w} {l} {b} f k =
         let (m, i, h₁, g₁) = next-ok _ _ (behind (sym e ∙ ap (headRes s) f)) in
@@ -120,14 +121,14 @@ module _ {v : Edition} {d : ℕ} {s : Bytes} {at : ℕ} (P : TypeAt v d s at) wh
         let x : m ≡ labelAt s l = cc in
         record { inner = record { tree = t; end = j; reads = ap (λ (o : ℕ). type v Free (d - 1) s o) (sym y) ∙ h₂ }; is = cc; ends = cc }
 
-    pub list-labelled : {B : Type 0} {n : ℕ} → p ≡ Head.List c → q ≡ Labelled.Refused n → B
+    pub list-labelled : {B : Type 0} {n : ℕ} → p ≡ HeadSpan.List c → q ≡ Labelled.Refused n → B
     unfolding body listType
     list-labelled {n = n} f k =
         let (m, i, h₁, g₁) = next-ok _ _ (behind (sym e ∙ ap (headRes s) f)) in
         let z : ok m i ≡ refuse n = sym h₁ ∙ label-none s g k in
         clash (cc)
 
-    pub array-labelled : {B : Type 0} {w n : ℕ} → p ≡ Head.Array w c → q ≡ Labelled.Refused n → B
+    pub array-labelled : {B : Type 0} {w n : ℕ} → p ≡ HeadSpan.Array w c → q ≡ Labelled.Refused n → B
     unfolding body arrayType
     array-labelled {n = n} f k =
         let (m, i, h₁, g₁) = next-ok _ _ (behind (sym e ∙ ap (headRes s) f)) in
@@ -159,11 +160,13 @@ columns-moved {v} {d} {s} {n} e P =
 -- ---- columns, from the first
 
 -- with no rule the earlier labels have no say
-pub columns-any : (v : Edition) (p : Parser ColumnType) (n : ℕ) (ms ks : List Label) (s : Bytes) (at : ℕ) → columns v Free p n ms s at ≡ columns v Free p n ks s at
+pub columns-any : (v : Edition) (p : Parser ColumnType) (n : ℕ) (ms ks : List Label) (s : Bytes) (at : ℕ) → columns v Free p n ms s at ≡ columns v Free
+    p n ks s at
 unfolding columns
 columns-any v p zero ms ks s at = refl
 columns-any v p (suc n) ms ks s at =
-    λ i. next (label v s at) (λ l a. next (p s a) (λ t b. next (test (not (all l i)) 5 s b) (λ u c. next (columns-any v p n (ms ++ (l ∷ [])) (ks ++ (l ∷ [])) s c i) (λ cs o. ok (ccons l t cs) o))))
+    λ i. next (label v s at) (λ l a. next (p s a) (λ t b. next (test (not (all l i)) 5 s b)
+    (λ u c. next (columns-any v p n (ms ++ (l ∷ [])) (ks ++ (l ∷ [])) s c i) (λ cs o. ok (ccons l t cs) o))))
   where
     all : (l : Label) → repeatsAny Free l ms ≡ repeatsAny Free l ks
     all l = repeats-free l ms ∙ sym (repeats-free l ks)
@@ -209,7 +212,12 @@ module _ {v : Edition} {d : ℕ} {s : Bytes} {n at : ℕ} (P : ColumnsAt v d s n
         labelled = h₁;
         first = record {
           head = record { tree = t; end = j; reads = h₂ };
-          tail = record { columns = cs; end = e; reads = columns-any v (type v Free d) (n - 1) [] ([] ++ (m ∷ [])) s j ∙ ap (λ (b : ℕ). columns v Free (type v Free d) (n - 1) ([] ++ (m ∷ [])) s b) w ∙ h₄ };
+          tail = record {
+            columns = cs;
+            end = e;
+            reads = columns-any v (type v Free d) (n - 1) [] ([] ++ (m ∷ [])) s j ∙ ap
+                (λ (b : ℕ). columns v Free (type v Free d) (n - 1) ([] ++ (m ∷ [])) s b) w ∙ h₄;
+          };
           is = cc;
           ends = cc;
         };

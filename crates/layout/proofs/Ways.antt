@@ -9,8 +9,9 @@ use lib.Dec.{eqb, leb}
 use borrow.Author.Tests.{lt-ltb, le-ltb, le-leb, lt-leb, eq-eqb, ne-eqb}
 use Rattle.layout.specs.Parser.{Res, refuse, ok, next, choose, byte, chunk, u32}
 use Rattle.layout.specs.Tree.{leafType, Label}
-use Rattle.layout.specs.Layout.{Kind, aLeaf, fieldId, fieldMark, labelRest, label, elementLabel, plainLeaf, leafKind, decimalKind, kindOf, kind, type}
-use Rattle.layout.specs.Answers.{stepRes, shortRes, longRes, unitRes, decimalRes, markRes, spanAt, spanIn, textRes, headIn, labelRes, labelAt, textIn, labelIn, movedOf}
+use Rattle.layout.specs.Layout.{Head, aLeaf, fieldId, fieldMark, labelRest, label, elementLabel, plainLeaf, leafHead, decimalHead, kindOf, kind, type}
+use Rattle.layout.specs.code.Answers.{stepRes, shortRes, longRes, unitRes, decimalRes, markRes, spanAt, spanIn, textRes, headIn, labelRes, labelAt}
+use Rattle.layout.specs.code.Answers.{textIn, labelIn, movedOf}
 use Rattle.layout.specs.declared.bytes.Span.{Span}
 use Rattle.layout.specs.declared.cursor.Cursor.{Cursor}
 use Rattle.layout.specs.declared.cursor.Step.{Step}
@@ -23,7 +24,7 @@ use Rattle.layout.specs.declared.leaf.Leaf.{Leaf}
 use Rattle.layout.specs.declared.leaf.Decimal.{Decimal}
 use Rattle.layout.specs.declared.types.LeafType.{LeafType as LeafSpan}
 use Rattle.layout.specs.declared.types.PlainLeaf.{PlainLeaf}
-use Rattle.layout.specs.declared.types.Head.{Head}
+use Rattle.layout.specs.declared.types.Head.{Head as HeadSpan}
 use Rattle.layout.specs.declared.types.Unit.{Unit as UnitRead}
 use Rattle.layout.specs.declared.types.DecimalRead.{DecimalRead}
 use Rattle.layout.specs.declared.columns.MarkRead.{MarkRead}
@@ -81,7 +82,7 @@ module _ (v : Edition) (b : List ℕ) (s : List ℕ) (at : ℕ) where
 pub text-in : (s : List ℕ) {p : Text} {b : Span} {c : Cursor} → textIn s p → p ≡ Text.Is b c → spanIn s b
 text-in s h e = rw e at h
 
-pub head-in : (s : List ℕ) {p : Head} {l : LeafSpan} {c : Cursor} → headIn s p → p ≡ Head.Leaf l c → spanIn s (l .zone)
+pub head-in : (s : List ℕ) {p : HeadSpan} {l : LeafSpan} {c : Cursor} → headIn s p → p ≡ HeadSpan.Leaf l c → spanIn s (l .zone)
 head-in s h e = rw e at h
 
 pub label-in : (s : List ℕ) {p : Labelled} {l : LabelSpan} {c : Cursor} → labelIn s p → p ≡ Labelled.Is l c → spanIn s (l .name)
@@ -105,7 +106,8 @@ eqb-from k n h e = rw h e
 pub leb-from : (k n : ℕ) {m : ℕ} {b : Bool} → k ≡ m → leb m n ≡ b → leb k n ≡ b
 leb-from k n h e = rw h e
 
-pub element-none : (v : Edition) (s : List ℕ) (at : ℕ) → v ≡ Edition.One → ok (record { name = []; id = record { 0 = 0 }; required = false }) at ≡ elementLabel v s at
+pub element-none : (v : Edition) (s : List ℕ) (at : ℕ) → v ≡ Edition.One → ok (record { name = []; id = record { 0 = 0 }; required = false }) at ≡
+    elementLabel v s at
 unfolding elementLabel
 element-none v s at h = rw h
 
@@ -118,16 +120,18 @@ unfolding elementLabel
 element-three v s at h e = rw h (rw h at e)
 
 -- the leaf of a code that is not a date-time's
-pub leaf-known : (code : ℕ) (s : List ℕ) (at : ℕ) {p : PlainLeaf} {l : Leaf} → p ≡ plainLeaf code → p ≡ PlainLeaf.Known l → ok (aLeaf (leafType l [])) at ≡ leafKind (plainLeaf code) s at
-unfolding leafKind
+pub leaf-known : (code : ℕ) (s : List ℕ) (at : ℕ) {p : PlainLeaf} {l : Leaf} → p ≡ plainLeaf code → p ≡ PlainLeaf.Known l → ok (aLeaf (leafType l []))
+    at ≡ leafHead (plainLeaf code) s at
+unfolding leafHead
 leaf-known code s at e f = rw (← e, f)
 
-pub leaf-unknown : (code : ℕ) (s : List ℕ) (at : ℕ) {p : PlainLeaf} → p ≡ plainLeaf code → p ≡ PlainLeaf.Unknown → refuse 3 ≡ leafKind (plainLeaf code) s at
-unfolding leafKind
+pub leaf-unknown : (code : ℕ) (s : List ℕ) (at : ℕ) {p : PlainLeaf} → p ≡ plainLeaf code → p ≡ PlainLeaf.Unknown → refuse 3 ≡ leafHead (plainLeaf code) s at
+unfolding leafHead
 leaf-unknown code s at e f = rw (← e, f)
 
 module _ {B : Type 0} where
-  pub step-on : (x : Res (ℕ)) (k : ℕ → ℕ → Res B) {y : Res B} {p : Step} {b : ℕ} {c : Cursor} → stepRes p ≡ x → p ≡ Step.Byte b c → y ≡ k b (c .at) → y ≡ next x k
+  pub step-on : (x : Res (ℕ)) (k : ℕ → ℕ → Res B) {y : Res B} {p : Step} {b : ℕ} {c : Cursor} → stepRes p ≡ x → p ≡ Step.Byte b c → y ≡ k b (c .at) → y
+      ≡ next x k
   unfolding next
   step-on x k e f g = rw (← e, f) g
 
@@ -135,7 +139,8 @@ module _ {B : Type 0} where
   unfolding next
   step-off x k e f = rw (← e, f)
 
-  pub short-on : (x : Res (ℕ)) (k : ℕ → ℕ → Res B) {y : Res B} {p : Short} {b : ℕ} {c : Cursor} → shortRes p ≡ x → p ≡ Short.Is b c → y ≡ k b (c .at) → y ≡ next x k
+  pub short-on : (x : Res (ℕ)) (k : ℕ → ℕ → Res B) {y : Res B} {p : Short} {b : ℕ} {c : Cursor} → shortRes p ≡ x → p ≡ Short.Is b c → y ≡ k b (c .at) →
+      y ≡ next x k
   unfolding next
   short-on x k e f g = rw (← e, f) g
 
@@ -151,7 +156,8 @@ module _ {B : Type 0} where
   unfolding next
   long-off x k e f = rw (← e, f)
 
-  pub unit-on : (x : Res (TimeUnit)) (k : TimeUnit → ℕ → Res B) {y : Res B} {p : UnitRead} {b : TimeUnit} {c : Cursor} → unitRes p ≡ x → p ≡ UnitRead.Is b c → y ≡ k b (c .at) → y ≡ next x k
+  pub unit-on : (x : Res (TimeUnit)) (k : TimeUnit → ℕ → Res B) {y : Res B} {p : UnitRead} {b : TimeUnit} {c : Cursor} → unitRes p ≡ x → p ≡ UnitRead.Is
+      b c → y ≡ k b (c .at) → y ≡ next x k
   unfolding next
   unit-on x k e f g = rw (← e, f) g
 
@@ -159,7 +165,8 @@ module _ {B : Type 0} where
   unfolding next
   unit-off x k e f = rw (← e, f)
 
-  pub decimal-on : (x : Res Decimal) (k : Decimal → ℕ → Res B) {y : Res B} {p : DecimalRead} {d : Decimal} {c : Cursor} → decimalRes p ≡ x → p ≡ DecimalRead.Is d c
+  pub decimal-on : (x : Res Decimal) (k : Decimal → ℕ → Res B) {y : Res B} {p : DecimalRead} {d : Decimal} {c : Cursor} → decimalRes p ≡ x → p ≡
+      DecimalRead.Is d c
       → y ≡ k d (c .at) → y ≡ next x k
   unfolding next
   decimal-on x k e f g = rw (← e, f) g
@@ -168,7 +175,8 @@ module _ {B : Type 0} where
   unfolding next
   decimal-off x k e f = rw (← e, f)
 
-  pub mark-on : (x : Res Bool) (k : Bool → ℕ → Res B) {y : Res B} {p : MarkRead} {r : Bool} {c : Cursor} → markRes p ≡ x → p ≡ MarkRead.Is r c → y ≡ k r (c .at) → y ≡ next x k
+  pub mark-on : (x : Res Bool) (k : Bool → ℕ → Res B) {y : Res B} {p : MarkRead} {r : Bool} {c : Cursor} → markRes p ≡ x → p ≡ MarkRead.Is r c → y ≡ k r
+      (c .at) → y ≡ next x k
   unfolding next
   mark-on x k e f g = rw (← e, f) g
 
@@ -176,7 +184,8 @@ module _ {B : Type 0} where
   unfolding next
   mark-off x k e f = rw (← e, f)
 
-  pub text-on : (s : List ℕ) (x : Res (List ℕ)) (k : List ℕ → ℕ → Res B) {y : Res B} {p : Text} {b : Span} {c : Cursor} → textRes s p ≡ x → p ≡ Text.Is b c → y ≡ k (spanAt s b) (c .at) → y ≡ next x k
+  pub text-on : (s : List ℕ) (x : Res (List ℕ)) (k : List ℕ → ℕ → Res B) {y : Res B} {p : Text} {b : Span} {c : Cursor} → textRes s p ≡ x → p ≡ Text.Is
+      b c → y ≡ k (spanAt s b) (c .at) → y ≡ next x k
   unfolding next
   text-on s x k e f g = rw (← e, f) g
 
@@ -184,21 +193,64 @@ module _ {B : Type 0} where
   unfolding next
   text-off s x k e f = rw (← e, f)
 
-  pub label-on : (s : List ℕ) (x : Res (Label)) (k : Label → ℕ → Res B) {y : Res B} {p : Labelled} {b : LabelSpan} {c : Cursor} → labelRes s p ≡ x → p ≡ Labelled.Is b c → y ≡ k (labelAt s b) (c .at) → y ≡ next x k
+  pub label-on : (s : List ℕ) (x : Res (Label)) (k : Label → ℕ → Res B) {y : Res B} {p : Labelled} {b : LabelSpan} {c : Cursor} → labelRes s p ≡ x → p ≡
+      Labelled.Is b c → y ≡ k (labelAt s b) (c .at) → y ≡ next x k
   unfolding next
   label-on s x k e f g = rw (← e, f) g
 
-  pub label-off : (s : List ℕ) (x : Res (Label)) (k : Label → ℕ → Res B) {p : Labelled} {n : ℕ} → labelRes s p ≡ x → p ≡ Labelled.Refused n → refuse n ≡ next x k
+  pub label-off : (s : List ℕ) (x : Res (Label)) (k : Label → ℕ → Res B) {p : Labelled} {n : ℕ} → labelRes s p ≡ x → p ≡ Labelled.Refused n → refuse n ≡
+      next x k
   unfolding next
   label-off s x k e f = rw (← e, f)
 
 -- what a type begins with, where its code is a decimal's
-pub kind-decimal : (s : List ℕ) (at : ℕ) {p : Step} {code : ℕ} {c : Cursor} {y : Res Kind} → stepRes p ≡ byte s at → p ≡ Step.Byte code c → code ≡ 21
-    → y ≡ decimalKind s (c .at) → y ≡ kind s at
+pub kind-decimal : (s : List ℕ) (at : ℕ) {p : Step} {code : ℕ} {c : Cursor} {y : Res Head} → stepRes p ≡ byte s at → p ≡ Step.Byte code c → code ≡ 21
+    → y ≡ decimalHead s (c .at) → y ≡ kind s at
 unfolding kind kindOf next choose
 kind-decimal s at e f h g = rw (← e, f, h) g
 
-pub ruleset ways = (step-on, step-off, short-on, short-off, long-on, long-off, unit-on, unit-off, decimal-on, decimal-off, mark-on, mark-off, text-on, text-off, label-on, label-off, choose-true, choose-false, chunk-fits, chunk-past, chunk-short, rest-bare, rest-numbered, rest-idless, rest-marked, eqb-from, leb-from, element-none, element-two, element-three, leaf-known, leaf-unknown, text-in, flag, lt-ltb, le-ltb, le-leb, lt-leb, eq-eqb, ne-eqb)
+pub ruleset ways = (
+  step-on,
+  step-off,
+  short-on,
+  short-off,
+  long-on,
+  long-off,
+  unit-on,
+  unit-off,
+  decimal-on,
+  decimal-off,
+  mark-on,
+  mark-off,
+  text-on,
+  text-off,
+  label-on,
+  label-off,
+  choose-true,
+  choose-false,
+  chunk-fits,
+  chunk-past,
+  chunk-short,
+  rest-bare,
+  rest-numbered,
+  rest-idless,
+  rest-marked,
+  eqb-from,
+  leb-from,
+  element-none,
+  element-two,
+  element-three,
+  leaf-known,
+  leaf-unknown,
+  text-in,
+  flag,
+  lt-ltb,
+  le-ltb,
+  le-leb,
+  lt-leb,
+  eq-eqb,
+  ne-eqb,
+)
 
 -- where only the position is answered
 module _ {A : Type 0} {o : Moved} where

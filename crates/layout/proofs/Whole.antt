@@ -11,8 +11,8 @@ use Rattle.layout.specs.Bytes.{Bytes, sameBytes}
 use Rattle.layout.specs.Parser.{Res, refuse, ok, choose, byte, u16, test}
 use Rattle.layout.specs.Tree.{Layout, Columns, countColumns}
 use Rattle.layout.specs.Layout.{columns, type, mark, edition, counted, ended, sized, layoutFrom, layout, topRule, innerRule}
-use Rattle.layout.specs.Answers.{layoutOf}
-use Rattle.layout.specs.Stands.{ColumnsAt, LayoutAt}
+use Rattle.layout.specs.code.Answers.{layoutOf}
+use Rattle.layout.specs.code.Stands.{ColumnsAt, LayoutAt}
 use Rattle.layout.specs.declared.cursor.Cursor.{Cursor}
 use Rattle.layout.specs.declared.columns.Siblings.{Siblings}
 use Rattle.layout.specs.declared.read.LayoutRead.{LayoutRead}
@@ -115,16 +115,19 @@ parts s {l} {m} h =
     let g : e ≡ m = sym (y .1) ∙ (let g′ : e′ ≡ m = cc in g′) in
     made s k f g r (leb-true _ _ (z .0)) a₃
   where
-    made : (s : Bytes) {w : Edition} {cs : Columns} {l : Layout} {e m o : ℕ} (k : ℕ) → record { edition = w; columns = cs } ≡ l → e ≡ m → o ≡ 7 → length s ≤ 16384
+    made : (s : Bytes) {w : Edition} {cs : Columns} {l : Layout} {e m o : ℕ} (k : ℕ) → record { edition = w; columns = cs } ≡ l → e ≡ m → o ≡ 7 → length
+        s ≤ 16384
         → columns w (topRule w) (type w (innerRule w) 16) k [] s o ≡ ok cs e → Parts s l m
     made s {w} {cs} {l} {e} {m} {o} k f g r small h =
         subst (λ (l : Layout). Parts s l m) f
         (record { small = small; count = k; reads = ap (λ (i : ℕ). columns w (topRule w) (type w (innerRule w) 16) k [] s i) (sym r) ∙ h ∙ ap (ok cs) g })
 
-at-least : {s : Bytes} {l : Layout} {m : ℕ} → layout s ≡ ok l m → Parts s l m → {v : Edition} {n : ℕ} → l .edition ≡ v → countColumns (l .columns) ≡ n → LayoutAt s v n
+at-least : {s : Bytes} {l : Layout} {m : ℕ} → layout s ≡ ok l m → Parts s l m → {v : Edition} {n : ℕ} → l .edition ≡ v → countColumns (l .columns) ≡ n →
+    LayoutAt s v n
 at-least {s} {l} {m} q P {v} {n} a b =
     let c : countColumns (l .columns) ≡ P .count = columns-count (l .edition) _ _ (P .count) [] s 7 (l .columns) m (P .reads) in
-    let free = columns-free (l .edition) (topRule (l .edition)) s (type (l .edition) (innerRule (l .edition)) 16) (type (l .edition) Siblings.Free 16) (type-free (l .edition) (innerRule (l .edition)) s 16) (P .count) [] 7 (l .columns) m (P .reads) in
+    let free = columns-free (l .edition) (topRule (l .edition)) s (type (l .edition) (innerRule (l .edition)) 16) (type (l .edition) Siblings.Free 16)
+    (type-free (l .edition) (innerRule (l .edition)) s 16) (P .count) [] 7 (l .columns) m (P .reads) in
     let k : P .count ≡ n = sym c ∙ b in
     record {
       columns = record {
@@ -137,7 +140,8 @@ at-least {s} {l} {m} q P {v} {n} a b =
     }
 
 -- what `read_layout` answered
-pub layout-at : (s : Bytes) {r : LayoutRead} {v : Edition} {n : ℕ} {c : Cursor} → r ≡ layoutOf (layout s) → r ≡ LayoutRead.Read v n c → LayoutAt s v n × (c .at ≡ 7)
+pub layout-at : (s : Bytes) {r : LayoutRead} {v : Edition} {n : ℕ} {c : Cursor} → r ≡ layoutOf (layout s) → r ≡ LayoutRead.Read v n c → LayoutAt s v n ×
+    (c .at ≡ 7)
 unfolding layoutOf
 layout-at s {r} {v} {n} {c} e f = go (layout s) refl e
   where

@@ -7,7 +7,7 @@ use Rattle.layout.specs.Bytes.{Bytes, sameBytes}
 use Rattle.layout.specs.Parser.{ok, choose}
 use Rattle.layout.specs.Tree.{Label, ColumnType, Columns, cnil, ccons}
 use Rattle.layout.specs.Layout.{type}
-use Rattle.layout.specs.Answers.{labelAt, spanIn}
+use Rattle.layout.specs.code.Answers.{labelAt, spanIn}
 use Rattle.layout.specs.declared.columns.FieldId.{FieldId}
 use Rattle.layout.specs.declared.columns.Position.{Position}
 use Rattle.layout.specs.declared.columns.Label.{Label as LabelSpan}
@@ -23,12 +23,12 @@ use Rattle.layout.specs.declared.matching.Matching.the-variants.{ByName,
 -- a column's position, label and type
 pub data Lookup : Type 0 where
   absent : Lookup
-  at : Position → Label → ColumnType → Lookup
+  present : Position → Label → ColumnType → Lookup
 
 -- the first column that f takes, by its position and its label; the first of these columns has the position i
 unfoldable pub findFrom : (ℕ → Label → Bool) → ℕ → Columns → Lookup
 findFrom f i cnil = absent
-findFrom f i (ccons l t cs) = choose (f i l) (at (record { 0 = i }) l t) (findFrom f (i + 1) cs)
+findFrom f i (ccons l t cs) = choose (f i l) (present (record { 0 = i }) l t) (findFrom f (i + 1) cs)
 
 abbrev pub columnNamed : Bytes → Columns → Lookup
 columnNamed name = findFrom (λ i l. sameBytes (l .name) name) 0
@@ -67,4 +67,4 @@ pub record FoundAt (v : Edition) (d : ℕ) (s : Bytes) (k : Position) (l : Label
 -- the answer r is what was looked up
 abbrev pub Finds : Edition → ℕ → Bytes → Lookup → Found → Type 0
 Finds v d s absent r = r ≡ Found.Absent
-Finds v d s (at k l t) r = FoundAt v d s k l t r
+Finds v d s (present k l t) r = FoundAt v d s k l t r

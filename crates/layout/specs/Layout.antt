@@ -43,11 +43,11 @@ unit = do
   if (eqb u 0) (pure Nanoseconds) (if (eqb u 1) (pure Microseconds) (if (eqb u 2) (pure Milliseconds) (fail 3)))
 
 -- what a type begins with: a whole leaf, or what stands before columns or an element
-pub data Kind : Type 0 where
-  aLeaf : LeafType → Kind
-  aStruct : ℕ → Kind
-  aList : Kind
-  anArray : ℕ → Kind
+pub data Head : Type 0 where
+  aLeaf : LeafType → Head
+  aStruct : ℕ → Head
+  aList : Head
+  anArray : ℕ → Head
 
 -- the leaves that are their code alone, each at the place of its code; 14 is a date-time, and 21, past the list, a decimal
 abbrev pub plainLeaves : List PlainLeaf
@@ -90,12 +90,12 @@ codeOf Leaf.Binary = 16
 codeOf Leaf.Categorical = 17
 codeOf (Leaf.Decimal d) = 21
 
-unfoldable pub leafKind : PlainLeaf → Parser Kind
-leafKind (Known l) = pure (aLeaf (leafType l []))
-leafKind Unknown = fail 3
+unfoldable pub leafHead : PlainLeaf → Parser Head
+leafHead (Known l) = pure (aLeaf (leafType l []))
+leafHead Unknown = fail 3
 
-unfoldable pub datetimeKind : Parser Kind
-datetimeKind = do
+unfoldable pub datetimeHead : Parser Head
+datetimeHead = do
   u ← unit
   z ← text
   pure (aLeaf (leafType (Leaf.Datetime u) z))
@@ -111,32 +111,32 @@ decimalParams = do
   s ← byte
   if (validDecimal p s) (pure (record { precision = p; scale = s })) (fail 50)
 
-unfoldable pub decimalKind : Parser Kind
-decimalKind = do
+unfoldable pub decimalHead : Parser Head
+decimalHead = do
   d ← decimalParams
   pure (aLeaf (leafType (Leaf.Decimal d) []))
 
-unfoldable pub structKind : Parser Kind
-structKind = do
+unfoldable pub structHead : Parser Head
+structHead = do
   n ← u16
   pure (aStruct n)
 
-unfoldable pub arrayKind : Parser Kind
-arrayKind = do
+unfoldable pub arrayHead : Parser Head
+arrayHead = do
   w ← u32
   pure (anArray w)
 
 -- by the type code
-unfoldable pub kindOf : ℕ → Parser Kind
+unfoldable pub kindOf : ℕ → Parser Head
 kindOf c =
-    if (eqb c 14) datetimeKind
-    (if (eqb c 18) structKind
+    if (eqb c 14) datetimeHead
+    (if (eqb c 18) structHead
     (if (eqb c 19) (pure aList)
-    (if (eqb c 20) arrayKind
-    (if (eqb c 21) decimalKind
-    (leafKind (plainLeaf c))))))
+    (if (eqb c 20) arrayHead
+    (if (eqb c 21) decimalHead
+    (leafHead (plainLeaf c))))))
 
-unfoldable pub kind : Parser Kind
+unfoldable pub kind : Parser Head
 kind = do
   c ← byte
   kindOf c
@@ -176,14 +176,14 @@ elementLabel Two = label Two
 elementLabel Three = label Three
 
 -- whether a label repeats another, under a rule
-abbrev pub repeats : Siblings → Label → Label → Bool
-repeats Names l m = sameBytes (l .name) (m .name)
-repeats Ids l m = eqb (l .id .0) (m .id .0)
-repeats Free l m = false
+abbrev pub sameLabel : Siblings → Label → Label → Bool
+sameLabel Names l m = sameBytes (l .name) (m .name)
+sameLabel Ids l m = eqb (l .id .0) (m .id .0)
+sameLabel Free l m = false
 
 unfoldable pub repeatsAny : Siblings → Label → List Label → Bool
 repeatsAny r l [] = false
-repeatsAny r l (m ∷ ms) = repeats r l m || repeatsAny r l ms
+repeatsAny r l (m ∷ ms) = sameLabel r l m || repeatsAny r l ms
 
 -- n columns after the earlier labels, whose types p reads; 5 is tested once a column is read
 unfoldable pub columns : Edition → Siblings → Parser ColumnType → ℕ → List Label → Parser Columns
@@ -214,7 +214,7 @@ structType v r n p = do
   pure (cstruct cs)
 
 -- the rest of a type, whose inner types p reads
-unfoldable pub body : Edition → Siblings → Parser ColumnType → Kind → Parser ColumnType
+unfoldable pub body : Edition → Siblings → Parser ColumnType → Head → Parser ColumnType
 body v r p (aLeaf l) = pure (cleaf l)
 body v r p (aStruct n) = structType v r n p
 body v r p aList = listType v p

@@ -3,9 +3,5 @@ pub mod Parser
 pub mod Limits
 pub mod Tree
 pub mod Layout
-pub mod Answers
-pub mod Scan
-pub mod Pass
-pub mod Seen
-pub mod Stands
 pub mod Find
+pub mod code

@@ -1,4 +1,5 @@
--- Document 01, "Layouts", and document 02, L1 and L5: types and layouts as trees. antt has no nested recursion, so lists of columns are data types of their own.
+-- Document 01, "Layouts", and document 02, L1 and L5: types and layouts as trees. antt has no nested recursion, so lists of columns are data types of their
+-- own.
 use Prim.Native.Nat.{ℕ, zero, suc}
 use mathlib.Core.List.{List, []}
 use mathlib.Core.Bool.{Bool}

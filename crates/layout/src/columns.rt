@@ -2,8 +2,8 @@
 ghost use mathlib.Core.Path.{_≡_};
 ghost use Prim.Native.Nat.{_+_, _≤_};
 ghost use lib.ListN.{length};
-ghost use Rattle.layout.specs.Layout.{requiredMark, labelRest, label, elementLabel, repeats};
-ghost use Rattle.layout.specs.Answers.{markRes, labelRes, labelIn, labelAt, spanAt, spanIn};
+ghost use Rattle.layout.specs.Layout.{requiredMark, labelRest, label, elementLabel, sameLabel};
+ghost use Rattle.layout.specs.code.Answers.{markRes, labelRes, labelIn, labelAt, spanAt, spanIn};
 ghost use Rattle.layout.specs.declared.edition.Edition.{Edition as EditionOf};
 use crate::bytes::Span;
 use crate::bytes::same_bytes;
@@ -160,7 +160,7 @@ impl Cursor {
 pub fn same_label(rule: Siblings, s: &[u8], l: Label, t: &[u8], m: Label) -> bool
     requires { ⌜ l .name .start + l .name .len ≤ length (now s) ⌝ }
     requires { ⌜ m .name .start + m .name .len ≤ length (now t) ⌝ }
-    ensures { λ r. ⌜ r ≡ repeats rule (labelAt (now (s .entry)) l) (labelAt (now (t .entry)) m) ⌝ }
+    ensures { λ r. ⌜ r ≡ sameLabel rule (labelAt (now (s .entry)) l) (labelAt (now (t .entry)) m) ⌝ }
 {
     match rule {
         Siblings::Names => {

@@ -2,7 +2,7 @@
 ghost use mathlib.Core.Path.{_≡_};
 ghost use Rattle.layout.specs.Parser.{byte, u16, u32};
 ghost use Rattle.layout.specs.Layout.{text};
-ghost use Rattle.layout.specs.Answers.{stepRes, shortRes, longRes, textRes, textIn};
+ghost use Rattle.layout.specs.code.Answers.{stepRes, shortRes, longRes, textRes, textIn};
 use crate::bytes::Span;
 use crate::limits::LONGEST_NAME;
 

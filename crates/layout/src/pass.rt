@@ -2,9 +2,9 @@
 ghost use mathlib.Core.Path.{_≡_};
 ghost use mathlib.Core.List.{[]};
 ghost use Rattle.layout.specs.Parser.{u32};
-ghost use Rattle.layout.specs.Layout.{label, elementLabel, plainLeaf, datetimeKind, decimalKind, listType, columns, type};
-ghost use Rattle.layout.specs.Pass.{typeRest};
-ghost use Rattle.layout.specs.Answers.{movedOf};
+ghost use Rattle.layout.specs.Layout.{label, elementLabel, plainLeaf, datetimeHead, decimalHead, listType, columns, type};
+ghost use Rattle.layout.specs.code.Pass.{typeRest};
+ghost use Rattle.layout.specs.code.Answers.{movedOf};
 ghost use Rattle.layout.specs.declared.columns.Siblings.{Siblings};
 ghost use Rattle.layout.specs.declared.types.PlainLeaf.{PlainLeaf as PlainLeafOf};
 use crate::columns::MarkRead;
@@ -66,7 +66,7 @@ pub fn pass_element_label(s: &[u8], v: Edition, c: Cursor) -> Moved
 
 // A date-time's unit and zone.
 pub fn pass_datetime(s: &[u8], c: Cursor) -> Moved
-    ensures { λ r. ⌜ r ≡ movedOf (datetimeKind (now (s .entry)) (c .at)) ⌝ }
+    ensures { λ r. ⌜ r ≡ movedOf (datetimeHead (now (s .entry)) (c .at)) ⌝ }
 {
     match c.unit(s) {
         Unit::Is(_, d) => match d.text(s) {
@@ -79,7 +79,7 @@ pub fn pass_datetime(s: &[u8], c: Cursor) -> Moved
 
 // A decimal's precision and scale.
 pub fn pass_decimal(s: &[u8], c: Cursor) -> Moved
-    ensures { λ r. ⌜ r ≡ movedOf (decimalKind (now (s .entry)) (c .at)) ⌝ }
+    ensures { λ r. ⌜ r ≡ movedOf (decimalHead (now (s .entry)) (c .at)) ⌝ }
 {
     match c.decimal(s) {
         DecimalRead::Is(_, d) => Moved::To(d),

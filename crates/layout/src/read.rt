@@ -4,10 +4,10 @@ ghost use mathlib.Core.List.{[]};
 ghost use Prim.Native.Nat.{_+_, _≤_};
 ghost use lib.ListN.{length};
 ghost use Rattle.layout.specs.Layout.{plainLeaf, listType, type, columns, counted, layout};
-ghost use Rattle.layout.specs.Pass.{typeRest};
-ghost use Rattle.layout.specs.Scan.{scan};
-ghost use Rattle.layout.specs.Seen.{Keeps, Begins, Noted, Notes};
-ghost use Rattle.layout.specs.Answers.{movedOf, labelAt, spanIn, layoutOf};
+ghost use Rattle.layout.specs.code.Pass.{typeRest};
+ghost use Rattle.layout.specs.code.Scan.{repeats};
+ghost use Rattle.layout.specs.code.Seen.{Keeps, Begins, Noted, Notes};
+ghost use Rattle.layout.specs.code.Answers.{movedOf, labelAt, spanIn, layoutOf};
 ghost use Rattle.layout.specs.declared.types.PlainLeaf.{PlainLeaf as PlainLeafOf};
 use crate::columns::ColumnRange;
 use crate::columns::Label;
@@ -166,7 +166,7 @@ fn is_repeated(
     requires { ⌜ spanIn (now s) (l .name) ⌝ }
     requires { ⌜ Begins (earlier .edition) (now s) (d .at) (labelAt (now s) l) ⌝ }
     requires { ⌜ Noted (earlier .edition) rule depth (labelAt (now s) l) (earlier .count) (now s) (earlier .first .at) (now seen) ⌝ }
-    ensures { λ r. ⌜ r ≡ scan (earlier .edition) rule depth (labelAt (now (s .entry)) l) (earlier .count) (now (s .entry)) (earlier .first .at) ⌝ }
+    ensures { λ r. ⌜ r ≡ repeats (earlier .edition) rule depth (labelAt (now (s .entry)) l) (earlier .count) (now (s .entry)) (earlier .first .at) ⌝ }
     ensures { λ _. ⌜ Keeps (now (seen .entry)) (now (seen .exit)) ⌝ }
     ensures { λ _. ⌜ Notes (earlier .edition) rule (now (s .entry)) (earlier .first .at) (labelAt (now (s .entry)) l) (now (seen .exit)) ⌝ }
 {
@@ -184,7 +184,7 @@ fn is_repeated(
 // work would be exponential in the depth.
 fn repeats(s: &[u8], earlier: ColumnRange, rule: Siblings, depth: u8, l: Label) -> bool
     requires { ⌜ l .name .start + l .name .len ≤ length (now s) ⌝ }
-    ensures { λ r. ⌜ r ≡ scan (earlier .edition) rule depth (labelAt (now (s .entry)) l) (earlier .count) (now (s .entry)) (earlier .first .at) ⌝ }
+    ensures { λ r. ⌜ r ≡ repeats (earlier .edition) rule depth (labelAt (now (s .entry)) l) (earlier .count) (now (s .entry)) (earlier .first .at) ⌝ }
 {
     if let Siblings::Free = rule {
         return false;

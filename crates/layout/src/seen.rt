@@ -4,8 +4,8 @@
 ghost use mathlib.Core.Path.{_≡_};
 ghost use Prim.Native.Nat.{_+_, _*_, _≤_, _<_};
 ghost use lib.ListN.{length};
-ghost use Rattle.layout.specs.Answers.{labelAt, spanIn};
-ghost use Rattle.layout.specs.Seen.{mixed, hashBytes, labelHash, far, firstSlot, slotAfter, mayRepeat, Searched};
+ghost use Rattle.layout.specs.code.Answers.{labelAt, spanIn};
+ghost use Rattle.layout.specs.code.Seen.{mixed, hashBytes, labelHash, far, firstSlot, slotAfter, mayRepeat, Searched};
 use crate::bytes::wide;
 use crate::columns::Label;
 use crate::columns::Labelled;

@@ -1,7 +1,7 @@
 // What a type begins with: its code and what follows up to its columns or its element.
 ghost use mathlib.Core.Path.{_≡_};
-ghost use Rattle.layout.specs.Layout.{unit, plainLeaf, integerCode, floatCode, validDecimal, decimalParams, kind, datetimeKind, decimalKind, structKind, arrayKind};
-ghost use Rattle.layout.specs.Answers.{unitRes, decimalRes, headRes, headIn};
+ghost use Rattle.layout.specs.Layout.{unit, plainLeaf, integerCode, floatCode, validDecimal, decimalParams, kind, datetimeHead, decimalHead, structHead, arrayHead};
+ghost use Rattle.layout.specs.code.Answers.{unitRes, decimalRes, headRes, headIn};
 use crate::bytes::Span;
 use crate::cursor::Cursor;
 use crate::cursor::Long;
@@ -143,7 +143,7 @@ impl Cursor {
     }
 
     fn datetime_head(self, s: &[u8]) -> Head
-        ensures { λ r. ⌜ headRes (now (s .entry)) r ≡ datetimeKind (now (s .entry)) (self .at) ⌝ }
+        ensures { λ r. ⌜ headRes (now (s .entry)) r ≡ datetimeHead (now (s .entry)) (self .at) ⌝ }
         ensures { λ r. ⌜ headIn (now (s .entry)) r ⌝ }
     {
         match self.unit(s) {
@@ -162,7 +162,7 @@ impl Cursor {
     }
 
     fn decimal_head(self, s: &[u8]) -> Head
-        ensures { λ r. ⌜ headRes (now (s .entry)) r ≡ decimalKind (now (s .entry)) (self .at) ⌝ }
+        ensures { λ r. ⌜ headRes (now (s .entry)) r ≡ decimalHead (now (s .entry)) (self .at) ⌝ }
         ensures { λ r. ⌜ headIn (now (s .entry)) r ⌝ }
     {
         match self.decimal(s) {
@@ -178,7 +178,7 @@ impl Cursor {
     }
 
     fn struct_head(self, s: &[u8]) -> Head
-        ensures { λ r. ⌜ headRes (now (s .entry)) r ≡ structKind (now (s .entry)) (self .at) ⌝ }
+        ensures { λ r. ⌜ headRes (now (s .entry)) r ≡ structHead (now (s .entry)) (self .at) ⌝ }
         ensures { λ r. ⌜ headIn (now (s .entry)) r ⌝ }
     {
         match self.short(s) {
@@ -188,7 +188,7 @@ impl Cursor {
     }
 
     fn array_head(self, s: &[u8]) -> Head
-        ensures { λ r. ⌜ headRes (now (s .entry)) r ≡ arrayKind (now (s .entry)) (self .at) ⌝ }
+        ensures { λ r. ⌜ headRes (now (s .entry)) r ≡ arrayHead (now (s .entry)) (self .at) ⌝ }
         ensures { λ r. ⌜ headIn (now (s .entry)) r ⌝ }
     {
         match self.long(s) {

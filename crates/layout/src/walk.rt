@@ -1,6 +1,6 @@
 // Walking over a layout that was read: `head` and `element_label` step into a type's parts; a type is passed over here.
 ghost use mathlib.Core.Path.{_≡_};
-ghost use Rattle.layout.specs.Stands.{TypeAt};
+ghost use Rattle.layout.specs.code.Stands.{TypeAt};
 use crate::cursor::Cursor;
 use crate::cursor::Moved;
 use crate::edition::Edition;

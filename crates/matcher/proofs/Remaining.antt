@@ -12,8 +12,8 @@ use Rattle.store.proofs.Holds.{holds-exact}
 use Rattle.layout.specs.Bytes.{Bytes}
 use Rattle.layout.specs.Tree.{Columns, cnil}
 use Rattle.layout.specs.Layout.{label, columns, type}
-use Rattle.layout.specs.Answers.{labelRes, labelAt, labelIn, spanIn}
-use Rattle.layout.specs.Stands.{ColumnsAt}
+use Rattle.layout.specs.code.Answers.{labelRes, labelAt, labelIn, spanIn}
+use Rattle.layout.specs.code.Stands.{ColumnsAt}
 use Rattle.layout.specs.declared.columns.Label.{Label as LabelSpan}
 use Rattle.layout.specs.declared.columns.Labelled.{Labelled}
 use Rattle.layout.specs.declared.columns.Siblings.the-variants.{Free}
@@ -30,7 +30,7 @@ use Rattle.plan.specs.Result.{Result}
 use Rattle.plan.specs.Selector.{Selectors}
 use Rattle.plan.specs.Encode.{encodeSelectors}
 use Rattle.matching.specs.Build.{inPlace, inserts, attachFields}
-use Rattle.builder.specs.Answers.{rowOf, isRefused, isBare, lenOf, failedOf, joinRow, WroteRow, Makes, MakesRow, DefaultsAt, defaultsAt, attachField}
+use Rattle.builder.specs.code.Answers.{rowOf, isRefused, isBare, lenOf, failedOf, joinRow, WroteRow, Makes, MakesRow, DefaultsAt, defaultsAt, attachField}
 use Rattle.builder.specs.declared.answer.Made.{Made}
 use Rattle.builder.specs.declared.answer.Made.the-variants.{Refused, Bare, Built}
 use Rattle.builder.specs.declared.answer.Row.{Row}
@@ -62,23 +62,28 @@ join-failed a n (Bare p) h = clash (cc)
 join-failed a n (Built l) h = clash (cc)
 
 -- the same stores under other names of the fields, of their ends and of the index
-row-moved : {b b′ e e′ : ℕ} (out : Bytes) {k k′ : ℕ} {X Y : Result Selectors} (o : Bytes) → b ≡ b′ → e ≡ e′ → k ≡ k′ → X ≡ Y → WroteRow b e out k X o → WroteRow b′ e′ out k′ Y o
+row-moved : {b b′ e e′ : ℕ} (out : Bytes) {k k′ : ℕ} {X Y : Result Selectors} (o : Bytes) → b ≡ b′ → e ≡ e′ → k ≡ k′ → X ≡ Y → WroteRow b e out k X o →
+    WroteRow b′ e′ out k′ Y o
 row-moved out o p q r s w = rw (← p, ← q, ← r, ← s) w
 
 -- ---- the loop
 
-pub record Remaining (p : Policy) (how : Matching) (v w : Edition) (d : ℕ) (incoming : Bytes) (n at : ℕ) (table : Bytes) (dv : DefaultFieldValues) (target : Bytes) (m bt : ℕ) (out₀ : Bytes) (k : ℕ) (out : Bytes) (from index to : ℕ) (same : Bool) : Type 0 where
+pub record Remaining (p : Policy) (how : Matching) (v w : Edition) (d : ℕ) (incoming : Bytes) (n at : ℕ) (table : Bytes) (dv : DefaultFieldValues)
+    (target : Bytes) (m bt : ℕ) (out₀ : Bytes) (k : ℕ) (out : Bytes) (from index to : ℕ) (same : Bool) : Type 0 where
   pub after : k ≤ to
   pub room : to ≤ 65536 * from
   pub few : index ≤ m
   pub kept : length out ≡ length out₀
   pub rest : ColumnsAt w d target (m - index) from
   pub answer : (T : DefaultsAt table dv) (P : ColumnsAt v d incoming n at) (Q : ColumnsAt w d target m bt)
-      → rowOf 0 (attachFields how p (defaultsAt dv T) (Q .columns) (P .columns)) ≡ joinRow same (to - k) (rowOf index (attachFields how p (defaultsAt dv T) (rest .columns) (P .columns)))
+      → rowOf 0 (attachFields how p (defaultsAt dv T) (Q .columns) (P .columns)) ≡ joinRow same (to - k)
+      (rowOf index (attachFields how p (defaultsAt dv T) (rest .columns) (P .columns)))
   pub stores : (T : DefaultsAt table dv) (P : ColumnsAt v d incoming n at) (Q : ColumnsAt w d target m bt) (o : Bytes)
-      → WroteRow from (rest .end) out to (attachFields how p (defaultsAt dv T) (rest .columns) (P .columns)) o → WroteRow bt (Q .end) out₀ k (attachFields how p (defaultsAt dv T) (Q .columns) (P .columns)) o
+      → WroteRow from (rest .end) out to (attachFields how p (defaultsAt dv T) (rest .columns) (P .columns)) o → WroteRow bt (Q .end) out₀ k
+      (attachFields how p (defaultsAt dv T) (Q .columns) (P .columns)) o
 
-module _ {p : Policy} {how : Matching} {v w : Edition} {d : ℕ} {incoming : Bytes} {n at : ℕ} {table : Bytes} {dv : DefaultFieldValues} {target : Bytes} {m bt : ℕ} {out₀ : Bytes} {k : ℕ} where
+module _ {p : Policy} {how : Matching} {v w : Edition} {d : ℕ} {incoming : Bytes} {n at : ℕ} {table : Bytes} {dv : DefaultFieldValues} {target : Bytes}
+    {m bt : ℕ} {out₀ : Bytes} {k : ℕ} where
   pub remaining-all : ColumnsAt w d target m bt → k ≤ 65536 * bt → Remaining p how v w d incoming n at table dv target m bt out₀ k out₀ bt 0 k true
   remaining-all G h =
       let e : m ≡ m - 0 = omega arith in
@@ -88,8 +93,10 @@ module _ {p : Policy} {how : Matching} {v w : Edition} {d : ℕ} {incoming : Byt
         few = omega arith;
         kept = refl;
         rest = record { columns = G .columns; end = G .end; reads = ap (λ (i : ℕ). columns w Free (type w Free d) i [] target bt) (sym e) ∙ G .reads };
-        answer = λ T P Q. ap (λ (cs : Columns). rowOf 0 (attachFields how p (defaultsAt dv T) cs (P .columns))) (same-columns Q G .0) ∙ join-none _ (omega arith);
-        stores = λ T P Q o x. row-moved out₀ o refl (same-columns G Q .1) refl (ap (λ (cs : Columns). attachFields how p (defaultsAt dv T) cs (P .columns)) (same-columns G Q .0)) x;
+        answer = λ T P Q. ap (λ (cs : Columns). rowOf 0 (attachFields how p (defaultsAt dv T) cs (P .columns))) (same-columns Q G .0) ∙ join-none _
+            (omega arith);
+        stores = λ T P Q o x. row-moved out₀ o refl (same-columns G Q .1) refl (ap
+            (λ (cs : Columns). attachFields how p (defaultsAt dv T) cs (P .columns)) (same-columns G Q .0)) x;
       }
 
   module _ {out : Bytes} {from index to : ℕ} {same : Bool} (R : Remaining p how v w d incoming n at table dv target m bt out₀ k out from index to same) where
@@ -99,12 +106,14 @@ module _ {p : Policy} {how : Matching} {v w : Edition} {d : ℕ} {incoming : Byt
     unfolding attachFields rowOf WroteRow encodeSelectors inPlace overlay
     remaining-none h T P Q =
         let (z, y) = no-column (R .rest) (let q : m - index ≡ 0 = omega arith in q) in
-        let here : rowOf index (attachFields how p (defaultsAt dv T) (R .rest .columns) (P .columns)) ≡ Done true 0 = ap (λ (cs : Columns). rowOf index (attachFields how p (defaultsAt dv T) cs (P .columns))) z in
+        let here : rowOf index (attachFields how p (defaultsAt dv T) (R .rest .columns) (P .columns)) ≡ Done true 0 = ap
+        (λ (cs : Columns). rowOf index (attachFields how p (defaultsAt dv T) cs (P .columns))) z in
         let whole : joinRow same (to - k) (Done true 0) ≡ Done same (to - k) = rw (and-true same, add-zero) in
         let stored : WroteRow from from out to (attachFields how p (defaultsAt dv T) cnil (P .columns)) out = (holds-exact out to [] refl, omega arith) in
         record {
           answer = sym (R .answer T P Q ∙ ap (joinRow same (to - k)) here ∙ whole);
-          wrote = R .stores T P Q out (row-moved out out refl (sym y) refl (ap (λ (cs : Columns). attachFields how p (defaultsAt dv T) cs (P .columns)) (sym z)) stored);
+          wrote = R .stores T P Q out (row-moved out out refl (sym y) refl (ap (λ (cs : Columns). attachFields how p (defaultsAt dv T) cs (P .columns))
+              (sym z)) stored);
         }
 
     -- a field that stands there has a label
@@ -128,19 +137,24 @@ module _ {p : Policy} {how : Matching} {v w : Edition} {d : ℕ} {incoming : Byt
       field-after = let (a, (b, x)) = label-ends target w from (label-got target e f) in omega (arith, b)
 
       module _ {i : Bool} (hi : i ≡ inserts (p .«missing_struct_fields»)) {r : Made} (o : Bytes)
-          (E : (T : DefaultsAt table dv) (P : ColumnsAt v d incoming n at) → Makes from (field .head .end) out to (attachField how p (defaultsAt dv T) i 14 (labelAt target l) (field .head .tree) (P .columns)) r o) where
+          (E : (T : DefaultsAt table dv) (P : ColumnsAt v d incoming n at) → Makes from (field .head .end) out to
+          (attachField how p (defaultsAt dv T) i 14 (labelAt target l) (field .head .tree) (P .columns)) r o) where
         first-made : (T : DefaultsAt table dv) (P : ColumnsAt v d incoming n at)
-            → Makes from (field .head .end) out to (attachField how p (defaultsAt dv T) (inserts (p .«missing_struct_fields»)) 14 (labelAt target l) (field .head .tree) (P .columns)) r o
-        first-made T P = subst (λ (b : Bool). Makes from (field .head .end) out to (attachField how p (defaultsAt dv T) b 14 (labelAt target l) (field .head .tree) (P .columns)) r o) hi (E T P)
+            → Makes from (field .head .end) out to (attachField how p (defaultsAt dv T) (inserts (p .«missing_struct_fields»)) 14 (labelAt target l)
+            (field .head .tree) (P .columns)) r o
+        first-made T P = subst (λ (b : Bool). Makes from (field .head .end) out to
+            (attachField how p (defaultsAt dv T) b 14 (labelAt target l) (field .head .tree) (P .columns)) r o) hi (E T P)
 
         rest-is : (T : DefaultsAt table dv) (P : ColumnsAt v d incoming n at)
             → attachFields how p (defaultsAt dv T) (R .rest .columns) (P .columns)
-            ≡ before (attachField how p (defaultsAt dv T) (inserts (p .«missing_struct_fields»)) 14 (labelAt target l) (field .head .tree) (P .columns)) (attachFields how p (defaultsAt dv T) (field .tail .columns) (P .columns))
+            ≡ before (attachField how p (defaultsAt dv T) (inserts (p .«missing_struct_fields»)) 14 (labelAt target l) (field .head .tree) (P .columns))
+            (attachFields how p (defaultsAt dv T) (field .tail .columns) (P .columns))
         unfolding attachFields
         rest-is T P = ap (λ (cs : Columns). attachFields how p (defaultsAt dv T) cs (P .columns)) (field .is)
 
         -- it is refused
-        pub remaining-stop : {row : Row} → row ≡ failedOf r → isRefused r ≡ true → (T : DefaultsAt table dv) (P : ColumnsAt v d incoming n at) (Q : ColumnsAt w d target m bt)
+        pub remaining-stop : {row : Row} → row ≡ failedOf r → isRefused r ≡ true → (T : DefaultsAt table dv) (P : ColumnsAt v d incoming n at)
+            (Q : ColumnsAt w d target m bt)
             → MakesRow bt (Q .end) out₀ k (attachFields how p (defaultsAt dv T) (Q .columns) (P .columns)) row o
         remaining-stop g h T P Q =
             let A = first-made T P in
@@ -148,7 +162,8 @@ module _ {p : Policy} {how : Matching} {v w : Edition} {d : ℕ} {incoming : Byt
             ap (rowOf index) (rest-is T P) ∙ sym (row-stop index _ (attachFields how p (defaultsAt dv T) (field .tail .columns) (P .columns)) (A .answer) h) in
             record {
               answer = g ∙ sym (R .answer T P Q ∙ ap (joinRow same (to - k)) here ∙ join-failed same (to - k) r h);
-              wrote = R .stores T P Q o (row-moved out o refl refl refl (sym (rest-is T P)) (row-wrote-stopped _ (attachFields how p (defaultsAt dv T) (field .tail .columns) (P .columns)) from (R .rest .end) out to o A h));
+              wrote = R .stores T P Q o (row-moved out o refl refl refl (sym (rest-is T P))
+                  (row-wrote-stopped _ (attachFields how p (defaultsAt dv T) (field .tail .columns) (P .columns)) from (R .rest .end) out to o A h));
             }
 
         -- the index behind it
@@ -156,15 +171,19 @@ module _ {p : Policy} {how : Matching} {v w : Edition} {d : ℕ} {incoming : Byt
         remaining-room h T P = let a = makes-room _ (first-made T P) h in let b = R .room in omega arith
 
         -- those after it
-        pub remaining-more : {e′ len : ℕ} {b : Bool} → isRefused r ≡ false → DefaultsAt table dv → ColumnsAt v d incoming n at → length o ≡ length out → e′ ≡ field .head .end → len ≡ lenOf r
+        pub remaining-more : {e′ len : ℕ} {b : Bool} → isRefused r ≡ false → DefaultsAt table dv → ColumnsAt v d incoming n at → length o ≡ length out →
+            e′ ≡ field .head .end → len ≡ lenOf r
             → b ≡ (same && isBare index r) → Remaining p how v w d incoming n at table dv target m bt out₀ k o e′ (index + 1) (to + len) b
         remaining-more {e′} {len} {b} h T₀ P₀ lo he hl hb =
             let a = R .after in
             let z = remaining-room h T₀ P₀ in
             let fewer : m - index - 1 ≡ m - (index + 1) = omega arith in
             let dist : to - k + lenOf r ≡ to + len - k = omega arith in
-            let here : (T : DefaultsAt table dv) (P : ColumnsAt v d incoming n at) → rowOf index (attachFields how p (defaultsAt dv T) (R .rest .columns) (P .columns)) ≡ joinRow (isBare index r) (lenOf r) (rowOf (index + 1) (attachFields how p (defaultsAt dv T) (field .tail .columns) (P .columns))) =
-            λ T P. ap (rowOf index) (rest-is T P) ∙ row-more index _ (attachFields how p (defaultsAt dv T) (field .tail .columns) (P .columns)) (first-made T P .answer) h in
+            let here : (T : DefaultsAt table dv) (P : ColumnsAt v d incoming n at) → rowOf index
+            (attachFields how p (defaultsAt dv T) (R .rest .columns) (P .columns)) ≡ joinRow (isBare index r) (lenOf r)
+            (rowOf (index + 1) (attachFields how p (defaultsAt dv T) (field .tail .columns) (P .columns))) =
+            λ T P. ap (rowOf index) (rest-is T P) ∙ row-more index _ (attachFields how p (defaultsAt dv T) (field .tail .columns) (P .columns))
+            (first-made T P .answer) h in
             record {
               after = omega arith;
               room = omega arith;
@@ -173,11 +192,16 @@ module _ {p : Policy} {how : Matching} {v w : Edition} {d : ℕ} {incoming : Byt
               rest = record {
                 columns = field .tail .columns;
                 end = field .tail .end;
-                reads = ap (λ (j : ℕ). columns w Free (type w Free d) j [] target e′) (sym fewer) ∙ ap (λ (j : ℕ). columns w Free (type w Free d) (m - index - 1) [] target j) he ∙ field .tail .reads;
+                reads = ap (λ (j : ℕ). columns w Free (type w Free d) j [] target e′) (sym fewer) ∙ ap
+                    (λ (j : ℕ). columns w Free (type w Free d) (m - index - 1) [] target j) he ∙ field .tail .reads;
               };
-              answer = λ T P Q. R .answer T P Q ∙ ap (joinRow same (to - k)) (here T P) ∙ join-join same (isBare index r) (to - k) (lenOf r) (rowOf (index + 1) (attachFields how p (defaultsAt dv T) (field .tail .columns) (P .columns)))
-                  ∙ ap (λ (x : ℕ). joinRow (same && isBare index r) x (rowOf (index + 1) (attachFields how p (defaultsAt dv T) (field .tail .columns) (P .columns)))) dist
-                  ∙ ap (λ (x : Bool). joinRow x (to + len - k) (rowOf (index + 1) (attachFields how p (defaultsAt dv T) (field .tail .columns) (P .columns)))) (sym hb);
+              answer = λ T P Q. R .answer T P Q ∙ ap (joinRow same (to - k)) (here T P) ∙ join-join same (isBare index r) (to - k) (lenOf r)
+                  (rowOf (index + 1) (attachFields how p (defaultsAt dv T) (field .tail .columns) (P .columns)))
+                  ∙ ap (λ (x : ℕ). joinRow (same && isBare index r) x (rowOf (index + 1)
+                  (attachFields how p (defaultsAt dv T) (field .tail .columns) (P .columns)))) dist
+                  ∙ ap (λ (x : Bool). joinRow x (to + len - k) (rowOf (index + 1)
+                  (attachFields how p (defaultsAt dv T) (field .tail .columns) (P .columns)))) (sym hb);
               stores = λ T P Q o′ x. R .stores T P Q o′ (row-moved out o′ refl (field .ends) refl (sym (rest-is T P))
-                  (row-wrote _ (attachFields how p (defaultsAt dv T) (field .tail .columns) (P .columns)) (field .tail .end) o′ (first-made T P) h lo (row-moved o o′ he refl (ap (λ (j : ℕ). to + j) hl) refl x)));
+                  (row-wrote _ (attachFields how p (defaultsAt dv T) (field .tail .columns) (P .columns)) (field .tail .end) o′ (first-made T P) h lo
+                  (row-moved o o′ he refl (ap (λ (j : ℕ). to + j) hl) refl x)));
             }

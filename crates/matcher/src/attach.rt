@@ -2,12 +2,12 @@
 // mapping that turns out to be left out is written over, and after a refusal nothing is said of the buffer.
 ghost use Prim.Native.Nat.{_+_, _*_, _≤_, _<_};
 ghost use lib.ListN.{length, take};
-ghost use Rattle.layout.specs.Answers.{spanIn};
-ghost use Rattle.defaults.specs.Stands.{IndexedTableAt};
-ghost use Rattle.builder.specs.Bundles.{TableOf, TypesAt, RowsAt};
-ghost use Rattle.matcher.specs.Contracts.{FieldsOverAt, PairAt, PairNamed, SoughtAt, StructRoom};
-ghost use Rattle.matcher.specs.Contracts.{AttachedTypes, AttachedNested, AttachedStruct, AttachedRows, AttachedField};
-ghost use Rattle.matcher.specs.Contracts.{AttachedPair, AttachedElement, AttachedInner};
+ghost use Rattle.layout.specs.code.Answers.{spanIn};
+ghost use Rattle.defaults.specs.code.Stands.{IndexedTableAt};
+ghost use Rattle.builder.specs.code.Bundles.{TableOf, TypesAt, RowsAt};
+ghost use Rattle.matcher.specs.code.Contracts.{FieldsOverAt, PairAt, PairNamed, SoughtAt, StructRoom};
+ghost use Rattle.matcher.specs.code.Contracts.{AttachedTypes, AttachedNested, AttachedStruct, AttachedRows, AttachedField};
+ghost use Rattle.matcher.specs.code.Contracts.{AttachedPair, AttachedElement, AttachedInner};
 use builder::answer::Made;
 use builder::answer::Row;
 use builder::answer::both;

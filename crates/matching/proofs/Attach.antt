@@ -5,7 +5,7 @@ use mathlib.Core.Bool.{Bool, true, false, _&&_}
 use borrow.Author.Tests.{eqb-true}
 use Rattle.layout.specs.Parser.{choose}
 use Rattle.layout.specs.Tree.{LeafType, leafOf, Label, ColumnType, cleaf, cstruct, clist, carray, Columns, cnil, ccons, DataType, leaf, dtypeOf}
-use Rattle.layout.specs.Find.{Lookup, absent, at, counterpart}
+use Rattle.layout.specs.Find.{Lookup, absent, present, counterpart}
 use Rattle.layout.specs.declared.columns.Position.{Position}
 use Rattle.layout.specs.declared.matching.Matching.{Matching}
 use Rattle.layout.proofs.Ways.{clash}
@@ -23,15 +23,19 @@ use Rattle.plan.specs.Selector.{Selector, position, constant, cast, Selectors, 
 use Rattle.plan.specs.Check.{castFits, fromNull}
 use Rattle.plan.proofs.Results.{never-refused, gives-eq, accepted-eq, both, bind-gives, demand-gives, placed-accepted, answered-accepted}
 use Rattle.matching.specs.Default.{Defaults, noDefaults, missingValue}
-use Rattle.matching.specs.Build.{leafPart, structPart, Element, listPart, arrayPart, isNullType, isByName, unlessNullType, renamed, sameElement, distinct, extraColumns, inserts, keepsRequired, fillsRequired, missing, ruled, structSelector, listSelector, arraySelector, first, sought, attachTransforms, attachFields, buildColumnSelector, buildFrom, build}
+use Rattle.matching.specs.Build.{leafPart, structPart, Element, listPart, arrayPart, isNullType, isByName, unlessNullType, renamed, sameElement, distinct}
+use Rattle.matching.specs.Build.{extraColumns, inserts, keepsRequired, fillsRequired, missing, ruled, structSelector, listSelector, arraySelector, first}
+use Rattle.matching.specs.Build.{sought, attachTransforms, attachFields, buildColumnSelector, buildFrom, build}
 
 module _ (v : Matching) where
   mutual
     -- `Attach d u k t s`: s takes position k, of type t, to type u
     pub data Attach : Defaults → ColumnType → Position → ColumnType → Selector → Type 0 where
       a-same : {d : Defaults} {k : Position} {l : LeafType} → Attach d (cleaf l) k (cleaf l) (position k)
-      a-cast : {d : Defaults} {k : Position} {t u : ColumnType} {x : DataType} {o : CastOption} → castFits (dtypeOf t) x o ≡ true → dtypeOf u ≡ x → Attach d u k t (cast (position k) x o)
-      a-struct : {d : Defaults} {k : Position} {fs gs : Columns} {ss : Selectors} {s : Selector} → distinct v fs ≡ true → AttachAll d gs fs ss → structSelector k fs ss ≡ s
+      a-cast : {d : Defaults} {k : Position} {t u : ColumnType} {x : DataType} {o : CastOption} → castFits (dtypeOf t) x o ≡ true → dtypeOf u ≡ x →
+          Attach d u k t (cast (position k) x o)
+      a-struct : {d : Defaults} {k : Position} {fs gs : Columns} {ss : Selectors} {s : Selector} → distinct v fs ≡ true → AttachAll d gs fs ss →
+          structSelector k fs ss ≡ s
           → Attach d (cstruct gs) k (cstruct fs) s
       a-list : {d : Defaults} {k : Position} {a b : Label} {t u : ColumnType} {e s : Selector} → sameElement v a b ≡ true → keepsRequired a t b ≡ true
           → Attach noDefaults u first t e → listSelector k (renamed v b a e) ≡ s → Attach d (clist b u) k (clist a t) s
@@ -41,9 +45,11 @@ module _ (v : Matching) where
     -- `AttachAll d gs fs ss`: ss takes the columns fs to the columns gs
     pub data AttachAll : Defaults → Columns → Columns → Selectors → Type 0 where
       a-nil : {d : Defaults} {fs : Columns} → AttachAll d cnil fs snil
-      a-found : {d : Defaults} {a b : Label} {k : Position} {t u : ColumnType} {gs fs : Columns} {s x : Selector} {ss : Selectors} → counterpart v b fs ≡ at k a t
+      a-found : {d : Defaults} {a b : Label} {k : Position} {t u : ColumnType} {gs fs : Columns} {s x : Selector} {ss : Selectors} → counterpart v b fs
+          ≡ present k a t
           → keepsRequired a t b ≡ true → Attach d u k t s → renamed v b a s ≡ x → AttachAll d gs fs ss → AttachAll d (ccons b u gs) fs (scons x ss)
-      a-missing : {d : Defaults} {b : Label} {u : ColumnType} {gs fs : Columns} {y : Value} {x : Selector} {ss : Selectors} → counterpart v b fs ≡ absent → missingValue d b u ≡ gives y
+      a-missing : {d : Defaults} {b : Label} {u : ColumnType} {gs fs : Columns} {y : Value} {x : Selector} {ss : Selectors} → counterpart v b fs ≡
+          absent → missingValue d b u ≡ gives y
           → fillsRequired b u y ≡ true → constant (b .name) (dtypeOf u) y ≡ x → AttachAll d gs fs ss → AttachAll d (ccons b u gs) fs (scons x ss)
 
 -- ---- the parts of an incoming type
@@ -116,12 +122,14 @@ module _ (v : Matching) (p : Policy) where
       go (Verdict.cast o) q e = rw (← gives-eq e) (a-cast (casts-pass a b o (casts p a b o q)) refl)
 
   -- a null column is cast, another goes on
-  unless-null : (d : Defaults) (k : Position) (u t : ColumnType) (r : Result Selector) {s : Selector} → unlessNullType v p k u t r ≡ gives s → FromNull (dtypeOf u)
+  unless-null : (d : Defaults) (k : Position) (u t : ColumnType) (r : Result Selector) {s : Selector} → unlessNullType v p k u t r ≡ gives s → FromNull
+      (dtypeOf u)
       → (r ≡ gives s → Attach v d u k t s) → Attach v d u k t s
   unfolding unlessNullType choose
   unless-null d k u t r {s} e c h = go (isByName v && isNullType t) refl e
     where
-      go : (b : Bool) → (isByName v && isNullType t) ≡ b → choose b (demand (p .«null_upcast») 15 (gives (cast (position k) (dtypeOf u) NonStrict))) r ≡ gives s → Attach v d u k t s
+      go : (b : Bool) → (isByName v && isNullType t) ≡ b → choose b (demand (p .«null_upcast») 15 (gives (cast (position k) (dtypeOf u) NonStrict))) r ≡
+          gives s → Attach v d u k t s
       go true q e = rw (← gives-eq (demand-gives _ _ _ e .1)) (a-cast (null-cast (dtypeOf u) t c (both (isByName v) q .1)) refl)
       go false q e = h e
 
@@ -137,7 +145,7 @@ module _ (v : Matching) (p : Policy) where
         let (y, p, e) = bind-gives _ _ e in
         let (m, e) = demand-gives _ _ _ e in
         a-missing q p m (gives-eq e) rest
-    column-attached (at k a t) q e rest =
+    column-attached (present k a t) q e rest =
         let (m, e) = demand-gives _ _ _ e in
         let (s, p, e) = bind-gives (f k t) _ e in
         a-found q m (step k t s p) (gives-eq e) rest
@@ -145,7 +153,8 @@ module _ (v : Matching) (p : Policy) where
   mutual
     unfolding attachTransforms attachFields
 
-    pub attachTransforms→ : (u : ColumnType) (d : Defaults) (k : Position) (t : ColumnType) {s : Selector} → attachTransforms v p d u k t ≡ gives s → Attach v d u k t s
+    pub attachTransforms→ : (u : ColumnType) (d : Defaults) (k : Position) (t : ColumnType) {s : Selector} → attachTransforms v p d u k t ≡ gives s →
+        Attach v d u k t s
     attachTransforms→ (cleaf b) d k t e =
         let (a, q, r) = bind-gives _ _ e in
         rw (leaf-is t q) (leaf-attached d k b a r)
@@ -174,7 +183,8 @@ module _ (v : Matching) (p : Policy) where
     attachFields→ (ccons b u gs) d fs e =
         let (s, q, e) = bind-gives _ _ e in
         let (ss, r, e) = bind-gives (attachFields v p d gs fs) _ e in
-        rw (← gives-eq e) (column-attached d (inserts (p .«missing_struct_fields»)) 14 b u (λ k t. attachTransforms v p d u k t) (λ k t s h. attachTransforms→ u d k t h) (counterpart v b fs) refl q (attachFields→ gs d fs r))
+        rw (← gives-eq e) (column-attached d (inserts (p .«missing_struct_fields»)) 14 b u (λ k t. attachTransforms v p d u k t)
+        (λ k t s h. attachTransforms→ u d k t h) (counterpart v b fs) refl q (attachFields→ gs d fs r))
 
   buildFrom→ : (gs : Columns) (d : Defaults) (fs : Columns) (i : ℕ) {ss : Selectors} → buildFrom v p d gs fs i ≡ accepted ss → AttachAll v d gs fs ss
   unfolding buildFrom buildColumnSelector
@@ -182,7 +192,8 @@ module _ (v : Matching) (p : Policy) where
   buildFrom→ (ccons b u gs) d fs i e =
       let (s, q, e) = placed-accepted _ _ _ e in
       let (ss, r, e) = answered-accepted (buildFrom v p d gs fs (i + 1)) _ e in
-      rw (← accepted-eq e) (column-attached d (inserts (p .«missing_columns»)) 11 b u (λ k t. attachTransforms v p d u k t) (λ k t s h. attachTransforms→ u d k t h) (counterpart v b fs) refl q (buildFrom→ gs d fs (i + 1) r))
+      rw (← accepted-eq e) (column-attached d (inserts (p .«missing_columns»)) 11 b u (λ k t. attachTransforms v p d u k t)
+      (λ k t s h. attachTransforms→ u d k t h) (counterpart v b fs) refl q (buildFrom→ gs d fs (i + 1) r))
 
   pub build→ : (d : Defaults) (Γ Δ : Columns) {ss : Selectors} → build v p d Γ Δ ≡ accepted ss → AttachAll v d Δ Γ ss
   unfolding build

@@ -8,7 +8,8 @@ use Rattle.layout.specs.declared.columns.FieldId.{FieldId}
 use Rattle.values.specs.Value.{vnull, vnil, vcons}
 use Rattle.plan.specs.Result.{gives, _>>=_, demand}
 use Rattle.plan.specs.Selector.{constant}
-use Rattle.matching.specs.Default.{noDefaults, none, leafDefault, FieldDefaults, withField, structDefault, buildIcebergDefaultValue, defaultsOf, missingValue}
+use Rattle.matching.specs.Default.{noDefaults, none, leafDefault, FieldDefaults, withField, structDefault, buildIcebergDefaultValue, defaultsOf}
+use Rattle.matching.specs.Default.{missingValue}
 use Rattle.matching.specs.Build.{missing}
 use Rattle.matching.proofs.Required.{fills-null}
 

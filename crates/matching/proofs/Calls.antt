@@ -25,7 +25,7 @@ use Rattle.plan.specs.Check.{check}
 use Rattle.plan.specs.Marks.{checkMarked}
 use Rattle.plan.specs.Run.{evals, spacious, run}
 use Rattle.plan.specs.Reach.{ReachesOverflow}
-use Rattle.plan.specs.Formed.{FormedAll}
+use Rattle.plan.specs.code.Formed.{FormedAll}
 use Rattle.plan.proofs.Results.{both, accepted-eq, gives-eq, demand-gives, placed-accepted, answered-accepted}
 use Rattle.defaults.specs.Table.{entriesOf, TableTree, table}
 use Rattle.defaults.specs.Lookup.{getDefaultValue}
@@ -112,7 +112,8 @@ built-of v p d incoming target room {from = from} {to = to} oi ot g i t e =
       due = λ ρ h. build-due v p d from to q h;
     }
 
-pub by-name-built : (p : Policy) (incoming target : Bytes) (room : ℕ) {b : Bytes} → AllBytes incoming → AllBytes target → buildByName p incoming target room ≡ accepted b → Built ByName p noDefaults incoming target b
+pub by-name-built : (p : Policy) (incoming target : Bytes) (room : ℕ) {b : Bytes} → AllBytes incoming → AllBytes target → buildByName p incoming target
+    room ≡ accepted b → Built ByName p noDefaults incoming target b
 unfolding buildByName
 by-name-built p incoming target room oi ot e =
     let B = both-read ByName incoming target _ e in
@@ -145,14 +146,16 @@ checked : (Γ Δ : Columns) (ss : Selectors) → checkMarked Γ Δ ss ≡ accept
 unfolding checkMarked
 checked Γ Δ ss e = answered-accepted _ _ e .1
 
-module _ {v : Matching} {p : Policy} {d : Defaults} {incoming target bytes : Bytes} (B : Built v p d incoming target bytes) {ρ : Values} (h : FitsAll (fieldsOf (B .from)) ρ) (room : ℕ) where
+module _ {v : Matching} {p : Policy} {d : Defaults} {incoming target bytes : Bytes} (B : Built v p d incoming target bytes) {ρ : Values}
+    (h : FitsAll (fieldsOf (B .from)) ρ) (room : ℕ) where
   -- it is the run of a plan that passes the check: what is left is 44, 45 or a record that fits the target
   pub built-runs : Runs (fieldsOf (B .to)) ρ (B .selectors) room
   built-runs = plan-runs (fieldsOf (B .from)) (fieldsOf (B .to)) (B .formed) (checked (B .from) (B .to) (B .selectors) (B .passes)) h room
 
   -- "unless it refuses as just said, writes exactly the record that document 01 calls due"
   pub built-writes : (ReachesOverflow ρ (B .selectors) → ⊥) → spacious room (encodeValues (dues v d (B .to) (B .from) ρ)) ≡ true
-      → (run ρ (B .selectors) room ≡ accepted (encodeValues (dues v d (B .to) (B .from) ρ))) × RecordFits (fieldsOf (B .to)) (encodeValues (dues v d (B .to) (B .from) ρ))
+      → (run ρ (B .selectors) room ≡ accepted (encodeValues (dues v d (B .to) (B .from) ρ))) × RecordFits (fieldsOf (B .to))
+      (encodeValues (dues v d (B .to) (B .from) ρ))
   built-writes n s =
       let e = B .due ρ h in
       let (w, (f, r)) = built-runs .writes n (ap (λ (vs : Values). spacious room (encodeValues vs)) e ∙ s) in

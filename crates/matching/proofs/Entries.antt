@@ -27,7 +27,8 @@ unfolding firstEntry choose
 first-match f g [] r = refl
 first-match f g (x ∷ es) r = go (f x) (first-match f g es r)
   where
-    go : (b : Bool) → firstEntry f g es r ≡ ofMatch g r (matchOf f es) → choose b (g (x .given)) (firstEntry f g es r) ≡ ofMatch g r (choose b (matched (x .given)) (matchOf f es))
+    go : (b : Bool) → firstEntry f g es r ≡ ofMatch g r (matchOf f es) → choose b (g (x .given)) (firstEntry f g es r) ≡ ofMatch g r
+        (choose b (matched (x .given)) (matchOf f es))
     go true h = refl
     go false h = h
 
@@ -36,7 +37,8 @@ unfolding firstEntry choose
 match-is f [] e = clash (cc)
 match-is f (x ∷ es) {g} e = go (f x) refl e (λ h. match-is f es h)
   where
-    go : (b : Bool) → f x ≡ b → choose b (matched (x .given)) (matchOf f es) ≡ matched g → (matchOf f es ≡ matched g → (x : Entry) × (f x ≡ true) × (x .given ≡ g)) → (x : Entry) × (f x ≡ true) × (x .given ≡ g)
+    go : (b : Bool) → f x ≡ b → choose b (matched (x .given)) (matchOf f es) ≡ matched g →
+        (matchOf f es ≡ matched g → (x : Entry) × (f x ≡ true) × (x .given ≡ g)) → (x : Entry) × (f x ≡ true) × (x .given ≡ g)
     go true q e ih = (x, q, cc)
     go false q e ih = ih e
 

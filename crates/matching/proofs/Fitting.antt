@@ -6,7 +6,8 @@ use mathlib.Core.List.{List, [], _∷_, _++_}
 use lib.Dec.{eqb}
 use Rattle.layout.specs.Bytes.{Bytes, AllBytes}
 use Rattle.layout.specs.Parser.{Res, refuse, ok, choose, test}
-use Rattle.layout.specs.Tree.{LeafType, Label, ColumnType, cleaf, cstruct, clist, carray, Columns, cnil, ccons, DataType, leaf, struct, Fields, dtypeOf, fieldsOf}
+use Rattle.layout.specs.Tree.{LeafType, Label, ColumnType, cleaf, cstruct, clist, carray, Columns, cnil, ccons, DataType, leaf, struct, Fields, dtypeOf}
+use Rattle.layout.specs.Tree.{fieldsOf}
 use Rattle.layout.specs.declared.columns.FieldId.{FieldId}
 use Rattle.layout.proofs.Ways.{clash}
 use Rattle.layout.proofs.View.{next-ok}
@@ -24,7 +25,8 @@ use Rattle.defaults.specs.declared.read.EntryKind.{EntryKind}
 use Rattle.defaults.specs.declared.read.EntryKind.the-variants.{Initial, Partition}
 use Rattle.defaults.specs.declared.read.TableVersion.{TableVersion}
 use Rattle.defaults.specs.Lookup.{Taken, refused, nothing, taken, unlessNull, ofSource, givenTo, isPartitionOf, isInitialOf, firstEntry, getDefaultValue}
-use Rattle.matching.specs.Default.{Defaults, noDefaults, Default, none, some, orNull, leafDefault, FieldDefaults, structDefault, withField, buildIcebergDefaultValue, defaultsOf, missingValue}
+use Rattle.matching.specs.Default.{Defaults, noDefaults, Default, none, some, orNull, leafDefault, FieldDefaults, structDefault, withField}
+use Rattle.matching.specs.Default.{buildIcebergDefaultValue, defaultsOf, missingValue}
 use Rattle.matching.proofs.Entries.{Match, unmatched, matched, matchOf, ofMatch, first-match}
 
 -- every value that is found fits the type that it is found with
@@ -36,7 +38,8 @@ good-none = record { fits = λ i l x e. clash (cc) }
 
 -- ---- a field's default
 
-leaf-fits : (l : LeafType) (e : Taken) {x : Default} → ((m : LeafType) (y : Value) → e ≡ taken m y → Fits (leaf m) y) → leafDefault l e ≡ gives x → Fits (leaf l) (orNull x)
+leaf-fits : (l : LeafType) (e : Taken) {x : Default} → ((m : LeafType) (y : Value) → e ≡ taken m y → Fits (leaf m) y) → leafDefault l e ≡ gives x → Fits
+    (leaf l) (orNull x)
 unfolding leafDefault
 leaf-fits l (refused n) g q = never-refused q refl
 leaf-fits l nothing g q = rw (← gives-eq q) fit-null
@@ -121,11 +124,13 @@ match-fits f {g = g} (e-cons {x} {es} h hs) e = go (f x) e (match-fits f hs)
     go true e ih = let p : x .given ≡ g = cc in rw (← p) h
     go false e ih = ih e
 
-taken-fits : (k : ℕ) (c : Match) (r : Taken) {m : LeafType} {y : Value} → ((g : Given) → c ≡ matched g → GivenFits g) → (r ≡ taken m y → Fits (leaf m) y) → ofMatch (givenTo k) r c ≡ taken m y → Fits (leaf m) y
+taken-fits : (k : ℕ) (c : Match) (r : Taken) {m : LeafType} {y : Value} → ((g : Given) → c ≡ matched g → GivenFits g) →
+    (r ≡ taken m y → Fits (leaf m) y) → ofMatch (givenTo k) r c ≡ taken m y → Fits (leaf m) y
 taken-fits k unmatched r f h e = h e
 taken-fits k (matched g) r f h e = given-fits k (f g refl) e
 
-first-fits : (f : Entry → Bool) (k : ℕ) {es : List Entry} (r : Taken) {m : LeafType} {y : Value} → EntriesFit es → (r ≡ taken m y → Fits (leaf m) y) → firstEntry f (givenTo k) es r ≡ taken m y → Fits (leaf m) y
+first-fits : (f : Entry → Bool) (k : ℕ) {es : List Entry} (r : Taken) {m : LeafType} {y : Value} → EntriesFit es → (r ≡ taken m y → Fits (leaf m) y) →
+    firstEntry f (givenTo k) es r ≡ taken m y → Fits (leaf m) y
 first-fits f k {es} r g h e = taken-fits k (matchOf f es) r (λ x q. match-fits f g q) h (sym (first-match f (givenTo k) es r) ∙ e)
 
 pub entries-good : (es : List Entry) (k : ℕ) → EntriesFit es → Good (getDefaultValue es k)
@@ -181,7 +186,8 @@ module _ (s : Bytes) (o : AllBytes s) where
       ok-same GivenFits e (g-partition (times-fit (leaf l) n j r))
 
   -- one of two, or a refusal
-  either : (x y : Bool) (p q : Res Given) {g : Given} {m : ℕ} → choose x p (choose y q (refuse 3)) ≡ ok g m → (p ≡ ok g m → GivenFits g) → (q ≡ ok g m → GivenFits g) → GivenFits g
+  either : (x y : Bool) (p q : Res Given) {g : Given} {m : ℕ} → choose x p (choose y q (refuse 3)) ≡ ok g m → (p ≡ ok g m → GivenFits g) →
+      (q ≡ ok g m → GivenFits g) → GivenFits g
   unfolding choose
   either true y p q e f h = f e
   either false true p q e f h = h e

@@ -57,7 +57,8 @@ straight-is i (ccons l t fs) (scons s ss) =
     ∙ both-swap (eqb (countColumns fs) (countSelectors ss)) (isPosition i s) (inPlace (i + 1) ss)
     ∙ ap (λ (b : Bool). isPosition i s && b) (straight-is (i + 1) fs ss)
 
-pub struct-selector : (k : Position) (fs : Columns) (ss : Selectors) → structSelector k fs ss ≡ choose (straight 0 (fieldsOf fs) ss) (position k) (structMapping (position k) ss)
+pub struct-selector : (k : Position) (fs : Columns) (ss : Selectors) → structSelector k fs ss ≡ choose (straight 0 (fieldsOf fs) ss) (position k)
+    (structMapping (position k) ss)
 unfolding structSelector
 struct-selector k fs ss = ap (λ (b : Bool). choose b (position k) (structMapping (position k) ss)) (straight-is 0 fs ss)
 

@@ -9,9 +9,10 @@ use lib.Dec.{leb}
 use borrow.Author.Tests.{leb-true, le-leb}
 use Rattle.layout.specs.Bytes.{Bytes, sameBytes, AllBytes}
 use Rattle.layout.specs.Parser.{Res, refuse, ok, choose}
-use Rattle.layout.specs.Tree.{Label, ColumnType, cleaf, cstruct, clist, carray, Layout, Columns, cnil, ccons, countColumns, DataType, struct, list, array, Fields, fnil, fcons, countFields, fieldsOf}
+use Rattle.layout.specs.Tree.{Label, ColumnType, cleaf, cstruct, clist, carray, Layout, Columns, cnil, ccons, countColumns, DataType, struct, list, array}
+use Rattle.layout.specs.Tree.{Fields, fnil, fcons, countFields, fieldsOf}
 use Rattle.layout.specs.Layout.{elementLabel, mark, edition, counted, layoutFrom, layout, deepest, aStruct, aList, anArray}
-use Rattle.layout.specs.Answers.{layoutOf}
+use Rattle.layout.specs.code.Answers.{layoutOf}
 use Rattle.layout.specs.declared.read.LayoutRead.{LayoutRead}
 use Rattle.layout.specs.declared.edition.Edition.{Edition}
 use Rattle.layout.specs.declared.edition.Edition.the-variants.{One, Two, Three}
@@ -162,7 +163,8 @@ count-below (fcons n t fs) =
     let b = length-append (form t) (formFields fs) in
     omega arith
 
-limits-of : {v : Edition} {n e : ℕ} {cs : Columns} (s : Bytes) → AllBytes s → 7 ≤ length s → length s ≤ 16384 → ColumnsRead v s deepest n 7 cs e → LayoutLimits cs
+limits-of : {v : Edition} {n e : ℕ} {cs : Columns} (s : Bytes) → AllBytes s → 7 ≤ length s → length s ≤ 16384 → ColumnsRead v s deepest n 7 cs e →
+    LayoutLimits cs
 limits-of {cs = cs} s o h k R =
     let (E, c) = columns-extent R h in
     let p = E .long in

@@ -6,8 +6,8 @@ use native.Mathlib.Omega.{arith}
 use Rattle.layout.specs.Bytes.{Bytes, sameBytes}
 use Rattle.layout.specs.Parser.{choose}
 use Rattle.layout.specs.Tree.{Label, ColumnType, Columns, cnil, ccons, DataType, Fields, fnil, fcons, dtypeOf, fieldsOf}
-use Rattle.layout.specs.Layout.{repeats}
-use Rattle.layout.specs.Find.{Lookup, absent, at, findFrom, columnNamed, counterpart, matchRule}
+use Rattle.layout.specs.Layout.{sameLabel}
+use Rattle.layout.specs.Find.{Lookup, absent, present, findFrom, columnNamed, counterpart, matchRule}
 use Rattle.layout.specs.declared.columns.Position.{Position}
 use Rattle.layout.specs.declared.matching.Matching.{Matching}
 use Rattle.layout.proofs.OfBytes.{same-bytes-refl, same-bytes-eq}
@@ -19,10 +19,10 @@ use Rattle.matching.specs.Build.{isAbsent, distinctNames}
 
 -- ---- what was found
 
-pub at-eq : {j k : Position} {a b : Label} {t u : ColumnType} → at j a t ≡ at k b u → (j ≡ k) × ((a ≡ b) × (t ≡ u))
+pub at-eq : {j k : Position} {a b : Label} {t u : ColumnType} → present j a t ≡ present k b u → (j ≡ k) × ((a ≡ b) × (t ≡ u))
 at-eq e = (cc, (cc, cc))
 
-pub never-absent : {k : Position} {a : Label} {t : ColumnType} {X : Type 0} → absent ≡ at k a t → X
+pub never-absent : {k : Position} {a : Label} {t : ColumnType} {X : Type 0} → absent ≡ present k a t → X
 never-absent e = clash (cc)
 
 -- The columns cs, of which the first has the position i, have at position k the label l and the type t, and f takes it.
@@ -32,12 +32,14 @@ pub record Stands (f : ℕ → Label → Bool) (i : ℕ) (cs : Columns) (k : Pos
   pub place : At (fieldsOf cs) index (l .name) (dtypeOf t)
   pub wanted : f (k .0) l ≡ true
 
-pub found-stands : (f : ℕ → Label → Bool) (i : ℕ) (cs : Columns) {k : Position} {l : Label} {t : ColumnType} → findFrom f i cs ≡ at k l t → Stands f i cs k l t
+pub found-stands : (f : ℕ → Label → Bool) (i : ℕ) (cs : Columns) {k : Position} {l : Label} {t : ColumnType} → findFrom f i cs ≡ present k l t → Stands
+    f i cs k l t
 unfolding findFrom choose fieldsOf
 found-stands f i cnil e = never-absent e
 found-stands f i (ccons a u cs) {k} {l} {t} e = go (f i a) refl e (λ h. found-stands f (i + 1) cs h)
   where
-    go : (x : Bool) → f i a ≡ x → choose x (at (record { 0 = i }) a u) (findFrom f (i + 1) cs) ≡ at k l t → (findFrom f (i + 1) cs ≡ at k l t → Stands f (i + 1) cs k l t)
+    go : (x : Bool) → f i a ≡ x → choose x (present (record { 0 = i }) a u) (findFrom f (i + 1) cs) ≡ present k l t →
+        (findFrom f (i + 1) cs ≡ present k l t → Stands f (i + 1) cs k l t)
         → Stands f i (ccons a u cs) k l t
     go true q e ih =
         let (p, (r, z)) = at-eq e in
@@ -51,14 +53,15 @@ found-stands f i (ccons a u cs) {k} {l} {t} e = go (f i a) refl e (λ h. found-s
 
 -- an incoming label a is of the same field as the target's b
 abbrev pub matches : Matching → Label → Label → Bool
-matches v b a = repeats (matchRule v) a b
+matches v b a = sameLabel (matchRule v) a b
 
 -- the counterpart of the label b has the position k, the label a and the type t
 pub record Counterpart (v : Matching) (b : Label) (cs : Columns) (k : Position) (a : Label) (t : ColumnType) : Type 0 where
   pub place : At (fieldsOf cs) (k .0) (a .name) (dtypeOf t)
   pub match : matches v b a ≡ true
 
-pub counterpart-at : (v : Matching) (b : Label) (cs : Columns) {k : Position} {a : Label} {t : ColumnType} → counterpart v b cs ≡ at k a t → Counterpart v b cs k a t
+pub counterpart-at : (v : Matching) (b : Label) (cs : Columns) {k : Position} {a : Label} {t : ColumnType} → counterpart v b cs ≡ present k a t →
+    Counterpart v b cs k a t
 counterpart-at v b cs {k} {a} {t} e =
     let S = found-stands (λ i a. matches v b a) 0 cs (sym (counterpart-first v b cs) ∙ e) in
     let c = S .counted in
@@ -114,18 +117,19 @@ absent-shifts n i j cnil = refl
 absent-shifts n i j (ccons l t cs) = go (sameBytes (l .name) n) (absent-shifts n (i + 1) (j + 1) cs)
   where
     go : (x : Bool) → isAbsent (findFrom (isNamed n) (i + 1) cs) ≡ isAbsent (findFrom (isNamed n) (j + 1) cs)
-        → isAbsent (choose x (at (record { 0 = i }) l t) (findFrom (isNamed n) (i + 1) cs)) ≡ isAbsent (choose x (at (record { 0 = j }) l t) (findFrom (isNamed n) (j + 1) cs))
+        → isAbsent (choose x (present (record { 0 = i }) l t) (findFrom (isNamed n) (i + 1) cs)) ≡ isAbsent
+        (choose x (present (record { 0 = j }) l t) (findFrom (isNamed n) (j + 1) cs))
     go true h = refl
     go false h = h
 
 pub record First (n : Bytes) (i : ℕ) (cs : Columns) (j : ℕ) (t : DataType) : Type 0 where
   pub label : Label
   pub type : ColumnType
-  pub found : findFrom (λ i l. sameBytes (l .name) n) i cs ≡ at (record { 0 = i + j }) label type
+  pub found : findFrom (λ i l. sameBytes (l .name) n) i cs ≡ present (record { 0 = i + j }) label type
   pub equal : dtypeOf type ≡ t
 
 abbrev moved : ℕ → Label → ColumnType → Lookup
-moved i l t = at (record { 0 = i }) l t
+moved i l t = present (record { 0 = i }) l t
 
 pub first-named : (n : Bytes) (i : ℕ) (cs : Columns) {j : ℕ} {t : DataType} → distinctNames cs ≡ true → At (fieldsOf cs) j n t → First n i cs j t
 unfolding fieldsOf distinctNames findFrom choose
@@ -134,17 +138,19 @@ first-named n i (ccons l u cs) {j} {t} d a =
     let (x, y) = both (isAbsent (columnNamed (l .name) cs)) d in
     go x (at-cases a) (λ j b. first-named n (i + 1) cs y b)
   where
-    here-found : l .name ≡ n → choose (sameBytes (l .name) n) (at (record { 0 = i }) l u) (findFrom (isNamed n) (i + 1) cs) ≡ moved i l u
+    here-found : l .name ≡ n → choose (sameBytes (l .name) n) (present (record { 0 = i }) l u) (findFrom (isNamed n) (i + 1) cs) ≡ moved i l u
     here-found p = rw (p, same-bytes-refl n)
 
-    later-found : {k : Position} {a : Label} {w : ColumnType} (x : Bool) → sameBytes (l .name) n ≡ x → isAbsent (columnNamed (l .name) cs) ≡ true → findFrom (isNamed n) (i + 1) cs ≡ at k a w
-        → choose x (at (record { 0 = i }) l u) (findFrom (isNamed n) (i + 1) cs) ≡ at k a w
+    later-found : {k : Position} {a : Label} {w : ColumnType} (x : Bool) → sameBytes (l .name) n ≡ x → isAbsent (columnNamed (l .name) cs) ≡ true →
+        findFrom (isNamed n) (i + 1) cs ≡ present k a w
+        → choose x (present (record { 0 = i }) l u) (findFrom (isNamed n) (i + 1) cs) ≡ present k a w
     later-found true q p h =
         let r = same-bytes-eq (l .name) n q in
         true≠false p (ap (λ (m : Bytes). isAbsent (columnNamed m cs)) r ∙ (absent-shifts n 0 (i + 1) cs ∙ ap isAbsent h))
     later-found false q p h = h
 
-    go : isAbsent (columnNamed (l .name) cs) ≡ true → AtCases (l .name) (dtypeOf u) (fieldsOf cs) j n t → ((j : ℕ) → At (fieldsOf cs) j n t → First n (i + 1) cs j t) → First n i (ccons l u cs) j t
+    go : isAbsent (columnNamed (l .name) cs) ≡ true → AtCases (l .name) (dtypeOf u) (fieldsOf cs) j n t →
+        ((j : ℕ) → At (fieldsOf cs) j n t → First n (i + 1) cs j t) → First n i (ccons l u cs) j t
     go x (at-here z p q) ih = record { label = l; type = u; found = here-found p ∙ ap (λ (k : ℕ). moved k l u) (omega arith); equal = q }
     go x (at-there k z b) ih =
         let F = ih k b in

@@ -3,7 +3,7 @@ use Prim.Native.Nat.{ℕ, _+_}
 use mathlib.Core.Path.{_≡_, refl}
 use mathlib.Core.Bool.{Bool, _&&_}
 use Rattle.layout.specs.Tree.{LeafType, Label, ColumnType, cleaf, cstruct, clist, carray, Columns, cnil, ccons}
-use Rattle.layout.specs.Find.{Lookup, absent, at, counterpart}
+use Rattle.layout.specs.Find.{Lookup, absent, present, counterpart}
 use Rattle.layout.specs.declared.columns.Position.{Position}
 use Rattle.layout.specs.declared.matching.Matching.{Matching}
 use Rattle.layout.proofs.Ways.{clash}
@@ -19,7 +19,8 @@ use Rattle.plan.specs.Result.{Result}
 use Rattle.plan.specs.Selector.{Selector}
 use Rattle.plan.proofs.Kept.{Kept, KeptAnswer, same, refusing, by-bind, by-test, by-demand, by-choice, same-answer, passing, by-place, by-answer}
 use Rattle.matching.specs.Default.{Defaults, noDefaults}
-use Rattle.matching.specs.Build.{isNullType, isByName, unlessNullType, sameElement, distinct, noExtra, ignores, inserts, keepsRequired, missing, ruled, first, sought, extraColumnErr, extraColumns}
+use Rattle.matching.specs.Build.{isNullType, isByName, unlessNullType, sameElement, distinct, noExtra, ignores, inserts, keepsRequired, missing, ruled}
+use Rattle.matching.specs.Build.{first, sought, extraColumnErr, extraColumns}
 use Rattle.matching.specs.Build.{attachTransforms, attachFields, buildColumnSelector, buildFrom, build}
 
 -- a lookup
@@ -27,7 +28,7 @@ by-sought : (l : Lookup) {x y : Result Selector} (f g : Position → Label → C
     → ((k : Position) (m : Label) (t : ColumnType) → Kept (f k m t) (g k m t)) → Kept (sought l x f) (sought l y g)
 unfolding sought
 by-sought absent f g k h = k
-by-sought (at i m t) f g k h = h i m t
+by-sought (present i m t) f g k h = h i m t
 
 -- a leaf pair
 ruled-kept : {v w : Verdict} (k : Position) (u : LeafType) → Keeps v w → Kept (ruled v k u) (ruled w k u)
@@ -47,7 +48,8 @@ still-ignores ExtraColumnsPolicy.Ignore b h e = rw (h refl)
 still-ignores ExtraColumnsPolicy.Raise b h e = clash (cc)
 
 -- 53
-extra-kept : (a b : ExtraColumnsPolicy) (v : Matching) (fs gs : Columns) → (a ≡ Ignore → b ≡ Ignore) → KeptAnswer (extraColumns a v fs gs) (extraColumns b v fs gs)
+extra-kept : (a b : ExtraColumnsPolicy) (v : Matching) (fs gs : Columns) → (a ≡ Ignore → b ≡ Ignore) → KeptAnswer (extraColumns a v fs gs)
+    (extraColumns b v fs gs)
 unfolding extraColumns
 extra-kept ExtraColumnsPolicy.Ignore b v fs gs h = rw (h refl) (same-answer _)
 extra-kept ExtraColumnsPolicy.Raise ExtraColumnsPolicy.Ignore v fs gs h = passing (extraColumnErr v fs gs 0)

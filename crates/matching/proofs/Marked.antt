@@ -6,7 +6,7 @@ use native.Mathlib.Omega.{arith}
 use Rattle.layout.specs.Bytes.{sameBytes}
 use Rattle.layout.specs.Parser.{choose}
 use Rattle.layout.specs.Tree.{Label, ColumnType, cstruct, clist, carray, Columns, cnil, ccons, fieldsOf}
-use Rattle.layout.specs.Find.{at, findFrom, counterpart}
+use Rattle.layout.specs.Find.{present, findFrom, counterpart}
 use Rattle.layout.specs.declared.columns.Position.{Position}
 use Rattle.layout.specs.declared.matching.Matching.{Matching}
 use Rattle.layout.specs.declared.matching.Matching.the-variants.{ByName, ByNumber}
@@ -100,13 +100,13 @@ record Marked (i : ℕ) (cs : Columns) (k : Position) (a : Label) (t : ColumnTyp
   counted : i + index ≡ k .0
   is : nullnessAt (givens cs) index ≡ given (a .required) t
 
-found-marked : (f : ℕ → Label → Bool) (i : ℕ) (cs : Columns) {k : Position} {a : Label} {t : ColumnType} → findFrom f i cs ≡ at k a t → Marked i cs k a t
+found-marked : (f : ℕ → Label → Bool) (i : ℕ) (cs : Columns) {k : Position} {a : Label} {t : ColumnType} → findFrom f i cs ≡ present k a t → Marked i cs k a t
 unfolding findFrom choose givens nullnessAt
 found-marked f i cnil e = never-absent e
 found-marked f i (ccons b u cs) {k} {a} {t} e = go (f i b) e (λ h. found-marked f (i + 1) cs h)
   where
-    go : (x : Bool) → choose x (at (record { 0 = i }) b u) (findFrom f (i + 1) cs) ≡ at k a t
-        → (findFrom f (i + 1) cs ≡ at k a t → Marked (i + 1) cs k a t) → Marked i (ccons b u cs) k a t
+    go : (x : Bool) → choose x (present (record { 0 = i }) b u) (findFrom f (i + 1) cs) ≡ present k a t
+        → (findFrom f (i + 1) cs ≡ present k a t → Marked (i + 1) cs k a t) → Marked i (ccons b u cs) k a t
     go true e ih =
         let (p, (r, z)) = at-eq e in
         let w : i ≡ k .0 = ap (λ (k : Position). k .0) p in
@@ -115,7 +115,7 @@ found-marked f i (ccons b u cs) {k} {a} {t} e = go (f i b) e (λ h. found-marked
         let S = ih e in
         record { index = suc (S .index); counted = let c = S .counted in omega arith; is = S .is }
 
-counterpart-marked : (v : Matching) (b : Label) (cs : Columns) {k : Position} {a : Label} {t : ColumnType} → counterpart v b cs ≡ at k a t
+counterpart-marked : (v : Matching) (b : Label) (cs : Columns) {k : Position} {a : Label} {t : ColumnType} → counterpart v b cs ≡ present k a t
     → nullnessAt (givens cs) (k .0) ≡ given (a .required) t
 counterpart-marked v b cs {k} e =
     let S = found-marked (λ i a. matches v b a) 0 cs (sym (counterpart-first v b cs) ∙ e) in

@@ -12,7 +12,7 @@ use Rattle.layout.specs.declared.matching.Matching.{Matching}
 use Rattle.layout.specs.declared.matching.Matching.the-variants.{ByName, ByNumber}
 use Rattle.forms.specs.Readable.{ShortText, Readable, ReadableFields, depthOf, depthOfFields}
 use Rattle.plan.specs.Selector.{Selector, position, rename, structMapping, listMapping, arrayMapping, Selectors, countSelectors, nesting, nestingAll}
-use Rattle.plan.specs.Formed.{FormedType, Formed, f-position, f-constant, f-cast, f-rename, f-struct, f-list, f-array, FormedAll, f-nil, f-cons}
+use Rattle.plan.specs.code.Formed.{FormedType, Formed, f-position, f-constant, f-cast, f-rename, f-struct, f-list, f-array, FormedAll, f-nil, f-cons}
 use Rattle.plan.proofs.Typed.{At, here, there}
 use Rattle.matching.specs.Default.{Defaults}
 use Rattle.matching.specs.Build.{renamed, listSelector, arraySelector}
@@ -55,9 +55,11 @@ module _ (v : Matching) where
     attach-nests (a-struct {k = k} {fs} {gs} {ss} c h r) =
         rw (← r, struct-selector k fs ss) (choose-nests _ k _ (structMapping (position k) ss) (omega (arith, attachAll-nests h)) (omega arith))
     attach-nests (a-list {k = k} {a} {b} {u = u} {e = x} y m h r) =
-        rw (← r) (choose-nests _ k _ (listMapping (position k) (renamed v b a x)) (omega (arith, attach-nests h, renamed-nests v b a x, depth-least (dtypeOf u))) (omega arith))
+        rw (← r) (choose-nests _ k _ (listMapping (position k) (renamed v b a x))
+        (omega (arith, attach-nests h, renamed-nests v b a x, depth-least (dtypeOf u))) (omega arith))
     attach-nests (a-array {k = k} {a = a} {b} {u = u} {e = x} y m h r) =
-        rw (← r) (choose-nests _ k _ (arrayMapping (position k) (renamed v b a x)) (omega (arith, attach-nests h, renamed-nests v b a x, depth-least (dtypeOf u))) (omega arith))
+        rw (← r) (choose-nests _ k _ (arrayMapping (position k) (renamed v b a x))
+        (omega (arith, attach-nests h, renamed-nests v b a x, depth-least (dtypeOf u))) (omega arith))
 
     pub attachAll-nests : {d : Defaults} {gs fs : Columns} {ss : Selectors} → AttachAll v d gs fs ss → nestingAll ss ≤ suc (2 * depthOfFields (fieldsOf gs))
     attachAll-nests a-nil = omega arith
@@ -104,26 +106,31 @@ module _ (v : Matching) where
   mutual
     unfolding listSelector arraySelector dtypeOf fieldsOf depthOf depthOfFields
 
-    pub attach-formed : {d : Defaults} {u t : ColumnType} {k : Position} {s : Selector} → Attach v d u k t s → Good d → k .0 < 65536 → Readable (dtypeOf t) → Readable (dtypeOf u) → depthOf (dtypeOf u) ≤ deepest
+    pub attach-formed : {d : Defaults} {u t : ColumnType} {k : Position} {s : Selector} → Attach v d u k t s → Good d → k .0 < 65536 → Readable
+        (dtypeOf t) → Readable (dtypeOf u) → depthOf (dtypeOf u) ≤ deepest
         → ShortNames u → Formed s
     attach-formed a-same g h i r z n = f-position h
     attach-formed (a-cast {u = u} c p) g h i r z n = rw (← p) (f-cast (f-position h) (formed-type (dtypeOf u) r z))
     attach-formed (a-struct {k = k} {fs} {gs} {ss} c a q) g h i r z n =
         let e = attached-count v a in
         let b = r .0 in
-        rw (← q, struct-selector k fs ss) (choose-formed _ h (f-struct (f-position h) (omega arith) (attachAll-formed a g (i .0) (i .1) (r .1) (omega arith) n)))
+        rw (← q, struct-selector k fs ss) (choose-formed _ h (f-struct (f-position h) (omega arith)
+        (attachAll-formed a g (i .0) (i .1) (r .1) (omega arith) n)))
     attach-formed (a-list {k = k} {a} {b} {e = x} y m f q) g h i r z n =
         rw (← q) (choose-formed _ h (f-list (f-position h) (renamed-formed v b a (n .0) (attach-formed f good-none (omega arith) i r (omega arith) (n .1)))))
     attach-formed (a-array {k = k} {a = a} {b} {e = x} y m f q) g h i r z n =
-        rw (← q) (choose-formed _ h (f-array (f-position h) (renamed-formed v b a (n .0) (attach-formed f good-none (omega arith) (i .1) (r .1) (omega arith) (n .1)))))
+        rw (← q) (choose-formed _ h (f-array (f-position h) (renamed-formed v b a (n .0)
+        (attach-formed f good-none (omega arith) (i .1) (r .1) (omega arith) (n .1)))))
 
-    pub attachAll-formed : {d : Defaults} {gs fs : Columns} {ss : Selectors} → AttachAll v d gs fs ss → Good d → countFields (fieldsOf fs) < 65536 → ReadableFields (fieldsOf fs) → ReadableFields (fieldsOf gs)
+    pub attachAll-formed : {d : Defaults} {gs fs : Columns} {ss : Selectors} → AttachAll v d gs fs ss → Good d → countFields (fieldsOf fs) < 65536 →
+        ReadableFields (fieldsOf fs) → ReadableFields (fieldsOf gs)
         → depthOfFields (fieldsOf gs) ≤ deepest → ShortNamesAll gs → FormedAll ss
     attachAll-formed a-nil g c i r z n = f-nil
     attachAll-formed (a-found {a = a} {b} {fs = fs} {x = x} q m f p fs′) g c i r z n =
         let C = counterpart-at v b fs q in
         let h = at-below (C .place) in
-        let F : Formed x = rw (← p) (renamed-formed v b a (n .0) (attach-formed f g (omega arith) (at-readable (C .place) i) (r .1 .0) (omega arith) (n .1 .0))) in
+        let F : Formed x = rw (← p) (renamed-formed v b a (n .0) (attach-formed f g (omega arith) (at-readable (C .place) i) (r .1 .0) (omega arith)
+        (n .1 .0))) in
         f-cons F (attachAll-formed fs′ g c i (r .1 .1) (omega arith) (n .1 .1))
     attachAll-formed (a-missing {d} {b} {u} {x = x} q y m p fs′) g c i r z n =
         let F : Formed x = rw (← p) (f-constant (n .0) (formed-type (dtypeOf u) (r .1 .0) (omega arith)) (missing-fits d g b u y)) in

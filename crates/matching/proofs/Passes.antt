@@ -24,19 +24,22 @@ use Rattle.matching.proofs.Fitting.{Good, good-none, missing-fits}
 
 -- ---- the mappings, left out or not
 
-struct-typed : {Γ : Fields} {k : Position} {n : Bytes} {fs gs : Fields} (ss : Selectors) (b : Bool) → (b ≡ true → fs ≡ gs) → At Γ (k .0) n (struct fs) → TypedAll fs ss gs → withinLimits (struct gs) ≡ true
+struct-typed : {Γ : Fields} {k : Position} {n : Bytes} {fs gs : Fields} (ss : Selectors) (b : Bool) → (b ≡ true → fs ≡ gs) → At Γ (k .0) n (struct fs) →
+    TypedAll fs ss gs → withinLimits (struct gs) ≡ true
     → Typed Γ (choose b (position k) (structMapping (position k) ss)) n (struct gs)
 unfolding choose
 struct-typed ss true h a d z = t-position (rw (h refl) at a)
 struct-typed ss false h a d z = t-struct (t-position a) d z
 
-list-typed : {Γ : Fields} {k : Position} {m n : Bytes} {t u : DataType} (e : Selector) (b : Bool) → (b ≡ true → t ≡ u) → At Γ (k .0) n (list t) → Typed (elementOf t) e m u → withinLimits (list u) ≡ true
+list-typed : {Γ : Fields} {k : Position} {m n : Bytes} {t u : DataType} (e : Selector) (b : Bool) → (b ≡ true → t ≡ u) → At Γ (k .0) n (list t) → Typed
+    (elementOf t) e m u → withinLimits (list u) ≡ true
     → Typed Γ (choose b (position k) (listMapping (position k) e)) n (list u)
 unfolding choose
 list-typed e true h a d z = t-position (rw (h refl) at a)
 list-typed e false h a d z = t-list (t-position a) d z
 
-array-typed : {Γ : Fields} {k : Position} {w : ℕ} {m n : Bytes} {t u : DataType} (e : Selector) (b : Bool) → (b ≡ true → t ≡ u) → At Γ (k .0) n (array w t) → Typed (elementOf t) e m u
+array-typed : {Γ : Fields} {k : Position} {w : ℕ} {m n : Bytes} {t u : DataType} (e : Selector) (b : Bool) → (b ≡ true → t ≡ u) → At Γ (k .0) n
+    (array w t) → Typed (elementOf t) e m u
     → withinLimits (array w u) ≡ true → Typed Γ (choose b (position k) (arrayMapping (position k) e)) n (array w u)
 unfolding choose
 array-typed e true h a d z = t-position (rw (h refl) at a)
@@ -47,7 +50,8 @@ at-element = here
 
 -- ---- renames
 
-renamed-typed : {Γ : Fields} (v : Matching) (b a : Label) {s : Selector} {t : DataType} → matches v b a ≡ true → Typed Γ s (a .name) t → withinLimits t ≡ true → Typed Γ (renamed v b a s) (b .name) t
+renamed-typed : {Γ : Fields} (v : Matching) (b a : Label) {s : Selector} {t : DataType} → matches v b a ≡ true → Typed Γ s (a .name) t → withinLimits t
+    ≡ true → Typed Γ (renamed v b a s) (b .name) t
 unfolding renamed choose
 renamed-typed ByName b a h d z = rw (← same-bytes-eq (a .name) (b .name) h) d
 renamed-typed {Γ} ByNumber b a {s} {t} h d z = go (sameBytes (a .name) (b .name)) refl
@@ -57,7 +61,8 @@ renamed-typed {Γ} ByNumber b a {s} {t} h d z = go (sameBytes (a .name) (b .name
     go false q = t-rename d z
 
 -- in an element, where names have no effect
-renamed-element : {Γ : Fields} (v : Matching) (b a : Label) {s : Selector} {n : Bytes} {t : DataType} → Typed Γ s n t → withinLimits t ≡ true → (m : Bytes) × Typed Γ (renamed v b a s) m t
+renamed-element : {Γ : Fields} (v : Matching) (b a : Label) {s : Selector} {n : Bytes} {t : DataType} → Typed Γ s n t → withinLimits t ≡ true →
+    (m : Bytes) × Typed Γ (renamed v b a s) m t
 unfolding renamed choose
 renamed-element ByName b a {n = n} d z = (n, d)
 renamed-element {Γ} ByNumber b a {s} {n} {t} d z = go (sameBytes (a .name) (b .name))
@@ -70,7 +75,8 @@ module _ (v : Matching) where
   mutual
     unfolding listSelector arraySelector dtypeOf fieldsOf
 
-    pub attach-typed : {d : Defaults} {Γ : Fields} {n : Bytes} {u t : ColumnType} {k : Position} {s : Selector} → Attach v d u k t s → Good d → At Γ (k .0) n (dtypeOf t) → withinLimits (dtypeOf u) ≡ true
+    pub attach-typed : {d : Defaults} {Γ : Fields} {n : Bytes} {u t : ColumnType} {k : Position} {s : Selector} → Attach v d u k t s → Good d → At Γ
+        (k .0) n (dtypeOf t) → withinLimits (dtypeOf u) ≡ true
         → Typed Γ s n (dtypeOf u)
     attach-typed a-same g a z = t-position a
     attach-typed (a-cast r p) g a z = rw p (t-cast (t-position a) r (rw p at z))
@@ -86,7 +92,8 @@ module _ (v : Matching) where
         let (m, d) = renamed-element v b x (attach-typed h good-none at-element y) y in
         rw (← r) (array-typed (renamed v b x e) (isPosition 0 (renamed v b x e)) (λ c. bare→equal v h (renamed-bare v b x e (is-bare 0 _ c)) .1) a d z)
 
-    pub attachAll-typed : {d : Defaults} {gs fs : Columns} {ss : Selectors} → AttachAll v d gs fs ss → Good d → WithinLimits (fieldsOf gs) → TypedAll (fieldsOf fs) ss (fieldsOf gs)
+    pub attachAll-typed : {d : Defaults} {gs fs : Columns} {ss : Selectors} → AttachAll v d gs fs ss → Good d → WithinLimits (fieldsOf gs) → TypedAll
+        (fieldsOf fs) ss (fieldsOf gs)
     attachAll-typed a-nil g z = t-nil
     attachAll-typed (a-found {a = a} {b} {u = u} {fs = fs} {x = x} q m h r hs) g z =
         let f = counterpart-at v b fs q in

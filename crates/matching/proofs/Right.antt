@@ -5,7 +5,8 @@ use mathlib.Core.Bool.{Bool, true, false}
 use native.Mathlib.Omega.{arith}
 use Rattle.layout.specs.Bytes.{Bytes, sameBytes}
 use Rattle.layout.specs.Parser.{choose}
-use Rattle.layout.specs.Tree.{LeafType, null, Label, ColumnType, cleaf, cstruct, clist, carray, Columns, DataType, leaf, struct, list, array, Fields, dtypeOf, fieldsOf}
+use Rattle.layout.specs.Tree.{LeafType, null, Label, ColumnType, cleaf, cstruct, clist, carray, Columns, DataType, leaf, struct, list, array, Fields, dtypeOf}
+use Rattle.layout.specs.Tree.{fieldsOf}
 use Rattle.layout.specs.declared.columns.Position.{Position}
 use Rattle.layout.specs.declared.matching.Matching.{Matching}
 use Rattle.layout.specs.declared.matching.Matching.the-variants.{ByName, ByNumber}
@@ -41,7 +42,8 @@ only h = all-cons h all-nil
 
 -- ---- functions that agree on what fits
 
-struct-agree : {fs : Fields} {x : Value} (f g : Values → Values) → ((xs : Values) → FitsAll fs xs → f xs ≡ g xs) → Fits (struct fs) x → onStruct f x ≡ onStruct g x
+struct-agree : {fs : Fields} {x : Value} (f g : Values → Values) → ((xs : Values) → FitsAll fs xs → f xs ≡ g xs) → Fits (struct fs) x → onStruct f x ≡
+    onStruct g x
 unfolding onStruct
 struct-agree f g h fit-null = refl
 struct-agree f g h (fit-struct a) = ap vstruct (h _ a)
@@ -122,7 +124,8 @@ cast-differs a b o e = go (equalTypes (leaf a) (leaf b)) refl
     go true q = absurd (cast-unequal _ a b o (casts-allowed a b o (passes-casts a b o e)) (leaf-eq (equal-types-eq (leaf a) (leaf b) q)))
     go false q = refl
 
-cast-due : (v : Matching) (d : Defaults) (t u : ColumnType) {x : Value} (o : CastOption) → castFits (dtypeOf t) (dtypeOf u) o ≡ true → Fits (dtypeOf t) x → castValue (dtypeOf u) x ≡ due v d u t x
+cast-due : (v : Matching) (d : Defaults) (t u : ColumnType) {x : Value} (o : CastOption) → castFits (dtypeOf t) (dtypeOf u) o ≡ true → Fits (dtypeOf t)
+    x → castValue (dtypeOf u) x ≡ due v d u t x
 unfolding castFits dtypeOf due dueLeaf castValue onStruct onList onArray choose
 cast-due v d (cleaf a) (cleaf b) o r h = rw (cast-differs a b o r)
 cast-due v d (cleaf a) (cstruct gs) o r h = rw (from-null-value a o r h)
@@ -167,19 +170,22 @@ bare-eval y p = rw p
 -- ---- the mappings, left out or not
 
 module _ {Γ : Fields} {ρ : Values} {n : Bytes} (h : FitsAll Γ ρ) (k : Position) where
-  struct-due : {fs : Fields} (g : Values → Values) (ss : Selectors) (b : Bool) → straight 0 fs ss ≡ b → At Γ (k .0) n (struct fs) → ((xs : Values) → FitsAll fs xs → evals xs ss ≡ g xs)
+  struct-due : {fs : Fields} (g : Values → Values) (ss : Selectors) (b : Bool) → straight 0 fs ss ≡ b → At Γ (k .0) n (struct fs) →
+      ((xs : Values) → FitsAll fs xs → evals xs ss ≡ g xs)
       → eval ρ (choose b (position k) (structMapping (position k) ss)) ≡ onStruct g (valueAt ρ (k .0))
   unfolding choose eval
   struct-due g ss true e a ih = sym (struct-same _) ∙ struct-agree _ _ (λ xs f. sym (straight-eval 0 ss f all e) ∙ ih xs f) (at-fits a h)
   struct-due g ss false e a ih = struct-agree _ _ ih (at-fits a h)
 
-  list-due : {t : DataType} (g : Value → Value) (x : Selector) (b : Bool) → isPosition 0 x ≡ b → At Γ (k .0) n (list t) → ((y : Value) → Fits t y → eval (vcons y vnil) x ≡ g y)
+  list-due : {t : DataType} (g : Value → Value) (x : Selector) (b : Bool) → isPosition 0 x ≡ b → At Γ (k .0) n (list t) →
+      ((y : Value) → Fits t y → eval (vcons y vnil) x ≡ g y)
       → eval ρ (choose b (position k) (listMapping (position k) x)) ≡ onList g (valueAt ρ (k .0))
   unfolding choose eval
   list-due g x true e a ih = sym (list-same _) ∙ list-agree _ _ (λ y f. sym (bare-eval y (is-bare 0 x e)) ∙ ih y f) (at-fits a h)
   list-due g x false e a ih = list-agree _ _ ih (at-fits a h)
 
-  array-due : {w : ℕ} {t : DataType} (g : Value → Value) (x : Selector) (b : Bool) → isPosition 0 x ≡ b → At Γ (k .0) n (array w t) → ((y : Value) → Fits t y → eval (vcons y vnil) x ≡ g y)
+  array-due : {w : ℕ} {t : DataType} (g : Value → Value) (x : Selector) (b : Bool) → isPosition 0 x ≡ b → At Γ (k .0) n (array w t) →
+      ((y : Value) → Fits t y → eval (vcons y vnil) x ≡ g y)
       → eval ρ (choose b (position k) (arrayMapping (position k) x)) ≡ onArray g (valueAt ρ (k .0))
   unfolding choose eval
   array-due g x true e a ih = sym (array-same _) ∙ array-agree _ _ (λ y f. sym (bare-eval y (is-bare 0 x e)) ∙ ih y f) (at-fits a h)
@@ -199,15 +205,20 @@ module _ (v : Matching) where
   mutual
     unfolding listSelector arraySelector due dues dueLeaf choose eval evals dtypeOf fieldsOf fromCounterpart orElseNull valueAt
 
-    pub attach-due : {d : Defaults} {Γ : Fields} {ρ : Values} {n : Bytes} {u t : ColumnType} {k : Position} {s : Selector} → Attach v d u k t s → At Γ (k .0) n (dtypeOf t) → FitsAll Γ ρ
+    pub attach-due : {d : Defaults} {Γ : Fields} {ρ : Values} {n : Bytes} {u t : ColumnType} {k : Position} {s : Selector} → Attach v d u k t s → At Γ
+        (k .0) n (dtypeOf t) → FitsAll Γ ρ
         → eval ρ s ≡ due v d u t (valueAt ρ (k .0))
     attach-due (a-same {l = l}) a h = rw (equal-types-refl (leaf l))
     attach-due (a-cast {d} {k} {t} {u} {o = o} r p) a h = rw (← p) (cast-due v d t u o (rw (← p) at r) (at-fits a h))
     attach-due (a-struct {k = k} {fs} {ss = ss} c g r) a h = rw (← r, struct-selector k fs ss) (struct-due h k _ ss _ refl a (λ xs f. attachAll-due g f))
-    attach-due (a-list {k = k} {a = x} {b} {e = e} y m g r) a h = rw (← r) (list-due h k _ (renamed v b x e) _ refl a (λ y f. renamed-eval _ v b x e ∙ attach-due g at-element (only f)))
-    attach-due (a-array {k = k} {a = x} {b} {e = e} y m g r) a h = rw (← r) (array-due h k _ (renamed v b x e) _ refl a (λ y f. renamed-eval _ v b x e ∙ attach-due g at-element (only f)))
+    attach-due (a-list {k = k} {a = x} {b} {e = e} y m g r) a h = rw (← r) (list-due h k _ (renamed v b x e) _ refl a
+        (λ y f. renamed-eval _ v b x e ∙ attach-due g at-element (only f)))
+    attach-due (a-array {k = k} {a = x} {b} {e = e} y m g r) a h = rw (← r) (array-due h k _ (renamed v b x e) _ refl a
+        (λ y f. renamed-eval _ v b x e ∙ attach-due g at-element (only f)))
 
-    pub attachAll-due : {d : Defaults} {gs fs : Columns} {ss : Selectors} {ρ : Values} → AttachAll v d gs fs ss → FitsAll (fieldsOf fs) ρ → evals ρ ss ≡ dues v d gs fs ρ
+    pub attachAll-due : {d : Defaults} {gs fs : Columns} {ss : Selectors} {ρ : Values} → AttachAll v d gs fs ss → FitsAll (fieldsOf fs) ρ → evals ρ ss ≡
+        dues v d gs fs ρ
     attachAll-due a-nil h = refl
-    attachAll-due (a-found {a = a} {b} {fs = fs} {s = s} q m g r gs) h = ap₂ vcons (rw (← r, q) (renamed-eval _ v b a s ∙ attach-due g (counterpart-at v b fs q .place) h)) (attachAll-due gs h)
+    attachAll-due (a-found {a = a} {b} {fs = fs} {s = s} q m g r gs) h = ap₂ vcons
+        (rw (← r, q) (renamed-eval _ v b a s ∙ attach-due g (counterpart-at v b fs q .place) h)) (attachAll-due gs h)
     attachAll-due (a-missing q y m r gs) h = ap₂ vcons (rw (← r, q, y)) (attachAll-due gs h)

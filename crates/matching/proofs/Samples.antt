@@ -6,7 +6,9 @@ use lib.ListN.{length}
 use Rattle.layout.specs.Bytes.{Bytes, sameBytes}
 use Rattle.layout.specs.Parser.{Res, refuse, ok, next, choose, byte, chunk, u16, u32}
 use Rattle.layout.specs.Tree.{Layout, dtypeOf, fieldsOf, countColumns, countFields, integer}
-use Rattle.layout.specs.Layout.{layout, layoutFrom, sized, edition, counted, ended, columns, label, labelRest, fieldMark, requiredMark, text, fieldId, type, kind, kindOf, leafKind, datetimeKind, structKind, arrayKind, unit, body, structType, listType, arrayType, elementLabel, repeatsAny}
+use Rattle.layout.specs.Layout.{layout, layoutFrom, sized, edition, counted, ended, columns, label, labelRest, fieldMark, requiredMark, text, fieldId, type}
+use Rattle.layout.specs.Layout.{kind, kindOf, leafHead, datetimeHead, structHead, arrayHead, unit, body, structType, listType, arrayType, elementLabel}
+use Rattle.layout.specs.Layout.{repeatsAny}
 use Rattle.layout.specs.Find.{findFrom}
 use Rattle.layout.specs.declared.leaf.Leaf.{Leaf}
 use Rattle.layout.specs.Layout.{unitCode}
@@ -35,22 +37,33 @@ use Rattle.defaults.specs.Table.{countsFor, entriesOf, sameKind, sameOwner, rep
 use Rattle.defaults.specs.Table.{entryKind, givenOf, tableNumber, entry, ownerOf, ownedEntry, entries, tableVersion, TableTree, countedTable, tableFrom, table}
 use Rattle.defaults.specs.Lookup.{unlessNull, ofSource, givenTo, firstEntry, getDefaultValue}
 use Rattle.matching.specs.Default.{leafDefault, withField, structDefault, buildIcebergDefaultValue, defaultsOf, missingValue}
-use Rattle.matching.specs.Build.{leafPart, structPart, listPart, arrayPart, isNullType, unlessNullType, renamed, sameElement, distinctNames, distinct, noExtra, extraColumnErr, extraColumns, keepsRequired, fillsRequired, missing, ruled, isPosition, inPlace, structSelector, listSelector, arraySelector, sought, attachTransforms, attachFields, buildColumnSelector, buildFrom, build}
+use Rattle.matching.specs.Build.{leafPart, structPart, listPart, arrayPart, isNullType, unlessNullType, renamed, sameElement, distinctNames, distinct}
+use Rattle.matching.specs.Build.{noExtra, extraColumnErr, extraColumns, keepsRequired, fillsRequired, missing, ruled, isPosition, inPlace, structSelector}
+use Rattle.matching.specs.Build.{listSelector, arraySelector, sought, attachTransforms, attachFields, buildColumnSelector, buildFrom, build}
 use Rattle.plan.specs.Calls.{readAt}
 use Rattle.matching.specs.Calls.{ofEdition, bothLayouts, roomFor, writtenPlan, buildByName, buildByNumber}
 use Rattle.numeric.specs.declared.integers.Integer.the-variants.{Int8}
 
 -- opens every definition that a sample computes through
 unfoldable pub laidOut : Bytes → Res Layout
-unfolding layout layoutFrom sized edition sameBytes counted ended columns label labelRest fieldMark requiredMark text byte chunk u16 u32 fieldId type kind kindOf leafKind datetimeKind structKind arrayKind unit body structType listType arrayType elementLabel repeatsAny next choose
+unfolding layout layoutFrom sized edition sameBytes counted ended columns label labelRest fieldMark requiredMark text byte chunk u16 u32 fieldId type
+    kind kindOf leafHead datetimeHead structHead arrayHead unit body structType listType arrayType elementLabel repeatsAny next choose
 laidOut s = layout s
 
 unfoldable pub tabled : Bytes → Res TableTree
-unfolding laidOut table tableFrom countedTable tableVersion entries ownedEntry ownerOf entry tableNumber renumber entryKind givenOf partitionEntry loadedEntry initialEntry defaultType onlyLeaf repeatsAnyEntry sameKind sameOwner countsFor presence nullable flag little longText contentBy leafContent times content value
+unfolding laidOut table tableFrom countedTable tableVersion entries ownedEntry ownerOf entry tableNumber renumber entryKind givenOf partitionEntry
+    loadedEntry initialEntry defaultType onlyLeaf repeatsAnyEntry sameKind sameOwner countsFor presence nullable flag little longText contentBy
+    leafContent times content value
 tabled s = table s
 
 unfoldable pub built : Policy → ℕ → ℕ → Bytes → Bytes → Bytes → ℕ → Answer Bytes
-unfolding tabled keepsRequired fillsRequired allowed meets meetsAll ofValue ofFields ofElements nullnessAt buildByName buildByNumber bothLayouts readAt ofEdition roomFor writtenPlan build buildFrom buildColumnSelector attachTransforms attachFields sought missing missingValue buildIcebergDefaultValue defaultsOf structDefault withField leafDefault entriesOf getDefaultValue firstEntry givenTo ofSource unlessNull leafPart structPart listPart arrayPart isNullType unlessNullType renamed sameElement distinctNames distinct noExtra extraColumnErr extraColumns ruled isPosition inPlace structSelector listSelector arraySelector findFrom pairRule chain paramsOf zonesOf readZone isUtc equalTypes dtypeOf fieldsOf countColumns countFields countSelectors encodePlan encodeSelector encodeSelectors u16Bytes u32Bytes textBytes leafForm carried kindForm form formFields encodeValue encodeValues littleBytes _>>=_ demand placed answered
+unfolding tabled keepsRequired fillsRequired allowed meets meetsAll ofValue ofFields ofElements nullnessAt buildByName buildByNumber bothLayouts readAt
+    ofEdition roomFor writtenPlan build buildFrom buildColumnSelector attachTransforms attachFields sought missing missingValue buildIcebergDefaultValue
+    defaultsOf structDefault withField leafDefault entriesOf getDefaultValue firstEntry givenTo ofSource unlessNull leafPart structPart listPart
+    arrayPart isNullType unlessNullType renamed sameElement distinctNames distinct noExtra extraColumnErr extraColumns ruled isPosition inPlace
+    structSelector listSelector arraySelector findFrom pairRule chain paramsOf zonesOf readZone isUtc equalTypes dtypeOf fieldsOf countColumns
+    countFields countSelectors encodePlan encodeSelector encodeSelectors u16Bytes u32Bytes textBytes leafForm carried kindForm form formFields
+    encodeValue encodeValues littleBytes _>>=_ demand placed answered
 built p k o a b d room = buildByNumber p k o a b d room
 
 -- ---- layouts, tables and plans
@@ -173,7 +186,8 @@ unfolding built
 equal-and-repeated = refl
 
 -- a null column is cast whole, before 12 is looked for
-null-to-struct : byName on (0 ∷ []) (structOf 2 (named 0x61 (3 ∷ named 0x61 (3 ∷ [])))) ≡ accepted (planned 1 (2 ∷ 0 ∷ 0 ∷ 0 ∷ structOf 2 (named 0x61 (3 ∷ named 0x61 (3 ∷ [])) ++ (0 ∷ []))))
+null-to-struct : byName on (0 ∷ []) (structOf 2 (named 0x61 (3 ∷ named 0x61 (3 ∷ [])))) ≡ accepted
+    (planned 1 (2 ∷ 0 ∷ 0 ∷ 0 ∷ structOf 2 (named 0x61 (3 ∷ named 0x61 (3 ∷ [])) ++ (0 ∷ []))))
 unfolding built
 null-to-struct = refl
 
@@ -187,12 +201,14 @@ reordered : byName on (structOf 2 (named 0x61 (3 ∷ named 0x62 (4 ∷ [])))) (s
 unfolding built
 reordered = refl
 
-in-order : byName on (structOf 2 (named 0x61 (3 ∷ named 0x62 (4 ∷ [])))) (structOf 2 (named 0x61 (3 ∷ named 0x62 (4 ∷ [])))) ≡ accepted (planned 1 (0 ∷ 0 ∷ 0 ∷ []))
+in-order : byName on (structOf 2 (named 0x61 (3 ∷ named 0x62 (4 ∷ [])))) (structOf 2 (named 0x61 (3 ∷ named 0x62 (4 ∷ [])))) ≡ accepted
+    (planned 1 (0 ∷ 0 ∷ 0 ∷ []))
 unfolding built
 in-order = refl
 
 -- the first fields alone: the counts differ
-prefix : byName on (structOf 2 (named 0x61 (3 ∷ named 0x62 (4 ∷ [])))) (structOf 1 (named 0x61 (3 ∷ []))) ≡ accepted (planned 1 (4 ∷ 0 ∷ 0 ∷ 0 ∷ 1 ∷ 0 ∷ 0 ∷ 0 ∷ 0 ∷ []))
+prefix : byName on (structOf 2 (named 0x61 (3 ∷ named 0x62 (4 ∷ [])))) (structOf 1 (named 0x61 (3 ∷ []))) ≡ accepted
+    (planned 1 (4 ∷ 0 ∷ 0 ∷ 0 ∷ 1 ∷ 0 ∷ 0 ∷ 0 ∷ 0 ∷ []))
 unfolding built
 prefix = refl
 
@@ -206,7 +222,8 @@ null-by-number : byNumber on none (0 ∷ []) (structOf 0 []) ≡ refusedAt 24 0
 unfolding built
 null-by-number = refl
 
-repeated-by-number : byNumber on none (structOf 2 (numbered 0x61 2 (3 ∷ numbered 0x61 3 (3 ∷ [])))) (structOf 2 (numbered 0x61 2 (3 ∷ numbered 0x61 3 (3 ∷ [])))) ≡ accepted (planned 1 (0 ∷ 0 ∷ 0 ∷ []))
+repeated-by-number : byNumber on none (structOf 2 (numbered 0x61 2 (3 ∷ numbered 0x61 3 (3 ∷ []))))
+    (structOf 2 (numbered 0x61 2 (3 ∷ numbered 0x61 3 (3 ∷ [])))) ≡ accepted (planned 1 (0 ∷ 0 ∷ 0 ∷ []))
 unfolding built
 repeated-by-number = refl
 
@@ -219,7 +236,8 @@ element-default-id : byNumber on none (19 ∷ numbered 0x65 2 (3 ∷ [])) (19 �
 unfolding built
 element-default-id = refl
 
-element-renamed : byNumber on none (19 ∷ numbered 0x65 2 (3 ∷ [])) (19 ∷ numbered 0x66 2 (3 ∷ [])) ≡ accepted (planned 1 (5 ∷ 0 ∷ 0 ∷ 0 ∷ 3 ∷ 0 ∷ 0 ∷ 0 ∷ 1 ∷ 0x66 ∷ []))
+element-renamed : byNumber on none (19 ∷ numbered 0x65 2 (3 ∷ [])) (19 ∷ numbered 0x66 2 (3 ∷ [])) ≡ accepted
+    (planned 1 (5 ∷ 0 ∷ 0 ∷ 0 ∷ 3 ∷ 0 ∷ 0 ∷ 0 ∷ 1 ∷ 0x66 ∷ []))
 unfolding built
 element-renamed = refl
 
@@ -267,7 +285,8 @@ unfolding built
 missing-raises = refl
 
 -- a missing top column: its struct's default has the field's default, and null where none
-missing-column : buildByNumber on 0 0 (laid 2 0 []) (laid 2 1 (numbered 0x74 1 (structOf 2 (numbered 0x61 2 (2 ∷ numbered 0x62 3 (2 ∷ [])))))) (defaults 1 initialSeven) 1000
+missing-column : buildByNumber on 0 0 (laid 2 0 []) (laid 2 1 (numbered 0x74 1 (structOf 2 (numbered 0x61 2 (2 ∷ numbered 0x62 3 (2 ∷ []))))))
+    (defaults 1 initialSeven) 1000
     ≡ accepted (planned 1 (1 ∷ 1 ∷ 0x74 ∷ structOf 2 (1 ∷ 0x61 ∷ 2 ∷ 1 ∷ 0x62 ∷ 2 ∷ 1 ∷ 1 ∷ 7 ∷ 0 ∷ [])))
 unfolding built
 missing-column = refl
@@ -313,7 +332,8 @@ unfolding built
 extra-and-mismatch = refl
 
 -- by number an extra column has an id that the target lacks, whatever its name
-extra-by-number : buildByNumber noExtraColumns 0 0 (laid 2 2 (numbered 0x73 1 (3 ∷ numbered 0x74 2 (3 ∷ [])))) (laid 2 1 (numbered 0x74 1 (3 ∷ []))) none 1000 ≡ refusedAt 53 1
+extra-by-number : buildByNumber noExtraColumns 0 0 (laid 2 2 (numbered 0x73 1 (3 ∷ numbered 0x74 2 (3 ∷ [])))) (laid 2 1 (numbered 0x74 1 (3 ∷ [])))
+    none 1000 ≡ refusedAt 53 1
 unfolding built
 extra-by-number = refl
 
@@ -322,7 +342,8 @@ extra-after-version : buildByNumber noExtraColumns 0 0 (laid 2 1 (numbered 0x74 
 unfolding built
 extra-after-version = refl
 
-extra-after-table : buildByNumber noExtraColumns 0 0 (laid 2 1 (numbered 0x74 1 (3 ∷ []))) (laid 2 0 []) (defaults 2 (initialSeven ++ initialSeven)) 1000 ≡ refusedAt 5 3
+extra-after-table : buildByNumber noExtraColumns 0 0 (laid 2 1 (numbered 0x74 1 (3 ∷ []))) (laid 2 0 []) (defaults 2 (initialSeven ++ initialSeven))
+    1000 ≡ refusedAt 5 3
 unfolding built
 extra-after-table = refl
 
@@ -343,7 +364,11 @@ abbrev shared : Given → OwnedEntry
 shared g = record { owner = Owner.Every; entry = record { id = record { 0 = 2 }; given = g } }
 
 two-kinds : table (defaults 2 (initialSeven ++ entryOf 2 1 (0 ∷ 2 ∷ 1 ∷ 0 ∷ 0 ∷ [])))
-    ≡ ok (record { version = Shared; entries = shared (initial (integer Int8) (vnumber (Leaf.Integer Int8) 7)) ∷ shared (partition (integer Int8) (vcons vnull vnil)) ∷ [] }) 25
+    ≡ ok (record {
+      version = Shared;
+      entries = shared (initial (integer Int8) (vnumber (Leaf.Integer Int8) 7)) ∷ shared
+          (partition (integer Int8) (vcons vnull vnil)) ∷ [];
+    }) 25
 unfolding tabled
 two-kinds = refl
 
@@ -591,12 +616,14 @@ unfolding built
 required-struct-null = refl
 
 -- inside an element there is no default
-required-in-element : byMarks on (defaults 1 initialSeven) 0 (19 ∷ marked 0x65 9 0 (structOf 0 [])) 0 (19 ∷ marked 0x65 9 0 (structOf 1 (marked 0x61 2 1 (2 ∷ []))))
+required-in-element : byMarks on (defaults 1 initialSeven) 0 (19 ∷ marked 0x65 9 0 (structOf 0 [])) 0
+    (19 ∷ marked 0x65 9 0 (structOf 1 (marked 0x61 2 1 (2 ∷ []))))
     ≡ refusedAt 54 0
 unfolding built
 required-in-element = refl
 
 -- met at the second column
-required-second : buildByNumber on 0 0 (laid 3 1 (marked 0x73 1 1 (2 ∷ []))) (laid 3 2 (marked 0x73 1 1 (2 ∷ marked 0x74 2 1 (2 ∷ [])))) none 1000 ≡ refusedAt 54 1
+required-second : buildByNumber on 0 0 (laid 3 1 (marked 0x73 1 1 (2 ∷ []))) (laid 3 2 (marked 0x73 1 1 (2 ∷ marked 0x74 2 1 (2 ∷ [])))) none 1000 ≡
+    refusedAt 54 1
 unfolding built
 required-second = refl

@@ -6,7 +6,7 @@ use native.Mathlib.Omega.{arith}
 use lib.ListN.{length}
 use Rattle.layout.specs.Parser.{ok}
 use Rattle.layout.specs.Tree.{Label, ColumnType, Columns, fieldsOf}
-use Rattle.layout.specs.Find.{at, columnAt}
+use Rattle.layout.specs.Find.{present, columnAt}
 use Rattle.layout.specs.declared.columns.Position.{Position}
 use Rattle.layout.specs.declared.matching.Matching.{Matching}
 use Rattle.layout.specs.declared.matching.Matching.the-variants.{ByName}
@@ -21,7 +21,7 @@ use Rattle.plan.specs.Check.{check}
 use Rattle.plan.specs.Marks.{checkMarked}
 use Rattle.plan.specs.Run.{evals, written, run}
 use Rattle.plan.specs.Reach.{SelectorAt}
-use Rattle.plan.specs.Formed.{FormedAll}
+use Rattle.plan.specs.code.Formed.{FormedAll}
 use Rattle.plan.proofs.Typed.{typed→passed}
 use Rattle.plan.proofs.Theorems.{written-read}
 use Rattle.matching.specs.Default.{Defaults}
@@ -78,5 +78,6 @@ module _ (v : Matching) (p : Policy) (d : Defaults) (Γ Δ : Columns) {ss : Sele
 module _ (p : Policy) (d : Defaults) (Γ Δ : Columns) {ss : Selectors} (built : build ByName p d Γ Δ ≡ accepted ss) where
   -- "Matched by name, a built plan leaves a target column untouched exactly when the incoming column of that name has an equal type." The target column at
   -- the position j has the label b and the type u; its selector is s.
-  pub build-untouched : (j : Position) {k : Position} {b : Label} {u : ColumnType} {s : Selector} → columnAt j Δ ≡ at k b u → SelectorAt ss (j .0) s → Untouched Γ b s ↔ EqualType Γ b u
+  pub build-untouched : (j : Position) {k : Position} {b : Label} {u : ColumnType} {s : Selector} → columnAt j Δ ≡ present k b u → SelectorAt ss (j .0)
+      s → Untouched Γ b s ↔ EqualType Γ b u
   build-untouched j e x = column-untouched 0 (j .0) (omega arith) (build→ ByName p d Γ Δ built) x e

@@ -107,13 +107,15 @@ module _ (v : Matching) (p : Policy) where
 
   -- a column that was found
   found : (d : Defaults) (b : Label) (u : ColumnType) (m : Label) → b .required ≡ false → (k : Position) (t : ColumnType)
-      → demand (keepsRequired m t b) 55 (attachTransforms v p d u k t >>= λ s. gives (renamed v b m s)) ≡ (attachTransforms v p d u k t >>= λ s. gives (renamed v b m s))
+      → demand (keepsRequired m t b) 55 (attachTransforms v p d u k t >>= λ s. gives (renamed v b m s)) ≡
+      (attachTransforms v p d u k t >>= λ s. gives (renamed v b m s))
   found d b u m e k t = passed 55 (attachTransforms v p d u k t >>= λ s. gives (renamed v b m s)) (keeps-optional m t b e)
 
   -- the missing column's clause is `missing-unmarked`
   pub fields-unmarked : (d : Defaults) (b : Label) (u : ColumnType) (gs fs : Columns) → b .required ≡ false
       → attachFields v p d (ccons b u gs) fs
-      ≡ (sought (counterpart v b fs) (missing d (inserts (p .«missing_struct_fields»)) 14 b u) (λ k m t. attachTransforms v p d u k t >>= λ s. gives (renamed v b m s)) >>= λ s.
+      ≡ (sought (counterpart v b fs) (missing d (inserts (p .«missing_struct_fields»)) 14 b u)
+      (λ k m t. attachTransforms v p d u k t >>= λ s. gives (renamed v b m s)) >>= λ s.
       attachFields v p d gs fs >>= λ ss.
       gives (scons s ss))
   unfolding attachFields

@@ -9,7 +9,7 @@ use borrow.Author.Tests.{eq-eqb, ne-eqb}
 use Rattle.layout.specs.Bytes.{Bytes}
 use Rattle.layout.specs.Parser.{choose}
 use Rattle.layout.specs.Tree.{Label, ColumnType, Columns, ccons, DataType, leaf, struct, list, array, Fields, fnil, fcons, dtypeOf, fieldsOf}
-use Rattle.layout.specs.Find.{absent, at, findFrom, columnNamed}
+use Rattle.layout.specs.Find.{absent, present, findFrom, columnNamed}
 use Rattle.layout.specs.declared.columns.Position.{Position}
 use Rattle.layout.specs.declared.matching.Matching.{Matching}
 use Rattle.layout.specs.declared.matching.Matching.the-variants.{ByName}
@@ -53,7 +53,8 @@ module _ (v : Matching) where
         let (c, q) = left-out (isPosition 0 (renamed v b a x)) _ refl (r ∙ e) in
         (q, ap (array w) (bare→equal h (renamed-bare v b a x (is-bare 0 _ c)) .1))
 
-    pub straight→equal : {d : Defaults} {gs G : Columns} {ss : Selectors} {i : ℕ} → AttachAll v d gs G ss → (fs : Fields) → Suffix i (fieldsOf G) fs → straight i fs ss ≡ true → fs ≡ fieldsOf gs
+    pub straight→equal : {d : Defaults} {gs G : Columns} {ss : Selectors} {i : ℕ} → AttachAll v d gs G ss → (fs : Fields) → Suffix i (fieldsOf G) fs →
+        straight i fs ss ≡ true → fs ≡ fieldsOf gs
     straight→equal a-nil fnil s e = refl
     straight→equal a-nil (fcons n t fs) s e = clash (cc)
     straight→equal (a-found q m h r hs) fnil s e = clash (cc)
@@ -95,7 +96,8 @@ mutual
   equal→bare (a-list {e = x} y m h r) e = sym r ∙ rw (bare-is first x (equal→bare h (cc)))
   equal→bare (a-array {e = x} y m h r) e = sym r ∙ rw (bare-is first x (equal→bare h (cc)))
 
-  pub equal→straight : {d : Defaults} {gs G : Columns} {ss : Selectors} {i : ℕ} → AttachAll ByName d gs G ss → distinct ByName G ≡ true → Suffix i (fieldsOf G) (fieldsOf gs) → straight i (fieldsOf gs) ss ≡ true
+  pub equal→straight : {d : Defaults} {gs G : Columns} {ss : Selectors} {i : ℕ} → AttachAll ByName d gs G ss → distinct ByName G ≡ true → Suffix i
+      (fieldsOf G) (fieldsOf gs) → straight i (fieldsOf gs) ss ≡ true
   equal→straight a-nil c s = refl
   equal→straight {G = G} {i = i} (a-found {b = b} {k} {t} {x = x} q m h r hs) c s =
       let f = first-named (b .name) 0 G c (suffix-at s) in
@@ -108,7 +110,8 @@ mutual
 -- ---- by name, a target column of a plan
 
 -- a column that has a counterpart
-found-untouched : {d : Defaults} {Γ : Columns} {a b : Label} {k : Position} {t u : ColumnType} {s x : Selector} → columnNamed (b .name) Γ ≡ at k a t → Attach ByName d u k t s → renamed ByName b a s ≡ x
+found-untouched : {d : Defaults} {Γ : Columns} {a b : Label} {k : Position} {t u : ColumnType} {s x : Selector} → columnNamed (b .name) Γ ≡ present k a
+    t → Attach ByName d u k t s → renamed ByName b a s ≡ x
     → Same.Untouched Γ b x ↔ Same.EqualType Γ b u
 unfolding renamed
 found-untouched {Γ = Γ} {a} {b} {k} {t} {u} {s} {x} q h r = (to, from)
@@ -127,7 +130,8 @@ missing-untouched : {Γ : Columns} {b : Label} {u : ColumnType} {x : Selector} �
 missing-untouched q = (λ U. never-absent (sym q ∙ U .counterpart), λ E. never-absent (sym q ∙ E .counterpart))
 
 -- the column at the position n, the first's being i
-at-here : {b c : Label} {u w : ColumnType} (gs : Columns) {k : Position} (i n : ℕ) → i ≡ n → findFrom (λ i l. eqb i n) i (ccons b u gs) ≡ at k c w → (b ≡ c) × (u ≡ w)
+at-here : {b c : Label} {u w : ColumnType} (gs : Columns) {k : Position} (i n : ℕ) → i ≡ n → findFrom (λ i l. eqb i n) i (ccons b u gs) ≡ present k c w
+    → (b ≡ c) × (u ≡ w)
 unfolding findFrom choose
 at-here gs i n h e = at-eq (rw (eq-eqb i n h) at e) .1
 
@@ -135,9 +139,12 @@ at-later : (b : Label) (u : ColumnType) (gs : Columns) (i n : ℕ) → i < n →
 unfolding findFrom choose
 at-later b u gs i n h = rw (ne-eqb i n (λ e. omega arith))
 
-pub column-untouched : {d : Defaults} {Γ gs : Columns} {ss : Selectors} {b : Label} {u : ColumnType} {x : Selector} {k : Position} {m : ℕ} (i n : ℕ) → i + m ≡ n → AttachAll ByName d gs Γ ss → SelectorAt ss m x
-    → findFrom (λ i l. eqb i n) i gs ≡ at k b u → Same.Untouched Γ b x ↔ Same.EqualType Γ b u
+pub column-untouched : {d : Defaults} {Γ gs : Columns} {ss : Selectors} {b : Label} {u : ColumnType} {x : Selector} {k : Position} {m : ℕ} (i n : ℕ) → i
+    + m ≡ n → AttachAll ByName d gs Γ ss → SelectorAt ss m x
+    → findFrom (λ i l. eqb i n) i gs ≡ present k b u → Same.Untouched Γ b x ↔ Same.EqualType Γ b u
 column-untouched i n z (a-found {gs = gs} q m h r hs) s-here e = let (p, w) = at-here gs i n (omega arith) e in rw (← p, ← w) (found-untouched q h r)
-column-untouched i n z (a-found {b = b} {u = u} {gs = gs} q m h r hs) (s-there y) e = column-untouched (i + 1) n (omega arith) hs y (sym (at-later b u gs i n (omega arith)) ∙ e)
+column-untouched i n z (a-found {b = b} {u = u} {gs = gs} q m h r hs) (s-there y) e = column-untouched (i + 1) n (omega arith) hs y
+    (sym (at-later b u gs i n (omega arith)) ∙ e)
 column-untouched i n z (a-missing {gs = gs} q v m r hs) s-here e = let (p, w) = at-here gs i n (omega arith) e in rw (← p, ← w) (missing-untouched q)
-column-untouched i n z (a-missing {b = b} {u = u} {gs = gs} q v m r hs) (s-there y) e = column-untouched (i + 1) n (omega arith) hs y (sym (at-later b u gs i n (omega arith)) ∙ e)
+column-untouched i n z (a-missing {b = b} {u = u} {gs = gs} q v m r hs) (s-there y) e = column-untouched (i + 1) n (omega arith) hs y
+    (sym (at-later b u gs i n (omega arith)) ∙ e)

@@ -6,7 +6,7 @@ use lib.Dec.{eqb}
 use Rattle.layout.specs.Bytes.{sameBytes}
 use Rattle.layout.specs.Parser.{choose}
 use Rattle.layout.specs.Tree.{LeafType, leafOf, Label, ColumnType, cleaf, cstruct, clist, carray, Columns, cnil, ccons, countColumns, leaf, dtypeOf}
-use Rattle.layout.specs.Find.{Lookup, absent, at, columnNamed, counterpart}
+use Rattle.layout.specs.Find.{Lookup, absent, present, columnNamed, counterpart}
 use Rattle.layout.specs.declared.columns.Position.{Position}
 use Rattle.layout.specs.declared.matching.Matching.{Matching}
 use Rattle.layout.specs.declared.matching.Matching.the-variants.{ByName, ByNumber}
@@ -91,7 +91,7 @@ sameElement ByNumber a b = eqb (a .id .0) (b .id .0) || eqb (a .id .0) elementDe
 
 abbrev pub isAbsent : Lookup → Bool
 isAbsent absent = true
-isAbsent (at k l t) = false
+isAbsent (present k l t) = false
 
 -- no name is repeated
 unfoldable pub distinctNames : Columns → Bool
@@ -183,7 +183,7 @@ first = record { 0 = 0 }
 -- what was looked up, or else r
 unfoldable pub sought : Lookup → Result Selector → (Position → Label → ColumnType → Result Selector) → Result Selector
 sought absent r f = r
-sought (at k l t) r f = f k l t
+sought (present k l t) r f = f k l t
 
 -- `attachTransforms v p d u k t`: the selector that takes position k, of the incoming type t, to the target type u. 55 is "tested before their types
 -- (elements: after 25)".

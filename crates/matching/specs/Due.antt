@@ -2,7 +2,7 @@
 -- from the plan.
 use Rattle.layout.specs.Parser.{choose}
 use Rattle.layout.specs.Tree.{LeafType, null, leafOf, ColumnType, cleaf, cstruct, clist, carray, Columns, cnil, ccons, leaf}
-use Rattle.layout.specs.Find.{Lookup, absent, at, counterpart}
+use Rattle.layout.specs.Find.{Lookup, absent, present, counterpart}
 use Rattle.layout.specs.declared.matching.Matching.{Matching}
 use Rattle.forms.specs.Same.{equalTypes}
 use Rattle.values.specs.Value.{Value, vnull, Values, vnil, vcons}
@@ -44,7 +44,7 @@ orElseNull (refuses n) = vnull
 -- f of a counterpart's type and value; with no counterpart x
 unfoldable pub fromCounterpart : Lookup → Value → (ColumnType → Value → Value) → Values → Value
 fromCounterpart absent x f vs = x
-fromCounterpart (at k l t) x f vs = f t (valueAt vs (k .0))
+fromCounterpart (present k l t) x f vs = f t (valueAt vs (k .0))
 
 -- `due v d u t x`: what the value x of the incoming type t becomes in the target type u. "By rule, null stays null; .. a struct takes each target field
 -- in this same way and drops the rest; a list or array converts each element in order."

@@ -5,8 +5,8 @@ use native.Mathlib.Omega.{arith}
 use Rattle.layout.specs.Bytes.{Bytes}
 use Rattle.layout.specs.Parser.{Parser}
 use Rattle.layout.specs.Tree.{Label, ColumnType}
-use Rattle.layout.specs.Layout.{Kind, aLeaf, aStruct, aList, anArray, label, kind, body, structType, listType, arrayType, elementLabel, columns, type, deepest}
-use Rattle.layout.specs.Stands.{TypeAt, ColumnsAt}
+use Rattle.layout.specs.Layout.{Head, aLeaf, aStruct, aList, anArray, label, kind, body, structType, listType, arrayType, elementLabel, columns, type, deepest}
+use Rattle.layout.specs.code.Stands.{TypeAt, ColumnsAt}
 use Rattle.layout.specs.declared.edition.Edition.{Edition}
 use Rattle.layout.specs.declared.columns.Siblings.{Siblings}
 use Rattle.layout.specs.declared.columns.Siblings.the-variants.{Free}
@@ -23,7 +23,7 @@ module _ (v : Edition) (r : Siblings) (s : Bytes) where
         next-within _ _ _ _ (same (label v s at)) (λ l i. next-within _ _ _ _ (w i) (λ t j.
         next-within _ _ _ _ (same _) (λ u k. next-within _ _ _ _ (columns-within n (earlier ++ (l ∷ [])) k) (λ cs o. same _))))
 
-    body-within : (k : Kind) (at : ℕ) → Within (body v r p k s at) (body v r q k s at)
+    body-within : (k : Head) (at : ℕ) → Within (body v r p k s at) (body v r q k s at)
     unfolding body structType listType arrayType
     body-within (aLeaf l) at = same _
     body-within (aStruct n) at = next-within _ _ _ _ (columns-within n [] at) (λ cs i. same _)
@@ -36,7 +36,8 @@ module _ (v : Edition) (r : Siblings) (s : Bytes) where
   type-deeper (suc d) zero h at = absurd (omega arith)
   type-deeper (suc d) (suc e) h at = next-within _ _ _ _ (same (kind s at)) (λ k i. body-within (type v r d) (type v r e) (type-deeper d e (omega arith)) k i)
 
-  pub columns-deeper : (d e : ℕ) → d ≤ e → (n : ℕ) (earlier : List Label) (at : ℕ) → Within (columns v r (type v r d) n earlier s at) (columns v r (type v r e) n earlier s at)
+  pub columns-deeper : (d e : ℕ) → d ≤ e → (n : ℕ) (earlier : List Label) (at : ℕ) → Within (columns v r (type v r d) n earlier s at)
+      (columns v r (type v r e) n earlier s at)
   columns-deeper d e h = columns-within (type v r d) (type v r e) (type-deeper d e h)
 
 -- the same tree and the same end

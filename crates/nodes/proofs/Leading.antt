@@ -12,9 +12,9 @@ use Rattle.layout.specs.Bytes.{Bytes}
 use Rattle.layout.specs.Parser.{choose}
 use Rattle.layout.specs.Tree.{Label, DataType, leaf, struct, list, array, Fields, ColumnType, Columns, cnil, ccons, dtypeOf, fieldsOf}
 use Rattle.layout.specs.Layout.{kind, elementLabel, type as typeOf, deepest}
-use Rattle.layout.specs.Answers.{headRes, labelRes}
-use Rattle.layout.specs.Stands.{TypeAt, ColumnsAt}
-use Rattle.layout.specs.Find.{Lookup, at, findFrom, columnAt as lookupAt, FoundAt, Finds}
+use Rattle.layout.specs.code.Answers.{headRes, labelRes}
+use Rattle.layout.specs.code.Stands.{TypeAt, ColumnsAt}
+use Rattle.layout.specs.Find.{Lookup, present, findFrom, columnAt as lookupAt, FoundAt, Finds}
 use Rattle.layout.specs.declared.columns.Position.{Position}
 use Rattle.layout.specs.declared.columns.Siblings.the-variants.{Free}
 use Rattle.layout.specs.declared.columns.Label.{Label as LabelSpan}
@@ -28,8 +28,8 @@ use Rattle.layout.proofs.Ways.{clash}
 use Rattle.layout.proofs.View.{leaf-at, struct-at, list-at, array-at}
 use Rattle.plan.specs.Result.{gives}
 use Rattle.plan.specs.Check.{Column, columnAt}
-use Rattle.walk.specs.Types.{Along, a-here, a-field, a-list, a-array}
-use Rattle.nodes.specs.Typed.{LeadsAt, TypeIs}
+use Rattle.walk.specs.code.Types.{Along, a-here, a-field, a-list, a-array}
+use Rattle.nodes.specs.code.Typed.{LeadsAt, TypeIs}
 use Rattle.nodes.proofs.Deeper.{deeper-type}
 use Rattle.nodes.proofs.Path.{path-next, path-end}
 
@@ -40,7 +40,8 @@ along-leaf e (a-field q a) = clash (cc)
 along-leaf e (a-list a) = clash (cc)
 along-leaf e (a-array a) = clash (cc)
 
-along-field : {t u : DataType} {k : ℕ} {p : List ℕ} {fs : Fields} → t ≡ struct fs → Along t (k ∷ p) u → (c : Column) × (columnAt fs k ≡ gives c) × Along (c .type) p u
+along-field : {t u : DataType} {k : ℕ} {p : List ℕ} {fs : Fields} → t ≡ struct fs → Along t (k ∷ p) u → (c : Column) × (columnAt fs k ≡ gives c) × Along
+    (c .type) p u
 along-field {k = k} {fs = fs} e (a-field {fs = gs} {c = c} q a) =
     let z : fs ≡ gs = cc in
     (c, ap (λ (hs : Fields). columnAt hs k) z ∙ q, a)
@@ -66,7 +67,7 @@ along-none a-here = refl
 record Placed (m i : ℕ) (cs : Columns) (c : Column) : Type 0 where
   pub label : Label
   pub type : ColumnType
-  pub found : findFrom (λ i l. eqb i m) i cs ≡ at (record { 0 = m }) label type
+  pub found : findFrom (λ i l. eqb i m) i cs ≡ present (record { 0 = m }) label type
   pub is : dtypeOf type ≡ c .type
 
 placed : (k m i : ℕ) (cs : Columns) {c : Column} → m ≡ i + k → columnAt (fieldsOf cs) k ≡ gives c → Placed m i cs c
@@ -74,7 +75,7 @@ unfolding columnAt fieldsOf findFrom choose
 placed k m i cnil h e = clash (cc)
 placed zero m i (ccons l t cs) {c} h e =
     let z : i ≡ m = omega arith in
-    record { label = l; type = t; found = rw (eq-eqb i m z) (ap (λ (j : ℕ). at (record { 0 = j }) l t) z); is = cc }
+    record { label = l; type = t; found = rw (eq-eqb i m z) (ap (λ (j : ℕ). present (record { 0 = j }) l t) z); is = cc }
 placed (suc k) m i (ccons l t cs) h e =
     let P = placed k m (i + 1) cs (omega arith) e in
     let z : eqb i m ≡ false = ne-eqb i m (λ q. omega arith) in
@@ -110,7 +111,8 @@ module _ (v : Edition) (s : Bytes) (c k : ℕ) (p : List ℕ) (u : DataType) (L 
   unfolding dtypeOf
   leads-leaf f = along-leaf (ap dtypeOf (leaf-at (L .type) e f .0)) (L .along)
 
-  module _ {n : ℕ} {d : Cursor} (f : h ≡ Head.Struct n d) {r : Found} (g : (Q : ColumnsAt v 15 s n (d .at)) → Finds v 15 s (lookupAt (record { 0 = k }) (Q .columns)) r) where
+  module _ {n : ℕ} {d : Cursor} (f : h ≡ Head.Struct n d) {r : Found} (g : (Q : ColumnsAt v 15 s n (d .at)) → Finds v 15 s
+      (lookupAt (record { 0 = k }) (Q .columns)) r) where
     taken : Taken v s r p u
     unfolding dtypeOf
     taken =
@@ -171,5 +173,9 @@ module _ {v : Edition} {s : Bytes} {c : ℕ} {path : List ℕ} {from len o i : �
     within = omega arith;
     leads = λ u L.
         let M = a .leads u L in
-        h (slice (i + 1) len path) u (record { type = M .type; along = subst (λ (p : List ℕ). Along (dtypeOf (M .type .tree)) p u) (path-next path i len lt l) (M .along) });
+        h (slice (i + 1) len path) u (record {
+          type = M .type;
+          along = subst (λ (p : List ℕ). Along (dtypeOf (M .type .tree)) p u)
+              (path-next path i len lt l) (M .along);
+        });
   }

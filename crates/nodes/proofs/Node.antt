@@ -6,13 +6,13 @@ use native.Mathlib.Omega.{arith}
 use Rattle.layout.specs.Bytes.{Bytes}
 use Rattle.layout.specs.Parser.{refuse, ok, next, chunk, u16}
 use Rattle.layout.specs.Tree.{Label, DataType, clist, carray, dtypeOf, fieldsOf}
-use Rattle.layout.specs.Layout.{Kind, kind, label as labelOf, elementLabel, type, body, listType, arrayType, deepest}
-use Rattle.layout.specs.Answers.{shortRes, headRes, labelRes, labelAt}
-use Rattle.layout.specs.Stands.{TypeAt, ColumnsAt}
+use Rattle.layout.specs.Layout.{Head, kind, label as labelOf, elementLabel, type, body, listType, arrayType, deepest}
+use Rattle.layout.specs.code.Answers.{shortRes, headRes, labelRes, labelAt}
+use Rattle.layout.specs.code.Stands.{TypeAt, ColumnsAt}
 use Rattle.layout.specs.declared.cursor.Cursor.{Cursor}
 use Rattle.layout.specs.declared.cursor.Short.{Short}
 use Rattle.layout.specs.declared.leaf.Leaf.{Leaf}
-use Rattle.layout.specs.declared.types.Head.{Head}
+use Rattle.layout.specs.declared.types.Head.{Head as HeadSpan}
 use Rattle.layout.specs.declared.types.LeafType.{LeafType as LeafSpan}
 use Rattle.layout.specs.declared.columns.Label.{Label as LabelSpan}
 use Rattle.layout.specs.declared.columns.Labelled.{Labelled}
@@ -22,8 +22,8 @@ use Rattle.layout.proofs.Ways.{clash}
 use Rattle.layout.proofs.View.{next-ok, label-got, label-none, leaf-at, struct-at, list-at, array-at}
 use Rattle.values.specs.Value.{Value, vnull, vnumber, vtext, Values}
 use Rattle.values.specs.Reading.{presence, flag, little, longText, contentBy, leafContent, content as contentOfType, value, values as valuesOf, times, decimal}
-use Rattle.values.specs.Answers.{presenceRes, valueMoved}
-use Rattle.values.specs.Stands.{ContentAt}
+use Rattle.values.specs.code.Answers.{presenceRes, valueMoved}
+use Rattle.values.specs.code.Stands.{ContentAt}
 use Rattle.values.specs.declared.content.Content.{Content}
 use Rattle.values.specs.declared.content.Content.the-variants.{Nothing, Flag, Number, Decimal, Text}
 use Rattle.values.specs.declared.leaf.Presence.{Presence}
@@ -31,8 +31,8 @@ use Rattle.values.specs.declared.read.ValueRead.{ValueRead}
 use Rattle.values.proofs.Walk.{moved-value, moved-none}
 use Rattle.values.proofs.Inside.{null-at, present-at, never-absent, struct-in, list-in, never-uncounted, array-in}
 use Rattle.plan.specs.Run.{valueAt}
-use Rattle.walk.specs.Values.{opened}
-use Rattle.nodes.specs.Raw.{RawAt, RowAt, ElementsAt, ListOf, PresentAt, NodeIs, NodeOf, partAt, partsOf}
+use Rattle.walk.specs.code.Values.{opened}
+use Rattle.nodes.specs.code.Raw.{RawAt, RowAt, ElementsAt, ListOf, PresentAt, NodeIs, NodeOf, partAt, partsOf}
 use Rattle.nodes.specs.declared.raw.NodeAt.{NodeAt}
 use Rattle.nodes.specs.declared.raw.Parts.{Parts}
 use Rattle.nodes.proofs.Deeper.{deeper-type, deeper-columns}
@@ -43,7 +43,12 @@ pub raw-moved : {v : Edition} {lay : Bytes} {t u : ℕ} {rec : Bytes} {c d : ℕ
 raw-moved {v} {lay} {t} {u} {rec} {c} {d} e f N = record {
   raw = record {
     type = record { tree = N .raw .type .tree; end = N .raw .type .end; reads = ap (λ (o : ℕ). type v Free deepest lay o) (sym e) ∙ N .raw .type .reads };
-    value = record { tree = N .raw .value .tree; end = N .raw .value .end; reads = ap (λ (o : ℕ). value (dtypeOf (N .raw .type .tree)) rec o) (sym f) ∙ N .raw .value .reads };
+    value = record {
+      tree = N .raw .value .tree;
+      end = N .raw .value .end;
+      reads = ap (λ (o : ℕ). value (dtypeOf (N .raw .type .tree)) rec o) (sym f) ∙
+          N .raw .value .reads;
+    };
   };
   is = N .is;
 }
@@ -79,7 +84,8 @@ module _ {v : Edition} {lay : Bytes} {n t : ℕ} {rec : Bytes} {c : ℕ} (X : Ro
     pub field-unread : {B : Type 0} {i : ℕ} → r ≡ ValueRead.Refused i → B
     field-unread {i = i} e =
         let S = split-of k X (omega arith) in
-        let z : refuse i ≡ ok (S .front .values .values) (S .front .values .end) = sym (moved-none (valuesOf (fieldsOf (S .front .columns .columns)) rec c) _ (g (S .front .columns)) e) ∙ S .front .values .reads in
+        let z : refuse i ≡ ok (S .front .values .values) (S .front .values .end) = sym
+        (moved-none (valuesOf (fieldsOf (S .front .columns .columns)) rec c) _ (g (S .front .columns)) e) ∙ S .front .values .reads in
         clash (cc)
 
     module _ {b d : Cursor} (e : r ≡ ValueRead.To b d) where
@@ -129,7 +135,8 @@ module _ {v : Edition} {lay : Bytes} {n t : ℕ} {rec : Bytes} {c : ℕ} (X : El
     pub element-unread : {B : Type 0} {i : ℕ} → r ≡ ValueRead.Refused i → B
     element-unread {i = i} e =
         let E = element-of k (X .values) h in
-        let z : refuse i ≡ ok (E .front .values) (E .front .end) = sym (moved-none (times k (value (dtypeOf (X .type .tree))) rec c) _ (g (X .type)) e) ∙ E .front .reads in
+        let z : refuse i ≡ ok (E .front .values) (E .front .end) = sym (moved-none (times k (value (dtypeOf (X .type .tree))) rec c) _ (g (X .type)) e)
+        ∙ E .front .reads in
         clash (cc)
 
     pub element-found : {b d a : Cursor} → t ≡ a .at → r ≡ ValueRead.To b d → NodeOf v lay rec (valueAt (X .values .values) k) (NodeAt.At a d)
@@ -197,7 +204,8 @@ pub record RowIn (v : Edition) (lay : Bytes) (n t : ℕ) (rec : Bytes) (c : ℕ)
   pub parts : partsOf x ≡ Parts.Some n
 
 -- a type, after what it begins with
-behind : {v : Edition} {lay : Bytes} {t : ℕ} {rec : Bytes} {c : ℕ} (X : PresentAt v lay t rec c) {k : Kind} {m : ℕ} → kind lay t ≡ ok k m → body v Free (type v Free 15) k lay m ≡ ok (X .type .tree) (X .type .end)
+behind : {v : Edition} {lay : Bytes} {t : ℕ} {rec : Bytes} {c : ℕ} (X : PresentAt v lay t rec c) {k : Head} {m : ℕ} → kind lay t ≡ ok k m → body v Free
+    (type v Free 15) k lay m ≡ ok (X .type .tree) (X .type .end)
 unfolding type next
 behind X q = rw q at (X .type .reads)
 
@@ -206,14 +214,14 @@ pub record ListIs (v : Edition) (lay : Bytes) (t : ℕ) (rec : Bytes) (c : ℕ) 
   pub inner : ListOf v lay t rec c
   pub is : inner .content .tree ≡ x
 
-module _ {v : Edition} {lay : Bytes} {t : ℕ} {rec : Bytes} {c : ℕ} (X : PresentAt v lay t rec c) {p : Head} (e : headRes lay p ≡ kind lay t) where
-  pub leaf-none : {l : LeafSpan} {b : Cursor} → p ≡ Head.Leaf l b → NoParts (X .content .tree)
+module _ {v : Edition} {lay : Bytes} {t : ℕ} {rec : Bytes} {c : ℕ} (X : PresentAt v lay t rec c) {p : HeadSpan} (e : headRes lay p ≡ kind lay t) where
+  pub leaf-none : {l : LeafSpan} {b : Cursor} → p ≡ HeadSpan.Leaf l b → NoParts (X .content .tree)
   unfolding dtypeOf contentOfType leafContent content-as
   leaf-none f =
       let P = content-as (ap dtypeOf (leaf-at (X .type) e f .0)) (X .content) in
       content-no-parts _ _ rec c (X .content .tree) (P .reads)
 
-  pub struct-row : {n : ℕ} {b : Cursor} → p ≡ Head.Struct n b → RowIn v lay n (b .at) rec c (X .content .tree)
+  pub struct-row : {n : ℕ} {b : Cursor} → p ≡ HeadSpan.Struct n b → RowIn v lay n (b .at) rec c (X .content .tree)
   unfolding dtypeOf content-as opened partsOf deeper-columns
   struct-row f =
       let S = struct-at (X .type) e f in
@@ -226,13 +234,13 @@ module _ {v : Edition} {lay : Bytes} {t : ℕ} {rec : Bytes} {c : ℕ} (X : Pres
       }
 
   module _ {b : Cursor} {q : Labelled} (g : labelRes lay q ≡ elementLabel v lay (b .at)) {l : LabelSpan} {a : Cursor} (h : q ≡ Labelled.Is l a) where
-    pub list-is : p ≡ Head.List b → ListIs v lay (a .at) rec c (X .content .tree)
+    pub list-is : p ≡ HeadSpan.List b → ListIs v lay (a .at) rec c (X .content .tree)
     unfolding dtypeOf content-as deeper-type
     list-is f =
         let L = list-at (X .type) e g f h in
         record { inner = record { type = deeper-type (omega arith) (L .inner); content = content-as (ap dtypeOf (L .is)) (X .content) }; is = refl }
 
-    pub array-elements : {w : ℕ} → p ≡ Head.Array w b → ElementsIn v lay w (a .at) rec c (X .content .tree)
+    pub array-elements : {w : ℕ} → p ≡ HeadSpan.Array w b → ElementsIn v lay w (a .at) rec c (X .content .tree)
     unfolding dtypeOf content-as opened partsOf deeper-type
     array-elements f =
         let L = array-at (X .type) e g f h in
@@ -244,7 +252,8 @@ module _ {v : Edition} {lay : Bytes} {t : ℕ} {rec : Bytes} {c : ℕ} (X : Pres
         }
 
   -- the number of parts, with no look at the element's type
-  pub list-parts : {b : Cursor} {q : Short} {n : ℕ} {d : Cursor} → p ≡ Head.List b → shortRes q ≡ u16 rec c → q ≡ Short.Is n d → Parts.Some n ≡ partsOf (X .content .tree)
+  pub list-parts : {b : Cursor} {q : Short} {n : ℕ} {d : Cursor} → p ≡ HeadSpan.List b → shortRes q ≡ u16 rec c → q ≡ Short.Is n d → Parts.Some n ≡
+      partsOf (X .content .tree)
   unfolding body listType dtypeOf content-as partsOf
   list-parts f g h =
       let (l, i, h₁, g₁) = next-ok _ _ (behind X (sym e ∙ ap (headRes lay) f)) in
@@ -253,7 +262,7 @@ module _ {v : Edition} {lay : Bytes} {t : ℕ} {rec : Bytes} {c : ℕ} (X : Pres
       let L = list-in (content-as (ap dtypeOf z) (X .content)) g h in
       sym (ap partsOf (L .is) ∙ ap Parts.Some (count-each (L .inner)))
 
-  pub list-unparted : {B : Type 0} {b : Cursor} {q : Short} {n : ℕ} → p ≡ Head.List b → shortRes q ≡ u16 rec c → q ≡ Short.Refused n → B
+  pub list-unparted : {B : Type 0} {b : Cursor} {q : Short} {n : ℕ} → p ≡ HeadSpan.List b → shortRes q ≡ u16 rec c → q ≡ Short.Refused n → B
   unfolding body listType dtypeOf content-as
   list-unparted f g h =
       let (l, i, h₁, g₁) = next-ok _ _ (behind X (sym e ∙ ap (headRes lay) f)) in
@@ -261,7 +270,7 @@ module _ {v : Edition} {lay : Bytes} {t : ℕ} {rec : Bytes} {c : ℕ} (X : Pres
       let z : X .type .tree ≡ clist l t = cc in
       never-uncounted (content-as (ap dtypeOf z) (X .content)) g h
 
-  pub array-parts : {b : Cursor} {w : ℕ} → p ≡ Head.Array w b → Parts.Some w ≡ partsOf (X .content .tree)
+  pub array-parts : {b : Cursor} {w : ℕ} → p ≡ HeadSpan.Array w b → Parts.Some w ≡ partsOf (X .content .tree)
   unfolding body arrayType dtypeOf content-as partsOf
   array-parts {w = w} f =
       let (l, i, h₁, g₁) = next-ok _ _ (behind X (sym e ∙ ap (headRes lay) f)) in

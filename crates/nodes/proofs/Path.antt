@@ -10,8 +10,8 @@ use Rattle.layout.specs.Bytes.{Bytes}
 use Rattle.layout.specs.declared.cursor.Cursor.{Cursor}
 use Rattle.layout.specs.declared.edition.Edition.{Edition}
 use Rattle.values.specs.Value.{Value, vnull, vnumber, vtext, voverflow, vstruct, vlist, varray}
-use Rattle.walk.specs.Values.{opened, valueNode}
-use Rattle.nodes.specs.Raw.{RawAt, NodeOf, partAt}
+use Rattle.walk.specs.code.Values.{opened, valueNode}
+use Rattle.nodes.specs.code.Raw.{RawAt, NodeOf, partAt}
 use Rattle.nodes.specs.declared.raw.NodeAt.{NodeAt}
 use Rattle.nodes.proofs.Node.{nowhere, standing}
 
@@ -50,24 +50,28 @@ pub record Going (v : Edition) (lay : Bytes) (t : ℕ) (rec : Bytes) (c : ℕ) (
   pub within : i ≤ len
   pub goes : (X : RawAt v lay t rec c) → Nearer v lay rec (X .value .tree) (slice from len path) u d (slice i len path)
 
-pub going-start : {v : Edition} {lay : Bytes} {t : ℕ} {rec : Bytes} {c : ℕ} {path : List ℕ} {from len : ℕ} → from ≤ len → Going v lay t rec c path from len t c from
+pub going-start : {v : Edition} {lay : Bytes} {t : ℕ} {rec : Bytes} {c : ℕ} {path : List ℕ} {from len : ℕ} → from ≤ len → Going v lay t rec c path from
+    len t c from
 going-start h = record { within = h; goes = λ X. record { raw = X; is = refl } }
 
 module _ {v : Edition} {lay : Bytes} {t : ℕ} {rec : Bytes} {c : ℕ} {path : List ℕ} {from len u d i : ℕ} (a : Going v lay t rec c path from len u d i) where
-  pub going-end : len ≤ i → (X : RawAt v lay t rec c) → NodeOf v lay rec (valueNode (X .value .tree) (slice from len path)) (NodeAt.At (record { at = u }) (record { at = d }))
+  pub going-end : len ≤ i → (X : RawAt v lay t rec c) → NodeOf v lay rec (valueNode (X .value .tree) (slice from len path))
+      (NodeAt.At (record { at = u }) (record { at = d }))
   unfolding valueNode
   going-end h X =
       let N = a .goes X in
       standing (record { raw = N .raw; is = sym (ap (valueNode (N .raw .value .tree)) (path-end path i len (a .within) h)) ∙ N .is })
 
-  module _ (lt : i < len) (l : len ≤ length path) {r : NodeAt} (h : (Y : RawAt v lay u rec d) → NodeOf v lay rec (partAt (Y .value .tree) (getD path i 0)) r) where
+  module _ (lt : i < len) (l : len ≤ length path) {r : NodeAt} (h : (Y : RawAt v lay u rec d) → NodeOf v lay rec
+      (partAt (Y .value .tree) (getD path i 0)) r) where
     step : (x : Value) → valueNode x (slice i len path) ≡ valueNode (partAt x (getD path i 0)) (slice (i + 1) len path)
     step x = ap (valueNode x) (path-next path i len lt l) ∙ node-part x (getD path i 0) (slice (i + 1) len path)
 
     pub going-nowhere : r ≡ NodeAt.Null → (X : RawAt v lay t rec c) → NodeOf v lay rec (valueNode (X .value .tree) (slice from len path)) NodeAt.Null
     going-nowhere e X =
         let N = a .goes X in
-        nowhere (sym (N .is) ∙ step (N .raw .value .tree) ∙ ap (λ (x : Value). valueNode x (slice (i + 1) len path)) (h (N .raw) .none e) ∙ node-null (slice (i + 1) len path))
+        nowhere (sym (N .is) ∙ step (N .raw .value .tree) ∙ ap (λ (x : Value). valueNode x (slice (i + 1) len path)) (h (N .raw) .none e) ∙ node-null
+        (slice (i + 1) len path))
 
     pub going-more : {e f : Cursor} → r ≡ NodeAt.At e f → Going v lay t rec c path from len (e .at) (f .at) (i + 1)
     going-more {e} {f} q = record {

@@ -8,17 +8,17 @@ use Rattle.layout.specs.Bytes.{Bytes}
 use Rattle.layout.specs.Parser.{ok, next, choose, test}
 use Rattle.layout.specs.Tree.{Label, DataType, Fields, Columns, cnil, ccons, dtypeOf, fieldsOf}
 use Rattle.layout.specs.Layout.{label as labelOf, columns as columnsOf, type as typeOf, deepest, repeatsAny}
-use Rattle.layout.specs.Stands.{TypeAt, ColumnsAt}
+use Rattle.layout.specs.code.Stands.{TypeAt, ColumnsAt}
 use Rattle.layout.specs.declared.edition.Edition.{Edition}
 use Rattle.layout.specs.declared.columns.Siblings.the-variants.{Free}
 use Rattle.layout.proofs.Ways.{clash}
 use Rattle.layout.proofs.View.{next-ok, no-column, columns-any}
 use Rattle.values.specs.Value.{vnull, Values, vnil, vcons, countValues}
 use Rattle.values.specs.Reading.{value, values as valuesOf, times}
-use Rattle.values.specs.Stands.{ValueAt, ValuesAt, EachAt}
+use Rattle.values.specs.code.Stands.{ValueAt, ValuesAt, EachAt}
 use Rattle.values.proofs.Inside.{first-value, no-value, first-each, no-each}
 use Rattle.plan.specs.Run.{valueAt}
-use Rattle.nodes.specs.Raw.{RawAt, RowAt}
+use Rattle.nodes.specs.code.Raw.{RawAt, RowAt}
 
 -- ---- columns
 
@@ -38,7 +38,8 @@ pub record First (v : Edition) (d : ℕ) (s : Bytes) (n at : ℕ) (cs : Columns)
   pub is : cs ≡ ccons label (head .tree) (tail .columns)
   pub ends : tail .end ≡ end
 
-pub first-column : (v : Edition) (d : ℕ) (s : Bytes) (n at : ℕ) (cs : Columns) (end : ℕ) → columnsOf v Free (typeOf v Free d) (suc n) [] s at ≡ ok cs end → First v d s n at cs end
+pub first-column : (v : Edition) (d : ℕ) (s : Bytes) (n at : ℕ) (cs : Columns) (end : ℕ) → columnsOf v Free (typeOf v Free d) (suc n) [] s at ≡ ok cs
+    end → First v d s n at cs end
 unfolding columnsOf
 first-column v d s n at cs end e =
     let (m, i, h₁, g₁) = next-ok _ _ e in
@@ -51,18 +52,25 @@ first-column v d s n at cs end e =
       start = i;
       labelled = h₁;
       head = record { tree = t; end = j; reads = h₂ };
-      tail = record { columns = ds; end = b; reads = columns-any v (typeOf v Free d) n [] ([] ++ (m ∷ [])) s j ∙ ap (λ (b : ℕ). columnsOf v Free (typeOf v Free d) n ([] ++ (m ∷ [])) s b) w ∙ h₄ };
+      tail = record {
+        columns = ds;
+        end = b;
+        reads = columns-any v (typeOf v Free d) n [] ([] ++ (m ∷ [])) s j ∙ ap
+            (λ (b : ℕ). columnsOf v Free (typeOf v Free d) n ([] ++ (m ∷ [])) s b) w ∙ h₄;
+      };
       is = cc;
       ends = cc;
     }
 
 -- a column before others
-pub column-before : (v : Edition) (d : ℕ) (s : Bytes) (n at : ℕ) {l : Label} {m : ℕ} → labelOf v s at ≡ ok l m → (H : TypeAt v d s m) (T : ColumnsAt v d s n (H .end))
+pub column-before : (v : Edition) (d : ℕ) (s : Bytes) (n at : ℕ) {l : Label} {m : ℕ} → labelOf v s at ≡ ok l m → (H : TypeAt v d s m)
+    (T : ColumnsAt v d s n (H .end))
     → columnsOf v Free (typeOf v Free d) (suc n) [] s at ≡ ok (ccons l (H .tree) (T .columns)) (T .end)
 unfolding columnsOf next choose repeatsAny
 column-before v d s n at {l} e H T = rw (e, H .reads, columns-any v (typeOf v Free d) n ([] ++ (l ∷ [])) [] s (H .end), T .reads)
 
-pub value-before : (l : Label) (cs : Columns) {v : Edition} {d : ℕ} {s : Bytes} {m : ℕ} (H : TypeAt v d s m) (rec : Bytes) (c : ℕ) (X : ValueAt (dtypeOf (H .tree)) rec c) (Y : ValuesAt (fieldsOf cs) rec (X .end))
+pub value-before : (l : Label) (cs : Columns) {v : Edition} {d : ℕ} {s : Bytes} {m : ℕ} (H : TypeAt v d s m) (rec : Bytes) (c : ℕ)
+    (X : ValueAt (dtypeOf (H .tree)) rec c) (Y : ValuesAt (fieldsOf cs) rec (X .end))
     → valuesOf (fieldsOf (ccons l (H .tree) cs)) rec c ≡ ok (vcons (X .tree) (Y .values)) (Y .end)
 unfolding fieldsOf valuesOf value next
 value-before l cs H rec c X Y = rw (X .reads, Y .reads)
@@ -108,7 +116,12 @@ split-of zero {v} {lay} {n} {t} {rec} {c} X h =
     record {
       front = record { columns = record { columns = cnil; end = t; reads = refl }; values = record { values = vnil; end = c; reads = refl } };
       back = record {
-        columns = record { columns = X .columns .columns; end = X .columns .end; reads = ap (λ (k : ℕ). columnsOf v Free (typeOf v Free deepest) k [] lay t) (let e : n - 0 ≡ n = omega arith in e) ∙ X .columns .reads };
+        columns = record {
+          columns = X .columns .columns;
+          end = X .columns .end;
+          reads = ap
+              (λ (k : ℕ). columnsOf v Free (typeOf v Free deepest) k [] lay t) (let e : n - 0 ≡ n = omega arith in e) ∙ X .columns .reads;
+        };
         values = X .values;
       };
       is = refl;
@@ -120,14 +133,25 @@ split-of (suc k) {v} {lay} {n} {t} {rec} {c} X h =
     let B = S .back in
     record {
       front = record {
-        columns = record { columns = ccons (F .label) (F .head .type .tree) (C .columns); end = C .end; reads = column-before v deepest lay k t (F .labelled) (F .head .type) C };
-        values = record { values = vcons (F .head .value .tree) (S .front .values .values); end = S .front .values .end; reads = value-before (F .label) (C .columns) (F .head .type) rec c (F .head .value) (S .front .values) };
+        columns = record {
+          columns = ccons (F .label) (F .head .type .tree) (C .columns);
+          end = C .end;
+          reads = column-before v deepest lay k t
+              (F .labelled) (F .head .type) C;
+        };
+        values = record {
+          values = vcons (F .head .value .tree) (S .front .values .values);
+          end = S .front .values .end;
+          reads = value-before (F .label)
+              (C .columns) (F .head .type) rec c (F .head .value) (S .front .values);
+        };
       };
       back = record {
         columns = record {
           columns = B .columns .columns;
           end = B .columns .end;
-          reads = ap (λ (i : ℕ). columnsOf v Free (typeOf v Free deepest) i [] lay (C .end)) (let e : n - suc k ≡ n - 1 - k = omega arith in e) ∙ B .columns .reads;
+          reads = ap (λ (i : ℕ). columnsOf v Free (typeOf v Free deepest) i [] lay (C .end)) (let e : n - suc k ≡ n - 1 - k = omega arith in e) ∙
+              B .columns .reads;
         };
         values = B .values;
       };

@@ -6,7 +6,8 @@ use lib.ListN.{length}
 use Rattle.layout.specs.Bytes.{Bytes}
 use Rattle.layout.specs.Parser.{Res, ok, next, choose, byte, chunk, u16}
 use Rattle.layout.specs.Tree.{Label, ColumnType, cleaf, cstruct, clist, cnil, ccons, leaf, dtypeOf, integer}
-use Rattle.layout.specs.Layout.{text, leafKind, structKind, kindOf, kind, fieldId, fieldMark, labelRest, label, elementLabel, repeatsAny, columns, structType, listType, body, type, deepest}
+use Rattle.layout.specs.Layout.{text, leafHead, structHead, kindOf, kind, fieldId, fieldMark, labelRest, label, elementLabel, repeatsAny, columns, structType}
+use Rattle.layout.specs.Layout.{listType, body, type, deepest}
 use Rattle.layout.specs.declared.leaf.Leaf.{Leaf}
 use Rattle.layout.specs.declared.edition.Edition.the-variants.{One}
 use Rattle.layout.specs.declared.columns.Siblings.the-variants.{Free}
@@ -16,10 +17,10 @@ use Rattle.forms.specs.Form.{u16Bytes, textBytes, carried, leafForm, kindForm, 
 use Rattle.forms.specs.Readable.{depthOf}
 use Rattle.plan.specs.Check.{columnAt}
 use Rattle.plan.specs.Run.{valueAt}
-use Rattle.walk.specs.Types.{a-here, a-field, a-list}
-use Rattle.walk.specs.Values.{opened, valueNode}
-use Rattle.nodes.specs.Raw.{RawAt, partsOf}
-use Rattle.nodes.specs.Typed.{LeadsAt}
+use Rattle.walk.specs.code.Types.{a-here, a-field, a-list}
+use Rattle.walk.specs.code.Values.{opened, valueNode}
+use Rattle.nodes.specs.code.Raw.{RawAt, partsOf}
+use Rattle.nodes.specs.code.Typed.{LeadsAt}
 use Rattle.nodes.specs.declared.raw.Parts.{Parts}
 use Rattle.numeric.specs.declared.integers.Integer.the-variants.{Int16}
 
@@ -39,7 +40,8 @@ tree = cstruct (ccons (named (0x74 ∷ [])) (clist (named []) (cleaf (integer In
 
 -- opens every definition that a sample computes through
 computed : Bytes → Res Value
-unfolding type kind kindOf leafKind structKind body structType listType columns label labelRest text fieldId fieldMark elementLabel repeatsAny byte chunk u16 next choose dtypeOf presence nullable little contentBy leafContent times listContent structContent content value
+unfolding type kind kindOf leafHead structHead body structType listType columns label labelRest text fieldId fieldMark elementLabel repeatsAny byte
+    chunk u16 next choose dtypeOf presence nullable little contentBy leafContent times listContent structContent content value
 computed s = value (dtypeOf tree) s 0
 
 type-read : type One Free deepest lay 0 ≡ ok tree 7

@@ -7,8 +7,8 @@ use lib.ListN.{length, length-append}
 use Rattle.layout.specs.Bytes.{Bytes}
 use Rattle.layout.specs.Tree.{ColumnType, Columns, dtypeOf, fieldsOf}
 use Rattle.layout.specs.Layout.{kind, label, elementLabel, type, columns}
-use Rattle.layout.specs.Answers.{spanAt, headRes, labelRes, labelAt, labelIn}
-use Rattle.layout.specs.Stands.{TypeAt, ColumnsAt}
+use Rattle.layout.specs.code.Answers.{spanAt, headRes, labelRes, labelAt, labelIn}
+use Rattle.layout.specs.code.Stands.{TypeAt, ColumnsAt}
 use Rattle.layout.specs.declared.cursor.Cursor.{Cursor}
 use Rattle.layout.specs.declared.types.Head.{Head}
 use Rattle.layout.specs.declared.types.LeafType.{LeafType as LeafSpan}
@@ -24,7 +24,7 @@ use Rattle.forms.proofs.Read.{label-ends, type→}
 use Rattle.forms.proofs.ReadBack.{type-extent}
 use Rattle.forms.proofs.Heads.{HeadAt, head-at, form-long, end-leaf, end-struct, end-list, end-array}
 use Rattle.forms.proofs.Writing.{bytesOf, fieldBytes, extent, rest-leaf, rest-struct, rest-list, rest-array, text-long}
-use Rattle.nodes.specs.Typed.{SizeOf, SizesOf}
+use Rattle.nodes.specs.code.Typed.{SizeOf, SizesOf}
 use Rattle.nodes.specs.declared.types.FormSize.{FormSize}
 
 -- ---- a type
@@ -58,16 +58,25 @@ inside-size {P = P} I (a, b, c) =
     }
 
 module _ {v : Edition} {d : ℕ} {s : Bytes} {c : Cursor} (P : TypeAt v d s (c .at)) {p : Head} (e : headRes s p ≡ kind s (c .at)) where
-  pub size-leaf : {l : LeafSpan} {b : Cursor} → p ≡ Head.Leaf l b → (c .at ≤ b .at) × SizeOf (dtypeOf (P .tree)) (P .end) (record { size = b .at - c .at; deep = 1; end = b })
+  pub size-leaf : {l : LeafSpan} {b : Cursor} → p ≡ Head.Leaf l b → (c .at ≤ b .at) × SizeOf (dtypeOf (P .tree)) (P .end)
+      (record { size = b .at - c .at; deep = 1; end = b })
   unfolding dtypeOf depthOf
   size-leaf f =
       let H = head-at P refl (end-leaf s (kind s (c .at)) c e f) in
       let (x, y) = rest-leaf P e f in
-      let z : length (restForm (dtypeOf (P .tree))) ≡ 0 = ap length x in
-      (H .from, record { size = omega (arith, H .from, H .long, form-long P); deep = sym (ap (λ (t : ColumnType). depthOf (dtypeOf t)) (leaf-at P e f .0)); ends = y })
+      let z : length (restForm (dtypeOf (P .tree))) ≡ 0 = ap length x in (
+        H .from,
+        record {
+          size = omega (arith, H .from, H .long, form-long P);
+          deep = sym
+              (ap (λ (t : ColumnType). depthOf (dtypeOf t)) (leaf-at P e f .0));
+          ends = y;
+        },
+      )
 
   module _ {b : Cursor} {r : FormSize} where
-    pub in-struct : {n : ℕ} → p ≡ Head.Struct n b → ((Q : ColumnsAt v (d - 1) s n (b .at)) → SizesOf (fieldsOf (Q .columns)) (Q .end) r) → InsideOf v d s (c .at) P (b .at) (r .size) (r .deep) (r .end .at)
+    pub in-struct : {n : ℕ} → p ≡ Head.Struct n b → ((Q : ColumnsAt v (d - 1) s n (b .at)) → SizesOf (fieldsOf (Q .columns)) (Q .end) r) → InsideOf v d
+        s (c .at) P (b .at) (r .size) (r .deep) (r .end .at)
     unfolding dtypeOf depthOf
     in-struct f g =
         let S = struct-at P e f in
@@ -123,14 +132,21 @@ module _ {v : Edition} {d : ℕ} {s : Bytes} {n from : ℕ} where
   sizing-none Q = record {
     within = omega arith;
     room = omega arith;
-    rest = record { columns = Q .columns; end = Q .end; reads = ap (λ (m : ℕ). columns v Free (type v Free d) m [] s from) (let e : n - 0 ≡ n = omega arith in e) ∙ Q .reads };
+    rest = record {
+      columns = Q .columns;
+      end = Q .end;
+      reads = ap (λ (m : ℕ). columns v Free (type v Free d) m [] s from)
+          (let e : n - 0 ≡ n = omega arith in e) ∙ Q .reads;
+    };
     ends = λ P. same-columns Q P .1;
-    long = λ P. let z : length (fieldBytes (P .columns)) ≡ length (fieldBytes (Q .columns)) = ap (λ (cs : Columns). length (fieldBytes cs)) (same-columns P Q .0) in omega arith;
+    long = λ P. let z : length (fieldBytes (P .columns)) ≡ length (fieldBytes (Q .columns)) = ap (λ (cs : Columns). length (fieldBytes cs))
+        (same-columns P Q .0) in omega arith;
     levels = λ P. let z : fieldsDepth (P .columns) ≡ fieldsDepth (Q .columns) = ap (λ (cs : Columns). fieldsDepth cs) (same-columns P Q .0) in omega arith;
   }
 
   module _ {at size deep i : ℕ} (S : Sizing v d s n from at size deep i) where
-    pub sizing-all : n ≤ i → (P : ColumnsAt v d s n from) → SizesOf (fieldsOf (P .columns)) (P .end) (record { size = size; deep = deep; end = record { at = at } })
+    pub sizing-all : n ≤ i → (P : ColumnsAt v d s n from) → SizesOf (fieldsOf (P .columns)) (P .end)
+        (record { size = size; deep = deep; end = record { at = at } })
     unfolding fieldsOf formFields depthOfFields
     sizing-all h P =
         let z : n - i ≡ 0 = let w = S .within in omega arith in
@@ -154,7 +170,8 @@ module _ {v : Edition} {d : ℕ} {s : Bytes} {n from : ℕ} where
             let b = label-ends s v at (label-got s e f) .1 .0 in
             omega arith
 
-        first-long : length (fieldBytes (S .rest .columns)) ≡ l .name .len + 1 + (length (bytesOf (sizing-first .head .tree)) + length (fieldBytes (sizing-first .tail .columns)))
+        first-long : length (fieldBytes (S .rest .columns)) ≡ l .name .len + 1 + (length (bytesOf (sizing-first .head .tree)) + length
+            (fieldBytes (sizing-first .tail .columns)))
         unfolding fieldsOf formFields
         first-long =
             let F = sizing-first in
@@ -194,7 +211,8 @@ module _ {v : Edition} {d : ℕ} {s : Bytes} {n from : ℕ} where
                 rest = record {
                   columns = F .tail .columns;
                   end = F .tail .end;
-                  reads = ap (λ (k : ℕ). columns v Free (type v Free d) k [] s (r .end .at)) z ∙ ap (λ (o : ℕ). columns v Free (type v Free d) (n - i - 1) [] s o) (G .ends) ∙ F .tail .reads;
+                  reads = ap (λ (k : ℕ). columns v Free (type v Free d) k [] s (r .end .at)) z ∙ ap
+                      (λ (o : ℕ). columns v Free (type v Free d) (n - i - 1) [] s o) (G .ends) ∙ F .tail .reads;
                 };
                 ends = λ P. F .ends ∙ S .ends P;
                 long = λ P. let w = S .long P in omega (arith, G .size);

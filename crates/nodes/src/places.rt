@@ -2,13 +2,6 @@
 use layout::cursor::Cursor;
 use layout::edition::Edition;
 
-// The columns of a layout or the fields of a struct: their edition, how many, and where the first stands.
-pub struct ColumnRange {
-    pub edition: Edition,
-    pub count: u16,
-    pub first: Cursor,
-}
-
 // Where a type stands, the edition of its layout, and the depth left to it.
 pub struct TypePlace {
     pub edition: Edition,

@@ -12,12 +12,12 @@ use Rattle.plan.specs.Check.{Column, columnAt}
 use Rattle.plan.specs.Run.{valueAt}
 use Rattle.plan.specs.Nullness.{Place, optional, required, ofValue}
 use Rattle.plan.specs.Marks.{allowed}
-use Rattle.plan.specs.Paths.{append, gather, fieldAt, partsAt, valuesAt, anyNull, collected}
+use Rattle.plan.specs.code.Paths.{append, gather, fieldAt, partsAt, valuesAt, anyNull, collected}
 use Rattle.plan.proofs.Results.{never-refused, gives-eq}
 use Rattle.plan.proofs.Paths.{constant-place}
-use Rattle.overflow.specs.Some.{anyOf, somePart, someSought}
+use Rattle.overflow.specs.code.Some.{anyOf, somePart, someSought}
 use Rattle.overflow.specs.declared.scan.Sought.{Sought}
-use Rattle.nullness.specs.Places.{Leads, l-here, l-field, l-list, l-array, fillsAt}
+use Rattle.nullness.specs.code.Places.{Leads, l-here, l-field, l-list, l-array, fillsAt}
 
 chosen-or : (a b : Bool) → choose a true b ≡ (a || b)
 unfolding choose
@@ -36,7 +36,8 @@ any-append : (vs ws : Values) → anyNull (append vs ws) ≡ (anyNull vs || anyN
 unfolding append anyNull choose
 any-append vnil ws = refl
 any-append (vcons v vs) ws =
-    chosen-or (isNullValue v) (anyNull (append vs ws)) ∙ ap (λ (b : Bool). isNullValue v || b) (any-append vs ws) ∙ or-assoc (isNullValue v) (anyNull vs) (anyNull ws)
+    chosen-or (isNullValue v) (anyNull (append vs ws)) ∙ ap (λ (b : Bool). isNullValue v || b) (any-append vs ws) ∙ or-assoc (isNullValue v)
+    (anyNull vs) (anyNull ws)
     ∙ ap (λ (b : Bool). b || anyNull ws) (chosen-back (isNullValue v) (anyNull vs))
   where
     chosen-back : (a b : Bool) → (a || b) ≡ choose a true b
@@ -49,7 +50,8 @@ module _ (f : Value → Values) (g : Value → Bool) where
   gather-any h each-nil = refl
   gather-any h (each-cons {v = v} {vs} a hs) = any-append (f v) (gather f vs) ∙ rw (h v a, gather-any h hs)
 
-  field-any : {fs : Fields} {vs : Values} (k : ℕ) {c : Column} → ((w : Value) → Fits (c .type) w → anyNull (f w) ≡ g w) → FitsAll fs vs → columnAt fs k ≡ gives c
+  field-any : {fs : Fields} {vs : Values} (k : ℕ) {c : Column} → ((w : Value) → Fits (c .type) w → anyNull (f w) ≡ g w) → FitsAll fs vs → columnAt fs k
+      ≡ gives c
       → anyNull (gather f (fieldAt vs k)) ≡ g (valueAt vs k)
   unfolding gather fieldAt valueAt columnAt anyNull
   field-any zero {c} h (all-cons {n} {t} {v = v} a hs) e =

@@ -8,9 +8,9 @@ use native.Mathlib.Omega.{arith}
 use Rattle.layout.specs.Bytes.{Bytes}
 use Rattle.layout.specs.Parser.{ok, next, u16}
 use Rattle.layout.specs.Tree.{Label, Columns, cnil, dtypeOf, fieldsOf}
-use Rattle.layout.specs.Layout.{Kind, aStruct, aList, anArray, kind, label as labelOf, elementLabel, columns as columnsOf, type as typeOf, deepest}
-use Rattle.layout.specs.Answers.{headRes, labelRes, labelAt, movedOf, shortRes}
-use Rattle.layout.specs.Stands.{TypeAt}
+use Rattle.layout.specs.Layout.{Head, aStruct, aList, anArray, kind, label as labelOf, elementLabel, columns as columnsOf, type as typeOf, deepest}
+use Rattle.layout.specs.code.Answers.{headRes, labelRes, labelAt, movedOf, shortRes}
+use Rattle.layout.specs.code.Stands.{TypeAt}
 use Rattle.layout.specs.declared.columns.Label.{Label as LabelSpan}
 use Rattle.layout.specs.declared.columns.Labelled.{Labelled}
 use Rattle.layout.specs.declared.columns.Siblings.the-variants.{Free}
@@ -18,29 +18,31 @@ use Rattle.layout.specs.declared.cursor.Cursor.{Cursor}
 use Rattle.layout.specs.declared.cursor.Moved.{Moved}
 use Rattle.layout.specs.declared.cursor.Short.{Short}
 use Rattle.layout.specs.declared.edition.Edition.the-variants.{One}
-use Rattle.layout.specs.declared.types.Head.{Head}
+use Rattle.layout.specs.declared.types.Head.{Head as HeadSpan}
 use Rattle.layout.proofs.Ways.{clash, moved-to}
 use Rattle.layout.proofs.View.{label-got, same-type, same-columns}
 use Rattle.values.specs.Value.{Value, vnull, vstruct, vlist, varray, Values, vcons, isNullValue}
 use Rattle.values.specs.Reading.{value, values as valuesOf}
-use Rattle.values.specs.Answers.{valueMoved}
+use Rattle.values.specs.code.Answers.{valueMoved}
 use Rattle.values.specs.declared.read.ValueRead.{ValueRead}
 use Rattle.values.proofs.Inside.{value-passed}
 use Rattle.plan.specs.Run.{valueAt}
-use Rattle.nodes.specs.Raw.{RawAt, RowAt, ElementsAt, ListOf}
+use Rattle.nodes.specs.code.Raw.{RawAt, RowAt, ElementsAt, ListOf}
 use Rattle.nodes.proofs.Rows.{First, first-column, FirstOf, first-of}
-use Rattle.overflow.specs.Some.{anyOf, somePart, someSought}
-use Rattle.overflow.specs.Seek.{RawIn}
+use Rattle.overflow.specs.code.Some.{anyOf, somePart, someSought}
+use Rattle.overflow.specs.code.Seek.{RawIn}
 use Rattle.overflow.specs.declared.scan.Sought.{Sought}
 use Rattle.overflow.proofs.Asking.{raw-of}
 use Rattle.overflow.proofs.Raw.{LeafValue}
 use Rattle.overflow.proofs.Scanning.{Scanning, list-elements, scanning-none, scanning-all, scanning-raw, scanning-more}
-use Rattle.nullness.specs.Nulls.{FieldStart, ElementStart, PartStart, p-field, p-list, p-array, Inside, i-here, i-part, IsNull, NullsOf, EachOf, RowOf, Grown}
-use Rattle.nullness.proofs.Table.{nulls-of-more}
+use Rattle.nullness.specs.code.Nulls.{FieldStart, ElementStart, PartStart, p-field, p-list, p-array, Inside, i-here, i-part, IsNull, NullsOf, EachOf}
+use Rattle.nullness.specs.code.Nulls.{RowOf, Grown}
+use Rattle.nullness.proofs.NullsTable.{nulls-of-more}
 
 -- ---- one value
 
-element-each : {s : Bytes} {nulls : List ℕ} {vs : Values} {m b a : ℕ} {l : Label} → elementLabel One s m ≡ ok l b → EachOf s nulls b vs → ElementStart s m a → EachOf s nulls a vs
+element-each : {s : Bytes} {nulls : List ℕ} {vs : Values} {m b a : ℕ} {l : Label} → elementLabel One s m ≡ ok l b → EachOf s nulls b vs → ElementStart s
+    m a → EachOf s nulls a vs
 element-each {s} {nulls} {vs} {b = b} {a} {l} f E F =
     let z : ok l b ≡ ok (F .label) a = sym f ∙ F .labelled in
     let c : b ≡ a = cc in
@@ -76,8 +78,8 @@ module _ {s : Bytes} {nulls : List ℕ} {t : ℕ} {x : Value} where
   pub leaf-nulls : LeafValue x → NullsOf s nulls t x
   leaf-nulls L = parts-nulls (L .present) (λ k b P p o I u. L .part k _)
 
-  module _ {vs : Values} {h : Head} (g : headRes s h ≡ kind s t) where
-    pub struct-nulls : {n : ℕ} {d : Cursor} → h ≡ Head.Struct n d → x ≡ vstruct vs → RowOf s nulls n (d .at) vs → NullsOf s nulls t x
+  module _ {vs : Values} {h : HeadSpan} (g : headRes s h ≡ kind s t) where
+    pub struct-nulls : {n : ℕ} {d : Cursor} → h ≡ HeadSpan.Struct n d → x ≡ vstruct vs → RowOf s nulls n (d .at) vs → NullsOf s nulls t x
     unfolding somePart
     struct-nulls {n} {d} j e R =
         parts-nulls (ap isNullValue e) (λ k b P p o I u. ap (λ (y : Value). somePart k (λ z. someSought Sought.Null p z) y) e ∙ field k b P .clean p o I u)
@@ -94,8 +96,9 @@ module _ {s : Bytes} {nulls : List ℕ} {t : ℕ} {x : Value} where
         field k b (p-list f F) = let z = sym f ∙ q in clash (cc)
         field k b (p-array f F) = let z = sym f ∙ q in clash (cc)
 
-    module _ {d b : Cursor} {l : LabelSpan} {y : Labelled} (f : labelRes s y ≡ elementLabel One s (d .at)) (r : y ≡ Labelled.Is l b) (E : EachOf s nulls (b .at) vs) where
-      pub list-nulls : h ≡ Head.List d → x ≡ vlist vs → NullsOf s nulls t x
+    module _ {d b : Cursor} {l : LabelSpan} {y : Labelled} (f : labelRes s y ≡ elementLabel One s (d .at)) (r : y ≡ Labelled.Is l b)
+        (E : EachOf s nulls (b .at) vs) where
+      pub list-nulls : h ≡ HeadSpan.List d → x ≡ vlist vs → NullsOf s nulls t x
       unfolding somePart
       list-nulls j e =
           parts-nulls (ap isNullValue e) (λ k b P p o I u. ap (λ (y : Value). somePart k (λ z. someSought Sought.Null p z) y) e ∙ each k b P .clean p o I u)
@@ -111,7 +114,7 @@ module _ {s : Bytes} {nulls : List ℕ} {t : ℕ} {x : Value} where
               element-each (label-got s f r) E (subst (λ (o : ℕ). ElementStart s o a) c F)
           each k a (p-array p F) = let z = sym p ∙ q in clash (cc)
 
-      pub array-nulls : {w : ℕ} → h ≡ Head.Array w d → x ≡ varray vs → NullsOf s nulls t x
+      pub array-nulls : {w : ℕ} → h ≡ HeadSpan.Array w d → x ≡ varray vs → NullsOf s nulls t x
       unfolding somePart
       array-nulls {w} j e =
           parts-nulls (ap isNullValue e) (λ k b P p o I u. ap (λ (y : Value). somePart k (λ z. someSought Sought.Null p z) y) e ∙ each k b P .clean p o I u)
@@ -145,7 +148,8 @@ module _ {s : Bytes} {n t c : ℕ} {nulls : List ℕ} where
     elements-raw h = scanning-raw (F .all) h
 
     pub elements-more : i < n → {more : List ℕ} → Grown nulls more → ((X : RawAt One s t s at) → NullsOf s more t (X .value .tree))
-        → {q : Moved} → ((Q : TypeAt One deepest s t) → q ≡ movedOf (value (dtypeOf (Q .tree)) s at)) → {d : Cursor} → q ≡ Moved.To d → Elements s n t c more (i + 1) (d .at)
+        → {q : Moved} → ((Q : TypeAt One deepest s t) → q ≡ movedOf (value (dtypeOf (Q .tree)) s at)) → {d : Cursor} → q ≡ Moved.To d → Elements s n t c
+        more (i + 1) (d .at)
     elements-more h G N m e = record {
       all = scanning-more (F .all) h {r = false} (λ X. refl) m refl e;
       clean = λ p o I u. scanning-more (F .clean p o I (λ z. u (G .keeps o z))) h {r = false} (λ X. sym (N X .clean p o I u)) m refl e;
@@ -167,9 +171,15 @@ row-as {s} {m = m} {t} {c = c} e f g X = record {
   columns = record {
     columns = X .columns .columns;
     end = X .columns .end;
-    reads = ap (λ (o : ℕ). columnsOf One Free (typeOf One Free deepest) m [] s o) (sym f) ∙ ap (λ (k : ℕ). columnsOf One Free (typeOf One Free deepest) k [] s t) (sym e) ∙ X .columns .reads;
+    reads = ap (λ (o : ℕ). columnsOf One Free (typeOf One Free deepest) m [] s o) (sym f) ∙ ap
+        (λ (k : ℕ). columnsOf One Free (typeOf One Free deepest) k [] s t) (sym e) ∙ X .columns .reads;
   };
-  values = record { values = X .values .values; end = X .values .end; reads = ap (λ (o : ℕ). valuesOf (fieldsOf (X .columns .columns)) s o) (sym g) ∙ X .values .reads };
+  values = record {
+    values = X .values .values;
+    end = X .values .end;
+    reads = ap (λ (o : ℕ). valuesOf (fieldsOf (X .columns .columns)) s o) (sym g) ∙
+        X .values .reads;
+  };
 }
 
 abbrev raw-as : {s : Bytes} {t u c : ℕ} → t ≡ u → RawAt One s t s c → RawAt One s u s c
@@ -194,12 +204,18 @@ field-first {s} {at} {o} {e} {l} f F =
     let w : ok (F .label) o ≡ ok l e = sym (F .labelled) ∙ ap (λ (i : ℕ). labelOf One s i) (sym y) ∙ f in
     cc
 
-field-later : {s : Bytes} {at k o e : ℕ} {l : Label} → labelOf One s at ≡ ok l e → (T : TypeAt One deepest s e) → FieldStart s at (suc k) o → FieldStart s (T .end) k o
+field-later : {s : Bytes} {at k o e : ℕ} {l : Label} → labelOf One s at ≡ ok l e → (T : TypeAt One deepest s e) → FieldStart s at (suc k) o → FieldStart
+    s (T .end) k o
 field-later {s} {at} {k} {o} {e} {l} f T F =
     let G = first-column One deepest s k at (F .before) (F .start) (F .passed) in
     let z : ok (G .label) (G .start) ≡ ok l e = sym (G .labelled) ∙ f in
     let y : G .start ≡ e = cc in
-    let H : TypeAt One deepest s e = record { tree = G .head .tree; end = G .head .end; reads = ap (λ (i : ℕ). typeOf One Free deepest s i) (sym y) ∙ G .head .reads } in
+    let H : TypeAt One deepest s e = record {
+      tree = G .head .tree;
+      end = G .head .end;
+      reads = ap (λ (i : ℕ). typeOf One Free deepest s i) (sym y) ∙
+          G .head .reads;
+    } in
     let x : G .head .end ≡ T .end = same-type H T .1 in
     record {
       before = G .tail .columns;
@@ -261,9 +277,11 @@ module _ {s : Bytes} {n t c : ℕ} {nulls : List ℕ} where
                 let z : o ≡ e .at = field-first labelled-at (R .starts 0 o (subst (λ (m : ℕ). FieldStart s t m o) j F)) in
                 let v : first .head .value .tree ≡ valueAt (R .whole .values .values) k =
                 sym (ap (λ (m : ℕ). valueAt (R .whole .values .values) m) j ∙ R .same 0 ∙ value-first (R .left .values .values) (first .is)) in
-                subst (λ (m : ℕ). NullsOf s more m (valueAt (R .whole .values .values) k)) (sym z) (subst (λ (x : Value). NullsOf s more (e .at) x) v (N row-raw))
+                subst (λ (m : ℕ). NullsOf s more m (valueAt (R .whole .values .values) k)) (sym z)
+                (subst (λ (x : Value). NullsOf s more (e .at) x) v (N row-raw))
 
-        pub row-more : {r : ValueRead} → ((P : TypeAt One deepest s (e .at)) → r ≡ valueMoved (P .end) (value (dtypeOf (P .tree)) s to)) → {a b : Cursor} → r ≡ ValueRead.To a b
+        pub row-more : {r : ValueRead} → ((P : TypeAt One deepest s (e .at)) → r ≡ valueMoved (P .end) (value (dtypeOf (P .tree)) s to)) →
+            {a b : Cursor} → r ≡ ValueRead.To a b
             → Row s n t c more (i + 1) (a .at) (b .at)
         unfolding row-raw
         row-more m {a} {b} k =
@@ -272,7 +290,8 @@ module _ {s : Bytes} {n t c : ℕ} {nulls : List ℕ} where
               within = omega (arith, h);
               whole = R .whole;
               left = row-as (let z : n - i - 1 ≡ n - (i + 1) = omega arith in z) (sym (E .0)) (sym (E .1)) (first .tail);
-              same = λ j. ap (λ (o : ℕ). valueAt (R .whole .values .values) o) (let z : i + 1 + j ≡ i + suc j = omega arith in z) ∙ R .same (suc j) ∙ value-later (R .left .values .values) j (first .is);
+              same = λ j. ap (λ (o : ℕ). valueAt (R .whole .values .values) o) (let z : i + 1 + j ≡ i + suc j = omega arith in z) ∙ R .same (suc j) ∙
+                  value-later (R .left .values .values) j (first .is);
               starts = λ k o F.
                   let D : FieldStart s t (i + suc k) o = subst (λ (j : ℕ). FieldStart s t j o) (let z : i + 1 + k ≡ i + suc k = omega arith in z) F in
                   subst (λ (j : ℕ). FieldStart s j k o) (sym (E .0)) (field-later labelled-at (row-raw .type) (R .starts (suc k) o D));
@@ -281,13 +300,16 @@ module _ {s : Bytes} {n t c : ℕ} {nulls : List ℕ} where
 
 -- ---- a constant that is read
 
-pub type-read : {s : Bytes} {at : ℕ} {r : Moved} {d : Cursor} → r ≡ movedOf (typeOf One Free deepest s at) → r ≡ Moved.To d → (T : TypeAt One deepest s at) × (d .at ≡ T .end)
+pub type-read : {s : Bytes} {at : ℕ} {r : Moved} {d : Cursor} → r ≡ movedOf (typeOf One Free deepest s at) → r ≡ Moved.To d →
+    (T : TypeAt One deepest s at) × (d .at ≡ T .end)
 type-read {s} {at} {d = d} e f = let (t, p) = moved-to (typeOf One Free deepest s at) e f in (record { tree = t; end = d .at; reads = p }, refl)
 
 module _ {s : Bytes} {t c : ℕ} (T : TypeAt One deepest s t) where
   pub value-read : {r : Moved} {d : Cursor} → ((P : TypeAt One deepest s t) → r ≡ movedOf (value (dtypeOf (P .tree)) s c)) → r ≡ Moved.To d → c ≡ T .end
       → (X : RawAt One s t s c) × (c ≡ X .type .end)
-  value-read {d = d} g f e = let (x, p) = moved-to (value (dtypeOf (T .tree)) s c) (g T) f in (record { type = T; value = record { tree = x; end = d .at; reads = p } }, e)
+  value-read {d = d} g f e = let (x, p) = moved-to (value (dtypeOf (T .tree)) s c) (g T) f in
+      (record { type = T; value = record { tree = x; end = d .at; reads = p } }, e)
 
-  pub constant-nulls : {nulls : List ℕ} → c ≡ T .end → ((X : RawAt One s t s c) → NullsOf s nulls t (X .value .tree)) → (X : RawIn s t) → NullsOf s nulls t (X .value .tree)
+  pub constant-nulls : {nulls : List ℕ} → c ≡ T .end → ((X : RawAt One s t s c) → NullsOf s nulls t (X .value .tree)) → (X : RawIn s t) → NullsOf s
+      nulls t (X .value .tree)
   constant-nulls e N X = let R = raw-of X (e ∙ same-type T (X .type) .1) in nulls-as (R .is) (N (R .raw))

@@ -7,21 +7,21 @@ use native.Mathlib.Omega.{arith}
 use Rattle.layout.specs.Bytes.{Bytes, AllBytes}
 use Rattle.layout.specs.Tree.{Fields, fieldsOf}
 use Rattle.plan.specs.Selector.{Selector}
-use Rattle.plan.specs.Formed.{Formed}
+use Rattle.plan.specs.code.Formed.{Formed}
 use Rattle.plan.specs.Nullness.{Nullnesses, nullnessOf}
 use Rattle.plan.specs.Marks.{givens}
 use Rattle.plan.proofs.Typed.{check→typed}
-use Rattle.nodes.specs.declared.places.ColumnRange.{ColumnRange}
-use Rattle.walk.specs.State.{State, state as stateOf}
-use Rattle.walk.specs.Moves.{Input as InputOf}
-use Rattle.walk.specs.Standing.{WalkAt, rank, Located, StepsTo}
+use Rattle.layout.specs.declared.columns.ColumnRange.{ColumnRange}
+use Rattle.walk.specs.code.State.{State, state as stateOf}
+use Rattle.walk.specs.code.Moves.{Input as InputOf}
+use Rattle.walk.specs.code.Walks.{WalkAt, rank, Located, StepsTo}
 use Rattle.walk.specs.declared.walk.Walk.{Walk}
-use Rattle.walk.proofs.Standing.{walk-starts}
-use Rattle.overflow.specs.Ranges.{ColumnsIn}
+use Rattle.walk.proofs.Walks.{walk-starts}
+use Rattle.overflow.specs.code.Ranges.{ColumnsIn}
 use Rattle.overflow.proofs.Scoped.{in-record}
 use Rattle.overflow.proofs.Seeking.{formed-at}
-use Rattle.nullness.specs.Places.{fillsAt}
-use Rattle.nullness.specs.Stops.{scopeOf, fillsHere, stopOf, Follows}
+use Rattle.nullness.specs.code.Places.{fillsAt}
+use Rattle.nullness.specs.code.Stops.{scopeOf, fillsHere, stopOf, Follows}
 use Rattle.nullness.specs.declared.stop.Stop.{Stop}
 use Rattle.nullness.specs.declared.stop.Stop.the-variants.{Passes, Fails, Input}
 use Rattle.nullness.proofs.Tracing.{Traced, moved-traced, moved-fills}
@@ -34,7 +34,8 @@ pub record Following (plan : Bytes) (Γ : Fields) (N : Nullnesses) (b : Bool) (w
   pub traced : Traced Γ state
   pub is : fillsHere N state ≡ b
 
-module _ {plan : Bytes} {Γ : Fields} {N : Nullnesses} {b : Bool} {w : Walk} (F : Following plan Γ N b w) {r : Walk} (h : (x : State) → WalkAt plan w x → Located plan x w r) where
+module _ {plan : Bytes} {Γ : Fields} {N : Nullnesses} {b : Bool} {w : Walk} (F : Following plan Γ N b w) {r : Walk}
+    (h : (x : State) → WalkAt plan w x → Located plan x w r) where
   pub following-located : Following plan Γ N b r
   following-located =
       let L = h (F .state) (F .standing) in
@@ -62,7 +63,8 @@ module _ {plan : Bytes} {Γ : Fields} {N : Nullnesses} {b : Bool} {w : Walk} (F 
     unfolding following-located
     following-fails e = sym (means e) ∙ following-located .is
 
-    pub following-input : {n : Walk} → q ≡ Input → ((p : Bytes) (x : State) (s : Selector) → WalkAt p r x → InputOf (x .selector) s → StepsTo p (stateOf s (x .frames) (x .path)) r n)
+    pub following-input : {n : Walk} → q ≡ Input → ((p : Bytes) (x : State) (s : Selector) → WalkAt p r x → InputOf (x .selector) s → StepsTo p
+        (stateOf s (x .frames) (x .path)) r n)
         → Following plan Γ N b n × (rank n < rank w)
     unfolding following-located
     following-input e k =

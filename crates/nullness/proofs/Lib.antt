@@ -7,6 +7,6 @@ pub mod Stopping
 pub mod Following
 pub mod Meeting
 pub mod Samples
-pub mod Table
+pub mod NullsTable
 pub mod Filling
 pub mod Looking

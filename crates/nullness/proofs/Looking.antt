@@ -8,7 +8,7 @@ use lib.ListN.{length, getD}
 use lib.Seq.{slice}
 use Rattle.layout.specs.Bytes.{Bytes}
 use Rattle.layout.specs.Layout.{label as labelOf, elementLabel, columns, type, deepest, kind}
-use Rattle.layout.specs.Answers.{headRes, labelRes, movedOf}
+use Rattle.layout.specs.code.Answers.{headRes, labelRes, movedOf}
 use Rattle.layout.specs.declared.columns.Label.{Label as LabelSpan}
 use Rattle.layout.specs.declared.columns.Labelled.{Labelled}
 use Rattle.layout.specs.declared.columns.Siblings.the-variants.{Free}
@@ -18,11 +18,11 @@ use Rattle.layout.specs.declared.edition.Edition.the-variants.{One}
 use Rattle.layout.specs.declared.types.Head.{Head}
 use Rattle.layout.proofs.Ways.{clash, moved-to}
 use Rattle.layout.proofs.View.{label-got}
-use Rattle.overflow.specs.Some.{someSought}
-use Rattle.overflow.specs.Seek.{RawIn}
+use Rattle.overflow.specs.code.Some.{someSought}
+use Rattle.overflow.specs.code.Seek.{RawIn}
 use Rattle.overflow.specs.declared.scan.Sought.{Sought}
 use Rattle.overflow.proofs.Scanning.{path-end, path-cons}
-use Rattle.nullness.specs.Nulls.{FieldStart, ElementStart, PartStart, p-field, p-list, p-array, Inside, i-here, i-part, IsNull, KnownAt, Nulls}
+use Rattle.nullness.specs.code.Nulls.{FieldStart, ElementStart, PartStart, p-field, p-list, p-array, Inside, i-here, i-part, IsNull, KnownAt, Nulls}
 use Rattle.nullness.specs.declared.nulls.TypePart.{TypePart}
 
 -- ---- a part
@@ -64,7 +64,8 @@ pub looking-start : {s : Bytes} {t : ℕ} {path : List ℕ} {from len : ℕ} →
 looking-start h = record { within = h; inside = λ o I. I }
 
 module _ {s : Bytes} {t : ℕ} {path : List ℕ} {from len at i : ℕ} (L : Looking s t path from len at i) where
-  pub looking-more : i < len → len ≤ length path → {r : TypePart} {e : Cursor} → ((b : Cursor) → r ≡ TypePart.At b → PartStart s at (getD path i 0) (b .at)) → r ≡ TypePart.At e
+  pub looking-more : i < len → len ≤ length path → {r : TypePart} {e : Cursor} → ((b : Cursor) → r ≡ TypePart.At b → PartStart s at (getD path i 0)
+      (b .at)) → r ≡ TypePart.At e
       → Looking s t path from len (e .at) (i + 1)
   looking-more lt l {e = e} h q = record {
     within = omega (arith, lt);

@@ -11,17 +11,17 @@ use borrow.Author.Tests.{eq-eqb, ne-eqb, lt-ltb}
 use Rattle.layout.specs.Bytes.{Bytes}
 use Rattle.layout.specs.Parser.{ok, next, choose}
 use Rattle.layout.specs.Tree.{leafOf, Label, ColumnType, cleaf, cstruct, clist, carray, Columns, cnil, ccons}
-use Rattle.layout.specs.Layout.{Kind, kind, body, listType, arrayType, elementLabel, type}
-use Rattle.layout.specs.Answers.{headRes, leafAt, labelRes, labelAt}
-use Rattle.layout.specs.Find.{Lookup, absent, at as found, findFrom, columnAt, FoundAt, Finds}
-use Rattle.layout.specs.Stands.{TypeAt, ColumnsAt}
+use Rattle.layout.specs.Layout.{Head, kind, body, listType, arrayType, elementLabel, type}
+use Rattle.layout.specs.code.Answers.{headRes, leafAt, labelRes, labelAt}
+use Rattle.layout.specs.Find.{Lookup, absent, present, findFrom, columnAt, FoundAt, Finds}
+use Rattle.layout.specs.code.Stands.{TypeAt, ColumnsAt}
 use Rattle.layout.specs.declared.cursor.Cursor.{Cursor}
 use Rattle.layout.specs.declared.columns.Position.{Position}
 use Rattle.layout.specs.declared.columns.Label.{Label as LabelSpan}
 use Rattle.layout.specs.declared.columns.Labelled.{Labelled}
 use Rattle.layout.specs.declared.columns.Siblings.the-variants.{Free}
 use Rattle.layout.specs.declared.find.Found.{Found}
-use Rattle.layout.specs.declared.types.Head.{Head}
+use Rattle.layout.specs.declared.types.Head.{Head as HeadSpan}
 use Rattle.layout.specs.declared.types.LeafType.{LeafType as LeafSpan}
 use Rattle.layout.specs.declared.edition.Edition.{Edition}
 use Rattle.layout.proofs.Ways.{clash}
@@ -32,12 +32,12 @@ use Rattle.rules.specs.Classes.{isNull}
 use Rattle.nodes.proofs.Deeper.{deeper-type}
 use Rattle.plan.specs.Nullness.{Nullness, Nullnesses, nnil, ncons, nowhere, insideOf, topOf, nullnessAt}
 use Rattle.plan.specs.Marks.{placeOf, allowed, given, givens}
-use Rattle.plan.specs.Paths.{placeIn}
-use Rattle.index.specs.Indexed.{Indexed}
+use Rattle.plan.specs.code.Paths.{placeIn}
+use Rattle.index.specs.code.Indexed.{Indexed}
 use Rattle.overflow.proofs.Scanning.{path-end, path-cons}
-use Rattle.nullness.specs.Places.{fillsAt}
+use Rattle.nullness.specs.code.Places.{fillsAt}
 use Rattle.nullness.proofs.Placing.{nowhere-fills}
-use Rattle.nullness.specs.Marked.{partsOf, elementMark, MarkedAt, PartIs}
+use Rattle.nullness.specs.code.Marked.{partsOf, elementMark, MarkedAt, PartIs}
 use Rattle.nullness.specs.declared.column.PartMark.{PartMark}
 
 -- what is inside does not hang on a column's own mark
@@ -63,7 +63,7 @@ later-element (suc k) c r h = refl
 
 abbrev Looked : Lookup → Nullness → Type 0
 Looked absent n = n ≡ nowhere
-Looked (found o l t) n = n ≡ given (l .required) t
+Looked (present o l t) n = n ≡ given (l .required) t
 
 looked : (cs : Columns) (i m k : ℕ) → k ≡ i + m → Looked (findFrom (λ j l. eqb j k) i cs) (nullnessAt (givens cs) m)
 unfolding findFrom givens nullnessAt choose
@@ -72,10 +72,11 @@ looked (ccons l t cs) i zero k h = rw (eq-eqb i k (omega arith)) refl
 looked (ccons l t cs) i (suc m) k h = rw (ne-eqb i k (λ q. omega arith)) (looked cs (i + 1) m k (omega arith))
 
 module _ (v : Edition) (d : ℕ) (s : Bytes) {n : Nullness} (deep : d ≤ 16) {r : Found} where
-  found-mark : (x : Lookup) → Looked x n → Finds v d s x r → {o : Position} {l : LabelSpan} {b : Cursor} → r ≡ Found.At o l b → MarkedAt v s (b .at) (l .required) n
+  found-mark : (x : Lookup) → Looked x n → Finds v d s x r → {o : Position} {l : LabelSpan} {b : Cursor} → r ≡ Found.At o l b → MarkedAt v s (b .at)
+      (l .required) n
   unfolding deeper-type
   found-mark absent g F q = clash (cc)
-  found-mark (found k m t) g F {o} {l} {b} q =
+  found-mark (present k m t) g F {o} {l} {b} q =
       let z : Found.At k (F .span) (F .start) ≡ Found.At o l b = sym (F .is) ∙ q in
       let y : F .start .at ≡ b .at = cc in
       let x : F .span ≡ l = cc in
@@ -85,7 +86,7 @@ module _ (v : Edition) (d : ℕ) (s : Bytes) {n : Nullness} (deep : d ≤ 16) {r
 
   absent-mark : (x : Lookup) → Looked x n → Finds v d s x r → r ≡ Found.Absent → n ≡ nowhere
   absent-mark absent g F q = g
-  absent-mark (found k m t) g F q =
+  absent-mark (present k m t) g F q =
       let z : Found.At k (F .span) (F .start) ≡ Found.Absent = sym (F .is) ∙ q in
       clash (cc)
 
@@ -103,42 +104,48 @@ is-here {v} {s} {n} {c} {m} M = record {
       subst (λ (a : Cursor). MarkedAt v s (a .at) o n) x (subst (λ (a : Bool). MarkedAt v s (c .at) a n) y M);
 }
 
-element-part : {v : Edition} {s : Bytes} (m : Bool) {t : ColumnType} (k : ℕ) (b : Cursor) (T : TypeAt v 16 s (b .at)) → t ≡ T .tree → {r : PartMark} → r ≡ elementMark k b m
+element-part : {v : Edition} {s : Bytes} (m : Bool) {t : ColumnType} (k : ℕ) (b : Cursor) (T : TypeAt v 16 s (b .at)) → t ≡ T .tree → {r : PartMark} → r
+    ≡ elementMark k b m
     → PartIs v s (nullnessAt (ncons (given m t) nnil) k) r
 unfolding elementMark nullnessAt
 element-part {v} {s} m {t} zero b T e i = subst (λ (r : PartMark). PartIs v s (given m t) r) (sym i) (is-here (record { type = T; is = ap (given m) e }))
 element-part {v} {s} m {t} (suc k) b T e i = subst (λ (r : PartMark). PartIs v s nowhere r) (sym i) (is-none refl)
 
-part-as : {v : Edition} {s : Bytes} (k : ℕ) {t u : ColumnType} {r : PartMark} → u ≡ t → PartIs v s (nullnessAt (partsOf t) k) r → PartIs v s (nullnessAt (partsOf u) k) r
+part-as : {v : Edition} {s : Bytes} (k : ℕ) {t u : ColumnType} {r : PartMark} → u ≡ t → PartIs v s (nullnessAt (partsOf t) k) r → PartIs v s
+    (nullnessAt (partsOf u) k) r
 part-as {v} {s} k {r = r} f = subst (λ (t : ColumnType). PartIs v s (nullnessAt (partsOf t) k) r) (sym f)
 
-module _ {v : Edition} {s : Bytes} {at : ℕ} (P : TypeAt v 16 s at) (k : ℕ) {p : Head} (e : headRes s p ≡ kind s at) where
-  pub leaf-part : {l : LeafSpan} {c : Cursor} → p ≡ Head.Leaf l c → PartIs v s (nullnessAt (partsOf (P .tree)) k) PartMark.None
+module _ {v : Edition} {s : Bytes} {at : ℕ} (P : TypeAt v 16 s at) (k : ℕ) {p : HeadSpan} (e : headRes s p ≡ kind s at) where
+  pub leaf-part : {l : LeafSpan} {c : Cursor} → p ≡ HeadSpan.Leaf l c → PartIs v s (nullnessAt (partsOf (P .tree)) k) PartMark.None
   unfolding given nullnessAt
   leaf-part f = part-as k (leaf-at P e f .0) (is-none refl)
 
-  module _ {n : ℕ} {c : Cursor} (f : p ≡ Head.Struct n c) {r : Found} (g : (D : ColumnsAt v 15 s n (c .at)) → Finds v 15 s (columnAt (record { 0 = k }) (D .columns)) r) where
-    pub field-part : {o : Position} {l : LabelSpan} {b : Cursor} → r ≡ Found.At o l b → PartIs v s (nullnessAt (partsOf (P .tree)) k) (PartMark.At b (l .required))
+  module _ {n : ℕ} {c : Cursor} (f : p ≡ HeadSpan.Struct n c) {r : Found} (g : (D : ColumnsAt v 15 s n (c .at)) → Finds v 15 s
+      (columnAt (record { 0 = k }) (D .columns)) r) where
+    pub field-part : {o : Position} {l : LabelSpan} {b : Cursor} → r ≡ Found.At o l b → PartIs v s (nullnessAt (partsOf (P .tree)) k)
+        (PartMark.At b (l .required))
     unfolding given
     field-part q =
         let S = struct-at P e f in
-        part-as k (S .is) (is-here (found-mark v 15 s (omega arith) (columnAt (record { 0 = k }) (S .inner .columns)) (looked (S .inner .columns) 0 k k (omega arith)) (g (S .inner)) q))
+        part-as k (S .is) (is-here (found-mark v 15 s (omega arith) (columnAt (record { 0 = k }) (S .inner .columns))
+        (looked (S .inner .columns) 0 k k (omega arith)) (g (S .inner)) q))
 
     pub absent-part : r ≡ Found.Absent → PartIs v s (nullnessAt (partsOf (P .tree)) k) PartMark.None
     unfolding given
     absent-part q =
         let S = struct-at P e f in
-        part-as k (S .is) (is-none (absent-mark v 15 s (omega arith) (columnAt (record { 0 = k }) (S .inner .columns)) (looked (S .inner .columns) 0 k k (omega arith)) (g (S .inner)) q))
+        part-as k (S .is) (is-none (absent-mark v 15 s (omega arith) (columnAt (record { 0 = k }) (S .inner .columns))
+        (looked (S .inner .columns) 0 k k (omega arith)) (g (S .inner)) q))
 
   module _ {c : Cursor} {q : Labelled} (g : labelRes s q ≡ elementLabel v s (c .at)) {l : LabelSpan} {b : Cursor} (j : q ≡ Labelled.Is l b) {r : PartMark}
       (i : r ≡ elementMark k b (l .required)) where
-    pub list-part : p ≡ Head.List c → PartIs v s (nullnessAt (partsOf (P .tree)) k) r
+    pub list-part : p ≡ HeadSpan.List c → PartIs v s (nullnessAt (partsOf (P .tree)) k) r
     unfolding given deeper-type
     list-part f =
         let L = list-at P e g f j in
         part-as k (L .is) (element-part (l .required) {t = L .inner .tree} k b (deeper-type (omega arith) (L .inner)) refl i)
 
-    pub array-part : {w : ℕ} → p ≡ Head.Array w c → PartIs v s (nullnessAt (partsOf (P .tree)) k) r
+    pub array-part : {w : ℕ} → p ≡ HeadSpan.Array w c → PartIs v s (nullnessAt (partsOf (P .tree)) k) r
     unfolding given deeper-type
     array-part f =
         let L = array-at P e g f j in
@@ -162,7 +169,8 @@ top-as : (r : Bool) {t u : ColumnType} {b : Bool} → u ≡ t → b ≡ allowed 
 top-as r f h = h ∙ sym (ap (λ (t : ColumnType). allowed (topOf (given r t)) true) f)
 
 -- a type, after what it begins with
-behind : {v : Edition} {s : Bytes} {at : ℕ} (P : TypeAt v 16 s at) {k : Kind} {m : ℕ} → kind s at ≡ ok k m → body v Free (type v Free 15) k s m ≡ ok (P .tree) (P .end)
+behind : {v : Edition} {s : Bytes} {at : ℕ} (P : TypeAt v 16 s at) {k : Head} {m : ℕ} → kind s at ≡ ok k m → body v Free (type v Free 15) k s m ≡ ok
+    (P .tree) (P .end)
 unfolding type next
 behind P h = rw h at (P .reads)
 
@@ -171,19 +179,19 @@ zero-test : (k : ℕ) → not (eqb k 0) ≡ ltb 0 k
 zero-test zero = refl
 zero-test (suc k) = ap not (ne-eqb (suc k) 0 (λ q. omega arith)) ∙ sym (lt-ltb 0 (suc k) (omega arith))
 
-module _ {v : Edition} {s : Bytes} {at : ℕ} (P : TypeAt v 16 s at) {p : Head} (e : headRes s p ≡ kind s at) (r : Bool) (q : r ≡ true) where
-  pub leaf-top : {l : LeafSpan} {c : Cursor} → p ≡ Head.Leaf l c → {k : ℕ} → k ≡ kindOf (l .leaf) → ltb 0 k ≡ allowed (topOf (given r (P .tree))) true
+module _ {v : Edition} {s : Bytes} {at : ℕ} (P : TypeAt v 16 s at) {p : HeadSpan} (e : headRes s p ≡ kind s at) (r : Bool) (q : r ≡ true) where
+  pub leaf-top : {l : LeafSpan} {c : Cursor} → p ≡ HeadSpan.Leaf l c → {k : ℕ} → k ≡ kindOf (l .leaf) → ltb 0 k ≡ allowed (topOf (given r (P .tree))) true
   unfolding given
   leaf-top {l} f {k} h =
       let z : kindOf (leafOf (leafAt s l)) ≡ k = ap kindOf (leaf-of-type (l .leaf) _) ∙ sym h in
       top-as r (leaf-at P e f .0) (sym (allowed-place (r && not (isNull (leafOf (leafAt s l)))) ∙ ap (λ (b : Bool). b && not (isNull (leafOf (leafAt s l)))) q
       ∙ ap (λ (n : ℕ). not (eqb n 0)) z ∙ zero-test k))
 
-  pub struct-top : {n : ℕ} {c : Cursor} → p ≡ Head.Struct n c → true ≡ allowed (topOf (given r (P .tree))) true
+  pub struct-top : {n : ℕ} {c : Cursor} → p ≡ HeadSpan.Struct n c → true ≡ allowed (topOf (given r (P .tree))) true
   unfolding given
   struct-top f = top-as r (struct-at P e f .is) (sym (allowed-place r ∙ q))
 
-  pub list-top : {c : Cursor} → p ≡ Head.List c → true ≡ allowed (topOf (given r (P .tree))) true
+  pub list-top : {c : Cursor} → p ≡ HeadSpan.List c → true ≡ allowed (topOf (given r (P .tree))) true
   unfolding given body listType
   list-top f =
       let (l, i, h₁, g₁) = next-ok _ _ (behind P (sym e ∙ ap (headRes s) f)) in
@@ -191,7 +199,7 @@ module _ {v : Edition} {s : Bytes} {at : ℕ} (P : TypeAt v 16 s at) {p : Head} 
       let z : P .tree ≡ clist l t = cc in
       top-as r z (sym (allowed-place r ∙ q))
 
-  pub array-top : {w : ℕ} {c : Cursor} → p ≡ Head.Array w c → true ≡ allowed (topOf (given r (P .tree))) true
+  pub array-top : {w : ℕ} {c : Cursor} → p ≡ HeadSpan.Array w c → true ≡ allowed (topOf (given r (P .tree))) true
   unfolding given body arrayType
   array-top {w} f =
       let (l, i, h₁, g₁) = next-ok _ _ (behind P (sym e ∙ ap (headRes s) f)) in
@@ -206,7 +214,8 @@ pub record Marking (v : Edition) (s : Bytes) (n : Nullness) (path : List ℕ) (l
   pub type : TypeAt v 16 s at
   pub same : fillsAt n (slice 0 len path) ≡ fillsAt (given m (type .tree)) (slice i len path)
 
-pub marking-start : {v : Edition} {s : Bytes} {at : ℕ} (P : TypeAt v 16 s at) (path : List ℕ) (len : ℕ) (m : Bool) → Marking v s (given m (P .tree)) path len at m 0
+pub marking-start : {v : Edition} {s : Bytes} {at : ℕ} (P : TypeAt v 16 s at) (path : List ℕ) (len : ℕ) (m : Bool) → Marking v s (given m (P .tree))
+    path len at m 0
 marking-start P path len m = record { within = omega arith; type = P; same = refl }
 
 module _ {v : Edition} {s : Bytes} {n : Nullness} {path : List ℕ} {len at : ℕ} {m : Bool} {i : ℕ} (M : Marking v s n path len at m i) where
@@ -216,7 +225,8 @@ module _ {v : Edition} {s : Bytes} {n : Nullness} {path : List ℕ} {len at : �
       let z : slice i len path ≡ [] = path-end i len path (omega (arith, M .within)) in
       g (M .type) ∙ sym (M .same ∙ ap (fillsAt (given m (M .type .tree))) z)
 
-  module _ (lt : i < len) (room : len ≤ length path) {r : PartMark} (g : (P : TypeAt v 16 s at) → PartIs v s (nullnessAt (partsOf (P .tree)) (getD path i 0)) r) where
+  module _ (lt : i < len) (room : len ≤ length path) {r : PartMark} (g : (P : TypeAt v 16 s at) → PartIs v s
+      (nullnessAt (partsOf (P .tree)) (getD path i 0)) r) where
     part : Nullness
     part = nullnessAt (partsOf (M .type .tree)) (getD path i 0)
 
@@ -243,7 +253,8 @@ pub stride-as : {v : Edition} {s : Bytes} {n at a b : ℕ} {index : List ℕ} �
 stride-as {v} {s} {n} {at} {index = index} e = subst (λ (k : ℕ). Indexed v s n at k index) e
 
 module _ {v : Edition} {s : Bytes} {n at : ℕ} (P : ColumnsAt v 16 s n at) (k : Position) {r : Found} (g : Finds v 16 s (columnAt k (P .columns)) r) where
-  pub column-mark : {o : Position} {l : LabelSpan} {b : Cursor} → r ≡ Found.At o l b → MarkedAt v s (b .at) (l .required) (nullnessAt (givens (P .columns)) (k .0))
+  pub column-mark : {o : Position} {l : LabelSpan} {b : Cursor} → r ≡ Found.At o l b → MarkedAt v s (b .at) (l .required)
+      (nullnessAt (givens (P .columns)) (k .0))
   column-mark q = found-mark v 16 s (omega arith) (columnAt k (P .columns)) (looked (P .columns) 0 (k .0) (k .0) (omega arith)) g q
 
   pub column-none : r ≡ Found.Absent → (p : List ℕ) → true ≡ fillsAt (nullnessAt (givens (P .columns)) (k .0)) p

@@ -12,16 +12,17 @@ use Rattle.values.specs.Fits.{Fits}
 use Rattle.plan.specs.Selector.{Selector, position, constant, cast, rename, structMapping, listMapping, arrayMapping, Selectors}
 use Rattle.plan.specs.Nullness.{Place, Nullnesses, nullnessAt, nullnessOf}
 use Rattle.plan.specs.Marks.{allowed}
-use Rattle.plan.specs.Paths.{placeIn}
+use Rattle.plan.specs.code.Paths.{placeIn}
 use Rattle.plan.proofs.Typed.{Typed, t-position, t-constant}
 use Rattle.plan.proofs.Paths.{place-below-cast}
-use Rattle.walk.specs.State.{Frame, element, State, state}
-use Rattle.walk.specs.Moves.{Stopped, s-column, s-constant, s-cast, s-rename, s-struct, s-list, s-array, s-no-element, s-no-field, Input as InputOf, i-cast, i-rename, i-struct, i-list, i-array}
-use Rattle.overflow.specs.Some.{someSought}
+use Rattle.walk.specs.code.State.{Frame, element, State, state}
+use Rattle.walk.specs.code.Moves.{Stopped, s-column, s-constant, s-cast, s-rename, s-struct, s-list, s-array, s-no-element, s-no-field, Input as InputOf}
+use Rattle.walk.specs.code.Moves.{i-cast, i-rename, i-struct, i-list, i-array}
+use Rattle.overflow.specs.code.Some.{someSought}
 use Rattle.overflow.specs.declared.scan.Sought.{Sought}
 use Rattle.overflow.proofs.Scoped.{Scoped, in-list, in-array}
-use Rattle.nullness.specs.Places.{Leads, l-here, fillsAt}
-use Rattle.nullness.specs.Stops.{scopeOf, fillsHere, answered, columnStop, inputStop, stopAt, stopOf}
+use Rattle.nullness.specs.code.Places.{Leads, l-here, fillsAt}
+use Rattle.nullness.specs.code.Stops.{scopeOf, fillsHere, answered, columnStop, inputStop, stopAt, stopOf}
 use Rattle.nullness.specs.declared.stop.Stop.{Stop}
 use Rattle.nullness.specs.declared.stop.Stop.the-variants.{Passes, Fails, Input}
 use Rattle.nullness.proofs.Constants.{constant-fills}
@@ -45,12 +46,14 @@ unfolding answered
 answered-means Γ N x true e = e
 answered-means Γ N x false e = e
 
-constant-here : (N : Nullnesses) (E : List Frame) {Δ : Fields} {n m : Bytes} {t u : DataType} {v : Value} {p : List ℕ} {k : DataType} → Typed Δ (constant n k v) m t → Leads t p u
+constant-here : (N : Nullnesses) (E : List Frame) {Δ : Fields} {n m : Bytes} {t u : DataType} {v : Value} {p : List ℕ} {k : DataType} → Typed Δ
+    (constant n k v) m t → Leads t p u
     → fillsHere N (state (constant n k v) E p) ≡ not (someSought Sought.Null p v)
 unfolding fillsHere nullnessOf
 constant-here N E (t-constant f) L = constant-fills L f
 
-no-element : {B : Type 0} {Γ Δ : Fields} {E : List Frame} {s : Selector} {i : ℕ} {k : Position} {n : Bytes} {t : DataType} → 0 < k .0 → Scoped Γ (element s i ∷ E) Δ
+no-element : {B : Type 0} {Γ Δ : Fields} {E : List Frame} {s : Selector} {i : ℕ} {k : Position} {n : Bytes} {t : DataType} → 0 < k .0 → Scoped Γ
+    (element s i ∷ E) Δ
     → Typed Δ (position k) n t → B
 no-element h (in-list c d) (t-position a) = only-first a h
 no-element h (in-array c d) (t-position a) = only-first a h

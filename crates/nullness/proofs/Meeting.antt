@@ -8,10 +8,11 @@ use native.Mathlib.Numerals.{add-one}
 use lib.ListN.{length}
 use lib.Seq.{slice, take-suc-set}
 use Rattle.layout.specs.Bytes.{Bytes, AllBytes}
-use Rattle.layout.specs.Tree.{Label, ColumnType, cleaf, cstruct, clist, carray, cnil, ccons, DataType, struct, list, array, Fields, fnil, fcons, Columns, dtypeOf, fieldsOf}
+use Rattle.layout.specs.Tree.{Label, ColumnType, cleaf, cstruct, clist, carray, cnil, ccons, DataType, struct, list, array, Fields, fnil, fcons, Columns}
+use Rattle.layout.specs.Tree.{dtypeOf, fieldsOf}
 use Rattle.layout.specs.Layout.{kind, label, elementLabel, columns as columnsOf, type}
-use Rattle.layout.specs.Answers.{headRes, labelRes, labelAt}
-use Rattle.layout.specs.Stands.{TypeAt, ColumnsAt}
+use Rattle.layout.specs.code.Answers.{headRes, labelRes, labelAt}
+use Rattle.layout.specs.code.Stands.{TypeAt, ColumnsAt}
 use Rattle.layout.specs.declared.cursor.Cursor.{Cursor}
 use Rattle.layout.specs.declared.types.Head.{Head}
 use Rattle.layout.specs.declared.types.LeafType.{LeafType as LeafSpan}
@@ -26,18 +27,18 @@ use Rattle.plan.specs.Check.{Column, column, columnAt}
 use Rattle.plan.specs.Nullness.{Place, Nullness, Nullnesses, nnil, ncons, topOf, insideOf, nullnessAt, nullnessOf, nullnessesOf}
 use Rattle.plan.specs.Marks.{allowed, givens, meets, meetsAll}
 use Rattle.plan.proofs.Paths.{allowed-optional}
-use Rattle.walk.specs.Stands.{SelectorAt}
-use Rattle.walk.specs.State.{state}
-use Rattle.walk.specs.Standing.{WalkAt}
+use Rattle.walk.specs.code.Stands.{SelectorAt}
+use Rattle.walk.specs.code.State.{state}
+use Rattle.walk.specs.code.Walks.{WalkAt}
 use Rattle.walk.specs.declared.walk.Walk.{Walk}
-use Rattle.nodes.specs.declared.places.ColumnRange.{ColumnRange}
+use Rattle.layout.specs.declared.columns.ColumnRange.{ColumnRange}
 use Rattle.nodes.specs.declared.places.TopPath.{TopPath}
-use Rattle.overflow.specs.Ranges.{ColumnsIn}
-use Rattle.overflow.specs.Overflows.{TopAt, PlanAt, partPath, started}
+use Rattle.overflow.specs.code.Ranges.{ColumnsIn}
+use Rattle.overflow.specs.code.Overflows.{TopAt, PlanAt, partPath, started}
 use Rattle.overflow.proofs.Paths.{standing}
 use Rattle.overflow.proofs.Columns.{Pairing, no-pair, Next, next, column-top, pair-more, pair-start}
-use Rattle.nullness.specs.Places.{Leads, l-here, l-field, l-list, l-array, nullnessIn, fillsAt, dropPlaces}
-use Rattle.nullness.specs.Stops.{Follows, PlaceAt, ElementAt}
+use Rattle.nullness.specs.code.Places.{Leads, l-here, l-field, l-list, l-array, nullnessIn, fillsAt, dropPlaces}
+use Rattle.nullness.specs.code.Stops.{Follows, PlaceAt, ElementAt}
 use Rattle.nullness.proofs.Placing.{leads-more, in-place, in-further, next-meets, none-left}
 
 -- ---- one place
@@ -45,7 +46,8 @@ use Rattle.nullness.proofs.Placing.{leads-more, in-place, in-further, n
 pub place-optional : (p : Place) {r : Bool} → r ≡ false → true ≡ allowed p r
 place-optional p e = sym (ap (allowed p) e ∙ allowed-optional p)
 
-module _ {plan : Bytes} {top : ℕ} {Γ : Fields} (path : List ℕ) (len : ℕ) {u : DataType} (S : PlaceAt plan top Γ (slice 0 len path) u) (room : length path ≡ 64) (short : len ≤ 64)
+module _ {plan : Bytes} {top : ℕ} {Γ : Fields} (path : List ℕ) (len : ℕ) {u : DataType} (S : PlaceAt plan top Γ (slice 0 len path) u)
+    (room : length path ≡ 64) (short : len ≤ 64)
     {w : Walk} (e : w ≡ started top (length plan) path len) where
   unfoldable pub place-follows : Follows plan w Γ
   place-follows = record {
@@ -90,11 +92,13 @@ module _ (path : TopPath) (k : ℕ) {below : TopPath} (room : length (path .step
   -- the same, by the place one step further
   pub step-met : {plan : Bytes} {Γ : Fields} {u : DataType} → path .len < 64 → (T : TopAt plan (path .top) Γ)
       → Leads (T .column .type) (slice 0 (path .len) (path .steps) ++ (k ∷ [])) u → (N : Nullnesses) (r : Bool) (t : ColumnType) {b : Bool}
-      → ((S : PlaceAt plan (below .top) Γ (slice 0 (below .len) (below .steps)) u) → b ≡ meets (nullnessIn (nullnessOf N (S .top .here .tree)) (slice 0 (below .len) (below .steps))) r t)
+      → ((S : PlaceAt plan (below .top) Γ (slice 0 (below .len) (below .steps)) u) → b ≡ meets
+      (nullnessIn (nullnessOf N (S .top .here .tree)) (slice 0 (below .len) (below .steps))) r t)
       → b ≡ meets (nullnessAt (insideOf (nullnessIn (nullnessOf N (T .here .tree)) (slice 0 (path .len) (path .steps)))) k) r t
   unfolding further
   step-met {plan} {Γ} {u} h T L N r t {b} g =
-      let f : (S : PlaceAt plan (path .top) Γ (slice 0 (below .len) (below .steps)) u) → b ≡ meets (nullnessIn (nullnessOf N (S .top .here .tree)) (slice 0 (below .len) (below .steps))) r t =
+      let f : (S : PlaceAt plan (path .top) Γ (slice 0 (below .len) (below .steps)) u) → b ≡ meets
+      (nullnessIn (nullnessOf N (S .top .here .tree)) (slice 0 (below .len) (below .steps))) r t =
       subst (λ (n : ℕ). (S : PlaceAt plan n Γ (slice 0 (below .len) (below .steps)) u)
       → b ≡ meets (nullnessIn (nullnessOf N (S .top .here .tree)) (slice 0 (below .len) (below .steps))) r t) same-top g in
       step-meets (nullnessOf N (T .here .tree)) r t h (f (further h T L))
@@ -135,7 +139,8 @@ module _ {plan : Bytes} {top : ℕ} {Γ : Fields} {p : List ℕ} {t : ColumnType
 meets-as : (n : Nullness) (r : Bool) {t u : ColumnType} {b : Bool} → u ≡ t → b ≡ meets n r t → b ≡ meets n r u
 meets-as n r f k = k ∙ sym (ap (meets n r) f)
 
-module _ {y : Edition} {d : ℕ} {s : Bytes} {at : ℕ} (Q : TypeAt y d s at) {h : Head} (e : headRes s h ≡ kind s at) {plan : Bytes} {top : ℕ} {Γ : Fields} {p : List ℕ}
+module _ {y : Edition} {d : ℕ} {s : Bytes} {at : ℕ} (Q : TypeAt y d s at) {h : Head} (e : headRes s h ≡ kind s at) {plan : Bytes} {top : ℕ} {Γ : Fields}
+    {p : List ℕ}
     (S : PlaceAt plan top Γ p (dtypeOf (Q .tree))) (N : Nullnesses) (r : Bool) {a : Bool}
     (g : a ≡ allowed (topOf (nullnessIn (nullnessOf N (S .top .here .tree)) p)) r) (q : a ≡ true) where
   pub leaf-meets : {l : LeafSpan} {c : Cursor} → h ≡ Head.Leaf l c → true ≡ meets (nullnessIn (nullnessOf N (S .top .here .tree)) p) r (Q .tree)
@@ -143,7 +148,8 @@ module _ {y : Edition} {d : ℕ} {s : Bytes} {at : ℕ} (Q : TypeAt y d s at) {h
   leaf-meets f = meets-as _ r (leaf-at Q e f .0) (sym q ∙ g)
 
   pub struct-meets : {m : ℕ} {c : Cursor} {b : Bool} → h ≡ Head.Struct m c
-      → ((D : ColumnsAt y (d - 1) s m (c .at)) (F : PlaceAt plan top Γ p (struct (fieldsOf (D .columns)))) → b ≡ meetsAll (insideOf (nullnessIn (nullnessOf N (F .top .here .tree)) p)) (D .columns))
+      → ((D : ColumnsAt y (d - 1) s m (c .at)) (F : PlaceAt plan top Γ p (struct (fieldsOf (D .columns)))) → b ≡ meetsAll
+      (insideOf (nullnessIn (nullnessOf N (F .top .here .tree)) p)) (D .columns))
       → b ≡ meets (nullnessIn (nullnessOf N (S .top .here .tree)) p) r (Q .tree)
   unfolding meets struct-place
   struct-meets f k = let I = struct-at Q e f in meets-as _ r (I .is) (and-first (sym g ∙ q) (k (I .inner) (struct-place S (I .is))))
@@ -171,7 +177,12 @@ pub fielding-start : {y : Edition} {d : ℕ} {s : Bytes} {m c : ℕ} (D : Column
 unfolding dropPlaces
 fielding-start {y} {d} {s} {m} {c} D ns = record {
   within = omega arith;
-  left = record { columns = D .columns; end = D .end; reads = ap (λ (k : ℕ). columnsOf y Free (type y Free d) k [] s c) (let e : m - 0 ≡ m = omega arith in e) ∙ D .reads };
+  left = record {
+    columns = D .columns;
+    end = D .end;
+    reads = ap (λ (k : ℕ). columnsOf y Free (type y Free d) k [] s c)
+        (let e : m - 0 ≡ m = omega arith in e) ∙ D .reads;
+  };
   same = refl;
   fields = λ k c e. ap (columnAt (fieldsOf (D .columns))) (let z : 0 + k ≡ k = omega arith in z) ∙ e;
 }
@@ -194,7 +205,8 @@ module _ {y : Edition} {d : ℕ} {s : Bytes} {m : ℕ} {ns : Nullnesses} {cs : C
           ap (columnAt (fieldsOf cs)) (let z : i ≡ i + 0 = omega arith in z)
           ∙ F .fields 0 _ (ap (λ (ds : Columns). columnAt (fieldsOf ds) 0) (first-at (F .left) (λ z. absurd (omega arith)) g h .is))
 
-      module _ {plan : Bytes} {Γ : Fields} (path : TopPath) (S : PlaceAt plan (path .top) Γ (slice 0 (path .len) (path .steps)) (struct (fieldsOf cs))) {below : TopPath}
+      module _ {plan : Bytes} {Γ : Fields} (path : TopPath) (S : PlaceAt plan (path .top) Γ (slice 0 (path .len) (path .steps)) (struct (fieldsOf cs)))
+          {below : TopPath}
           (room : length (path .steps) ≡ 64) (o : below ≡ partPath path i) (short : path .len < 64) where
         pub field-place : PlaceAt plan (below .top) Γ (slice 0 (below .len) (below .steps)) (dtypeOf (field .head .tree))
         field-place = step-place path i room o short (S .top) (leads-more (S .leads) (l-field field-found l-here))
@@ -204,7 +216,8 @@ module _ {y : Edition} {d : ℕ} {s : Bytes} {m : ℕ} {ns : Nullnesses} {cs : C
             → b ≡ meets (nullnessIn (nullnessOf N (E .top .here .tree)) (slice 0 (below .len) (below .steps))) (l .required) (T .tree)) where
           met : b ≡ meets (nullnessAt ns i) (l .required) (field .head .tree)
           met =
-              step-met path i room o short (S .top) (leads-more (S .leads) (l-field field-found l-here)) N (l .required) (field .head .tree) (λ E. x (field .head) E)
+              step-met path i room o short (S .top) (leads-more (S .leads) (l-field field-found l-here)) N (l .required) (field .head .tree)
+              (λ E. x (field .head) E)
               ∙ ap (λ (z : Nullnesses). meets (nullnessAt z i) (l .required) (field .head .tree)) (sym w)
 
           whole : meetsAll ns cs ≡ (b && meetsAll (dropPlaces (i + 1) ns) (field .tail .columns))
@@ -223,11 +236,13 @@ module _ {y : Edition} {d : ℕ} {s : Bytes} {m : ℕ} {ns : Nullnesses} {cs : C
                 left = record {
                   columns = A .tail .columns;
                   end = A .tail .end;
-                  reads = ap (λ (j : ℕ). columnsOf y Free (type y Free d) j [] s n) u ∙ ap (λ (z : ℕ). columnsOf y Free (type y Free d) (m - i - 1) [] s z) (f (A .head)) ∙ A .tail .reads;
+                  reads = ap (λ (j : ℕ). columnsOf y Free (type y Free d) j [] s n) u ∙ ap
+                      (λ (z : ℕ). columnsOf y Free (type y Free d) (m - i - 1) [] s z) (f (A .head)) ∙ A .tail .reads;
                 };
                 same = whole ∙ ap (λ (z : Bool). z && meetsAll (dropPlaces (i + 1) ns) (A .tail .columns)) k;
                 fields = λ j c z.
-                    ap (columnAt (fieldsOf cs)) (let v : i + 1 + j ≡ i + suc j = omega arith in v) ∙ F .fields (suc j) c (ap (λ (ds : Columns). columnAt (fieldsOf ds) (suc j)) (A .is) ∙ z);
+                    ap (columnAt (fieldsOf cs)) (let v : i + 1 + j ≡ i + suc j = omega arith in v) ∙ F .fields (suc j) c
+                    (ap (λ (ds : Columns). columnAt (fieldsOf ds) (suc j)) (A .is) ∙ z);
               }
 
 -- of all that stand there
@@ -247,12 +262,14 @@ none-meets : (N : Nullnesses) (ss : Selectors) (cs : Columns) → ss ≡ snil �
 unfolding nullnessesOf meetsAll
 none-meets N ss cs e f = rw (e, f)
 
-first-meets : (N : Nullnesses) (ss : Selectors) (cs : Columns) {s : Selector} {rs : Selectors} {l : Label} {t : ColumnType} {ds : Columns} → ss ≡ scons s rs → cs ≡ ccons l t ds
+first-meets : (N : Nullnesses) (ss : Selectors) (cs : Columns) {s : Selector} {rs : Selectors} {l : Label} {t : ColumnType} {ds : Columns} → ss ≡ scons
+    s rs → cs ≡ ccons l t ds
     → meetsAll (nullnessesOf N ss) cs ≡ (meets (nullnessOf N s) (l .required) t && meetsAll (nullnessesOf N rs) ds)
 unfolding nullnessesOf meetsAll
 first-meets N ss cs e f = rw (e, f)
 
-module _ {plan : Bytes} {Γ : Fields} {N : Nullnesses} {y : Edition} {tgt : Bytes} {m : ℕ} {b : Bool} {at to i : ℕ} (C : Columning plan Γ N y tgt m b at to i) where
+module _ {plan : Bytes} {Γ : Fields} {N : Nullnesses} {y : Edition} {tgt : Bytes} {m : ℕ} {b : Bool} {at to i : ℕ}
+    (C : Columning plan Γ N y tgt m b at to i) where
   pub columning-all : m ≤ i → true ≡ b
   columning-all h = let (e, f) = no-pair (C .pairing) h in sym (none-meets N _ _ e f) ∙ C .is
 
@@ -274,20 +291,24 @@ module _ {plan : Bytes} {Γ : Fields} {N : Nullnesses} {y : Edition} {tgt : Byte
           ∙ ap (λ (z : Bool). z && meetsAll (nullnessesOf N (M .selector .tail .trees)) (M .field .tail .columns)) (sym column-met)
 
       pub columning-fails : r ≡ false → false ≡ b
-      columning-fails k = sym (all-met ∙ ap (λ (z : Bool). z && meetsAll (nullnessesOf N (next (C .pairing) lt g h .selector .tail .trees)) (next (C .pairing) lt g h .field .tail .columns)) k)
+      columning-fails k = sym (all-met ∙ ap (λ (z : Bool). z && meetsAll (nullnessesOf N (next (C .pairing) lt g h .selector .tail .trees))
+          (next (C .pairing) lt g h .field .tail .columns)) k)
 
-      pub columning-more : r ≡ true → {o u : ℕ} → ((P : SelectorAt plan at) → o ≡ P .end) → ((P : TypeAt y 16 tgt (e .at)) → u ≡ P .end) → Columning plan Γ N y tgt m b o u (i + 1)
+      pub columning-more : r ≡ true → {o u : ℕ} → ((P : SelectorAt plan at) → o ≡ P .end) → ((P : TypeAt y 16 tgt (e .at)) → u ≡ P .end) → Columning
+          plan Γ N y tgt m b o u (i + 1)
       unfolding pair-more
       columning-more k f w = record {
         pairing = pair-more (C .pairing) lt g h f w;
-        is = sym (all-met ∙ ap (λ (z : Bool). z && meetsAll (nullnessesOf N (next (C .pairing) lt g h .selector .tail .trees)) (next (C .pairing) lt g h .field .tail .columns)) k);
+        is = sym (all-met ∙ ap (λ (z : Bool). z && meetsAll (nullnessesOf N (next (C .pairing) lt g h .selector .tail .trees))
+            (next (C .pairing) lt g h .field .tail .columns)) k);
       }
 
 -- of all that stand there
 abbrev pub Columnings : Bytes → ColumnRange → Bytes → ℕ → Bytes → Edition → ℕ → ℕ → ℕ → ℕ → ℕ → Type 0
 Columnings incoming columns plan first tgt y m target at to i =
     (P : ColumnsIn incoming columns) (D : ColumnsAt y 16 tgt m target) (S : PlanAt plan first (fieldsOf (P .columns)) (fieldsOf (D .columns)))
-    → Columning plan (fieldsOf (P .columns)) (givens (P .columns)) y tgt m (meetsAll (nullnessesOf (givens (P .columns)) (S .selectors .trees)) (D .columns)) at to i
+    → Columning plan (fieldsOf (P .columns)) (givens (P .columns)) y tgt m (meetsAll (nullnessesOf (givens (P .columns)) (S .selectors .trees))
+    (D .columns)) at to i
 
 pub columning-start : (incoming : Bytes) (columns : ColumnRange) (plan : Bytes) (first : ℕ) (tgt : Bytes) (y : Edition) (m target : ℕ) → AllBytes plan
     → Columnings incoming columns plan first tgt y m target first target 0

@@ -7,10 +7,10 @@ use native.Mathlib.Numerals.{add-one}
 use Rattle.layout.specs.Tree.{Label, ColumnType, cstruct, DataType, Columns, cnil, ccons}
 use Rattle.plan.specs.Nullness.{Nullness, nowhere, Nullnesses, nnil, ncons, topOf, insideOf, nullnessAt}
 use Rattle.plan.specs.Marks.{allowed, meets, meetsAll}
-use Rattle.plan.specs.Paths.{placeIn}
+use Rattle.plan.specs.code.Paths.{placeIn}
 use Rattle.plan.proofs.Results.{and-true}
 use Rattle.plan.proofs.Exact.{nowhere-meets}
-use Rattle.nullness.specs.Places.{Leads, l-here, l-field, l-list, l-array, nullnessIn, fillsAt, dropPlaces}
+use Rattle.nullness.specs.code.Places.{Leads, l-here, l-field, l-list, l-array, nullnessIn, fillsAt, dropPlaces}
 
 pub leads-more : {t u v : DataType} {p q : List ℕ} → Leads t p u → Leads u q v → Leads t (p ++ q) v
 leads-more l-here M = M
@@ -57,7 +57,8 @@ first-meets (ncons n ns) (suc i) l t cs = first-meets ns i l t cs
 
 pub next-meets : (ns : Nullnesses) (i : ℕ) {ds : Columns} {l : Label} {t : ColumnType} {cs : Columns} → ds ≡ ccons l t cs
     → meetsAll (dropPlaces i ns) ds ≡ (meets (nullnessAt ns i) (l .required) t && meetsAll (dropPlaces (i + 1) ns) cs)
-next-meets ns i {l = l} {t} {cs} e = ap (meetsAll (dropPlaces i ns)) e ∙ first-meets ns i l t cs ∙ ap (λ (j : ℕ). meets (nullnessAt ns i) (l .required) t && meetsAll (dropPlaces j ns) cs) (sym (add-one i))
+next-meets ns i {l = l} {t} {cs} e = ap (meetsAll (dropPlaces i ns)) e ∙ first-meets ns i l t cs ∙ ap
+    (λ (j : ℕ). meets (nullnessAt ns i) (l .required) t && meetsAll (dropPlaces j ns) cs) (sym (add-one i))
 
 pub none-left : (ns : Nullnesses) (i : ℕ) {ds : Columns} → ds ≡ cnil → meetsAll (dropPlaces i ns) ds ≡ true
 unfolding meetsAll

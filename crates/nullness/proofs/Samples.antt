@@ -3,7 +3,8 @@ use Prim.Native.Nat.{ℕ}
 use mathlib.Core.Path.{_≡_, refl}
 use mathlib.Core.Bool.{Bool, true, false}
 use mathlib.Core.List.{[], _∷_}
-use Rattle.layout.specs.Tree.{null, integer, LeafType, Label, ColumnType, cleaf, cstruct, clist, carray, Columns, cnil, ccons, leaf, struct, list, fnil, fcons, dtypeOf, fieldsOf}
+use Rattle.layout.specs.Tree.{null, integer, LeafType, Label, ColumnType, cleaf, cstruct, clist, carray, Columns, cnil, ccons, leaf, struct, list, fnil, fcons}
+use Rattle.layout.specs.Tree.{dtypeOf, fieldsOf}
 use Rattle.layout.specs.declared.leaf.Leaf.{Leaf}
 use Rattle.numeric.specs.declared.integers.Integer.the-variants.{Int8, Int16}
 use Rattle.forms.specs.Form.{u32Bytes}
@@ -49,7 +50,8 @@ constantOf u v = constant (97 ∷ []) (dtypeOf u) v
 
 -- one selector between one column and another
 unfoldable from : Label → ColumnType → Label → ColumnType → Selector → Answer (Unit {0})
-unfolding checkMarked checked u32Bytes listOf arrayOf checkList checkArray dtypeOf fieldsOf nullnessOf nullnessesOf nullnessAt ofValue ofFields ofElements joinAll join joinPlace given givens meets meetsAll allowed answered placed demand
+unfolding checkMarked checked u32Bytes listOf arrayOf checkList checkArray dtypeOf fieldsOf nullnessOf nullnessesOf nullnessAt ofValue ofFields
+    ofElements joinAll join joinPlace given givens meets meetsAll allowed answered placed demand
 from a t b u s = checkMarked (one a t) (one b u) (scons s snil)
 
 -- a selector over no columns
@@ -113,7 +115,8 @@ null-inside : from opt (cleaf null) opt (cstruct (one req byte)) (cast first (st
 unfolding from
 null-inside = refl
 
-null-mapped : from opt (cleaf null) opt (clist req (cleaf int16)) (listMapping (cast first (list (leaf int8)) NonStrict) (cast first (leaf int16) Overflowing)) ≡ accepted tt
+null-mapped : from opt (cleaf null) opt (clist req (cleaf int16)) (listMapping (cast first (list (leaf int8)) NonStrict)
+    (cast first (leaf int16) Overflowing)) ≡ accepted tt
 unfolding from
 null-mapped = refl
 
@@ -142,16 +145,19 @@ unfolding alone
 constant-full = refl
 
 -- a null struct says nothing of its fields; the other element has the field
-constant-structs : alone req (clist opt (cstruct (one req byte))) (constantOf (clist opt (cstruct (one req byte))) (vlist (pair vnull (vstruct (vcons five vnil))))) ≡ accepted tt
+constant-structs : alone req (clist opt (cstruct (one req byte))) (constantOf (clist opt (cstruct (one req byte)))
+    (vlist (pair vnull (vstruct (vcons five vnil))))) ≡ accepted tt
 unfolding alone
 constant-structs = refl
 
-constant-field : alone req (clist opt (cstruct (one req byte))) (constantOf (clist opt (cstruct (one req byte))) (vlist (pair (vstruct (vcons vnull vnil)) (vstruct (vcons five vnil))))) ≡ refusedAt 55 0
+constant-field : alone req (clist opt (cstruct (one req byte))) (constantOf (clist opt (cstruct (one req byte)))
+    (vlist (pair (vstruct (vcons vnull vnil)) (vstruct (vcons five vnil))))) ≡ refusedAt 55 0
 unfolding alone
 constant-field = refl
 
 -- the elements of all lists of a list are one place
-constant-nested : alone req (clist req (clist req byte)) (constantOf (clist req (clist req byte)) (vlist (pair (vlist vnil) (vlist (vcons vnull vnil))))) ≡ refusedAt 55 0
+constant-nested : alone req (clist req (clist req byte)) (constantOf (clist req (clist req byte))
+    (vlist (pair (vlist vnil) (vlist (vcons vnull vnil))))) ≡ refusedAt 55 0
 unfolding alone
 constant-nested = refl
 
@@ -170,12 +176,14 @@ unfolding alone
 null-mapping-position = refl
 
 -- and so below a place that has no value
-null-mapping-deep : alone opt (cstruct (one req (cstruct (one req byte)))) (structMapping (constantOf (cstruct (one opt (cstruct (one opt byte)))) vnull) (scons (structMapping first (scons (constantOf byte vnull) snil)) snil))
+null-mapping-deep : alone opt (cstruct (one req (cstruct (one req byte)))) (structMapping
+    (constantOf (cstruct (one opt (cstruct (one opt byte)))) vnull) (scons (structMapping first (scons (constantOf byte vnull) snil)) snil))
     ≡ refusedAt 55 0
 unfolding alone
 null-mapping-deep = refl
 
-null-mapping-deep-position : alone opt (cstruct (one req (cstruct (one req byte)))) (structMapping (constantOf (cstruct (one opt (cstruct (one opt byte)))) vnull) (scons (structMapping first (scons first snil)) snil))
+null-mapping-deep-position : alone opt (cstruct (one req (cstruct (one req byte))))
+    (structMapping (constantOf (cstruct (one opt (cstruct (one opt byte)))) vnull) (scons (structMapping first (scons first snil)) snil))
     ≡ accepted tt
 unfolding alone
 null-mapping-deep-position = refl
@@ -185,7 +193,8 @@ empty-null-list : alone req (clist req byte) (listMapping (constantOf (clist opt
 unfolding alone
 empty-null-list = refl
 
-filled-null-list : alone req (clist req byte) (listMapping (constantOf (clist opt (cleaf null)) (vlist (vcons vnull vnil))) (cast first (leaf int8) NonStrict)) ≡ refusedAt 55 0
+filled-null-list : alone req (clist req byte) (listMapping (constantOf (clist opt (cleaf null)) (vlist (vcons vnull vnil)))
+    (cast first (leaf int8) NonStrict)) ≡ refusedAt 55 0
 unfolding alone
 filled-null-list = refl
 
@@ -194,6 +203,7 @@ unfolding alone
 empty-list-constant = refl
 
 -- an array of no elements
-empty-array : alone req (carray 0 req byte) (arrayMapping (constantOf (carray 0 opt (cleaf null)) (varray vnil)) (cast first (leaf int8) NonStrict)) ≡ accepted tt
+empty-array : alone req (carray 0 req byte) (arrayMapping (constantOf (carray 0 opt (cleaf null)) (varray vnil)) (cast first (leaf int8) NonStrict)) ≡
+    accepted tt
 unfolding alone
 empty-array = refl

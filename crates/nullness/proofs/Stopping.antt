@@ -12,19 +12,19 @@ use Rattle.layout.specs.declared.cursor.Cursor.{Cursor}
 use Rattle.values.specs.Value.{Value}
 use Rattle.plan.specs.Selector.{Selector, position}
 use Rattle.plan.specs.Nullness.{Nullnesses, nullnessAt}
-use Rattle.walk.specs.State.{State}
-use Rattle.walk.specs.Parts.{HeadIs}
-use Rattle.walk.specs.Standing.{WalkAt}
+use Rattle.walk.specs.code.State.{State}
+use Rattle.walk.specs.code.Parts.{HeadIs}
+use Rattle.walk.specs.code.Walks.{WalkAt}
 use Rattle.walk.specs.declared.walk.Walk.{Walk}
 use Rattle.walk.specs.declared.head.SelectorHead.{SelectorHead}
 use Rattle.walk.proofs.Heads.{is-constant, is-cast, is-rename, is-struct, is-list, is-array}
-use Rattle.walk.proofs.Standing.{top-frames, some-inner, path-some, path-none}
+use Rattle.walk.proofs.Walks.{top-frames, some-inner, path-some, path-none}
 use Rattle.walk.proofs.Moving.{walk-is}
-use Rattle.overflow.specs.Some.{someSought}
-use Rattle.overflow.specs.Seek.{RawIn}
+use Rattle.overflow.specs.code.Some.{someSought}
+use Rattle.overflow.specs.code.Seek.{RawIn}
 use Rattle.overflow.specs.declared.scan.Sought.{Sought}
-use Rattle.nullness.specs.Places.{fillsAt}
-use Rattle.nullness.specs.Stops.{answered, columnStop, inputStop, stopAt, stopOf}
+use Rattle.nullness.specs.code.Places.{fillsAt}
+use Rattle.nullness.specs.code.Stops.{answered, columnStop, inputStop, stopAt, stopOf}
 use Rattle.nullness.specs.declared.stop.Stop.{Stop}
 use Rattle.nullness.specs.declared.stop.Stop.the-variants.{Passes, Fails, Input}
 

@@ -16,15 +16,15 @@ use Rattle.plan.specs.Check.{Column, column, columnAt, elementOf}
 use Rattle.plan.specs.Reach.{SelectorAt as Nth, s-here, s-there}
 use Rattle.plan.specs.Nullness.{Nullness, Nullnesses, insideOf, nullnessAt, nullnessOf}
 use Rattle.plan.specs.Marks.{allowed}
-use Rattle.plan.specs.Paths.{placeIn}
+use Rattle.plan.specs.code.Paths.{placeIn}
 use Rattle.plan.proofs.Results.{never-refused, gives-eq}
 use Rattle.plan.proofs.Typed.{At, here, there, at-column, Typed, t-position, t-cast, t-rename, t-struct, t-list, t-array, TypedAll, t-nil, t-cons}
 use Rattle.plan.proofs.Paths.{place-field}
-use Rattle.walk.specs.State.{Frame, fields, element, State, state}
-use Rattle.walk.specs.Moves.{Moves, m-here, m-rename, m-field, m-list, m-array, m-leave, m-leave-element}
+use Rattle.walk.specs.code.State.{Frame, fields, element, State, state}
+use Rattle.walk.specs.code.Moves.{Moves, m-here, m-rename, m-field, m-list, m-array, m-leave, m-leave-element}
 use Rattle.overflow.proofs.Scoped.{Scoped, in-fields, in-list, in-array}
-use Rattle.nullness.specs.Places.{Leads, l-here, l-field, l-list, l-array, fillsAt}
-use Rattle.nullness.specs.Stops.{scopeOf, fillsHere}
+use Rattle.nullness.specs.code.Places.{Leads, l-here, l-field, l-list, l-array, fillsAt}
+use Rattle.nullness.specs.code.Stops.{scopeOf, fillsHere}
 
 -- elements were entered by the number 0
 abbrev pub Zeroed : List Frame → Type 0
@@ -80,7 +80,17 @@ module _ {Γ : Fields} {E : List Frame} (z : Zeroed E) where
     to-cast {n = n} (t-cast {t = t} d r b) = record { scope = Δ; name = n; type = t; end = t; scoped = c; typed = d; leads = l-here; zeroed = z }
 
     pub to-struct : {s : Selector} {ss : Selectors} {n : Bytes} {t : DataType} → Typed Δ (structMapping s ss) n t → Traced Γ (state s E [])
-    to-struct {n = n} (t-struct {fs = fs} d ds b) = record { scope = Δ; name = n; type = struct fs; end = struct fs; scoped = c; typed = d; leads = l-here; zeroed = z }
+    to-struct {n = n} (t-struct {fs = fs} d ds b) = record {
+      scope = Δ;
+      name = n;
+      type = struct fs;
+      end = struct fs;
+      scoped = c;
+      typed = d;
+      leads =
+          l-here;
+      zeroed = z;
+    }
 
     pub to-list : {s e : Selector} {n : Bytes} {t : DataType} → Typed Δ (listMapping s e) n t → Traced Γ (state s E [])
     to-list {n = n} (t-list {t = t} d f b) = record { scope = Δ; name = n; type = list t; end = list t; scoped = c; typed = d; leads = l-here; zeroed = z }
@@ -89,7 +99,8 @@ module _ {Γ : Fields} {E : List Frame} (z : Zeroed E) where
     to-array {n = n} (t-array {w = w} {t = t} d f b) =
         record { scope = Δ; name = n; type = array w t; end = array w t; scoped = c; typed = d; leads = l-here; zeroed = z }
 
-    into-field : {s x : Selector} {ss : Selectors} {n : Bytes} {t u : DataType} {k : ℕ} {p : List ℕ} → Nth ss k x → Typed Δ (structMapping s ss) n t → Leads t (k ∷ p) u
+    into-field : {s x : Selector} {ss : Selectors} {n : Bytes} {t u : DataType} {k : ℕ} {p : List ℕ} → Nth ss k x → Typed Δ (structMapping s ss) n t →
+        Leads t (k ∷ p) u
         → Traced Γ (state x (fields s ∷ E) p)
     into-field {u = u} a (t-struct {fs = fs} d ds b) (l-field e L) =
         let F = nth-field a ds e L in
@@ -109,7 +120,8 @@ module _ {Γ : Fields} {E : List Frame} (z : Zeroed E) where
     into-array {u = u} (t-array {m = m} {t = a} {u = b} d f h) (l-array L) =
         (refl, record { scope = elementOf a; name = m; type = b; end = u; scoped = in-array c d; typed = f; leads = L; zeroed = (refl, z) })
 
-  out-field : {Δ : Fields} {s : Selector} {k : Position} {n : Bytes} {t u : DataType} {p : List ℕ} → Scoped Γ (fields s ∷ E) Δ → Typed Δ (position k) n t → Leads t p u
+  out-field : {Δ : Fields} {s : Selector} {k : Position} {n : Bytes} {t u : DataType} {p : List ℕ} → Scoped Γ (fields s ∷ E) Δ → Typed Δ (position k) n
+      t → Leads t p u
       → Traced Γ (state s E (k .0 ∷ p))
   out-field {u = u} (in-fields {n = m} {Δ = Δ} {fs = fs} c d) (t-position a) L =
       record { scope = Δ; name = m; type = struct fs; end = u; scoped = c; typed = d; leads = l-field (at-column a) L; zeroed = z }
@@ -118,10 +130,30 @@ module _ {Γ : Fields} {E : List Frame} (z : Zeroed E) where
       → Typed Δ (position k) n t → Leads t p u → Traced Γ (state s E (i ∷ p))
   out-element {u = u} {p} j q (in-list {n = m} {Δ = Δ} {t = a} c d) (t-position x) L =
       let M : Leads a p u = subst (λ (b : DataType). Leads b p u) (sym (only-type x q)) L in
-      record { scope = Δ; name = m; type = list a; end = u; scoped = c; typed = d; leads = subst (λ (b : ℕ). Leads (list a) (b ∷ p) u) (sym j) (l-list M); zeroed = z }
+      record {
+        scope = Δ;
+        name = m;
+        type = list a;
+        end = u;
+        scoped = c;
+        typed = d;
+        leads = subst (λ (b : ℕ). Leads (list a) (b ∷ p) u) (sym j)
+            (l-list M);
+        zeroed = z;
+      }
   out-element {u = u} {p} j q (in-array {w = w} {n = m} {Δ = Δ} {t = a} c d) (t-position x) L =
       let M : Leads a p u = subst (λ (b : DataType). Leads b p u) (sym (only-type x q)) L in
-      record { scope = Δ; name = m; type = array w a; end = u; scoped = c; typed = d; leads = subst (λ (b : ℕ). Leads (array w a) (b ∷ p) u) (sym j) (l-array M); zeroed = z }
+      record {
+        scope = Δ;
+        name = m;
+        type = array w a;
+        end = u;
+        scoped = c;
+        typed = d;
+        leads = subst (λ (b : ℕ). Leads (array w a) (b ∷ p) u) (sym j)
+            (l-array M);
+        zeroed = z;
+      }
 
 -- ---- the moves
 
@@ -135,7 +167,8 @@ moved-traced (m-leave m) T = moved-traced m (out-field (T .zeroed) (T .scoped) (
 moved-traced (m-leave-element e m) T = moved-traced m (out-element (T .zeroed .1) (T .zeroed .0) e (T .scoped) (T .typed) (T .leads))
 
 module _ (N : Nullnesses) (E : List Frame) (s : Selector) (p : List ℕ) where
-  enter-field : {ss : Selectors} {k : ℕ} {x : Selector} → Nth ss k x → fillsHere N (state (structMapping s ss) E (k ∷ p)) ≡ fillsHere N (state x (fields s ∷ E) p)
+  enter-field : {ss : Selectors} {k : ℕ} {x : Selector} → Nth ss k x → fillsHere N (state (structMapping s ss) E (k ∷ p)) ≡ fillsHere N
+      (state x (fields s ∷ E) p)
   unfolding fillsHere scopeOf
   enter-field a = ap (λ q. allowed q true) (place-field (scopeOf N E) p s a)
 

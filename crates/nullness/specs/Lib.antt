@@ -1,5 +1,1 @@
-pub mod Incoming
-pub mod Places
-pub mod Stops
-pub mod Marked
-pub mod Nulls
+pub mod code

@@ -1,12 +1,12 @@
 // Filling the table of nulls, in one pass over the plan's constants.
 ghost use mathlib.Core.Bool.{true};
 ghost use mathlib.Core.Path.{_≡_};
-ghost use Rattle.layout.specs.Stands.{TypeAt};
+ghost use Rattle.layout.specs.code.Stands.{TypeAt};
 ghost use Rattle.layout.specs.declared.edition.Edition.{Edition as EditionOf};
-ghost use Rattle.ends.specs.Ends.{Ends};
+ghost use Rattle.ends.specs.code.Ends.{Ends};
 ghost use Rattle.values.specs.Value.{vlist, Values};
-ghost use Rattle.nodes.specs.Raw.{RawAt, RowAt, ElementsAt, ListOf, PresentAt};
-ghost use Rattle.nullness.specs.Nulls.{NullsOf, EachOf, RowOf, Nulls, Grown};
+ghost use Rattle.nodes.specs.code.Raw.{RawAt, RowAt, ElementsAt, ListOf, PresentAt};
+ghost use Rattle.nullness.specs.code.Nulls.{NullsOf, EachOf, RowOf, Nulls, Grown};
 use crate::nulls::keep_constant;
 use crate::nulls::keep_null;
 use layout::columns::Labelled;

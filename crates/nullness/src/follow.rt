@@ -4,14 +4,14 @@ ghost use mathlib.Core.Path.{_≡_};
 ghost use Rattle.layout.specs.Tree.{fieldsOf};
 ghost use Rattle.plan.specs.Nullness.{nullnessOf};
 ghost use Rattle.plan.specs.Marks.{givens};
-ghost use Rattle.overflow.specs.Ranges.{ColumnsIn};
-ghost use Rattle.nullness.specs.Incoming.{IndexAt};
-ghost use Rattle.nullness.specs.Nulls.{Nulls};
-ghost use Rattle.nullness.specs.Places.{fillsAt};
-ghost use Rattle.nullness.specs.Stops.{Follows};
+ghost use Rattle.overflow.specs.code.Ranges.{ColumnsIn};
+ghost use Rattle.nullness.specs.code.Incoming.{IndexAt};
+ghost use Rattle.nullness.specs.code.Nulls.{Nulls};
+ghost use Rattle.nullness.specs.code.Places.{fillsAt};
+ghost use Rattle.nullness.specs.code.Stops.{Follows};
 use crate::stop::Stop;
 use crate::stop::at_stop;
-use nodes::places::ColumnRange;
+use layout::columns::ColumnRange;
 use walk::walk::Walk;
 
 pub fn follow(

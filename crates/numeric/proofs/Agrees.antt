@@ -1,17 +1,21 @@
--- At binary32 and binary64 the definitions agree with the logic's own account of IEEE 754, `lib.Ieee`: rounding (`round-bits`), integers (`integer-bits`), the number of a
+-- At binary32 and binary64 the definitions agree with the logic's own account of IEEE 754, `lib.Ieee`: rounding (`round-bits`), integers (`integer-bits`), the
+-- number of a
 -- pattern (`value-bits`), the NaN (`nan-bits`), and a float in another format (`converted-bits`, `ieee-float`). Assumes nothing.
 use mathlib.Core.Path.{_≡_, refl, sym, ap, ap₂, _∙_, subst}
 use mathlib.Core.Logic.{_⊎_, inl, inr}
 use mathlib.Core.Bool.{Bool, true, false, not, cond}
 use Prim.Native.Nat.{ℕ, zero, suc, _+_, _-_, _*_, _/_, _%_, _^_, _≤_, _<_, min, compare}
-use native.Mathlib.Nat.{le-trans, le-of-eq, le-of-lt, lt-of-lt-of-le, add-assoc, mul-comm, mul-assoc, mul-one, mul-pos, mul-right-comm, mul-div-cancel, mul-mod-left, mod-lt, div-eq-of-lt, div-eq-of-lt-le, div-lt-iff-lt-mul, le-antisymm, zero-lt-suc, min-eq-left, min-eq-right, div-div-eq-div-mul}
+use native.Mathlib.Nat.{le-trans, le-of-eq, le-of-lt, lt-of-lt-of-le, add-assoc, mul-comm, mul-assoc, mul-one, mul-pos, mul-right-comm, mul-div-cancel}
+use native.Mathlib.Nat.{mul-mod-left, mod-lt, div-eq-of-lt, div-eq-of-lt-le, div-lt-iff-lt-mul, le-antisymm, zero-lt-suc, min-eq-left, min-eq-right}
+use native.Mathlib.Nat.{div-div-eq-div-mul}
 use native.Mathlib.Omega.{arith}
 use borrow.Author.Tests.{lt-ltb, le-leb, lt-leb, eq-eqb, ne-eqb}
 use lib.Arith.{mod-mul, digits-mod}
 use lib.Dec.{T, leb, ltb, eqb, ltb→lt, nltb→le}
 use lib.IntN.{ℤ, pos, negsuc}
 use lib.Pow.{pow-pos}
-use lib.Ieee.{Float, nan, inf, fin, Format, binary32, binary64, prec, emax, low, up, down, size, units, odd, round, ofInt, ofFields, ofBits, toBits, isNan, hid, ones, top}
+use lib.Ieee.{Float, nan, inf, fin, Format, binary32, binary64, prec, emax, low, up, down, size, units, odd, round, ofInt, ofFields, ofBits, toBits, isNan, hid}
+use lib.Ieee.{ones, top}
 use lib.Ieee.Bits.{nanBits-is, nanBits-above}
 use lib.Ieee.Nearest.{closest, nearest-ge, closest-same, div-same}
 use lib.Ieee.Fits.{two, round-is, nearest-le, down-pos}
@@ -47,11 +51,13 @@ module _ (f : Format) (s : Bool) (q k : ℕ) (l : q ≤ hidden (prec f) + hidden
   is = number-at (hidden (prec f)) k q (pow-pos (prec f - 1)) l w
 
   limit : magnitude (prec f) (infinity (prec f) (emax f)) ≡ 2 ^ (low f + suc (emax f))
-  limit = infinity-number (prec f) (emax f) ∙ ap (λ (x : ℕ). 2 ^ x) (let a : 2 ≤ prec f = two f in let t : prec f - 1 + 2 * emax f ≡ emax f + prec f - 2 + suc (emax f) = omega arith in t)
+  limit = infinity-number (prec f) (emax f) ∙ ap (λ (x : ℕ). 2 ^ x) (let a : 2 ≤ prec f = two f in let t : prec f - 1 + 2 * emax f ≡ emax f + prec f - 2
+      + suc (emax f) = omega arith in t)
 
   units-bits : toBits f (units f s q k) ≡ sign f s + min (k * hidden (prec f) + q) (infinity (prec f) (emax f))
   unfolding units toBits
-  units-bits = go (ltb (q * 2 ^ k) (2 ^ (low f + suc (emax f)))) (ltb→lt (q * 2 ^ k) (2 ^ (low f + suc (emax f)))) (nltb→le (q * 2 ^ k) (2 ^ (low f + suc (emax f))))
+  units-bits = go (ltb (q * 2 ^ k) (2 ^ (low f + suc (emax f)))) (ltb→lt (q * 2 ^ k) (2 ^ (low f + suc (emax f))))
+      (nltb→le (q * 2 ^ k) (2 ^ (low f + suc (emax f))))
     where
       go : (b : Bool) → (T b → q * 2 ^ k < 2 ^ (low f + suc (emax f))) → (T (not b) → 2 ^ (low f + suc (emax f)) ≤ q * 2 ^ k)
           → toBits f (cond b (odd (suc (prec f)) s q k (low f)) (inf s)) ≡ sign f s + min (k * hidden (prec f) + q) (infinity (prec f) (emax f))
@@ -60,7 +66,8 @@ module _ (f : Format) (s : Bool) (q k : ℕ) (l : q ≤ hidden (prec f) + hidden
           ∙ ap (λ (x : ℕ). sign f s + x) (encode-at (prec f) (two f) q k l w ∙ sym (min-eq-left (le-of-lt below)))
         where
           below : k * hidden (prec f) + q < infinity (prec f) (emax f)
-          below = pattern-lt (prec f) (k * hidden (prec f) + q) (infinity (prec f) (emax f)) (subst (λ (x : ℕ). x < magnitude (prec f) (infinity (prec f) (emax f))) (sym is) (lt-of-lt-of-le (h tt) (le-of-eq (sym limit))))
+          below = pattern-lt (prec f) (k * hidden (prec f) + q) (infinity (prec f) (emax f))
+              (subst (λ (x : ℕ). x < magnitude (prec f) (infinity (prec f) (emax f))) (sym is) (lt-of-lt-of-le (h tt) (le-of-eq (sym limit))))
       go false h g = ap (λ (x : ℕ). sign f s + x) (sym (min-eq-right above))
         where
           above : infinity (prec f) (emax f) ≤ k * hidden (prec f) + q
@@ -75,7 +82,8 @@ round-bits f s num den =
     let c = compare (n % (den * 2 ^ k) * 2) (den * 2 ^ k) in
     ap (toBits f) (round-is f s num den)
     ∙ units-bits f s (closest n (den * 2 ^ k)) k
-    (le-trans (nearest-le (n / (den * 2 ^ k)) c) (subst (λ (x : ℕ). x < hidden (prec f) + hidden (prec f)) e (subst (λ (x : ℕ). n / den / 2 ^ k < x) (hidden-twice (prec f) (two f)) (whole-lt (prec f) n den))))
+    (le-trans (nearest-le (n / (den * 2 ^ k)) c) (subst (λ (x : ℕ). x < hidden (prec f) + hidden (prec f)) e
+    (subst (λ (x : ℕ). n / den / 2 ^ k < x) (hidden-twice (prec f) (two f)) (whole-lt (prec f) n den))))
     (up-to (whole-ge (prec f) n den (let a : 2 ≤ prec f = two f in omega arith)) e (nearest-ge (n / (den * 2 ^ k)) c))
   where
     up-to : {k h x y q : ℕ} → (k ≡ 0) ⊎ (h ≤ x) → x ≡ y → y ≤ q → (k ≡ 0) ⊎ (h ≤ q)
@@ -87,7 +95,8 @@ unfolding ofInt fromInteger
 integer-bits f (pos n) = round-bits f false n 1 ∙ (let t : 0 + rounded (prec f) (emax f) n 1 ≡ rounded (prec f) (emax f) n 1 = omega arith in t)
 integer-bits f (negsuc n) =
     round-bits f true (suc n) 1
-    ∙ ap (λ (x : ℕ). x + rounded (prec f) (emax f) (suc n) 1) (mul-comm (hid f) (suc (ones f)) ∙ ap (λ (x : ℕ). x * hid f) (let t : suc (2 * emax f + 1) ≡ 2 * emax f + 2 = omega arith in t))
+    ∙ ap (λ (x : ℕ). x + rounded (prec f) (emax f) (suc n) 1) (mul-comm (hid f) (suc (ones f)) ∙ ap (λ (x : ℕ). x * hid f)
+    (let t : suc (2 * emax f + 1) ≡ 2 * emax f + 2 = omega arith in t))
 
 -- ---- a pattern's number
 
@@ -163,7 +172,8 @@ nan-bits binary64 = refl
 pub rounded-same : (p emax a b c d : ℕ) → 0 < b → 0 < d → a * d ≡ c * b → rounded p emax a b ≡ rounded p emax c d
 unfolding rounded
 rounded-same p emax a b c d B D e =
-    ap (λ (x : ℕ). min (k * hidden p + x) (infinity p emax)) (closest-same n (b * 2 ^ k) o (d * 2 ^ k) (mul-pos B (pow-pos k)) (mul-pos D (pow-pos k)) (sym (mul-assoc n d (2 ^ k)) ∙ ap (λ (x : ℕ). x * 2 ^ k) units ∙ mul-assoc o b (2 ^ k)))
+    ap (λ (x : ℕ). min (k * hidden p + x) (infinity p emax)) (closest-same n (b * 2 ^ k) o (d * 2 ^ k) (mul-pos B (pow-pos k)) (mul-pos D (pow-pos k))
+    (sym (mul-assoc n d (2 ^ k)) ∙ ap (λ (x : ℕ). x * 2 ^ k) units ∙ mul-assoc o b (2 ^ k)))
     ∙ ap (λ (x : ℕ). min ((size x - p) * hidden p + closest o (d * 2 ^ (size x - p))) (infinity p emax)) (div-same n b o d B D units)
   where
     n : ℕ
@@ -200,7 +210,8 @@ sign-bits f g b l =
         ap (sign g) (lt-leb (top f) b k) ∙ sym (ap (λ (x : ℕ). x % 2 * top g) (div-eq-of-lt k) ∙ (let t : 0 * top g ≡ 0 = omega arith in t))
     go (inr k) =
         ap (sign g) (le-leb (top f) b k)
-        ∙ sym (ap (λ (x : ℕ). x % 2 * top g) (div-eq-of-lt-le (top f) (let t : 1 * top f ≤ b = omega arith in t) (let t : b < 2 * top f = l in t)) ∙ (let t : 1 * top g ≡ top g = omega arith in t))
+        ∙ sym (ap (λ (x : ℕ). x % 2 * top g) (div-eq-of-lt-le (top f) (let t : 1 * top f ≤ b = omega arith in t) (let t : b < 2 * top f = l in t)) ∙
+        (let t : 1 * top g ≡ top g = omega arith in t))
 
 pub converted-bits : (f g : Format) (b : ℕ) → b < 2 * top f → toBits g (recast g (ofBits f b)) ≡ converted (prec f) (emax f) (prec g) (emax g) b
 unfolding toBits

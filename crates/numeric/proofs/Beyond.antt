@@ -60,7 +60,8 @@ beyond-coarser (negsuc n) k a b K = quotient b n k K
 -- too large, by the count before
 pub finer-beyond : (z : ℤ) (k : ℕ) → 0 < k → finer z k ≡ pickFiner (beyond ((2 ^ 63 + (k - 1)) / k) (2 ^ 63 / k) z) TooLarge (Count (pattern 64 (z *ℤ pos k)))
 unfolding finer
-finer-beyond z k K = go (z *ℤ pos k) (Count (pattern 64 (z *ℤ pos k))) ∙ ap (λ (t : Bool). pickFiner t TooLarge (Count (pattern 64 (z *ℤ pos k)))) (beyond-times z k (2 ^ 63) (2 ^ 63) K)
+finer-beyond z k K = go (z *ℤ pos k) (Count (pattern 64 (z *ℤ pos k))) ∙ ap (λ (t : Bool). pickFiner t TooLarge (Count (pattern 64 (z *ℤ pos k))))
+    (beyond-times z k (2 ^ 63) (2 ^ 63) K)
   where
     swap : (n : ℕ) (x : Finer) → pickFiner (ltb n (2 ^ 63)) x TooLarge ≡ pickFiner (leb (2 ^ 63) n) TooLarge x
     swap n x = at (lt-or-ge n (2 ^ 63))

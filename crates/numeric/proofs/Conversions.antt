@@ -3,7 +3,8 @@ use mathlib.Core.Path.{_≡_, refl, sym, ap, ap₂, _∙_, subst}
 use mathlib.Core.Bool.{Bool, true, false, cond}
 use Prim.Native.Nat.{ℕ, suc, _+_, _-_, _*_, _/_, _%_, _^_, _≤_, _<_}
 use mathlib.Core.Logic.{_⊎_, inl, inr}
-use native.Mathlib.Nat.{le-of-eq, le-of-lt, le-refl, lt-irrefl, lt-of-le-of-lt, eq-or-lt-of-le, mod-mod, mul-le-mul, mul-pos, mul-one, one-mul, add-mul, div-lt-iff-lt-mul, min-le-right}
+use native.Mathlib.Nat.{le-of-eq, le-of-lt, le-refl, lt-irrefl, lt-of-le-of-lt, eq-or-lt-of-le, mod-mod, mul-le-mul, mul-pos, mul-one, one-mul, add-mul}
+use native.Mathlib.Nat.{div-lt-iff-lt-mul, min-le-right}
 use native.Mathlib.Omega.{arith}
 use borrow.Author.Tests.{lt-ltb, le-ltb, eq-eqb, ne-eqb}
 use lib.Dec.{ltb, eqb, lit≤}
@@ -54,7 +55,8 @@ pub signed-fits : (p emax x side r : ℕ) → Fitting p emax → side ≡ signBi
 signed-fits p emax x side r F S R = omega (arith, sign-one x side, sign-le p emax F, infinity-lt p emax)
 
 pub nan-fits : (p emax : ℕ) → Fitting p emax → nan p emax < 2 ^ 64
-nan-fits p emax F = let d : p - 2 ≤ p - 1 = omega arith in let m : 2 ^ (p - 2) ≤ 2 ^ (p - 1) = pow-mono d in omega (arith, sign-le p emax F, infinity-sign p emax)
+nan-fits p emax F = let d : p - 2 ≤ p - 1 = omega arith in let m : 2 ^ (p - 2) ≤ 2 ^ (p - 1) = pow-mono d in omega
+    (arith, sign-le p emax F, infinity-sign p emax)
 
 -- ---- an integer
 
@@ -67,7 +69,8 @@ unsigned-is p emax n r e = whole p emax n r e
 
 pub negative-is : (p emax n r : ℕ) → r ≡ rounded p emax ((n + 1) * 2 ^ 0) (2 ^ 0) → signBit p emax + r ≡ fromInteger p emax (negsuc n)
 unfolding fromInteger
-negative-is p emax n r e = ap (λ (x : ℕ). signBit p emax + x) (whole p emax (n + 1) r e ∙ ap (λ (x : ℕ). rounded p emax x 1) (let t : n + 1 ≡ suc n = omega arith in t))
+negative-is p emax n r e = ap (λ (x : ℕ). signBit p emax + x) (whole p emax (n + 1) r e ∙ ap (λ (x : ℕ). rounded p emax x 1)
+    (let t : n + 1 ≡ suc n = omega arith in t))
 
 -- ---- a finite magnitude, taken apart
 
@@ -81,7 +84,8 @@ module _ (p emax q gmax m h : ℕ) (H : h ≡ hidden p) where
   pub subnormal-is : (r : ℕ) → m / h ≡ 0 → r ≡ rounded q gmax (m % h * 2 ^ 0) (2 ^ scale p emax) → r ≡ finite p emax q gmax m
   unfolding magnitude
   subnormal-is r z e =
-      e ∙ ap (λ (x : ℕ). rounded q gmax x (2 ^ scale p emax)) (mul-one (m % h) ∙ ap (λ (x : ℕ). fields h x (m % h)) (sym z) ∙ ap (λ (x : ℕ). fields x (m / x) (m % x)) H)
+      e ∙ ap (λ (x : ℕ). rounded q gmax x (2 ^ scale p emax)) (mul-one (m % h) ∙ ap (λ (x : ℕ). fields h x (m % h)) (sym z) ∙ ap
+      (λ (x : ℕ). fields x (m / x) (m % x)) H)
 
   pub normal-is : (r : ℕ) → (m / h ≡ 0 → ⊥) → r ≡ rounded q gmax ((h + m % h) * 2 ^ (m / h - 1)) (2 ^ scale p emax) → r ≡ finite p emax q gmax m
   unfolding magnitude
@@ -166,7 +170,8 @@ parts-below q gmax x r l = digits-mod (x % 2) (lt-of-le-of-lt l (infinity-lt q g
 -- ---- `converted` by what a pattern is
 
 module _ (p emax q gmax b : ℕ) where
-  pub converted-finite : unsignedOf p emax b < infinity p emax → converted p emax q gmax b ≡ signOf p emax b * signBit q gmax + finite p emax q gmax (unsignedOf p emax b)
+  pub converted-finite : unsignedOf p emax b < infinity p emax → converted p emax q gmax b ≡ signOf p emax b * signBit q gmax + finite p emax q gmax
+      (unsignedOf p emax b)
   converted-finite l =
       sym (finite-is p emax q gmax b (signBit p emax) (signBit q gmax) (infinity p emax) refl refl refl (finite p emax q gmax (unsignedOf p emax b)) l refl)
 
@@ -176,7 +181,8 @@ module _ (p emax q gmax b : ℕ) where
 
   pub converted-nan : infinity p emax < unsignedOf p emax b → converted p emax q gmax b ≡ nan q gmax
   converted-nan l =
-      sym (nan-is p emax q gmax b (signBit p emax) (signBit q gmax) (infinity p emax) refl refl refl (le-of-lt l) (λ e. lt-irrefl (infinity p emax) (subst (λ (x : ℕ). infinity p emax < x) e l)))
+      sym (nan-is p emax q gmax b (signBit p emax) (signBit q gmax) (infinity p emax) refl refl refl (le-of-lt l)
+      (λ e. lt-irrefl (infinity p emax) (subst (λ (x : ℕ). infinity p emax < x) e l)))
 
   pub finite-below : unsignedOf p emax b < infinity p emax → unsignedOf q gmax (converted p emax q gmax b) ≡ finite p emax q gmax (unsignedOf p emax b)
   finite-below l =
@@ -190,7 +196,8 @@ module _ (p emax q gmax b : ℕ) where
     where
       go : (unsignedOf p emax b ≡ infinity p emax) ⊎ (unsignedOf p emax b < infinity p emax) → signOf q gmax (converted p emax q gmax b) ≡ signOf p emax b
       go (inl e) = ap (signOf q gmax) (converted-infinite e) ∙ parts-sign q gmax (b / signBit p emax) (infinity q gmax) (le-refl (infinity q gmax))
-      go (inr k) = ap (signOf q gmax) (converted-finite k) ∙ parts-sign q gmax (b / signBit p emax) (finite p emax q gmax (unsignedOf p emax b)) (rounded-le q gmax _ _)
+      go (inr k) = ap (signOf q gmax) (converted-finite k) ∙ parts-sign q gmax (b / signBit p emax) (finite p emax q gmax (unsignedOf p emax b))
+          (rounded-le q gmax _ _)
 
 -- ---- `fromInteger`: its sign, and what lies below
 
@@ -200,7 +207,8 @@ integer-parts p emax (pos n) = let t : rounded p emax n 1 ≡ 0 * signBit p emax
 integer-parts p emax (negsuc n) = let t : signBit p emax + rounded p emax (suc n) 1 ≡ 1 * signBit p emax + rounded p emax (suc n) 1 = omega arith in t
 
 pub integer-below : (p emax : ℕ) (z : ℤ) → unsignedOf p emax (fromInteger p emax z) ≡ rounded p emax (natAbs z) 1
-integer-below p emax z = ap (unsignedOf p emax) (integer-parts p emax z) ∙ parts-below p emax (cond (nonNeg z) 0 1) (rounded p emax (natAbs z) 1) (rounded-le p emax _ _)
+integer-below p emax z = ap (unsignedOf p emax) (integer-parts p emax z) ∙ parts-below p emax (cond (nonNeg z) 0 1) (rounded p emax (natAbs z) 1)
+    (rounded-le p emax _ _)
 
 pub integer-sign : (p emax : ℕ) (z : ℤ) → signOf p emax (fromInteger p emax z) ≡ cond (nonNeg z) 0 1
 integer-sign p emax z =

@@ -3,7 +3,8 @@
 use mathlib.Core.Path.{_≡_, refl, sym, ap, _∙_, subst}
 use mathlib.Core.Logic.{_⊎_, inl, inr}
 use Prim.Native.Nat.{ℕ, zero, suc, _+_, _-_, _*_, _/_, _%_, _^_, _≤_, _<_}
-use native.Mathlib.Nat.{le-refl, le-trans, le-of-eq, le-of-lt, lt-irrefl, lt-of-lt-of-le, lt-of-le-of-lt, eq-or-lt-of-le, mul-assoc, mul-comm, mul-one, suc-mul, mul-lt-mul-of-pos-right, mul-div-cancel, div-one, mod-lt, pow-suc}
+use native.Mathlib.Nat.{le-refl, le-trans, le-of-eq, le-of-lt, lt-irrefl, lt-of-lt-of-le, lt-of-le-of-lt, eq-or-lt-of-le, mul-assoc, mul-comm, mul-one, suc-mul}
+use native.Mathlib.Nat.{mul-lt-mul-of-pos-right, mul-div-cancel, div-one, mod-lt, pow-suc}
 use native.Mathlib.Omega.{arith}
 use lib.Pow.{pow-pos, pow-add, pow-mono}
 use lib.Ieee.{size}
@@ -45,7 +46,8 @@ module _ (p : ℕ) (P : 2 ≤ p) where
 
       go : (q ≡ h + h) ⊎ (q < h + h) → (k ≡ 0) ⊎ (h ≤ q) → encode p (q * 2 ^ k) ≡ k * h + q
       go (inl e) w =
-          ap (encode p) (ap (λ (x : ℕ). x * 2 ^ k) (e ∙ (let t : h + h ≡ h * 2 = omega arith in t)) ∙ mul-assoc h 2 (2 ^ k) ∙ ap (λ (x : ℕ). h * x) (mul-comm 2 (2 ^ k) ∙ sym (pow-suc 2 k)))
+          ap (encode p) (ap (λ (x : ℕ). x * 2 ^ k) (e ∙ (let t : h + h ≡ h * 2 = omega arith in t)) ∙ mul-assoc h 2 (2 ^ k) ∙ ap (λ (x : ℕ). h * x)
+          (mul-comm 2 (2 ^ k) ∙ sym (pow-suc 2 k)))
           ∙ encode-full h (suc k) (le-refl h) (let t : 2 ^ p ≡ h + h = hidden-twice p P in let z : 0 < h = pow-pos (p - 1) in omega arith)
           ∙ (let s : suc k * h ≡ k * h + h = suc-mul k h in let t : suc k * h + h ≡ k * h + q = omega (arith, e) in t)
       go (inr m) (inl z) =
@@ -72,7 +74,8 @@ module _ (p : ℕ) (P : 2 ≤ p) where
 pub infinity-number : (p emax : ℕ) → magnitude p (infinity p emax) ≡ 2 ^ (p - 1 + 2 * emax)
 unfolding magnitude
 infinity-number p emax =
-    ap (magnitude p) (let s : (2 * emax + 1) * hidden p ≡ suc (2 * emax) * hidden p = ap (λ (x : ℕ). x * hidden p) (let t : 2 * emax + 1 ≡ suc (2 * emax) = omega arith in t) in s ∙ suc-mul (2 * emax) (hidden p))
+    ap (magnitude p) (let s : (2 * emax + 1) * hidden p ≡ suc (2 * emax) * hidden p = ap (λ (x : ℕ). x * hidden p)
+    (let t : 2 * emax + 1 ≡ suc (2 * emax) = omega arith in t) in s ∙ suc-mul (2 * emax) (hidden p))
     ∙ number-at (hidden p) (2 * emax) (hidden p) (pow-pos (p - 1)) (let t : hidden p ≤ hidden p + hidden p = omega arith in t) (inr (le-refl (hidden p)))
     ∙ sym (pow-add 2 (p - 1) (2 * emax))
 

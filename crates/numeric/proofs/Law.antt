@@ -97,17 +97,20 @@ largest p emax b l = number-le (hidden p) b (infinity p emax - 1) (pow-pos (p - 
 
 pub after-largest : (p emax : ℕ) → 2 ≤ p → magnitude p (infinity p emax) ≡ 2 ^ (emax + 1) * 2 ^ scale p emax
 after-largest p emax P =
-    infinity-number p emax ∙ ap (λ (x : ℕ). 2 ^ x) (let t : p - 1 + 2 * emax ≡ emax + 1 + (emax + p - 2) = omega arith in t) ∙ pow-add 2 (emax + 1) (scale p emax)
+    infinity-number p emax ∙ ap (λ (x : ℕ). 2 ^ x) (let t : p - 1 + 2 * emax ≡ emax + 1 + (emax + p - 2) = omega arith in t) ∙ pow-add 2 (emax + 1)
+    (scale p emax)
 
 pub integer-past : (from : Integer) (to : Format) (b : ℕ) → Past to (natAbs (numberOf from b)) 1 → below to (integerToFloat from to b) ≡ inf to
 unfolding integerToFloat
 integer-past from to b h =
-    integer-below (precisionOf to) (emaxOf to) (numberOf from b) ∙ past-infinite (precisionOf to) (emaxOf to) (natAbs (numberOf from b)) 1 (fitting to .two) (zero-lt-suc 0) h
+    integer-below (precisionOf to) (emaxOf to) (numberOf from b) ∙ past-infinite (precisionOf to) (emaxOf to) (natAbs (numberOf from b)) 1
+    (fitting to .two) (zero-lt-suc 0) h
 
 pub integer-infinite : (from : Integer) (to : Format) (b : ℕ) → below to (integerToFloat from to b) ≡ inf to → Past to (natAbs (numberOf from b)) 1
 unfolding integerToFloat
 integer-infinite from to b e =
-    infinite-past (precisionOf to) (emaxOf to) (natAbs (numberOf from b)) 1 (fitting to .two) (zero-lt-suc 0) (sym (integer-below (precisionOf to) (emaxOf to) (numberOf from b)) ∙ e)
+    infinite-past (precisionOf to) (emaxOf to) (natAbs (numberOf from b)) 1 (fitting to .two) (zero-lt-suc 0)
+    (sym (integer-below (precisionOf to) (emaxOf to) (numberOf from b)) ∙ e)
 
 pub float-past : (from to : Format) (b : ℕ) → below from b < inf from → Past to (value from b) (one from) → below to (floatToFloat from to b) ≡ inf to
 unfolding floatToFloat
@@ -149,7 +152,8 @@ unfolding floatToFloat
 nan-made from to b l = converted-nan (precisionOf from) (emaxOf from) (precisionOf to) (emaxOf to) b l
 
 -- the p - 1 fraction bits of that pattern, its sign and its exponent's field
-pub nan-bits : (f : Format) → (nan (precisionOf f) (emaxOf f) % hidden (precisionOf f) ≡ 2 ^ (precisionOf f - 2)) × (sign f (nan (precisionOf f) (emaxOf f)) ≡ 0) × (nan (precisionOf f) (emaxOf f) / hidden (precisionOf f) ≡ 2 * emaxOf f + 1)
+pub nan-bits : (f : Format) → (nan (precisionOf f) (emaxOf f) % hidden (precisionOf f) ≡ 2 ^ (precisionOf f - 2)) ×
+    (sign f (nan (precisionOf f) (emaxOf f)) ≡ 0) × (nan (precisionOf f) (emaxOf f) / hidden (precisionOf f) ≡ 2 * emaxOf f + 1)
 nan-bits Binary16 = (refl, refl, refl)
 nan-bits Binary32 = (refl, refl, refl)
 nan-bits Binary64 = (refl, refl, refl)
@@ -170,7 +174,8 @@ float-exact from to b W l =
     ap (λ (x : ℕ). magnitude (precisionOf to) x * one from) (finite-below (precisionOf from) (emaxOf from) (precisionOf to) (emaxOf to) b l)
     ∙ widened-exactly (precisionOf from) (emaxOf from) (precisionOf to) (emaxOf to) (below from b) (fitting from .two) (W .digits) (W .reach) l
 
-pub float-back : (from to : Format) (b : ℕ) → Wider from to → below from b < inf from → below from (floatToFloat to from (floatToFloat from to b)) ≡ below from b
+pub float-back : (from to : Format) (b : ℕ) → Wider from to → below from b < inf from → below from (floatToFloat to from (floatToFloat from to b)) ≡
+    below from b
 unfolding floatToFloat
 float-back from to b W l =
     let p = precisionOf from in
@@ -178,7 +183,8 @@ float-back from to b W l =
     let q = precisionOf to in
     let g = emaxOf to in
     let m : below to (converted p e q g b) ≡ finite p e q g (below from b) = finite-below p e q g b l in
-    let k : below to (converted p e q g b) < inf to = subst (λ (x : ℕ). x < inf to) (sym m) (widened-finite p e q g (below from b) (fitting from .two) (W .digits) (W .reach) l) in
+    let k : below to (converted p e q g b) < inf to = subst (λ (x : ℕ). x < inf to) (sym m)
+    (widened-finite p e q g (below from b) (fitting from .two) (W .digits) (W .reach) l) in
     finite-below q g p e (converted p e q g b) k ∙ ap (finite q g p e) m ∙ widened-back p e q g (below from b) (fitting from .two) (W .digits) (W .reach) l
 
 -- ---- "Integers keep their value": to a kind whose range holds every incoming number

@@ -14,10 +14,12 @@ module _ (p emax num den : ℕ) (P : 2 ≤ p) (D : 0 < den) where
 
   top-even : infinity p emax % 2 ≡ 0
   top-even =
-      let e : infinity p emax ≡ 2 * ((2 * emax + 1) * 2 ^ (p - 2)) = ap (λ (x : ℕ). (2 * emax + 1) * x) (hidden-even p P) ∙ sym (mul-assoc (2 * emax + 1) (2 ^ (p - 2)) 2) ∙ mul-comm ((2 * emax + 1) * 2 ^ (p - 2)) 2 in
+      let e : infinity p emax ≡ 2 * ((2 * emax + 1) * 2 ^ (p - 2)) = ap (λ (x : ℕ). (2 * emax + 1) * x) (hidden-even p P) ∙ sym
+      (mul-assoc (2 * emax + 1) (2 ^ (p - 2)) 2) ∙ mul-comm ((2 * emax + 1) * 2 ^ (p - 2)) 2 in
       omega arith
 
-  sum : (magnitude p (infinity p emax - 1) + magnitude p (infinity p emax)) * den ≡ magnitude p (infinity p emax - 1) * den + magnitude p (infinity p emax) * den
+  sum : (magnitude p (infinity p emax - 1) + magnitude p (infinity p emax)) * den ≡ magnitude p (infinity p emax - 1) * den + magnitude p
+      (infinity p emax) * den
   sum = add-mul (magnitude p (infinity p emax - 1)) (magnitude p (infinity p emax)) den
 
   step : magnitude p (infinity p emax - 1) * den < magnitude p (infinity p emax) * den
@@ -35,12 +37,14 @@ module _ (p emax num den : ℕ) (P : 2 ≤ p) (D : 0 < den) where
       near b (inl e) = let s : magnitude p b * den ≡ magnitude p (infinity p emax) * den = ap (λ (x : ℕ). magnitude p x * den) e in omega arith
       near b (inr k) =
           let t : b ≤ infinity p emax - 1 = omega arith in
-          let s : magnitude p b * den ≤ magnitude p (infinity p emax - 1) * den = mul-le-mul-right den (number-le (hidden p) b (infinity p emax - 1) (pow-pos (p - 1)) t) in
+          let s : magnitude p b * den ≤ magnitude p (infinity p emax - 1) * den = mul-le-mul-right den
+          (number-le (hidden p) b (infinity p emax - 1) (pow-pos (p - 1)) t) in
           omega (arith, sum, step, l)
 
   pub infinite-past : rounded p emax num den ≡ infinity p emax → PastMidpoint p emax num den
   infinite-past e =
       let R : IsRounded p emax num den (infinity p emax) = subst (λ (x : ℕ). IsRounded p emax num den x) e (rounded-is p emax num den P D) in
       let t : infinity p emax - 1 ≤ infinity p emax = omega arith in
-      let n : distance (num * 2 ^ scale p emax) (magnitude p (infinity p emax) * den) ≤ distance (num * 2 ^ scale p emax) (magnitude p (infinity p emax - 1) * den) = R .nearest (infinity p emax - 1) t in
+      let n : distance (num * 2 ^ scale p emax) (magnitude p (infinity p emax) * den) ≤ distance (num * 2 ^ scale p emax)
+      (magnitude p (infinity p emax - 1) * den) = R .nearest (infinity p emax - 1) t in
       omega (arith, sum, step)

@@ -4,7 +4,9 @@ use mathlib.Core.Path.{_≡_, refl, sym, ap, ap₂, _∙_, subst}
 use mathlib.Core.Logic.{_≢_, _⊎_, inl, inr}
 use mathlib.Core.Bool.{Bool, true, false, not}
 use Prim.Native.Nat.{ℕ, zero, suc, _+_, _-_, _*_, _/_, _%_, _^_, _≤_, _<_, min, compare, Ordering, Ordering·lt, Ordering·eq, Ordering·gt}
-use native.Mathlib.Nat.{le-antisymm, lt-irrefl, eq-of-mul-eq-mul-right, le-refl, le-trans, le-of-eq, le-of-lt, lt-of-lt-of-le, eq-or-lt-of-le, mul-comm, mul-assoc, mul-one, mul-pos, suc-mul, mul-le-mul-right, mul-lt-mul-of-pos-right, div-add-mod', mod-lt, pow-suc, pow-succ', add-zero, le-div-iff-mul-le, div-div-eq-div-mul, min-eq-left, min-eq-right}
+use native.Mathlib.Nat.{le-antisymm, lt-irrefl, eq-of-mul-eq-mul-right, le-refl, le-trans, le-of-eq, le-of-lt, lt-of-lt-of-le, eq-or-lt-of-le, mul-comm}
+use native.Mathlib.Nat.{mul-assoc, mul-one, mul-pos, suc-mul, mul-le-mul-right, mul-lt-mul-of-pos-right, div-add-mod', mod-lt, pow-suc, pow-succ', add-zero}
+use native.Mathlib.Nat.{le-div-iff-mul-le, div-div-eq-div-mul, min-eq-left, min-eq-right}
 use native.Mathlib.Decide.{le-ind}
 use native.Mathlib.Omega.{arith}
 use lib.Dec.{T, isLe, isEq, eqb, ltb, leb→le, nleb→lt, eqb→eq, eqb-refl, ltb→lt, nltb→le}
@@ -73,7 +75,8 @@ number-suc h b H = go (b / h) (b % h) (div-add-mod' b h) (mod-lt b H)
     at : (k q : ℕ) → b ≡ k * h + q → q < h + h → (k ≡ 0) ⊎ (h ≤ q) → number h (suc b) ≡ number h b + 2 ^ k
     at k q e l w =
         let s : suc b ≡ k * h + suc q = omega arith in
-        ap (number h) s ∙ number-at h k (suc q) H l (up w) ∙ suc-mul q (2 ^ k) ∙ ap (λ (x : ℕ). x + 2 ^ k) (sym (ap (number h) e ∙ number-at h k q H (le-of-lt l) w))
+        ap (number h) s ∙ number-at h k (suc q) H l (up w) ∙ suc-mul q (2 ^ k) ∙ ap (λ (x : ℕ). x + 2 ^ k)
+        (sym (ap (number h) e ∙ number-at h k q H (le-of-lt l) w))
       where
         up : (k ≡ 0) ⊎ (h ≤ q) → (k ≡ 0) ⊎ (h ≤ suc q)
         up (inl z) = inl z
@@ -114,7 +117,8 @@ pub record Best (h n den r : ℕ) : Type 0 where
   pub even : (b : ℕ) → b ≢ r → distance n (number h r * den) ≡ distance n (number h b * den) → r % 2 ≡ 0
 
 -- n lies between the numbers of two neighbours, c and c + 1: x beyond the lower, of y
-module _ (h n den c x y : ℕ) (H : 0 < h) (D : 0 < den) (lower : n ≡ number h c * den + x) (upper : number h (suc c) * den ≡ number h c * den + y) (Y : x < y) where
+module _ (h n den c x y : ℕ) (H : 0 < h) (D : 0 < den) (lower : n ≡ number h c * den + x) (upper : number h (suc c) * den ≡ number h c * den + y)
+    (Y : x < y) where
   below : (b : ℕ) → b < c → number h b * den < number h c * den
   below b l = mul-lt-mul-of-pos-right (number-lt h b c H l) D
 
@@ -209,7 +213,8 @@ tie-side a q = go (lt-or-ge (q % 2) 1)
     go (inr l) = inr (omega arith)
 
 -- with a whole part q of at most as many digits as the format keeps, and of all of them where some are dropped
-best : (h g n den k : ℕ) → h ≡ g * 2 → 0 < h → 0 < den → n / (den * 2 ^ k) < h + h → (k ≡ 0) ⊎ (h ≤ n / (den * 2 ^ k)) → Best h n den (k * h + closest n (den * 2 ^ k))
+best : (h g n den k : ℕ) → h ≡ g * 2 → 0 < h → 0 < den → n / (den * 2 ^ k) < h + h → (k ≡ 0) ⊎ (h ≤ n / (den * 2 ^ k)) → Best h n den
+    (k * h + closest n (den * 2 ^ k))
 best h g n den k G H D l w = go (compare (x * 2) y) (compared (x * 2) y)
   where
     y : ℕ
@@ -368,7 +373,8 @@ rounded-exact p emax num den b P D l e =
     near c m = omega (arith, e)
 
     ev : (c : ℕ) → c ≤ infinity p emax → c ≢ b → distance n (magnitude p b * den) ≡ distance n (magnitude p c * den) → b % 2 ≡ 0
-    ev c m ne d = absurd (ne (magnitude-only p c b D' (eq-of-mul-eq-mul-right den D (magnitude p c) (magnitude p b) (let t : magnitude p c * den ≡ magnitude p b * den = omega (arith, e) in t))))
+    ev c m ne d = absurd (ne (magnitude-only p c b D' (eq-of-mul-eq-mul-right den D (magnitude p c) (magnitude p b)
+        (let t : magnitude p c * den ≡ magnitude p b * den = omega (arith, e) in t))))
       where
         D' : 0 < hidden p
         D' = pow-pos (p - 1)

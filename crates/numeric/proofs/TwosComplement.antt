@@ -68,7 +68,8 @@ top w b = go (b / 2 ^ (w - 1) % 2) refl
   where
     go : (x : ℕ) → b / 2 ^ (w - 1) % 2 ≡ x → Top w b
     go zero e = clear e (signed-clear w b e)
-    go (suc x) e = set (let m : b / 2 ^ (w - 1) % 2 < 2 = mod-lt (b / 2 ^ (w - 1)) (pow-pos 1) in omega arith) (signed-set w b (λ z. (let n : ⊥ = omega arith in n)))
+    go (suc x) e = set (let m : b / 2 ^ (w - 1) % 2 < 2 = mod-lt (b / 2 ^ (w - 1)) (pow-pos 1) in omega arith)
+        (signed-set w b (λ z. (let n : ⊥ = omega arith in n)))
 
 -- ---- there and back
 

@@ -10,15 +10,15 @@ use Rattle.layout.specs.Parser.{choose}
 use Rattle.layout.proofs.Ways.{clash}
 use Rattle.values.specs.Value.{Value, vnull, vstruct, Values}
 use Rattle.plan.specs.Selector.{Selector}
-use Rattle.walk.specs.State.{Frame, State, state}
-use Rattle.walk.specs.Moves.{Input, i-struct, i-list, i-array}
-use Rattle.walk.specs.Standing.{WalkAt, StepsTo}
-use Rattle.walk.specs.Values.{opened, givens, within, stateValue}
+use Rattle.walk.specs.code.State.{Frame, State, state}
+use Rattle.walk.specs.code.Moves.{Input, i-struct, i-list, i-array}
+use Rattle.walk.specs.code.Walks.{WalkAt, StepsTo}
+use Rattle.walk.specs.code.Values.{opened, givens, within, stateValue}
 use Rattle.walk.specs.declared.walk.Walk.{Walk}
-use Rattle.nodes.specs.Raw.{partsOf}
+use Rattle.nodes.specs.code.Raw.{partsOf}
 use Rattle.nodes.specs.declared.raw.Parts.{Parts}
-use Rattle.output.specs.Output.{has, answer}
-use Rattle.output.specs.Answers.{OriginIs, StructIs, ListIs, ArrayIs, inputOf, leastOf, AskInput, AskOutward, askedAnswer, AskedIs}
+use Rattle.output.specs.code.Output.{has, answer}
+use Rattle.output.specs.code.Answers.{OriginIs, StructIs, ListIs, ArrayIs, inputOf, leastOf, AskInput, AskOutward, askedAnswer, AskedIs}
 use Rattle.output.specs.declared.casts.Origin.{Origin}
 use Rattle.output.specs.declared.parts.Asked.{Asked}
 use Rattle.output.proofs.Chain.{passed-value}
@@ -41,7 +41,8 @@ unfolding choose
 chosen m own q true = refl
 chosen m own q false = answer-none m own
 
-pub answer-on : (m : ℕ) (own q : Parts) (n c : ℕ) (p : Parts) → answer m own q ≡ Parts.Some c → answer m own (choose (has n p) q Parts.None) ≡ answer n (Parts.Some c) p
+pub answer-on : (m : ℕ) (own q : Parts) (n c : ℕ) (p : Parts) → answer m own q ≡ Parts.Some c → answer m own (choose (has n p) q Parts.None) ≡ answer n
+    (Parts.Some c) p
 unfolding answer
 answer-on m own q n c p e = chosen m own q (has n p) ∙ ap (λ (x : Parts). choose (has n p) x Parts.None) e
 
@@ -178,7 +179,8 @@ constant-met least own g e h = h ∙ ap (answer least own) (g ∙ ap partsOf e)
 -- ---- the loop
 
 -- where the value comes from there are as many parts
-pub origin-parts : (ρ : Values) {plan : Bytes} {x : State} {w : Walk} {r : Origin} (O : OriginIs plan x w r) → partsOf (stateValue ρ x) ≡ partsOf (stateValue ρ (O .state))
+pub origin-parts : (ρ : Values) {plan : Bytes} {x : State} {w : Walk} {r : Origin} (O : OriginIs plan x w r) → partsOf (stateValue ρ x) ≡ partsOf
+    (stateValue ρ (O .state))
 origin-parts ρ O = ap partsOf (passed-value ρ (O .passed)) ∙ parts-casts (O .kinds) (stateValue ρ (O .state))
 
 -- what is asked of x is asked of where w stands
@@ -200,18 +202,21 @@ module _ {ρ : Values} {x : State} {least : ℕ} {own : Parts} {r : Asked} (A : 
   pub is-outward : {m : ℕ} {k : Parts} → r ≡ Asked.Outward m k → AskOutward ρ x least own m k
   is-outward e = asked e
 
-module _ {ρ : Values} {plan : Bytes} {x : State} {least : ℕ} {own : Parts} {w : Walk} {m : ℕ} {k : Parts} (A : Asking ρ plan x least own w m k) {q : Origin} (O : OriginIs plan (A .state) w q) where
+module _ {ρ : Values} {plan : Bytes} {x : State} {least : ℕ} {own : Parts} {w : Walk} {m : ℕ} {k : Parts} (A : Asking ρ plan x least own w m k)
+    {q : Origin} (O : OriginIs plan (A .state) w q) where
   at-origin : answer least own (partsOf (stateValue ρ x)) ≡ answer m k (partsOf (stateValue ρ (O .state)))
   at-origin = A .same ∙ ap (answer m k) (origin-parts ρ O)
 
   pub asking-answer : {p : Parts} → p ≡ answer m k (partsOf (stateValue ρ (O .state))) → p ≡ answer least own (partsOf (stateValue ρ x))
   asking-answer h = h ∙ sym at-origin
 
-  pub asking-input : {l : ℕ} {j : Parts} (I : AskInput ρ (O .state) m k l j) {r : Walk} → StepsTo plan (state (I .input) (O .state .frames) (O .state .path)) (q .walk) r
+  pub asking-input : {l : ℕ} {j : Parts} (I : AskInput ρ (O .state) m k l j) {r : Walk} → StepsTo plan
+      (state (I .input) (O .state .frames) (O .state .path)) (q .walk) r
       → Asking ρ plan x least own r l j
   asking-input I T = record { state = _; standing = T .standing; same = at-origin ∙ I .same }
 
-  pub asking-outward : {l : ℕ} {j : Parts} (I : AskOutward ρ (O .state) m k l j) {r : Walk} → StepsTo plan (state (inputOf (I .frame)) (I .outer) []) (q .walk) r
+  pub asking-outward : {l : ℕ} {j : Parts} (I : AskOutward ρ (O .state) m k l j) {r : Walk} → StepsTo plan (state (inputOf (I .frame)) (I .outer) [])
+      (q .walk) r
       → Asking ρ plan x least own r l j
   asking-outward I T = record { state = _; standing = T .standing; same = at-origin ∙ I .same }
 
@@ -222,7 +227,8 @@ module _ (ρ : Values) (x : State) (u : Value) where
   unfolding within choose
   run-top e = ap (λ (E : List Frame). within ρ E (λ σ. u)) e
 
-  module _ {f : Frame} {E : List Frame} (e : x .frames ≡ f ∷ E) {m : ℕ} (l : m ≡ leastOf f) {p : Parts} (h : p ≡ answer m (Parts.Some 0) (partsOf (stateValue ρ (state (inputOf f) E [])))) where
+  module _ {f : Frame} {E : List Frame} (e : x .frames ≡ f ∷ E) {m : ℕ} (l : m ≡ leastOf f) {p : Parts}
+      (h : p ≡ answer m (Parts.Some 0) (partsOf (stateValue ρ (state (inputOf f) E [])))) where
     by-frame : (b : Bool) → has m (partsOf (stateValue ρ (state (inputOf f) E []))) ≡ b → within ρ (x .frames) (λ σ. u) ≡ choose b u vnull
     by-frame b g =
         ap (λ (F : List Frame). within ρ F (λ σ. u)) e ∙ run-frame ρ f E u
@@ -232,7 +238,8 @@ module _ (ρ : Values) (x : State) (u : Value) where
     unfolding answer choose
     run-none g = go (has m (partsOf (stateValue ρ (state (inputOf f) E [])))) refl (sym h ∙ g)
       where
-        go : (b : Bool) → has m (partsOf (stateValue ρ (state (inputOf f) E []))) ≡ b → choose b (Parts.Some 0) Parts.None ≡ Parts.None → within ρ (x .frames) (λ σ. u) ≡ choose false u vnull
+        go : (b : Bool) → has m (partsOf (stateValue ρ (state (inputOf f) E []))) ≡ b → choose b (Parts.Some 0) Parts.None ≡ Parts.None → within ρ
+            (x .frames) (λ σ. u) ≡ choose false u vnull
         go true i z = clash (cc)
         go false i z = by-frame false i
 
@@ -240,6 +247,7 @@ module _ (ρ : Values) (x : State) (u : Value) where
     unfolding answer choose
     run-some {c} g = go (has m (partsOf (stateValue ρ (state (inputOf f) E [])))) refl (sym h ∙ g)
       where
-        go : (b : Bool) → has m (partsOf (stateValue ρ (state (inputOf f) E []))) ≡ b → choose b (Parts.Some 0) Parts.None ≡ Parts.Some c → within ρ (x .frames) (λ σ. u) ≡ choose true u vnull
+        go : (b : Bool) → has m (partsOf (stateValue ρ (state (inputOf f) E []))) ≡ b → choose b (Parts.Some 0) Parts.None ≡ Parts.Some c → within ρ
+            (x .frames) (λ σ. u) ≡ choose true u vnull
         go true i z = by-frame true i
         go false i z = clash (cc)

@@ -15,14 +15,14 @@ use Rattle.values.specs.Value.{Value, vnumber, voverflow}
 use Rattle.values.specs.Encode.{encodeValue}
 use Rattle.plan.specs.Convert.{convert}
 use Rattle.plan.specs.Run.{castLeaf}
-use Rattle.convert.specs.Converted.{valueOf}
+use Rattle.convert.specs.code.Converted.{valueOf}
 use Rattle.convert.specs.declared.leaf.Converted.{Converted}
-use Rattle.raw.specs.Number.{isNumber, leafAnswer, LeafIs}
-use Rattle.raw.specs.Stored.{Stores}
+use Rattle.raw.specs.code.Number.{isNumber, leafAnswer, LeafIs}
+use Rattle.raw.specs.code.Stored.{Stores}
 use Rattle.raw.specs.declared.leaf.LeafValue.{LeafValue}
 use Rattle.raw.proofs.Storing.{cast-kept, stores-as}
-use Rattle.output.specs.Chain.{castAll, Kept, Casting}
-use Rattle.output.specs.Answers.{castValueOf, castLeafOf}
+use Rattle.output.specs.code.Chain.{castAll, Kept, Casting}
+use Rattle.output.specs.code.Answers.{castValueOf, castLeafOf}
 use Rattle.output.specs.declared.leaf.CastLeaf.{CastLeaf}
 use Rattle.output.specs.declared.leaf.CastValue.{CastValue}
 
@@ -111,7 +111,8 @@ module _ {ks : List Leaf} {v₀ : Value} {i : ℕ} {r : CastValue} (C : Casting 
 -- ---- what is stored
 
 pub stores-number : (out : Bytes) (k : ℕ) {j : Leaf} {m : ℕ} {u : Value} {q : CastValue} → castValueOf q ≡ u → q ≡ CastValue.Number j m
-    → {l : ℕ} {new : Bytes} → l ≡ length (encodeValue (vnumber j m)) → new ≡ overlay out k (encodeValue (vnumber j m)) → Stores out k (encodeValue u) (k + l) new
+    → {l : ℕ} {new : Bytes} → l ≡ length (encodeValue (vnumber j m)) → new ≡ overlay out k (encodeValue (vnumber j m)) → Stores out k (encodeValue u)
+    (k + l) new
 stores-number out k e f g h = stores-as (ap castValueOf (sym f) ∙ e) (record { ends = ap (λ (i : ℕ). k + i) g; stored = h })
 
 pub stores-overflow : (out : Bytes) (k : ℕ) {u : Value} {q : CastValue} → castValueOf q ≡ u → q ≡ CastValue.Overflow → Stores out k (encodeValue u) k out

@@ -22,10 +22,11 @@ use Rattle.rules.specs.declared.kinds.Class.{Class}
 use Rattle.rules.specs.Classes.{classOf}
 use Rattle.plan.specs.Convert.{multiply, divide, keep, UnitChange, unitChange, counted, rescaled, convertAs, convert}
 use Rattle.plan.specs.Run.{castLeaf, castValue}
-use Rattle.walk.specs.State.{Frame, fields, element, State, state}
-use Rattle.walk.specs.Moves.{Moves, m-here, m-rename, m-field, m-list, m-array, m-leave, m-leave-element}
-use Rattle.walk.specs.Values.{opened, given, valueNode, within, stateValue}
-use Rattle.output.specs.Chain.{ends, goes, casts, nextField, nextOut, nextCast, nextPart, nextElement, nextOf, Passed, p-here, p-goes, p-casts, castAll}
+use Rattle.walk.specs.code.State.{Frame, fields, element, State, state}
+use Rattle.walk.specs.code.Moves.{Moves, m-here, m-rename, m-field, m-list, m-array, m-leave, m-leave-element}
+use Rattle.walk.specs.code.Values.{opened, given, valueNode, within, stateValue}
+use Rattle.output.specs.code.Chain.{ends, goes, casts, nextField, nextOut, nextCast, nextPart, nextElement, nextOf, Passed, p-here, p-goes, p-casts}
+use Rattle.output.specs.code.Chain.{castAll}
 use Rattle.output.proofs.Within.{within-strict, moves-value}
 
 pub goes-eq : {x y : State} → goes x ≡ goes y → x ≡ y
@@ -163,7 +164,8 @@ module _ (ρ : Values) where
   out-value k (fields s ∷ E) p e = moves-value ρ (m-leave m-here) ∙ ap (stateValue ρ) (goes-eq e)
   out-value k (element s i ∷ E) p {y} e = go (eqb (k .0) 0) refl e
     where
-      go : (b : Bool) → eqb (k .0) 0 ≡ b → choose b (goes (state s E (i ∷ p))) ends ≡ goes y → stateValue ρ (state (position k) (element s i ∷ E) p) ≡ stateValue ρ y
+      go : (b : Bool) → eqb (k .0) 0 ≡ b → choose b (goes (state s E (i ∷ p))) ends ≡ goes y → stateValue ρ (state (position k) (element s i ∷ E) p) ≡
+          stateValue ρ y
       go true z e = moves-value ρ (m-leave-element (eqb-true _ _ z) m-here) ∙ ap (stateValue ρ) (goes-eq e)
       go false z e = clash (cc)
 
@@ -184,7 +186,8 @@ module _ (ρ : Values) where
   goes-at (arrayMapping s x) E [] e = clash (cc)
   goes-at (arrayMapping s x) E (k ∷ p) e = moves-value ρ (m-array {s = s} {e = x} {E = E} {k = k} {p = p} m-here) ∙ ap (stateValue ρ) (goes-eq e)
 
-  casts-at : (s : Selector) (E : List Frame) (p : List ℕ) {k : Leaf} {y : State} → nextOf s E p ≡ casts k y → stateValue ρ (state s E p) ≡ castLeaf k (stateValue ρ y)
+  casts-at : (s : Selector) (E : List Frame) (p : List ℕ) {k : Leaf} {y : State} → nextOf s E p ≡ casts k y → stateValue ρ (state s E p) ≡ castLeaf k
+      (stateValue ρ y)
   unfolding nextOf nextCast nextPart nextElement nextOut stateValue given castValue castLeaf valueNode
   casts-at (position k) [] p e = clash (cc)
   casts-at (position k) (fields s ∷ E) p e = clash (cc)

@@ -21,31 +21,32 @@ use Rattle.values.specs.Record.{longest}
 use Rattle.plan.specs.Selector.{Selector, position, constant, cast, rename, structMapping, listMapping, arrayMapping, Selectors, snil, scons, countSelectors}
 use Rattle.plan.specs.Reach.{parts}
 use Rattle.plan.specs.Run.{valueAt, clean, cleanAll, mapValues}
-use Rattle.walk.specs.State.{Frame, fields, element, State, state}
-use Rattle.walk.specs.Moves.{Moves, m-here, m-field, m-list, m-array, Part, p-field, p-list, p-array, Mapping, is-struct, is-list, is-array}
-use Rattle.walk.specs.Standing.{Entries, e-none, e-more, WalkAt, StepsTo, rank}
-use Rattle.walk.specs.Values.{opened, given, givens, within, stateValue}
+use Rattle.walk.specs.code.State.{Frame, fields, element, State, state}
+use Rattle.walk.specs.code.Moves.{Moves, m-here, m-field, m-list, m-array, Part, p-field, p-list, p-array, Mapping, is-struct, is-list, is-array}
+use Rattle.walk.specs.code.Walks.{Entries, e-none, e-more, WalkAt, StepsTo, rank}
+use Rattle.walk.specs.code.Values.{opened, given, givens, within, stateValue}
 use Rattle.walk.specs.declared.walk.Walk.{Walk}
-use Rattle.walk.specs.Children.{PartStands, Reached}
-use Rattle.walk.specs.Stands.{SelectorAt}
+use Rattle.walk.specs.code.Children.{PartStands, Reached}
+use Rattle.walk.specs.code.Stands.{SelectorAt}
 use Rattle.walk.proofs.View.{nth-exists}
 use Rattle.walk.proofs.View.{Viewed, v-position, v-constant, v-cast, v-rename, v-struct, v-list, v-array, view}
-use Rattle.walk.proofs.Standing.{walk-small, walk-inside}
+use Rattle.walk.proofs.Walks.{walk-small, walk-inside}
 use Rattle.walk.proofs.Children.{reached-stands}
-use Rattle.nodes.specs.Raw.{NodeIs, partsOf}
+use Rattle.nodes.specs.code.Raw.{NodeIs, partsOf}
 use Rattle.nodes.specs.declared.raw.Parts.{Parts}
-use Rattle.raw.specs.Number.{isNumber}
-use Rattle.output.specs.Chain.{ends, goes, nextOut, nextCast, nextField, nextPart, nextElement, nextOf, Passed, p-here, p-goes, p-casts, castAll}
-use Rattle.raw.specs.Stored.{Stores, lead}
-use Rattle.output.specs.Output.{Emits, levels}
-use Rattle.output.specs.Answers.{OriginIs, ConstantIs, StructIs, ListIs, ArrayIs, size, EmitAt, Mapped, isList}
+use Rattle.raw.specs.code.Number.{isNumber}
+use Rattle.output.specs.code.Chain.{ends, goes, nextOut, nextCast, nextField, nextPart, nextElement, nextOf, Passed, p-here, p-goes, p-casts, castAll}
+use Rattle.raw.specs.code.Stored.{Stores, lead}
+use Rattle.output.specs.code.Output.{Emits, levels}
+use Rattle.output.specs.code.Answers.{OriginIs, ConstantIs, StructIs, ListIs, ArrayIs, size, EmitAt, Mapped, isList}
 use Rattle.output.specs.declared.casts.Origin.{Origin}
 use Rattle.output.proofs.Chain.{goes-eq, casts-same, passed-value}
 use Rattle.output.proofs.Ends.{within-null, count-givens, struct-value, list-value, array-value, part-value}
 use Rattle.raw.proofs.Storing.{stores-as}
 use Rattle.output.proofs.Casting.{casts-kept}
 use Rattle.output.proofs.Asking.{state-by}
-use Rattle.output.proofs.Writing.{emits-exact, emits-append, emits-past, emits-after, within-limit, front, behind, front-none, front-all, front-more, front-behind, front-long, parts-clean, part-clean, part-levels}
+use Rattle.output.proofs.Writing.{emits-exact, emits-append, emits-past, emits-after, within-limit, front, behind, front-none, front-all, front-more}
+use Rattle.output.proofs.Writing.{front-behind, front-long, parts-clean, part-clean, part-levels}
 
 -- ---- what a walk holds stays the same
 
@@ -75,7 +76,8 @@ goes-size (cast s (list t) o) E p e = state-size {x = state s E p} refl (goes-eq
 goes-size (cast s (array w t) o) E p e = state-size {x = state s E p} refl (goes-eq e)
 goes-size (rename s n) E p e = state-size {x = state s E p} refl (goes-eq e)
 goes-size (structMapping s ss) E [] e = clash (cc)
-goes-size (structMapping s ss) E (k ∷ p) e = field-size ss k (fields s ∷ E) p e ∙ (let z : suc (length E) + length p ≡ length E + suc (length p) = omega arith in z)
+goes-size (structMapping s ss) E (k ∷ p) e = field-size ss k (fields s ∷ E) p e ∙
+    (let z : suc (length E) + length p ≡ length E + suc (length p) = omega arith in z)
 goes-size (listMapping s x) E [] e = clash (cc)
 goes-size (listMapping s x) E (k ∷ p) e = state-size {x = state x (element s k ∷ E) p} (omega arith) (goes-eq e)
 goes-size (arrayMapping s x) E [] e = clash (cc)
@@ -96,7 +98,8 @@ entries-deep (e-more t u) = ap suc (entries-deep u)
 -- null, or its parts after what stands before them
 pub data Shaped (v : Value) (c : Bool) : Type 0 where
   shaped-null : v ≡ vnull → Shaped v c
-  shaped-some : partsOf v ≡ Parts.Some (countValues (parts v)) → encodeValue v ≡ lead c (countValues (parts v)) ++ encodeValues (parts v) → isNumber v ≡ false → Shaped v c
+  shaped-some : partsOf v ≡ Parts.Some (countValues (parts v)) → encodeValue v ≡ lead c (countValues (parts v)) ++ encodeValues (parts v) → isNumber v ≡
+      false → Shaped v c
 
 shape-struct : (f : Values → Values) (v : Value) → Shaped (opened (λ vs. vstruct (f vs)) v) false
 unfolding opened partsOf parts encodeValue isNumber
@@ -129,7 +132,8 @@ shape-array f (vlist vs) = shaped-some refl refl refl
 shape-array f (varray vs) = shaped-some refl refl refl
 
 shape-at : (ρ : Values) (E : List Frame) {s : Selector} → Mapping s → Shaped (stateValue ρ (state s E [])) (isList s)
-shape-at ρ E (is-struct {s} {ss}) = subst (λ (v : Value). Shaped v false) (sym (struct-value ρ s ss E)) (shape-struct (λ vs. givens vs ss) (stateValue ρ (state s E [])))
+shape-at ρ E (is-struct {s} {ss}) = subst (λ (v : Value). Shaped v false) (sym (struct-value ρ s ss E))
+    (shape-struct (λ vs. givens vs ss) (stateValue ρ (state s E [])))
 shape-at ρ E (is-list {s} {e}) =
     subst (λ (v : Value). Shaped v true) (sym (list-value ρ s e E)) (shape-list (mapValues (λ v. given (vcons v vnil) e)) (stateValue ρ (state s E [])))
 shape-at ρ E (is-array {s} {e}) =
@@ -155,14 +159,16 @@ count-struct ss (vstruct vs) h = omega (arith, h, count-givens vs ss)
 count-struct ss (vlist vs) h = omega (arith, h, count-givens vs ss)
 count-struct ss (varray vs) h = omega (arith, h, count-givens vs ss)
 
-part-at : (ρ : Values) (E : List Frame) {s : Selector} (i : ℕ) → Mapping s → i < countValues (parts (stateValue ρ (state s E []))) → (f : Frame) × (t : Selector) × Part s i f t
+part-at : (ρ : Values) (E : List Frame) {s : Selector} (i : ℕ) → Mapping s → i < countValues (parts (stateValue ρ (state s E []))) → (f : Frame) ×
+    (t : Selector) × Part s i f t
 part-at ρ E i (is-struct {s} {ss}) h =
     let (t, n) = nth-exists ss i (count-struct ss (stateValue ρ (state s E [])) (subst (λ (v : Value). i < countValues (parts v)) (struct-value ρ s ss E) h)) in
     (fields s, t, p-field n)
 part-at ρ E i (is-list {s} {e}) h = (element s i, e, p-list)
 part-at ρ E i (is-array {s} {e}) h = (element s i, e, p-array)
 
-pub part-exists : (ρ : Values) (x : State) (i : ℕ) → Mapped x → i < countValues (parts (stateValue ρ x)) → (f : Frame) × (t : Selector) × Part (x .selector) i f t
+pub part-exists : (ρ : Values) (x : State) (i : ℕ) → Mapped x → i < countValues (parts (stateValue ρ x)) → (f : Frame) × (t : Selector) × Part
+    (x .selector) i f t
 part-exists ρ x i M h = part-at ρ (x .frames) i (M .mapping) (subst (λ (v : Value). i < countValues (parts v)) (state-by ρ x refl (M .path)) h)
 
 part-moves : {s : Selector} {k : ℕ} {f : Frame} {t : Selector} (E : List Frame) → Part s k f t → Moves (state s E (k ∷ [])) (state t (f ∷ E) [])
@@ -172,28 +178,33 @@ part-moves E p-array = m-array m-here
 
 child-value : (ρ : Values) (x : State) {i : ℕ} {f : Frame} {t : Selector} → x .path ≡ [] → Part (x .selector) i f t
     → stateValue ρ (state t (f ∷ x .frames) []) ≡ valueAt (parts (stateValue ρ x)) i
-child-value ρ x {i} e P = part-value ρ (x .selector) (x .frames) i (part-moves (x .frames) P) ∙ ap (λ (v : Value). valueAt (parts v) i) (sym (state-by ρ x refl e))
+child-value ρ x {i} e P = part-value ρ (x .selector) (x .frames) i (part-moves (x .frames) P) ∙ ap (λ (v : Value). valueAt (parts v) i)
+    (sym (state-by ρ x refl e))
 
 -- ---- from where a value comes
 
 emits-stored : {out : Bytes} {k : ℕ} {b : Bytes} {r : ℕ} {new : Bytes} → Stores out k b r new → Emits out k b r new
 emits-stored {out} {k} {b} S = emits-exact out k b (S .ends) (S .stored)
 
-module _ {v : Edition} {lay : Bytes} {n t : ℕ} {rec plan : Bytes} {w : Walk} (A : EmitAt v lay n t rec plan w) {o : Origin} (O : OriginIs plan (A .state) w o) where
+module _ {v : Edition} {lay : Bytes} {n t : ℕ} {rec plan : Bytes} {w : Walk} (A : EmitAt v lay n t rec plan w) {o : Origin}
+    (O : OriginIs plan (A .state) w o) where
   abbrev ρ : Values
   ρ = A .row .values .values
 
   through : castAll (O .kinds) (stateValue ρ (O .state)) ≡ stateValue ρ (A .state)
   through = sym (passed-value ρ (O .passed))
 
-  pub emitted : {out : Bytes} {k r : ℕ} {new : Bytes} → Stores out k (encodeValue (castAll (O .kinds) (stateValue ρ (O .state)))) r new → Emits out k (encodeValue (stateValue ρ (A .state))) r new
+  pub emitted : {out : Bytes} {k r : ℕ} {new : Bytes} → Stores out k (encodeValue (castAll (O .kinds) (stateValue ρ (O .state)))) r new → Emits out k
+      (encodeValue (stateValue ρ (A .state))) r new
   emitted S = emits-stored (stores-as through S)
 
-  pub emitted-null : stateValue ρ (O .state) ≡ vnull → {out : Bytes} {k r : ℕ} {new : Bytes} → Stores out k (encodeValue vnull) r new → Emits out k (encodeValue (stateValue ρ (A .state))) r new
+  pub emitted-null : stateValue ρ (O .state) ≡ vnull → {out : Bytes} {k r : ℕ} {new : Bytes} → Stores out k (encodeValue vnull) r new → Emits out k
+      (encodeValue (stateValue ρ (A .state))) r new
   unfolding isNumber
   emitted-null e S = emitted (stores-as (sym (ap (castAll (O .kinds)) e ∙ casts-kept (O .kinds) vnull refl)) S)
 
-  pub emitted-node : {v′ : Edition} {lay′ : Bytes} {t′ : ℕ} {rec′ : Bytes} {c′ : ℕ} (N : NodeIs v′ lay′ t′ rec′ c′ (stateValue ρ (O .state))) {out : Bytes} {k r : ℕ} {new : Bytes}
+  pub emitted-node : {v′ : Edition} {lay′ : Bytes} {t′ : ℕ} {rec′ : Bytes} {c′ : ℕ} (N : NodeIs v′ lay′ t′ rec′ c′ (stateValue ρ (O .state)))
+      {out : Bytes} {k r : ℕ} {new : Bytes}
       → Stores out k (encodeValue (castAll (O .kinds) (N .raw .value .tree))) r new → Emits out k (encodeValue (stateValue ρ (A .state))) r new
   emitted-node N S = emitted (stores-as (ap (castAll (O .kinds)) (N .is)) S)
 
@@ -291,7 +302,8 @@ module _ (ρ : Values) {x : State} (M : Mapped x) {c : Bool} (e : isList (x .sel
   shape : Shaped (stateValue ρ x) c
   shape = subst (λ (c : Bool). Shaped (stateValue ρ x) c) e (mapped-shape ρ x M)
 
-  pub mapping-null : p ≡ Parts.None → {out : Bytes} {k r : ℕ} {new : Bytes} → Stores out k (encodeValue vnull) r new → Emits out k (encodeValue (stateValue ρ x)) r new
+  pub mapping-null : p ≡ Parts.None → {out : Bytes} {k r : ℕ} {new : Bytes} → Stores out k (encodeValue vnull) r new → Emits out k
+      (encodeValue (stateValue ρ x)) r new
   mapping-null f {out} {k} {r} {new} S = go shape
     where
       go : Shaped (stateValue ρ x) c → Emits out k (encodeValue (stateValue ρ x)) r new
@@ -351,11 +363,13 @@ module _ {us : Values} {out₀ : Bytes} {k i at : ℕ} {out : Bytes} (R : Rowing
     pub rowing-small : cleanAll us ≡ true → i ≤ longest
     rowing-small c = omega (arith, within-limit (R .emits) l, front-long us i c (R .within))
 
-    pub rowing-more : i < countValues us → {e : ℕ} {o : Bytes} → length o ≡ length out → Emits out at (encodeValue (valueAt us i)) e o → Rowing us out₀ k (i + 1) e o
+    pub rowing-more : i < countValues us → {e : ℕ} {o : Bytes} → length o ≡ length out → Emits out at (encodeValue (valueAt us i)) e o → Rowing us out₀
+        k (i + 1) e o
     rowing-more h {e} {o} z E = record {
       within = omega arith;
       kept = z ∙ R .kept;
-      emits = subst (λ (b : Bytes). Emits out₀ k b e o) (sym (ap (λ (j : ℕ). encodeValues (front us j)) (add-one i) ∙ front-more us i h)) (emits-append (R .kept) (R .emits) l E);
+      emits = subst (λ (b : Bytes). Emits out₀ k b e o) (sym (ap (λ (j : ℕ). encodeValues (front us j)) (add-one i) ∙ front-more us i h))
+          (emits-append (R .kept) (R .emits) l E);
     }
 
 -- ---- one part
@@ -388,7 +402,8 @@ module _ {v : Edition} {lay : Bytes} {n t : ℕ} {rec plan : Bytes} {w : Walk} (
     part-room = omega (arith, A .low, deep-less, entries-deep (A .standing .entries))
 
     module _ {r : Walk}
-        (F : (x : State) (f : Frame) (s : Selector) → WalkAt plan w x → x .path ≡ [] → Part (x .selector) i f s → StepsTo plan (state s (f ∷ x .frames) []) w r) where
+        (F : (x : State) (f : Frame) (s : Selector) → WalkAt plan w x → x .path ≡ [] → Part (x .selector) i f s → StepsTo plan
+        (state s (f ∷ x .frames) []) w r) where
       part-is : (f : Frame) × (s : Selector) × Part (A .state .selector) i f s
       part-is = part-exists σ (A .state) i M h
 
@@ -416,7 +431,8 @@ module _ {v : Edition} {lay : Bytes} {n t : ℕ} {rec plan : Bytes} {w : Walk} (
       part-falls = stepped .falls
 
       pub part-emits : {out : Bytes} {k e : ℕ} {new : Bytes}
-          → ((B : EmitAt v lay n t rec plan r) → Emits out k (encodeValue (stateValue (B .row .values .values) (B .state))) e new) → Emits out k (encodeValue (valueAt all i)) e new
+          → ((B : EmitAt v lay n t rec plan r) → Emits out k (encodeValue (stateValue (B .row .values .values) (B .state))) e new) → Emits out k
+          (encodeValue (valueAt all i)) e new
       part-emits {out} {k} {e} {new} f = subst (λ (u : Value). Emits out k (encodeValue u) e new) same
           (f (record {
             row = A .row;

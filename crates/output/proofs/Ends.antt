@@ -17,13 +17,13 @@ use Rattle.plan.specs.Selector.{Selector, position, constant, structMapping, li
 use Rattle.plan.specs.Reach.{parts}
 use Rattle.plan.specs.Run.{valueAt, castLeaf, mapValues}
 use Rattle.plan.proofs.Preserve.{count-mapped}
-use Rattle.walk.specs.State.{Frame, fields, element, State, state}
-use Rattle.walk.specs.Moves.{Moves}
-use Rattle.walk.specs.Values.{opened, given, givens, valueNode, overElement, within, stateValue}
-use Rattle.nodes.specs.Raw.{partsOf}
+use Rattle.walk.specs.code.State.{Frame, fields, element, State, state}
+use Rattle.walk.specs.code.Moves.{Moves}
+use Rattle.walk.specs.code.Values.{opened, given, givens, valueNode, overElement, within, stateValue}
+use Rattle.nodes.specs.code.Raw.{partsOf}
 use Rattle.nodes.specs.declared.raw.Parts.{Parts}
-use Rattle.output.specs.Chain.{ends, goes, nextField, nextOut, castAll}
-use Rattle.output.specs.Output.{has}
+use Rattle.output.specs.code.Chain.{ends, goes, nextField, nextOut, castAll}
+use Rattle.output.specs.code.Output.{has}
 use Rattle.output.proofs.Within.{within-strict, moves-value, node-null}
 use Rattle.output.proofs.Chain.{converted}
 
@@ -165,7 +165,8 @@ opened-part k (vstruct vs) = refl
 opened-part k (vlist vs) = refl
 opened-part k (varray vs) = refl
 
-field-node : (ss : Selectors) (k : ℕ) (p : List ℕ) → ((vs : Values) → valueAt (givens vs ss) k ≡ vnull) → (v : Value) → valueNode (opened (λ vs. vstruct (givens vs ss)) v) (k ∷ p) ≡ vnull
+field-node : (ss : Selectors) (k : ℕ) (p : List ℕ) → ((vs : Values) → valueAt (givens vs ss) k ≡ vnull) → (v : Value) → valueNode
+    (opened (λ vs. vstruct (givens vs ss)) v) (k ∷ p) ≡ vnull
 unfolding opened valueNode
 field-node ss k p h vnull = refl
 field-node ss k p h (vnumber j n) = refl
@@ -176,14 +177,16 @@ field-node ss k p h (vlist vs) = ap (λ (x : Value). valueNode x p) (h vs) ∙ n
 field-node ss k p h (varray vs) = ap (λ (x : Value). valueNode x p) (h vs) ∙ node-null p
 
 module _ (ρ : Values) where
-  position-lost : (k : Position) (s : Selector) (i : ℕ) (E : List Frame) (p : List ℕ) → eqb (k .0) 0 ≡ false → stateValue ρ (state (position k) (element s i ∷ E) p) ≡ vnull
+  position-lost : (k : Position) (s : Selector) (i : ℕ) (E : List Frame) (p : List ℕ) → eqb (k .0) 0 ≡ false → stateValue ρ
+      (state (position k) (element s i ∷ E) p) ≡ vnull
   unfolding stateValue within given
   position-lost k s i E p z =
       (λ j. within ρ E (λ σ. opened (λ vs. single-null (k .0) p z vs i j) (given σ s)))
       ∙ (λ j. within ρ E (λ σ. opened-null (given σ s) j)) ∙ within-null ρ E
 
   -- a position that an element does not have
-  pub position-null : (k : Position) (f : Frame) (E : List Frame) (p : List ℕ) → nextOut (k .0) (f ∷ E) p ≡ ends → stateValue ρ (state (position k) (f ∷ E) p) ≡ vnull
+  pub position-null : (k : Position) (f : Frame) (E : List Frame) (p : List ℕ) → nextOut (k .0) (f ∷ E) p ≡ ends → stateValue ρ
+      (state (position k) (f ∷ E) p) ≡ vnull
   unfolding nextOut
   position-null k (fields s) E p e = clash (cc)
   position-null k (element s i) E p e = go (eqb (k .0) 0) refl e
@@ -193,13 +196,15 @@ module _ (ρ : Values) where
       go false z e = position-lost k s i E p z
 
   -- a field that a mapping does not have
-  pub field-null : (s : Selector) (ss : Selectors) (k : ℕ) (E : List Frame) (p : List ℕ) → nextField ss k (fields s ∷ E) p ≡ ends → stateValue ρ (state (structMapping s ss) E (k ∷ p)) ≡ vnull
+  pub field-null : (s : Selector) (ss : Selectors) (k : ℕ) (E : List Frame) (p : List ℕ) → nextField ss k (fields s ∷ E) p ≡ ends → stateValue ρ
+      (state (structMapping s ss) E (k ∷ p)) ≡ vnull
   unfolding stateValue given
   field-null s ss k E p e = (λ j. within ρ E (λ σ. field-node ss k p (lost-field ss k (fields s ∷ E) p e) (given σ s) j)) ∙ within-null ρ E
 
   -- ---- mappings, of their input's value
 
-  pub struct-value : (s : Selector) (ss : Selectors) (E : List Frame) → stateValue ρ (state (structMapping s ss) E []) ≡ opened (λ vs. vstruct (givens vs ss)) (stateValue ρ (state s E []))
+  pub struct-value : (s : Selector) (ss : Selectors) (E : List Frame) → stateValue ρ (state (structMapping s ss) E []) ≡ opened
+      (λ vs. vstruct (givens vs ss)) (stateValue ρ (state s E []))
   unfolding stateValue given valueNode opened
   struct-value s ss E = within-strict (opened (λ vs. vstruct (givens vs ss))) refl ρ E (λ σ. given σ s)
 
@@ -215,11 +220,13 @@ module _ (ρ : Values) where
 
   -- ---- a constant, if it is run
 
-  pub constant-value : (n : Bytes) (t : DataType) (v : Value) (E : List Frame) (p : List ℕ) → stateValue ρ (state (constant n t v) E p) ≡ within ρ E (λ σ. valueNode v p)
+  pub constant-value : (n : Bytes) (t : DataType) (v : Value) (E : List Frame) (p : List ℕ) → stateValue ρ (state (constant n t v) E p) ≡ within ρ E
+      (λ σ. valueNode v p)
   unfolding stateValue given
   constant-value n t v E p = refl
 
-  pub run-fields : (s : Selector) (E : List Frame) (u : Value) → within ρ (fields s ∷ E) (λ σ. u) ≡ choose (has 0 (partsOf (stateValue ρ (state s E [])))) u vnull
+  pub run-fields : (s : Selector) (E : List Frame) (u : Value) → within ρ (fields s ∷ E) (λ σ. u) ≡ choose
+      (has 0 (partsOf (stateValue ρ (state s E [])))) u vnull
   unfolding within stateValue valueNode
   run-fields s E u = within-strict (opened (λ vs. u)) (opened-of-null (λ vs. u)) ρ E (λ σ. given σ s) ∙ opened-runs u (within ρ E (λ σ. given σ s))
 
@@ -232,6 +239,8 @@ module _ (ρ : Values) where
 
   -- ---- a part
 
-  pub part-value : (s : Selector) (E : List Frame) (k : ℕ) {y : State} → Moves (state s E (k ∷ [])) y → stateValue ρ y ≡ valueAt (parts (stateValue ρ (state s E []))) k
+  pub part-value : (s : Selector) (E : List Frame) (k : ℕ) {y : State} → Moves (state s E (k ∷ [])) y → stateValue ρ y ≡ valueAt
+      (parts (stateValue ρ (state s E []))) k
   unfolding stateValue valueNode
-  part-value s E k m = sym (moves-value ρ m) ∙ within-strict (opened (λ vs. valueAt vs k)) (opened-of-null (λ vs. valueAt vs k)) ρ E (λ σ. given σ s) ∙ opened-part k (within ρ E (λ σ. given σ s))
+  part-value s E k m = sym (moves-value ρ m) ∙ within-strict (opened (λ vs. valueAt vs k)) (opened-of-null (λ vs. valueAt vs k)) ρ E (λ σ. given σ s) ∙
+      opened-part k (within ρ E (λ σ. given σ s))

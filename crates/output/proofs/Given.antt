@@ -6,10 +6,10 @@ use Rattle.layout.specs.Tree.{DataType, struct, list, array, Fields}
 use Rattle.values.specs.Value.{Value, Values, vlist, varray, vstruct, vnil, vcons}
 use Rattle.plan.specs.Selector.{Selector, Selectors}
 use Rattle.plan.specs.Run.{castValue, mapValues, onStruct, onList, onArray, eval, evals}
-use Rattle.plan.specs.Fits.{FitsOver, over-null, over-struct, over-list, over-array, FitsAllOver, FitsEachOver, over-none, over-more}
+use Rattle.plan.specs.code.Fits.{FitsOver, over-null, over-struct, over-list, over-array, FitsAllOver, FitsEachOver, over-none, over-more}
 use Rattle.plan.proofs.Typed.{Typed, t-position, t-constant, t-cast, t-rename, t-struct, t-list, t-array, TypedAll, t-nil, t-cons}
 use Rattle.plan.proofs.Preserve.{eval-over, only}
-use Rattle.walk.specs.Values.{opened, given, givens}
+use Rattle.walk.specs.code.Values.{opened, given, givens}
 
 struct-given : {fs : Fields} {v : Value} (f g : Values → Values) → ((vs : Values) → FitsAllOver fs vs → f vs ≡ g vs) → FitsOver (struct fs) v
     → onStruct f v ≡ opened (λ vs. vstruct (g vs)) v

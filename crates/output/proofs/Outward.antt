@@ -8,16 +8,16 @@ use lib.Seq.{slice-empty}
 use Rattle.layout.specs.Bytes.{Bytes}
 use Rattle.layout.specs.Parser.{choose}
 use Rattle.values.specs.Value.{Value, vnull, Values}
-use Rattle.walk.specs.State.{Frame, fields, element, State, state}
-use Rattle.walk.specs.Stands.{SelectorAt}
-use Rattle.walk.specs.Standing.{Entered, e-fields, e-list, e-array, Entries, e-none, e-more, WalkAt, StepsTo, rank}
-use Rattle.walk.specs.Values.{within, stateValue}
+use Rattle.walk.specs.code.State.{Frame, fields, element, State, state}
+use Rattle.walk.specs.code.Stands.{SelectorAt}
+use Rattle.walk.specs.code.Walks.{Entered, e-fields, e-list, e-array, Entries, e-none, e-more, WalkAt, StepsTo, rank}
+use Rattle.walk.specs.code.Values.{within, stateValue}
 use Rattle.walk.specs.declared.walk.Walk.{Walk}
 use Rattle.walk.proofs.View.{selector-longer}
-use Rattle.walk.proofs.Standing.{innermost, some-inner, walk-starts}
-use Rattle.nodes.specs.Raw.{partsOf}
-use Rattle.output.specs.Output.{has}
-use Rattle.output.specs.Answers.{inputOf, leastOf}
+use Rattle.walk.proofs.Walks.{innermost, some-inner, walk-starts}
+use Rattle.nodes.specs.code.Raw.{partsOf}
+use Rattle.output.specs.code.Output.{has}
+use Rattle.output.specs.code.Answers.{inputOf, leastOf}
 use Rattle.output.proofs.Ends.{run-fields, run-element}
 
 -- the input of an entered mapping
@@ -94,7 +94,8 @@ module _ {plan : Bytes} {w : Walk} {x : State} (W : WalkAt plan w x) where
     least-of-element h = least-element (innermost e (W .entries) .entered) h
 
 -- what is inside is run where the input has the part
-pub run-frame : (ρ : Values) (f : Frame) (E : List Frame) (u : Value) → within ρ (f ∷ E) (λ σ. u) ≡ choose (has (leastOf f) (partsOf (stateValue ρ (state (inputOf f) E [])))) u vnull
+pub run-frame : (ρ : Values) (f : Frame) (E : List Frame) (u : Value) → within ρ (f ∷ E) (λ σ. u) ≡ choose
+    (has (leastOf f) (partsOf (stateValue ρ (state (inputOf f) E [])))) u vnull
 unfolding leastOf inputOf
 run-frame ρ (fields s) E u = run-fields ρ s E u
 run-frame ρ (element s i) E u = run-element ρ s i E u

@@ -12,8 +12,8 @@ use Rattle.layout.specs.Bytes.{Bytes}
 use Rattle.layout.specs.Parser.{choose}
 use Rattle.layout.specs.Tree.{DataType, leaf, struct, list, array, ColumnType, dtypeOf}
 use Rattle.layout.specs.Layout.{kind, type}
-use Rattle.layout.specs.Answers.{headRes}
-use Rattle.layout.specs.Stands.{TypeAt}
+use Rattle.layout.specs.code.Answers.{headRes}
+use Rattle.layout.specs.code.Stands.{TypeAt}
 use Rattle.layout.specs.declared.columns.Siblings.the-variants.{Free}
 use Rattle.layout.specs.declared.cursor.Cursor.{Cursor}
 use Rattle.layout.specs.declared.types.Head.{Head}
@@ -25,14 +25,15 @@ use Rattle.layout.proofs.Ways.{clash}
 use Rattle.layout.proofs.View.{leaf-at}
 use Rattle.rules.specs.declared.outcome.CastOption.{CastOption}
 use Rattle.plan.specs.Selector.{Selector, position, constant, cast, rename, structMapping, listMapping, arrayMapping, Selectors, snil, scons, countSelectors}
-use Rattle.walk.specs.State.{Frame, fields, State, state}
-use Rattle.walk.specs.Moves.{Moves, Stopped, s-column, s-constant, s-cast, s-rename, s-struct, s-list, s-array, s-no-element, s-no-field, Input, i-cast, i-rename}
-use Rattle.walk.specs.Standing.{WalkAt, Located, StepsTo, rank}
+use Rattle.walk.specs.code.State.{Frame, fields, State, state}
+use Rattle.walk.specs.code.Moves.{Moves, Stopped, s-column, s-constant, s-cast, s-rename, s-struct, s-list, s-array, s-no-element, s-no-field, Input, i-cast}
+use Rattle.walk.specs.code.Moves.{i-rename}
+use Rattle.walk.specs.code.Walks.{WalkAt, Located, StepsTo, rank}
 use Rattle.walk.specs.declared.walk.Walk.{Walk}
-use Rattle.walk.proofs.Standing.{rank-below}
-use Rattle.output.specs.Chain.{ends, goes, casts, nextField, nextOut, nextCast, nextPart, nextElement, nextOf, next, Passed, p-here, p-goes, p-casts}
-use Rattle.output.specs.Chain.{Kept}
-use Rattle.output.specs.Answers.{castPass, GoesOn, CastsOn, passAnswer, PassIs, OnwardTo, OriginIs}
+use Rattle.walk.proofs.Walks.{rank-below}
+use Rattle.output.specs.code.Chain.{ends, goes, casts, nextField, nextOut, nextCast, nextPart, nextElement, nextOf, next, Passed, p-here, p-goes, p-casts}
+use Rattle.output.specs.code.Chain.{Kept}
+use Rattle.output.specs.code.Answers.{castPass, GoesOn, CastsOn, passAnswer, PassIs, OnwardTo, OriginIs}
 use Rattle.output.specs.declared.casts.Pass.{Pass}
 use Rattle.output.proofs.Chain.{moves-passed, passed-on, passed-moves}
 use Rattle.layout.proofs.Leaves.{leaf-of-type}
@@ -64,7 +65,8 @@ module _ {v : Edition} {s : Bytes} {at : ℕ} (T : TypeAt v 16 s at) where
   type-array h q = goes-nested (dtypeOf (T .tree)) (array-nested T h q)
 
 -- the answer at the type's place under another name
-pub type-as : {v : Edition} {s : Bytes} {at to : ℕ} (T : TypeAt v 16 s at) {r : Pass} → to ≡ at → ((U : TypeAt v 16 s to) → r ≡ castPass (dtypeOf (U .tree))) → r ≡ castPass (dtypeOf (T .tree))
+pub type-as : {v : Edition} {s : Bytes} {at to : ℕ} (T : TypeAt v 16 s at) {r : Pass} → to ≡ at →
+    ((U : TypeAt v 16 s to) → r ≡ castPass (dtypeOf (U .tree))) → r ≡ castPass (dtypeOf (T .tree))
 type-as {v} {s} T e f = f (record { tree = T .tree; end = T .end; reads = ap (λ (i : ℕ). type v Free 16 s i) e ∙ T .reads })
 
 -- ---- what a walk does next, by its selector
@@ -118,7 +120,14 @@ module _ (x : State) {s : Selector} (e : s ≡ x .selector) where
   pub pass-rename : {i : Selector} {n : Bytes} → s ≡ rename i n → PassIs x Pass.Goes
   unfolding nextOf
   pass-rename {i} f =
-      record { answer = record { input = i; is = input-of (subst (λ (r : Selector). Input r i) (sym f) i-rename); next = next-of ∙ ap (λ (r : Selector). nextOf r (x .frames) (x .path)) f } }
+      record {
+        answer = record {
+          input = i;
+          is = input-of (subst (λ (r : Selector). Input r i) (sym f) i-rename);
+          next = next-of ∙ ap
+              (λ (r : Selector). nextOf r (x .frames) (x .path)) f;
+        };
+      }
 
   module _ {i : Selector} {t : DataType} {o : CastOption} (f : s ≡ cast i t o) where
     is-input : Input (x .selector) i
@@ -130,7 +139,14 @@ module _ (x : State) {s : Selector} (e : s ≡ x .selector) where
 
     pub pass-below : {k : ℕ} {p : List ℕ} → x .path ≡ k ∷ p → PassIs x Pass.Goes
     pass-below {k} {p} g =
-        record { answer = record { input = i; is = is-input; next = cast-next ∙ ap (λ (q : List ℕ). nextCast t (state i (x .frames) (x .path)) q) g ∙ below t (state i (x .frames) (x .path)) k p } }
+        record {
+          answer = record {
+            input = i;
+            is = is-input;
+            next = cast-next ∙ ap (λ (q : List ℕ). nextCast t (state i (x .frames) (x .path)) q) g ∙
+                below t (state i (x .frames) (x .path)) k p;
+          };
+        }
 
     pub pass-at-end : x .path ≡ [] → {r : Pass} → r ≡ castPass t → PassIs x r
     unfolding nextCast
@@ -157,7 +173,8 @@ module _ {x : State} {r : Pass} (N : PassIs x r) where
   pub is-casts : {k : Leaf} → r ≡ Pass.Casts k → CastsOn x k
   is-casts e = opened e
 
-pub onward-to : {plan : Bytes} {x : State} {s : Selector} {w i r : Walk} → StepsTo plan (state s (x .frames) (x .path)) w i → Located plan (state s (x .frames) (x .path)) i r → OnwardTo plan x s w r
+pub onward-to : {plan : Bytes} {x : State} {s : Selector} {w i r : Walk} → StepsTo plan (state s (x .frames) (x .path)) w i → Located plan
+    (state s (x .frames) (x .path)) i r → OnwardTo plan x s w r
 onward-to T L = record { state = L .state; standing = L .standing; moves = L .moves; stopped = L .stopped; falls = omega (arith, L .falls, T .falls) }
 
 -- ---- the loop of `find_origin`
@@ -211,7 +228,8 @@ module _ {plan : Bytes} {x : State} {w₀ : Walk} {n : ℕ} {w : Walk} (P : Pass
 pub passing-small : {plan : Bytes} {x : State} {w₀ : Walk} {n : ℕ} {w : Walk} → Passing plan x w₀ n w → WalkAt plan w₀ x → n < 18446744073709551615
 passing-small P W = omega (arith, P .falls, rank-below W)
 
-pub passing-origin : {plan : Bytes} {x : State} {w w₀ : Walk} {n : ℕ} {r : Walk} (L : Located plan x w w₀) (P : Passing plan (L .state) w₀ n r) → next (P .state) ≡ ends
+pub passing-origin : {plan : Bytes} {x : State} {w w₀ : Walk} {n : ℕ} {r : Walk} (L : Located plan x w w₀) (P : Passing plan (L .state) w₀ n r) → next
+    (P .state) ≡ ends
     → OriginIs plan x w (record { casts = n; walk = r })
 passing-origin L P e = record {
   kinds = P .kinds;
@@ -299,7 +317,11 @@ module _ {z : State} {ks : List Leaf} {i n : ℕ} {y : State} (A : Ahead z ks i 
 -- One kind more, at its place; where it is not among the last 1,024, what it takes the place of is not either.
 kept-more : {ks : List Leaf} {i left : ℕ} {kinds : List Leaf} {kind : Leaf} → Kept ks i (left + 1) kinds → kind ≡ getD ks (i - 1 - left) Null
     → Kept ks i left (set kinds (left % 1024) kind)
-kept-more {ks} {i} {left} {kinds} {kind} K e = record { room = length-set kinds (left % 1024) kind ∙ K .room; right = λ m a b c. go m a b c (ℕ-discrete m left) }
+kept-more {ks} {i} {left} {kinds} {kind} K e = record {
+  room = length-set kinds (left % 1024) kind ∙ K .room;
+  right = λ m a b c. go m a b c
+      (ℕ-discrete m left);
+}
   where
     go : (m : ℕ) → left ≤ m → m < i → m < 1024 → Dec (m ≡ left) → getD (set kinds (left % 1024) kind) m Null ≡ getD ks (i - 1 - m) Null
     go m a b c (yes q) =

@@ -6,7 +6,7 @@ use native.Mathlib.Omega.{arith}
 use Rattle.layout.specs.Bytes.{Bytes, sameBytes}
 use Rattle.layout.specs.Parser.{ok, next, choose, byte, chunk, u16}
 use Rattle.layout.specs.Tree.{string, leaf, Columns, cleaf, cnil, ccons, Fields, fnil, fcons, dtypeOf, fieldsOf, integer}
-use Rattle.layout.specs.Layout.{text, leafKind, kindOf, kind, fieldId, fieldMark, labelRest, label, repeatsAny, columns, body, type, deepest}
+use Rattle.layout.specs.Layout.{text, leafHead, kindOf, kind, fieldId, fieldMark, labelRest, label, repeatsAny, columns, body, type, deepest}
 use Rattle.layout.specs.declared.leaf.Leaf.{Leaf}
 use Rattle.layout.specs.declared.edition.Edition.the-variants.{One}
 use Rattle.layout.specs.declared.columns.Siblings.the-variants.{Free}
@@ -29,7 +29,7 @@ use Rattle.plan.specs.Read.{dataType, castOption, knownOption, selectors, posit
 use Rattle.plan.specs.Check.{columnAt, castFits, withinLimits, resulting, checkCast, typeOf, topTypes, against, check}
 use Rattle.plan.specs.Convert.{convertAs, convert}
 use Rattle.plan.specs.Run.{valueAt, castLeaf, castValue, eval, evals, clean, cleanAll, spacious, written, run}
-use Rattle.output.specs.Answers.{OutputAt}
+use Rattle.output.specs.code.Answers.{OutputAt}
 use Rattle.numeric.specs.declared.integers.Integer.the-variants.{Int16, Int32}
 
 abbrev lay : Bytes
@@ -54,7 +54,7 @@ abbrev target : Fields
 target = fcons (0x74 ∷ []) (leaf (integer Int32)) (fcons (0x73 ∷ []) (leaf string) fnil)
 
 columns-read : columns One Free (type One Free deepest) 1 [] lay 7 ≡ ok incoming 10
-unfolding columns label labelRest text fieldId fieldMark repeatsAny type kind kindOf leafKind body byte chunk next choose
+unfolding columns label labelRest text fieldId fieldMark repeatsAny type kind kindOf leafHead body byte chunk next choose
 columns-read = refl
 
 values-read : values (fieldsOf incoming) rec 0 ≡ ok row 3
@@ -62,11 +62,13 @@ unfolding values fieldsOf dtypeOf nullable presence content leafContent contentB
 values-read = refl
 
 selectors-read : selectors (selector deepestSelector) 2 plan 7 ≡ ok ss 18
-unfolding selectors selector selectorRest positionRest constantRest castRest dataType castOption knownOption type kind kindOf leafKind body dtypeOf text value nullable presence content byte chunk u16 next choose
+unfolding selectors selector selectorRest positionRest constantRest castRest dataType castOption knownOption type kind kindOf leafHead body dtypeOf text
+    value nullable presence content byte chunk u16 next choose
 selectors-read = refl
 
 passes : check (fieldsOf incoming) target ss ≡ accepted tt
-unfolding fieldsOf dtypeOf check topTypes typeOf columnAt _>>=_ checkCast castFits castPasses pairRule chain paramsOf zonesOf readZone isUtc sameBytes demand resulting withinLimits depthOf form leafForm carried kindForm textBytes u16Bytes placed answered against equalFields equalTypes
+unfolding fieldsOf dtypeOf check topTypes typeOf columnAt _>>=_ checkCast castFits castPasses pairRule chain paramsOf zonesOf readZone isUtc sameBytes
+    demand resulting withinLimits depthOf form leafForm carried kindForm textBytes u16Bytes placed answered against equalFields equalTypes
 passes = refl
 
 is-clean : cleanAll (evals row ss) ≡ true
@@ -89,5 +91,6 @@ output-stands = record {
 
 -- -2 in four bytes, and a null
 pub output-runs : run row ss 6 ≡ accepted (1 ∷ 0xFE ∷ 0xFF ∷ 0xFF ∷ 0xFF ∷ 0 ∷ [])
-unfolding run written spacious evals eval valueAt castValue castLeaf convert convertAs widened numberOf signed pattern cleanAll clean encodeValues encodeValue littleBytes demand placed
+unfolding run written spacious evals eval valueAt castValue castLeaf convert convertAs widened numberOf signed pattern cleanAll clean encodeValues
+    encodeValue littleBytes demand placed
 output-runs = refl

@@ -17,30 +17,32 @@ use Rattle.values.specs.Value.{Value, vnull, Values}
 use Rattle.values.specs.Reading.{value}
 use Rattle.plan.specs.Selector.{Selector, position, constant, cast, rename, structMapping, listMapping, arrayMapping, Selectors}
 use Rattle.plan.specs.Run.{valueAt}
-use Rattle.walk.specs.State.{Frame, State, state}
-use Rattle.walk.specs.Stands.{SelectorAt}
-use Rattle.walk.specs.Parts.{StructAt, CountedIs}
-use Rattle.walk.specs.Standing.{WalkAt}
-use Rattle.walk.specs.Values.{valueNode, within, given, stateValue}
+use Rattle.walk.specs.code.State.{Frame, State, state}
+use Rattle.walk.specs.code.Stands.{SelectorAt}
+use Rattle.walk.specs.code.Parts.{StructAt, CountedIs}
+use Rattle.walk.specs.code.Walks.{WalkAt}
+use Rattle.walk.specs.code.Values.{valueNode, within, given, stateValue}
 use Rattle.walk.specs.declared.head.StructFields.{StructFields}
 use Rattle.walk.specs.declared.walk.Walk.{Walk}
 use Rattle.walk.proofs.View.{selectors-counted}
-use Rattle.walk.proofs.Standing.{some-inner, top-frames, path-some, path-none}
-use Rattle.nodes.specs.Raw.{NodeIs, NodeOf}
+use Rattle.walk.proofs.Walks.{some-inner, top-frames, path-some, path-none}
+use Rattle.nodes.specs.code.Raw.{NodeIs, NodeOf}
 use Rattle.nodes.specs.declared.raw.NodeAt.{NodeAt}
 use Rattle.nodes.proofs.Node.{node-as}
-use Rattle.output.specs.Chain.{ends, nextOut, nextCast, nextPart, nextElement, nextOf, next}
-use Rattle.output.specs.Answers.{recordSource, constantSource, StructSource, ConstantIs, StructIs, ListIs, ArrayIs, sourceAnswer, SourceIs}
+use Rattle.output.specs.code.Chain.{ends, nextOut, nextCast, nextPart, nextElement, nextOf, next}
+use Rattle.output.specs.code.Answers.{recordSource, constantSource, StructSource, ConstantIs, StructIs, ListIs, ArrayIs, sourceAnswer, SourceIs}
 use Rattle.output.specs.declared.source.Source.{Source}
 use Rattle.output.proofs.Within.{node-null}
 use Rattle.output.proofs.Ends.{within-null, position-null, field-null}
 
 -- ---- the nodes
 
-pub null-node : {v : Edition} {lay rec : Bytes} {x : Value} {r : NodeAt} → NodeOf v lay rec x r → r ≡ NodeAt.Null → (p : List ℕ) → NodeOf v lay rec (valueNode x p) NodeAt.Null
+pub null-node : {v : Edition} {lay rec : Bytes} {x : Value} {r : NodeAt} → NodeOf v lay rec x r → r ≡ NodeAt.Null → (p : List ℕ) → NodeOf v lay rec
+    (valueNode x p) NodeAt.Null
 null-node N e p = record { none = λ q. ap (λ (y : Value). valueNode y p) (N .none e) ∙ node-null p; here = λ t c q. clash (cc) }
 
-pub node-valued : {v : Edition} {lay rec : Bytes} {x y : Value} → x ≡ y → (p : List ℕ) {r : NodeAt} → NodeOf v lay rec (valueNode x p) r → NodeOf v lay rec (valueNode y p) r
+pub node-valued : {v : Edition} {lay rec : Bytes} {x y : Value} → x ≡ y → (p : List ℕ) {r : NodeAt} → NodeOf v lay rec (valueNode x p) r → NodeOf v lay
+    rec (valueNode y p) r
 node-valued e p N = node-as (ap (λ (z : Value). valueNode z p) e) N
 
 module _ {plan : Bytes} {w : Walk} {P : SelectorAt plan (w .at)} {m : ℕ} (A : StructAt plan (w .at) P m) where
@@ -50,7 +52,13 @@ module _ {plan : Bytes} {w : Walk} {P : SelectorAt plan (w .at)} {m : ℕ} (A : 
   pub struct-ended : w .len ≤ w .deep → {f : StructFields} → CountedIs plan (A .input .end) (A .fields) f → StructSource plan w P (Source.Struct (f .count))
   struct-ended h {f} C = record {
     below = λ i. absurd (omega arith);
-    ended = λ i. (A .input .tree, A .fields .selectors .trees, A .is, ap Source.Struct (C .count ∙ sym (selectors-counted (A .fields .count) (A .fields .selectors))));
+    ended = λ i. (
+      A .input .tree,
+      A .fields .selectors .trees,
+      A .is,
+      ap Source.Struct
+          (C .count ∙ sym (selectors-counted (A .fields .count) (A .fields .selectors))),
+    );
   }
 
 -- ---- where a walk does not end
@@ -122,7 +130,8 @@ module _ {plan : Bytes} {w : Walk} {x : State} (W : WalkAt plan w x) where
           go NodeAt.Null N = record { answer = is ∙ ap (λ (y : Value). within ρ (x .frames) (λ σ. y)) (N .none refl) ∙ within-null ρ (x .frames) }
           go (NodeAt.At t c) N = record { answer = record { value = valueNode u (x .path); node = N .here t c refl; is = is } }
 
-      pub source-struct : {r : Source} → StructSource plan w (W .here) r → {s : Selector} {ss : Selectors} → W .here .tree ≡ structMapping s ss → next x ≡ ends → SourceIs ρ v lay rec plan x r
+      pub source-struct : {r : Source} → StructSource plan w (W .here) r → {s : Selector} {ss : Selectors} → W .here .tree ≡ structMapping s ss → next x
+          ≡ ends → SourceIs ρ v lay rec plan x r
       unfolding nextOf nextPart
       source-struct {r} S {s} {ss} e h = go (decLt (w .deep) (w .len))
         where
@@ -130,7 +139,10 @@ module _ {plan : Bytes} {w : Walk} {x : State} (W : WalkAt plan w x) where
           go (yes l) =
               let g = path-some W l in
               subst (λ (r : Source). SourceIs ρ v lay rec plan x r) (sym (S .below l))
-              (record { answer = value-by e refl g ∙ field-null ρ s ss _ (x .frames) _ (ap (λ (p : List ℕ). nextPart s ss (x .frames) p) (sym g) ∙ next-by e h) })
+              (record {
+                answer = value-by e refl g ∙ field-null ρ s ss _ (x .frames) _
+                    (ap (λ (p : List ℕ). nextPart s ss (x .frames) p) (sym g) ∙ next-by e h);
+              })
           go (no l) =
               let i : w .len ≤ w .deep = omega arith in
               let (a, b, f, g) = S .ended i in
@@ -139,11 +151,27 @@ module _ {plan : Bytes} {w : Walk} {x : State} (W : WalkAt plan w x) where
 
       pub source-list : {s e : Selector} → W .here .tree ≡ listMapping s e → next x ≡ ends → SourceIs ρ v lay rec plan x Source.List
       unfolding nextOf
-      source-list {s} {e} f h = record { answer = record { input = s; element = e; selector = selected f; path = element-ends s e (x .frames) (x .path) (next-by f h) } }
+      source-list {s} {e} f h = record {
+        answer = record {
+          input = s;
+          element = e;
+          selector = selected f;
+          path = element-ends s e (x .frames) (x .path)
+              (next-by f h);
+        };
+      }
 
       pub source-array : {s e : Selector} → W .here .tree ≡ arrayMapping s e → next x ≡ ends → SourceIs ρ v lay rec plan x Source.Array
       unfolding nextOf
-      source-array {s} {e} f h = record { answer = record { input = s; element = e; selector = selected f; path = element-ends s e (x .frames) (x .path) (next-by f h) } }
+      source-array {s} {e} f h = record {
+        answer = record {
+          input = s;
+          element = e;
+          selector = selected f;
+          path = element-ends s e (x .frames) (x .path)
+              (next-by f h);
+        };
+      }
 
 -- ---- opening an answer
 

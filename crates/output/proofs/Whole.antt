@@ -26,21 +26,22 @@ use Rattle.plan.specs.Selector.{Selector, Selectors}
 use Rattle.plan.specs.Read.{longestPlan, deepestSelector, selector, selectors as selectorsOf}
 use Rattle.plan.specs.Result.{Answer}
 use Rattle.plan.specs.Run.{valueAt, eval, evals, clean, cleanAll, spacious, run}
-use Rattle.plan.specs.Fits.{FitsOver, over-null, over-number, over-text, over-datetime, over-struct, over-list, over-array, FitsAllOver, over-nil, over-cons, FitsEachOver, over-none, over-more}
+use Rattle.plan.specs.code.Fits.{FitsOver, over-null, over-number, over-text, over-datetime, over-struct, over-list, over-array, FitsAllOver, over-nil}
+use Rattle.plan.specs.code.Fits.{over-cons, FitsEachOver, over-none, over-more}
 use Rattle.plan.proofs.Typed.{TypedAll, passed→typed}
 use Rattle.plan.proofs.Over.{all-over}
 use Rattle.plan.proofs.Preserve.{evals-over}
 use Rattle.plan.proofs.ReadBack.{selector-back, selectors-read}
 use Rattle.plan.proofs.Theorems.{run-writes, run-exceeds}
-use Rattle.walk.specs.State.{state}
-use Rattle.walk.specs.Stands.{SelectorAt, SelectorsAt}
-use Rattle.walk.specs.Standing.{WalkAt}
-use Rattle.walk.specs.Values.{given, givens, within, valueNode, stateValue}
+use Rattle.walk.specs.code.State.{state}
+use Rattle.walk.specs.code.Stands.{SelectorAt, SelectorsAt}
+use Rattle.walk.specs.code.Walks.{WalkAt}
+use Rattle.walk.specs.code.Values.{given, givens, within, valueNode, stateValue}
 use Rattle.walk.specs.declared.walk.Walk.{Walk}
 use Rattle.walk.proofs.View.{FirstAt, first-at, selectors-counted}
-use Rattle.output.specs.Output.{Emits, levels, levelsAll}
+use Rattle.output.specs.code.Output.{Emits, levels, levelsAll}
 use Rattle.plan.specs.Calls.{bufferAfter}
-use Rattle.output.specs.Answers.{size, EmitAt, EmitTopAt, EmitAllAt, OutputAt, HandedOver, writtenOf}
+use Rattle.output.specs.code.Answers.{size, EmitAt, EmitTopAt, EmitAllAt, OutputAt, HandedOver, writtenOf}
 use Rattle.output.specs.declared.write.Written.{Written}
 use Rattle.output.proofs.Given.{evals-given}
 use Rattle.output.proofs.Ends.{count-givens}
@@ -170,7 +171,8 @@ module _ {v : Edition} {lay : Bytes} {n t : ℕ} {rec plan : Bytes} {count first
           later : (j : ℕ) → i + 1 + j ≡ i + suc j
           later j = omega arith
 
-          moved : e ≡ next .head .end → count - i - 1 ≡ count - (i + 1) → selectorsOf (selector deepestSelector) (count - (i + 1)) plan e ≡ ok (next .tail .trees) (next .tail .end)
+          moved : e ≡ next .head .end → count - i - 1 ≡ count - (i + 1) → selectorsOf (selector deepestSelector) (count - (i + 1)) plan e ≡ ok
+              (next .tail .trees) (next .tail .end)
           moved d c =
               ap (λ (m : ℕ). selectorsOf (selector deepestSelector) m plan e) (sym c)
               ∙ ap (λ (m : ℕ). selectorsOf (selector deepestSelector) (count - i - 1) plan m) d ∙ next .tail .reads
@@ -227,7 +229,8 @@ length-take-most n s = simp length-take (omega arith)
 
 -- ---- what was written aside
 
-module _ (σ : Values) (ss : Selectors) (x : cleanAll (evals σ ss) ≡ true) {aside₀ : Bytes} (size : 16384 ≡ length aside₀) {len : ℕ} {aside : Bytes} (W : Emits aside₀ 0 (encodeValues (evals σ ss)) len aside) where
+module _ (σ : Values) (ss : Selectors) (x : cleanAll (evals σ ss) ≡ true) {aside₀ : Bytes} (size : 16384 ≡ length aside₀) {len : ℕ} {aside : Bytes}
+    (W : Emits aside₀ 0 (encodeValues (evals σ ss)) len aside) where
   -- 45
   refused : (out : Bytes) → spacious (length out) (encodeValues (evals σ ss)) ≡ false
       → (Written.TooLong ≡ writtenOf (run σ ss (length out))) × (out ≡ bufferAfter (run σ ss (length out)) out)
@@ -249,7 +252,8 @@ module _ (σ : Values) (ss : Selectors) (x : cleanAll (evals σ ss) ≡ true) {a
         ap (λ (m : ℕ). take m aside) length-is ∙ holds-front aside₀ (encodeValues (evals σ ss)) aside (omega (arith, length-is, size)) H
 
     pub aside-inside : len ≤ length aside
-    aside-inside = let z : length (take len aside) ≡ length (encodeValues (evals σ ss)) = ap length front-is in omega (arith, z, length-is, length-take-most len aside)
+    aside-inside = let z : length (take len aside) ≡ length (encodeValues (evals σ ss)) = ap length front-is in omega
+        (arith, z, length-is, length-take-most len aside)
 
     pub aside-fits : (out : Bytes) {new : Bytes} → len ≤ length out → new ≡ overlay out 0 (slice 0 len aside)
         → (Written.Written len ≡ writtenOf (run σ ss (length out))) × (new ≡ bufferAfter (run σ ss (length out)) out)
@@ -262,7 +266,8 @@ module _ (σ : Values) (ss : Selectors) (x : cleanAll (evals σ ss) ≡ true) {a
 
 -- ---- the output
 
-module _ {v : Edition} {lay : Bytes} {n t : ℕ} {rec plan : Bytes} {count first : ℕ} (A : OutputAt v lay n t rec plan count first) (ro : AllBytes rec) (po : AllBytes plan) where
+module _ {v : Edition} {lay : Bytes} {n t : ℕ} {rec plan : Bytes} {count first : ℕ} (A : OutputAt v lay n t rec plan count first) (ro : AllBytes rec)
+    (po : AllBytes plan) where
   abbrev σ : Values
   σ = A .row .values .values
 
@@ -293,7 +298,8 @@ module _ {v : Edition} {lay : Bytes} {n t : ℕ} {rec plan : Bytes} {count first
   output-asks = output-at
 
   module _ {aside₀ : Bytes} (size : 16384 ≡ length aside₀) {len : ℕ} {aside : Bytes}
-      (f : (B : EmitAllAt v lay n t rec plan count first) → Emits aside₀ 0 (encodeValues (evals (B .row .values .values) (B .selectors .trees))) len aside) where
+      (f : (B : EmitAllAt v lay n t rec plan count first) → Emits aside₀ 0 (encodeValues (evals (B .row .values .values) (B .selectors .trees))) len
+      aside) where
     pub output-inside : len ≤ 16384 → len ≤ length aside
     output-inside l = aside-inside σ ss (A .clean) size (f output-at) l
 

@@ -6,9 +6,9 @@ use Rattle.values.specs.Value.{Value, vnull, vnumber, vtext, voverflow, vstruct
 use Rattle.plan.specs.Selector.{Selector, Selectors}
 use Rattle.plan.specs.Reach.{SelectorAt as Nth, s-here, s-there}
 use Rattle.plan.specs.Run.{valueAt, mapValues}
-use Rattle.walk.specs.State.{Frame, fields, element, State}
-use Rattle.walk.specs.Moves.{Moves, m-here, m-rename, m-field, m-list, m-array, m-leave, m-leave-element}
-use Rattle.walk.specs.Values.{opened, given, givens, valueNode, overElement, within, stateValue}
+use Rattle.walk.specs.code.State.{Frame, fields, element, State}
+use Rattle.walk.specs.code.Moves.{Moves, m-here, m-rename, m-field, m-list, m-array, m-leave, m-leave-element}
+use Rattle.walk.specs.code.Values.{opened, given, givens, valueNode, overElement, within, stateValue}
 
 -- ---- what is strict
 
@@ -69,7 +69,8 @@ mapped-node f p (vcons v vs) zero g h = sym (h v)
 mapped-node f p (vcons v vs) (suc k) g h = mapped-node f p vs k g h
 
 list-node : (e : Selector) (k : ℕ) (p : List ℕ) (v : Value)
-    → valueNode (opened (λ vs. vlist (mapValues (λ v. given (vcons v vnil) e) vs)) v) (k ∷ p) ≡ opened (λ vs. overElement (λ us. valueNode (given us e) p) vs k) v
+    → valueNode (opened (λ vs. vlist (mapValues (λ v. given (vcons v vnil) e) vs)) v) (k ∷ p) ≡ opened
+    (λ vs. overElement (λ us. valueNode (given us e) p) vs k) v
 unfolding opened valueNode
 list-node e k p vnull = refl
 list-node e k p (vnumber l m) = refl
@@ -80,7 +81,8 @@ list-node e k p (vlist vs) = mapped-node _ p vs k (λ us. valueNode (given us e)
 list-node e k p (varray vs) = mapped-node _ p vs k (λ us. valueNode (given us e) p) (λ v. refl)
 
 array-node : (e : Selector) (k : ℕ) (p : List ℕ) (v : Value)
-    → valueNode (opened (λ vs. varray (mapValues (λ v. given (vcons v vnil) e) vs)) v) (k ∷ p) ≡ opened (λ vs. overElement (λ us. valueNode (given us e) p) vs k) v
+    → valueNode (opened (λ vs. varray (mapValues (λ v. given (vcons v vnil) e) vs)) v) (k ∷ p) ≡ opened
+    (λ vs. overElement (λ us. valueNode (given us e) p) vs k) v
 unfolding opened valueNode
 array-node e k p vnull = refl
 array-node e k p (vnumber l m) = refl

@@ -16,7 +16,7 @@ use Rattle.values.specs.Record.{longest}
 use Rattle.plan.specs.Run.{valueAt, clean, cleanAll}
 use Rattle.plan.specs.Reach.{parts}
 use Rattle.plan.proofs.Results.{true≠false, both}
-use Rattle.output.specs.Output.{Emits, levels, levelsAll}
+use Rattle.output.specs.code.Output.{Emits, levels, levelsAll}
 
 pub emits-exact : (out : Bytes) (k : ℕ) (b : Bytes) {r : ℕ} {new : Bytes} → r ≡ k + length b → new ≡ overlay out k b → Emits out k b r new
 emits-exact out k b e n = record { fits = λ h. (e, holds-exact out k b n); exceeds = λ h. omega arith }
@@ -84,13 +84,15 @@ pub front-more : (vs : Values) (i : ℕ) → i < countValues vs → encodeValues
 unfolding front countValues encodeValues valueAt
 front-more vnil i h = absurd (omega arith)
 front-more (vcons v vs) zero h = ap (λ (x : Bytes). encodeValue v ++ x) (front-none vs) ∙ append-nil (encodeValue v)
-front-more (vcons v vs) (suc i) h = ap (λ (x : Bytes). encodeValue v ++ x) (front-more vs i (omega arith)) ∙ sym (append-assoc (encodeValue v) (encodeValues (front vs i)) (encodeValue (valueAt vs i)))
+front-more (vcons v vs) (suc i) h = ap (λ (x : Bytes). encodeValue v ++ x) (front-more vs i (omega arith)) ∙ sym
+    (append-assoc (encodeValue v) (encodeValues (front vs i)) (encodeValue (valueAt vs i)))
 
 pub front-behind : (vs : Values) (i : ℕ) → encodeValues vs ≡ encodeValues (front vs i) ++ encodeValues (behind vs i)
 unfolding front behind encodeValues
 front-behind vnil i = refl
 front-behind (vcons v vs) zero = refl
-front-behind (vcons v vs) (suc i) = ap (λ (x : Bytes). encodeValue v ++ x) (front-behind vs i) ∙ sym (append-assoc (encodeValue v) (encodeValues (front vs i)) (encodeValues (behind vs i)))
+front-behind (vcons v vs) (suc i) = ap (λ (x : Bytes). encodeValue v ++ x) (front-behind vs i) ∙ sym
+    (append-assoc (encodeValue v) (encodeValues (front vs i)) (encodeValues (behind vs i)))
 
 -- ---- what is clean, and how deep
 
@@ -111,7 +113,8 @@ front-long vnil i c h = omega arith
 front-long (vcons v vs) zero c h = omega arith
 front-long (vcons v vs) (suc i) c h =
     let (a, b) = both (clean v) c in
-    let n : length (encodeValue v ++ encodeValues (front vs i)) ≡ length (encodeValue v) + length (encodeValues (front vs i)) = length-append (encodeValue v) (encodeValues (front vs i)) in
+    let n : length (encodeValue v ++ encodeValues (front vs i)) ≡ length (encodeValue v) + length (encodeValues (front vs i)) = length-append
+    (encodeValue v) (encodeValues (front vs i)) in
     omega (arith, n, clean-some v a, front-long vs i b (omega arith))
 
 pub clean-at : (vs : Values) (i : ℕ) → cleanAll vs ≡ true → clean (valueAt vs i) ≡ true

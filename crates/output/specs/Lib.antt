@@ -1,3 +1,1 @@
-pub mod Chain
-pub mod Output
-pub mod Answers
+pub mod code

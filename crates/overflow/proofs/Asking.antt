@@ -7,11 +7,11 @@ use lib.ListN.{length, getD}
 use Rattle.layout.specs.Bytes.{Bytes}
 use Rattle.layout.specs.Parser.{ok, next}
 use Rattle.layout.specs.Tree.{leaf, ColumnType, clist, carray, dtypeOf}
-use Rattle.layout.specs.Layout.{Kind, kind, type, body, listType, arrayType, deepest}
-use Rattle.layout.specs.Answers.{headRes}
-use Rattle.layout.specs.Stands.{TypeAt}
+use Rattle.layout.specs.Layout.{Head, kind, type, body, listType, arrayType, deepest}
+use Rattle.layout.specs.code.Answers.{headRes}
+use Rattle.layout.specs.code.Stands.{TypeAt}
 use Rattle.layout.specs.declared.cursor.Cursor.{Cursor}
-use Rattle.layout.specs.declared.types.Head.{Head}
+use Rattle.layout.specs.declared.types.Head.{Head as HeadSpan}
 use Rattle.layout.specs.declared.types.LeafType.{LeafType as LeafSpan}
 use Rattle.layout.specs.declared.columns.Siblings.the-variants.{Free}
 use Rattle.layout.specs.declared.edition.Edition.the-variants.{One}
@@ -19,14 +19,14 @@ use Rattle.layout.proofs.Ways.{clash}
 use Rattle.layout.proofs.View.{next-ok, leaf-at, struct-at}
 use Rattle.layout.proofs.Leaves.{leaf-of-type}
 use Rattle.values.specs.Reading.{value}
-use Rattle.nodes.specs.Raw.{RawAt}
-use Rattle.walk.specs.State.{Frame, State}
-use Rattle.walk.specs.Standing.{Entered, e-fields, e-list, e-array, WalkAt}
+use Rattle.nodes.specs.code.Raw.{RawAt}
+use Rattle.walk.specs.code.State.{Frame, State}
+use Rattle.walk.specs.code.Walks.{Entered, e-fields, e-list, e-array, WalkAt}
 use Rattle.walk.specs.declared.walk.Walk.{Walk}
-use Rattle.walk.proofs.Standing.{walk-starts, top-frames, some-inner, innermost}
+use Rattle.walk.proofs.Walks.{walk-starts, top-frames, some-inner, innermost}
 use Rattle.walk.proofs.View.{selector-longer}
-use Rattle.overflow.specs.Want.{timeOf}
-use Rattle.overflow.specs.Seek.{RawIn, ranStop, timeStop, castStop}
+use Rattle.overflow.specs.code.Want.{timeOf}
+use Rattle.overflow.specs.code.Seek.{RawIn, ranStop, timeStop, castStop}
 use Rattle.overflow.specs.declared.want.Timed.{Timed}
 use Rattle.overflow.specs.declared.want.Want.{Want}
 use Rattle.overflow.specs.declared.want.Want.the-variants.{Parts, Element}
@@ -51,21 +51,24 @@ raw-of {plan} X e = record {
 -- ---- a cast, by its type
 
 -- a type, after what it begins with
-behind : {s : Bytes} {t : ℕ} (T : TypeAt One deepest s t) {k : Kind} {m : ℕ} → kind s t ≡ ok k m → body One Free (type One Free 15) k s m ≡ ok (T .tree) (T .end)
+behind : {s : Bytes} {t : ℕ} (T : TypeAt One deepest s t) {k : Head} {m : ℕ} → kind s t ≡ ok k m → body One Free (type One Free 15) k s m ≡ ok (T .tree)
+    (T .end)
 unfolding type next
 behind T q = rw q at (T .reads)
 
-module _ {s : Bytes} {t : ℕ} (T : TypeAt One deepest s t) {p : Head} (e : headRes s p ≡ kind s t) (w : Want) where
-  pub cast-leaf : {l : LeafSpan} {b : Cursor} → p ≡ Head.Leaf l b → {q : Timed} {r : Stop} → q ≡ timeOf (l .leaf) → r ≡ timeStop q w → r ≡ castStop [] (dtypeOf (T .tree)) w
+module _ {s : Bytes} {t : ℕ} (T : TypeAt One deepest s t) {p : HeadSpan} (e : headRes s p ≡ kind s t) (w : Want) where
+  pub cast-leaf : {l : LeafSpan} {b : Cursor} → p ≡ HeadSpan.Leaf l b → {q : Timed} {r : Stop} → q ≡ timeOf (l .leaf) → r ≡ timeStop q w → r ≡ castStop
+      [] (dtypeOf (T .tree)) w
   unfolding castStop dtypeOf
   cast-leaf {l} f g h =
-      h ∙ ap (λ (q : Timed). timeStop q w) (g ∙ sym (ap timeOf (leaf-of-type (l .leaf) _))) ∙ sym (ap (λ (c : ColumnType). castStop [] (dtypeOf c) w) (leaf-at T e f .0))
+      h ∙ ap (λ (q : Timed). timeStop q w) (g ∙ sym (ap timeOf (leaf-of-type (l .leaf) _))) ∙ sym
+      (ap (λ (c : ColumnType). castStop [] (dtypeOf c) w) (leaf-at T e f .0))
 
-  pub cast-struct : {n : ℕ} {b : Cursor} → p ≡ Head.Struct n b → No ≡ castStop [] (dtypeOf (T .tree)) w
+  pub cast-struct : {n : ℕ} {b : Cursor} → p ≡ HeadSpan.Struct n b → No ≡ castStop [] (dtypeOf (T .tree)) w
   unfolding castStop dtypeOf
   cast-struct f = sym (ap (λ (c : ColumnType). castStop [] (dtypeOf c) w) (struct-at T e f .is))
 
-  pub cast-list : {b : Cursor} → p ≡ Head.List b → No ≡ castStop [] (dtypeOf (T .tree)) w
+  pub cast-list : {b : Cursor} → p ≡ HeadSpan.List b → No ≡ castStop [] (dtypeOf (T .tree)) w
   unfolding castStop dtypeOf body listType
   cast-list f =
       let (l, i, h₁, g₁) = next-ok _ _ (behind T (sym e ∙ ap (headRes s) f)) in
@@ -73,7 +76,7 @@ module _ {s : Bytes} {t : ℕ} (T : TypeAt One deepest s t) {p : Head} (e : head
       let z : T .tree ≡ clist l u = cc in
       sym (ap (λ (c : ColumnType). castStop [] (dtypeOf c) w) z)
 
-  pub cast-array : {n : ℕ} {b : Cursor} → p ≡ Head.Array n b → No ≡ castStop [] (dtypeOf (T .tree)) w
+  pub cast-array : {n : ℕ} {b : Cursor} → p ≡ HeadSpan.Array n b → No ≡ castStop [] (dtypeOf (T .tree)) w
   unfolding castStop dtypeOf body arrayType
   cast-array {n} f =
       let (l, i, h₁, g₁) = next-ok _ _ (behind T (sym e ∙ ap (headRes s) f)) in

@@ -28,8 +28,8 @@ use Rattle.values.specs.Value.{Value, vnumber}
 use Rattle.values.specs.Content.{patternsOf}
 use Rattle.plan.specs.Convert.{multiply, divide, keep, unitChange, counted, rescaled, convertAs, convert}
 use Rattle.plan.specs.Run.{castLeaf}
-use Rattle.plan.specs.Fits.{FitsOver, over-null, over-number, over-text, over-datetime}
-use Rattle.overflow.specs.Want.{bounds, outside, Small, boundsBefore, countBeyond, isBeyond}
+use Rattle.plan.specs.code.Fits.{FitsOver, over-null, over-number, over-text, over-datetime}
+use Rattle.overflow.specs.code.Want.{bounds, outside, Small, boundsBefore, countBeyond, isBeyond}
 use Rattle.overflow.specs.declared.want.Bounds.{Bounds}
 
 -- ---- bounds of counts
@@ -131,7 +131,8 @@ small-before Milliseconds Milliseconds s = s
 -- ---- a cast to a date-time of the unit c
 
 module _ (c u : TimeUnit) {d : Bounds} (s : Small d) where
-  datetime-cast : (r : TimeUnit) (n : ℕ) → isBeyond d u (rescaled (unitChange r c) (Datetime c) n) ≡ isBeyond (boundsBefore (unitChange c u) d) c (vnumber (Datetime r) n)
+  datetime-cast : (r : TimeUnit) (n : ℕ) → isBeyond d u (rescaled (unitChange r c) (Datetime c) n) ≡ isBeyond (boundsBefore (unitChange c u) d) c
+      (vnumber (Datetime r) n)
   unfolding isBeyond countBeyond counted
   datetime-cast r n = changed (small-before c u s) (Datetime c) n (λ v. isBeyond d u v) (λ m. refl) refl r c
 
@@ -150,6 +151,7 @@ module _ (c u : TimeUnit) {d : Bounds} (s : Small d) where
   leaf-cast k over-null = refl
   leaf-cast {l} k (over-number {n = n} e h t) =
       let g : n < patternsOf (leafOf l) = rw e h in
-      ap (λ (x : Leaf). isBeyond d u (convert x (Datetime c) n)) (sym e) ∙ number-cast k n g ∙ ap (λ (x : Leaf). isBeyond (boundsBefore (unitChange c u) d) c (vnumber x n)) e
+      ap (λ (x : Leaf). isBeyond d u (convert x (Datetime c) n)) (sym e) ∙ number-cast k n g ∙ ap
+      (λ (x : Leaf). isBeyond (boundsBefore (unitChange c u) d) c (vnumber x n)) e
   leaf-cast k (over-text e h) = refl
   leaf-cast k (over-datetime e) = refl

@@ -19,12 +19,13 @@ use Rattle.numeric.proofs.TwosComplement.{signed-mag}
 use Rattle.values.specs.Value.{Value, vnull, vnumber, vtext, voverflow, vstruct, Values, vnil, vcons}
 use Rattle.plan.specs.Convert.{keep, unitChange}
 use Rattle.plan.specs.Run.{valueAt, clean, cleanAll}
-use Rattle.plan.specs.Fits.{FitsOver, over-null, over-number, over-text, over-datetime, over-struct, over-list, over-array, FitsAllOver, over-nil, over-cons, FitsEachOver, over-none, over-more}
+use Rattle.plan.specs.code.Fits.{FitsOver, over-null, over-number, over-text, over-datetime, over-struct, over-list, over-array, FitsAllOver, over-nil}
+use Rattle.plan.specs.code.Fits.{over-cons, FitsEachOver, over-none, over-more}
 use Rattle.overflow.specs.declared.want.Timed.{Timed}
 use Rattle.overflow.specs.declared.want.Timed.the-variants.{In, Never}
-use Rattle.overflow.specs.Want.{timeOf, outside, widest, overflowing, boundsBefore, countBeyond, isBeyond, isStruct, isFilled, meets}
-use Rattle.overflow.specs.Some.{anyOf, somePart, some}
-use Rattle.overflow.specs.Leaves.{atLeaf, leaves, leavesFrom}
+use Rattle.overflow.specs.code.Want.{timeOf, outside, widest, overflowing, boundsBefore, countBeyond, isBeyond, isStruct, isFilled, meets}
+use Rattle.overflow.specs.code.Some.{anyOf, somePart, some}
+use Rattle.overflow.specs.code.Leaves.{atLeaf, leaves, leavesFrom}
 use Rattle.overflow.specs.declared.want.Want.{Want}
 use Rattle.overflow.specs.declared.want.Want.the-variants.{Parts, Element, Beyond}
 

@@ -8,8 +8,8 @@ use lib.ListN.{length}
 use Rattle.layout.specs.Bytes.{Bytes, AllBytes}
 use Rattle.layout.specs.Tree.{DataType, Fields, fnil, fcons, cnil, dtypeOf, fieldsOf}
 use Rattle.layout.specs.Layout.{label, columns as columnsOf, type}
-use Rattle.layout.specs.Answers.{labelRes, labelAt}
-use Rattle.layout.specs.Stands.{TypeAt, ColumnsAt}
+use Rattle.layout.specs.code.Answers.{labelRes, labelAt}
+use Rattle.layout.specs.code.Stands.{TypeAt, ColumnsAt}
 use Rattle.layout.specs.declared.cursor.Cursor.{Cursor}
 use Rattle.layout.specs.declared.columns.Label.{Label as LabelSpan}
 use Rattle.layout.specs.declared.columns.Labelled.{Labelled}
@@ -25,20 +25,21 @@ use Rattle.plan.specs.Run.{eval, evals, clean, cleanAll}
 use Rattle.plan.proofs.Typed.{Typed, TypedAll, t-nil, t-cons, typed→check, check→typed, passed→typed}
 use Rattle.plan.proofs.Preserve.{eval-over}
 use Rattle.plan.proofs.ReadBack.{selector-back, selectors-read}
-use Rattle.nodes.specs.Raw.{RowAt}
-use Rattle.nodes.specs.declared.places.ColumnRange.{ColumnRange}
-use Rattle.walk.specs.Stands.{SelectorAt, SelectorsAt}
+use Rattle.nodes.specs.code.Raw.{RowAt}
+use Rattle.layout.specs.declared.columns.ColumnRange.{ColumnRange}
+use Rattle.walk.specs.code.Stands.{SelectorAt, SelectorsAt}
 use Rattle.walk.proofs.View.{FirstAt as FirstOf, first-at as first-of, selectors-counted}
-use Rattle.overflow.specs.Ranges.{RecordAt}
-use Rattle.overflow.specs.Want.{overflowing}
-use Rattle.overflow.specs.Some.{some}
-use Rattle.overflow.specs.Leaves.{leaves}
-use Rattle.overflow.specs.Overflows.{TopAt, PlanAt}
+use Rattle.overflow.specs.code.Ranges.{RecordAt}
+use Rattle.overflow.specs.code.Want.{overflowing}
+use Rattle.overflow.specs.code.Some.{some}
+use Rattle.overflow.specs.code.Leaves.{leaves}
+use Rattle.overflow.specs.code.Overflows.{TopAt, PlanAt}
 use Rattle.overflow.proofs.Clean.{unclean}
 use Rattle.overflow.proofs.Seeking.{row-over, formed-at}
 
 -- the first of selectors that give columns
-typed-first : {Γ : Fields} {ss : Selectors} {n : Bytes} {t : DataType} {fs Δ : Fields} → Δ ≡ fcons n t fs → TypedAll Γ ss Δ → (s : Selector) × (rs : Selectors) × (ss ≡ scons s rs) × Typed Γ s n t × TypedAll Γ rs fs
+typed-first : {Γ : Fields} {ss : Selectors} {n : Bytes} {t : DataType} {fs Δ : Fields} → Δ ≡ fcons n t fs → TypedAll Γ ss Δ → (s : Selector) ×
+    (rs : Selectors) × (ss ≡ scons s rs) × Typed Γ s n t × TypedAll Γ rs fs
 typed-first e t-nil = clash (cc)
 typed-first {Γ} {n = n} {t = t} {fs = fs} e (t-cons {s = s} {ss = rs} {n = m} {t = u} {fs = gs} d ds) =
     let a : m ≡ n = cc in
@@ -92,7 +93,13 @@ module _ {plan : Bytes} {Γ : Fields} {y : Edition} {tgt : Bytes} {m at to i : �
           let z : scons s rs ≡ scons (F .head .tree) (F .tail .trees) = sym k ∙ F .is in
           let a : s ≡ F .head .tree = cc in
           let b : rs ≡ F .tail .trees = cc in
-          record { field = A; selector = F; typed = subst (λ (x : Selector). Typed Γ x (labelAt tgt l .name) (dtypeOf (A .head .tree))) a d; rest = subst (λ (x : Selectors). TypedAll Γ x (fieldsOf (A .tail .columns))) b ds }
+          record {
+            field = A;
+            selector = F;
+            typed = subst (λ (x : Selector). Typed Γ x (labelAt tgt l .name) (dtypeOf (A .head .tree))) a d;
+            rest =
+                subst (λ (x : Selectors). TypedAll Γ x (fieldsOf (A .tail .columns))) b ds;
+          }
 
       unfoldable pub column-top : TopAt plan at Γ
       column-top =
@@ -110,7 +117,8 @@ module _ {plan : Bytes} {Γ : Fields} {y : Edition} {tgt : Bytes} {m at to i : �
       column-type = next .field .head
 
       -- the others
-      unfoldable pub pair-more : {o u : ℕ} → ((P : SelectorAt plan at) → o ≡ P .end) → ((P : TypeAt y 16 tgt (e .at)) → u ≡ P .end) → Pairing plan Γ y tgt m o u (i + 1)
+      unfoldable pub pair-more : {o u : ℕ} → ((P : SelectorAt plan at) → o ≡ P .end) → ((P : TypeAt y 16 tgt (e .at)) → u ≡ P .end) → Pairing plan Γ y
+          tgt m o u (i + 1)
       pair-more {o} {u} f w =
           let N = next in
           let A = N .field in
@@ -121,16 +129,23 @@ module _ {plan : Bytes} {Γ : Fields} {y : Edition} {tgt : Bytes} {m at to i : �
             small = C .small;
             bytes = C .bytes;
             count = C .count - 1;
-            selectors = record { trees = F .tail .trees; end = F .tail .end; reads = ap (λ (z : ℕ). selectorsOf (selector deepestSelector) (C .count - 1) plan z) (f (F .head)) ∙ F .tail .reads };
+            selectors = record {
+              trees = F .tail .trees;
+              end = F .tail .end;
+              reads = ap
+                  (λ (z : ℕ). selectorsOf (selector deepestSelector) (C .count - 1) plan z) (f (F .head)) ∙ F .tail .reads;
+            };
             columns = record {
               columns = A .tail .columns;
               end = A .tail .end;
-              reads = ap (λ (n : ℕ). columnsOf y Free (type y Free 16) n [] tgt u) j ∙ ap (λ (z : ℕ). columnsOf y Free (type y Free 16) (m - i - 1) [] tgt z) (w (A .head)) ∙ A .tail .reads;
+              reads = ap (λ (n : ℕ). columnsOf y Free (type y Free 16) n [] tgt u) j ∙ ap
+                  (λ (z : ℕ). columnsOf y Free (type y Free 16) (m - i - 1) [] tgt z) (w (A .head)) ∙ A .tail .reads;
             };
             typed = N .rest;
           }
 
-unfoldable pub pair-start : {plan : Bytes} {first : ℕ} {Γ : Fields} {y : Edition} {tgt : Bytes} {m target : ℕ} → AllBytes plan → (D : ColumnsAt y 16 tgt m target)
+unfoldable pub pair-start : {plan : Bytes} {first : ℕ} {Γ : Fields} {y : Edition} {tgt : Bytes} {m target : ℕ} → AllBytes plan →
+    (D : ColumnsAt y 16 tgt m target)
     → PlanAt plan first Γ (fieldsOf (D .columns)) → Pairing plan Γ y tgt m first target 0
 pair-start {plan} {first} {y = y} {tgt} {m} {target} p D P = record {
   within = omega arith;
@@ -138,7 +153,12 @@ pair-start {plan} {first} {y = y} {tgt} {m} {target} p D P = record {
   bytes = p;
   count = P .count;
   selectors = P .selectors;
-  columns = record { columns = D .columns; end = D .end; reads = ap (λ (k : ℕ). columnsOf y Free (type y Free 16) k [] tgt target) (let e : m - 0 ≡ m = omega arith in e) ∙ D .reads };
+  columns = record {
+    columns = D .columns;
+    end = D .end;
+    reads = ap (λ (k : ℕ). columnsOf y Free (type y Free 16) k [] tgt target)
+        (let e : m - 0 ≡ m = omega arith in e) ∙ D .reads;
+  };
   typed = passed→typed (selectors-read plan p deepestSelector (P .count) first (P .starts) (P .selectors .reads) .formed) (P .passes);
 }
 
@@ -158,7 +178,8 @@ pub record Columning (plan : Bytes) (Γ : Fields) (ρ : Values) (y : Edition) (t
   pub pairing : Pairing plan Γ y tgt m at to i
   pub is : not (cleanAll (evals ρ (pairing .selectors .trees))) ≡ b
 
-not-clean : (ρ : Values) (ss : Selectors) {s : Selector} {rs : Selectors} {c : Bool} → ss ≡ scons s rs → not (clean (eval ρ s)) ≡ c → not (cleanAll (evals ρ ss)) ≡ not (not c && cleanAll (evals ρ rs))
+not-clean : (ρ : Values) (ss : Selectors) {s : Selector} {rs : Selectors} {c : Bool} → ss ≡ scons s rs → not (clean (eval ρ s)) ≡ c → not
+    (cleanAll (evals ρ ss)) ≡ not (not c && cleanAll (evals ρ rs))
 unfolding evals cleanAll
 not-clean ρ ss {s} {rs} e h = rw e (ap (λ (x : Bool). not (x && cleanAll (evals ρ rs))) (turned (clean (eval ρ s)) h))
   where
@@ -183,7 +204,8 @@ module _ {plan : Bytes} {Γ : Fields} {ρ : Values} {y : Edition} {tgt : Bytes} 
     pub columning-found : r ≡ true → true ≡ b
     columning-found k = sym (not-clean ρ (C .pairing .selectors .trees) (next (C .pairing) lt g h .selector .is) (column-clean ∙ k)) ∙ C .is
 
-    pub columning-more : r ≡ false → {o u : ℕ} → ((P : SelectorAt plan at) → o ≡ P .end) → ((P : TypeAt y 16 tgt (e .at)) → u ≡ P .end) → Columning plan Γ ρ y tgt m b o u (i + 1)
+    pub columning-more : r ≡ false → {o u : ℕ} → ((P : SelectorAt plan at) → o ≡ P .end) → ((P : TypeAt y 16 tgt (e .at)) → u ≡ P .end) → Columning plan
+        Γ ρ y tgt m b o u (i + 1)
     unfolding pair-more
     columning-more k f w = record {
       pairing = pair-more (C .pairing) lt g h f w;

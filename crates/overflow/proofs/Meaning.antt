@@ -4,18 +4,20 @@ use mathlib.Core.Path.{_≡_, refl}
 use mathlib.Core.Bool.{Bool, true, false}
 use mathlib.Core.List.{List, [], _∷_}
 use Rattle.layout.specs.Bytes.{Bytes}
-use Rattle.layout.specs.Tree.{LeafType, null, boolean, integer, float, date, datetime, string, binary, categorical, decimal, DataType, leaf, struct, list, array, Fields}
+use Rattle.layout.specs.Tree.{LeafType, null, boolean, integer, float, date, datetime, string, binary, categorical, decimal, DataType, leaf, struct, list}
+use Rattle.layout.specs.Tree.{array, Fields}
 use Rattle.layout.specs.declared.leaf.TimeUnit.{TimeUnit}
 use Rattle.rules.specs.declared.outcome.CastOption.{CastOption}
 use Rattle.values.specs.Value.{Value, Values}
 use Rattle.plan.specs.Selector.{Selector, position, constant, cast, structMapping, listMapping, arrayMapping, Selectors}
 use Rattle.plan.specs.Run.{valueAt}
-use Rattle.plan.specs.Fits.{FitsAllOver}
-use Rattle.walk.specs.State.{Frame, fields, element, State, state}
-use Rattle.walk.specs.Moves.{Stopped, s-column, s-constant, s-cast, s-rename, s-struct, s-list, s-array, s-no-element, s-no-field, Input as InputOf, i-cast, i-rename, i-struct, i-list, i-array}
-use Rattle.overflow.specs.Want.{SmallWant}
-use Rattle.overflow.specs.Some.{some, asked}
-use Rattle.overflow.specs.Seek.{answered, columnStop, ranStop, constantStop, timeStop, castStop, structStop, listStop, stopAt, stopOf}
+use Rattle.plan.specs.code.Fits.{FitsAllOver}
+use Rattle.walk.specs.code.State.{Frame, fields, element, State, state}
+use Rattle.walk.specs.code.Moves.{Stopped, s-column, s-constant, s-cast, s-rename, s-struct, s-list, s-array, s-no-element, s-no-field, Input as InputOf}
+use Rattle.walk.specs.code.Moves.{i-cast, i-rename, i-struct, i-list, i-array}
+use Rattle.overflow.specs.code.Want.{SmallWant}
+use Rattle.overflow.specs.code.Some.{some, asked}
+use Rattle.overflow.specs.code.Seek.{answered, columnStop, ranStop, constantStop, timeStop, castStop, structStop, listStop, stopAt, stopOf}
 use Rattle.overflow.specs.declared.want.Want.{Want}
 use Rattle.overflow.specs.declared.want.Want.the-variants.{Parts, Element, Beyond}
 use Rattle.overflow.specs.declared.stop.Stop.{Stop}
@@ -23,7 +25,9 @@ use Rattle.overflow.specs.declared.stop.Stop.the-variants.{No, Yes, Inpu
 use Rattle.overflow.proofs.Before.{small-before}
 use Rattle.overflow.proofs.Scoped.{TypedState}
 use Rattle.overflow.proofs.Moving.{outward-fields, outward-element, rename-typed, cast-typed, struct-typed, list-typed, array-typed, rename-asked}
-use Rattle.overflow.proofs.Stopping.{column-asked, constant-none, constant-top, constant-fields, constant-element, a-struct, a-list, an-array, cast-path, cast-nested, cast-other, cast-parts, cast-element, cast-beyond, struct-end, list-end, array-end, struct-end-element, struct-end-beyond, list-end-parts, list-end-beyond, array-end-parts, array-end-beyond, no-field, no-element}
+use Rattle.overflow.proofs.Stopping.{column-asked, constant-none, constant-top, constant-fields, constant-element, a-struct, a-list, an-array, cast-path}
+use Rattle.overflow.proofs.Stopping.{cast-nested, cast-other, cast-parts, cast-element, cast-beyond, struct-end, list-end, array-end, struct-end-element}
+use Rattle.overflow.proofs.Stopping.{struct-end-beyond, list-end-parts, list-end-beyond, array-end-parts, array-end-beyond, no-field, no-element}
 
 -- the input of an entered mapping
 pub data FrameOf : Frame → Selector → Type 0 where
@@ -62,7 +66,8 @@ module _ {Γ : Fields} {ρ : Values} (r : FitsAllOver Γ ρ) where
   answered-means x w true e = e
   answered-means x w false e = e
 
-  constant-means : (n : Bytes) (t : DataType) (v : Value) (E : List Frame) (p : List ℕ) (w : Want) (b : Bool) → some w p v ≡ b → TypedState Γ (state (constant n t v) E p)
+  constant-means : (n : Bytes) (t : DataType) (v : Value) (E : List Frame) (p : List ℕ) (w : Want) (b : Bool) → some w p v ≡ b → TypedState Γ
+      (state (constant n t v) E p)
       → Means Γ ρ (state (constant n t v) E p) w (constantStop b E)
   unfolding constantStop ranStop
   constant-means n t v E p w false e T = constant-none ρ w n t v p E e
@@ -96,7 +101,8 @@ module _ {Γ : Fields} {ρ : Values} (r : FitsAllOver Γ ρ) where
     time-means c z Element k T = cast-element r c z T
     time-means c z (Beyond d u) k T = record { input = s; is = i-cast; typed = cast-typed [] T; small = small-before c u k; same = cast-beyond r c z T d u k }
 
-    leaf-means : (l : LeafType) (w : Want) → SmallWant w → TypedState Γ (state (cast s (leaf l) o) E []) → Means Γ ρ (state (cast s (leaf l) o) E []) w (castStop [] (leaf l) w)
+    leaf-means : (l : LeafType) (w : Want) → SmallWant w → TypedState Γ (state (cast s (leaf l) o) E []) → Means Γ ρ (state (cast s (leaf l) o) E []) w
+        (castStop [] (leaf l) w)
     unfolding castStop timeStop
     leaf-means null w k T = cast-other r w null refl T
     leaf-means boolean w k T = cast-other r w boolean refl T
@@ -109,7 +115,8 @@ module _ {Γ : Fields} {ρ : Values} (r : FitsAllOver Γ ρ) where
     leaf-means categorical w k T = cast-other r w categorical refl T
     leaf-means (decimal d) w k T = cast-other r w (decimal d) refl T
 
-    cast-means : (t : DataType) (p : List ℕ) (w : Want) → SmallWant w → TypedState Γ (state (cast s t o) E p) → Means Γ ρ (state (cast s t o) E p) w (castStop p t w)
+    cast-means : (t : DataType) (p : List ℕ) (w : Want) → SmallWant w → TypedState Γ (state (cast s t o) E p) → Means Γ ρ (state (cast s t o) E p) w
+        (castStop p t w)
     unfolding castStop
     cast-means (leaf l) [] w k T = leaf-means l w k T
     cast-means (struct fs) [] w k T = cast-nested r w [] a-struct T
@@ -118,7 +125,8 @@ module _ {Γ : Fields} {ρ : Values} (r : FitsAllOver Γ ρ) where
     cast-means t (j ∷ p) w k T = cast-path r w j p T
 
   module _ {E : List Frame} {s : Selector} where
-    struct-means : {ss : Selectors} (w : Want) → TypedState Γ (state (structMapping s ss) E []) → Means Γ ρ (state (structMapping s ss) E []) w (structStop [] w)
+    struct-means : {ss : Selectors} (w : Want) → TypedState Γ (state (structMapping s ss) E []) → Means Γ ρ (state (structMapping s ss) E []) w
+        (structStop [] w)
     unfolding structStop
     struct-means {ss} Parts T = record { input = s; is = i-struct; typed = struct-typed [] T; small = tt; same = struct-end ρ E s ss }
     struct-means Element T = struct-end-element r T
@@ -141,7 +149,14 @@ module _ {Γ : Fields} {ρ : Values} (r : FitsAllOver Γ ρ) where
   stop-means (s-column {k = k} {p = p}) T w m = answered-means (state (position k) [] p) w (some w p (valueAt ρ (k .0))) (column-asked ρ w k p)
   stop-means (s-constant {n = n} {t = t} {v = v} {E = E} {p = p}) T w m = constant-means n t v E p w (some w p v) refl T
   stop-means (s-cast {t = t} {p = p}) T w m = cast-means t p w m T
-  stop-means (s-rename {s = s} {n = n} {E = E}) T w m = record { input = s; is = i-rename; typed = rename-typed [] T; small = m; same = rename-asked ρ w E [] s n }
+  stop-means (s-rename {s = s} {n = n} {E = E}) T w m = record {
+    input = s;
+    is = i-rename;
+    typed = rename-typed [] T;
+    small = m;
+    same = rename-asked ρ w
+        E [] s n;
+  }
   stop-means s-struct T w m = struct-means w T
   stop-means s-list T w m = list-means w T
   stop-means s-array T w m = array-means w T

@@ -11,12 +11,12 @@ use Rattle.values.specs.Value.{Value, Values, vnil, vcons}
 use Rattle.plan.specs.Selector.{Selector, position, cast, rename, structMapping, listMapping, arrayMapping, Selectors}
 use Rattle.plan.specs.Run.{valueAt, mapValues, onStruct, onList, onArray, eval, evals}
 use Rattle.plan.specs.Reach.{SelectorAt as Nth, s-here, s-there}
-use Rattle.plan.specs.Fits.{FitsOver, over-null, over-struct, over-list, over-array, FitsAllOver}
+use Rattle.plan.specs.code.Fits.{FitsOver, over-null, over-struct, over-list, over-array, FitsAllOver}
 use Rattle.plan.proofs.Typed.{Typed, t-cast, t-rename, t-struct, t-list, t-array, TypedAll, t-cons}
 use Rattle.plan.proofs.Preserve.{eval-over}
-use Rattle.walk.specs.State.{Frame, fields, element, State, state}
-use Rattle.walk.specs.Moves.{Moves, m-here, m-rename, m-field, m-list, m-array, m-leave, m-leave-element}
-use Rattle.overflow.specs.Some.{anyOf, somePart, some, inStruct, inElements, someIn, asked}
+use Rattle.walk.specs.code.State.{Frame, fields, element, State, state}
+use Rattle.walk.specs.code.Moves.{Moves, m-here, m-rename, m-field, m-list, m-array, m-leave, m-leave-element}
+use Rattle.overflow.specs.code.Some.{anyOf, somePart, some, inStruct, inElements, someIn, asked}
 use Rattle.overflow.specs.declared.want.Want.{Want}
 use Rattle.overflow.proofs.Scoped.{Scoped, in-fields, in-list, in-array, TypedState, in-same}
 
@@ -47,11 +47,13 @@ module _ {Γ : Fields} {E : List Frame} where
     array-inner : {n : Bytes} {t : DataType} {s e : Selector} → Typed Δ (arrayMapping s e) n t → TypedState Γ (state s E q)
     array-inner {n} (t-array {w = w} {t = u} d f b) = record { scope = Δ; name = n; type = array w u; scoped = c; typed = d }
 
-    nth-typed : {s x : Selector} {ss : Selectors} {k : ℕ} {fs gs : Fields} {m : Bytes} → Typed Δ s m (struct fs) → TypedAll fs ss gs → Nth ss k x → TypedState Γ (state x (fields s ∷ E) q)
+    nth-typed : {s x : Selector} {ss : Selectors} {k : ℕ} {fs gs : Fields} {m : Bytes} → Typed Δ s m (struct fs) → TypedAll fs ss gs → Nth ss k x →
+        TypedState Γ (state x (fields s ∷ E) q)
     nth-typed {fs = fs} d (t-cons {n = m} {t = u} e ds) s-here = record { scope = fs; name = m; type = u; scoped = in-fields c d; typed = e }
     nth-typed d (t-cons e ds) (s-there a) = nth-typed d ds a
 
-    field-inner : {n : Bytes} {t : DataType} {s x : Selector} {ss : Selectors} {k : ℕ} → Nth ss k x → Typed Δ (structMapping s ss) n t → TypedState Γ (state x (fields s ∷ E) q)
+    field-inner : {n : Bytes} {t : DataType} {s x : Selector} {ss : Selectors} {k : ℕ} → Nth ss k x → Typed Δ (structMapping s ss) n t → TypedState Γ
+        (state x (fields s ∷ E) q)
     field-inner a (t-struct d ds b) = nth-typed d ds a
 
     each-inner : {n : Bytes} {t : DataType} {s e : Selector} (i : ℕ) → Typed Δ (listMapping s e) n t → TypedState Γ (state e (element s i ∷ E) q)
@@ -104,12 +106,14 @@ module _ (f : Value → Bool) (k : ℕ) where
   into-field a over-null = refl
   into-field a (over-struct {vs = vs} h) = ap f (nth-value vs a)
 
-  into-list : {t : DataType} {v : Value} (g : Values → Value) → FitsOver (list t) v → somePart k f (onList (λ x. g (vcons x vnil)) v) ≡ inElements (λ vs. f (g vs)) v
+  into-list : {t : DataType} {v : Value} (g : Values → Value) → FitsOver (list t) v → somePart k f (onList (λ x. g (vcons x vnil)) v) ≡ inElements
+      (λ vs. f (g vs)) v
   unfolding somePart onList inElements
   into-list g over-null = refl
   into-list g (over-list {vs = vs} c h) = any-mapped f (λ x. g (vcons x vnil)) vs
 
-  into-array : {w : ℕ} {t : DataType} {v : Value} (g : Values → Value) → FitsOver (array w t) v → somePart k f (onArray (λ x. g (vcons x vnil)) v) ≡ inElements (λ vs. f (g vs)) v
+  into-array : {w : ℕ} {t : DataType} {v : Value} (g : Values → Value) → FitsOver (array w t) v → somePart k f (onArray (λ x. g (vcons x vnil)) v) ≡
+      inElements (λ vs. f (g vs)) v
   unfolding somePart onArray inElements
   into-array g over-null = refl
   into-array g (over-array {vs = vs} c h) = any-mapped f (λ x. g (vcons x vnil)) vs
@@ -142,7 +146,8 @@ module _ {Γ : Fields} {ρ : Values} (r : FitsAllOver Γ ρ) (w : Want) (p : Lis
         in-same r (λ σ. some w (k ∷ p) (onStruct (λ vs. evals vs ss) (eval σ s))) (λ σ. inStruct (λ vs. some w p (eval vs x)) (eval σ s)) c
         (λ σ h. into-field (λ v. some w p v) k a (eval-over d h))
 
-    enter-list : {n : Bytes} {t : DataType} {s e : Selector} (k : ℕ) → Typed Δ (listMapping s e) n t → asked ρ (state (listMapping s e) E (k ∷ p)) w ≡ asked ρ (state e (element s k ∷ E) p) w
+    enter-list : {n : Bytes} {t : DataType} {s e : Selector} (k : ℕ) → Typed Δ (listMapping s e) n t → asked ρ (state (listMapping s e) E (k ∷ p)) w ≡
+        asked ρ (state e (element s k ∷ E) p) w
     unfolding asked someIn some eval
     enter-list {s = s} {e = e} k (t-list d f b) =
         in-same r (λ σ. some w (k ∷ p) (onList (λ v. eval (vcons v vnil) e) (eval σ s))) (λ σ. inElements (λ vs. some w p (eval vs e)) (eval σ s)) c
@@ -155,20 +160,25 @@ module _ {Γ : Fields} {ρ : Values} (r : FitsAllOver Γ ρ) (w : Want) (p : Lis
         in-same r (λ σ. some w (k ∷ p) (onArray (λ v. eval (vcons v vnil) e) (eval σ s))) (λ σ. inElements (λ vs. some w p (eval vs e)) (eval σ s)) c
         (λ σ h. into-array (λ v. some w p v) k (λ vs. eval vs e) (eval-over d h))
 
-  leave-field : {s : Selector} {Δ : Fields} (k : Position) → Scoped Γ (fields s ∷ E) Δ → asked ρ (state (position k) (fields s ∷ E) p) w ≡ asked ρ (state s E (k .0 ∷ p)) w
+  leave-field : {s : Selector} {Δ : Fields} (k : Position) → Scoped Γ (fields s ∷ E) Δ → asked ρ (state (position k) (fields s ∷ E) p) w ≡ asked ρ
+      (state s E (k .0 ∷ p)) w
   unfolding asked someIn some eval
   leave-field {s} k (in-fields c d) =
-      in-same r (λ σ. inStruct (λ vs. some w p (valueAt vs (k .0))) (eval σ s)) (λ σ. some w (k .0 ∷ p) (eval σ s)) c (λ σ h. from-field (λ v. some w p v) (k .0) (eval-over d h))
+      in-same r (λ σ. inStruct (λ vs. some w p (valueAt vs (k .0))) (eval σ s)) (λ σ. some w (k .0 ∷ p) (eval σ s)) c
+      (λ σ h. from-field (λ v. some w p v) (k .0) (eval-over d h))
 
   leave-element : {s : Selector} {Δ : Fields} (k : Position) {i : ℕ} → k .0 ≡ 0 → Scoped Γ (element s i ∷ E) Δ
       → asked ρ (state (position k) (element s i ∷ E) p) w ≡ asked ρ (state s E (i ∷ p)) w
   unfolding asked someIn some eval
   leave-element {s} k {i} e (in-list c d) =
-      in-same r (λ σ. inElements (λ vs. some w p (valueAt vs (k .0))) (eval σ s)) (λ σ. some w (i ∷ p) (eval σ s)) c (λ σ h. from-list (λ v. some w p v) i (k .0) e (eval-over d h))
+      in-same r (λ σ. inElements (λ vs. some w p (valueAt vs (k .0))) (eval σ s)) (λ σ. some w (i ∷ p) (eval σ s)) c
+      (λ σ h. from-list (λ v. some w p v) i (k .0) e (eval-over d h))
   leave-element {s} k {i} e (in-array c d) =
-      in-same r (λ σ. inElements (λ vs. some w p (valueAt vs (k .0))) (eval σ s)) (λ σ. some w (i ∷ p) (eval σ s)) c (λ σ h. from-array (λ v. some w p v) i (k .0) e (eval-over d h))
+      in-same r (λ σ. inElements (λ vs. some w p (valueAt vs (k .0))) (eval σ s)) (λ σ. some w (i ∷ p) (eval σ s)) c
+      (λ σ h. from-array (λ v. some w p v) i (k .0) e (eval-over d h))
 
-pub rename-asked : (ρ : Values) (w : Want) (E : List Frame) (p : List ℕ) (s : Selector) (m : Bytes) → asked ρ (state (rename s m) E p) w ≡ asked ρ (state s E p) w
+pub rename-asked : (ρ : Values) (w : Want) (E : List Frame) (p : List ℕ) (s : Selector) (m : Bytes) → asked ρ (state (rename s m) E p) w ≡ asked ρ
+    (state s E p) w
 unfolding asked eval
 rename-asked ρ w E p s m = refl
 

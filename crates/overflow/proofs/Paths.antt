@@ -10,8 +10,8 @@ use lib.Seq.{slice, take-suc-set}
 use Rattle.layout.specs.Bytes.{Bytes}
 use Rattle.layout.specs.Tree.{leafOf, Label, DataType, Fields, ColumnType, Columns, cnil, ccons, dtypeOf, fieldsOf}
 use Rattle.layout.specs.Layout.{kind, label, elementLabel, columns as columnsOf, type}
-use Rattle.layout.specs.Answers.{headRes, leafAt, labelRes, labelAt}
-use Rattle.layout.specs.Stands.{TypeAt, ColumnsAt}
+use Rattle.layout.specs.code.Answers.{headRes, leafAt, labelRes, labelAt}
+use Rattle.layout.specs.code.Stands.{TypeAt, ColumnsAt}
 use Rattle.layout.specs.declared.leaf.TimeUnit.{TimeUnit}
 use Rattle.layout.specs.declared.cursor.Cursor.{Cursor}
 use Rattle.layout.specs.declared.types.Head.{Head}
@@ -25,17 +25,17 @@ use Rattle.layout.proofs.Leaves.{leaf-of-type}
 use Rattle.values.specs.Value.{Values}
 use Rattle.plan.specs.Selector.{Selector}
 use Rattle.plan.specs.Run.{eval}
-use Rattle.nodes.specs.declared.places.ColumnRange.{ColumnRange}
+use Rattle.layout.specs.declared.columns.ColumnRange.{ColumnRange}
 use Rattle.nodes.specs.declared.places.TopPath.{TopPath}
-use Rattle.walk.specs.State.{state}
-use Rattle.walk.specs.Standing.{e-none, WalkAt}
+use Rattle.walk.specs.code.State.{state}
+use Rattle.walk.specs.code.Walks.{e-none, WalkAt}
 use Rattle.walk.specs.declared.walk.Walk.{Walk}
-use Rattle.overflow.specs.Ranges.{RecordAt}
-use Rattle.overflow.specs.Want.{Small, widest, overflowing, timeOf}
-use Rattle.overflow.specs.Some.{some}
-use Rattle.overflow.specs.Leaves.{atLeaf, leaves, leavesFrom}
-use Rattle.overflow.specs.Seek.{Seeks}
-use Rattle.overflow.specs.Overflows.{TopAt, overAt, partPath, started}
+use Rattle.overflow.specs.code.Ranges.{RecordAt}
+use Rattle.overflow.specs.code.Want.{Small, widest, overflowing, timeOf}
+use Rattle.overflow.specs.code.Some.{some}
+use Rattle.overflow.specs.code.Leaves.{atLeaf, leaves, leavesFrom}
+use Rattle.overflow.specs.code.Seek.{Seeks}
+use Rattle.overflow.specs.code.Overflows.{TopAt, overAt, partPath, started}
 use Rattle.overflow.specs.declared.want.Timed.{Timed}
 use Rattle.overflow.specs.declared.want.Timed.the-variants.{In, Never}
 
@@ -93,7 +93,8 @@ module _ {plan : Bytes} {top : ℕ} {Γ : Fields} (T : TopAt plan top Γ) {path 
       passes = T .passes;
     }
 
-    pub leaf-over : (ρ : Values) (u : TimeUnit) {b : Bool} → ((S : Seeks plan w Γ) → b ≡ some (overflowing u) (S .path) (eval ρ (S .selector))) → b ≡ overAt ρ (T .here .tree) path len [] u
+    pub leaf-over : (ρ : Values) (u : TimeUnit) {b : Bool} → ((S : Seeks plan w Γ) → b ≡ some (overflowing u) (S .path) (eval ρ (S .selector))) → b ≡
+        overAt ρ (T .here .tree) path len [] u
     unfolding leaf-seeks
     leaf-over ρ u h = h leaf-seeks ∙ ap (λ (p : List ℕ). some (overflowing u) p (eval ρ (T .here .tree))) (sym (append-nil (slice 0 len path)))
 
@@ -115,7 +116,8 @@ module _ {v : Edition} {d : ℕ} {s : Bytes} {at : ℕ} (Q : TypeAt v d s at) {p
     unfolding leaves dtypeOf atLeaf
     never-leaves k = leaves-as f (leaf-at Q e h .0) (ap (λ (t : Timed). atLeaf t f) (sym k ∙ time-kind s l g))
 
-  pub struct-leaves : {n : ℕ} {c : Cursor} {b : Bool} → p ≡ Head.Struct n c → ((D : ColumnsAt v (d - 1) s n (c .at)) → b ≡ leavesFrom (fieldsOf (D .columns)) 0 f) → b ≡ leaves (dtypeOf (Q .tree)) f
+  pub struct-leaves : {n : ℕ} {c : Cursor} {b : Bool} → p ≡ Head.Struct n c → ((D : ColumnsAt v (d - 1) s n (c .at)) → b ≡ leavesFrom
+      (fieldsOf (D .columns)) 0 f) → b ≡ leaves (dtypeOf (Q .tree)) f
   unfolding leaves dtypeOf
   struct-leaves h g = let S = struct-at Q e h in leaves-as f (S .is) (g (S .inner))
 
@@ -141,7 +143,12 @@ pub fielding-none : {v : Edition} {d : ℕ} {s : Bytes} {n c : ℕ} (f : List �
 fielding-none {v} {d} {s} {n} {c} f P = record {
   within = omega arith;
   whole = P;
-  left = record { columns = P .columns; end = P .end; reads = ap (λ (k : ℕ). columnsOf v Free (type v Free d) k [] s c) (let e : n - 0 ≡ n = omega arith in e) ∙ P .reads };
+  left = record {
+    columns = P .columns;
+    end = P .end;
+    reads = ap (λ (k : ℕ). columnsOf v Free (type v Free d) k [] s c)
+        (let e : n - 0 ≡ n = omega arith in e) ∙ P .reads;
+  };
   same = refl;
 }
 
@@ -192,7 +199,8 @@ module _ {v : Edition} {d : ℕ} {s : Bytes} {n c : ℕ} {f : List ℕ → TimeU
               left = record {
                 columns = A .tail .columns;
                 end = A .tail .end;
-                reads = ap (λ (j : ℕ). columnsOf v Free (type v Free d) j [] s m) u ∙ ap (λ (o : ℕ). columnsOf v Free (type v Free d) (n - i - 1) [] s o) (w (A .head)) ∙ A .tail .reads;
+                reads = ap (λ (j : ℕ). columnsOf v Free (type v Free d) j [] s m) u ∙ ap
+                    (λ (o : ℕ). columnsOf v Free (type v Free d) (n - i - 1) [] s o) (w (A .head)) ∙ A .tail .reads;
               };
               same = F .same ∙ from-first (F .left .columns) i f (A .is) ∙ or-false _ (sym (x (A .head)) ∙ k);
             }

@@ -9,14 +9,14 @@ use borrow.Author.Tests.{lt-ltb}
 use Rattle.layout.specs.Bytes.{Bytes}
 use Rattle.layout.specs.Parser.{ok, next, chunk, u16}
 use Rattle.layout.specs.Tree.{leafOf, DataType, leaf, struct, list, array, clist, carray, dtypeOf}
-use Rattle.layout.specs.Layout.{Kind, kind, elementLabel, type, body, listType, arrayType}
-use Rattle.layout.specs.Answers.{headRes, leafAt, shortRes, labelRes}
+use Rattle.layout.specs.Layout.{Head, kind, elementLabel, type, body, listType, arrayType}
+use Rattle.layout.specs.code.Answers.{headRes, leafAt, shortRes, labelRes}
 use Rattle.layout.specs.declared.cursor.Cursor.{Cursor}
 use Rattle.layout.specs.declared.cursor.Short.{Short}
 use Rattle.layout.specs.declared.leaf.Leaf.{Leaf}
 use Rattle.layout.specs.declared.leaf.Leaf.the-variants.{Datetime}
 use Rattle.layout.specs.declared.leaf.TimeUnit.{TimeUnit}
-use Rattle.layout.specs.declared.types.Head.{Head}
+use Rattle.layout.specs.declared.types.Head.{Head as HeadSpan}
 use Rattle.layout.specs.declared.types.LeafType.{LeafType as LeafSpan}
 use Rattle.layout.specs.declared.columns.Label.{Label as LabelSpan}
 use Rattle.layout.specs.declared.columns.Labelled.{Labelled}
@@ -28,15 +28,15 @@ use Rattle.layout.proofs.Leaves.{leaf-of-type}
 use Rattle.values.specs.Value.{Value, vnumber, vtext, vstruct, vlist, varray, Values, vnil, vcons, countValues, isNullValue}
 use Rattle.values.specs.Content.{contentOf}
 use Rattle.values.specs.Reading.{flag, little, longText, contentBy, leafContent, listContent, structContent, arrayContent, content as contentOfType, decimal}
-use Rattle.values.specs.Stands.{ContentAt}
+use Rattle.values.specs.code.Stands.{ContentAt}
 use Rattle.values.specs.declared.content.Content.{Content}
 use Rattle.values.specs.declared.content.Content.the-variants.{Nothing, Flag, Number, Decimal, Text}
 use Rattle.values.proofs.Inside.{struct-in, list-in, array-in, number-in, never-uncounted}
-use Rattle.nodes.specs.Raw.{RowAt, ElementsAt, PresentAt}
+use Rattle.nodes.specs.code.Raw.{RowAt, ElementsAt, PresentAt}
 use Rattle.nodes.proofs.Deeper.{deeper-type, deeper-columns}
 use Rattle.nodes.proofs.Rows.{count-each}
-use Rattle.overflow.specs.Want.{timeOf, countBeyond, filled, isBeyond, isStruct, isFilled}
-use Rattle.overflow.specs.Some.{somePart}
+use Rattle.overflow.specs.code.Want.{timeOf, countBeyond, filled, isBeyond, isStruct, isFilled}
+use Rattle.overflow.specs.code.Some.{somePart}
 use Rattle.overflow.specs.declared.want.Bounds.{Bounds}
 use Rattle.overflow.specs.declared.want.Timed.{Timed}
 use Rattle.overflow.specs.declared.want.Timed.the-variants.{In, Never}
@@ -60,7 +60,13 @@ pub record LeafValue (x : Value) : Type 0 where
 
 of-number : (x : Value) {k : Leaf} {n : ℕ} → vnumber k n ≡ x → LeafValue x
 unfolding isStruct isFilled somePart
-of-number x e = record { parts = ap isStruct (sym e); elements = ap isFilled (sym e); present = ap isNullValue (sym e); part = λ k f. ap (somePart k f) (sym e) }
+of-number x e = record {
+  parts = ap isStruct (sym e);
+  elements = ap isFilled (sym e);
+  present = ap isNullValue (sym e);
+  part = λ k f. ap (somePart k f)
+      (sym e);
+}
 
 of-text : (x : Value) {b : Bytes} → vtext b ≡ x → LeafValue x
 unfolding isStruct isFilled somePart
@@ -101,7 +107,8 @@ timeless-text : (d : Bounds) (u : TimeUnit) (x : Value) (b : Bytes) → vtext b 
 unfolding isBeyond
 timeless-text d u x b e = ap (isBeyond d u) (sym e)
 
-content-timeless : (d : Bounds) (u : TimeUnit) (c : Content) (k : Leaf) (s : Bytes) (at : ℕ) (x : Value) {m : ℕ} → timeOf k ≡ Never → contentBy c k s at ≡ ok x m → isBeyond d u x ≡ false
+content-timeless : (d : Bounds) (u : TimeUnit) (c : Content) (k : Leaf) (s : Bytes) (at : ℕ) (x : Value) {m : ℕ} → timeOf k ≡ Never → contentBy c k s at
+    ≡ ok x m → isBeyond d u x ≡ false
 unfolding contentBy
 content-timeless d u Nothing k s at x q e = clash (cc)
 content-timeless d u Flag k s at x q e = let (b, i, h, g) = next-ok (flag s at) _ e in timeless-number d u x k b q (cc)
@@ -125,7 +132,8 @@ time-content (Leaf.Decimal d) e = clash (cc)
 -- ---- by what the type begins with
 
 -- a type, after what it begins with
-behind : {v : Edition} {lay : Bytes} {t : ℕ} {rec : Bytes} {c : ℕ} (X : PresentAt v lay t rec c) {k : Kind} {m : ℕ} → kind lay t ≡ ok k m → body v Free (type v Free 15) k lay m ≡ ok (X .type .tree) (X .type .end)
+behind : {v : Edition} {lay : Bytes} {t : ℕ} {rec : Bytes} {c : ℕ} (X : PresentAt v lay t rec c) {k : Head} {m : ℕ} → kind lay t ≡ ok k m → body v Free
+    (type v Free 15) k lay m ≡ ok (X .type .tree) (X .type .end)
 unfolding type next
 behind X q = rw q at (X .type .reads)
 
@@ -154,16 +162,16 @@ list-value P =
     let (vs, j, k, f) = next-ok _ _ g in
     record { values = vs; is = cc }
 
-module _ {v : Edition} {lay : Bytes} {t : ℕ} {rec : Bytes} {c : ℕ} (X : PresentAt v lay t rec c) {p : Head} (e : headRes lay p ≡ kind lay t) where
-  leaf-type : {l : LeafSpan} {b : Cursor} → p ≡ Head.Leaf l b → dtypeOf (X .type .tree) ≡ leaf (leafAt lay l)
+module _ {v : Edition} {lay : Bytes} {t : ℕ} {rec : Bytes} {c : ℕ} (X : PresentAt v lay t rec c) {p : HeadSpan} (e : headRes lay p ≡ kind lay t) where
+  leaf-type : {l : LeafSpan} {b : Cursor} → p ≡ HeadSpan.Leaf l b → dtypeOf (X .type .tree) ≡ leaf (leafAt lay l)
   unfolding dtypeOf
   leaf-type f = ap dtypeOf (leaf-at (X .type) e f .0)
 
-  pub leaf-value : {l : LeafSpan} {b : Cursor} → p ≡ Head.Leaf l b → LeafValue (X .content .tree)
+  pub leaf-value : {l : LeafSpan} {b : Cursor} → p ≡ HeadSpan.Leaf l b → LeafValue (X .content .tree)
   unfolding contentOfType leafContent content-as
   leaf-value f = content-leaf _ _ rec c (X .content .tree) (content-as (leaf-type f) (X .content) .reads)
 
-  module _ {l : LeafSpan} {b : Cursor} (f : p ≡ Head.Leaf l b) {q : Timed} (g : q ≡ timeOf (l .leaf)) where
+  module _ {l : LeafSpan} {b : Cursor} (f : p ≡ HeadSpan.Leaf l b) {q : Timed} (g : q ≡ timeOf (l .leaf)) where
     kind-time : q ≡ timeOf (leafOf (leafAt lay l))
     kind-time = g ∙ sym (ap timeOf (leaf-of-type (l .leaf) _))
 
@@ -176,20 +184,22 @@ module _ {v : Edition} {lay : Bytes} {t : ℕ} {rec : Bytes} {c : ℕ} (X : Pres
       unfolding content-as
       time-within = number-in (content-as (leaf-type f) (X .content)) (time-content (leafOf (leafAt lay l)) (sym kind-time ∙ h)) .within
 
-      pub leaf-time : (d : Bounds) (u : TimeUnit) {n : ℕ} {x : Bool} → n ≡ little (take 8 (drop c rec)) → x ≡ countBeyond d u (In r) n → x ≡ isBeyond d u (X .content .tree)
+      pub leaf-time : (d : Bounds) (u : TimeUnit) {n : ℕ} {x : Bool} → n ≡ little (take 8 (drop c rec)) → x ≡ countBeyond d u (In r) n → x ≡ isBeyond d
+          u (X .content .tree)
       unfolding content-as isBeyond
       leaf-time d u {n} i j =
           let N = number-in (content-as (leaf-type f) (X .content)) (time-content (leafOf (leafAt lay l)) (sym kind-time ∙ h)) in
-          j ∙ ap (λ (t : Timed). countBeyond d u t n) (sym h ∙ kind-time) ∙ ap (countBeyond d u (timeOf (leafOf (leafAt lay l)))) i ∙ sym (ap (isBeyond d u) (N .is))
+          j ∙ ap (λ (t : Timed). countBeyond d u t n) (sym h ∙ kind-time) ∙ ap (countBeyond d u (timeOf (leafOf (leafAt lay l)))) i ∙ sym
+          (ap (isBeyond d u) (N .is))
 
-  pub struct-value : {n : ℕ} {b : Cursor} → p ≡ Head.Struct n b → StructValue v lay n (b .at) rec c (X .content .tree)
+  pub struct-value : {n : ℕ} {b : Cursor} → p ≡ HeadSpan.Struct n b → StructValue v lay n (b .at) rec c (X .content .tree)
   unfolding dtypeOf content-as deeper-columns
   struct-value f =
       let S = struct-at (X .type) e f in
       let I = struct-in (content-as (ap dtypeOf (S .is)) (X .content)) in
       record { row = record { columns = deeper-columns (omega arith) (S .inner); values = I .inner }; is = I .is }
 
-  pub a-list : {b : Cursor} → p ≡ Head.List b → ListValue (X .content .tree)
+  pub a-list : {b : Cursor} → p ≡ HeadSpan.List b → ListValue (X .content .tree)
   unfolding body listType dtypeOf content-as
   a-list f =
       let (l, i, h₁, g₁) = next-ok _ _ (behind X (sym e ∙ ap (headRes lay) f)) in
@@ -197,7 +207,8 @@ module _ {v : Edition} {lay : Bytes} {t : ℕ} {rec : Bytes} {c : ℕ} (X : Pres
       let z : X .type .tree ≡ clist l t = cc in
       list-value (content-as (ap dtypeOf z) (X .content))
 
-  pub list-filled : {b : Cursor} {q : Short} {n : ℕ} {d : Cursor} → p ≡ Head.List b → shortRes q ≡ u16 rec c → q ≡ Short.Is n d → ltb 0 n ≡ isFilled (X .content .tree)
+  pub list-filled : {b : Cursor} {q : Short} {n : ℕ} {d : Cursor} → p ≡ HeadSpan.List b → shortRes q ≡ u16 rec c → q ≡ Short.Is n d → ltb 0 n ≡ isFilled
+      (X .content .tree)
   unfolding body listType dtypeOf content-as isFilled
   list-filled f g h =
       let (l, i, h₁, g₁) = next-ok _ _ (behind X (sym e ∙ ap (headRes lay) f)) in
@@ -206,7 +217,7 @@ module _ {v : Edition} {lay : Bytes} {t : ℕ} {rec : Bytes} {c : ℕ} (X : Pres
       let L = list-in (content-as (ap dtypeOf z) (X .content)) g h in
       filled-counted (L .inner .values) (count-each (L .inner)) ∙ sym (ap isFilled (L .is))
 
-  pub list-uncounted : {B : Type 0} {b : Cursor} {q : Short} {n : ℕ} → p ≡ Head.List b → shortRes q ≡ u16 rec c → q ≡ Short.Refused n → B
+  pub list-uncounted : {B : Type 0} {b : Cursor} {q : Short} {n : ℕ} → p ≡ HeadSpan.List b → shortRes q ≡ u16 rec c → q ≡ Short.Refused n → B
   unfolding body listType dtypeOf content-as
   list-uncounted f g h =
       let (l, i, h₁, g₁) = next-ok _ _ (behind X (sym e ∙ ap (headRes lay) f)) in
@@ -214,7 +225,7 @@ module _ {v : Edition} {lay : Bytes} {t : ℕ} {rec : Bytes} {c : ℕ} (X : Pres
       let z : X .type .tree ≡ clist l t = cc in
       never-uncounted (content-as (ap dtypeOf z) (X .content)) g h
 
-  pub an-array : {b : Cursor} {w : ℕ} → p ≡ Head.Array w b → ArrayValue w (X .content .tree)
+  pub an-array : {b : Cursor} {w : ℕ} → p ≡ HeadSpan.Array w b → ArrayValue w (X .content .tree)
   unfolding body arrayType dtypeOf content-as
   an-array {w = w} f =
       let (l, i, h₁, g₁) = next-ok _ _ (behind X (sym e ∙ ap (headRes lay) f)) in
@@ -225,7 +236,7 @@ module _ {v : Edition} {lay : Bytes} {t : ℕ} {rec : Bytes} {c : ℕ} (X : Pres
 
   -- an array's elements, where its element's type is known
   module _ {b : Cursor} {q : Labelled} (g : labelRes lay q ≡ elementLabel v lay (b .at)) {l : LabelSpan} {a : Cursor} (h : q ≡ Labelled.Is l a) where
-    pub array-value : {w : ℕ} → p ≡ Head.Array w b → ArrayElements v lay w (a .at) rec c (X .content .tree)
+    pub array-value : {w : ℕ} → p ≡ HeadSpan.Array w b → ArrayElements v lay w (a .at) rec c (X .content .tree)
     unfolding dtypeOf content-as deeper-type
     array-value f =
         let L = array-at (X .type) e g f h in

@@ -8,8 +8,8 @@ use lib.ListN.{length}
 use Rattle.layout.specs.Bytes.{Bytes, sameBytes}
 use Rattle.layout.specs.Parser.{Res, ok, next, choose, byte, chunk, u16}
 use Rattle.layout.specs.Tree.{datetime, leaf, Fields, Columns, cleaf, cnil, ccons, dtypeOf, fieldsOf, countFields}
-use Rattle.layout.specs.Layout.{text, unit, leafKind, datetimeKind, kindOf, kind, fieldId, fieldMark, labelRest, label, repeatsAny, columns, body, type}
-use Rattle.layout.specs.Stands.{ColumnsAt}
+use Rattle.layout.specs.Layout.{text, unit, leafHead, datetimeHead, kindOf, kind, fieldId, fieldMark, labelRest, label, repeatsAny, columns, body, type}
+use Rattle.layout.specs.code.Stands.{ColumnsAt}
 use Rattle.layout.specs.declared.leaf.TimeUnit.{TimeUnit}
 use Rattle.layout.specs.declared.leaf.TimeUnit.the-variants.{Nanoseconds, Milliseconds}
 use Rattle.layout.specs.declared.leaf.Leaf.the-variants.{Datetime}
@@ -34,8 +34,8 @@ use Rattle.plan.specs.Read.{dataType, castOption, knownOption, selectors, posit
 use Rattle.plan.specs.Check.{columnAt, castFits, withinLimits, resulting, checkCast, typeOf, topTypes, against, check}
 use Rattle.plan.specs.Convert.{counted, rescaled, convertAs, convert}
 use Rattle.plan.specs.Run.{valueAt, castLeaf, castValue, eval, evals, clean, cleanAll}
-use Rattle.nodes.specs.Raw.{RowAt}
-use Rattle.overflow.specs.Overflows.{PlanAt}
+use Rattle.nodes.specs.code.Raw.{RowAt}
+use Rattle.overflow.specs.code.Overflows.{PlanAt}
 
 -- the column `t`, a date-time without a zone, of milliseconds and of nanoseconds
 abbrev lay : Bytes
@@ -63,7 +63,7 @@ strict = scons (cast (position (record { 0 = 0 })) (leaf (datetime Nanoseconds [
 
 -- opens every definition that the readings go through
 columns-computed : Bytes → Res Columns
-unfolding type kind kindOf leafKind datetimeKind unit body columns label labelRest text fieldId fieldMark repeatsAny byte chunk u16 next choose
+unfolding type kind kindOf leafHead datetimeHead unit body columns label labelRest text fieldId fieldMark repeatsAny byte chunk u16 next choose
 columns-computed s = columns One Free (type One Free 16) 1 [] s 0
 
 values-computed : Bytes → Res Values
@@ -92,7 +92,9 @@ targeted = record { columns = one Nanoseconds; end = 5; reads = refl }
 
 -- the plan passes the check
 planned : PlanAt plan 0 (fieldsOf (one Milliseconds)) (fieldsOf (one Nanoseconds))
-unfolding plan-computed check topTypes typeOf columnAt _>>=_ checkCast castFits castPasses pairRule chain paramsOf zonesOf readZone isUtc sameBytes demand resulting withinLimits depthOf depthOfFields countFields form formFields leafForm carried kindForm textBytes u16Bytes placed answered against equalFields equalTypes fieldsOf dtypeOf
+unfolding plan-computed check topTypes typeOf columnAt _>>=_ checkCast castFits castPasses pairRule chain paramsOf zonesOf readZone isUtc sameBytes
+    demand resulting withinLimits depthOf depthOfFields countFields form formFields leafForm carried kindForm textBytes u16Bytes placed answered against
+    equalFields equalTypes fieldsOf dtypeOf
 planned = record { count = 1; selectors = record { trees = strict; end = 8; reads = refl }; starts = omega arith; small = omega arith; passes = refl }
 
 -- opens every definition that an answer goes through

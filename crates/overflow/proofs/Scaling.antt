@@ -6,7 +6,7 @@ use native.Mathlib.Nat.{div-lt-iff-lt-mul, le-div-iff-mul-le}
 use lib.Dec.{leb}
 use Rattle.numeric.specs.Integers.{signed}
 use Rattle.numeric.proofs.TwosComplement.{signed-low, signed-high}
-use Rattle.overflow.specs.Want.{outside}
+use Rattle.overflow.specs.code.Want.{outside}
 use Rattle.overflow.specs.declared.want.Bounds.{Bounds}
 
 module _ (a f : ℕ) (h : 0 < f) where

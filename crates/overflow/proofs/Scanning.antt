@@ -11,8 +11,8 @@ use Rattle.layout.specs.Bytes.{Bytes}
 use Rattle.layout.specs.Parser.{refuse, ok, u16}
 use Rattle.layout.specs.Tree.{ColumnType, dtypeOf}
 use Rattle.layout.specs.Layout.{deepest}
-use Rattle.layout.specs.Answers.{shortRes, movedOf}
-use Rattle.layout.specs.Stands.{TypeAt}
+use Rattle.layout.specs.code.Answers.{shortRes, movedOf}
+use Rattle.layout.specs.code.Stands.{TypeAt}
 use Rattle.layout.specs.declared.cursor.Cursor.{Cursor}
 use Rattle.layout.specs.declared.cursor.Moved.{Moved}
 use Rattle.layout.specs.declared.cursor.Short.{Short}
@@ -21,11 +21,11 @@ use Rattle.layout.proofs.Ways.{clash, moved-to, moved-refused}
 use Rattle.layout.proofs.View.{same-type}
 use Rattle.values.specs.Value.{Value, vnull, vstruct, vlist, varray, Values, vnil, vcons}
 use Rattle.values.specs.Reading.{times, value}
-use Rattle.values.specs.Stands.{EachAt}
+use Rattle.values.specs.code.Stands.{EachAt}
 use Rattle.values.proofs.Inside.{list-in, first-each, no-each}
 use Rattle.plan.specs.Run.{valueAt}
-use Rattle.nodes.specs.Raw.{RawAt, ElementsAt, ListOf}
-use Rattle.overflow.specs.Some.{anyOf, somePart, some, isSought, someSought}
+use Rattle.nodes.specs.code.Raw.{RawAt, ElementsAt, ListOf}
+use Rattle.overflow.specs.code.Some.{anyOf, somePart, some, isSought, someSought}
 use Rattle.overflow.specs.declared.want.Want.{Want}
 use Rattle.overflow.specs.declared.scan.Sought.{Sought}
 use Rattle.overflow.proofs.Clean.{meets-null, some-null}
@@ -98,7 +98,8 @@ pub record ListElements (v : Edition) (lay : Bytes) (n t : ℕ) (rec : Bytes) (c
   pub elements : ElementsAt v lay n t rec c
   pub is : x ≡ vlist (elements .values .values)
 
-pub list-elements : {v : Edition} {lay : Bytes} {t : ℕ} {rec : Bytes} {c : ℕ} (X : ListOf v lay t rec c) {q : Short} {n : ℕ} {d : Cursor} → shortRes q ≡ u16 rec c → q ≡ Short.Is n d
+pub list-elements : {v : Edition} {lay : Bytes} {t : ℕ} {rec : Bytes} {c : ℕ} (X : ListOf v lay t rec c) {q : Short} {n : ℕ} {d : Cursor} → shortRes q ≡
+    u16 rec c → q ≡ Short.Is n d
     → ListElements v lay n t rec (d .at) (X .content .tree)
 list-elements X e f = let L = list-in (X .content) e f in record { elements = record { type = X .type; values = L .inner }; is = L .is }
 
@@ -167,7 +168,8 @@ module _ {v : Edition} {lay : Bytes} {n t : ℕ} {rec : Bytes} {c : ℕ} {f : Va
         pub scanning-stuck : {B : Type 0} {k : ℕ} → q ≡ Moved.Refused k → B
         scanning-stuck {k = k} e =
             let F = first-each (S .left) (λ z. omega arith) in
-            let z : refuse k ≡ ok (F .head .tree) (F .head .end) = sym (moved-refused (value (dtypeOf (S .whole .type .tree)) rec at) (m (S .whole .type)) e) ∙ F .head .reads in
+            let z : refuse k ≡ ok (F .head .tree) (F .head .end) = sym (moved-refused (value (dtypeOf (S .whole .type .tree)) rec at)
+            (m (S .whole .type)) e) ∙ F .head .reads in
             clash (cc)
 
         pub scanning-more : r ≡ false → {d : Cursor} → q ≡ Moved.To d → Scanning v lay n t rec c f (i + 1) (d .at)

@@ -9,19 +9,21 @@ use Rattle.values.specs.Value.{Value, vnull, vnumber, vtext, voverflow, vstruct
 use Rattle.plan.specs.Selector.{Selector}
 use Rattle.plan.specs.Check.{elementOf}
 use Rattle.plan.specs.Run.{eval}
-use Rattle.plan.specs.Fits.{FitsOver, over-null, over-struct, over-list, over-array, FitsAllOver, FitsEachOver, over-none, over-more}
+use Rattle.plan.specs.code.Fits.{FitsOver, over-null, over-struct, over-list, over-array, FitsAllOver, FitsEachOver, over-none, over-more}
 use Rattle.plan.proofs.Typed.{Typed}
 use Rattle.plan.proofs.Preserve.{eval-over, only}
-use Rattle.walk.specs.State.{Frame, fields, element, State}
-use Rattle.overflow.specs.Some.{anyOf, some, inStruct, inElements, someIn, asked}
+use Rattle.walk.specs.code.State.{Frame, fields, element, State}
+use Rattle.overflow.specs.code.Some.{anyOf, some, inStruct, inElements, someIn, asked}
 use Rattle.overflow.specs.declared.want.Want.{Want}
 
 -- `Scoped Γ E Δ`: over the columns Γ, positions inside the entered mappings E take from the columns Δ
 pub data Scoped (Γ : Fields) : List Frame → Fields → Type 0 where
   in-record : Scoped Γ [] Γ
   in-fields : {E : List Frame} {s : Selector} {n : Bytes} {Δ fs : Fields} → Scoped Γ E Δ → Typed Δ s n (struct fs) → Scoped Γ (fields s ∷ E) fs
-  in-list : {E : List Frame} {s : Selector} {i : ℕ} {n : Bytes} {Δ : Fields} {t : DataType} → Scoped Γ E Δ → Typed Δ s n (list t) → Scoped Γ (element s i ∷ E) (elementOf t)
-  in-array : {E : List Frame} {s : Selector} {i w : ℕ} {n : Bytes} {Δ : Fields} {t : DataType} → Scoped Γ E Δ → Typed Δ s n (array w t) → Scoped Γ (element s i ∷ E) (elementOf t)
+  in-list : {E : List Frame} {s : Selector} {i : ℕ} {n : Bytes} {Δ : Fields} {t : DataType} → Scoped Γ E Δ → Typed Δ s n (list t) → Scoped Γ
+      (element s i ∷ E) (elementOf t)
+  in-array : {E : List Frame} {s : Selector} {i w : ℕ} {n : Bytes} {Δ : Fields} {t : DataType} → Scoped Γ E Δ → Typed Δ s n (array w t) → Scoped Γ
+      (element s i ∷ E) (elementOf t)
 
 pub record TypedState (Γ : Fields) (x : State) : Type 0 where
   pub scope : Fields
@@ -32,7 +34,8 @@ pub record TypedState (Γ : Fields) (x : State) : Type 0 where
 
 -- ---- what is asked is the same where it is of every value that fits
 
-struct-same : {fs : Fields} {v : Value} (f g : Values → Bool) → ((vs : Values) → FitsAllOver fs vs → f vs ≡ g vs) → FitsOver (struct fs) v → inStruct f v ≡ inStruct g v
+struct-same : {fs : Fields} {v : Value} (f g : Values → Bool) → ((vs : Values) → FitsAllOver fs vs → f vs ≡ g vs) → FitsOver (struct fs) v → inStruct f
+    v ≡ inStruct g v
 unfolding inStruct
 struct-same f g h over-null = refl
 struct-same f g h (over-struct {vs = vs} a) = h vs a
@@ -42,17 +45,20 @@ unfolding anyOf
 any-same f g h over-none = refl
 any-same f g h (over-more {v = v} a b) = rw (h v a, any-same f g h b)
 
-list-same : {t : DataType} {v : Value} (f g : Values → Bool) → ((vs : Values) → FitsAllOver (elementOf t) vs → f vs ≡ g vs) → FitsOver (list t) v → inElements f v ≡ inElements g v
+list-same : {t : DataType} {v : Value} (f g : Values → Bool) → ((vs : Values) → FitsAllOver (elementOf t) vs → f vs ≡ g vs) → FitsOver (list t) v →
+    inElements f v ≡ inElements g v
 unfolding inElements
 list-same f g h over-null = refl
 list-same f g h (over-list c a) = any-same (λ v. f (vcons v vnil)) (λ v. g (vcons v vnil)) (λ v b. h (vcons v vnil) (only b)) a
 
-array-same : {w : ℕ} {t : DataType} {v : Value} (f g : Values → Bool) → ((vs : Values) → FitsAllOver (elementOf t) vs → f vs ≡ g vs) → FitsOver (array w t) v → inElements f v ≡ inElements g v
+array-same : {w : ℕ} {t : DataType} {v : Value} (f g : Values → Bool) → ((vs : Values) → FitsAllOver (elementOf t) vs → f vs ≡ g vs) → FitsOver
+    (array w t) v → inElements f v ≡ inElements g v
 unfolding inElements
 array-same f g h over-null = refl
 array-same f g h (over-array c a) = any-same (λ v. f (vcons v vnil)) (λ v. g (vcons v vnil)) (λ v b. h (vcons v vnil) (only b)) a
 
-pub in-same : {Γ : Fields} {ρ : Values} → FitsAllOver Γ ρ → {E : List Frame} {Δ : Fields} (f g : Values → Bool) → Scoped Γ E Δ → ((σ : Values) → FitsAllOver Δ σ → f σ ≡ g σ)
+pub in-same : {Γ : Fields} {ρ : Values} → FitsAllOver Γ ρ → {E : List Frame} {Δ : Fields} (f g : Values → Bool) → Scoped Γ E Δ →
+    ((σ : Values) → FitsAllOver Δ σ → f σ ≡ g σ)
     → someIn ρ E f ≡ someIn ρ E g
 unfolding someIn
 in-same {ρ = ρ} r f g in-record h = h ρ r
@@ -95,7 +101,8 @@ in-none ρ (element s j ∷ E) = (λ i. someIn ρ E (λ σ. elements-none (eval 
 
 module _ {Γ : Fields} {ρ : Values} (r : FitsAllOver Γ ρ) {x : State} (T : TypedState Γ x) where
   -- asked of another selector in its place
-  pub asked-same : (w : Want) (f : Values → Bool) → ((σ : Values) → FitsAllOver (T .scope) σ → some w (x .path) (eval σ (x .selector)) ≡ f σ) → asked ρ x w ≡ someIn ρ (x .frames) f
+  pub asked-same : (w : Want) (f : Values → Bool) → ((σ : Values) → FitsAllOver (T .scope) σ → some w (x .path) (eval σ (x .selector)) ≡ f σ) → asked ρ
+      x w ≡ someIn ρ (x .frames) f
   unfolding asked
   asked-same w f h = in-same r (λ σ. some w (x .path) (eval σ (x .selector))) f (T .scoped) h
 

@@ -12,25 +12,25 @@ use Rattle.layout.specs.declared.edition.Edition.{Edition}
 use Rattle.values.specs.Value.{Values}
 use Rattle.values.proofs.Back.{values-back}
 use Rattle.plan.specs.Selector.{Selector}
-use Rattle.plan.specs.Formed.{Formed}
+use Rattle.plan.specs.code.Formed.{Formed}
 use Rattle.plan.specs.Run.{eval}
-use Rattle.plan.specs.Fits.{FitsAllOver}
+use Rattle.plan.specs.code.Fits.{FitsAllOver}
 use Rattle.plan.proofs.Typed.{check→typed}
 use Rattle.plan.proofs.Over.{all-over}
 use Rattle.plan.proofs.ReadBack.{selector-back}
-use Rattle.nodes.specs.Raw.{RowAt}
-use Rattle.nodes.specs.declared.places.ColumnRange.{ColumnRange}
-use Rattle.walk.specs.Stands.{SelectorAt}
-use Rattle.walk.specs.State.{Frame, State, state as stateOf}
-use Rattle.walk.specs.Moves.{Input as InputOf}
-use Rattle.walk.specs.Standing.{Entered, e-fields, e-list, e-array, Entries, e-none, e-more, WalkAt, rank, Located, StepsTo}
+use Rattle.nodes.specs.code.Raw.{RowAt}
+use Rattle.layout.specs.declared.columns.ColumnRange.{ColumnRange}
+use Rattle.walk.specs.code.Stands.{SelectorAt}
+use Rattle.walk.specs.code.State.{Frame, State, state as stateOf}
+use Rattle.walk.specs.code.Moves.{Input as InputOf}
+use Rattle.walk.specs.code.Walks.{Entered, e-fields, e-list, e-array, Entries, e-none, e-more, WalkAt, rank, Located, StepsTo}
 use Rattle.walk.specs.declared.walk.Walk.{Walk}
 use Rattle.walk.proofs.View.{selector-longer}
-use Rattle.walk.proofs.Standing.{walk-starts, innermost}
-use Rattle.overflow.specs.Ranges.{RecordAt}
-use Rattle.overflow.specs.Want.{SmallWant}
-use Rattle.overflow.specs.Some.{some, someIn, asked}
-use Rattle.overflow.specs.Seek.{stopOf, Seeks, outer}
+use Rattle.walk.proofs.Walks.{walk-starts, innermost}
+use Rattle.overflow.specs.code.Ranges.{RecordAt}
+use Rattle.overflow.specs.code.Want.{SmallWant}
+use Rattle.overflow.specs.code.Some.{some, someIn, asked}
+use Rattle.overflow.specs.code.Seek.{stopOf, Seeks, outer}
 use Rattle.overflow.specs.declared.want.Want.{Want}
 use Rattle.overflow.specs.declared.stop.Stop.{Stop}
 use Rattle.overflow.specs.declared.stop.Stop.the-variants.{No, Yes, Input, Outward}
@@ -128,14 +128,17 @@ module _ {plan : Bytes} {Γ : Fields} {ρ : Values} {b : Bool} {w : Walk} {a : W
       pub input-starts : r .at < r .lim
       input-starts = walk-starts (h (S .state) (S .standing) .standing)
 
-      pub seeking-input : {c : Want} {n : Walk} → q ≡ Input c → ((p : Bytes) (x : State) (s : Selector) → WalkAt p r x → InputOf (x .selector) s → StepsTo p (stateOf s (x .frames) (x .path)) r n)
+      pub seeking-input : {c : Want} {n : Walk} → q ≡ Input c → ((p : Bytes) (x : State) (s : Selector) → WalkAt p r x → InputOf (x .selector) s →
+          StepsTo p (stateOf s (x .frames) (x .path)) r n)
           → Seeking plan Γ ρ b n c × (rank n < rank w)
       unfolding seeking-located
       seeking-input e k =
           let L = h (S .state) (S .standing) in
           let I = means e in
-          let N = k plan (L .state) (I .input) (L .standing) (I .is) in
-          (record { fits = S .fits; state = _; standing = N .standing; typed = I .typed; small = I .small; is = sym (I .same) ∙ seeking-located .is }, omega (arith, N .falls, L .falls))
+          let N = k plan (L .state) (I .input) (L .standing) (I .is) in (
+            record { fits = S .fits; state = _; standing = N .standing; typed = I .typed; small = I .small; is = sym (I .same) ∙ seeking-located .is },
+            omega (arith, N .falls, L .falls),
+          )
 
       pub outward-starts : {c : Want} → q ≡ Outward c → (0 < r .deep) × (r .deep ≤ 64) × (getD (r .maps) (r .deep - 1) 0 < r .at)
       outward-starts e = outward-asks (h (S .state) (S .standing) .standing) (means e .frames)
@@ -146,13 +149,23 @@ module _ {plan : Bytes} {Γ : Fields} {ρ : Values} {b : Bool} {w : Walk} {a : W
           let L = h (S .state) (S .standing) in
           let O = means e in
           let N = outward-steps (L .standing) (O .frames) (O .of) in
-          let R : Seeking plan Γ ρ b (outer r) c = record { fits = S .fits; state = _; standing = N .standing; typed = O .typed; small = O .small; is = sym (O .same) ∙ seeking-located .is } in
+          let R : Seeking plan Γ ρ b (outer r) c = record {
+            fits = S .fits;
+            state = _;
+            standing = N .standing;
+            typed = O .typed;
+            small = O .small;
+            is =
+                sym (O .same) ∙ seeking-located .is;
+          } in
           subst (λ (n : Walk). Seeking plan Γ ρ b n c × (rank n < rank w)) (sym k) (R, omega (arith, N .falls, L .falls))
 
 -- ---- the start
 
-pub row-over : {v : Edition} {lay : Bytes} {n t : ℕ} {rec : Bytes} → AllBytes rec → (X : RowAt v lay n t rec 0) → FitsAllOver (fieldsOf (X .columns .columns)) (X .values .values)
-row-over {rec = rec} o X = all-over (values-back (fieldsOf (X .columns .columns)) rec o 0 (X .values .values) (X .values .end) (omega arith) (X .values .reads) .fits)
+pub row-over : {v : Edition} {lay : Bytes} {n t : ℕ} {rec : Bytes} → AllBytes rec → (X : RowAt v lay n t rec 0) → FitsAllOver
+    (fieldsOf (X .columns .columns)) (X .values .values)
+row-over {rec = rec} o X = all-over (values-back (fieldsOf (X .columns .columns)) rec o 0 (X .values .values) (X .values .end) (omega arith)
+    (X .values .reads) .fits)
 
 pub formed-at : {plan : Bytes} {at : ℕ} → AllBytes plan → (P : SelectorAt plan at) → Formed (P .tree)
 formed-at {plan} {at} o P = selector-back plan o 64 at (P .tree) (P .end) (P .reads) .formed

@@ -17,13 +17,13 @@ use Rattle.plan.specs.Selector.{Selector, position, constant, cast, structMappi
 use Rattle.plan.specs.Convert.{unitChange}
 use Rattle.plan.specs.Check.{elementOf, castFits}
 use Rattle.plan.specs.Run.{valueAt, castValue, mapValues, onStruct, onList, onArray, eval, evals}
-use Rattle.plan.specs.Fits.{FitsOver, over-null, over-number, over-text, over-datetime, over-struct, over-list, over-array, FitsAllOver}
+use Rattle.plan.specs.code.Fits.{FitsOver, over-null, over-number, over-text, over-datetime, over-struct, over-list, over-array, FitsAllOver}
 use Rattle.plan.proofs.Results.{true≠false}
 use Rattle.plan.proofs.Typed.{At, here, there, Typed, t-position, t-cast, t-struct, t-list, t-array}
 use Rattle.plan.proofs.Preserve.{eval-over}
-use Rattle.walk.specs.State.{Frame, fields, element, state}
-use Rattle.overflow.specs.Want.{Small, boundsBefore, timeOf, countBeyond, filled, isBeyond, isStruct, isFilled, meets}
-use Rattle.overflow.specs.Some.{anyOf, somePart, some, inStruct, inElements, someIn, asked}
+use Rattle.walk.specs.code.State.{Frame, fields, element, state}
+use Rattle.overflow.specs.code.Want.{Small, boundsBefore, timeOf, countBeyond, filled, isBeyond, isStruct, isFilled, meets}
+use Rattle.overflow.specs.code.Some.{anyOf, somePart, some, inStruct, inElements, someIn, asked}
 use Rattle.overflow.specs.declared.want.Bounds.{Bounds}
 use Rattle.overflow.specs.declared.want.Timed.the-variants.{In, Never}
 use Rattle.overflow.specs.declared.want.Want.{Want}
@@ -80,7 +80,8 @@ module _ (ρ : Values) (w : Want) (n : Bytes) (t : DataType) (v : Value) (p : Li
   unfolding someIn asked some
   constant-fields s E e = constant-is (fields s ∷ E) e ∙ (λ i. someIn ρ E (λ σ. struct-run (eval σ s) i))
 
-  pub constant-element : (s : Selector) (j : ℕ) (E : List Frame) → some w p v ≡ true → asked ρ (state (constant n t v) (element s j ∷ E) p) w ≡ asked ρ (state s E []) Element
+  pub constant-element : (s : Selector) (j : ℕ) (E : List Frame) → some w p v ≡ true → asked ρ (state (constant n t v) (element s j ∷ E) p) w ≡ asked ρ
+      (state s E []) Element
   unfolding someIn asked some
   constant-element s j E e = constant-is (element s j ∷ E) e ∙ (λ i. someIn ρ E (λ σ. element-run (eval σ s) i))
 
@@ -169,7 +170,8 @@ pub data Nested : DataType → Type 0 where
   an-array : {w : ℕ} {t : DataType} → Nested (array w t)
 
 -- a cast to a nested type gives null
-cast-null : {u : DataType} {v : Value} → Nested u → (t : DataType) (o : CastOption) → castFits t u o ≡ true → FitsOver t v → FitsOver u (castValue u v) → castValue u v ≡ vnull
+cast-null : {u : DataType} {v : Value} → Nested u → (t : DataType) (o : CastOption) → castFits t u o ≡ true → FitsOver t v → FitsOver u (castValue u v)
+    → castValue u v ≡ vnull
 unfolding castFits castValue
 cast-null a-struct (leaf l) o e h g = struct-null h g
 cast-null a-list (leaf l) o e h g = list-null h g
@@ -183,19 +185,22 @@ module _ {Δ : Fields} {n : Bytes} {σ : Values} (h : FitsAllOver Δ σ) (w : Wa
   unfolding eval
   nested-none p a (t-cast {t = t} {o = o} d r b) = ap (some w p) (cast-null a t o r (eval-over d h) (eval-over (t-cast d r b) h)) ∙ some-null w p
 
-  path-none : {t : DataType} (u : DataType) {s : Selector} {o : CastOption} (k : ℕ) (p : List ℕ) → Typed Δ (cast s u o) n t → some w (k ∷ p) (eval σ (cast s u o)) ≡ false
+  path-none : {t : DataType} (u : DataType) {s : Selector} {o : CastOption} (k : ℕ) (p : List ℕ) → Typed Δ (cast s u o) n t → some w (k ∷ p)
+      (eval σ (cast s u o)) ≡ false
   path-none (leaf l) k p (t-cast d r b) = leaf-path w k p (eval-over (t-cast d r b) h)
   path-none (struct fs) k p d = nested-none (k ∷ p) a-struct d
   path-none (list t) k p d = nested-none (k ∷ p) a-list d
   path-none (array m t) k p d = nested-none (k ∷ p) an-array d
 
 -- to a leaf that is no date-time, and to one that is
-other-none : {Δ : Fields} {n : Bytes} {σ : Values} → FitsAllOver Δ σ → (w : Want) {t : DataType} {l : LeafType} {s : Selector} {o : CastOption} → timeOf (leafOf l) ≡ Never
+other-none : {Δ : Fields} {n : Bytes} {σ : Values} → FitsAllOver Δ σ → (w : Want) {t : DataType} {l : LeafType} {s : Selector} {o : CastOption} → timeOf
+    (leafOf l) ≡ Never
     → Typed Δ (cast s (leaf l) o) n t → some w [] (eval σ (cast s (leaf l) o)) ≡ false
 unfolding some
 other-none h w q (t-cast d r b) = leaf-other w q (eval-over (t-cast d r b) h)
 
-casts-leaf : (c : TimeUnit) (z : Bytes) {d : Bounds} (u : TimeUnit) → Small d → (t : DataType) (o : CastOption) {v : Value} → castFits t (leaf (datetime c z)) o ≡ true → FitsOver t v
+casts-leaf : (c : TimeUnit) (z : Bytes) {d : Bounds} (u : TimeUnit) → Small d → (t : DataType) (o : CastOption) {v : Value} → castFits t
+    (leaf (datetime c z)) o ≡ true → FitsOver t v
     → isBeyond d u (castValue (leaf (datetime c z)) v) ≡ isBeyond (boundsBefore (unitChange c u) d) c v
 unfolding castFits castValue
 casts-leaf c z u s (leaf l) o e f = leaf-cast c u s (passes-casts l (datetime c z) o e) f
@@ -204,11 +209,13 @@ casts-leaf c z u s (list t) o e f = true≠false e refl
 casts-leaf c z u s (array w t) o e f = true≠false e refl
 
 module _ (c : TimeUnit) (z : Bytes) {Δ : Fields} {n : Bytes} {σ : Values} (h : FitsAllOver Δ σ) where
-  parts-none : {t : DataType} {s : Selector} {o : CastOption} → Typed Δ (cast s (leaf (datetime c z)) o) n t → some Parts [] (eval σ (cast s (leaf (datetime c z)) o)) ≡ false
+  parts-none : {t : DataType} {s : Selector} {o : CastOption} → Typed Δ (cast s (leaf (datetime c z)) o) n t → some Parts []
+      (eval σ (cast s (leaf (datetime c z)) o)) ≡ false
   unfolding some
   parts-none (t-cast d r b) = leaf-parts (eval-over (t-cast d r b) h)
 
-  element-none : {t : DataType} {s : Selector} {o : CastOption} → Typed Δ (cast s (leaf (datetime c z)) o) n t → some Element [] (eval σ (cast s (leaf (datetime c z)) o)) ≡ false
+  element-none : {t : DataType} {s : Selector} {o : CastOption} → Typed Δ (cast s (leaf (datetime c z)) o) n t → some Element []
+      (eval σ (cast s (leaf (datetime c z)) o)) ≡ false
   unfolding some
   element-none (t-cast d r b) = leaf-element (eval-over (t-cast d r b) h)
 
@@ -225,7 +232,8 @@ module _ {Γ : Fields} {ρ : Values} (r : FitsAllOver Γ ρ) (w : Want) {E : Lis
   cast-nested p a T = asked-none r T w (λ σ h. nested-none h w p a (T .typed))
 
 module _ {Γ : Fields} {ρ : Values} (r : FitsAllOver Γ ρ) {E : List Frame} {s : Selector} {o : CastOption} where
-  pub cast-other : (w : Want) (l : LeafType) → timeOf (leafOf l) ≡ Never → TypedState Γ (state (cast s (leaf l) o) E []) → asked ρ (state (cast s (leaf l) o) E []) w ≡ false
+  pub cast-other : (w : Want) (l : LeafType) → timeOf (leafOf l) ≡ Never → TypedState Γ (state (cast s (leaf l) o) E []) → asked ρ
+      (state (cast s (leaf l) o) E []) w ≡ false
   cast-other w l q T = asked-none r T w (λ σ h. other-none h w q (T .typed))
 
   module _ (c : TimeUnit) (z : Bytes) (T : TypedState Γ (state (cast s (leaf (datetime c z)) o) E [])) where
@@ -239,7 +247,8 @@ module _ {Γ : Fields} {ρ : Values} (r : FitsAllOver Γ ρ) {E : List Frame} {s
         → asked ρ (state (cast s (leaf (datetime c z)) o) E []) (Beyond d u) ≡ asked ρ (state s E []) (Beyond (boundsBefore (unitChange c u) d) c)
     unfolding asked
     cast-beyond d u k =
-        in-same r (λ σ. some (Beyond d u) [] (eval σ (cast s (leaf (datetime c z)) o))) (λ σ. some (Beyond (boundsBefore (unitChange c u) d) c) [] (eval σ s)) (T .scoped)
+        in-same r (λ σ. some (Beyond d u) [] (eval σ (cast s (leaf (datetime c z)) o)))
+        (λ σ. some (Beyond (boundsBefore (unitChange c u) d) c) [] (eval σ s)) (T .scoped)
         (λ σ h. time-cast c z h u k (T .typed))
 
 -- ---- a mapping at the path's end
@@ -344,12 +353,14 @@ unfolding somePart onStruct
 no-part f k ss e h over-null = refl
 no-part f k ss e h (over-struct {vs = vs} a) = ap f (no-value vs ss k h) ∙ e
 
-field-none : {Δ : Fields} {n : Bytes} {t : DataType} {σ : Values} {s : Selector} {ss : Selectors} (w : Want) (k : ℕ) (p : List ℕ) → countSelectors ss ≤ k → FitsAllOver Δ σ
+field-none : {Δ : Fields} {n : Bytes} {t : DataType} {σ : Values} {s : Selector} {ss : Selectors} (w : Want) (k : ℕ) (p : List ℕ) → countSelectors ss ≤
+    k → FitsAllOver Δ σ
     → Typed Δ (structMapping s ss) n t → some w (k ∷ p) (eval σ (structMapping s ss)) ≡ false
 unfolding some eval
 field-none {ss = ss} w k p l h (t-struct d ds b) = no-part (λ v. some w p v) k ss (some-null w p) l (eval-over d h)
 
-pub no-field : {Γ : Fields} {ρ : Values} → FitsAllOver Γ ρ → (w : Want) {E : List Frame} {s : Selector} {ss : Selectors} (k : ℕ) (p : List ℕ) → countSelectors ss ≤ k
+pub no-field : {Γ : Fields} {ρ : Values} → FitsAllOver Γ ρ → (w : Want) {E : List Frame} {s : Selector} {ss : Selectors} (k : ℕ) (p : List ℕ) →
+    countSelectors ss ≤ k
     → TypedState Γ (state (structMapping s ss) E (k ∷ p)) → asked ρ (state (structMapping s ss) E (k ∷ p)) w ≡ false
 no-field r w k p l T = asked-none r T w (λ σ h. field-none w k p l h (T .typed))
 
@@ -361,9 +372,11 @@ one-column : {u : DataType} {k : ℕ} {n : Bytes} {t : DataType} → At (element
 one-column here = refl
 one-column (there a) = none-there refl a
 
-element-position : {Γ : Fields} {E : List Frame} {s : Selector} {i : ℕ} {k : Position} {Δ : Fields} {n : Bytes} {t : DataType} → Scoped Γ (element s i ∷ E) Δ → Typed Δ (position k) n t → k .0 ≡ 0
+element-position : {Γ : Fields} {E : List Frame} {s : Selector} {i : ℕ} {k : Position} {Δ : Fields} {n : Bytes} {t : DataType} → Scoped Γ
+    (element s i ∷ E) Δ → Typed Δ (position k) n t → k .0 ≡ 0
 element-position (in-list c d) (t-position a) = one-column a
 element-position (in-array c d) (t-position a) = one-column a
 
-pub no-element : {Γ : Fields} {E : List Frame} {s : Selector} {i : ℕ} {k : Position} {p : List ℕ} {X : Type 0} → 0 < k .0 → TypedState Γ (state (position k) (element s i ∷ E) p) → X
+pub no-element : {Γ : Fields} {E : List Frame} {s : Selector} {i : ℕ} {k : Position} {p : List ℕ} {X : Type 0} → 0 < k .0 → TypedState Γ
+    (state (position k) (element s i ∷ E) p) → X
 no-element h T = let e = element-position (T .scoped) (T .typed) in absurd (omega arith)

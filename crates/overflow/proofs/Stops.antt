@@ -9,7 +9,7 @@ use lib.Seq.{slice}
 use Rattle.layout.specs.Bytes.{Bytes}
 use Rattle.layout.specs.Tree.{DataType, dtypeOf}
 use Rattle.layout.specs.Layout.{type, deepest}
-use Rattle.layout.specs.Stands.{TypeAt}
+use Rattle.layout.specs.code.Stands.{TypeAt}
 use Rattle.layout.specs.declared.bytes.Span.{Span}
 use Rattle.layout.specs.declared.columns.Position.{Position}
 use Rattle.layout.specs.declared.columns.Siblings.the-variants.{Free}
@@ -18,17 +18,17 @@ use Rattle.layout.specs.declared.edition.Edition.the-variants.{One}
 use Rattle.values.specs.Value.{Value, Values}
 use Rattle.plan.specs.Selector.{Selector, position}
 use Rattle.plan.specs.Run.{valueAt}
-use Rattle.walk.specs.State.{State}
-use Rattle.walk.specs.Stands.{SelectorAt}
-use Rattle.walk.specs.Parts.{HeadIs}
-use Rattle.walk.specs.Standing.{WalkAt}
+use Rattle.walk.specs.code.State.{State}
+use Rattle.walk.specs.code.Stands.{SelectorAt}
+use Rattle.walk.specs.code.Parts.{HeadIs}
+use Rattle.walk.specs.code.Walks.{WalkAt}
 use Rattle.walk.specs.declared.walk.Walk.{Walk}
 use Rattle.walk.specs.declared.head.SelectorHead.{SelectorHead}
 use Rattle.walk.proofs.Heads.{is-position, is-constant, is-cast, is-rename, is-struct, is-list, is-array}
-use Rattle.walk.proofs.Standing.{top-frames, some-inner, path-some, path-none}
+use Rattle.walk.proofs.Walks.{top-frames, some-inner, path-some, path-none}
 use Rattle.walk.proofs.Moving.{walk-is}
-use Rattle.overflow.specs.Some.{some}
-use Rattle.overflow.specs.Seek.{RawIn, answered, columnStop, ranStop, constantStop, castStop, structStop, listStop, stopAt, stopOf}
+use Rattle.overflow.specs.code.Some.{some}
+use Rattle.overflow.specs.code.Seek.{RawIn, answered, columnStop, ranStop, constantStop, castStop, structStop, listStop, stopAt, stopOf}
 use Rattle.overflow.specs.declared.want.Want.{Want}
 use Rattle.overflow.specs.declared.stop.Stop.{Stop}
 use Rattle.overflow.specs.declared.stop.Stop.the-variants.{No, Yes, Input}
@@ -55,7 +55,8 @@ module _ {plan : Bytes} {w : Walk} {x : State} (M : WalkAt plan w x) where
   unfolding constantStop
   constant-found v a e f h = h ∙ sym (ap (λ (c : Bool). constantStop c (x .frames)) (sym (ap (λ (p : List ℕ). some a p v) (M .path)) ∙ sym e ∙ f))
 
-  pub constant-not : (v : Value) (a : Want) {b : Bool} → b ≡ some a (slice (w .deep) (w .len) (w .path)) v → b ≡ false → No ≡ constantStop (some a (x .path) v) (x .frames)
+  pub constant-not : (v : Value) (a : Want) {b : Bool} → b ≡ some a (slice (w .deep) (w .len) (w .path)) v → b ≡ false → No ≡ constantStop
+      (some a (x .path) v) (x .frames)
   unfolding constantStop
   constant-not v a e f = sym (ap (λ (c : Bool). constantStop c (x .frames)) (sym (ap (λ (p : List ℕ). some a p v) (M .path)) ∙ sym e ∙ f))
 
@@ -107,7 +108,12 @@ module _ {plan : Bytes} {w : Walk} {x : State} (M : WalkAt plan w x) where
         unfolding stopAt
         cast-stop h =
             let C = is-cast H f in
-            selected (walk-is M (C .is)) (h (record { tree = C .type .tree; end = C .type .end; reads = ap (λ (o : ℕ). type One Free deepest plan o) (g (C .input)) ∙ C .type .reads }))
+            selected (walk-is M (C .is)) (h (record {
+              tree = C .type .tree;
+              end = C .type .end;
+              reads = ap (λ (o : ℕ). type One Free deepest plan o)
+                  (g (C .input)) ∙ C .type .reads;
+            }))
 
   -- ---- what the callees ask
 

@@ -1,6 +1,1 @@
-pub mod Ranges
-pub mod Want
-pub mod Some
-pub mod Leaves
-pub mod Seek
-pub mod Overflows
+pub mod code

@@ -6,17 +6,17 @@
 ghost use mathlib.Core.Path.{_≡_};
 ghost use Prim.Native.Nat.{_-_, _<_, _≤_};
 ghost use lib.ListN.{getD};
-ghost use Rattle.ends.specs.Ends.{Ends};
+ghost use Rattle.ends.specs.code.Ends.{Ends};
 ghost use Rattle.layout.specs.Tree.{fieldsOf};
 ghost use Rattle.plan.specs.Run.{eval};
-ghost use Rattle.overflow.specs.Ranges.{RecordAt};
-ghost use Rattle.overflow.specs.Want.{SmallWant};
-ghost use Rattle.overflow.specs.Some.{some};
-ghost use Rattle.overflow.specs.Seek.{Seeks, outer};
+ghost use Rattle.overflow.specs.code.Ranges.{RecordAt};
+ghost use Rattle.overflow.specs.code.Want.{SmallWant};
+ghost use Rattle.overflow.specs.code.Some.{some};
+ghost use Rattle.overflow.specs.code.Seek.{Seeks, outer};
 use crate::stop::Stop;
 use crate::stop::at_stop;
 use crate::want::Want;
-use nodes::places::ColumnRange;
+use layout::columns::ColumnRange;
 use walk::walk::Walk;
 
 // To the input of the innermost mapping, with no path.

@@ -3,7 +3,7 @@ ghost use mathlib.Core.Path.{_≡_};
 ghost use Prim.Native.Nat.{_*_, _^_, _<_, _≤_, min};
 ghost use Rattle.numeric.specs.Integers.{signed};
 ghost use Rattle.plan.specs.Convert.{multiply, divide, unitChange};
-ghost use Rattle.overflow.specs.Want.{outside, Small, boundsBefore, timeOf, countBeyond};
+ghost use Rattle.overflow.specs.code.Want.{outside, Small, boundsBefore, timeOf, countBeyond};
 use layout::leaf::Leaf;
 use layout::leaf::TimeUnit;
 use rules::kinds::Class;

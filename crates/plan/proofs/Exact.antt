@@ -7,8 +7,10 @@ use Rattle.values.specs.Value.{Value, Values}
 use Rattle.values.specs.Fits.{Fits}
 use Rattle.plan.proofs.Results.{both, and-true}
 use Rattle.plan.proofs.Over.{fits-over}
-use Rattle.values.specs.Filled.{requiredOf, Filled, full-null, full-number, full-text, full-over, full-struct, full-list, full-array, FilledAll, full-nil, full-cons, FilledEach, full-none, full-more}
-use Rattle.plan.specs.Nullness.{Place, required, optional, novalue, Nullness, node, Nullnesses, nnil, ncons, nowhere, nullnessAt, joinPlace, join, joinAll, ofValue, ofFields, ofElements}
+use Rattle.values.specs.Filled.{requiredOf, Filled, full-null, full-number, full-text, full-over, full-struct, full-list, full-array, FilledAll, full-nil}
+use Rattle.values.specs.Filled.{full-cons, FilledEach, full-none, full-more}
+use Rattle.plan.specs.Nullness.{Place, required, optional, novalue, Nullness, node, Nullnesses, nnil, ncons, nowhere, nullnessAt, joinPlace, join}
+use Rattle.plan.specs.Nullness.{joinAll, ofValue, ofFields, ofElements}
 use Rattle.plan.specs.Marks.{allowed, meets, meetsAll}
 use Rattle.plan.proofs.Holds.{value-holds}
 use Rattle.plan.proofs.Sound.{holds-filled}

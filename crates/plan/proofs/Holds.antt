@@ -17,11 +17,13 @@ use Rattle.rules.specs.Classes.{classOf}
 use Rattle.plan.specs.Check.{castFits}
 use Rattle.plan.specs.Convert.{UnitChange, multiply, divide, keep, unitChange, counted, rescaled, convertAs, convert}
 use Rattle.plan.specs.Run.{valueAt, castLeaf, castValue, mapValues, onStruct, onList, onArray, eval, evals}
-use Rattle.plan.specs.Fits.{FitsOver, over-null, over-number, over-text, over-datetime, over-struct, over-list, over-array, FitsAllOver, over-cons, FitsEachOver, over-none, over-more}
+use Rattle.plan.specs.code.Fits.{FitsOver, over-null, over-number, over-text, over-datetime, over-struct, over-list, over-array, FitsAllOver, over-cons}
+use Rattle.plan.specs.code.Fits.{FitsEachOver, over-none, over-more}
 use Rattle.plan.proofs.Results.{true≠false}
 use Rattle.plan.proofs.Typed.{At, here, there, Typed, t-position, t-constant, t-cast, t-rename, t-struct, t-list, t-array, TypedAll, t-nil, t-cons}
 use Rattle.plan.proofs.Preserve.{only, eval-over}
-use Rattle.plan.specs.Nullness.{Place, required, optional, novalue, Nullness, node, Nullnesses, nnil, ncons, topOf, insideOf, nullnessAt, joinPlace, join, joinAll, ofValue, ofFields, ofElements, nullnessOf, nullnessesOf}
+use Rattle.plan.specs.Nullness.{Place, required, optional, novalue, Nullness, node, Nullnesses, nnil, ncons, topOf, insideOf, nullnessAt, joinPlace, join}
+use Rattle.plan.specs.Nullness.{joinAll, ofValue, ofFields, ofElements, nullnessOf, nullnessesOf}
 
 pub data Present : Place → Type 0 where
   is-required : Present required
@@ -133,7 +135,8 @@ mutual
 
 -- ---- positions
 
-at-holds : {Γ : Fields} {ρ : Values} {k : ℕ} {n : Bytes} {t : DataType} {ns : Nullnesses} → At Γ k n t → FitsAllOver Γ ρ → HoldsAll ns ρ → Holds (nullnessAt ns k) (valueAt ρ k)
+at-holds : {Γ : Fields} {ρ : Values} {k : ℕ} {n : Bytes} {t : DataType} {ns : Nullnesses} → At Γ k n t → FitsAllOver Γ ρ → HoldsAll ns ρ → Holds
+    (nullnessAt ns k) (valueAt ρ k)
 unfolding valueAt nullnessAt
 at-holds here (over-cons f fs) (h-cons h hs) = h
 at-holds (there a) (over-cons f fs) (h-cons h hs) = at-holds a fs hs
@@ -191,7 +194,8 @@ leaf-alone (over-number e f g) (h-number h) = h-number h
 leaf-alone (over-text e f) (h-text h) = h-text h
 leaf-alone (over-datetime e) (h-over h) = h-over h
 
-cast-holds : (t u : DataType) (o : CastOption) {n : Nullness} {v : Value} → castFits t u o ≡ true → FitsOver t v → Holds n v → Holds (node (topOf n) nnil) (castValue u v)
+cast-holds : (t u : DataType) (o : CastOption) {n : Nullness} {v : Value} → castFits t u o ≡ true → FitsOver t v → Holds n v → Holds
+    (node (topOf n) nnil) (castValue u v)
 unfolding castFits
 cast-holds (leaf l) u o e f h = value-cast u (leaf-alone f h)
 cast-holds (struct fs) u o e f h = true≠false e refl
@@ -200,25 +204,29 @@ cast-holds (array w t) u o e f h = true≠false e refl
 
 -- ---- mappings
 
-struct-holds : {fs : Fields} {n : Nullness} {ms : Nullnesses} {v : Value} (f : Values → Values) → ((vs : Values) → FitsAllOver fs vs → HoldsAll (insideOf n) vs → HoldsAll ms (f vs)) → FitsOver (struct fs) v → Holds n v
+struct-holds : {fs : Fields} {n : Nullness} {ms : Nullnesses} {v : Value} (f : Values → Values) →
+    ((vs : Values) → FitsAllOver fs vs → HoldsAll (insideOf n) vs → HoldsAll ms (f vs)) → FitsOver (struct fs) v → Holds n v
     → Holds (node (topOf n) ms) (onStruct f v)
 unfolding onStruct
 struct-holds f g over-null h-null = h-null
 struct-holds f g (over-struct a) (h-struct h b) = h-struct h (g _ a b)
 
-each-holds : {t : DataType} {ns : Nullnesses} {m : Nullness} {vs : Values} (f : Value → Value) → ((v : Value) → FitsOver t v → HoldsAll ns (vcons v vnil) → Holds m (f v)) → FitsEachOver t vs → HoldsEach ns vs
+each-holds : {t : DataType} {ns : Nullnesses} {m : Nullness} {vs : Values} (f : Value → Value) →
+    ((v : Value) → FitsOver t v → HoldsAll ns (vcons v vnil) → Holds m (f v)) → FitsEachOver t vs → HoldsEach ns vs
     → HoldsEach (ncons m nnil) (mapValues f vs)
 unfolding mapValues
 each-holds f g over-none h-none = h-none
 each-holds f g (over-more a fs) (h-more b bs) = h-more (h-cons (g _ a b) h-nil) (each-holds f g fs bs)
 
-list-holds : {t : DataType} {n m : Nullness} {v : Value} (f : Value → Value) → ((v : Value) → FitsOver t v → HoldsAll (insideOf n) (vcons v vnil) → Holds m (f v)) → FitsOver (list t) v → Holds n v
+list-holds : {t : DataType} {n m : Nullness} {v : Value} (f : Value → Value) → ((v : Value) → FitsOver t v → HoldsAll (insideOf n) (vcons v vnil) →
+    Holds m (f v)) → FitsOver (list t) v → Holds n v
     → Holds (node (topOf n) (ncons m nnil)) (onList f v)
 unfolding onList
 list-holds f g over-null h-null = h-null
 list-holds f g (over-list c a) (h-list h b) = h-list h (each-holds f g a b)
 
-array-holds : {w : ℕ} {t : DataType} {n m : Nullness} {v : Value} (f : Value → Value) → ((v : Value) → FitsOver t v → HoldsAll (insideOf n) (vcons v vnil) → Holds m (f v)) → FitsOver (array w t) v → Holds n v
+array-holds : {w : ℕ} {t : DataType} {n m : Nullness} {v : Value} (f : Value → Value) →
+    ((v : Value) → FitsOver t v → HoldsAll (insideOf n) (vcons v vnil) → Holds m (f v)) → FitsOver (array w t) v → Holds n v
     → Holds (node (topOf n) (ncons m nnil)) (onArray f v)
 unfolding onArray
 array-holds f g over-null h-null = h-null
@@ -229,7 +237,8 @@ array-holds f g (over-array c a) (h-array h b) = h-array h (each-holds f g a b)
 mutual
   unfolding eval evals nullnessOf nullnessesOf
 
-  pub eval-holds : {Γ : Fields} {ρ : Values} {s : Selector} {n : Bytes} {t : DataType} {ns : Nullnesses} → Typed Γ s n t → FitsAllOver Γ ρ → HoldsAll ns ρ → Holds (nullnessOf ns s) (eval ρ s)
+  pub eval-holds : {Γ : Fields} {ρ : Values} {s : Selector} {n : Bytes} {t : DataType} {ns : Nullnesses} → Typed Γ s n t → FitsAllOver Γ ρ → HoldsAll ns
+      ρ → Holds (nullnessOf ns s) (eval ρ s)
   eval-holds (t-position a) f h = at-holds a f h
   eval-holds (t-constant {v = v} g) f h = value-holds v
   eval-holds (t-cast {t = t} {u} {o} d r b) f h = cast-holds t u o r (eval-over d f) (eval-holds d f h)
@@ -238,6 +247,7 @@ mutual
   eval-holds (t-list d e b) f h = list-holds _ (λ v g k. eval-holds e (only g) k) (eval-over d f) (eval-holds d f h)
   eval-holds (t-array d e b) f h = array-holds _ (λ v g k. eval-holds e (only g) k) (eval-over d f) (eval-holds d f h)
 
-  pub evals-hold : {Γ : Fields} {ρ : Values} {ss : Selectors} {fs : Fields} {ns : Nullnesses} → TypedAll Γ ss fs → FitsAllOver Γ ρ → HoldsAll ns ρ → HoldsAll (nullnessesOf ns ss) (evals ρ ss)
+  pub evals-hold : {Γ : Fields} {ρ : Values} {ss : Selectors} {fs : Fields} {ns : Nullnesses} → TypedAll Γ ss fs → FitsAllOver Γ ρ → HoldsAll ns ρ →
+      HoldsAll (nullnessesOf ns ss) (evals ρ ss)
   evals-hold t-nil f h = h-nil
   evals-hold (t-cons d ds) f h = h-cons (eval-holds d f h) (evals-hold ds f h)

@@ -17,8 +17,8 @@ use Rattle.rules.specs.declared.kinds.Class.{Class}
 use Rattle.rules.specs.Classes.{classOf}
 use Rattle.plan.specs.Convert.{UnitChange, multiply, divide, keep, unitChange, counted, rescaled, convertAs, convert}
 use Rattle.plan.specs.Run.{valueAt, castLeaf, castValue, mapValues, onStruct, onList, onArray, eval, evals, clean, cleanAll}
-use Rattle.plan.specs.Fallback.{Fallback, unlessOver, castLeafWith, castValueWith, evalWith, evalsWith}
-use Rattle.plan.specs.Formed.{Formed, f-position, f-constant, f-cast, f-rename, f-struct, f-list, f-array, FormedAll, f-nil, f-cons}
+use Rattle.plan.specs.code.Fallback.{Fallback, unlessOver, castLeafWith, castValueWith, evalWith, evalsWith}
+use Rattle.plan.specs.code.Formed.{Formed, f-position, f-constant, f-cast, f-rename, f-struct, f-list, f-array, FormedAll, f-nil, f-cons}
 use Rattle.plan.proofs.Results.{both, and-true}
 use Rattle.plan.proofs.Over.{fits-clean}
 
@@ -101,7 +101,8 @@ cast-like c (struct fs) h = h
 cast-like c (list t) h = h
 cast-like c (array w t) h = h
 
-struct-like : (f g : Values → Values) → ((vs ws : Values) → LikeAll vs ws → LikeAll (f vs) (g ws)) → {v w : Value} → Like v w → Like (onStruct f v) (onStruct g w)
+struct-like : (f g : Values → Values) → ((vs ws : Values) → LikeAll vs ws → LikeAll (f vs) (g ws)) → {v w : Value} → Like v w → Like (onStruct f v)
+    (onStruct g w)
 unfolding onStruct
 struct-like f g h l-over = l-over
 struct-like f g h l-null = l-null
@@ -262,7 +263,8 @@ module _ (c : Fallback) (cl : (i k : Leaf) (n : ℕ) → clean (c i k n) ≡ tru
     evalsWith-clean (f-cons f fs) ρ h = and-true (evalWith-clean f ρ h) (evalsWith-clean fs ρ h)
 
 -- the output of a record is clean exactly where no fallback has a say in it
-pub clean-independent : (ρ : Values) (ss : Selectors) → FormedAll ss → cleanAll ρ ≡ true → (cleanAll (evals ρ ss) ≡ true) ↔ ((c : Fallback) → evals ρ ss ≡ evalsWith c ρ ss)
+pub clean-independent : (ρ : Values) (ss : Selectors) → FormedAll ss → cleanAll ρ ≡ true → (cleanAll (evals ρ ss) ≡ true) ↔
+    ((c : Fallback) → evals ρ ss ≡ evalsWith c ρ ss)
 clean-independent ρ ss f h = (λ e c. clean→same c ρ ss e, λ k. ap cleanAll (k nulls) ∙ evalsWith-clean nulls (λ i k n. null-clean) f ρ h)
   where
     nulls : Fallback

@@ -16,7 +16,8 @@ use Rattle.rules.specs.declared.kinds.Class.{Class}
 use Rattle.layout.proofs.Ways.{clash}
 use Rattle.rules.specs.declared.outcome.CastOption.{CastOption}
 use Rattle.rules.specs.Classes.{classOf, isInteger, isFloat, isDatetime}
-use Rattle.rules.proofs.Casts.{Casts, from-null, integer-to-integer, integer-to-float, float-to-float, datetime-to-datetime, category-to-string, decimal-to-decimal}
+use Rattle.rules.proofs.Casts.{Casts, from-null, integer-to-integer, integer-to-float, float-to-float, datetime-to-datetime, category-to-string}
+use Rattle.rules.proofs.Casts.{decimal-to-decimal}
 use Rattle.numeric.specs.declared.integers.Integer.{Integer}
 use Rattle.numeric.specs.declared.floats.Format.{Format}
 use Rattle.numeric.specs.declared.times.Finer.{Finer}
@@ -30,7 +31,7 @@ use Rattle.values.specs.Content.{contentOf, patternsOf, within}
 use Rattle.values.specs.declared.content.Content.the-variants.{Text}
 use Rattle.plan.specs.Convert.{UnitChange, multiply, divide, keep, unitChange, counted, rescaled, convertAs, convert}
 use Rattle.plan.specs.Run.{castLeaf}
-use Rattle.plan.specs.Fits.{FitsOver, over-null, over-number, over-text, over-datetime}
+use Rattle.plan.specs.code.Fits.{FitsOver, over-null, over-number, over-text, over-datetime}
 use Rattle.plan.proofs.Results.{true≠false}
 
 -- ---- the classes of the rules, as kinds of numbers
@@ -143,7 +144,8 @@ widens-below d e = go (eqb (d .scale) (e .scale))
     go true h = let k = ltb-true (d .precision) (e .precision) h in omega arith
     go false h = clash (cc)
 
-number-cast : {l m : LeafType} {o : CastOption} → Casts l m o → (n : ℕ) → n < patternsOf (leafOf l) → within (leafOf l) n ≡ true → FitsOver (leaf m) (convert (leafOf l) (leafOf m) n)
+number-cast : {l m : LeafType} {o : CastOption} → Casts l m o → (n : ℕ) → n < patternsOf (leafOf l) → within (leafOf l) n ≡ true → FitsOver (leaf m)
+    (convert (leafOf l) (leafOf m) n)
 unfolding convert convertAs
 number-cast (from-null ne) n h t = absurd (omega arith)
 number-cast {l} {m} (integer-to-integer ne a b c) n h t =

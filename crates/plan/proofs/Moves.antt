@@ -11,8 +11,8 @@ use Rattle.layout.specs.Bytes.{Bytes, sameBytes}
 use Rattle.layout.specs.Parser.{Res, refuse, ok, next, choose, Parser, byte, u16}
 use Rattle.layout.specs.Tree.{dtypeOf}
 use Rattle.layout.specs.Layout.{text, type, ended}
-use Rattle.layout.specs.Answers.{stepRes, shortRes, textRes, movedOf}
-use Rattle.layout.specs.Stands.{TypeAt}
+use Rattle.layout.specs.code.Answers.{stepRes, shortRes, textRes, movedOf}
+use Rattle.layout.specs.code.Stands.{TypeAt}
 use Rattle.layout.specs.declared.bytes.Span.{Span}
 use Rattle.layout.specs.declared.cursor.Cursor.{Cursor}
 use Rattle.layout.specs.declared.cursor.Step.{Step}
@@ -31,12 +31,14 @@ use Rattle.rules.specs.Outcomes.{optionAt}
 use Rattle.values.specs.Value.{Value}
 use Rattle.values.specs.Reading.{value}
 use Rattle.values.specs.Record.{renumber}
-use Rattle.values.specs.Answers.{valueMoved}
+use Rattle.values.specs.code.Answers.{valueMoved}
 use Rattle.values.specs.declared.read.ValueRead.{ValueRead}
-use Rattle.plan.specs.Selector.{Selector, position, constant, cast, rename, structMapping, listMapping, arrayMapping, Selectors, snil, scons, countSelectors}
+use Rattle.plan.specs.Selector.{Selector, position, constant, cast, rename, structMapping, listMapping, arrayMapping, Selectors, snil, scons}
+use Rattle.plan.specs.Selector.{countSelectors}
 use Rattle.plan.specs.Encode.{planMark}
-use Rattle.plan.specs.Read.{dataType, castOption, knownOption, positionRest, constantRest, castRest, renameRest, structRest, listRest, arrayRest, selectorRest, selector, selectors, planSized, planVersion, planCounted, planFrom, faulty, plan}
-use Rattle.plan.specs.Answers.{valueEnd, planRead}
+use Rattle.plan.specs.Read.{dataType, castOption, knownOption, positionRest, constantRest, castRest, renameRest, structRest, listRest, arrayRest}
+use Rattle.plan.specs.Read.{selectorRest, selector, selectors, planSized, planVersion, planCounted, planFrom, faulty, plan}
+use Rattle.plan.specs.code.Answers.{valueEnd, planRead}
 use Rattle.plan.specs.declared.read.PlanRead.{PlanRead}
 
 module _ (s : Bytes) (at : ℕ) where
@@ -61,11 +63,13 @@ module _ (s : Bytes) (at : ℕ) where
   position-stopped e f = rw (← e, f)
 
   module _ {q : Step} (e : stepRes q ≡ byte s at) where
-    pub option-known : {b : ℕ} {c : Cursor} {o : OptionCode} {x : CastOption} → q ≡ Step.Byte b c → o ≡ optionAt b → o ≡ OptionCode.Known x → Moved.To c ≡ movedOf (castOption s at)
+    pub option-known : {b : ℕ} {c : Cursor} {o : OptionCode} {x : CastOption} → q ≡ Step.Byte b c → o ≡ optionAt b → o ≡ OptionCode.Known x → Moved.To c
+        ≡ movedOf (castOption s at)
     unfolding castOption knownOption next movedOf
     option-known f g h = rw (← e, f) (rw (← g, h))
 
-    pub option-unknown : {b : ℕ} {c : Cursor} {o : OptionCode} → q ≡ Step.Byte b c → o ≡ optionAt b → o ≡ OptionCode.Unknown → Moved.Refused 3 ≡ movedOf (castOption s at)
+    pub option-unknown : {b : ℕ} {c : Cursor} {o : OptionCode} → q ≡ Step.Byte b c → o ≡ optionAt b → o ≡ OptionCode.Unknown → Moved.Refused 3 ≡ movedOf
+        (castOption s at)
     unfolding castOption knownOption next movedOf
     option-unknown f g h = rw (← e, f) (rw (← g, h))
 
@@ -110,11 +114,13 @@ module _ (p : Parser Selector) (s : Bytes) (at : ℕ) {q : Moved} (a : q ≡ mov
   unfolding castRest
   cast-stopped f = to-off (p s at) _ a f
 
-  pub cast-untyped : {d : Cursor} {r : Moved} {n : ℕ} → q ≡ Moved.To d → r ≡ movedOf (dataType s (d .at)) → r ≡ Moved.Refused n → Moved.Refused n ≡ movedOf (castRest p s at)
+  pub cast-untyped : {d : Cursor} {r : Moved} {n : ℕ} → q ≡ Moved.To d → r ≡ movedOf (dataType s (d .at)) → r ≡ Moved.Refused n → Moved.Refused n ≡
+      movedOf (castRest p s at)
   unfolding castRest
   cast-untyped {d} f g h = to-on (p s at) _ a f (λ x. to-off (dataType s (d .at)) _ g h)
 
-  pub cast-to : {d e : Cursor} {r o : Moved} → q ≡ Moved.To d → r ≡ movedOf (dataType s (d .at)) → r ≡ Moved.To e → o ≡ movedOf (castOption s (e .at)) → o ≡ movedOf (castRest p s at)
+  pub cast-to : {d e : Cursor} {r o : Moved} → q ≡ Moved.To d → r ≡ movedOf (dataType s (d .at)) → r ≡ Moved.To e → o ≡ movedOf (castOption s (e .at)) →
+      o ≡ movedOf (castRest p s at)
   unfolding castRest
   cast-to {d} {e} f g h k = to-on (p s at) _ a f (λ x. to-on (dataType s (d .at)) _ g h (λ t. to-pure (cast x t) (castOption s (e .at)) k))
 
@@ -130,11 +136,13 @@ module _ (p : Parser Selector) (s : Bytes) (at : ℕ) {q : Moved} (a : q ≡ mov
   unfolding structRest
   struct-stopped f = to-off (p s at) _ a f
 
-  pub struct-uncounted : {d : Cursor} {r : Short} {n : ℕ} → q ≡ Moved.To d → shortRes r ≡ u16 s (d .at) → r ≡ Short.Refused n → Moved.Refused n ≡ movedOf (structRest p s at)
+  pub struct-uncounted : {d : Cursor} {r : Short} {n : ℕ} → q ≡ Moved.To d → shortRes r ≡ u16 s (d .at) → r ≡ Short.Refused n → Moved.Refused n ≡
+      movedOf (structRest p s at)
   unfolding structRest next movedOf
   struct-uncounted {d} f g h = let t = moved-to (p s at) a f in rw (t .1) (rw (← g, h))
 
-  pub struct-to : {d e : Cursor} {r : Short} {n : ℕ} {o : Moved} → q ≡ Moved.To d → shortRes r ≡ u16 s (d .at) → r ≡ Short.Is n e → o ≡ movedOf (selectors p n s (e .at))
+  pub struct-to : {d e : Cursor} {r : Short} {n : ℕ} {o : Moved} → q ≡ Moved.To d → shortRes r ≡ u16 s (d .at) → r ≡ Short.Is n e → o ≡ movedOf
+      (selectors p n s (e .at))
       → o ≡ movedOf (structRest p s at)
   unfolding structRest next
   struct-to {d} {e} {r} {n} f g h k = let t = moved-to (p s at) a f in rw (t .1) (rw (← g, h) (to-pure (structMapping (t .0)) (selectors p n s (e .at)) k))
@@ -196,7 +204,16 @@ module _ (p : Parser Selector) (s : Bytes) (at : ℕ) {code : ℕ} {o : Moved} w
 pub rest-unknown : (p : Parser Selector) (s : Bytes) (at code : ℕ) → 7 ≤ code → Moved.Refused 3 ≡ movedOf (selectorRest p code s at)
 unfolding selectorRest choose movedOf
 rest-unknown p s at code l =
-    rw (ne-eqb code 0 (λ e. omega arith), ne-eqb code 1 (λ e. omega arith), ne-eqb code 2 (λ e. omega arith), ne-eqb code 3 (λ e. omega arith), ne-eqb code 4 (λ e. omega arith), ne-eqb code 5 (λ e. omega arith), ne-eqb code 6 (λ e. omega arith))
+    rw (
+      ne-eqb code 0 (λ e. omega arith),
+      ne-eqb code 1 (λ e. omega arith),
+      ne-eqb code 2 (λ e. omega arith),
+      ne-eqb code 3 (λ e. omega arith),
+      ne-eqb
+          code 4 (λ e. omega arith),
+      ne-eqb code 5 (λ e. omega arith),
+      ne-eqb code 6 (λ e. omega arith),
+    )
 
 module _ (s : Bytes) (at d : ℕ) where
   pub selector-deep : d ≡ 0 → Moved.Refused 4 ≡ movedOf (selector d s at)
@@ -208,7 +225,8 @@ module _ (s : Bytes) (at d : ℕ) where
   level z = ap (λ (k : ℕ). selector k s at) (let e : d ≡ suc (d - 1) = omega arith in e)
 
   module _ (z : d ≡ 0 → ⊥) {q : Step} (e : stepRes q ≡ byte s at) where
-    pub selector-to : {c : ℕ} {b : Cursor} {o : Moved} → q ≡ Step.Byte c b → o ≡ movedOf (selectorRest (selector (d - 1)) c s (b .at)) → o ≡ movedOf (selector d s at)
+    pub selector-to : {c : ℕ} {b : Cursor} {o : Moved} → q ≡ Step.Byte c b → o ≡ movedOf (selectorRest (selector (d - 1)) c s (b .at)) → o ≡ movedOf
+        (selector d s at)
     unfolding next
     selector-to f g = rw (level z, ← e, f) g
 
@@ -221,14 +239,22 @@ module _ (s : Bytes) (at d : ℕ) where
   unfolding selectorRest positionRest u16 byte next choose movedOf
   selector-position (z, l, q) =
       let k : at + 3 ≡ at + 1 + 1 + 1 = omega arith in
-      rw (level (λ e. omega arith), lt-ltb at (length s) (omega arith), q, lt-ltb (at + 1) (length s) (omega arith), lt-ltb (at + 1 + 1) (length s) (omega arith))
+      rw (
+        level (λ e. omega arith),
+        lt-ltb at (length s) (omega arith),
+        q,
+        lt-ltb (at + 1) (length s) (omega arith),
+        lt-ltb (at + 1 + 1) (length s)
+            (omega arith),
+      )
       (ap (λ (m : ℕ). Moved.To (record { at = m })) k)
 
 -- whether there is one
 pub position-untold : {B : Type 0} → false ≡ true → B
 position-untold h = clash (cc)
 
-pub position-told : (s : Bytes) (at : ℕ) {d : ℕ} → (d ≡ 0 → ⊥) → 3 ≤ length s → at ≤ length s - 3 → eqb (getD s at 0) 0 ≡ true → (0 < d) × (at + 3 ≤ length s) × (getD s at 0 ≡ 0)
+pub position-told : (s : Bytes) (at : ℕ) {d : ℕ} → (d ≡ 0 → ⊥) → 3 ≤ length s → at ≤ length s - 3 → eqb (getD s at 0) 0 ≡ true → (0 < d) ×
+    (at + 3 ≤ length s) × (getD s at 0 ≡ 0)
 position-told s at z l m h = (omega arith, omega arith, eqb-true (getD s at 0) 0 h)
 
 -- ---- the loop over selectors

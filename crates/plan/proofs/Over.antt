@@ -5,7 +5,8 @@ use Rattle.layout.specs.Tree.{DataType, Fields}
 use Rattle.values.specs.Value.{Value, Values}
 use Rattle.values.specs.Fits.{Fits, fit-null, fit-number, fit-text, fit-struct, fit-list, fit-array, FitsAll, all-nil, all-cons, FitsEach, each-nil, each-cons}
 use Rattle.plan.specs.Run.{clean, cleanAll}
-use Rattle.plan.specs.Fits.{FitsOver, over-null, over-number, over-text, over-datetime, over-struct, over-list, over-array, FitsAllOver, over-nil, over-cons, FitsEachOver, over-none, over-more}
+use Rattle.plan.specs.code.Fits.{FitsOver, over-null, over-number, over-text, over-datetime, over-struct, over-list, over-array, FitsAllOver, over-nil}
+use Rattle.plan.specs.code.Fits.{over-cons, FitsEachOver, over-none, over-more}
 use Rattle.plan.proofs.Results.{true≠false, both, and-true}
 
 mutual

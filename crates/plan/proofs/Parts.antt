@@ -29,7 +29,7 @@ use Rattle.rules.specs.Outcomes.{optionCode, optionAt}
 use Rattle.rules.proofs.Options.{option-of-code, code-of-option}
 use Rattle.values.proofs.Stand.{Stand, stand-split, stand-same, byte-back, byte-forth, chunk-forth, u16-back, u16-forth, ok-same}
 use Rattle.plan.specs.Read.{dataType, knownOption, castOption}
-use Rattle.plan.specs.Formed.{FormedType}
+use Rattle.plan.specs.code.Formed.{FormedType}
 
 -- bytes between two offsets
 pub stands→stand : {s : Bytes} {at m : ℕ} {bs : Bytes} → Stands s at m bs → Stand s at bs m
@@ -37,7 +37,8 @@ stands→stand {s} {at} {m} {bs} P =
     let a = P .from in
     let b = P .to in
     let t = length-take-le m s b in
-    let e : drop at s ≡ drop at (take m s) ++ drop m s = ap (λ (r : Bytes). drop at r) (sym (take-append-drop m s)) ∙ drop-append-le at (take m s) (drop m s) (omega arith) in
+    let e : drop at s ≡ drop at (take m s) ++ drop m s = ap (λ (r : Bytes). drop at r) (sym (take-append-drop m s)) ∙ drop-append-le at (take m s)
+    (drop m s) (omega arith) in
     let f : drop at s ≡ bs ++ drop m s = e ∙ ap (λ (r : Bytes). r ++ drop m s) (P .is) in
     record { is = f; ends = let l = stands-long in omega arith; within = b }
   where
@@ -81,9 +82,11 @@ module _ (s : Bytes) (o : AllBytes s) (at : ℕ) where
       ok-same (λ t m. Stand s at (form t) m × FormedType t) q
       (stands→stand (type-stands o (type→ One Free s deepest at p)), record { readable = read-readable One Free deepest s at o p; deep = d })
 
-  known-back : (k : OptionCode) (b i : ℕ) {c : CastOption} {m : ℕ} → optionAt b ≡ k → byte s at ≡ ok b i → knownOption k s i ≡ ok c m → Stand s at (optionCode c ∷ []) m
+  known-back : (k : OptionCode) (b i : ℕ) {c : CastOption} {m : ℕ} → optionAt b ≡ k → byte s at ≡ ok b i → knownOption k s i ≡ ok c m → Stand s at
+      (optionCode c ∷ []) m
   unfolding knownOption
-  known-back (Known c) b i e p q = ok-same (λ c m. Stand s at (optionCode c ∷ []) m) q (stand-same (ap (λ (x : ℕ). x ∷ []) (code-of-option b c e)) (byte-back s at p))
+  known-back (Known c) b i e p q = ok-same (λ c m. Stand s at (optionCode c ∷ []) m) q
+      (stand-same (ap (λ (x : ℕ). x ∷ []) (code-of-option b c e)) (byte-back s at p))
   known-back Unknown b i e p q = clash (cc)
 
   pub option-back : {c : CastOption} {m : ℕ} → castOption s at ≡ ok c m → Stand s at (optionCode c ∷ []) m

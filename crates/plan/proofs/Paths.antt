@@ -13,9 +13,11 @@ use Rattle.values.specs.Value.{Value, vnull, vnumber, vtext, voverflow, vstruct
 use Rattle.plan.specs.Selector.{Selector, position, cast, rename, structMapping, listMapping, arrayMapping, Selectors}
 use Rattle.plan.specs.Reach.{SelectorAt, s-here, s-there}
 use Rattle.plan.proofs.Results.{both, and-true}
-use Rattle.plan.specs.Nullness.{Place, required, optional, novalue, Nullness, node, Nullnesses, nnil, ncons, topOf, insideOf, nowhere, nullnessAt, joinPlace, join, joinAll, ofValue, ofFields, ofElements, nullnessOf, nullnessesOf}
+use Rattle.plan.specs.Nullness.{Place, required, optional, novalue, Nullness, node, Nullnesses, nnil, ncons, topOf, insideOf, nowhere, nullnessAt}
+use Rattle.plan.specs.Nullness.{joinPlace, join, joinAll, ofValue, ofFields, ofElements, nullnessOf, nullnessesOf}
 use Rattle.plan.specs.Marks.{allowed, meets, meetsAll}
-use Rattle.plan.specs.Paths.{placeIn, append, gather, fieldAt, elements, partsAt, valuesAt, anyNull, collected, ColumnAt, c-here, c-there, Demanded, q-here, q-field, q-list, q-array}
+use Rattle.plan.specs.code.Paths.{placeIn, append, gather, fieldAt, elements, partsAt, valuesAt, anyNull, collected, ColumnAt, c-here, c-there, Demanded}
+use Rattle.plan.specs.code.Paths.{q-here, q-field, q-list, q-array}
 use Rattle.plan.proofs.Sound.{top-allowed}
 use Rattle.plan.proofs.Exact.{nowhere-meets}
 
@@ -46,7 +48,8 @@ at-join : (ns ms : Nullnesses) (k : ℕ) (p : List ℕ) → ((n m : Nullness) �
     → placeIn (nullnessAt (joinAll ns ms) k) p ≡ joinPlace (placeIn (nullnessAt ns k) p) (placeIn (nullnessAt ms k) p)
 unfolding joinAll nullnessAt joinPlace
 at-join nnil ms k p h = ap (λ (x : Place). joinPlace x (placeIn (nullnessAt ms k) p)) (sym (nowhere-place p))
-at-join (ncons n ns) nnil k p h = sym (ap (joinPlace (placeIn (nullnessAt (ncons n ns) k) p)) (nowhere-place p) ∙ join-none (placeIn (nullnessAt (ncons n ns) k) p))
+at-join (ncons n ns) nnil k p h = sym (ap (joinPlace (placeIn (nullnessAt (ncons n ns) k) p)) (nowhere-place p) ∙ join-none
+    (placeIn (nullnessAt (ncons n ns) k) p))
 at-join (ncons n ns) (ncons m ms) zero p h = h n m
 at-join (ncons n ns) (ncons m ms) (suc k) p h = at-join ns ms k p h
 
@@ -86,7 +89,8 @@ collected-append (vcons v vs) ws =
     ∙ ap (λ (x : Place). joinPlace x (collected ws)) (sym (collected-cons v vs))
 
 -- a field
-field-place : (vs : Values) (k : ℕ) (p : List ℕ) → ((v : Value) → placeIn (ofValue v) p ≡ collected (valuesAt v p)) → placeIn (nullnessAt (ofFields vs) k) p ≡ collected (gather (λ w. valuesAt w p) (fieldAt vs k))
+field-place : (vs : Values) (k : ℕ) (p : List ℕ) → ((v : Value) → placeIn (ofValue v) p ≡ collected (valuesAt v p)) → placeIn
+    (nullnessAt (ofFields vs) k) p ≡ collected (gather (λ w. valuesAt w p) (fieldAt vs k))
 unfolding ofFields nullnessAt fieldAt gather append collected
 field-place vnil k p h = nowhere-place p
 field-place (vcons v vs) zero p h = h v ∙ sym (collected-append (valuesAt v p) vnil ∙ join-none (collected (valuesAt v p)))
@@ -102,7 +106,8 @@ no-second (vcons v vs) k = after (ofElements vs) (no-second vs k)
     after nnil e = refl
     after (ncons m ms) e = e
 
-element-place : (vs : Values) (k : ℕ) (p : List ℕ) → ((v : Value) → placeIn (ofValue v) p ≡ collected (valuesAt v p)) → placeIn (nullnessAt (ofElements vs) k) p ≡ collected (gather (λ w. valuesAt w p) (elements vs k))
+element-place : (vs : Values) (k : ℕ) (p : List ℕ) → ((v : Value) → placeIn (ofValue v) p ≡ collected (valuesAt v p)) → placeIn
+    (nullnessAt (ofElements vs) k) p ≡ collected (gather (λ w. valuesAt w p) (elements vs k))
 unfolding ofElements nullnessAt gather collected
 element-place vnil zero p h = nowhere-place p
 element-place (vcons v vs) zero p h =
@@ -136,7 +141,8 @@ allowed-optional required = refl
 allowed-optional optional = refl
 allowed-optional novalue = refl
 
-meets-at : {cs : Columns} {k : ℕ} {l : Label} {t : ColumnType} (ns : Nullnesses) → ColumnAt cs k l t → meetsAll ns cs ≡ true → meets (nullnessAt ns k) (l .required) t ≡ true
+meets-at : {cs : Columns} {k : ℕ} {l : Label} {t : ColumnType} (ns : Nullnesses) → ColumnAt cs k l t → meetsAll ns cs ≡ true → meets (nullnessAt ns k)
+    (l .required) t ≡ true
 unfolding meetsAll nullnessAt
 meets-at {l = l} {t} nnil a e = nowhere-meets t (l .required)
 meets-at {l = l} {t} (ncons n ns) c-here e = both (meets n (l .required) t) e .0
@@ -161,13 +167,16 @@ mutual
   demanding (cleaf l) n r h = top-demanded n r (cleaf l) h
   demanding (cstruct cs) n r h = and-true (top-demanded n r (cstruct cs) h) (demanding-all cs (insideOf n) (λ k l t p a d. h (k ∷ p) (q-field a d)))
   demanding (clist l t) n r h = and-true (top-demanded n r (clist l t) h) (demanding t (nullnessAt (insideOf n) 0) (l .required) (λ p d. h (0 ∷ p) (q-list d)))
-  demanding (carray w l t) n r h = and-true (top-demanded n r (carray w l t) h) (demanding t (nullnessAt (insideOf n) 0) (l .required) (λ p d. h (0 ∷ p) (q-array d)))
+  demanding (carray w l t) n r h = and-true (top-demanded n r (carray w l t) h) (demanding t (nullnessAt (insideOf n) 0) (l .required)
+      (λ p d. h (0 ∷ p) (q-array d)))
 
-  demanding-all : (cs : Columns) (ns : Nullnesses) → ((k : ℕ) (l : Label) (t : ColumnType) (p : List ℕ) → ColumnAt cs k l t → Demanded (l .required) t p → allowed (placeIn (nullnessAt ns k) p) true ≡ true)
+  demanding-all : (cs : Columns) (ns : Nullnesses) → ((k : ℕ) (l : Label) (t : ColumnType) (p : List ℕ) → ColumnAt cs k l t → Demanded (l .required) t p
+      → allowed (placeIn (nullnessAt ns k) p) true ≡ true)
       → meetsAll ns cs ≡ true
   demanding-all cnil ns h = refl
   demanding-all (ccons l t cs) nnil h = refl
-  demanding-all (ccons l t cs) (ncons n ns) h = and-true (demanding t n (l .required) (λ p d. h 0 l t p c-here d)) (demanding-all cs ns (λ k m u p a d. h (suc k) m u p (c-there a) d))
+  demanding-all (ccons l t cs) (ncons n ns) h = and-true (demanding t n (l .required) (λ p d. h 0 l t p c-here d))
+      (demanding-all cs ns (λ k m u p a d. h (suc k) m u p (c-there a) d))
 
 -- 55 is that at some required place of the target what is given is optional
 pub meets-places : (n : Nullness) (r : Bool) (t : ColumnType) → (meets n r t ≡ true) ↔ ((p : List ℕ) → Demanded r t p → allowed (placeIn n p) true ≡ true)
@@ -195,7 +204,8 @@ module _ (Γ : Nullnesses) (p : List ℕ) where
   nth-nullness Δ (s-there a) = nth-nullness Δ a
 
   -- m-field, m-list, m-array: a mapping is entered
-  pub place-field : (s : Selector) {ss : Selectors} {k : ℕ} {t : Selector} → SelectorAt ss k t → placeIn (nullnessOf Γ (structMapping s ss)) (k ∷ p) ≡ placeIn (nullnessOf (insideOf (nullnessOf Γ s)) t) p
+  pub place-field : (s : Selector) {ss : Selectors} {k : ℕ} {t : Selector} → SelectorAt ss k t → placeIn (nullnessOf Γ (structMapping s ss)) (k ∷ p) ≡
+      placeIn (nullnessOf (insideOf (nullnessOf Γ s)) t) p
   unfolding nullnessOf placeIn
   place-field s a = ap (λ (n : Nullness). placeIn n p) (nth-nullness (insideOf (nullnessOf Γ s)) a)
 

@@ -13,7 +13,8 @@ use Rattle.values.specs.Value.{Value, vnull, Values, vnil, vcons, countValues}
 use Rattle.plan.specs.Selector.{Selector, Selectors}
 use Rattle.plan.specs.Check.{elementOf, castFits, fromNull}
 use Rattle.plan.specs.Run.{valueAt, castValue, mapValues, onStruct, onList, onArray, eval, evals}
-use Rattle.plan.specs.Fits.{FitsOver, over-null, over-number, over-text, over-datetime, over-struct, over-list, over-array, FitsAllOver, over-nil, over-cons, FitsEachOver, over-none, over-more}
+use Rattle.plan.specs.code.Fits.{FitsOver, over-null, over-number, over-text, over-datetime, over-struct, over-list, over-array, FitsAllOver, over-nil}
+use Rattle.plan.specs.code.Fits.{over-cons, FitsEachOver, over-none, over-more}
 use Rattle.plan.proofs.Results.{true≠false, both}
 use Rattle.plan.proofs.Typed.{At, here, there, Typed, t-position, t-constant, t-cast, t-rename, t-struct, t-list, t-array, TypedAll, t-nil, t-cons}
 use Rattle.plan.proofs.Over.{fits-over}
@@ -52,12 +53,14 @@ cast-over (array w t) u o e h = true≠false e refl
 
 -- ---- mappings
 
-struct-over : {fs gs : Fields} {v : Value} (f : Values → Values) → ((vs : Values) → FitsAllOver fs vs → FitsAllOver gs (f vs)) → FitsOver (struct fs) v → FitsOver (struct gs) (onStruct f v)
+struct-over : {fs gs : Fields} {v : Value} (f : Values → Values) → ((vs : Values) → FitsAllOver fs vs → FitsAllOver gs (f vs)) → FitsOver (struct fs) v
+    → FitsOver (struct gs) (onStruct f v)
 unfolding onStruct
 struct-over f h over-null = over-null
 struct-over f h (over-struct a) = over-struct (h _ a)
 
-each-mapped : {t u : DataType} {vs : Values} (f : Value → Value) → ((v : Value) → FitsOver t v → FitsOver u (f v)) → FitsEachOver t vs → FitsEachOver u (mapValues f vs)
+each-mapped : {t u : DataType} {vs : Values} (f : Value → Value) → ((v : Value) → FitsOver t v → FitsOver u (f v)) → FitsEachOver t vs → FitsEachOver u
+    (mapValues f vs)
 unfolding mapValues
 each-mapped f h over-none = over-none
 each-mapped f h (over-more a hs) = over-more (h _ a) (each-mapped f h hs)
@@ -67,12 +70,14 @@ unfolding mapValues countValues
 count-mapped f vnil = refl
 count-mapped f (vcons v vs) = ap suc (count-mapped f vs)
 
-list-over : {t u : DataType} {v : Value} (f : Value → Value) → ((v : Value) → FitsOver t v → FitsOver u (f v)) → FitsOver (list t) v → FitsOver (list u) (onList f v)
+list-over : {t u : DataType} {v : Value} (f : Value → Value) → ((v : Value) → FitsOver t v → FitsOver u (f v)) → FitsOver (list t) v → FitsOver (list u)
+    (onList f v)
 unfolding onList
 list-over f h over-null = over-null
 list-over f h (over-list {vs = vs} c a) = over-list {vs = mapValues f vs} (rw (count-mapped f vs) c) (each-mapped f h a)
 
-array-over : {w : ℕ} {t u : DataType} {v : Value} (f : Value → Value) → ((v : Value) → FitsOver t v → FitsOver u (f v)) → FitsOver (array w t) v → FitsOver (array w u) (onArray f v)
+array-over : {w : ℕ} {t u : DataType} {v : Value} (f : Value → Value) → ((v : Value) → FitsOver t v → FitsOver u (f v)) → FitsOver (array w t) v →
+    FitsOver (array w u) (onArray f v)
 unfolding onArray
 array-over f h over-null = over-null
 array-over f h (over-array {vs = vs} c a) = over-array (count-mapped f vs ∙ c) (each-mapped f h a)

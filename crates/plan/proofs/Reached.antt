@@ -18,7 +18,8 @@ use Rattle.rules.specs.declared.outcome.CastOption.{CastOption}
 use Rattle.rules.specs.declared.outcome.CastOption.the-variants.{Strict}
 use Rattle.rules.specs.Chain.{unitOption}
 use Rattle.rules.specs.Pairs.{castPasses}
-use Rattle.rules.proofs.Casts.{Casts, from-null, integer-to-integer, integer-to-float, float-to-float, datetime-to-datetime, category-to-string, decimal-to-decimal, passes-casts}
+use Rattle.rules.proofs.Casts.{Casts, from-null, integer-to-integer, integer-to-float, float-to-float, datetime-to-datetime, category-to-string}
+use Rattle.rules.proofs.Casts.{decimal-to-decimal, passes-casts}
 use Rattle.numeric.specs.declared.times.Finer.{Finer}
 use Rattle.numeric.specs.declared.times.Finer.the-variants.{Count, TooLarge}
 use Rattle.numeric.specs.Integers.{signed}
@@ -31,8 +32,10 @@ use Rattle.plan.specs.Selector.{Selector, position, cast, Selectors}
 use Rattle.plan.specs.Check.{castFits}
 use Rattle.plan.specs.Convert.{UnitChange, multiply, divide, keep, unitChange, counted, rescaled, convertAs, convert}
 use Rattle.plan.specs.Run.{valueAt, castLeaf, castValue, mapValues, onStruct, onList, onArray, eval, evals, clean, cleanAll}
-use Rattle.plan.specs.Fits.{FitsOver, over-null, over-number, over-text, over-datetime, over-struct, over-list, over-array, FitsAllOver, FitsEachOver, over-none, over-more}
-use Rattle.plan.specs.Reach.{Scope, top, inStruct, inElement, parts, valuesIn, valueIn, SelectorAt, s-here, s-there, Beyond, Overflows, o-cast, o-further, o-rename, o-struct, o-list, o-array, o-field, o-element, ReachesOverflow}
+use Rattle.plan.specs.code.Fits.{FitsOver, over-null, over-number, over-text, over-datetime, over-struct, over-list, over-array, FitsAllOver}
+use Rattle.plan.specs.code.Fits.{FitsEachOver, over-none, over-more}
+use Rattle.plan.specs.Reach.{Scope, top, inStruct, inElement, parts, valuesIn, valueIn, SelectorAt, s-here, s-there, Beyond, Overflows, o-cast, o-further}
+use Rattle.plan.specs.Reach.{o-rename, o-struct, o-list, o-array, o-field, o-element, ReachesOverflow}
 use Rattle.plan.proofs.Results.{true≠false}
 use Rattle.plan.proofs.Typed.{Typed, t-position, t-constant, t-cast, t-rename, t-struct, t-list, t-array, TypedAll, t-nil, t-cons}
 use Rattle.plan.proofs.Over.{fits-clean, all-clean, all-over}
@@ -176,13 +179,15 @@ struct-in f {v} {vs} {k} {p} e o =
     let x : OverIn (f vs) k p = rw e at o in
     rw e (in-struct x)
 
-list-in : (f : Value → Value) {v : Value} {vs : Values} (j : ℕ) {p : List ℕ} → v ≡ vlist vs → j < countValues vs → OverAt (f (valueAt (parts v) j)) p → OverAt (onList f v) (j ∷ p)
+list-in : (f : Value → Value) {v : Value} {vs : Values} (j : ℕ) {p : List ℕ} → v ≡ vlist vs → j < countValues vs → OverAt (f (valueAt (parts v) j)) p →
+    OverAt (onList f v) (j ∷ p)
 unfolding onList parts
 list-in f {v} {vs} j {p} e h o =
     let x : OverAt (f (valueAt vs j)) p = rw e at o in
     rw e (in-list {p = p} (at-in (mapValues f vs) j (rw (map-at f vs j h) x)))
 
-array-in : (f : Value → Value) {v : Value} {vs : Values} (j : ℕ) {p : List ℕ} → v ≡ varray vs → j < countValues vs → OverAt (f (valueAt (parts v) j)) p → OverAt (onArray f v) (j ∷ p)
+array-in : (f : Value → Value) {v : Value} {vs : Values} (j : ℕ) {p : List ℕ} → v ≡ varray vs → j < countValues vs → OverAt (f (valueAt (parts v) j)) p
+    → OverAt (onArray f v) (j ∷ p)
 unfolding onArray parts
 array-in f {v} {vs} j {p} e h o =
     let x : OverAt (f (valueAt vs j)) p = rw e at o in
@@ -217,7 +222,8 @@ multiply-strict Milliseconds Milliseconds e = clash (cc)
 -- what overflows in the result of a cast came with its input, or the cast made it
 data CastOver (x : Value) : DataType → CastOption → List ℕ → Type 0 where
   came : {t : DataType} {o : CastOption} {p : List ℕ} → OverAt x p → CastOver x t o p
-  made : {u v : TimeUnit} {z : Bytes} {n f : ℕ} → x ≡ vnumber (Datetime u) n → unitChange u v ≡ multiply f → Beyond (signed 64 n *ℤ pos f) → CastOver x (leaf (datetime v z)) Strict []
+  made : {u v : TimeUnit} {z : Bytes} {n f : ℕ} → x ≡ vnumber (Datetime u) n → unitChange u v ≡ multiply f → Beyond (signed 64 n *ℤ pos f) → CastOver x
+      (leaf (datetime v z)) Strict []
 
 empty-path : {v : Value} {p : List ℕ} → v ≡ voverflow → OverAt v p → p ≡ []
 empty-path e o = go (rw e at o)
@@ -230,7 +236,8 @@ unfolding counted
 counted-made k (Count n) o = never-number refl o
 counted-made k TooLarge o = (refl, empty-path refl o)
 
-rescaled-made : (u v : TimeUnit) (z : Bytes) (n : ℕ) {x : Value} {o : CastOption} {p : List ℕ} (c : UnitChange) → unitChange u v ≡ c → x ≡ vnumber (Datetime u) n → o ≡ unitOption u v
+rescaled-made : (u v : TimeUnit) (z : Bytes) (n : ℕ) {x : Value} {o : CastOption} {p : List ℕ} (c : UnitChange) → unitChange u v ≡ c → x ≡ vnumber
+    (Datetime u) n → o ≡ unitOption u v
     → OverAt (rescaled c (Datetime v) n) p → CastOver x (leaf (datetime v z)) o p
 unfolding rescaled
 rescaled-made u v z n (multiply f) q e s a =
@@ -254,14 +261,16 @@ number-made category-to-string n h e a = absurd (omega arith)
 number-made (decimal-to-decimal w) n h e a = never-number refl a
 
 -- only a strict cast overflows
-pub overflow-strict : (l m : LeafType) (o : CastOption) → castPasses l m o ≡ true → (n : ℕ) → n < patternsOf (leafOf l) → convert (leafOf l) (leafOf m) n ≡ voverflow → o ≡ Strict
+pub overflow-strict : (l m : LeafType) (o : CastOption) → castPasses l m o ≡ true → (n : ℕ) → n < patternsOf (leafOf l) → convert (leafOf l) (leafOf m)
+    n ≡ voverflow → o ≡ Strict
 overflow-strict l m o e n h q = strict (number-made (passes-casts l m o e) n h refl (over-is q))
   where
     strict : {t : DataType} {o : CastOption} {p : List ℕ} → CastOver (vnumber (leafOf l) n) t o p → o ≡ Strict
     strict (came a) = never-number refl a
     strict (made e q b) = refl
 
-leaf-made : {l m : LeafType} {o : CastOption} {x : Value} {p : List ℕ} → Casts l m o → FitsOver (leaf l) x → OverAt (castLeaf (leafOf m) x) p → CastOver x (leaf m) o p
+leaf-made : {l m : LeafType} {o : CastOption} {x : Value} {p : List ℕ} → Casts l m o → FitsOver (leaf l) x → OverAt (castLeaf (leafOf m) x) p → CastOver
+    x (leaf m) o p
 unfolding castLeaf clean
 leaf-made c over-null a = never refl a
 leaf-made {l} {m} c (over-number {k = k} {n = n} e h t) a = number-made c n (rw e h) (rw e) (rw e a)
@@ -376,7 +385,8 @@ module _ (ρ : Values) where
       let (z, x) = single-at (k .0) o in
       o-element z (f (j ∷ p) (of-parts (valueIn ρ E s) (at-in (parts (valueIn ρ E s)) j x)))
 
-  cast-traced : {E : Scope} {s : Selector} {u : DataType} {o : CastOption} {p : List ℕ} → Traced E s → CastOver (valueIn ρ E s) u o p → Overflows ρ E (cast s u o) p
+  cast-traced : {E : Scope} {s : Selector} {u : DataType} {o : CastOption} {p : List ℕ} → Traced E s → CastOver (valueIn ρ E s) u o p → Overflows ρ E
+      (cast s u o) p
   cast-traced f (came a) = o-further (f _ a)
   cast-traced f (made e q b) = o-cast e q b
 
@@ -406,18 +416,21 @@ module _ (ρ : Values) where
         let S = list-source (λ v. eval (vcons v vnil) e) (eval-over d h) o in
         let T = S .each in
         let q = element-is E s (T .index) (T .is) in
-        rw (T .splits) (o-list (T .is) (T .below) (over-reached x (inElement E s (T .index)) (rw q (only (T .fits))) (element-sourced E s (T .index) (over-reached d E h f)) (T .path) (rw q (T .over))))
+        rw (T .splits) (o-list (T .is) (T .below) (over-reached x (inElement E s (T .index)) (rw q (only (T .fits)))
+        (element-sourced E s (T .index) (over-reached d E h f)) (T .path) (rw q (T .over))))
     over-reached (t-array {s = s} {e = e} d x b) E h f p o =
         let S = array-source (λ v. eval (vcons v vnil) e) (eval-over d h) o in
         let T = S .each in
         let q = element-is E s (T .index) (T .is) in
-        rw (T .splits) (o-array (T .is) (T .below) (over-reached x (inElement E s (T .index)) (rw q (only (T .fits))) (element-sourced E s (T .index) (over-reached d E h f)) (T .path) (rw q (T .over))))
+        rw (T .splits) (o-array (T .is) (T .below) (over-reached x (inElement E s (T .index)) (rw q (only (T .fits)))
+        (element-sourced E s (T .index) (over-reached d E h f)) (T .path) (rw q (T .over))))
 
     overs-reached : {Γ : Fields} {ss : Selectors} {gs : Fields} → TypedAll Γ ss gs → (E : Scope) → FitsAllOver Γ (valuesIn ρ E) → Sourced E
         → (k : ℕ) (p : List ℕ) → OverIn (evals (valuesIn ρ E) ss) k p → Selected ρ E ss k p
     overs-reached t-nil E h f k p o = none-in o
     overs-reached (t-cons d ds) E h f k p (first o) = record { selector = _; selects = s-here; overflows = over-reached d E h f p o }
-    overs-reached (t-cons d ds) E h f k p (later o) = let X = overs-reached ds E h f _ p o in record { selector = X .selector; selects = s-there (X .selects); overflows = X .overflows }
+    overs-reached (t-cons d ds) E h f k p (later o) = let X = overs-reached ds E h f _ p o in record
+        { selector = X .selector; selects = s-there (X .selects); overflows = X .overflows }
 
 -- ---- a plan over a record
 

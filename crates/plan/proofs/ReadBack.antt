@@ -21,8 +21,9 @@ use Rattle.values.proofs.Stand.{Stand, stand-none, stand-append, stand-same, by
 use Rattle.values.proofs.Back.{value-back}
 use Rattle.plan.specs.Selector.{Selector, Selectors, countSelectors, nesting, nestingAll}
 use Rattle.plan.specs.Encode.{encodeSelector, encodeSelectors, planMark, encodePlan}
-use Rattle.plan.specs.Read.{selectors, positionRest, constantRest, castRest, renameRest, structRest, listRest, arrayRest, selectorRest, selector, longestPlan, deepestSelector, planSized, planVersion, planFrom, planCounted, plan}
-use Rattle.plan.specs.Formed.{Formed, f-position, f-constant, f-cast, f-rename, f-struct, f-list, f-array, FormedAll, f-nil, f-cons}
+use Rattle.plan.specs.Read.{selectors, positionRest, constantRest, castRest, renameRest, structRest, listRest, arrayRest, selectorRest, selector}
+use Rattle.plan.specs.Read.{longestPlan, deepestSelector, planSized, planVersion, planFrom, planCounted, plan}
+use Rattle.plan.specs.code.Formed.{Formed, f-position, f-constant, f-cast, f-rename, f-struct, f-list, f-array, FormedAll, f-nil, f-cons}
 use Rattle.plan.proofs.Parts.{count-back, text-back, type-back, option-back}
 
 -- what is known of a selector that was read at an offset, of at most d levels
@@ -61,7 +62,8 @@ module _ (s : Bytes) (o : AllBytes s) where
   rest-of : {d c at : ℕ} {x y : Selector} {i m : ℕ} → ok x i ≡ ok y m → RestBack d c at x i → RestBack d c at y m
   rest-of {d} {c} {at} e r = ok-same (λ x m. RestBack d c at x m) e r
 
-  selectors-back : (d : ℕ) (p : Parser Selector) → Backs d p → (n at : ℕ) {xs : Selectors} {m : ℕ} → at ≤ length s → selectors p n s at ≡ ok xs m → SelectorsBack d n s at xs m
+  selectors-back : (d : ℕ) (p : Parser Selector) → Backs d p → (n at : ℕ) {xs : Selectors} {m : ℕ} → at ≤ length s → selectors p n s at ≡ ok xs m →
+      SelectorsBack d n s at xs m
   unfolding selectors encodeSelectors countSelectors nestingAll
   selectors-back d p B zero at l e =
       ok-same (λ xs m. SelectorsBack d 0 s at xs m) e (record { formed = f-nil; nests = omega arith; counts = refl; stands = stand-none s at l })
@@ -71,7 +73,12 @@ module _ (s : Bytes) (o : AllBytes s) where
       let (xs, j, k, e) = next-ok _ _ e in
       let Y = selectors-back d p B n i (X .stands .within) k in
       ok-same (λ xs m. SelectorsBack d (suc n) s at xs m) e
-      (record { formed = f-cons (X .formed) (Y .formed); nests = let a = X .nests in let b = Y .nests in omega arith; counts = ap suc (Y .counts); stands = stand-append (X .stands) (Y .stands) })
+      (record {
+        formed = f-cons (X .formed) (Y .formed);
+        nests = let a = X .nests in let b = Y .nests in omega arith;
+        counts = ap suc (Y .counts);
+        stands = stand-append (X .stands) (Y .stands);
+      })
 
   module _ (d : ℕ) (p : Parser Selector) (B : Backs d p) (at : ℕ) where
     position-back : {x : Selector} {m : ℕ} → positionRest s at ≡ ok x m → RestBack d 0 at x m

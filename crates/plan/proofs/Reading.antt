@@ -1,4 +1,5 @@
--- How a run can find each part of its output with no value held in between: a value is a selector in a scope, and each part of it is again a selector in a scope, or a
+-- How a run can find each part of its output with no value held in between: a value is a selector in a scope, and each part of it is again a selector in a
+-- scope, or a
 -- part of the value of a selector that stands before. Assumes nothing.
 use Prim.Native.Nat.{ℕ, zero, suc, _<_}
 use mathlib.Core.Path.{_≡_, refl}
@@ -33,7 +34,8 @@ module _ (ρ : Values) where
   unfolding valueIn eval valuesIn
   position-field E s k = refl
 
-  pub position-element : (E : Scope) (s : Selector) (j : ℕ) (k : Position) → k .0 ≡ 0 → valueIn ρ (inElement E s j) (position k) ≡ valueAt (parts (valueIn ρ E s)) j
+  pub position-element : (E : Scope) (s : Selector) (j : ℕ) (k : Position) → k .0 ≡ 0 → valueIn ρ (inElement E s j) (position k) ≡ valueAt
+      (parts (valueIn ρ E s)) j
   unfolding valueIn eval valuesIn valueAt
   position-element E s j k e = rw e
 

@@ -35,7 +35,8 @@ unfolding demand
 demand-gives true n r e = (refl, e)
 demand-gives false n r e = never-refused e refl
 
-pub placed-accepted : {A B : Type 0} (k : ℕ) (r : Result A) (f : A → Answer B) {b : B} → placed k r f ≡ accepted b → (a : A) × (r ≡ gives a) × (f a ≡ accepted b)
+pub placed-accepted : {A B : Type 0} (k : ℕ) (r : Result A) (f : A → Answer B) {b : B} → placed k r f ≡ accepted b → (a : A) × (r ≡ gives a) ×
+    (f a ≡ accepted b)
 unfolding placed
 placed-accepted k (gives a) f e = (a, refl, e)
 placed-accepted k (refuses n) f e = clash (cc)

@@ -8,7 +8,7 @@ use lib.Dec.{lit≤}
 use Rattle.layout.specs.Bytes.{Bytes, sameBytes}
 use Rattle.layout.specs.Parser.{Res, refuse, ok, next, choose, byte, chunk, u16}
 use Rattle.layout.specs.Tree.{null, string, datetime, DataType, leaf, struct, Fields, fnil, fcons, dtypeOf, countFields, integer}
-use Rattle.layout.specs.Layout.{text, leafKind, kindOf, kind, body, type, ended}
+use Rattle.layout.specs.Layout.{text, leafHead, kindOf, kind, body, type, ended}
 use Rattle.layout.specs.declared.leaf.TimeUnit.the-variants.{Nanoseconds, Microseconds, Milliseconds}
 use Rattle.layout.specs.declared.leaf.Leaf.the-variants.{Datetime}
 use Rattle.layout.specs.declared.leaf.Leaf.{Leaf}
@@ -33,8 +33,10 @@ use Rattle.values.specs.Encode.{encodeValue, encodeValues}
 use Rattle.plan.specs.Result.{Answer, accepted, refusedAt, _>>=_, demand, placed, answered}
 use Rattle.plan.specs.Selector.{Selector, position, constant, cast, rename, structMapping, Selectors, snil, scons, countSelectors}
 use Rattle.plan.specs.Encode.{encodeSelector, encodeSelectors, encodePlan}
-use Rattle.plan.specs.Read.{dataType, castOption, knownOption, selectors, positionRest, constantRest, castRest, renameRest, structRest, listRest, arrayRest, selectorRest, selector, planSized, planVersion, planFrom, planCounted, plan}
-use Rattle.plan.specs.Check.{columnAt, structOf, castFits, fromNull, withinLimits, resulting, checkCast, checkRename, checkStruct, typeOf, typesOf, topTypes, against, check}
+use Rattle.plan.specs.Read.{dataType, castOption, knownOption, selectors, positionRest, constantRest, castRest, renameRest, structRest, listRest}
+use Rattle.plan.specs.Read.{arrayRest, selectorRest, selector, planSized, planVersion, planFrom, planCounted, plan}
+use Rattle.plan.specs.Check.{columnAt, structOf, castFits, fromNull, withinLimits, resulting, checkCast, checkRename, checkStruct, typeOf, typesOf}
+use Rattle.plan.specs.Check.{topTypes, against, check}
 use Rattle.plan.specs.Convert.{counted, rescaled, convertAs, convert}
 use Rattle.plan.specs.Reach.{valuesIn, valueIn, s-here, o-cast, ReachesOverflow}
 use Rattle.plan.specs.Run.{valueAt, castLeaf, castValue, onStruct, eval, evals, clean, cleanAll, spacious, written, run}
@@ -66,7 +68,9 @@ s1-encoded = refl
 
 -- opens every definition that the reading of a plan goes through
 unfoldable pub read : Bytes → Res Selectors
-unfolding plan renumber planFrom planCounted planSized planVersion sameBytes next choose byte chunk u16 selectors selector selectorRest positionRest constantRest castRest renameRest structRest listRest arrayRest dataType castOption knownOption type kind kindOf leafKind body dtypeOf text value nullable presence content ended
+unfolding plan renumber planFrom planCounted planSized planVersion sameBytes next choose byte chunk u16 selectors selector selectorRest positionRest
+    constantRest castRest renameRest structRest listRest arrayRest dataType castOption knownOption type kind kindOf leafHead body dtypeOf text value
+    nullable presence content ended
 read b = plan b
 
 s1-read : plan s1-bytes ≡ ok s1 18
@@ -80,7 +84,9 @@ s1-left = refl
 
 -- opens every definition that a check goes through
 unfoldable pub checked : Fields → Fields → Selectors → Answer (Unit {0})
-unfolding check topTypes typeOf typesOf columnAt _>>=_ checkCast checkRename checkStruct structOf castFits fromNull castPasses pairRule chain paramsOf zonesOf readZone isUtc sameBytes demand resulting withinLimits depthOf depthOfFields countFields form formFields leafForm carried kindForm textBytes u16Bytes placed answered against equalFields equalTypes
+unfolding check topTypes typeOf typesOf columnAt _>>=_ checkCast checkRename checkStruct structOf castFits fromNull castPasses pairRule chain paramsOf
+    zonesOf readZone isUtc sameBytes demand resulting withinLimits depthOf depthOfFields countFields form formFields leafForm carried kindForm textBytes
+    u16Bytes placed answered against equalFields equalTypes
 checked Γ Δ ss = check Γ Δ ss
 
 s1-checked : check (one (leaf (integer Int16))) (fcons t (leaf (integer Int32)) (fcons s (leaf string) fnil)) s1 ≡ accepted tt
@@ -113,12 +119,14 @@ s4-untouched = refl
 
 -- opens every definition that a run goes through
 unfoldable pub ran : Values → Selectors → ℕ → Answer Bytes
-unfolding run written evals eval valueAt castValue castLeaf convert convertAs rescaled counted widened numberOf signed unsigned pattern finer coarser onStruct clean cleanAll demand spacious encodeValue encodeValues littleBytes placed
+unfolding run written evals eval valueAt castValue castLeaf convert convertAs rescaled counted widened numberOf signed unsigned pattern finer coarser
+    onStruct clean cleanAll demand spacious encodeValue encodeValues littleBytes placed
 ran ρ ss room = run ρ ss room
 
 -- and the reading of a record
 unfoldable pub recorded : Fields → Bytes → Res Values
-unfolding recordOf recordFrom shortEnough renumber values structContent content leafContent contentBy nullable presence byte chunk little next choose recordEnded
+unfolding recordOf recordFrom shortEnough renumber values structContent content leafContent contentBy nullable presence byte chunk little next choose
+    recordEnded
 recorded Γ b = recordOf Γ b
 
 s1-record : recordOf (one (leaf (integer Int16))) (1 ∷ 0xFE ∷ 0xFF ∷ []) ≡ ok (vcons (vnumber (Leaf.Integer Int16) 65534) vnil) 3
@@ -152,12 +160,14 @@ s6-reached = record {
   overflows = o-cast {u = Milliseconds} {n = 9223372036855} {f = 1000000} refl refl (record { beyond = lit≤ tt });
 }
 
-s5 : evals (vcons (vnumber (Datetime Milliseconds) 9223372036854) vnil) (casting (leaf (datetime Nanoseconds []))) ≡ vcons (vnumber (Datetime Nanoseconds) 9223372036854000000) vnil
+s5 : evals (vcons (vnumber (Datetime Milliseconds) 9223372036854) vnil) (casting (leaf (datetime Nanoseconds []))) ≡ vcons
+    (vnumber (Datetime Nanoseconds) 9223372036854000000) vnil
 unfolding ran
 s5 = refl
 
 -- S7: -1 ns to µs
-s7 : evals (vcons (vnumber (Datetime Nanoseconds) 0xffff_ffff_ffff_ffff) vnil) (casting (leaf (datetime Microseconds []))) ≡ vcons (vnumber (Datetime Microseconds) 0xffff_ffff_ffff_ffff) vnil
+s7 : evals (vcons (vnumber (Datetime Nanoseconds) 0xffff_ffff_ffff_ffff) vnil) (casting (leaf (datetime Microseconds []))) ≡ vcons
+    (vnumber (Datetime Microseconds) 0xffff_ffff_ffff_ffff) vnil
 unfolding ran
 s7 = refl
 
@@ -178,7 +188,8 @@ s10 = refl
 abbrev s11 : Selectors
 s11 = scons (structMapping (structMapping (at 0) (scons (cast (at 0) (leaf (datetime Nanoseconds [])) Strict) (scons (at 0) snil))) (scons (at 1) snil)) snil
 
-s11-ran : evals (vcons (vstruct (vcons (vnumber (Datetime Milliseconds) 9223372036855) vnil)) vnil) s11 ≡ vcons (vstruct (vcons (vnumber (Datetime Milliseconds) 9223372036855) vnil)) vnil
+s11-ran : evals (vcons (vstruct (vcons (vnumber (Datetime Milliseconds) 9223372036855) vnil)) vnil) s11 ≡ vcons
+    (vstruct (vcons (vnumber (Datetime Milliseconds) 9223372036855) vnil)) vnil
 unfolding ran
 s11-ran = refl
 

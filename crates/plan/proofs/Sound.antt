@@ -6,19 +6,21 @@ use Rattle.layout.specs.Tree.{leafOf, Label, ColumnType, cleaf, cstruct, clist,
 use Rattle.rules.specs.Classes.{isNull}
 use Rattle.values.specs.Value.{Value, vnull, Values, vcons}
 use Rattle.values.specs.Fits.{FitsAll}
-use Rattle.values.specs.Filled.{requiredOf, Filled, full-null, full-number, full-text, full-over, full-struct, full-list, full-array, FilledAll, full-nil, full-cons, FilledEach, full-none, full-more}
+use Rattle.values.specs.Filled.{requiredOf, Filled, full-null, full-number, full-text, full-over, full-struct, full-list, full-array, FilledAll, full-nil}
+use Rattle.values.specs.Filled.{full-cons, FilledEach, full-none, full-more}
 use Rattle.plan.specs.Result.{accepted}
 use Rattle.plan.specs.Selector.{Selector, Selectors}
 use Rattle.plan.specs.Run.{eval, evals}
-use Rattle.plan.specs.Fits.{FitsOver, over-struct, over-list, over-array, FitsAllOver, over-nil, over-cons, FitsEachOver, over-more}
-use Rattle.plan.specs.Formed.{FormedAll}
+use Rattle.plan.specs.code.Fits.{FitsOver, over-struct, over-list, over-array, FitsAllOver, over-nil, over-cons, FitsEachOver, over-more}
+use Rattle.plan.specs.code.Formed.{FormedAll}
 use Rattle.plan.proofs.Results.{true≠false, both, and-true, demand-gives, placed-accepted, answered-accepted}
 use Rattle.plan.proofs.Typed.{Typed, TypedAll, passed→typed}
 use Rattle.plan.proofs.Over.{all-over}
 use Rattle.plan.proofs.Preserve.{eval-over, evals-over}
 use Rattle.plan.specs.Nullness.{optional, Nullness, node, Nullnesses, nnil, ncons, topOf, nullnessAt, nullnessOf, nullnessesOf}
 use Rattle.plan.specs.Marks.{placeOf, allowed, given, givens, meets, meetsAll, checkMarked}
-use Rattle.plan.proofs.Holds.{Present, is-required, is-optional, Holds, h-null, h-number, h-text, h-over, h-struct, h-list, h-array, HoldsAll, h-nil, h-cons, HoldsEach, h-none, h-more, eval-holds, evals-hold}
+use Rattle.plan.proofs.Holds.{Present, is-required, is-optional, Holds, h-null, h-number, h-text, h-over, h-struct, h-list, h-array, HoldsAll, h-nil}
+use Rattle.plan.proofs.Holds.{h-cons, HoldsEach, h-none, h-more, eval-holds, evals-hold}
 
 marked : (r : Bool) → Present (placeOf r)
 marked true = is-required
@@ -73,13 +75,15 @@ unfolding meetsAll nullnessAt
 element-meets nnil l t e = refl
 element-meets (ncons n ns) l t e = and-true e refl
 
-first-filled : {l : Label} {t : ColumnType} {cs : Columns} {v : Value} {vs : Values} → FilledAll requiredOf (ccons l t cs) (vcons v vs) → Filled requiredOf (l .required) t v
+first-filled : {l : Label} {t : ColumnType} {cs : Columns} {v : Value} {vs : Values} → FilledAll requiredOf (ccons l t cs) (vcons v vs) → Filled
+    requiredOf (l .required) t v
 first-filled (full-cons a bs) = a
 
 mutual
   unfolding meets meetsAll dtypeOf fieldsOf nullnessAt
 
-  pub holds-filled : {r : Bool} {n : Nullness} {v : Value} → Holds n v → (t : ColumnType) → FitsOver (dtypeOf t) v → meets n r t ≡ true → Filled requiredOf r t v
+  pub holds-filled : {r : Bool} {n : Nullness} {v : Value} → Holds n v → (t : ColumnType) → FitsOver (dtypeOf t) v → meets n r t ≡ true → Filled
+      requiredOf r t v
   holds-filled {r} (h-null {ns}) t f e = null-filled r (top-allowed (node optional ns) r t e)
   holds-filled (h-number h) (cleaf l) f e = full-number
   holds-filled (h-text h) (cleaf l) f e = full-text
@@ -88,28 +92,34 @@ mutual
   holds-filled {r} (h-list {p} h a) (clist l t) (over-list c f) e = full-list (each-filled a l t f (both (allowed p r) e .1))
   holds-filled {r} (h-array {p} h a) (carray w l t) (over-array c f) e = full-array (each-filled a l t f (both (allowed p r) e .1))
 
-  hold-filled : {ns : Nullnesses} {vs : Values} → HoldsAll ns vs → (cs : Columns) → FitsAllOver (fieldsOf cs) vs → meetsAll ns cs ≡ true → FilledAll requiredOf cs vs
+  hold-filled : {ns : Nullnesses} {vs : Values} → HoldsAll ns vs → (cs : Columns) → FitsAllOver (fieldsOf cs) vs → meetsAll ns cs ≡ true → FilledAll
+      requiredOf cs vs
   hold-filled h-nil cnil f e = full-nil
   hold-filled (h-cons {n} h hs) (ccons l t cs) (over-cons f fs) e =
       let (a, b) = both (meets n (l .required) t) e in full-cons (holds-filled h t f a) (hold-filled hs cs fs b)
 
-  each-filled : {ns : Nullnesses} {vs : Values} → HoldsEach ns vs → (l : Label) (t : ColumnType) → FitsEachOver (dtypeOf t) vs → meets (nullnessAt ns 0) (l .required) t ≡ true → FilledEach requiredOf (l .required) t vs
+  each-filled : {ns : Nullnesses} {vs : Values} → HoldsEach ns vs → (l : Label) (t : ColumnType) → FitsEachOver (dtypeOf t) vs → meets (nullnessAt ns 0)
+      (l .required) t ≡ true → FilledEach requiredOf (l .required) t vs
   each-filled h-none l t f e = full-none
-  each-filled (h-more {ns} a bs) l t (over-more f fs) e = full-more (first-filled (hold-filled a (ccons l t cnil) (over-cons f over-nil) (element-meets ns l t e))) (each-filled bs l t fs e)
+  each-filled (h-more {ns} a bs) l t (over-more f fs) e = full-more (first-filled
+      (hold-filled a (ccons l t cnil) (over-cons f over-nil) (element-meets ns l t e))) (each-filled bs l t fs e)
 
 -- ---- the theorems
 
 -- one selector
-pub eval-filled : {Γ : Columns} {ρ : Values} {s : Selector} {n : Bytes} (t : ColumnType) {r : Bool} → Typed (fieldsOf Γ) s n (dtypeOf t) → FitsAllOver (fieldsOf Γ) ρ → FilledAll requiredOf Γ ρ
+pub eval-filled : {Γ : Columns} {ρ : Values} {s : Selector} {n : Bytes} (t : ColumnType) {r : Bool} → Typed (fieldsOf Γ) s n (dtypeOf t) → FitsAllOver
+    (fieldsOf Γ) ρ → FilledAll requiredOf Γ ρ
     → meets (nullnessOf (givens Γ) s) r t ≡ true → Filled requiredOf r t (eval ρ s)
 eval-filled t d f h e = holds-filled (eval-holds d f (filled-all h)) t (eval-over d f) e
 
-pub evals-filled : {Γ : Columns} (Δ : Columns) {ρ : Values} {ss : Selectors} → TypedAll (fieldsOf Γ) ss (fieldsOf Δ) → FitsAllOver (fieldsOf Γ) ρ → FilledAll requiredOf Γ ρ
+pub evals-filled : {Γ : Columns} (Δ : Columns) {ρ : Values} {ss : Selectors} → TypedAll (fieldsOf Γ) ss (fieldsOf Δ) → FitsAllOver (fieldsOf Γ) ρ →
+    FilledAll requiredOf Γ ρ
     → meetsAll (nullnessesOf (givens Γ) ss) Δ ≡ true → FilledAll requiredOf Δ (evals ρ ss)
 evals-filled Δ d f h e = hold-filled (evals-hold d f (filled-all h)) Δ (evals-over d f) e
 
 -- a plan that was read and passes the check, 55 included, over a record that fits the incoming layout and meets no 56
-pub passed-filled : {Γ : Columns} (Δ : Columns) {ρ : Values} {ss : Selectors} → FormedAll ss → checkMarked Γ Δ ss ≡ accepted tt → FitsAll (fieldsOf Γ) ρ → FilledAll requiredOf Γ ρ
+pub passed-filled : {Γ : Columns} (Δ : Columns) {ρ : Values} {ss : Selectors} → FormedAll ss → checkMarked Γ Δ ss ≡ accepted tt → FitsAll (fieldsOf Γ) ρ
+    → FilledAll requiredOf Γ ρ
     → FilledAll requiredOf Δ (evals ρ ss)
 unfolding checkMarked
 passed-filled Δ w e f h =

@@ -1,4 +1,5 @@
--- Demand 3, its first two sentences: a plan that passes the check from the columns Γ to the columns Δ, run over a record that fits Γ. And: the reader of plans undoes
+-- Demand 3, its first two sentences: a plan that passes the check from the columns Γ to the columns Δ, run over a record that fits Γ. And: the reader of plans
+-- undoes
 -- their encoding. Assumes nothing.
 use Prim.Native.Nat.{ℕ, _≤_, _<_}
 use mathlib.Core.Path.{_≡_, refl, sym, _∙_}
@@ -23,10 +24,10 @@ use Rattle.plan.specs.Encode.{encodePlan}
 use Rattle.plan.specs.Read.{longestPlan, deepestSelector, plan}
 use Rattle.plan.specs.Check.{check}
 use Rattle.plan.specs.Run.{evals, cleanAll, spacious, written, run}
-use Rattle.plan.specs.Fits.{FitsAllOver}
-use Rattle.plan.specs.Formed.{FormedAll}
+use Rattle.plan.specs.code.Fits.{FitsAllOver}
+use Rattle.plan.specs.code.Formed.{FormedAll}
 use Rattle.plan.specs.Reach.{ReachesOverflow}
-use Rattle.plan.specs.Fallback.{Fallback, evalsWith}
+use Rattle.plan.specs.code.Fallback.{Fallback, evalsWith}
 use Rattle.plan.proofs.Results.{true≠false, both}
 use Rattle.plan.proofs.Typed.{TypedAll, passed→typed}
 use Rattle.plan.proofs.Over.{all-over, clean-all, all-clean}
@@ -63,14 +64,16 @@ module _ (ρ : Values) (ss : Selectors) (room : ℕ) where
       go true p true q = let x = run-writes p q in clash (cc)
       go true p false q = absurd (omega (arith, number-eq (sym (run-exceeds p q) ∙ e)))
 
--- What is left of the run of a plan that passed the check, over a record that fits. `ReachesOverflow` is that it reaches a strict cast that multiplies a non-null
+-- What is left of the run of a plan that passed the check, over a record that fits. `ReachesOverflow` is that it reaches a strict cast that multiplies a
+-- non-null
 -- date-time beyond signed 64 bits.
 pub record Runs (Δ : Fields) (ρ : Values) (ss : Selectors) (room : ℕ) : Type 0 where
   pub output : FitsAllOver Δ (evals ρ ss)
   pub overflow : (run ρ ss room ≡ refusedAt 44 0) ↔ ReachesOverflow ρ ss
   pub reached : Dec (ReachesOverflow ρ ss)
   -- given space, it writes a record that fits the second layout
-  pub writes : (ReachesOverflow ρ ss → ⊥) → spacious room (encodeValues (evals ρ ss)) ≡ true → (run ρ ss room ≡ accepted (encodeValues (evals ρ ss))) × (FitsAll Δ (evals ρ ss) × RecordFits Δ (encodeValues (evals ρ ss)))
+  pub writes : (ReachesOverflow ρ ss → ⊥) → spacious room (encodeValues (evals ρ ss)) ≡ true → (run ρ ss room ≡ accepted (encodeValues (evals ρ ss))) ×
+      (FitsAll Δ (evals ρ ss) × RecordFits Δ (encodeValues (evals ρ ss)))
   pub exceeds : (ReachesOverflow ρ ss → ⊥) → spacious room (encodeValues (evals ρ ss)) ≡ false → run ρ ss room ≡ refusedAt 45 0
 
 module _ {Γ Δ : Fields} {ss : Selectors} {ρ : Values} (d : TypedAll Γ ss Δ) (h : FitsAll Γ ρ) where
@@ -97,7 +100,12 @@ module _ {Γ Δ : Fields} {ss : Selectors} {ρ : Values} (d : TypedAll Γ ss Δ)
   record-fits : (room : ℕ) → (ReachesOverflow ρ ss → ⊥) → spacious room (encodeValues (evals ρ ss)) ≡ true → RecordFits Δ (encodeValues (evals ρ ss))
   unfolding spacious
   record-fits room n s =
-      record { values = evals ρ ss; end = length (encodeValues (evals ρ ss)); reads = record-forth (output-fits n) (leb-true _ _ (both (leb (length (encodeValues (evals ρ ss))) room) s .1)) }
+      record {
+        values = evals ρ ss;
+        end = length (encodeValues (evals ρ ss));
+        reads = record-forth (output-fits n)
+            (leb-true _ _ (both (leb (length (encodeValues (evals ρ ss))) room) s .1));
+      }
 
   pub typed-runs : (room : ℕ) → Runs Δ ρ ss room
   typed-runs room = record {
@@ -122,7 +130,8 @@ module _ (Γ Δ : Fields) {ss : Selectors} (f : FormedAll ss) (passed : check Γ
 
 -- ---- from bytes
 
-module _ (Γ Δ : Fields) (p r : Bytes) (po : AllBytes p) (ro : AllBytes r) {ss : Selectors} {ρ : Values} {m e : ℕ} (planned : plan p ≡ ok ss m) (recorded : recordOf Γ r ≡ ok ρ e) where
+module _ (Γ Δ : Fields) (p r : Bytes) (po : AllBytes p) (ro : AllBytes r) {ss : Selectors} {ρ : Values} {m e : ℕ} (planned : plan p ≡ ok ss m)
+    (recorded : recordOf Γ r ≡ ok ρ e) where
   -- the bytes of a plan that passes the check, and of a record that fits
   pub bytes-run : check Γ Δ ss ≡ accepted tt → (room : ℕ) → Runs Δ ρ ss room
   bytes-run passed room = plan-runs Γ Δ (plan-back p po planned .formed) passed (record-back Γ r ro ρ e recorded .fits) room

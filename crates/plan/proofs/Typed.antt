@@ -11,8 +11,9 @@ use Rattle.values.specs.Value.{Value}
 use Rattle.values.specs.Fits.{Fits}
 use Rattle.plan.specs.Result.{gives, _>>=_, demand, accepted, placed, answered}
 use Rattle.plan.specs.Selector.{Selector, position, constant, cast, rename, structMapping, listMapping, arrayMapping, Selectors, snil, scons}
-use Rattle.plan.specs.Check.{Column, column, columnAt, elementOf, structOf, listOf, Array, arrayOf, castFits, withinLimits, resulting, checkCast, checkRename, checkStruct, checkList, checkArray, typeOf, typesOf, topTypes, against, check}
-use Rattle.plan.specs.Formed.{Formed, f-position, f-constant, f-cast, f-rename, f-struct, f-list, f-array, FormedAll, f-nil, f-cons}
+use Rattle.plan.specs.Check.{Column, column, columnAt, elementOf, structOf, listOf, Array, arrayOf, castFits, withinLimits, resulting, checkCast}
+use Rattle.plan.specs.Check.{checkRename, checkStruct, checkList, checkArray, typeOf, typesOf, topTypes, against, check}
+use Rattle.plan.specs.code.Formed.{Formed, f-position, f-constant, f-cast, f-rename, f-struct, f-list, f-array, FormedAll, f-nil, f-cons}
 use Rattle.plan.proofs.Results.{never-refused, gives-eq, accepted-eq, bind-gives, demand-gives, placed-accepted, answered-accepted}
 
 -- `At Γ k n t`: the field at position k of Γ has the name n and the type t
@@ -25,18 +26,22 @@ mutual
   pub data Typed : Fields → Selector → Bytes → DataType → Type 0 where
     t-position : {Γ : Fields} {k : Position} {n : Bytes} {t : DataType} → At Γ (k .0) n t → Typed Γ (position k) n t
     t-constant : {Γ : Fields} {n : Bytes} {t : DataType} {v : Value} → Fits t v → Typed Γ (constant n t v) n t
-    t-cast : {Γ : Fields} {s : Selector} {n : Bytes} {t u : DataType} {o : CastOption} → Typed Γ s n t → castFits t u o ≡ true → withinLimits u ≡ true → Typed Γ (cast s u o) n u
+    t-cast : {Γ : Fields} {s : Selector} {n : Bytes} {t u : DataType} {o : CastOption} → Typed Γ s n t → castFits t u o ≡ true → withinLimits u ≡ true →
+        Typed Γ (cast s u o) n u
     t-rename : {Γ : Fields} {s : Selector} {m n : Bytes} {t : DataType} → Typed Γ s m t → withinLimits t ≡ true → Typed Γ (rename s n) n t
-    t-struct : {Γ : Fields} {s : Selector} {ss : Selectors} {n : Bytes} {fs gs : Fields} → Typed Γ s n (struct fs) → TypedAll fs ss gs → withinLimits (struct gs) ≡ true
+    t-struct : {Γ : Fields} {s : Selector} {ss : Selectors} {n : Bytes} {fs gs : Fields} → Typed Γ s n (struct fs) → TypedAll fs ss gs → withinLimits
+        (struct gs) ≡ true
         → Typed Γ (structMapping s ss) n (struct gs)
     t-list : {Γ : Fields} {s e : Selector} {m n : Bytes} {t u : DataType} → Typed Γ s n (list t) → Typed (elementOf t) e m u → withinLimits (list u) ≡ true
         → Typed Γ (listMapping s e) n (list u)
-    t-array : {Γ : Fields} {s e : Selector} {m n : Bytes} {w : ℕ} {t u : DataType} → Typed Γ s n (array w t) → Typed (elementOf t) e m u → withinLimits (array w u) ≡ true
+    t-array : {Γ : Fields} {s e : Selector} {m n : Bytes} {w : ℕ} {t u : DataType} → Typed Γ s n (array w t) → Typed (elementOf t) e m u → withinLimits
+        (array w u) ≡ true
         → Typed Γ (arrayMapping s e) n (array w u)
 
   pub data TypedAll : Fields → Selectors → Fields → Type 0 where
     t-nil : {Γ : Fields} → TypedAll Γ snil fnil
-    t-cons : {Γ : Fields} {s : Selector} {ss : Selectors} {n : Bytes} {t : DataType} {fs : Fields} → Typed Γ s n t → TypedAll Γ ss fs → TypedAll Γ (scons s ss) (fcons n t fs)
+    t-cons : {Γ : Fields} {s : Selector} {ss : Selectors} {n : Bytes} {t : DataType} {fs : Fields} → Typed Γ s n t → TypedAll Γ ss fs → TypedAll Γ
+        (scons s ss) (fcons n t fs)
 
 -- ---- the relation gives the check
 

@@ -19,12 +19,14 @@ use Rattle.values.proofs.Stand.{Stand, stand-split, byte-forth}
 use Rattle.values.proofs.Forth.{value-forth}
 use Rattle.plan.specs.Selector.{Selector, Selectors, snil, countSelectors, nesting, nestingAll}
 use Rattle.plan.specs.Encode.{encodeSelector, encodeSelectors, planMark, encodePlan}
-use Rattle.plan.specs.Read.{selectors, positionRest, constantRest, castRest, renameRest, structRest, listRest, arrayRest, selectorRest, selector, longestPlan, deepestSelector, planSized, planVersion, planFrom, planCounted, plan}
-use Rattle.plan.specs.Formed.{Formed, f-position, f-constant, f-cast, f-rename, f-struct, f-list, f-array, FormedAll, f-nil, f-cons}
+use Rattle.plan.specs.Read.{selectors, positionRest, constantRest, castRest, renameRest, structRest, listRest, arrayRest, selectorRest, selector}
+use Rattle.plan.specs.Read.{longestPlan, deepestSelector, planSized, planVersion, planFrom, planCounted, plan}
+use Rattle.plan.specs.code.Formed.{Formed, f-position, f-constant, f-cast, f-rename, f-struct, f-list, f-array, FormedAll, f-nil, f-cons}
 use Rattle.plan.proofs.Parts.{count-forth, text-forth, type-forth, option-forth}
 
 mutual
-  unfolding selector selectorRest positionRest constantRest castRest renameRest structRest listRest arrayRest selectors next choose encodeSelector encodeSelectors countSelectors nesting nestingAll
+  unfolding selector selectorRest positionRest constantRest castRest renameRest structRest listRest arrayRest selectors next choose encodeSelector
+      encodeSelectors countSelectors nesting nestingAll
 
   pub selector-forth : {x : Selector} → Formed x → (d : ℕ) → nesting x ≤ d → (s : Bytes) (at m : ℕ) → Stand s at (encodeSelector x) m → selector d s at ≡ ok x m
   selector-forth (f-position {k} b) zero h s at m P = absurd (omega arith)
@@ -53,7 +55,13 @@ mutual
       let Q = stand-split (4 ∷ []) (encodeSelector x ++ (u16Bytes (countSelectors xs) ++ encodeSelectors xs)) P in
       let R = stand-split (encodeSelector x) (u16Bytes (countSelectors xs) ++ encodeSelectors xs) (Q .second) in
       let S = stand-split (u16Bytes (countSelectors xs)) (encodeSelectors xs) (R .second) in
-      rw (byte-forth (Q .first), selector-forth f d (omega arith) s _ _ (R .first), count-forth b (S .first), selectors-forth fs d (omega arith) s _ m (S .second))
+      rw (
+        byte-forth (Q .first),
+        selector-forth f d (omega arith) s _ _ (R .first),
+        count-forth b (S .first),
+        selectors-forth fs d (omega arith) s _ m
+            (S .second),
+      )
   selector-forth (f-list {s = x} {e = e} f g) zero h s at m P = absurd (omega arith)
   selector-forth (f-list {s = x} {e = e} f g) (suc d) h s at m P =
       let Q = stand-split (5 ∷ []) (encodeSelector x ++ encodeSelector e) P in
@@ -65,7 +73,8 @@ mutual
       let R = stand-split (encodeSelector x) (encodeSelector e) (Q .second) in
       rw (byte-forth (Q .first), selector-forth f d (omega arith) s _ _ (R .first), selector-forth g d (omega arith) s _ m (R .second))
 
-  pub selectors-forth : {xs : Selectors} → FormedAll xs → (d : ℕ) → nestingAll xs ≤ d → (s : Bytes) (at m : ℕ) → Stand s at (encodeSelectors xs) m → selectors (selector d) (countSelectors xs) s at ≡ ok xs m
+  pub selectors-forth : {xs : Selectors} → FormedAll xs → (d : ℕ) → nestingAll xs ≤ d → (s : Bytes) (at m : ℕ) → Stand s at (encodeSelectors xs) m →
+      selectors (selector d) (countSelectors xs) s at ≡ ok xs m
   selectors-forth f-nil d h s at m P = ap (λ (x : ℕ). ok snil x) (let e : at ≡ m = omega (arith, P .ends) in e)
   selectors-forth (f-cons {s = x} {ss = xs} f fs) d h s at m P =
       let Q = stand-split (encodeSelector x) (encodeSelectors xs) P in
@@ -77,7 +86,8 @@ whole s =
     let l : length s ≤ length s = omega arith in
     record { is = sym (ap (λ (r : Bytes). s ++ r) (drop-of-length-le s l) ∙ append-nil s); ends = omega arith; within = l }
 
-pub plan-forth : {ss : Selectors} → FormedAll ss → countSelectors ss < 65536 → nestingAll ss ≤ deepestSelector → length (encodePlan ss) ≤ longestPlan → plan (encodePlan ss) ≡ ok ss (length (encodePlan ss))
+pub plan-forth : {ss : Selectors} → FormedAll ss → countSelectors ss < 65536 → nestingAll ss ≤ deepestSelector → length (encodePlan ss) ≤ longestPlan →
+    plan (encodePlan ss) ≡ ok ss (length (encodePlan ss))
 unfolding plan planFrom planCounted planSized planVersion ended renumber next choose encodePlan
 plan-forth {ss} f c n l =
     let s = encodePlan ss in
@@ -85,4 +95,11 @@ plan-forth {ss} f c n l =
     let R = stand-split (u16Bytes (countSelectors ss)) (encodeSelectors ss) (Q .second) in
     let t : take 5 s ≡ planMark = take-append-seam planMark (u16Bytes (countSelectors ss) ++ encodeSelectors ss) in
     let v : sameBytes (take 5 s) planMark ≡ true = ap (λ (b : Bytes). sameBytes b planMark) t ∙ same-bytes-refl planMark in
-    rw (le-leb (length s) longestPlan l, v, count-forth c (R .first), selectors-forth f deepestSelector n s _ (length s) (R .second), eq-eqb (length s) (length s) refl)
+    rw (
+      le-leb (length s) longestPlan l,
+      v,
+      count-forth c (R .first),
+      selectors-forth f deepestSelector n s _ (length s) (R .second),
+      eq-eqb (length s)
+          (length s) refl,
+    )

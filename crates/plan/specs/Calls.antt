@@ -22,7 +22,8 @@ readAt k (ok a m) f = f a
 
 -- "Incoming, target (any versions), 30": g of the columns of both and of the selectors
 unfoldable pub readPlan : {A : Type 0} → Bytes → Bytes → Bytes → (Columns → Columns → Selectors → Answer A) → Answer A
-readPlan incoming target bytes g = readAt 1 (layout incoming) (λ a. readAt 2 (layout target) (λ b. readAt 0 (plan bytes) (λ ss. g (a .columns) (b .columns) ss)))
+readPlan incoming target bytes g = readAt 1 (layout incoming) (λ a. readAt 2 (layout target)
+    (λ b. readAt 0 (plan bytes) (λ ss. g (a .columns) (b .columns) ss)))
 
 unfoldable pub checkPlan : Bytes → Bytes → Bytes → Answer (Unit {0})
 checkPlan incoming target bytes = readPlan incoming target bytes (λ Γ Δ ss. checkMarked Γ Δ ss)

@@ -4,7 +4,8 @@ use Rattle.layout.specs.Bytes.{Bytes}
 use Rattle.forms.specs.Form.{u16Bytes, textBytes, form}
 use Rattle.rules.specs.Outcomes.{optionCode}
 use Rattle.values.specs.Encode.{encodeValue}
-use Rattle.plan.specs.Selector.{Selector, position, constant, cast, rename, structMapping, listMapping, arrayMapping, Selectors, snil, scons, countSelectors}
+use Rattle.plan.specs.Selector.{Selector, position, constant, cast, rename, structMapping, listMapping, arrayMapping, Selectors, snil, scons}
+use Rattle.plan.specs.Selector.{countSelectors}
 
 -- A code, then a transform's input selector, then its own data.
 unfoldable mutual

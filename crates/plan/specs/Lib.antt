@@ -5,12 +5,8 @@ pub mod Read
 pub mod Check
 pub mod Nullness
 pub mod Marks
-pub mod Paths
 pub mod Convert
 pub mod Run
 pub mod Reach
-pub mod Fits
-pub mod Formed
-pub mod Fallback
-pub mod Answers
 pub mod Calls
+pub mod code

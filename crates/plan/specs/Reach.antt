@@ -53,17 +53,20 @@ pub data SelectorAt : Selectors → ℕ → Selector → Type 0 where
 pub record Beyond (z : ℤ) : Type 0 where
   pub beyond : 2 ^ 63 ≤ mag z
 
--- `Overflows ρ E s p`: what s gives in E has at the path p (of field and element numbers) the result, changed further or not, of a strict cast that multiplies a
+-- `Overflows ρ E s p`: what s gives in E has at the path p (of field and element numbers) the result, changed further or not, of a strict cast that multiplies
+-- a
 -- non-null date-time beyond signed 64 bits.
 pub data Overflows (ρ : Values) : Scope → Selector → List ℕ → Type 0 where
   -- the cast itself
-  o-cast : {E : Scope} {s : Selector} {u v : TimeUnit} {z : Bytes} {n f : ℕ} → valueIn ρ E s ≡ vnumber (Datetime u) n → unitChange u v ≡ multiply f → Beyond (signed 64 n *ℤ pos f)
+  o-cast : {E : Scope} {s : Selector} {u v : TimeUnit} {z : Bytes} {n f : ℕ} → valueIn ρ E s ≡ vnumber (Datetime u) n → unitChange u v ≡ multiply f →
+      Beyond (signed 64 n *ℤ pos f)
       → Overflows ρ E (cast s (leaf (datetime v z)) Strict) []
   -- its result, cast further, renamed
   o-further : {E : Scope} {s : Selector} {t : DataType} {o : CastOption} {p : List ℕ} → Overflows ρ E s p → Overflows ρ E (cast s t o) p
   o-rename : {E : Scope} {s : Selector} {n : Bytes} {p : List ℕ} → Overflows ρ E s p → Overflows ρ E (rename s n) p
   -- in a field or an element that a mapping of a present input makes
-  o-struct : {E : Scope} {s x : Selector} {ss : Selectors} {vs : Values} {k : ℕ} {p : List ℕ} → valueIn ρ E s ≡ vstruct vs → SelectorAt ss k x → Overflows ρ (inStruct E s) x p
+  o-struct : {E : Scope} {s x : Selector} {ss : Selectors} {vs : Values} {k : ℕ} {p : List ℕ} → valueIn ρ E s ≡ vstruct vs → SelectorAt ss k x →
+      Overflows ρ (inStruct E s) x p
       → Overflows ρ E (structMapping s ss) (k ∷ p)
   o-list : {E : Scope} {s e : Selector} {vs : Values} {j : ℕ} {p : List ℕ} → valueIn ρ E s ≡ vlist vs → j < countValues vs → Overflows ρ (inElement E s j) e p
       → Overflows ρ E (listMapping s e) (j ∷ p)

@@ -12,13 +12,13 @@ use Rattle.numeric.specs.Decimals.{withinPrecision}
 use Rattle.layout.specs.Bytes.{Bytes, AllBytes}
 use Rattle.layout.specs.Parser.{refuse, ok, next, choose, byte, chunk}
 use Rattle.layout.specs.Tree.{leafOf, leafType, DataType, leaf, struct, list, array, ColumnType, cstruct, clist, carray, dtypeOf}
-use Rattle.layout.specs.Answers.{headRes}
-use Rattle.layout.specs.Stands.{TypeAt}
-use Rattle.layout.specs.Layout.{Kind, kind, type, body, structType, listType, arrayType}
+use Rattle.layout.specs.code.Answers.{headRes}
+use Rattle.layout.specs.code.Stands.{TypeAt}
+use Rattle.layout.specs.Layout.{Head, kind, type, body, structType, listType, arrayType}
 use Rattle.layout.specs.declared.columns.Siblings.the-variants.{Free}
 use Rattle.layout.specs.declared.cursor.Cursor.{Cursor}
 use Rattle.layout.specs.declared.leaf.Leaf.{Leaf}
-use Rattle.layout.specs.declared.types.Head.{Head}
+use Rattle.layout.specs.declared.types.Head.{Head as HeadSpan}
 use Rattle.layout.specs.declared.types.LeafType.{LeafType as LeafSpan}
 use Rattle.layout.specs.declared.edition.Edition.{Edition}
 use Rattle.layout.proofs.Leaves.{leaf-of-type}
@@ -28,15 +28,15 @@ use Rattle.values.specs.Value.{Value, vnull, vnumber, vtext, vstruct, vlist, va
 use Rattle.values.specs.Content.{contentOf}
 use Rattle.values.specs.Reading.{flag, little, longText, contentBy, leafContent, structContent, listContent, arrayContent, content, value, decimal}
 use Rattle.values.specs.Encode.{encodeValue}
-use Rattle.values.specs.Answers.{valueMoved, copied}
+use Rattle.values.specs.code.Answers.{valueMoved, copied}
 use Rattle.values.specs.declared.content.Content.{Content}
 use Rattle.values.specs.declared.content.Content.the-variants.{Nothing, Flag, Number, Decimal, Text}
 use Rattle.values.specs.declared.read.ValueRead.{ValueRead}
 use Rattle.values.proofs.Walk.{moved-value, moved-none}
 use Rattle.values.proofs.Round.{value-bytes, value-ends}
-use Rattle.nodes.specs.Raw.{RawAt, PresentAt}
-use Rattle.raw.specs.Stored.{Stores}
-use Rattle.raw.specs.Number.{LeafAt, isNumber, LeafIs}
+use Rattle.nodes.specs.code.Raw.{RawAt, PresentAt}
+use Rattle.raw.specs.code.Stored.{Stores}
+use Rattle.raw.specs.code.Number.{LeafAt, isNumber, LeafIs}
 use Rattle.raw.specs.declared.leaf.LeafValue.{LeafValue}
 
 abbrev pub isNested : DataType → Bool
@@ -61,7 +61,8 @@ chunk-in : (w : ℕ) (s : Bytes) (at : ℕ) {b : Bytes} {m : ℕ} → chunk w s 
 unfolding chunk choose
 chunk-in w s at {b} {m} e = go (leb (at + w) (length s)) refl e
   where
-    go : (c : Bool) → leb (at + w) (length s) ≡ c → choose c (ok (take w (drop at s)) (at + w)) (refuse 2) ≡ ok b m → (at + w ≤ length s) × (take w (drop at s) ≡ b)
+    go : (c : Bool) → leb (at + w) (length s) ≡ c → choose c (ok (take w (drop at s)) (at + w)) (refuse 2) ≡ ok b m → (at + w ≤ length s) ×
+        (take w (drop at s) ≡ b)
     go true h e = (leb-true _ _ h, cc)
     go false h e = clash (cc)
 
@@ -157,21 +158,21 @@ content-other (array w t) s at {v} n e = let (vs, i, h, g) = next-ok _ _ e in le
 
 -- a type, by what it begins with
 module _ {v : Edition} {s : Bytes} {at : ℕ} (T : TypeAt v 16 s at) where
-  behind : {k : Kind} {m : ℕ} → kind s at ≡ ok k m → body v Free (type v Free 15) k s m ≡ ok (T .tree) (T .end)
+  behind : {k : Head} {m : ℕ} → kind s at ≡ ok k m → body v Free (type v Free 15) k s m ≡ ok (T .tree) (T .end)
   unfolding type next
   behind q = rw q at (T .reads)
 
   nested-by : {c : ColumnType} → c ≡ T .tree → isNested (dtypeOf c) ≡ isNested (dtypeOf (T .tree))
   nested-by e = ap (λ (c : ColumnType). isNested (dtypeOf c)) e
 
-  pub struct-nested : {p : Head} {n : ℕ} {b : Cursor} → headRes s p ≡ kind s at → p ≡ Head.Struct n b → isNested (dtypeOf (T .tree)) ≡ true
+  pub struct-nested : {p : HeadSpan} {n : ℕ} {b : Cursor} → headRes s p ≡ kind s at → p ≡ HeadSpan.Struct n b → isNested (dtypeOf (T .tree)) ≡ true
   unfolding body structType dtypeOf
   struct-nested h f =
       let (cs, i, h₁, g₁) = next-ok _ _ (behind (sym h ∙ ap (headRes s) f)) in
       let z : cstruct cs ≡ T .tree = cc in
       sym (nested-by z)
 
-  pub list-nested : {p : Head} {b : Cursor} → headRes s p ≡ kind s at → p ≡ Head.List b → isNested (dtypeOf (T .tree)) ≡ true
+  pub list-nested : {p : HeadSpan} {b : Cursor} → headRes s p ≡ kind s at → p ≡ HeadSpan.List b → isNested (dtypeOf (T .tree)) ≡ true
   unfolding body listType dtypeOf
   list-nested h f =
       let (l, i, h₁, g₁) = next-ok _ _ (behind (sym h ∙ ap (headRes s) f)) in
@@ -179,7 +180,7 @@ module _ {v : Edition} {s : Bytes} {at : ℕ} (T : TypeAt v 16 s at) where
       let z : clist l u ≡ T .tree = cc in
       sym (nested-by z)
 
-  pub array-nested : {p : Head} {w : ℕ} {b : Cursor} → headRes s p ≡ kind s at → p ≡ Head.Array w b → isNested (dtypeOf (T .tree)) ≡ true
+  pub array-nested : {p : HeadSpan} {w : ℕ} {b : Cursor} → headRes s p ≡ kind s at → p ≡ HeadSpan.Array w b → isNested (dtypeOf (T .tree)) ≡ true
   unfolding body arrayType dtypeOf
   array-nested {w = w} h f =
       let (l, i, h₁, g₁) = next-ok _ _ (behind (sym h ∙ ap (headRes s) f)) in
@@ -191,25 +192,26 @@ module _ {v : Edition} {lay : Bytes} {t : ℕ} {rec : Bytes} {c : ℕ} (X : Pres
   nested-other : isNested (dtypeOf (X .type .tree)) ≡ true → LeafIs (X .content .tree) LeafValue.Other
   nested-other n = is-other (content-other (dtypeOf (X .type .tree)) rec c n (X .content .reads))
 
-  pub struct-other : {p : Head} {n : ℕ} {b : Cursor} → headRes lay p ≡ kind lay t → p ≡ Head.Struct n b → LeafIs (X .content .tree) LeafValue.Other
+  pub struct-other : {p : HeadSpan} {n : ℕ} {b : Cursor} → headRes lay p ≡ kind lay t → p ≡ HeadSpan.Struct n b → LeafIs (X .content .tree) LeafValue.Other
   struct-other h f = nested-other (struct-nested (X .type) h f)
 
-  pub list-other : {p : Head} {b : Cursor} → headRes lay p ≡ kind lay t → p ≡ Head.List b → LeafIs (X .content .tree) LeafValue.Other
+  pub list-other : {p : HeadSpan} {b : Cursor} → headRes lay p ≡ kind lay t → p ≡ HeadSpan.List b → LeafIs (X .content .tree) LeafValue.Other
   list-other h f = nested-other (list-nested (X .type) h f)
 
-  pub array-other : {p : Head} {w : ℕ} {b : Cursor} → headRes lay p ≡ kind lay t → p ≡ Head.Array w b → LeafIs (X .content .tree) LeafValue.Other
+  pub array-other : {p : HeadSpan} {w : ℕ} {b : Cursor} → headRes lay p ≡ kind lay t → p ≡ HeadSpan.Array w b → LeafIs (X .content .tree) LeafValue.Other
   array-other h f = nested-other (array-nested (X .type) h f)
 
 pub record LeafIn (k : Leaf) (s : Bytes) (at : ℕ) (v : Value) : Type 0 where
   pub inner : LeafAt k s at
   pub is : inner .tree ≡ v
 
-pub leaf-in : {v : Edition} {lay : Bytes} {t : ℕ} {rec : Bytes} {c : ℕ} (X : PresentAt v lay t rec c) {p : Head} {l : LeafSpan} {e : Cursor}
-    → headRes lay p ≡ kind lay t → p ≡ Head.Leaf l e → LeafIn (l .leaf) rec c (X .content .tree)
+pub leaf-in : {v : Edition} {lay : Bytes} {t : ℕ} {rec : Bytes} {c : ℕ} (X : PresentAt v lay t rec c) {p : HeadSpan} {l : LeafSpan} {e : Cursor}
+    → headRes lay p ≡ kind lay t → p ≡ HeadSpan.Leaf l e → LeafIn (l .leaf) rec c (X .content .tree)
 unfolding content dtypeOf
 leaf-in {lay = lay} {rec = rec} {c = c} X {l = l} h q =
     let (f, g) = leaf-at (X .type) h q in
-    let z : content (dtypeOf (X .type .tree)) rec c ≡ leafContent (l .leaf) rec c = ap (λ (t : ColumnType). content (dtypeOf t) rec c) f ∙ ap (λ (k : Leaf). leafContent k rec c) (leaf-of-type (l .leaf) _) in
+    let z : content (dtypeOf (X .type .tree)) rec c ≡ leafContent (l .leaf) rec c = ap (λ (t : ColumnType). content (dtypeOf t) rec c) f ∙ ap
+    (λ (k : Leaf). leafContent k rec c) (leaf-of-type (l .leaf) _) in
     record { inner = record { tree = X .content .tree; end = X .content .end; reads = sym z ∙ X .content .reads }; is = refl }
 
 pub leaf-as : {v w : Value} {r : LeafValue} → v ≡ w → LeafIs v r → LeafIs w r
@@ -235,7 +237,8 @@ module _ {v : Edition} {lay : Bytes} {t : ℕ} {rec : Bytes} {c : ℕ} (X : RawA
         cc
 
     pub raw-ends : (c < e .at) × (e .at ≤ length rec)
-    raw-ends = let (a, b) = value-ends (dtypeOf (X .type .tree)) rec o c (X .value .tree) (X .value .end) (X .value .reads) in (omega (arith, ended, a), omega (arith, ended, b))
+    raw-ends = let (a, b) = value-ends (dtypeOf (X .type .tree)) rec o c (X .value .tree) (X .value .end) (X .value .reads) in
+        (omega (arith, ended, a), omega (arith, ended, b))
 
     pub raw-length : length (encodeValue (X .value .tree)) ≡ e .at - c
     raw-length =

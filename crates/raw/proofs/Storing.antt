@@ -15,8 +15,8 @@ use Rattle.values.specs.Value.{Value, vnull, vnumber, vtext, voverflow, vstruct
 use Rattle.values.specs.Content.{widthOf}
 use Rattle.values.specs.Encode.{encodeValue}
 use Rattle.plan.specs.Run.{castLeaf}
-use Rattle.raw.specs.Number.{isNumber}
-use Rattle.raw.specs.Stored.{Stores, lead}
+use Rattle.raw.specs.code.Number.{isNumber}
+use Rattle.raw.specs.code.Stored.{Stores, lead}
 
 pub cast-kept : (k : Leaf) (v : Value) → isNumber v ≡ false → castLeaf k v ≡ v
 unfolding castLeaf isNumber
@@ -35,7 +35,8 @@ number-short k n = omega (arith, length-little (widthOf k) n, width-small k)
 pub stores-as : {out : Bytes} {k : ℕ} {u v : Value} {r : ℕ} {new : Bytes} → u ≡ v → Stores out k (encodeValue u) r new → Stores out k (encodeValue v) r new
 stores-as {out} {k} {u} {v} {r} {new} e S = subst (λ (w : Value). Stores out k (encodeValue w) r new) e S
 
-pub lead-counted : (out : Bytes) (k m : ℕ) {c : Bool} → c ≡ true → {new : Bytes} → new ≡ overlay out k (1 ∷ littleBytes 2 m) → Stores out k (lead c m) (k + 3) new
+pub lead-counted : (out : Bytes) (k m : ℕ) {c : Bool} → c ≡ true → {new : Bytes} → new ≡ overlay out k (1 ∷ littleBytes 2 m) → Stores out k (lead c m)
+    (k + 3) new
 lead-counted out k m e {new} g =
     subst (λ (c : Bool). Stores out k (lead c m) (k + 3) new) (sym e)
     (record { ends = ap (λ (i : ℕ). k + i) (let z : 3 ≡ suc (length (littleBytes 2 m)) = omega (arith, length-little 2 m) in z); stored = g })

@@ -1,3 +1,1 @@
-pub mod Constant
-pub mod Number
-pub mod Stored
+pub mod code

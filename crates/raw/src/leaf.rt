@@ -1,6 +1,6 @@
 // The number that a leaf is.
-ghost use Rattle.nodes.specs.Raw.{RawAt};
-ghost use Rattle.raw.specs.Number.{LeafAt, LeafIs};
+ghost use Rattle.nodes.specs.code.Raw.{RawAt};
+ghost use Rattle.raw.specs.code.Number.{LeafAt, LeafIs};
 use layout::cursor::Cursor;
 use layout::edition::Edition;
 use layout::leaf::Leaf;

@@ -13,7 +13,7 @@ use Rattle.rules.specs.Outcomes.{Verdict}
 use Rattle.rules.specs.Kinds.{kindOf}
 use Rattle.rules.specs.Promotion.{promotes}
 use Rattle.rules.specs.Chain.{chain}
-use Rattle.rules.specs.Rules.{ruleOf, entry, Agrees}
+use Rattle.rules.specs.code.Rules.{ruleOf, entry, Agrees}
 use Rattle.rules.proofs.EachLeaf.{kind<, rows, each-pair}
 
 -- what the table xs says of a pair
@@ -25,7 +25,8 @@ pub agrees : {xs : List (List ℕ)} → ((p : Policy) (z : Params) (d e : Decima
 agrees {xs} same = record { at = λ p z. each-pair (tabled xs p z) (chain p z) (same p z) }
 
 -- the same, from what the callees of `leaf_pair` ensure
-pub looked-up : {xs : List (List ℕ)} → Agrees xs → (p : Policy) (z : Params) (i t : Leaf) {a b : ℕ} {f : Bool} → a ≡ kindOf i → b ≡ kindOf t → f ≡ promotes a b → ruleOf p z f (getD (getD xs (3 * a + b / 7) []) (b % 7) 0) ≡ chain p z i t
+pub looked-up : {xs : List (List ℕ)} → Agrees xs → (p : Policy) (z : Params) (i t : Leaf) {a b : ℕ} {f : Bool} → a ≡ kindOf i → b ≡ kindOf t → f ≡
+    promotes a b → ruleOf p z f (getD (getD xs (3 * a + b / 7) []) (b % 7) 0) ≡ chain p z i t
 looked-up {xs} g p z i t ea eb ef =
     ap₂ (λ (f : Bool) (k : ℕ). ruleOf p z f k) (ef ∙ ap₂ promotes ea eb) (ap₂ (λ (m n : ℕ). getD (getD xs (3 * m + n / 7) []) (n % 7) 0) ea eb)
     ∙ g .at p z i t

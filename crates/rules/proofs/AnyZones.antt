@@ -8,7 +8,7 @@ use Rattle.rules.specs.declared.policy.Policy.{Policy}
 use Rattle.rules.specs.declared.params.Params.{Params}
 use Rattle.rules.specs.declared.params.Params.the-variants.{Identical, SameAsUtc, Different}
 use Rattle.rules.specs.declared.outcome.CastOption.{CastOption}
-use Rattle.rules.specs.Choice.{if_then_else_}
+use Rattle.rules.specs.code.Choice.{if_then_else_}
 use Rattle.rules.specs.Policies.{allOn}
 use Rattle.rules.specs.Outcomes.{Verdict}
 use Rattle.rules.specs.Zones.{readZone, zonesOf}

@@ -25,10 +25,12 @@ use Rattle.rules.proofs.PairRule.{params, params-decimals, widened-wide
 
 pub data Casts : LeafType → LeafType → CastOption → Type 0 where
   from-null : {t : LeafType} → (null ≡ t → ⊥) → Casts null t NonStrict
-  integer-to-integer : {i t : LeafType} → (i ≡ t → ⊥) → isInteger (leafOf i) ≡ true → isInteger (leafOf t) ≡ true → holds (leafOf t) (leafOf i) ≡ true → Casts i t Overflowing
+  integer-to-integer : {i t : LeafType} → (i ≡ t → ⊥) → isInteger (leafOf i) ≡ true → isInteger (leafOf t) ≡ true → holds (leafOf t) (leafOf i) ≡ true →
+      Casts i t Overflowing
   integer-to-float : {i t : LeafType} → isInteger (leafOf i) ≡ true → isFloat (leafOf t) ≡ true → Casts i t Overflowing
   float-to-float : {i t : LeafType} → (i ≡ t → ⊥) → isFloat (leafOf i) ≡ true → isFloat (leafOf t) ≡ true → Casts i t NonStrict
-  datetime-to-datetime : {u v : TimeUnit} {z w : Bytes} {o : CastOption} → (datetime u z ≡ datetime v w → ⊥) → o ≡ unitOption u v → Casts (datetime u z) (datetime v w) o
+  datetime-to-datetime : {u v : TimeUnit} {z w : Bytes} {o : CastOption} → (datetime u z ≡ datetime v w → ⊥) → o ≡ unitOption u v → Casts (datetime u z)
+      (datetime v w) o
   category-to-string : Casts categorical string NonStrict
   decimal-to-decimal : {d e : Decimal} → widens d e ≡ true → Casts (decimal d) (decimal e) NonStrict
 
@@ -84,12 +86,17 @@ floats-cast : (z : Params) (i t : Leaf) → (isFloat i && isFloat t && not (same
 unfolding chain
 floats-cast z = where-pair (λ i t. isFloat i && isFloat t && not (sameType z i t)) (chain allOn z) (λ i t. cast NonStrict) (λ d e. refl)
 
-datetimes-cast : (z : Params) (i t : Leaf) → (isDatetime i && isDatetime t && not (sameType z i t)) ≡ true → chain allOn z i t ≡ cast (unitOption (unit i) (unit t))
+datetimes-cast : (z : Params) (i t : Leaf) → (isDatetime i && isDatetime t && not (sameType z i t)) ≡ true → chain allOn z i t ≡ cast
+    (unitOption (unit i) (unit t))
 unfolding chain
-datetimes-cast Identical = where-pair (λ i t. isDatetime i && isDatetime t && not (sameType Identical i t)) (chain allOn Identical) (λ i t. cast (unitOption (unit i) (unit t))) (λ d e. refl)
-datetimes-cast SameAsUtc = where-pair (λ i t. isDatetime i && isDatetime t && not (sameType SameAsUtc i t)) (chain allOn SameAsUtc) (λ i t. cast (unitOption (unit i) (unit t))) (λ d e. refl)
-datetimes-cast Different = where-pair (λ i t. isDatetime i && isDatetime t && not (sameType Different i t)) (chain allOn Different) (λ i t. cast (unitOption (unit i) (unit t))) (λ d e. refl)
-datetimes-cast Widened = where-pair (λ i t. isDatetime i && isDatetime t && not (sameType Widened i t)) (chain allOn Widened) (λ i t. cast (unitOption (unit i) (unit t))) (λ d e. refl)
+datetimes-cast Identical = where-pair (λ i t. isDatetime i && isDatetime t && not (sameType Identical i t)) (chain allOn Identical)
+    (λ i t. cast (unitOption (unit i) (unit t))) (λ d e. refl)
+datetimes-cast SameAsUtc = where-pair (λ i t. isDatetime i && isDatetime t && not (sameType SameAsUtc i t)) (chain allOn SameAsUtc)
+    (λ i t. cast (unitOption (unit i) (unit t))) (λ d e. refl)
+datetimes-cast Different = where-pair (λ i t. isDatetime i && isDatetime t && not (sameType Different i t)) (chain allOn Different)
+    (λ i t. cast (unitOption (unit i) (unit t))) (λ d e. refl)
+datetimes-cast Widened = where-pair (λ i t. isDatetime i && isDatetime t && not (sameType Widened i t)) (chain allOn Widened)
+    (λ i t. cast (unitOption (unit i) (unit t))) (λ d e. refl)
 
 category-cast : (z : Params) → chain allOn z Leaf.Categorical Leaf.String ≡ cast NonStrict
 unfolding chain

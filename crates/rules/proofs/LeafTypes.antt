@@ -6,7 +6,7 @@ use Rattle.layout.specs.Bytes.{Bytes}
 use Rattle.layout.specs.Tree.{LeafType, leafType, leafOf, zoneOf}
 use Rattle.layout.specs.declared.leaf.Leaf.{Leaf}
 use Rattle.layout.proofs.Leaves.{leaf-type-of}
-use Rattle.rules.specs.Choice.{if_then_else_}
+use Rattle.rules.specs.code.Choice.{if_then_else_}
 use Rattle.rules.specs.Classes.{isDatetime}
 
 -- a date-time has its zone, and no other type has one

@@ -12,7 +12,7 @@ use Rattle.rules.specs.declared.policy.Policy.{Policy}
 use Rattle.rules.specs.declared.params.Params.{Params}
 use Rattle.rules.specs.declared.outcome.CastOption.{CastOption}
 use Rattle.rules.specs.declared.outcome.CastOption.the-variants.{NonStrict, Overflowing}
-use Rattle.rules.specs.Choice.{if_then_else_}
+use Rattle.rules.specs.code.Choice.{if_then_else_}
 use Rattle.rules.specs.Policies.{allOn}
 use Rattle.rules.specs.Allows.{_⇒_, Allows}
 use Rattle.rules.specs.Outcomes.{Verdict, untouched, refused, cast, need}

@@ -4,17 +4,19 @@ use mathlib.Core.Bool.{Bool, true, false, not}
 use Rattle.layout.specs.Tree.{LeafType, leafOf, zoneOf, null, datetime, string, categorical, decimal}
 use Rattle.layout.specs.declared.leaf.Leaf.{Leaf}
 use Rattle.layout.specs.declared.leaf.Decimal.{Decimal}
-use Rattle.rules.specs.Choice.{if_then_else_}
+use Rattle.rules.specs.code.Choice.{if_then_else_}
 use Rattle.rules.specs.Classes.{isDatetime, unit, isNull, isString, isCategorical, isDecimal}
 use Rattle.rules.specs.Params.{decimalOf}
 use Rattle.rules.proofs.EachLeaf.{row, rows, each-leaf, each-pair}
 use Rattle.layout.proofs.Leaves.{type-of-leaf}
 
 -- an equation where a test holds, computed at each kind or pair of kinds
-pub where-test : {A : Type 0} (c : Leaf → Bool) (f g : Leaf → A) → ((d : Decimal) → row d (λ l. if c l then f l else g l) ≡ row d g) → (l : Leaf) → c l ≡ true → f l ≡ g l
+pub where-test : {A : Type 0} (c : Leaf → Bool) (f g : Leaf → A) → ((d : Decimal) → row d (λ l. if c l then f l else g l) ≡ row d g) → (l : Leaf) → c l
+    ≡ true → f l ≡ g l
 where-test c f g e l q = sym (ap (λ (b : Bool). if b then f l else g l) q) ∙ each-leaf (λ l. if c l then f l else g l) g e l
 
-pub where-pair : {A : Type 0} (c : Leaf → Leaf → Bool) (f g : Leaf → Leaf → A) → ((d e : Decimal) → rows d e (λ i t. if c i t then f i t else g i t) ≡ rows d e g) → (i t : Leaf) → c i t ≡ true → f i t ≡ g i t
+pub where-pair : {A : Type 0} (c : Leaf → Leaf → Bool) (f g : Leaf → Leaf → A) → ((d e : Decimal) → rows d e (λ i t. if c i t then f i t else g i t) ≡
+    rows d e g) → (i t : Leaf) → c i t ≡ true → f i t ≡ g i t
 where-pair c f g e i t q = sym (ap (λ (b : Bool). if b then f i t else g i t) q) ∙ each-pair (λ i t. if c i t then f i t else g i t) g e i t
 
 pub datetime-leaf : (l : Leaf) → isDatetime l ≡ true → l ≡ Leaf.Datetime (unit l)

@@ -15,7 +15,7 @@ use Rattle.rules.specs.declared.params.Params.{Params}
 use Rattle.rules.specs.declared.params.Params.the-variants.{Identical, SameAsUtc, Widened, Different}
 use Rattle.rules.specs.declared.outcome.CastOption.{CastOption}
 use Rattle.rules.specs.declared.outcome.CastOption.the-variants.{NonStrict}
-use Rattle.rules.specs.Choice.{if_then_else_}
+use Rattle.rules.specs.code.Choice.{if_then_else_}
 use Rattle.rules.specs.Outcomes.{Verdict, untouched, refused, cast, need}
 use Rattle.rules.specs.Zones.{readZone, zonesOf}
 use Rattle.rules.specs.Params.{widens, sameDecimal, decimalsOf, decimalOf, paramsOf, identical, widened}
@@ -76,7 +76,8 @@ pair-of-leaves p i t z w =
 abbrev pub params : LeafType → LeafType → Params
 params a b = paramsOf (leafOf a) (zoneOf a) (leafOf b) (zoneOf b)
 
-pub params-decimals : (a b : LeafType) → isDecimal (leafOf a) ≡ true → isDecimal (leafOf b) ≡ true → params a b ≡ decimalsOf (decimalOf (leafOf a)) (decimalOf (leafOf b))
+pub params-decimals : (a b : LeafType) → isDecimal (leafOf a) ≡ true → isDecimal (leafOf b) ≡ true → params a b ≡ decimalsOf (decimalOf (leafOf a))
+    (decimalOf (leafOf b))
 unfolding paramsOf
 params-decimals a b e f = rw (e, f)
 
@@ -169,7 +170,8 @@ pub same-type-eq : (a b : LeafType) → sameLeafType a b ≡ true → a ≡ b
 same-type-eq a b e =
     let (k, f) = both-true (eqb (kindOf (leafOf a)) (kindOf (leafOf b))) _ e in
     same-leaf-type a b (same-leaf a b (eqb-true _ _ k) (λ m. second (isDatetime (leafOf a)) (isDecimal (leafOf a)) _ f m))
-    (λ d. identical-eq (zoneOf a) (zoneOf b) (sym (ap identical (params-zones a b (datetime-not-decimal (leafOf a) d))) ∙ first (isDatetime (leafOf a)) _ _ f d))
+    (λ d. identical-eq (zoneOf a) (zoneOf b) (sym (ap identical (params-zones a b (datetime-not-decimal (leafOf a) d))) ∙ first (isDatetime (leafOf a))
+    _ _ f d))
   where
     first : (d m c : Bool) → (not (d || m) || c) ≡ true → d ≡ true → c ≡ true
     first true m c e q = e

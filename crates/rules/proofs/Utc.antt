@@ -5,7 +5,7 @@ use mathlib.Core.Bool.{Bool, true, false, _&&_, _||_, true≢false}
 use Rattle.layout.proofs.OfBytes.{same-bytes-eq, same-bytes-refl}
 use Rattle.layout.specs.Bytes.{Bytes, sameBytes}
 use Rattle.rules.specs.declared.params.Params.the-variants.{Identical, SameAsUtc, Different}
-use Rattle.rules.specs.Choice.{if_then_else_}
+use Rattle.rules.specs.code.Choice.{if_then_else_}
 use Rattle.rules.specs.Params.{sameAsUtc}
 use Rattle.rules.specs.Zones.{utc, etcUtc, textZ, isUtc, readZone, zonesOf}
 

@@ -7,7 +7,7 @@ use Rattle.rules.specs.declared.policy.Policy.{Policy}
 use Rattle.rules.specs.declared.params.Params.{Params}
 use Rattle.rules.specs.declared.outcome.CastOption.{CastOption}
 use Rattle.rules.specs.declared.outcome.CastOption.the-variants.{NonStrict, Overflowing}
-use Rattle.rules.specs.Choice.{if_then_else_}
+use Rattle.rules.specs.code.Choice.{if_then_else_}
 use Rattle.rules.specs.Outcomes.{Verdict, untouched, refused, cast, need}
 use Rattle.rules.specs.Params.{sameAsUtc, widened}
 use Rattle.rules.specs.Classes.{isNull, isInteger, isFloat, isDatetime, unit, isCategorical, isString, isDecimal}
@@ -39,7 +39,8 @@ way p z i t =
     by-test (sameType z i t) (λ s. way-same s) (λ s.
     by-test (isNull i) (λ n. by-need (p .«null_upcast») 15 (λ f. way-null s n)) (λ n.
     by-test (isInteger i && isInteger t) (λ k. by-need (p .«integer_upcast») 16 (λ f. by-need (holds t i) 17 (λ h. way-integers s k h))) (λ k.
-    by-test (isFloat i && isFloat t && wider t i) (λ w. by-need (p .«float_upcast») 18 (λ f. way-floats s (first-two (isFloat i) (isFloat t) (wider t i) w))) (λ w.
+    by-test (isFloat i && isFloat t && wider t i) (λ w. by-need (p .«float_upcast») 18
+    (λ f. way-floats s (first-two (isFloat i) (isFloat t) (wider t i) w))) (λ w.
     by-test (isFloat i && isFloat t) (λ k. by-need (p .«float_downcast») 19 (λ f. way-floats s k)) (λ w.
     by-test (isInteger i && isFloat t) (λ k. by-need (p .«integer_to_float_cast») 20 (λ f. way-integer-float k)) (λ w.
     by-test (isDatetime i && isDatetime t)

@@ -1,4 +1,3 @@
-pub mod Choice
 pub mod Policies
 pub mod Allows
 pub mod Outcomes
@@ -9,5 +8,5 @@ pub mod Params
 pub mod Promotion
 pub mod PrintedList
 pub mod Chain
-pub mod Rules
 pub mod Pairs
+pub mod code

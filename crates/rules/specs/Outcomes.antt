@@ -6,12 +6,13 @@ use lib.ListN.{getD}
 use Rattle.rules.specs.declared.outcome.CastOption.{CastOption}
 use Rattle.rules.specs.declared.outcome.CastOption.the-variants.{NonStrict, Strict, Overflowing}
 use Rattle.rules.specs.declared.outcome.Mismatch.{Mismatch}
-use Rattle.rules.specs.declared.outcome.Mismatch.the-variants.{NullUpcast, IntegerUpcast, IntegerRange, FloatUpcast, FloatDowncast, IntegerToFloat, TimeZone, UnitCast, CategoricalToString, DecimalWidening, NoRule}
+use Rattle.rules.specs.declared.outcome.Mismatch.the-variants.{NullUpcast, IntegerUpcast, IntegerRange, FloatUpcast, FloatDowncast, IntegerToFloat}
+use Rattle.rules.specs.declared.outcome.Mismatch.the-variants.{TimeZone, UnitCast, CategoricalToString, DecimalWidening, NoRule}
 use Rattle.rules.specs.declared.outcome.Outcome.{Outcome}
 use Rattle.rules.specs.declared.outcome.Outcome.the-variants.{Untouched, Refused, Cast}
 use Rattle.rules.specs.declared.outcome.OptionCode.{OptionCode}
 use Rattle.rules.specs.declared.outcome.OptionCode.the-variants.{Known, Unknown}
-use Rattle.rules.specs.Choice.{if_then_else_}
+use Rattle.rules.specs.code.Choice.{if_then_else_}
 
 -- an outcome in the document's terms
 pub data Verdict : Type 0 where

@@ -6,7 +6,7 @@ use Rattle.layout.specs.declared.leaf.Decimal.{Decimal}
 use Rattle.layout.specs.declared.leaf.Leaf.{Leaf}
 use Rattle.rules.specs.declared.params.Params.{Params}
 use Rattle.rules.specs.declared.params.Params.the-variants.{Identical, SameAsUtc, Widened, Different}
-use Rattle.rules.specs.Choice.{if_then_else_}
+use Rattle.rules.specs.code.Choice.{if_then_else_}
 use Rattle.rules.specs.Zones.{zonesOf}
 use Rattle.rules.specs.Classes.{isDecimal}
 

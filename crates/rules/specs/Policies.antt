@@ -5,7 +5,7 @@ use lib.Dec.{eqb}
 use Rattle.rules.specs.declared.policy.Policy.{Policy}
 use Rattle.rules.specs.declared.policy.MissingColumnsPolicy.{MissingColumnsPolicy}
 use Rattle.rules.specs.declared.policy.ExtraColumnsPolicy.{ExtraColumnsPolicy}
-use Rattle.rules.specs.Choice.{if_then_else_}
+use Rattle.rules.specs.code.Choice.{if_then_else_}
 
 abbrev pub bit : ℕ → ℕ → Bool
 bit k word = eqb (word / 2 ^ k % 2) 1

@@ -3,7 +3,7 @@ ghost use mathlib.Core.Path.{_≡_};
 ghost use Rattle.layout.specs.Tree.{leafType};
 ghost use Rattle.rules.specs.Outcomes.{numberOf, need, cast, verdictOf};
 ghost use Rattle.rules.specs.Chain.{chain};
-ghost use Rattle.rules.specs.Rules.{integers, datetimes, decimals, ruleOf};
+ghost use Rattle.rules.specs.code.Rules.{integers, datetimes, decimals, ruleOf};
 ghost use Rattle.rules.specs.Pairs.{pairRule, hasOption, castPasses};
 use crate::kinds::kind;
 use crate::lossless::lossless;

@@ -9,7 +9,7 @@ use Rattle.layout.specs.Bytes.{Bytes}
 use Rattle.layout.specs.Parser.{Res, refuse, ok}
 use Rattle.layout.specs.Tree.{Layout, Columns, Fields, fieldsOf}
 use Rattle.layout.specs.Layout.{layout, type, columns as columnsOf, deepest}
-use Rattle.layout.specs.Stands.{ColumnsAt, LayoutAt}
+use Rattle.layout.specs.code.Stands.{ColumnsAt, LayoutAt}
 use Rattle.layout.specs.declared.columns.Siblings.the-variants.{Free}
 use Rattle.layout.specs.declared.edition.Edition.{Edition}
 use Rattle.layout.proofs.View.{same-columns}
@@ -21,7 +21,7 @@ use Rattle.values.specs.Value.{Values}
 use Rattle.values.specs.Encode.{encodeValues}
 use Rattle.values.specs.Filled.{requiredOf}
 use Rattle.values.specs.Record.{recordMarked, RecordFilled}
-use Rattle.values.specs.Answers.{recordRead}
+use Rattle.values.specs.code.Answers.{recordRead}
 use Rattle.values.specs.declared.record.RecordRead.{RecordRead}
 use Rattle.values.proofs.Inside.{record-at, record-unfilled}
 use Rattle.plan.specs.Result.{Answer, accepted, refusedAt, answered}
@@ -35,22 +35,22 @@ use Rattle.plan.specs.declared.answer.WriteResult.{WriteResult}
 use Rattle.plan.proofs.Results.{answered-accepted}
 use Rattle.plan.proofs.Theorems.{run-overflows, run-writes, run-exceeds}
 use Rattle.walk.proofs.View.{selectors-longer}
-use Rattle.nodes.specs.Raw.{RowAt}
-use Rattle.transfer.specs.Reaching.{Kept}
-use Rattle.composed.specs.Transferring.{transferredAnswer, TransferredIs}
+use Rattle.nodes.specs.code.Raw.{RowAt}
+use Rattle.transfer.specs.code.Reaching.{Kept}
+use Rattle.composed.specs.code.Transferring.{transferredAnswer, TransferredIs}
 use Rattle.composed.specs.declared.whole.Transferred.{Transferred}
-use Rattle.overflow.specs.Overflows.{PlanAt}
-use Rattle.output.specs.Output.{Emits}
-use Rattle.output.specs.Answers.{OutputAt, HandedOver, writtenOf}
+use Rattle.overflow.specs.code.Overflows.{PlanAt}
+use Rattle.output.specs.code.Output.{Emits}
+use Rattle.output.specs.code.Answers.{OutputAt, HandedOver, writtenOf}
 use Rattle.output.specs.declared.write.Written.{Written}
 use Rattle.output.proofs.Writing.{emits-exact}
 use Rattle.output.proofs.Whole.{aside-inside}
-use Rattle.checker.specs.Tops.{planChecked}
+use Rattle.checker.specs.code.Tops.{planChecked}
 use Rattle.checker.proofs.Topping.{PlanAt as PlanFound, plan-tops}
 use Rattle.checker.specs.declared.tops.PlanChecked.{PlanChecked}
 use Rattle.run.specs.declared.read.Read.{Read}
 use Rattle.run.specs.declared.single_pass.SinglePass.{SinglePass}
-use Rattle.run.specs.Answers.{finished, recordRun, checkedRun, Ran, ReadAt, PassedAt, Settled, singlePassAnswer, SinglePassIs}
+use Rattle.run.specs.code.Answers.{finished, recordRun, checkedRun, Ran, ReadAt, PassedAt, Settled, singlePassAnswer, SinglePassIs}
 
 -- a refusal leaves the buffer as it was
 pub ran-refused : {x : Answer Bytes} {entry : Bytes} {n k : ℕ} → x ≡ refusedAt n k → Ran x entry (WriteResult.Refused n k) entry

@@ -1,5 +1,5 @@
 // What was read of a run's layouts and plan.
-use nodes::places::ColumnRange;
+use layout::columns::ColumnRange;
 
 // Two layouts and a plan: the columns of both, and how many top selectors there are.
 pub struct Read {

@@ -1,19 +1,19 @@
 // Each call is total: all of the check, then 43, 40, 41, 52, 56, 42, then 44 anywhere in the output, then 45.
 ghost use mathlib.Core.Path.{_≡_};
 ghost use lib.ListN.{length};
-ghost use Rattle.ends.specs.Ends.{Ends};
+ghost use Rattle.ends.specs.code.Ends.{Ends};
 ghost use Rattle.plan.specs.Calls.{runPlan, bufferAfter, writeResult};
-ghost use Rattle.run.specs.Answers.{finished, ReadAt, PassedAt, FilledAt, CheckedRuns, RecordRuns, FilledRuns};
+ghost use Rattle.run.specs.code.Answers.{finished, ReadAt, PassedAt, FilledAt, CheckedRuns, RecordRuns, FilledRuns};
 use crate::read::Read;
 use crate::single_pass::SinglePass;
 use crate::single_pass::write_single_pass;
 use checker::tops::PlanChecked;
 use checker::tops::check_read;
 use ends::fill::fill_columns;
+use layout::columns::ColumnRange;
 use layout::cursor::Cursor;
 use layout::read::LayoutRead;
 use layout::read::read_layout;
-use nodes::places::ColumnRange;
 use output::write::Written;
 use output::write::scratch;
 use output::write::write_output;

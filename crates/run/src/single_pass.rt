@@ -2,13 +2,13 @@
 ghost use mathlib.Core.Path.{_≡_};
 ghost use Prim.Native.Nat.{_≤_};
 ghost use lib.ListN.{length};
-ghost use Rattle.ends.specs.Ends.{Ends};
-ghost use Rattle.walk.specs.Stands.{SelectorsAt};
-ghost use Rattle.nodes.specs.Raw.{RowAt};
-ghost use Rattle.run.specs.Answers.{SinglePassIs};
+ghost use Rattle.ends.specs.code.Ends.{Ends};
+ghost use Rattle.walk.specs.code.Stands.{SelectorsAt};
+ghost use Rattle.nodes.specs.code.Raw.{RowAt};
+ghost use Rattle.run.specs.code.Answers.{SinglePassIs};
 use composed::whole::Transferred;
 use composed::whole::transfer_record;
-use nodes::places::ColumnRange;
+use layout::columns::ColumnRange;
 use output::write::Written;
 use output::write::hand_over;
 

@@ -9,7 +9,7 @@ use native.Mathlib.Omega.{arith}
 use mathlib.Core.Path.{_≡_, refl, sym, ap, _∙_}
 use Rattle.layout.specs.Parser.{Res, refuse, ok}
 use Rattle.layout.specs.Tree.{Layout}
-use Rattle.layout.specs.Answers.{layoutOf}
+use Rattle.layout.specs.code.Answers.{layoutOf}
 use Rattle.layout.specs.declared.cursor.Cursor.{Cursor}
 use Rattle.layout.specs.declared.read.LayoutRead.{LayoutRead}
 use Rattle.layout.specs.declared.edition.Edition.{Edition}
@@ -19,7 +19,7 @@ use Rattle.rules.specs.declared.policy.Policy.{Policy}
 use Rattle.plan.specs.Result.{Answer, accepted, refusedAt}
 use Rattle.plan.specs.Calls.{writeResult, bufferAfter}
 use Rattle.plan.specs.declared.answer.WriteResult.{WriteResult}
-use Rattle.checker.specs.Tops.{planChecked}
+use Rattle.checker.specs.code.Tops.{planChecked}
 use Rattle.checker.specs.declared.tops.PlanChecked.{PlanChecked}
 use Rattle.selector.specs.Answer.{answer, refusal, readAnswer, writtenAnswer, writeAnswer, checkedAnswer, checkAnswer}
 

@@ -15,9 +15,11 @@ use Rattle.rules.specs.Policies.{policyOf}
 use Rattle.plan.specs.Result.{Answer, accepted, refusedAt}
 use Rattle.plan.specs.Calls.{readAt, checkPlan, runPlan}
 use Rattle.matching.specs.Calls.{buildByName, buildByNumber}
-use Rattle.demands.specs.Refusals.{Call, readingLayout, building, checkingPlan, running, refusalIn, hasPlace, placeOf, Refusal, readLayout, layoutsRead, tableRead, columnCount, selectorCount}
+use Rattle.demands.specs.Refusals.{Call, readingLayout, building, checkingPlan, running, refusalIn, hasPlace, placeOf, Refusal, readLayout, layoutsRead}
+use Rattle.demands.specs.Refusals.{tableRead, columnCount, selectorCount}
 use Rattle.demands.proofs.Refusing.{Answers, in-accepted, in-refusedAt}
-use Rattle.demands.proofs.Refusals.{read-layout-in, by-name-in, by-number-in, check-plan-in, run-plan-in, place-small, refusal-placed, columns-small, selectors-small}
+use Rattle.demands.proofs.Refusals.{read-layout-in, by-name-in, by-number-in, check-plan-in, run-plan-in, place-small, refusal-placed, columns-small}
+use Rattle.demands.proofs.Refusals.{selectors-small}
 use Rattle.selector.specs.Answer.{answer, refusal, readAnswer, writtenAnswer, checkedAnswer}
 use Rattle.selector.specs.Decoded.{answerNumber, answerRest, Decoded}
 
@@ -38,7 +40,8 @@ shown-small n k = go (hasPlace n)
     go true = omega arith
     go false = omega arith
 
-decoded : {c : Call} {things : List ℕ} {incoming columns : ℕ} {A : Type 0} {Q : A → Type 0} {x : Answer A} (size : A → ℕ) → Answers Q (Refusal c things incoming columns) x
+decoded : {c : Call} {things : List ℕ} {incoming columns : ℕ} {A : Type 0} {Q : A → Type 0} {x : Answer A} (size : A → ℕ) → Answers Q
+    (Refusal c things incoming columns) x
     → ((a : A) → Q a → size a < 2 ^ 32) → incoming < 65536 → columns < 65536 → length things ≤ 3 → Decoded c things incoming columns size x (word size x)
 decoded size (in-accepted {a = a} q) fits some few three =
     let (e, f) = halves 0 (size a) (fits a q) in
@@ -73,7 +76,8 @@ module _ (policy : ℕ) (incoming target : Bytes) (oi : AllBytes incoming) (ot :
       (buildByName (policyOf policy) incoming target space) (writtenAnswer (buildByName (policyOf policy) incoming target space))
   by-name-decoded =
       rw (← written-word (buildByName (policyOf policy) incoming target space))
-      (decoded length (by-name-in (policyOf policy) incoming target space) (λ b q. omega arith) (columns-small incoming oi) (columns-small target ot) (omega arith))
+      (decoded length (by-name-in (policyOf policy) incoming target space) (λ b q. omega arith) (columns-small incoming oi) (columns-small target ot)
+      (omega arith))
 
   pub by-number-decoded : (index owner : ℕ) (defaults : Bytes)
       → Decoded (building ByNumber) (layoutsRead incoming target (tableRead defaults)) (columnCount incoming) (columnCount target) length

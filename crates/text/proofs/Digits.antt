@@ -5,7 +5,7 @@ use native.Mathlib.Nat.{mul-one, mul-assoc, mul-lt-mul-of-pos-right, lt-of-lt-of
 use native.Mathlib.Omega.{arith}
 use lib.Pow.{pow-pos, pow-mono, pow-add, shl-lt}
 use Rattle.numeric.specs.Rounding.{hidden, fields, magnitude}
-use Rattle.text.specs.Decimal.{word, one, count, Words}
+use Rattle.text.specs.code.Decimal.{word, one, count, Words}
 
 -- ---- a magnitude, taken apart
 

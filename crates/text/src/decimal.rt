@@ -3,7 +3,7 @@ ghost use Prim.Native.Nat.{_+_, _*_, _%_, _^_, _≤_, _<_};
 ghost use mathlib.Core.Path.{_≡_};
 ghost use lib.Dec.{eqb};
 ghost use Rattle.numeric.specs.Rounding.{infinity, magnitude};
-ghost use Rattle.text.specs.Decimal.{word, one, count, Words};
+ghost use Rattle.text.specs.code.Decimal.{word, one, count, Words};
 use numeric::round::power;
 
 const HIDDEN: u64 = 0x0010_0000_0000_0000;

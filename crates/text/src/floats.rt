@@ -1,7 +1,7 @@
 // Floats: in decimal, then by their bits. Digits are cut off and never rounded, so that those written are the value's own.
 ghost use Prim.Native.Nat.{_+_, _^_, _<_};
 ghost use Rattle.numeric.specs.Rounding.{infinity};
-ghost use Rattle.text.specs.Decimal.{Words};
+ghost use Rattle.text.specs.code.Decimal.{Words};
 use crate::decimal::Fixed;
 use crate::decimal::Parts;
 use crate::decimal::is_zero;

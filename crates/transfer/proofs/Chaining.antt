@@ -5,8 +5,8 @@ use mathlib.Core.Bool.{true}
 use Rattle.layout.specs.Bytes.{Bytes}
 use Rattle.layout.specs.Tree.{dtypeOf}
 use Rattle.layout.specs.Layout.{kind, type as typeRead}
-use Rattle.layout.specs.Stands.{TypeAt}
-use Rattle.layout.specs.Answers.{headRes}
+use Rattle.layout.specs.code.Stands.{TypeAt}
+use Rattle.layout.specs.code.Answers.{headRes}
 use Rattle.layout.specs.declared.columns.Position.{Position}
 use Rattle.layout.specs.declared.columns.Siblings.the-variants.{Free}
 use Rattle.layout.specs.declared.cursor.Cursor.{Cursor}
@@ -20,16 +20,16 @@ use Rattle.values.specs.Encode.{encodeValue}
 use Rattle.plan.specs.Selector.{Selector, position}
 use Rattle.plan.specs.Convert.{convert}
 use Rattle.plan.specs.Run.{valueAt, castLeaf, castValue, eval, clean}
-use Rattle.convert.specs.Converted.{valueOf}
+use Rattle.convert.specs.code.Converted.{valueOf}
 use Rattle.convert.specs.declared.leaf.Converted.{Converted}
-use Rattle.walk.specs.Stands.{SelectorAt}
-use Rattle.walk.specs.Parts.{CastAt, RenameAt}
-use Rattle.raw.specs.Number.{isNumber, leafAnswer, LeafIs}
+use Rattle.walk.specs.code.Stands.{SelectorAt}
+use Rattle.walk.specs.code.Parts.{CastAt, RenameAt}
+use Rattle.raw.specs.code.Number.{isNumber, leafAnswer, LeafIs}
 use Rattle.raw.specs.declared.leaf.LeafValue.{LeafValue}
 use Rattle.raw.proofs.Leaves.{isNested}
 use Rattle.raw.proofs.Storing.{cast-kept}
-use Rattle.transfer.specs.Reaching.{takes, ReachedIs}
-use Rattle.transfer.specs.Chains.{chainAnswer, ChainIs}
+use Rattle.transfer.specs.code.Reaching.{takes, ReachedIs}
+use Rattle.transfer.specs.code.Chains.{chainAnswer, ChainIs}
 use Rattle.transfer.specs.declared.chain.ChainValue.{ChainValue}
 use Rattle.transfer.specs.declared.leaf.Reached.{Reached}
 use Rattle.transfer.proofs.Origins.{position-value}
@@ -60,11 +60,13 @@ module _ {x : Value} {q : LeafValue} (L : LeafIs x q) where
 
 -- ---- one cast
 
-pub chain-converted : (i k : Leaf) (n : ℕ) {q : Converted} → valueOf k q ≡ convert i k n → {m : ℕ} → q ≡ Converted.Number m → (y : Value) → ChainIs (castLeaf k (vnumber i n)) y (ChainValue.Number k m)
+pub chain-converted : (i k : Leaf) (n : ℕ) {q : Converted} → valueOf k q ≡ convert i k n → {m : ℕ} → q ≡ Converted.Number m → (y : Value) → ChainIs
+    (castLeaf k (vnumber i n)) y (ChainValue.Number k m)
 chain-converted i k n h f y = record { answer = sym (converted i k n h f) }
 
 module _ {x y : Value} {q : ChainValue} (C : ChainIs x y q) where
-  pub cast-number : (k : Leaf) {i : Leaf} {n : ℕ} {r : ChainValue} → q ≡ ChainValue.Number i n → ((z : Value) → ChainIs (castLeaf k (vnumber i n)) z r) → ChainIs (castLeaf k x) y r
+  pub cast-number : (k : Leaf) {i : Leaf} {n : ℕ} {r : ChainValue} → q ≡ ChainValue.Number i n → ((z : Value) → ChainIs (castLeaf k (vnumber i n)) z r)
+      → ChainIs (castLeaf k x) y r
   cast-number k f R = chain-as (ap (castLeaf k) (sym (chain-to C f))) refl (R y)
 
   pub cast-same : (k : Leaf) → q ≡ ChainValue.Same → ChainIs (castLeaf k x) y ChainValue.Same
@@ -76,7 +78,8 @@ module _ {x y : Value} {q : ChainValue} (C : ChainIs x y q) where
     pub by-nested : isNested (dtypeOf (T .tree)) ≡ true → ChainIs (castValue (dtypeOf (T .tree)) x) y q
     by-nested n = chain-as (cast-nested (dtypeOf (T .tree)) x n) refl C
 
-pub by-leaf : {v : Edition} {s : Bytes} {at : ℕ} (T : TypeAt v 16 s at) (x : Value) {y : Value} {r : ChainValue} {p : Head} {l : LeafSpan} {c : Cursor} → headRes s p ≡ kind s at → p ≡ Head.Leaf l c
+pub by-leaf : {v : Edition} {s : Bytes} {at : ℕ} (T : TypeAt v 16 s at) (x : Value) {y : Value} {r : ChainValue} {p : Head} {l : LeafSpan} {c : Cursor}
+    → headRes s p ≡ kind s at → p ≡ Head.Leaf l c
     → ChainIs (castLeaf (l .leaf) x) y r → ChainIs (castValue (dtypeOf (T .tree)) x) y r
 by-leaf T x h q C = chain-as (cast-leaf T x h q) refl C
 
@@ -99,11 +102,13 @@ module _ {s : Bytes} {at : ℕ} (P : SelectorAt s at) (ρ : Values) where
   abbrev pub type-moved : {m : ℕ} (K : CastAt s at P m) {t : ℕ} → t ≡ K .input .end → TypeAt One 16 s t
   type-moved K h = record { tree = K .type .tree; end = K .type .end; reads = ap (λ (o : ℕ). typeRead One Free 16 s o) h ∙ K .type .reads }
 
-  pub cast-over : {m : ℕ} (K : CastAt s at P m) {y : Value} {r : ChainValue} → ChainIs (castValue (dtypeOf (K .type .tree)) (eval ρ (K .input .tree))) y r → ChainIs (eval ρ (P .tree)) y r
+  pub cast-over : {m : ℕ} (K : CastAt s at P m) {y : Value} {r : ChainValue} → ChainIs (castValue (dtypeOf (K .type .tree)) (eval ρ (K .input .tree))) y
+      r → ChainIs (eval ρ (P .tree)) y r
   unfolding eval
   cast-over K C = chain-as (sym (ap (eval ρ) (K .is))) refl C
 
-  pub chain-cast : {m : ℕ} (K : CastAt s at P m) {r : ChainValue} → ChainIs (castValue (dtypeOf (K .type .tree)) (eval ρ (K .input .tree))) (valueAt ρ (takes (K .input .tree))) r
+  pub chain-cast : {m : ℕ} (K : CastAt s at P m) {r : ChainValue} → ChainIs (castValue (dtypeOf (K .type .tree)) (eval ρ (K .input .tree)))
+      (valueAt ρ (takes (K .input .tree))) r
       → ChainIs (eval ρ (P .tree)) (valueAt ρ (takes (P .tree))) r
   chain-cast K C = chain-as refl (ap (valueAt ρ) (cast-takes K)) (cast-over K C)
 
@@ -115,7 +120,8 @@ module _ {s : Bytes} {at : ℕ} (P : SelectorAt s at) (ρ : Values) where
 -- ---- what is stored
 
 module _ {x y : Value} {q : ChainValue} (C : ChainIs x y q) {e : ℕ} {out : Bytes} {k : ℕ} {r : Reached} {new : Bytes} where
-  pub chain-number : {i : Leaf} {n : ℕ} → q ≡ ChainValue.Number i n → ReachedIs true (encodeValue (vnumber i n)) e out k r new → ReachedIs (clean x) (encodeValue x) e out k r new
+  pub chain-number : {i : Leaf} {n : ℕ} → q ≡ ChainValue.Number i n → ReachedIs true (encodeValue (vnumber i n)) e out k r new → ReachedIs (clean x)
+      (encodeValue x) e out k r new
   unfolding clean
   chain-number f R = reached-as (sym (chain-to C f)) R
 

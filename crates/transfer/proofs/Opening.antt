@@ -6,7 +6,7 @@ use Rattle.layout.specs.Bytes.{Bytes}
 use Rattle.layout.specs.Parser.{u16}
 use Rattle.layout.specs.Tree.{DataType, dtypeOf}
 use Rattle.layout.specs.Layout.{kind, elementLabel}
-use Rattle.layout.specs.Answers.{shortRes, headRes, labelRes}
+use Rattle.layout.specs.code.Answers.{shortRes, headRes, labelRes}
 use Rattle.layout.specs.declared.cursor.Cursor.{Cursor}
 use Rattle.layout.specs.declared.cursor.Short.{Short}
 use Rattle.layout.specs.declared.columns.Label.{Label as LabelSpan}
@@ -16,11 +16,11 @@ use Rattle.layout.specs.declared.edition.Edition.{Edition}
 use Rattle.layout.proofs.View.{struct-at, array-at}
 use Rattle.values.specs.Value.{Value}
 use Rattle.values.specs.Reading.{content as contentOf}
-use Rattle.values.specs.Stands.{ContentAt}
+use Rattle.values.specs.code.Stands.{ContentAt}
 use Rattle.values.proofs.Inside.{struct-in, list-in, array-in}
-use Rattle.nodes.specs.Raw.{PresentAt, ListOf}
+use Rattle.nodes.specs.code.Raw.{PresentAt, ListOf}
 use Rattle.nodes.proofs.Deeper.{deeper-type, deeper-columns}
-use Rattle.transfer.specs.Opening.{OpenedIs}
+use Rattle.transfer.specs.code.Opening.{OpenedIs}
 use Rattle.transfer.specs.declared.opened.Opened.{Opened}
 
 pub opened-as : {v : Edition} {lay rec : Bytes} {x y : Value} {r : Opened} → x ≡ y → OpenedIs v lay rec x r → OpenedIs v lay rec y r
@@ -29,7 +29,8 @@ opened-as {v} {lay} {rec} {r = r} e R = subst (λ (z : Value). OpenedIs v lay re
 content-as : {t u : DataType} {s : Bytes} {at : ℕ} → t ≡ u → ContentAt t s at → ContentAt u s at
 content-as {s = s} {at = at} e P = record { tree = P .tree; end = P .end; reads = ap (λ (t : DataType). contentOf t s at) (sym e) ∙ P .reads }
 
-pub opened-counted : {v : Edition} {lay : Bytes} {rec : Bytes} {c : ℕ} {t : Cursor} (X : ListOf v lay (t .at) rec c) {q : Short} {n : ℕ} {d : Cursor} → shortRes q ≡ u16 rec c → q ≡ Short.Is n d
+pub opened-counted : {v : Edition} {lay : Bytes} {rec : Bytes} {c : ℕ} {t : Cursor} (X : ListOf v lay (t .at) rec c) {q : Short} {n : ℕ} {d : Cursor} →
+    shortRes q ≡ u16 rec c → q ≡ Short.Is n d
     → OpenedIs v lay rec (X .content .tree) (Opened.List n t d)
 opened-counted X e f = let L = list-in (X .content) e f in record { answer = record { elements = record { type = X .type; values = L .inner }; is = L .is } }
 

@@ -10,10 +10,10 @@ use Rattle.layout.specs.declared.cursor.Cursor.{Cursor}
 use Rattle.values.specs.Value.{Values}
 use Rattle.plan.specs.Selector.{Selector, position}
 use Rattle.plan.specs.Run.{valueAt, eval}
-use Rattle.walk.specs.Stands.{SelectorAt}
-use Rattle.walk.specs.Parts.{ConstantAt, CastAt, RenameAt, StructAt, ListAt, ArrayAt}
+use Rattle.walk.specs.code.Stands.{SelectorAt}
+use Rattle.walk.specs.code.Parts.{ConstantAt, CastAt, RenameAt, StructAt, ListAt, ArrayAt}
 use Rattle.walk.proofs.View.{starts-inside}
-use Rattle.transfer.specs.Reaching.{takes, takenAnswer, TakenIs}
+use Rattle.transfer.specs.code.Reaching.{takes, takenAnswer, TakenIs}
 use Rattle.transfer.specs.declared.origin.Taken.{Taken}
 
 module _ {s : Bytes} {at : ℕ} {P : SelectorAt s at} where
@@ -48,7 +48,8 @@ module _ {s : Bytes} {at : ℕ} {P : SelectorAt s at} where
   taken-as : {r q : Taken} → TakenIs s at P r → r ≡ q → takenAnswer s at P q
   taken-as T e = subst (λ (z : Taken). takenAnswer s at P z) e (T .answer)
 
-pub position-value : {s : Bytes} {at : ℕ} (P : SelectorAt s at) {k : Position} → P .tree ≡ position k → (ρ : Values) → valueAt ρ (takes (P .tree)) ≡ eval ρ (P .tree)
+pub position-value : {s : Bytes} {at : ℕ} (P : SelectorAt s at) {k : Position} → P .tree ≡ position k → (ρ : Values) → valueAt ρ (takes (P .tree)) ≡
+    eval ρ (P .tree)
 unfolding takes eval
 position-value P e ρ = ap (λ (t : Selector). valueAt ρ (takes t)) e ∙ sym (ap (eval ρ) e)
 

@@ -4,9 +4,9 @@ use mathlib.Core.Path.{_≡_, refl, ap, sym, subst, _∙_}
 use mathlib.Core.Bool.{Bool, true}
 use Rattle.layout.specs.Bytes.{Bytes, AllBytes}
 use Rattle.layout.specs.Tree.{DataType, leaf, struct, list, array, ColumnType, dtypeOf}
-use Rattle.layout.specs.Answers.{headRes}
+use Rattle.layout.specs.code.Answers.{headRes}
 use Rattle.layout.specs.Layout.{kind}
-use Rattle.layout.specs.Stands.{TypeAt}
+use Rattle.layout.specs.code.Stands.{TypeAt}
 use Rattle.layout.specs.declared.cursor.Cursor.{Cursor}
 use Rattle.layout.specs.declared.leaf.Leaf.{Leaf}
 use Rattle.layout.specs.declared.types.Head.{Head}
@@ -20,12 +20,12 @@ use Rattle.values.proofs.Back.{value-back}
 use Rattle.plan.specs.Convert.{convert}
 use Rattle.plan.specs.Run.{castLeaf, castValue, clean}
 use Rattle.plan.proofs.Over.{fits-clean}
-use Rattle.convert.specs.Converted.{valueOf}
+use Rattle.convert.specs.code.Converted.{valueOf}
 use Rattle.convert.specs.declared.leaf.Converted.{Converted}
-use Rattle.nodes.specs.Raw.{RawAt}
+use Rattle.nodes.specs.code.Raw.{RawAt}
 use Rattle.layout.proofs.Leaves.{leaf-of-type}
 use Rattle.raw.proofs.Leaves.{isNested}
-use Rattle.transfer.specs.Reaching.{Kept, reachedAnswer, ReachedIs}
+use Rattle.transfer.specs.code.Reaching.{Kept, reachedAnswer, ReachedIs}
 use Rattle.transfer.specs.declared.leaf.Reached.{Reached}
 
 pub unknown : {ok : Bool} {b : Bytes} {e : ℕ} {out : Bytes} {k : ℕ} {new : Bytes} → ReachedIs ok b e out k Reached.Unknown new
@@ -37,11 +37,13 @@ pub reached-as : {x y : Value} {e : ℕ} {out : Bytes} {k : ℕ} {r : Reached} {
 reached-as {e = e} {out} {k} {r} {new} q R = subst (λ (z : Value). ReachedIs (clean z) (encodeValue z) e out k r new) q R
 
 -- by an equation of where the selector ends
-pub reached-end : {ok : Bool} {b : Bytes} {e f : ℕ} {out : Bytes} {k : ℕ} {r : Reached} {new : Bytes} → e ≡ f → ReachedIs ok b e out k r new → ReachedIs ok b f out k r new
+pub reached-end : {ok : Bool} {b : Bytes} {e f : ℕ} {out : Bytes} {k : ℕ} {r : Reached} {new : Bytes} → e ≡ f → ReachedIs ok b e out k r new → ReachedIs
+    ok b f out k r new
 reached-end {ok} {b} {out = out} {k} {r} {new} q R = subst (λ (z : ℕ). ReachedIs ok b z out k r new) q R
 
 -- what an answer says
-pub reached-to : {ok : Bool} {b : Bytes} {e : ℕ} {out : Bytes} {k : ℕ} {r : Reached} {new : Bytes} {c : Cursor} {m : ℕ} → ReachedIs ok b e out k r new → r ≡ Reached.To c m
+pub reached-to : {ok : Bool} {b : Bytes} {e : ℕ} {out : Bytes} {k : ℕ} {r : Reached} {new : Bytes} {c : Cursor} {m : ℕ} → ReachedIs ok b e out k r new →
+    r ≡ Reached.To c m
     → (c .at ≡ e) × Kept ok b out k m new
 reached-to {ok} {b} {e} {out} {k} {r} {new} R q = subst (λ (z : Reached). reachedAnswer ok b e out k z new) q (R .answer)
 
@@ -68,7 +70,9 @@ cast-nested (struct fs) x e = refl
 cast-nested (list t) x e = refl
 cast-nested (array w t) x e = refl
 
-pub cast-leaf : {v : Edition} {s : Bytes} {at : ℕ} (T : TypeAt v 16 s at) (x : Value) {p : Head} {l : LeafSpan} {c : Cursor} → headRes s p ≡ kind s at → p ≡ Head.Leaf l c
+pub cast-leaf : {v : Edition} {s : Bytes} {at : ℕ} (T : TypeAt v 16 s at) (x : Value) {p : Head} {l : LeafSpan} {c : Cursor} → headRes s p ≡ kind s at →
+    p ≡ Head.Leaf l c
     → castLeaf (l .leaf) x ≡ castValue (dtypeOf (T .tree)) x
 unfolding dtypeOf castValue
-cast-leaf T x {l = l} h q = ap (λ (k : Leaf). castLeaf k x) (sym (leaf-of-type (l .leaf) _)) ∙ ap (λ (c : ColumnType). castValue (dtypeOf c) x) (sym (leaf-at T h q .0))
+cast-leaf T x {l = l} h q = ap (λ (k : Leaf). castLeaf k x) (sym (leaf-of-type (l .leaf) _)) ∙ ap (λ (c : ColumnType). castValue (dtypeOf c) x)
+    (sym (leaf-at T h q .0))

@@ -1,4 +1,1 @@
-pub mod Reaching
-pub mod Opening
-pub mod Chains
-pub mod Given
+pub mod code

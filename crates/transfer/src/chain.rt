@@ -1,17 +1,17 @@
 // Casts over casts: a number is converted by each in turn, and any other value stays as it is.
 ghost use Prim.Native.Nat.{_≤_};
 ghost use lib.ListN.{length};
-ghost use Rattle.ends.specs.Ends.{Ends};
+ghost use Rattle.ends.specs.code.Ends.{Ends};
 ghost use Rattle.layout.specs.Tree.{dtypeOf};
-ghost use Rattle.layout.specs.Stands.{TypeAt};
+ghost use Rattle.layout.specs.code.Stands.{TypeAt};
 ghost use Rattle.layout.specs.declared.edition.Edition.{Edition as EditionOf};
 ghost use Rattle.values.specs.Value.{Value, Values, vnumber};
 ghost use Rattle.values.specs.Encode.{encodeValue};
 ghost use Rattle.plan.specs.Run.{valueAt, castLeaf, castValue, eval, clean};
-ghost use Rattle.walk.specs.Stands.{SelectorAt};
-ghost use Rattle.walk.specs.Parts.{CastAt};
-ghost use Rattle.transfer.specs.Reaching.{takes, NodeIn, ReachedIs};
-ghost use Rattle.transfer.specs.Chains.{ChainIs};
+ghost use Rattle.walk.specs.code.Stands.{SelectorAt};
+ghost use Rattle.walk.specs.code.Parts.{CastAt};
+ghost use Rattle.transfer.specs.code.Reaching.{takes, NodeIn, ReachedIs};
+ghost use Rattle.transfer.specs.code.Chains.{ChainIs};
 use crate::leaf::Node;
 use crate::leaf::Place;
 use crate::leaf::Reached;

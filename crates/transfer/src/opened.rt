@@ -2,9 +2,9 @@
 ghost use Rattle.layout.specs.Bytes.{Bytes};
 ghost use Rattle.layout.specs.declared.edition.Edition.{Edition as EditionOf};
 ghost use Rattle.values.specs.Value.{Value};
-ghost use Rattle.nodes.specs.Raw.{RawAt, PresentAt, ListOf};
-ghost use Rattle.transfer.specs.Reaching.{NodeIn};
-ghost use Rattle.transfer.specs.Opening.{OpenedIs};
+ghost use Rattle.nodes.specs.code.Raw.{RawAt, PresentAt, ListOf};
+ghost use Rattle.transfer.specs.code.Reaching.{NodeIn};
+ghost use Rattle.transfer.specs.code.Opening.{OpenedIs};
 use crate::leaf::Node;
 use layout::columns::Labelled;
 use layout::cursor::Cursor;

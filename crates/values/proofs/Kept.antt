@@ -13,7 +13,8 @@ use Rattle.values.specs.Value.{Value, vnull, vstruct, vlist, varray, Val
 use Rattle.values.specs.Content.{contentOf}
 use Rattle.values.specs.Reading.{presence, nullable, times, contentBy, leafContent, structContent, listContent, arrayContent, content, values, value}
 use Rattle.values.specs.Marked.{presenceMarked, nullableMarked, contentMarked, valuesMarked, valueMarked}
-use Rattle.values.specs.Filled.{Filled, full-null, full-number, full-text, full-struct, full-list, full-array, FilledAll, full-nil, full-cons, FilledEach, full-none, full-more}
+use Rattle.values.specs.Filled.{Filled, full-null, full-number, full-text, full-struct, full-list, full-array, FilledAll, full-nil, full-cons, FilledEach}
+use Rattle.values.specs.Filled.{full-none, full-more}
 use Rattle.values.specs.Record.{recordNumber, renumber, recordFrom, recordOf, recordMarkedFrom, recordMarked}
 use Rattle.values.specs.declared.content.Content.{Content}
 use Rattle.values.specs.declared.content.Content.the-variants.{Nothing, Flag, Number, Decimal, Text}
@@ -102,12 +103,14 @@ module _ (mark : Label → Bool) (s : Bytes) where
   nullable-kept r t p q h at = go (presence s at)
     where
       by : (here : Bool) (m : ℕ)
-          → Kept (Filled mark r t) (next (choose here (ok true m) (choose r (refuse 56) (ok false m))) (λ here i. choose here (p s i) (ok vnull i))) (choose here (q s m) (ok vnull m))
+          → Kept (Filled mark r t) (next (choose here (ok true m) (choose r (refuse 56) (ok false m))) (λ here i. choose here (p s i) (ok vnull i)))
+          (choose here (q s m) (ok vnull m))
       by true m = h m
       by false m = null-kept r t p m
 
       go : (x : Res Bool)
-          → Kept (Filled mark r t) (next (next x (λ here m. choose here (ok true m) (choose r (refuse 56) (ok false m)))) (λ here i. choose here (p s i) (ok vnull i)))
+          → Kept (Filled mark r t) (next (next x (λ here m. choose here (ok true m) (choose r (refuse 56) (ok false m))))
+          (λ here i. choose here (p s i) (ok vnull i)))
           (next x (λ here m. choose here (q s m) (ok vnull m)))
       go (refuse n) = none-kept (Filled mark r t) n
       go (ok here m) = by here m
@@ -147,7 +150,12 @@ module _ (mark : Label → Bool) (s : Bytes) where
     unfolding contentMarked valuesMarked content values leafContent structContent listContent arrayContent dtypeOf fieldsOf
 
     pub content-kept : (t : ColumnType) (r : Bool) (at : ℕ) → Kept (Filled mark r t) (contentMarked mark t s at) (content (dtypeOf t) s at)
-    content-kept (cleaf l) r at = record { forth = λ v m e. (e, by-filled r l (contentOf (leafOf l)) (leafOf l) at v m e); back = λ v m e f. e; only = λ n v m e f. let z : refuse n ≡ ok v m = sym e ∙ f in clash (cc) }
+    content-kept (cleaf l) r at = record {
+      forth = λ v m e. (e, by-filled r l (contentOf (leafOf l)) (leafOf l) at v m e);
+      back = λ v m e f. e;
+      only = λ
+          n v m e f. let z : refuse n ≡ ok v m = sym e ∙ f in clash (cc);
+    }
     content-kept (cstruct cs) r at =
         next-kept (FilledAll mark cs) (Filled mark r (cstruct cs)) _ _ _ _ (values-kept cs at)
         (λ vs m f. pure-kept (Filled mark r (cstruct cs)) (vstruct vs) m (full-struct f))

@@ -7,8 +7,8 @@ use Rattle.layout.specs.Bytes.{Bytes}
 use Rattle.layout.specs.Parser.{Res, next, byte, chunk}
 use Rattle.layout.specs.Tree.{Label, ColumnType}
 use Rattle.layout.specs.Layout.{plainLeaf}
-use Rattle.layout.specs.Answers.{stepRes, movedOf}
-use Rattle.layout.specs.Stands.{TypeAt}
+use Rattle.layout.specs.code.Answers.{stepRes, movedOf}
+use Rattle.layout.specs.code.Stands.{TypeAt}
 use Rattle.layout.specs.declared.cursor.Cursor.{Cursor}
 use Rattle.layout.specs.declared.cursor.Moved.{Moved}
 use Rattle.layout.specs.declared.cursor.Step.{Step}
@@ -20,7 +20,7 @@ use Rattle.layout.proofs.View.{plain-at}
 use Rattle.values.specs.Content.{contentOf, numberIn, numberBy, numberBytes}
 use Rattle.values.specs.Reading.{contentBy, leafContent}
 use Rattle.values.specs.Marked.{contentMarked}
-use Rattle.values.specs.Answers.{valueMoved, NumberIs}
+use Rattle.values.specs.code.Answers.{valueMoved, NumberIs}
 use Rattle.values.specs.declared.content.Content.{Content}
 use Rattle.values.specs.declared.content.Content.the-variants.{Nothing, Flag, Number, Decimal, Text}
 use Rattle.values.specs.declared.marked.NumberRead.{NumberRead}
@@ -38,7 +38,8 @@ number-by : (x : PlainLeaf) → (numberBy x ≡ 0 → ⊥) → (k : Leaf) × (x 
 number-by (PlainLeaf.Known k) z = (k, refl, number-in (contentOf k) z)
 number-by PlainLeaf.Unknown z = absurd (z refl)
 
-module _ (mark : Label → Bool) {v : Edition} {d : ℕ} {s : Bytes} {at : ℕ} (P : TypeAt v d s at) (rec : Bytes) (c : ℕ) {p : Step} (e : stepRes p ≡ byte s at) {code : ℕ} {b : Cursor}
+module _ (mark : Label → Bool) {v : Edition} {d : ℕ} {s : Bytes} {at : ℕ} (P : TypeAt v d s at) (rec : Bytes) (c : ℕ) {p : Step}
+    (e : stepRes p ≡ byte s at) {code : ℕ} {b : Cursor}
     (f : p ≡ Step.Byte code b) {w : ℕ} (g : w ≡ numberBytes code) (z : w ≡ 0 → ⊥) {q : Moved} (h : q ≡ movedOf (chunk w rec c)) where
   number : (k : Leaf) × (plainLeaf code ≡ PlainLeaf.Known k) × (contentOf k ≡ Number (numberBytes code))
   number = number-by (plainLeaf code) (λ y. z (g ∙ y))

@@ -7,8 +7,9 @@ use mathlib.Core.List.{List, [], _∷_, _++_}
 use Rattle.layout.specs.Bytes.{Bytes}
 use Rattle.layout.specs.Parser.{Res, ok, Parser}
 use Rattle.layout.specs.Tree.{Label, ColumnType, cleaf, cstruct, clist, carray, Columns, cnil, ccons, fieldsOf, Layout}
-use Rattle.layout.specs.Layout.{Kind, aLeaf, aStruct, aList, anArray, fieldMark, labelRest, label, elementLabel, columns, structType, listType, arrayType, body, type, topRule, innerRule, deepest, counted, layoutFrom, layout}
-use Rattle.layout.specs.Stands.{ColumnsAt}
+use Rattle.layout.specs.Layout.{Head, aLeaf, aStruct, aList, anArray, fieldMark, labelRest, label, elementLabel, columns, structType, listType, arrayType, body}
+use Rattle.layout.specs.Layout.{type, topRule, innerRule, deepest, counted, layoutFrom, layout}
+use Rattle.layout.specs.code.Stands.{ColumnsAt}
 use Rattle.layout.specs.declared.columns.Siblings.{Siblings}
 use Rattle.layout.specs.declared.columns.Siblings.the-variants.{Free}
 use Rattle.layout.specs.declared.edition.Edition.{Edition}
@@ -63,7 +64,7 @@ module _ (v : Edition) (older : v ≡ Three → ⊥) (s : Bytes) where
         as-read (UnmarkedAll requiredOf) e (bare-cons {cs = cs} (label-bare at a) (f i t j b) (columns-bare p f n (earlier ++ (l ∷ [])) k d))
 
     body-bare : (p : Parser ColumnType) → ((at : ℕ) (t : ColumnType) (m : ℕ) → p s at ≡ ok t m → Unmarked requiredOf t)
-        → (k : Kind) (at : ℕ) {t : ColumnType} {m : ℕ} → body v r p k s at ≡ ok t m → Unmarked requiredOf t
+        → (k : Head) (at : ℕ) {t : ColumnType} {m : ℕ} → body v r p k s at ≡ ok t m → Unmarked requiredOf t
     unfolding body structType listType arrayType
     body-bare p f (aLeaf l) at e = as-read (Unmarked requiredOf) e bare-leaf
     body-bare p f (aStruct n) at e = let (cs, i, a, e) = next-ok _ _ e in as-read (Unmarked requiredOf) e (bare-struct (columns-bare p f n [] at a))

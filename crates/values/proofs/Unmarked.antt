@@ -4,12 +4,12 @@ use mathlib.Core.Path.{_≡_, refl, ap, _∙_}
 use mathlib.Core.Bool.{Bool, true, false}
 use Rattle.layout.specs.Bytes.{Bytes}
 use Rattle.layout.specs.Parser.{Res, refuse, ok, Parser, next, choose}
-use Rattle.layout.specs.Answers.{movedOf}
+use Rattle.layout.specs.code.Answers.{movedOf}
 use Rattle.layout.specs.declared.cursor.Moved.{Moved}
 use Rattle.layout.specs.Tree.{LeafType, Label, ColumnType, cleaf, cstruct, clist, carray, Columns, cnil, ccons, dtypeOf, fieldsOf}
 use Rattle.values.specs.Value.{Value, vnull, vcons}
 use Rattle.values.specs.Reading.{presence, nullable, times, leafContent, structContent, listContent, arrayContent, content, values, value}
-use Rattle.values.specs.Answers.{valueMoved}
+use Rattle.values.specs.code.Answers.{valueMoved}
 use Rattle.values.specs.declared.read.ValueRead.{ValueRead}
 use Rattle.values.specs.Marked.{marksOf, presenceMarked, nullableMarked, contentMarked, valuesMarked, valueMarked}
 use Rattle.values.specs.Record.{recordNumber, renumber, recordFrom, recordOf, recordMarkedFrom, recordMarked}
@@ -30,7 +30,8 @@ nullable-same e p q s h at = rw e (go (presence s at))
     by true m = h m
     by false m = refl
 
-    go : (x : Res Bool) → next (next x (λ here m. choose here (ok true m) (ok false m))) (λ here i. choose here (p s i) (ok vnull i)) ≡ next x (λ here m. choose here (q s m) (ok vnull m))
+    go : (x : Res Bool) → next (next x (λ here m. choose here (ok true m) (ok false m))) (λ here i. choose here (p s i) (ok vnull i)) ≡ next x
+        (λ here m. choose here (q s m) (ok vnull m))
     go (refuse n) = refl
     go (ok here m) = by here m
 
@@ -84,7 +85,8 @@ module _ (mark : Label → Bool) where
     unfolding valueMarked value
     value-unmarked e U at = nullable-same e _ _ s (λ i. content-unmarked U i) at
 
-    pub times-unmarked : {r : Bool} {t : ColumnType} → r ≡ false → Unmarked t → (n at : ℕ) → times n (valueMarked mark r t) s at ≡ times n (value (dtypeOf t)) s at
+    pub times-unmarked : {r : Bool} {t : ColumnType} → r ≡ false → Unmarked t → (n at : ℕ) → times n (valueMarked mark r t) s at ≡ times n
+        (value (dtypeOf t)) s at
     times-unmarked {r} {t} e U n at = times-same (valueMarked mark r t) (value (dtypeOf t)) s (λ i. value-unmarked e U i) n at
 
     -- a layout without marks, as those of editions 1 and 2 are
@@ -101,8 +103,10 @@ module _ (s : Bytes) (at : ℕ) (E : ℕ) {r : ValueRead} where
   pub bare-values : (cs : Columns) → r ≡ valueMoved E (valuesMarked (marksOf false) cs s at) → r ≡ valueMoved E (values (fieldsOf cs) s at)
   bare-values cs h = h ∙ ap (valueMoved E) (values-unmarked (marksOf false) s (unmarked-all (marksOf false) (λ l. refl) cs) at)
 
-  pub bare-elements : (n : ℕ) (t : ColumnType) → r ≡ valueMoved E (times n (valueMarked (marksOf false) false t) s at) → r ≡ valueMoved E (times n (value (dtypeOf t)) s at)
+  pub bare-elements : (n : ℕ) (t : ColumnType) → r ≡ valueMoved E (times n (valueMarked (marksOf false) false t) s at) → r ≡ valueMoved E
+      (times n (value (dtypeOf t)) s at)
   bare-elements n t h = h ∙ ap (valueMoved E) (times-unmarked (marksOf false) s refl (unmarked (marksOf false) (λ l. refl) t) n at)
 
-pub bare-element : (s : Bytes) (at : ℕ) (t : ColumnType) {r : Moved} → r ≡ movedOf (valueMarked (marksOf false) false t s at) → r ≡ movedOf (value (dtypeOf t) s at)
+pub bare-element : (s : Bytes) (at : ℕ) (t : ColumnType) {r : Moved} → r ≡ movedOf (valueMarked (marksOf false) false t s at) → r ≡ movedOf
+    (value (dtypeOf t) s at)
 bare-element s at t h = h ∙ ap movedOf (value-unmarked (marksOf false) s refl (unmarked (marksOf false) (λ l. refl) t) at)

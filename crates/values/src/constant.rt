@@ -1,10 +1,10 @@
 // Reading a value whose type stands in the same bytes, in version 1 form, as a constant's does.
 ghost use mathlib.Core.Path.{_≡_};
 ghost use Rattle.layout.specs.Tree.{dtypeOf};
-ghost use Rattle.layout.specs.Stands.{TypeAt};
+ghost use Rattle.layout.specs.code.Stands.{TypeAt};
 ghost use Rattle.layout.specs.declared.edition.Edition.{Edition as EditionOf};
 ghost use Rattle.values.specs.Reading.{value};
-ghost use Rattle.values.specs.Answers.{valueMoved};
+ghost use Rattle.values.specs.code.Answers.{valueMoved};
 use crate::read::ValueRead;
 use crate::read::read_value;
 use ends::local::fill_local;

@@ -1,11 +1,11 @@
 // Reading values by their types alone, as constants and defaults are read: no column is required.
 ghost use mathlib.Core.Path.{_≡_};
 ghost use Rattle.layout.specs.Tree.{dtypeOf, fieldsOf};
-ghost use Rattle.layout.specs.Stands.{TypeAt, ColumnsAt};
-ghost use Rattle.layout.specs.Answers.{movedOf};
-ghost use Rattle.ends.specs.Ends.{Ends};
+ghost use Rattle.layout.specs.code.Stands.{TypeAt, ColumnsAt};
+ghost use Rattle.layout.specs.code.Answers.{movedOf};
+ghost use Rattle.ends.specs.code.Ends.{Ends};
 ghost use Rattle.values.specs.Reading.{value, values, times};
-ghost use Rattle.values.specs.Answers.{valueMoved};
+ghost use Rattle.values.specs.code.Answers.{valueMoved};
 use crate::marked::Context;
 use crate::marked::marked_element;
 use crate::marked::marked_elements;

@@ -5,10 +5,10 @@ use native.Mathlib.Omega.{arith}
 use Rattle.layout.specs.Bytes.{Bytes}
 use Rattle.plan.specs.Selector.{Selector}
 use Rattle.plan.specs.Reach.{SelectorAt as Nth}
-use Rattle.walk.specs.Parts.{CastAt, RenameAt, StructAt, ListAt, ArrayAt}
-use Rattle.walk.specs.State.{fields, element, State}
-use Rattle.walk.specs.Moves.{Input, i-cast, i-rename, i-struct, i-list, i-array, Part, p-field, p-list, p-array}
-use Rattle.walk.specs.Standing.{WalkAt}
+use Rattle.walk.specs.code.Parts.{CastAt, RenameAt, StructAt, ListAt, ArrayAt}
+use Rattle.walk.specs.code.State.{fields, element, State}
+use Rattle.walk.specs.code.Moves.{Input, i-cast, i-rename, i-struct, i-list, i-array, Part, p-field, p-list, p-array}
+use Rattle.walk.specs.code.Walks.{WalkAt}
 use Rattle.walk.specs.declared.walk.Walk.{Walk}
 use Rattle.walk.proofs.View.{nth-exists, selectors-counted}
 use Rattle.walk.proofs.Moving.{walk-is}
@@ -33,7 +33,8 @@ module _ {plan : Bytes} {w : Walk} {x : State} (M : WalkAt plan w x) {m : ℕ} w
   pub struct-nth : (S : StructAt plan (w .at) (M .here) m) {k : ℕ} → k < S .fields .count → (t : Selector) × Nth (S .fields .selectors .trees) k t
   struct-nth S {k} h = nth-exists (S .fields .selectors .trees) k (omega (arith, selectors-counted (S .fields .count) (S .fields .selectors)))
 
-  pub struct-part : (S : StructAt plan (w .at) (M .here) m) {k : ℕ} {t : Selector} → Nth (S .fields .selectors .trees) k t → Part (x .selector) k (fields (S .input .tree)) t
+  pub struct-part : (S : StructAt plan (w .at) (M .here) m) {k : ℕ} {t : Selector} → Nth (S .fields .selectors .trees) k t → Part (x .selector) k
+      (fields (S .input .tree)) t
   struct-part S {k} {t} n = subst (λ (y : Selector). Part y k (fields (S .input .tree)) t) (sym (walk-is M (S .is))) (p-field n)
 
   pub list-part : (L : ListAt plan (w .at) (M .here) m) (k : ℕ) → Part (x .selector) k (element (L .input .tree) k) (L .element .tree)

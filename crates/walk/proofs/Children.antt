@@ -10,12 +10,12 @@ use Rattle.layout.specs.declared.cursor.Cursor.{Cursor}
 use Rattle.layout.proofs.Ways.{clash}
 use Rattle.plan.specs.Selector.{Selector, position, constant, cast, rename, structMapping, listMapping, arrayMapping, Selectors, snil, scons, countSelectors}
 use Rattle.plan.specs.Read.{selector, selectors as selectorsOf, deepestSelector}
-use Rattle.walk.specs.Stands.{SelectorAt, SelectorsAt}
-use Rattle.walk.specs.State.{Frame, State, state}
-use Rattle.walk.specs.Moves.{Part, p-field, Mapping, is-struct}
-use Rattle.walk.specs.Parts.{CountedAt, CountedIs, NthIs, StructAt}
-use Rattle.walk.specs.Standing.{WalkAt, PartAt, StepsTo}
-use Rattle.walk.specs.Children.{PartStands, PassedTo, Reached}
+use Rattle.walk.specs.code.Stands.{SelectorAt, SelectorsAt}
+use Rattle.walk.specs.code.State.{Frame, State, state}
+use Rattle.walk.specs.code.Moves.{Part, p-field, Mapping, is-struct}
+use Rattle.walk.specs.code.Parts.{CountedAt, CountedIs, NthIs, StructAt}
+use Rattle.walk.specs.code.Walks.{WalkAt, PartAt, StepsTo}
+use Rattle.walk.specs.code.Children.{PartStands, PassedTo, Reached}
 use Rattle.walk.specs.declared.head.StructFields.{StructFields}
 use Rattle.walk.specs.declared.walk.Walk.{Walk}
 use Rattle.walk.proofs.View.{same-selector, selector-moved, selectors-moved, selectors-counted, no-selector, first-at, nth-at, nth-below}

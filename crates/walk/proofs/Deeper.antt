@@ -30,7 +30,8 @@ module _ (s : Bytes) where
         (choose-within (eqb c 1) _ _ _ _ (same _)
         (choose-within (eqb c 2) _ _ _ _ (next-within _ _ _ _ (w at) (λ x i. same _))
         (choose-within (eqb c 3) _ _ _ _ (next-within _ _ _ _ (w at) (λ x i. same _))
-        (choose-within (eqb c 4) _ _ _ _ (next-within _ _ _ _ (w at) (λ x i. next-within _ _ _ _ (same (u16 s i)) (λ n j. next-within _ _ _ _ (selectors-within n j) (λ xs k. same _))))
+        (choose-within (eqb c 4) _ _ _ _ (next-within _ _ _ _ (w at) (λ x i. next-within _ _ _ _ (same (u16 s i))
+        (λ n j. next-within _ _ _ _ (selectors-within n j) (λ xs k. same _))))
         (choose-within (eqb c 5) _ _ _ _ (next-within _ _ _ _ (w at) (λ x i. next-within _ _ _ _ (w i) (λ y j. same _)))
         (choose-within (eqb c 6) _ _ _ _ (next-within _ _ _ _ (w at) (λ x i. next-within _ _ _ _ (w i) (λ y j. same _)))
         (same _)))))))
@@ -39,7 +40,8 @@ module _ (s : Bytes) where
   unfolding selector
   selector-deeper zero e h at = λ x m r. clash (cc)
   selector-deeper (suc d) zero h at = absurd (omega arith)
-  selector-deeper (suc d) (suc e) h at = next-within _ _ _ _ (same (byte s at)) (λ c i. rest-within (selector d) (selector e) (selector-deeper d e (omega arith)) c i)
+  selector-deeper (suc d) (suc e) h at = next-within _ _ _ _ (same (byte s at)) (λ c i. rest-within (selector d) (selector e)
+      (selector-deeper d e (omega arith)) c i)
 
   pub selectors-deeper : (d e : ℕ) → d ≤ e → (n at : ℕ) → Within (selectors (selector d) n s at) (selectors (selector e) n s at)
   selectors-deeper d e h = selectors-within (selector d) (selector e) (selector-deeper d e h)

@@ -9,10 +9,10 @@ use lib.Seq.{getD-set-same, getD-set-other}
 use Rattle.layout.specs.Bytes.{Bytes}
 use Rattle.layout.specs.Parser.{refuse, ok, u16}
 use Rattle.layout.specs.Layout.{text, type}
-use Rattle.layout.specs.Stands.{TypeAt}
+use Rattle.layout.specs.code.Stands.{TypeAt}
 use Rattle.layout.specs.declared.columns.Siblings.the-variants.{Free}
 use Rattle.layout.specs.declared.edition.Edition.the-variants.{One}
-use Rattle.layout.specs.Answers.{shortRes, textRes, spanAt, movedOf}
+use Rattle.layout.specs.code.Answers.{shortRes, textRes, spanAt, movedOf}
 use Rattle.layout.specs.declared.bytes.Span.{Span}
 use Rattle.layout.specs.declared.cursor.Cursor.{Cursor}
 use Rattle.layout.specs.declared.cursor.Moved.{Moved}
@@ -20,9 +20,9 @@ use Rattle.layout.specs.declared.cursor.Short.{Short}
 use Rattle.layout.specs.declared.cursor.Text.{Text}
 use Rattle.layout.proofs.Ways.{clash, moved-to, moved-refused}
 use Rattle.plan.specs.Read.{selectors as selectorsOf, selector}
-use Rattle.walk.specs.Stands.{SelectorAt, SelectorsAt}
-use Rattle.walk.specs.Parts.{TextAt, OptionAt, CountedAt, CastAt, RenameAt, StructAt, ListAt, ArrayAt}
-use Rattle.walk.specs.Ends.{EndsAt}
+use Rattle.walk.specs.code.Stands.{SelectorAt, SelectorsAt}
+use Rattle.walk.specs.code.Parts.{TextAt, OptionAt, CountedAt, CastAt, RenameAt, StructAt, ListAt, ArrayAt}
+use Rattle.walk.specs.code.Ends.{EndsAt}
 use Rattle.walk.specs.declared.inputs.InputEnds.{InputEnds}
 use Rattle.walk.proofs.View.{selector-moved, selectors-moved}
 
@@ -129,7 +129,8 @@ pub record Ending (plan : Bytes) (first i d : ℕ) (e : InputEnds) : Type 0 wher
   pub table : EndsAt plan e
 
 module _ {plan : Bytes} {first : ℕ} where
-  pub ending : {i d : ℕ} {e r : InputEnds} → e .first ≡ first → (i < 64) × (first + i ≤ length plan) → ((P : SelectorAt plan (first + i)) → d ≡ P .end) → EndsAt plan e
+  pub ending : {i d : ℕ} {e r : InputEnds} → e .first ≡ first → (i < 64) × (first + i ≤ length plan) → ((P : SelectorAt plan (first + i)) → d ≡ P .end)
+      → EndsAt plan e
       → ((p : Bytes) → EndsAt p e → ((P : SelectorAt p (e .first + i)) → d ≡ P .end) → EndsAt p r) × (r .first ≡ e .first) → Ending plan first i d r
   ending {i} {d} {e} {r} q w h E k = record {
     starts = k .1 ∙ q;
@@ -142,5 +143,6 @@ module _ {plan : Bytes} {first : ℕ} where
       → ((P : SelectorAt plan (first + (i - 1))) → ((I : SelectorAt plan (first + (i - 1) + 1)) → d ≡ I .end) → f ≡ P .end)
       → ((p : Bytes) → EndsAt p e → ((P : SelectorAt p (e .first + (i - 1))) → f ≡ P .end) → EndsAt p r) × (r .first ≡ e .first) → Ending plan first (i - 1) f r
   ending-more {i} {d} {f} N l g k =
-      let h : (P : SelectorAt plan (first + (i - 1))) → f ≡ P .end = λ P. g P (λ I. N .here (selector-moved (let q : first + (i - 1) + 1 ≡ first + i = omega arith in q) I)) in
+      let h : (P : SelectorAt plan (first + (i - 1))) → f ≡ P .end = λ P. g P (λ I. N .here
+      (selector-moved (let q : first + (i - 1) + 1 ≡ first + i = omega arith in q) I)) in
       ending (N .starts) (omega (arith, N .within), omega (arith, N .within)) h (N .table) k

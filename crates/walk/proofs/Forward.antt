@@ -19,12 +19,14 @@ use Rattle.rules.specs.declared.outcome.OptionCode.{OptionCode}
 use Rattle.rules.specs.declared.outcome.OptionCode.the-variants.{Known, Unknown}
 use Rattle.rules.specs.Outcomes.{optionAt}
 use Rattle.values.specs.Value.{Value}
-use Rattle.values.specs.Reading.{presence, nullable, flag, longText, contentBy, leafContent, times, listContent, arrayContent, structContent, content, values, value, decimal}
+use Rattle.values.specs.Reading.{presence, nullable, flag, longText, contentBy, leafContent, times, listContent, arrayContent, structContent, content, values}
+use Rattle.values.specs.Reading.{value, decimal}
 use Rattle.values.specs.Content.{contentOf}
 use Rattle.values.specs.declared.content.Content.{Content}
 use Rattle.values.specs.declared.content.Content.the-variants.{Nothing, Flag, Number, Decimal, Text}
 use Rattle.plan.specs.Selector.{Selector}
-use Rattle.plan.specs.Read.{dataType, knownOption, castOption, selectors, positionRest, constantRest, castRest, renameRest, structRest, listRest, arrayRest, selectorRest, selector}
+use Rattle.plan.specs.Read.{dataType, knownOption, castOption, selectors, positionRest, constantRest, castRest, renameRest, structRest, listRest, arrayRest}
+use Rattle.plan.specs.Read.{selectorRest, selector}
 
 -- wherever x reads, it ends at or behind `at`
 abbrev pub From : {A : Type 0} → ℕ → Res A → Type 0
@@ -85,7 +87,8 @@ module _ (s : Bytes) where
   unfolding nullable presence
   nullable-from p f at =
       next-from _ _
-      (next-from _ _ (byte-from at) (λ b i. choose-from (eqb b 0) _ _ (ok-from false (omega arith)) (choose-from (eqb b 1) _ _ (ok-from true (omega arith)) (refuse-from 3))))
+      (next-from _ _ (byte-from at) (λ b i. choose-from (eqb b 0) _ _ (ok-from false (omega arith))
+      (choose-from (eqb b 1) _ _ (ok-from true (omega arith)) (refuse-from 3))))
       (λ here i. choose-from here _ _ (f i) (ok-from _ (omega arith)))
 
   leaf-from : (c : Content) (l : Leaf) (at : ℕ) → From at (contentBy c l s at)
@@ -109,12 +112,14 @@ module _ (s : Bytes) where
     content-from : (t : DataType) (at : ℕ) → From at (content t s at)
     content-from (leaf l) at = leaf-from (contentOf (leafOf l)) (leafOf l) at
     content-from (struct fs) at = next-from _ _ (values-from fs at) (λ vs i. ok-from _ (omega arith))
-    content-from (list t) at = next-from _ _ (u16-from at) (λ n i. next-from _ _ (times-from _ (nullable-from _ (λ i. content-from t i)) n i) (λ vs j. ok-from _ (omega arith)))
+    content-from (list t) at = next-from _ _ (u16-from at) (λ n i. next-from _ _ (times-from _ (nullable-from _ (λ i. content-from t i)) n i)
+        (λ vs j. ok-from _ (omega arith)))
     content-from (array w t) at = next-from _ _ (times-from _ (nullable-from _ (λ i. content-from t i)) w at) (λ vs j. ok-from _ (omega arith))
 
     values-from : (fs : Fields) (at : ℕ) → From at (values fs s at)
     values-from fnil at = ok-from _ (omega arith)
-    values-from (fcons n t fs) at = next-from _ _ (nullable-from _ (λ i. content-from t i) at) (λ v i. next-from _ _ (values-from fs i) (λ vs j. ok-from _ (omega arith)))
+    values-from (fcons n t fs) at = next-from _ _ (nullable-from _ (λ i. content-from t i) at)
+        (λ v i. next-from _ _ (values-from fs i) (λ vs j. ok-from _ (omega arith)))
 
   pub value-from : (t : DataType) (at : ℕ) → From at (value t s at)
   unfolding value
@@ -132,10 +137,13 @@ module _ (s : Bytes) where
     unfolding selectorRest positionRest constantRest castRest renameRest structRest listRest arrayRest
     rest-from c at =
         choose-from (eqb c 0) _ _ (next-from _ _ (u16-from at) (λ k i. ok-from _ (omega arith)))
-        (choose-from (eqb c 1) _ _ (next-from _ _ (text-from at) (λ n i. next-from _ _ (dtype-from i) (λ t j. next-from _ _ (value-from t j) (λ v k. ok-from _ (omega arith)))))
-        (choose-from (eqb c 2) _ _ (next-from _ _ (f at) (λ x i. next-from _ _ (dtype-from i) (λ t j. next-from _ _ (option-from j) (λ o k. ok-from _ (omega arith)))))
+        (choose-from (eqb c 1) _ _ (next-from _ _ (text-from at) (λ n i. next-from _ _ (dtype-from i)
+        (λ t j. next-from _ _ (value-from t j) (λ v k. ok-from _ (omega arith)))))
+        (choose-from (eqb c 2) _ _ (next-from _ _ (f at) (λ x i. next-from _ _ (dtype-from i)
+        (λ t j. next-from _ _ (option-from j) (λ o k. ok-from _ (omega arith)))))
         (choose-from (eqb c 3) _ _ (next-from _ _ (f at) (λ x i. next-from _ _ (text-from i) (λ n j. ok-from _ (omega arith))))
-        (choose-from (eqb c 4) _ _ (next-from _ _ (f at) (λ x i. next-from _ _ (u16-from i) (λ n j. next-from _ _ (selectors-from n j) (λ xs k. ok-from _ (omega arith)))))
+        (choose-from (eqb c 4) _ _ (next-from _ _ (f at) (λ x i. next-from _ _ (u16-from i)
+        (λ n j. next-from _ _ (selectors-from n j) (λ xs k. ok-from _ (omega arith)))))
         (choose-from (eqb c 5) _ _ (next-from _ _ (f at) (λ x i. next-from _ _ (f i) (λ y j. ok-from _ (omega arith))))
         (choose-from (eqb c 6) _ _ (next-from _ _ (f at) (λ x i. next-from _ _ (f i) (λ y j. ok-from _ (omega arith))))
         (refuse-from 3)))))))
@@ -144,4 +152,5 @@ module _ (s : Bytes) where
   pub selector-behind : (d at : ℕ) → From (at + 1) (selector d s at)
   unfolding selector
   selector-behind zero at = refuse-from 4
-  selector-behind (suc d) at = next-from _ _ (byte-behind at) (λ c i. rest-from (selector d) (λ at x m e. let h = selector-behind d at x m e in omega arith) c i)
+  selector-behind (suc d) at = next-from _ _ (byte-behind at) (λ c i. rest-from (selector d)
+      (λ at x m e. let h = selector-behind d at x m e in omega arith) c i)

@@ -1,4 +1,5 @@
--- What the functions of src/head.rt return on each way, from what the callees answered and what the tests said; and what a caller gets from an answer of `head`.
+-- What the functions of src/head.rt return on each way, from what the callees answered and what the tests said; and what a caller gets from an answer of
+-- `head`.
 -- Assumes nothing.
 use Prim.Native.Nat.{ℕ, _<_, zero-le}
 use mathlib.Core.Path.{_≡_, sym, ap, _∙_, subst}
@@ -6,8 +7,8 @@ use lib.ListN.{getD}
 use Rattle.layout.specs.Bytes.{Bytes}
 use Rattle.layout.specs.Parser.{refuse, ok, byte, u16}
 use Rattle.layout.specs.Layout.{text, type}
-use Rattle.layout.specs.Stands.{TypeAt}
-use Rattle.layout.specs.Answers.{stepRes, shortRes, textRes, textIn, spanAt, movedOf}
+use Rattle.layout.specs.code.Stands.{TypeAt}
+use Rattle.layout.specs.code.Answers.{stepRes, shortRes, textRes, textIn, spanAt, movedOf}
 use Rattle.layout.specs.declared.bytes.Span.{Span}
 use Rattle.layout.specs.declared.columns.Position.{Position}
 use Rattle.layout.specs.declared.columns.Siblings.the-variants.{Free}
@@ -25,10 +26,12 @@ use Rattle.rules.specs.declared.outcome.OptionCode.{OptionCode}
 use Rattle.rules.specs.Outcomes.{optionAt}
 use Rattle.plan.specs.Selector.{position}
 use Rattle.plan.specs.Read.{knownOption, castOption, selectors as selectorsOf, selector}
-use Rattle.walk.specs.Stands.{SelectorAt, SelectorsAt}
-use Rattle.walk.specs.Parts.{TextAt, OptionAt, CountedAt, ConstantAt, CastAt, RenameAt, StructAt, ListAt, ArrayAt, headParts, HeadIs, NameIs, CountedIs, NthIs}
+use Rattle.walk.specs.code.Stands.{SelectorAt, SelectorsAt}
+use Rattle.walk.specs.code.Parts.{TextAt, OptionAt, CountedAt, ConstantAt, CastAt, RenameAt, StructAt, ListAt, ArrayAt, headParts, HeadIs, NameIs}
+use Rattle.walk.specs.code.Parts.{CountedIs, NthIs}
 use Rattle.walk.specs.declared.head.SelectorHead.{SelectorHead}
-use Rattle.walk.proofs.View.{never-ended, position-at, position-counted, constant-named, constant-at, cast-at, rename-at, struct-at, list-at, array-at, never-unknown, nth-at}
+use Rattle.walk.proofs.View.{never-ended, position-at, position-counted, constant-named, constant-at, cast-at, rename-at, struct-at, list-at, array-at}
+use Rattle.walk.proofs.View.{never-unknown, nth-at}
 
 -- ---- head
 
@@ -40,13 +43,15 @@ module _ {s : Bytes} {at : ℕ} (P : SelectorAt s at) {p : Step} (e : stepRes p 
     coded : byte s at ≡ ok code (d .at)
     coded = sym e ∙ ap stepRes f
 
-    pub head-position : code ≡ 0 → {q : Short} {k : ℕ} {c : Cursor} → shortRes q ≡ u16 s (d .at) → q ≡ Short.Is k c → HeadIs s at P (SelectorHead.Position (record { 0 = k }))
+    pub head-position : code ≡ 0 → {q : Short} {k : ℕ} {c : Cursor} → shortRes q ≡ u16 s (d .at) → q ≡ Short.Is k c → HeadIs s at P
+        (SelectorHead.Position (record { 0 = k }))
     head-position h g i = record { parts = position-at P coded h (sym g ∙ ap shortRes i) }
 
     pub head-uncounted : {B : Type 0} → code ≡ 0 → {q : Short} {n : ℕ} → shortRes q ≡ u16 s (d .at) → q ≡ Short.Refused n → B
     head-uncounted h g i = position-counted P coded h (sym g ∙ ap shortRes i)
 
-    pub head-constant : code ≡ 1 → {q : Text} {n : Span} {c : Cursor} → textRes s q ≡ text s (d .at) → textIn s q → q ≡ Text.Is n c → HeadIs s at P (SelectorHead.Constant n c)
+    pub head-constant : code ≡ 1 → {q : Text} {n : Span} {c : Cursor} → textRes s q ≡ text s (d .at) → textIn s q → q ≡ Text.Is n c → HeadIs s at P
+        (SelectorHead.Constant n c)
     head-constant h g k i = record { parts = constant-at P coded h (sym g ∙ ap (textRes s) i) (text-in s k i) }
 
     pub head-unnamed : {B : Type 0} → code ≡ 1 → {q : Text} {n : ℕ} → textRes s q ≡ text s (d .at) → q ≡ Text.Refused n → B
@@ -125,7 +130,8 @@ module _ {s : Bytes} {n at : ℕ} (Q : SelectorsAt s n at) {k : ℕ} (l : k < n)
 
 -- ---- a cast's option
 
-module _ {s : Bytes} {at : ℕ} (T : TypeAt One 16 s at) (O : OptionAt s (T .end)) {r : Moved} {d : Cursor} (e : r ≡ movedOf (type One Free 16 s at)) (f : r ≡ Moved.To d) where
+module _ {s : Bytes} {at : ℕ} (T : TypeAt One 16 s at) (O : OptionAt s (T .end)) {r : Moved} {d : Cursor} (e : r ≡ movedOf (type One Free 16 s at))
+    (f : r ≡ Moved.To d) where
   option-read : castOption s (d .at) ≡ ok (O .option) (O .end)
   option-read = ap (λ (m : ℕ). castOption s m) (type-ends T e f) ∙ O .reads
 
@@ -149,11 +155,13 @@ module _ {s : Bytes} {at : ℕ} (T : TypeAt One 16 s at) (O : OptionAt s (T .end
 
       pub option-is : {o : CastOption} → q ≡ OptionCode.Known o → o ≡ O .option
       unfolding knownOption
-      option-is {o} j = let z : knownOption (OptionCode.Known o) s (c .at) ≡ ok (O .option) (O .end) = ap (λ (x : OptionCode). knownOption x s (c .at)) (sym j ∙ i) ∙ known in cc
+      option-is {o} j = let z : knownOption (OptionCode.Known o) s (c .at) ≡ ok (O .option) (O .end) = ap (λ (x : OptionCode). knownOption x s (c .at))
+          (sym j ∙ i) ∙ known in cc
 
       pub option-unknown : {B : Type 0} → q ≡ OptionCode.Unknown → B
       unfolding knownOption
-      option-unknown j = let z : knownOption OptionCode.Unknown s (c .at) ≡ ok (O .option) (O .end) = ap (λ (x : OptionCode). knownOption x s (c .at)) (sym j ∙ i) ∙ known in clash (cc)
+      option-unknown j = let z : knownOption OptionCode.Unknown s (c .at) ≡ ok (O .option) (O .end) = ap (λ (x : OptionCode). knownOption x s (c .at))
+          (sym j ∙ i) ∙ known in clash (cc)
 
       pub option-end : c .at ≡ O .end
       unfolding knownOption

@@ -4,7 +4,7 @@ pub mod View
 pub mod Heads
 pub mod Ending
 pub mod Trees
-pub mod Standing
+pub mod Walks
 pub mod Moving
 pub mod Children
 pub mod Asking

@@ -11,18 +11,21 @@ use Rattle.layout.specs.declared.columns.Position.{Position}
 use Rattle.layout.specs.declared.cursor.Cursor.{Cursor}
 use Rattle.layout.proofs.Ways.{clash}
 use Rattle.plan.specs.Selector.{Selector, position, constant, cast, rename, structMapping, listMapping, arrayMapping}
-use Rattle.walk.specs.Stands.{SelectorAt, SelectorsAt}
-use Rattle.walk.specs.Parts.{ConstantAt, CastAt, RenameAt, StructAt, ListAt, ArrayAt, CountedIs, NthIs}
-use Rattle.walk.specs.State.{Frame, fields, element, State, state}
-use Rattle.walk.specs.Moves.{Moves, m-here, Input, i-rename, Part, p-field, p-list, p-array, Mapping, is-struct, is-list, is-array, NoPart, n-field, t-field, t-element}
-use Rattle.walk.specs.Standing.{Entered, e-fields, e-list, e-array, WalkAt, rank, Located, PartAt, partAnswer, PartIs, StepsTo, Enters, Leaves, moveAnswer, MoveIs}
+use Rattle.walk.specs.code.Stands.{SelectorAt, SelectorsAt}
+use Rattle.walk.specs.code.Parts.{ConstantAt, CastAt, RenameAt, StructAt, ListAt, ArrayAt, CountedIs, NthIs}
+use Rattle.walk.specs.code.State.{Frame, fields, element, State, state}
+use Rattle.walk.specs.code.Moves.{Moves, m-here, Input, i-rename, Part, p-field, p-list, p-array, Mapping, is-struct, is-list, is-array, NoPart, n-field}
+use Rattle.walk.specs.code.Moves.{t-field, t-element}
+use Rattle.walk.specs.code.Walks.{Entered, e-fields, e-list, e-array, WalkAt, rank, Located, PartAt, partAnswer, PartIs, StepsTo, Enters, Leaves}
+use Rattle.walk.specs.code.Walks.{moveAnswer, MoveIs}
 use Rattle.walk.specs.declared.head.StructFields.{StructFields}
 use Rattle.walk.specs.declared.walk.Walk.{Walk}
 use Rattle.walk.specs.declared.walk.PartFound.{PartFound}
 use Rattle.walk.specs.declared.walk.Move.{Move}
 use Rattle.walk.proofs.View.{selector-longer, selector-moved, selectors-moved, selectors-counted}
-use Rattle.walk.proofs.Trees.{stop-constant, stop-cast, stop-rename, stop-column, stop-element, stop-mapping, stop-no-part, move-rename, move-part, move-leave, part-mapping, part-same, part-some}
-use Rattle.walk.proofs.Standing.{entries-none, innermost, some-inner, walk-starts, walk-small, path-some, path-none, path-more, pushed}
+use Rattle.walk.proofs.Trees.{stop-constant, stop-cast, stop-rename, stop-column, stop-element, stop-mapping, stop-no-part, move-rename, move-part}
+use Rattle.walk.proofs.Trees.{move-leave, part-mapping, part-same, part-some}
+use Rattle.walk.proofs.Walks.{entries-none, innermost, some-inner, walk-starts, walk-small, path-some, path-none, path-more, pushed}
 
 -- ---- a mapping's part
 
@@ -64,7 +67,8 @@ module _ {s : Bytes} {at : ℕ} {P : SelectorAt s at} where
 
 module _ {s : Bytes} {at : ℕ} {P : SelectorAt s at} (k : ℕ) where
   module _ {m : ℕ} (S : StructAt s at P m) {r : StructFields} (F : CountedIs s (S .input .end) (S .fields) r) where
-    pub field-found : k < r .count → {c : Cursor} → ((n : ℕ) (Q : SelectorsAt s n (r .first .at)) → k < n → NthIs s n (r .first .at) Q k (c .at)) → PartIs s at P k (PartFound.At c)
+    pub field-found : k < r .count → {c : Cursor} → ((n : ℕ) (Q : SelectorsAt s n (r .first .at)) → k < n → NthIs s n (r .first .at) Q k (c .at)) →
+        PartIs s at P k (PartFound.At c)
     field-found l {c} h =
         let N = h (S .fields .count) (selectors-moved refl (sym (F .first)) (S .fields .selectors)) (omega (arith, F .count)) in
         record {
@@ -131,10 +135,17 @@ module _ {plan : Bytes} {w : Walk} {x : State} (M : WalkAt plan w x) where
     pub entering-ended : w .len ≤ w .deep → MoveIs plan w x M Move.Stop
     entering-ended l = record { answer = stop-mapping m (path-none M l) }
 
-    module _ (l : w .deep < w .len) {r : PartFound} (h : (P : SelectorAt plan (w .at)) → Mapping (P .tree) → PartIs plan (w .at) P (getD (w .path) (w .deep) 0) r) where
+    module _ (l : w .deep < w .len) {r : PartFound} (h : (P : SelectorAt plan (w .at)) → Mapping (P .tree) → PartIs plan (w .at) P
+        (getD (w .path) (w .deep) 0) r) where
       pub entering-part : {c : Cursor} → r ≡ PartFound.At c → MoveIs plan w x M (Move.Enter c)
       entering-part e = record {
-        answer = record { number = getD (w .path) (w .deep) 0; rest = _; path = path-some M l; part = part-at (getD (w .path) (w .deep) 0) (h (M .here) here-mapping) e };
+        answer = record {
+          number = getD (w .path) (w .deep) 0;
+          rest = _;
+          path = path-some M l;
+          part = part-at (getD (w .path) (w .deep) 0)
+              (h (M .here) here-mapping) e;
+        };
       }
 
       pub entering-none : r ≡ PartFound.None → MoveIs plan w x M Move.Stop
@@ -229,22 +240,26 @@ module _ {plan : Bytes} {x : State} {w0 w : Walk} (N : Walking plan x w0 w) {q :
   further {y} m S = (record { state = y; standing = S .standing; moves = λ z n. N .moves z (m z n); falls = omega (arith, S .falls, N .falls) }, S .falls)
 
   pub walking-input : q ≡ Move.Input → {r : Walk}
-      → ((p : Bytes) (y : State) (s : Selector) → WalkAt p w y → Input (y .selector) s → StepsTo p (state s (y .frames) (y .path)) w r) → Walking plan x w0 r × (rank r < rank w)
+      → ((p : Bytes) (y : State) (s : Selector) → WalkAt p w y → Input (y .selector) s → StepsTo p (state s (y .frames) (y .path)) w r) → Walking plan x
+      w0 r × (rank r < rank w)
   walking-input e h =
       let A = opened e in
       further (λ z m. move-rename (A .is) (A .path) m)
       (h plan (N .state) (A .input) (N .standing) (subst (λ (y : Selector). Input y (A .input)) (sym (A .is)) i-rename))
 
   pub walking-enter : {c : Cursor} → q ≡ Move.Enter c → {r : Walk}
-      → ((p : Bytes) (y : State) (M : WalkAt p w y) (E : Enters p w y M (c .at)) → StepsTo p (state (E .part .here .tree) (E .part .frame ∷ y .frames) (E .rest)) w r)
+      → ((p : Bytes) (y : State) (M : WalkAt p w y) (E : Enters p w y M (c .at)) → StepsTo p
+      (state (E .part .here .tree) (E .part .frame ∷ y .frames) (E .rest)) w r)
       → Walking plan x w0 r × (rank r < rank w)
   walking-enter e h =
       let A = opened e in
-      further (λ z m. move-part (subst (λ (y : Selector). Part y (A .number) (A .part .frame) (A .part .here .tree)) (N .standing .selector) (A .part .part)) (A .path) m)
+      further (λ z m. move-part (subst (λ (y : Selector). Part y (A .number) (A .part .frame) (A .part .here .tree)) (N .standing .selector)
+      (A .part .part)) (A .path) m)
       (h plan (N .state) (N .standing) A)
 
   pub walking-leave : {k : ℕ} → q ≡ Move.Leave k → {r : Walk}
-      → ((p : Bytes) (y : State) → WalkAt p w y → (L : Leaves y k) → StepsTo p (state (L .input) (L .outer) (k ∷ y .path)) w r) → Walking plan x w0 r × (rank r < rank w)
+      → ((p : Bytes) (y : State) → WalkAt p w y → (L : Leaves y k) → StepsTo p (state (L .input) (L .outer) (k ∷ y .path)) w r) → Walking plan x w0 r ×
+      (rank r < rank w)
   walking-leave e h =
       let A = opened e in
       further (λ z m. move-leave (A .is) (A .frames) (A .takes) m) (h plan (N .state) (N .standing) A)
@@ -279,7 +294,8 @@ module _ {plan : Bytes} {w : Walk} {x : State} (M : WalkAt plan w x) {k : ℕ} {
 
   pub child-in : w .deep < 64 → {c : Cursor} → q ≡ PartFound.At c → {r : Walk}
       → (let v : Walk = record { at = w .at; lim = w .lim; deep = w .deep; len = w .deep + 1; maps = w .maps; path = set (w .path) (w .deep) k } in
-      (p : Bytes) (y : State) (M : WalkAt p v y) (E : Enters p v y M (c .at)) → StepsTo p (state (E .part .here .tree) (E .part .frame ∷ y .frames) (E .rest)) v r)
+      (p : Bytes) (y : State) (M : WalkAt p v y) (E : Enters p v y M (c .at)) → StepsTo p
+      (state (E .part .here .tree) (E .part .frame ∷ y .frames) (E .rest)) v r)
       → StepsTo plan (state t (f ∷ x .frames) []) w r
   unfolding rank
   child-in l {c} e {r} j =
@@ -289,6 +305,7 @@ module _ {plan : Bytes} {w : Walk} {x : State} (M : WalkAt plan w x) {k : ℕ} {
       let S = j plan (state (x .selector) (x .frames) (k ∷ [])) N (record { number = k; rest = []; path = refl; part = T }) in
       let (u, v) = part-same (T .part) a in
       record {
-        standing = subst (λ (y : Selector). WalkAt plan r (state y (f ∷ x .frames) [])) v (subst (λ (d : Frame). WalkAt plan r (state (T .here .tree) (d ∷ x .frames) [])) u (S .standing));
+        standing = subst (λ (y : Selector). WalkAt plan r (state y (f ∷ x .frames) [])) v
+            (subst (λ (d : Frame). WalkAt plan r (state (T .here .tree) (d ∷ x .frames) [])) u (S .standing));
         falls = S .falls;
       }

@@ -7,11 +7,11 @@ use Rattle.layout.specs.Parser.{next, choose, byte, u16}
 use Rattle.plan.specs.Selector.{Selector, position, structMapping, snil, scons}
 use Rattle.plan.specs.Read.{selectors, positionRest, structRest, selectorRest, selector}
 use Rattle.plan.specs.Reach.{s-here}
-use Rattle.walk.specs.Stands.{SelectorAt}
-use Rattle.walk.specs.State.{state}
-use Rattle.walk.specs.Moves.{Moves, m-here, m-field, m-leave, Stopped, s-column}
-use Rattle.walk.specs.Standing.{WalkAt}
-use Rattle.walk.proofs.Standing.{top}
+use Rattle.walk.specs.code.Stands.{SelectorAt}
+use Rattle.walk.specs.code.State.{state}
+use Rattle.walk.specs.code.Moves.{Moves, m-here, m-field, m-leave, Stopped, s-column}
+use Rattle.walk.specs.code.Walks.{WalkAt}
+use Rattle.walk.proofs.Walks.{top}
 
 -- a struct mapping of position 0, whose one field is position 1
 abbrev pub sample : Bytes

@@ -10,9 +10,11 @@ use Rattle.layout.proofs.Ways.{clash}
 use Rattle.rules.specs.declared.outcome.CastOption.{CastOption}
 use Rattle.values.specs.Value.{Value}
 use Rattle.plan.specs.Selector.{Selector, position, constant, cast, rename, structMapping, listMapping, arrayMapping, Selectors}
-use Rattle.walk.specs.Stands.{SelectorAt}
-use Rattle.walk.specs.State.{Frame, element, State, state}
-use Rattle.walk.specs.Moves.{Moves, m-rename, m-field, m-list, m-array, m-leave, m-leave-element, Stopped, s-column, s-constant, s-cast, s-rename, s-struct, s-list, s-array, s-no-element, s-no-field, Input, i-cast, i-rename, i-struct, i-list, i-array, Part, p-field, p-list, p-array, Mapping, is-struct, is-list, is-array, NoPart, n-field, Takes, t-field, t-element}
+use Rattle.walk.specs.code.Stands.{SelectorAt}
+use Rattle.walk.specs.code.State.{Frame, element, State, state}
+use Rattle.walk.specs.code.Moves.{Moves, m-rename, m-field, m-list, m-array, m-leave, m-leave-element, Stopped, s-column, s-constant, s-cast, s-rename}
+use Rattle.walk.specs.code.Moves.{s-struct, s-list, s-array, s-no-element, s-no-field, Input, i-cast, i-rename, i-struct, i-list, i-array, Part, p-field}
+use Rattle.walk.specs.code.Moves.{p-list, p-array, Mapping, is-struct, is-list, is-array, NoPart, n-field, Takes, t-field, t-element}
 use Rattle.walk.proofs.View.{Viewed, v-position, v-constant, v-cast, v-rename, v-struct, v-list, v-array, view, nth-same, nth-below}
 
 -- ---- a state by its parts
@@ -33,7 +35,8 @@ module _ {x : State} where
   pub stop-column : {k : Position} → x .selector ≡ position k → x .frames ≡ [] → Stopped x
   stop-column a b = subst Stopped (state-is x a b refl) s-column
 
-  pub stop-element : {k : Position} {s : Selector} {i : ℕ} {E : List Frame} → x .selector ≡ position k → x .frames ≡ element s i ∷ E → (k .0 ≡ 0 → ⊥) → Stopped x
+  pub stop-element : {k : Position} {s : Selector} {i : ℕ} {E : List Frame} → x .selector ≡ position k → x .frames ≡ element s i ∷ E → (k .0 ≡ 0 → ⊥) →
+      Stopped x
   stop-element a b c = subst Stopped (state-is x a b refl) (s-no-element (omega arith))
 
   pub stop-mapping : Mapping (x .selector) → x .path ≡ [] → Stopped x
@@ -53,11 +56,13 @@ module _ {x : State} where
   -- ---- moves
 
   module _ {z : State} where
-    pub move-rename : {s : Selector} {n : Bytes} {k : ℕ} {p : List ℕ} → x .selector ≡ rename s n → x .path ≡ k ∷ p → Moves (state s (x .frames) (x .path)) z → Moves x z
+    pub move-rename : {s : Selector} {n : Bytes} {k : ℕ} {p : List ℕ} → x .selector ≡ rename s n → x .path ≡ k ∷ p → Moves
+        (state s (x .frames) (x .path)) z → Moves x z
     move-rename {s} {k = k} {p = p} a b m =
         subst (λ (y : State). Moves y z) (state-is x a refl b) (m-rename (subst (λ (q : List ℕ). Moves (state s (x .frames) q) z) b m))
 
-    pub move-part : {k : ℕ} {p : List ℕ} {f : Frame} {t : Selector} → Part (x .selector) k f t → x .path ≡ k ∷ p → Moves (state t (f ∷ x .frames) p) z → Moves x z
+    pub move-part : {k : ℕ} {p : List ℕ} {f : Frame} {t : Selector} → Part (x .selector) k f t → x .path ≡ k ∷ p → Moves (state t (f ∷ x .frames) p) z →
+        Moves x z
     move-part {k} {p} {f} {t} q b m = go (x .selector) f refl q m
       where
         go : (y : Selector) (f : Frame) → x .selector ≡ y → Part y k f t → Moves (state t (f ∷ x .frames) p) z → Moves x z

@@ -10,8 +10,8 @@ use Rattle.layout.specs.Bytes.{Bytes}
 use Rattle.layout.specs.Parser.{refuse, ok, next, choose, byte, u16}
 use Rattle.layout.specs.Tree.{DataType, dtypeOf}
 use Rattle.layout.specs.Layout.{text, type}
-use Rattle.layout.specs.Stands.{TypeAt}
-use Rattle.layout.specs.Answers.{spanAt, spanIn}
+use Rattle.layout.specs.code.Stands.{TypeAt}
+use Rattle.layout.specs.code.Answers.{spanAt, spanIn}
 use Rattle.layout.specs.declared.bytes.Span.{Span}
 use Rattle.layout.specs.declared.columns.Position.{Position}
 use Rattle.layout.specs.declared.columns.Siblings.the-variants.{Free}
@@ -21,10 +21,11 @@ use Rattle.layout.proofs.View.{next-ok}
 use Rattle.values.specs.Value.{Value}
 use Rattle.values.specs.Reading.{value}
 use Rattle.plan.specs.Selector.{Selector, position, constant, Selectors, snil, scons, countSelectors}
-use Rattle.plan.specs.Read.{dataType, castOption, selectors as selectorsOf, positionRest, constantRest, castRest, renameRest, structRest, listRest, arrayRest, selectorRest, selector, deepestSelector}
+use Rattle.plan.specs.Read.{dataType, castOption, selectors as selectorsOf, positionRest, constantRest, castRest, renameRest, structRest, listRest, arrayRest}
+use Rattle.plan.specs.Read.{selectorRest, selector, deepestSelector}
 use Rattle.plan.specs.Reach.{SelectorAt as Nth, s-here, s-there}
-use Rattle.walk.specs.Stands.{SelectorAt, SelectorsAt}
-use Rattle.walk.specs.Parts.{OptionAt, ConstantAt, CastAt, RenameAt, StructAt, ListAt, ArrayAt, NthIs}
+use Rattle.walk.specs.code.Stands.{SelectorAt, SelectorsAt}
+use Rattle.walk.specs.code.Parts.{OptionAt, ConstantAt, CastAt, RenameAt, StructAt, ListAt, ArrayAt, NthIs}
 use Rattle.walk.proofs.Deeper.{selector-deeper, selectors-deeper}
 use Rattle.walk.proofs.Forward.{u16-from, text-from, type-from, option-from, selector-behind, selectors-from}
 
@@ -48,7 +49,8 @@ module _ {s : Bytes} {at : ℕ} where
 
   pub selectors-longer : {n : ℕ} (Q : SelectorsAt s n at) → at ≤ Q .end
   selectors-longer {n} Q =
-      selectors-from s (selector deepestSelector) (λ i x m e. let h = selector-behind s deepestSelector i x m e in omega arith) n at (Q .trees) (Q .end) (Q .reads)
+      selectors-from s (selector deepestSelector) (λ i x m e. let h = selector-behind s deepestSelector i x m e in omega arith) n at (Q .trees) (Q .end)
+      (Q .reads)
 
   -- two readings of one place agree
   pub same-selector : (P Q : SelectorAt s at) → (P .tree ≡ Q .tree) × (P .end ≡ Q .end)
@@ -264,7 +266,16 @@ module _ {s : Bytes} {at : ℕ} (P : SelectorAt s at) where
     unfolding selectorRest choose
     never-unknown l =
         let z : refuse 3 ≡ ok (P .tree) (P .end) =
-        rw (ne-eqb c 0 (λ e. omega arith), ne-eqb c 1 (λ e. omega arith), ne-eqb c 2 (λ e. omega arith), ne-eqb c 3 (λ e. omega arith), ne-eqb c 4 (λ e. omega arith), ne-eqb c 5 (λ e. omega arith), ne-eqb c 6 (λ e. omega arith)) at behind in
+        rw (
+          ne-eqb c 0 (λ e. omega arith),
+          ne-eqb c 1 (λ e. omega arith),
+          ne-eqb c 2 (λ e. omega arith),
+          ne-eqb c 3 (λ e. omega arith),
+          ne-eqb c 4
+              (λ e. omega arith),
+          ne-eqb c 5 (λ e. omega arith),
+          ne-eqb c 6 (λ e. omega arith),
+        ) at behind in
         clash (cc)
 
 -- a selector's parts, whichever it is
@@ -335,7 +346,13 @@ nth-at n zero {at} Q h =
       start = at;
       passed = snil;
       reads = refl;
-      nth = record { here = F .head; nth = subst (λ (ss : Selectors). Nth ss 0 (F .head .tree)) (sym (F .is)) s-here; starts = omega arith; ends = omega (arith, F .ends, selectors-longer (F .tail)) };
+      nth = record {
+        here = F .head;
+        nth = subst (λ (ss : Selectors). Nth ss 0 (F .head .tree)) (sym (F .is)) s-here;
+        starts = omega arith;
+        ends = omega
+            (arith, F .ends, selectors-longer (F .tail));
+      };
     }
 nth-at {s} n (suc k) Q h =
     let F = first-at Q (omega arith) in

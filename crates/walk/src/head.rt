@@ -2,10 +2,10 @@
 // selector stands.
 ghost use mathlib.Core.Path.{_≡_};
 ghost use Prim.Native.Nat.{ℕ, _<_};
-ghost use Rattle.layout.specs.Stands.{TypeAt};
+ghost use Rattle.layout.specs.code.Stands.{TypeAt};
 ghost use Rattle.layout.specs.declared.edition.Edition.{Edition as EditionOf};
-ghost use Rattle.walk.specs.Stands.{SelectorAt, SelectorsAt};
-ghost use Rattle.walk.specs.Parts.{TextAt, OptionAt, CountedAt, NameIs, CountedIs, NthIs, HeadIs};
+ghost use Rattle.walk.specs.code.Stands.{SelectorAt, SelectorsAt};
+ghost use Rattle.walk.specs.code.Parts.{TextAt, OptionAt, CountedAt, NameIs, CountedIs, NthIs, HeadIs};
 use layout::bytes::Span;
 use layout::columns::Position;
 use layout::cursor::Cursor;

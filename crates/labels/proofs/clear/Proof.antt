@@ -3,7 +3,7 @@ use Prim.Native.Nat.{_-_, _≤_}
 use mathlib.Core.Path.{_≡_, refl}
 use native.Mathlib.Omega.{arith}
 use lib.ListN.{length}
-use Rattle.labels.specs.Table.{Cleared}
+use Rattle.labels.specs.code.LabelTable.{Cleared}
 use Rattle.labels.proofs.Filling.{cleared-start, cleared-more, cleared-end}
 use borrow.Author.Needs.{needs}
 use Rattle.labels.proofs.clear.Statement.{statement}

@@ -5,12 +5,12 @@ use mathlib.Core.Path.{_≡_, refl, sym, _∙_}
 use native.Mathlib.Omega.{arith}
 use denote.Ref.{now}
 use lib.ListN.{length}
-use Rattle.layout.specs.Answers.{labelAt}
-use Rattle.layout.specs.Stands.{ColumnsAt}
+use Rattle.layout.specs.code.Answers.{labelAt}
+use Rattle.layout.specs.code.Stands.{ColumnsAt}
 use Rattle.layout.specs.Find.{matchRule}
 use Rattle.layout.specs.declared.matching.Matching.{Matching}
 use Rattle.layout.proofs.Ways.{label-in}
-use Rattle.labels.specs.Table.{node, Table}
+use Rattle.labels.specs.code.LabelTable.{node, Table}
 use Rattle.labels.proofs.Seeking.{Seeking, seeking-start, seeking-none, inside, seeking-unlabelled, seeking-found, seeking-more, seeking-falls}
 use borrow.Author.Needs.{needs}
 use Rattle.labels.proofs.counterpart_in.Statement.{statement}
@@ -59,7 +59,11 @@ shared-slice-read-x c = search needs
 loop-holds : tie.Need-loop-holds Inv-loop μ-loop
 loop-holds c =
     λ at how g T heads e P.
-    seeking-start (T .chains P heads e) (labelAt (now (c .before .before .before .before .before .before .before .args .t)) (c .before .before .before .before .before .before .before .args .l)) (c .before .before .before .before .before .before .before .args .columns .matching) (c .before .slot .ensures .0) (sym (c .before .before .before .match-rule .ensures) ∙ g) (c .before .slot .ensures .1) (let a = c .before .before .wide .ensures in omega arith) refl (let a = c .before .before .wide .ensures in omega arith)
+    seeking-start (T .chains P heads e) (labelAt (now (c .before .before .before .before .before .before .before .args .t))
+    (c .before .before .before .before .before .before .before .args .l))
+    (c .before .before .before .before .before .before .before .args .columns .matching) (c .before .slot .ensures .0)
+    (sym (c .before .before .before .match-rule .ensures) ∙ g) (c .before .slot .ensures .1)
+    (let a = c .before .before .wide .ensures in omega arith) refl (let a = c .before .before .wide .ensures in omega arith)
 
 wide-requires-2 : tie.Need-wide-requires-2 Inv-loop μ-loop
 wide-requires-2 c κs = search needs
@@ -73,7 +77,9 @@ mul-wide c = search needs
 shared-slice-read-wide : tie.Need-shared-slice-read-wide Inv-loop μ-loop
 shared-slice-read-wide c =
     let T = c .before .before .before .before .before .before .before .before .before .before .before .pre .1 .0 in
-    let a = inside T (behind T) (c .before .before .before .before .before .before .before .before .before .before .before .pre .0) (c .before .before .before .loop .inv _ _ (c .before .before .before .before .before .before .before .match-rule .ensures) T _ (behind T) (c .before .before .before .before .before .before .before .before .before .before .before .pre .0)) (c .before .before .loop-test .taken) in
+    let a = inside T (behind T) (c .before .before .before .before .before .before .before .before .before .before .before .pre .0)
+    (c .before .before .before .loop .inv _ _ (c .before .before .before .before .before .before .before .match-rule .ensures) T _ (behind T)
+    (c .before .before .before .before .before .before .before .before .before .before .before .pre .0)) (c .before .before .loop-test .taken) in
     let b = c .before .wide2 .ensures in
     omega (arith, a .0)
 
@@ -87,12 +93,25 @@ enum-known-m : tie.Need-enum-known-m Inv-loop μ-loop
 enum-known-m c = search needs
 
 same-label-requires : tie.Need-same-label-requires Inv-loop μ-loop
-same-label-requires c κs = (label-in _ (c .before .before .before .label .ensures .1) (c .before .m .given .1), c .before .before .before .before .before .before .before .before .before .before .before .before .before .before .before .before .pre .1 .1)
+same-label-requires c κs = (
+  label-in _ (c .before .before .before .label .ensures .1) (c .before .m .given .1),
+  c .before .before .before .before .before .before .before .before .before .before .before .before .before .before .before .before .pre .1 .1,
+)
 
 returns : tie.Need-returns Inv-loop μ-loop
 returns c =
-    let T = c .before .before .before .before .before .before .before .before .before .before .before .before .before .before .before .before .before .before .pre .1 .0 in
-    λ Q. seeking-found T (behind T) (c .before .before .before .before .before .before .before .before .before .before .before .before .before .before .before .before .before .before .pre .0) (c .before .before .before .before .before .before .before .before .before .before .loop .inv _ _ (c .before .before .before .before .before .before .before .before .before .before .before .before .before .before .match-rule .ensures) T _ (behind T) (c .before .before .before .before .before .before .before .before .before .before .before .before .before .before .before .before .before .before .pre .0)) (c .before .before .before .before .before .before .before .before .before .loop-test .taken) (c .before .before .before .before .before .label .ensures .0) (c .before .before .before .before .before .before .wide3 .ensures) (c .before .before .before .before .before .before .before .before .wide2 .ensures) (c .before .before .before .m .given .1) (c .before .before .before .before .before .label .ensures .1) (c .before .before .before .before .before .before .before .before .before .before .before .before .before .before .match-rule .ensures) (c .before .same-label .ensures) (c .if1 .taken) refl Q
+    let T = c .before .before .before .before .before .before .before .before .before .before .before .before .before .before .before .before .before
+    .before .pre .1 .0 in
+    λ Q. seeking-found T (behind T) (c .before .before .before .before .before .before .before .before .before .before .before .before .before .before
+    .before .before .before .before .pre .0) (c .before .before .before .before .before .before .before .before .before .before .loop .inv _ _
+    (c .before .before .before .before .before .before .before .before .before .before .before .before .before .before .match-rule .ensures) T _
+    (behind T) (c .before .before .before .before .before .before .before .before .before .before .before .before .before .before .before .before
+    .before .before .pre .0)) (c .before .before .before .before .before .before .before .before .before .loop-test .taken)
+    (c .before .before .before .before .before .label .ensures .0) (c .before .before .before .before .before .before .wide3 .ensures)
+    (c .before .before .before .before .before .before .before .before .wide2 .ensures) (c .before .before .before .m .given .1)
+    (c .before .before .before .before .before .label .ensures .1)
+    (c .before .before .before .before .before .before .before .before .before .before .before .before .before .before .match-rule .ensures)
+    (c .before .same-label .ensures) (c .if1 .taken) refl Q
 
 enum-told : tie.Need-enum-told Inv-loop μ-loop
 enum-told c = search needs
@@ -100,33 +119,63 @@ enum-told c = search needs
 returns-2 : tie.Need-returns-2 Inv-loop μ-loop
 returns-2 c =
     let T = c .before .before .before .before .before .before .before .before .before .before .before .before .before .before .before .pre .1 .0 in
-    seeking-unlabelled T (behind T) (c .before .before .before .before .before .before .before .before .before .before .before .before .before .before .before .pre .0) (c .before .before .before .before .before .before .before .loop .inv _ _ (c .before .before .before .before .before .before .before .before .before .before .before .match-rule .ensures) T _ (behind T) (c .before .before .before .before .before .before .before .before .before .before .before .before .before .before .before .pre .0)) (c .before .before .before .before .before .before .loop-test .taken) (c .before .before .label .ensures .0) (c .before .before .before .wide3 .ensures) (c .before .before .before .before .before .wide2 .ensures) (c .enum-told .given .1)
+    seeking-unlabelled T (behind T) (c .before .before .before .before .before .before .before .before .before .before .before .before .before .before
+    .before .pre .0) (c .before .before .before .before .before .before .before .loop .inv _ _
+    (c .before .before .before .before .before .before .before .before .before .before .before .match-rule .ensures) T _ (behind T)
+    (c .before .before .before .before .before .before .before .before .before .before .before .before .before .before .before .pre .0))
+    (c .before .before .before .before .before .before .loop-test .taken) (c .before .before .label .ensures .0)
+    (c .before .before .before .wide3 .ensures) (c .before .before .before .before .before .wide2 .ensures) (c .enum-told .given .1)
 
 mul-x-2 : tie.Need-mul-x-2 Inv-loop μ-loop
 mul-x-2 c = search needs
 
 shared-slice-read-x-2 : tie.Need-shared-slice-read-x-2 Inv-loop μ-loop
 shared-slice-read-x-2 c =
-    let T = c .before .before .before .before .before .before .before .before .before .before .before .before .before .before .before .before .before .before .before .pre .1 .0 in
-    let a = inside T (behind T) (c .before .before .before .before .before .before .before .before .before .before .before .before .before .before .before .before .before .before .before .pre .0) (c .before .before .before .before .before .before .before .before .before .before .before .loop .inv _ _ (c .before .before .before .before .before .before .before .before .before .before .before .before .before .before .before .match-rule .ensures) T _ (behind T) (c .before .before .before .before .before .before .before .before .before .before .before .before .before .before .before .before .before .before .before .pre .0)) (c .before .before .before .before .before .before .before .before .before .before .loop-test .taken) in
+    let T = c .before .before .before .before .before .before .before .before .before .before .before .before .before .before .before .before .before
+    .before .before .pre .1 .0 in
+    let a = inside T (behind T) (c .before .before .before .before .before .before .before .before .before .before .before .before .before .before
+    .before .before .before .before .before .pre .0)
+    (c .before .before .before .before .before .before .before .before .before .before .before .loop .inv _ _
+    (c .before .before .before .before .before .before .before .before .before .before .before .before .before .before .before .match-rule .ensures)
+    T _ (behind T) (c .before .before .before .before .before .before .before .before .before .before .before .before .before .before .before
+    .before .before .before .before .pre .0)) (c .before .before .before .before .before .before .before .before .before .before .loop-test .taken)
+    in
     let b = c .before .before .before .before .before .before .before .before .before .wide2 .ensures in
     omega (arith, a .0)
 
 loop-less : tie.Need-loop-less Inv-loop μ-loop
 loop-less c =
-    let T = c .before .before .before .before .before .before .before .before .before .before .before .before .before .before .before .before .before .before .before .pre .1 .0 in
-    let b = seeking-falls T (behind T) (c .before .before .before .before .before .before .before .before .before .before .before .before .before .before .before .before .before .before .before .pre .0) (c .before .before .before .before .before .before .before .before .before .before .before .loop .inv _ _ (c .before .before .before .before .before .before .before .before .before .before .before .before .before .before .before .match-rule .ensures) T _ (behind T) (c .before .before .before .before .before .before .before .before .before .before .before .before .before .before .before .before .before .before .before .pre .0)) (c .before .before .before .before .before .before .before .before .before .before .loop-test .taken) (c .before .before .before .before .before .before .label .ensures .0) (c .before .before .before .before .before .before .before .wide3 .ensures) (c .before .before .before .before .before .before .before .before .before .wide2 .ensures) (c .before .before .before .before .m .given .1) (c .before .before .before .before .before .before .before .before .before .before .before .before .before .before .before .match-rule .ensures) (c .before .before .same-label .ensures) (c .before .if1 .left) in
+    let T = c .before .before .before .before .before .before .before .before .before .before .before .before .before .before .before .before .before
+    .before .before .pre .1 .0 in
+    let b = seeking-falls T (behind T) (c .before .before .before .before .before .before .before .before .before .before .before .before .before
+    .before .before .before .before .before .before .pre .0)
+    (c .before .before .before .before .before .before .before .before .before .before .before .loop .inv _ _
+    (c .before .before .before .before .before .before .before .before .before .before .before .before .before .before .before .match-rule .ensures)
+    T _ (behind T) (c .before .before .before .before .before .before .before .before .before .before .before .before .before .before .before
+    .before .before .before .before .pre .0)) (c .before .before .before .before .before .before .before .before .before .before .loop-test .taken)
+    (c .before .before .before .before .before .before .label .ensures .0)
+    (c .before .before .before .before .before .before .before .wide3 .ensures)
+    (c .before .before .before .before .before .before .before .before .before .wide2 .ensures) (c .before .before .before .before .m .given .1)
+    (c .before .before .before .before .before .before .before .before .before .before .before .before .before .before .before .match-rule .ensures)
+    (c .before .before .same-label .ensures) (c .before .if1 .left) in
     let e = c .before .before .before .before .before .before .before .before .before .before .loop-test .taken in
     omega arith
 
 loop-again : tie.Need-loop-again Inv-loop μ-loop
 loop-again c =
-    λ at how g T heads e P. seeking-more T e P (c .before .before .before .before .before .before .before .before .before .before .before .loop .inv _ how g T _ e P) (c .before .before .before .before .before .before .before .before .before .before .loop-test .taken) (c .before .before .before .before .before .before .label .ensures .0) (c .before .before .before .before .before .before .before .wide3 .ensures) (c .before .before .before .before .before .before .before .before .before .wide2 .ensures) (c .before .before .before .before .m .given .1) g (c .before .before .same-label .ensures) (c .before .if1 .left)
+    λ at how g T heads e P. seeking-more T e P (c .before .before .before .before .before .before .before .before .before .before .before .loop .inv _
+    how g T _ e P) (c .before .before .before .before .before .before .before .before .before .before .loop-test .taken)
+    (c .before .before .before .before .before .before .label .ensures .0)
+    (c .before .before .before .before .before .before .before .wide3 .ensures)
+    (c .before .before .before .before .before .before .before .before .before .wide2 .ensures) (c .before .before .before .before .m .given .1) g
+    (c .before .before .same-label .ensures) (c .before .if1 .left)
 
 returns-3 : tie.Need-returns-3 Inv-loop μ-loop
 returns-3 c =
     let T = c .before .before .before .before .before .before .before .before .before .pre .1 .0 in
-    λ Q. seeking-none T (behind T) (c .before .before .before .before .before .before .before .before .before .pre .0) (c .before .loop .inv _ _ (c .before .before .before .before .before .match-rule .ensures) T _ (behind T) (c .before .before .before .before .before .before .before .before .before .pre .0)) (c .loop-test .left) Q
+    λ Q. seeking-none T (behind T) (c .before .before .before .before .before .before .before .before .before .pre .0)
+    (c .before .loop .inv _ _ (c .before .before .before .before .before .match-rule .ensures) T _ (behind T)
+    (c .before .before .before .before .before .before .before .before .before .pre .0)) (c .loop-test .left) Q
 
 pub counterpart-in-spec : {M : Type 1} → statement M
 counterpart-in-spec =

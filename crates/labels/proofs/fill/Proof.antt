@@ -47,8 +47,10 @@ link-requires c κs =
     let a = c .before .before .before .before .note .ensures .0 in
     let b = c .before .before .before .before .before .before .before .before .clear .ensures .0 in
     let d = c .before .before .before .before .before .before .before .before .before .before .if2 .left in
-    let e = c .before .before .before .before .before .before .before .before .before .before .before .wide .ensures in
-    (c .before .before .before .before .before .before .before .before .before .before .before .before .if1 .left, (omega arith, c .before .before .before .before .note .ensures .1 (not-false _ (c .before .if3 .left))))
+    let e = c .before .before .before .before .before .before .before .before .before .before .before .wide .ensures in (
+      c .before .before .before .before .before .before .before .before .before .before .before .before .if1 .left,
+      (omega arith, c .before .before .before .before .note .ensures .1 (not-false _ (c .before .if3 .left))),
+    )
 
 same-length-2 : tie.Need-same-length-2
 same-length-2 c = search needs

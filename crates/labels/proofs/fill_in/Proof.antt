@@ -1,6 +1,6 @@
 -- `labels::fill_in` meets its contract. Assumes nothing.
 use Rattle.labels.proofs.Arena.{front-is, front-long}
-use Rattle.labels.specs.Table.{Table}
+use Rattle.labels.specs.code.LabelTable.{Table}
 use borrow.Author.Tests.{not-false}
 use lib.Seq.{length-take-le}
 use denote.Ref.{now}
@@ -58,9 +58,14 @@ same-length-2 c = search needs
 returns-4 : tie.Need-returns-4
 returns-4 c =
     let ys = c .before .before .before .fill .last .1 .1 .0 in
-    let e = c .before .before .before .fill .kept .1 .1 .0 ∙ length-take-le _ (c .before .before .before .before .before .before .before .before .before .before .before .args .arena .now) (c .before .before .before .before .before .if2 .left) in
-    let a = c .before .before .before .before .before .before .before .before .before .before .before .args in
-    (front-long ys _ e, λ h. subst (λ (l : List ℕ). Table (a .columns .edition) (a .columns .matching) (a .columns .depth) (now (a .s)) (a .columns .count) (a .columns .first .at) l) (sym (front-is ys _ e)) (c .before .before .before .fill .ensures (not-false _ (c .if3 .left))))
+    let e = c .before .before .before .fill .kept .1 .1 .0 ∙ length-take-le _
+    (c .before .before .before .before .before .before .before .before .before .before .before .args .arena .now)
+    (c .before .before .before .before .before .if2 .left) in
+    let a = c .before .before .before .before .before .before .before .before .before .before .before .args in (
+      front-long ys _ e,
+      λ h. subst (λ (l : List ℕ). Table (a .columns .edition) (a .columns .matching) (a .columns .depth) (now (a .s))
+          (a .columns .count) (a .columns .first .at) l) (sym (front-is ys _ e)) (c .before .before .before .fill .ensures (not-false _ (c .if3 .left))),
+    )
 
 pub fill-in-spec : {M : Type 1} → statement M
 fill-in-spec =

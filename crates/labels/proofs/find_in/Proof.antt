@@ -15,7 +15,14 @@ returns : tie.Need-returns
 returns c = search needs
 
 counterpart-in-requires : tie.Need-counterpart-in-requires
-counterpart-in-requires c κs = (c .before .before .before .before .pre .0, (c .before .before .before .before .pre .1 .0 (let a = c .if1 .left in omega arith), c .before .before .before .before .pre .1 .1))
+counterpart-in-requires c κs = (
+  c .before .before .before .before .pre .0,
+  (
+    c .before .before .before .before .pre .1 .0
+        (let a = c .if1 .left in omega arith),
+    c .before .before .before .before .pre .1 .1,
+  ),
+)
 
 returns-2 : tie.Need-returns-2
 returns-2 c = search needs

@@ -31,7 +31,11 @@ sub-heads : tie.Need-sub-heads Inv-loop μ-loop
 sub-heads c = search needs
 
 loop-holds : tie.Need-loop-holds Inv-loop μ-loop
-loop-holds c = (refl, linking-start (c .wide .ensures) (let a = c .wide .ensures in let b = c .before .before .before .pre .1 .0 in omega arith) (c .before .before .before .pre .1 .1 .cleared))
+loop-holds c = (
+  refl,
+  linking-start (c .wide .ensures) (let a = c .wide .ensures in let b = c .before .before .before .pre .1 .0 in omega arith)
+      (c .before .before .before .pre .1 .1 .cleared),
+)
 
 sub-i : tie.Need-sub-i Inv-loop μ-loop
 sub-i c = search needs
@@ -58,7 +62,12 @@ enum-known-l : tie.Need-enum-known-l Inv-loop μ-loop
 enum-known-l c = search needs
 
 slot-requires : tie.Need-slot-requires Inv-loop μ-loop
-slot-requires c κs = (label-in _ (c .before .before .before .label .ensures .1) (c .before .l .given .1), let a = c .before .before .before .before .before .before .before .before .wide .ensures in let b = c .before .before .before .before .before .before .before .before .before .before .before .pre .1 .0 in omega arith)
+slot-requires c κs = (
+  label-in _ (c .before .before .before .label .ensures .1) (c .before .l .given .1),
+  let a =
+      c .before .before .before .before .before .before .before .before .wide .ensures in let b =
+      c .before .before .before .before .before .before .before .before .before .before .before .pre .1 .0 in omega arith,
+)
 
 add-h : tie.Need-add-h Inv-loop μ-loop
 add-h c = search needs
@@ -83,7 +92,10 @@ mul-table-3 c = search needs
 
 slice-write-table-2 : tie.Need-slice-write-table-2 Inv-loop μ-loop
 slice-write-table-2 c =
-    let a = length-set (c .before .before .before .before .before .before .before .before .before .loop .table) (2 * (c .before .before .before .before .before .before .before .before .before .loop .i - 1)) (getD (c .before .before .before .before .before .before .before .before .before .loop .table) (2 * c .before .before .before .before .before .before .before .before .before .before .wide .result + c .before .slot .result) 0) in
+    let a = length-set (c .before .before .before .before .before .before .before .before .before .loop .table)
+    (2 * (c .before .before .before .before .before .before .before .before .before .loop .i - 1))
+    (getD (c .before .before .before .before .before .before .before .before .before .loop .table)
+    (2 * c .before .before .before .before .before .before .before .before .before .before .wide .result + c .before .slot .result) 0) in
     let b = c .before .before .before .before .before .before .before .before .before .loop .inv .0 in
     let e = c .before .slot .ensures .1 in
     let w = c .before .before .before .before .before .before .before .before .before .before .wide .ensures in
@@ -95,7 +107,15 @@ loop-less c = search needs
 loop-again : tie.Need-loop-again Inv-loop μ-loop
 loop-again c = (
   search needs,
-  linking-more (c .before .before .before .before .before .before .before .before .before .loop .i - 1) (c .before .before .before .before .before .before .before .before .before .loop .inv .1) (let a = c .before .before .before .before .before .before .before .before .loop-test .taken in omega arith) (let a = c .before .before .before .before .before .before .before .before .before .loop .inv .0 in let b = c .before .before .before .before .before .before .before .before .before .before .before .before .before .pre .1 .0 in let w = c .before .before .before .before .before .before .before .before .before .before .wide .ensures in omega arith) (c .before .before .before .before .before .label .ensures .0) (c .before .before .before .before .before .before .wide2 .ensures) (c .before .before .before .l .given .1) (c .before .slot .ensures .0) (c .before .slot .ensures .1) (let w = c .before .before .before .before .before .before .before .before .before .before .wide .ensures in omega arith),
+  linking-more (c .before .before .before .before .before .before .before .before .before .loop .i - 1)
+      (c .before .before .before .before .before .before .before .before .before .loop .inv .1)
+      (let a = c .before .before .before .before .before .before .before .before .loop-test .taken in omega arith)
+      (let a = c .before .before .before .before .before .before .before .before .before .loop .inv .0 in let b =
+      c .before .before .before .before .before .before .before .before .before .before .before .before .before .pre .1 .0 in let w =
+      c .before .before .before .before .before .before .before .before .before .before .wide .ensures in omega arith)
+      (c .before .before .before .before .before .label .ensures .0) (c .before .before .before .before .before .before .wide2 .ensures)
+      (c .before .before .before .l .given .1) (c .before .slot .ensures .0) (c .before .slot .ensures .1)
+      (let w = c .before .before .before .before .before .before .before .before .before .before .wide .ensures in omega arith),
 )
 
 enum-told : tie.Need-enum-told Inv-loop μ-loop
@@ -112,7 +132,10 @@ same-length-2 c = search needs
 
 returns-2 : tie.Need-returns-2 Inv-loop μ-loop
 returns-2 c =
-    λ h. linking-end (c .before .loop .inv .1) (c .loop-test .left) (c .before .before .before .before .before .pre .0) (let b = c .before .before .before .before .before .pre .1 .0 in let w = c .before .before .wide .ensures in omega arith) (let a = c .before .loop .inv .0 in let b = c .before .before .before .before .before .pre .1 .0 in let w = c .before .before .wide .ensures in omega arith) (c .before .before .before .before .before .pre .1 .1)
+    λ h. linking-end (c .before .loop .inv .1) (c .loop-test .left) (c .before .before .before .before .before .pre .0)
+    (let b = c .before .before .before .before .before .pre .1 .0 in let w = c .before .before .wide .ensures in omega arith)
+    (let a = c .before .loop .inv .0 in let b = c .before .before .before .before .before .pre .1 .0 in let w = c .before .before .wide .ensures in
+    omega arith) (c .before .before .before .before .before .pre .1 .1)
 
 pub link-spec : {M : Type 1} → statement M
 link-spec =

@@ -87,8 +87,16 @@ loop-less : tie.Need-loop-less Inv-loop μ-loop
 loop-less c = search needs
 
 loop-again : tie.Need-loop-again Inv-loop μ-loop
-loop-again c =
-    (search needs, noting-more (c .before .before .before .before .before .before .before .before .before .before .before .loop .inv .1) (let a = c .before .before .before .before .before .before .before .before .before .before .before .loop .inv .0 in let b = c .before .before .before .before .before .before .before .before .before .before .before .before .before .before .pre .0 in omega arith) (c .before .before .before .before .before .before .before .before .before .before .loop-test .taken) (c .before .before .before .before .before .before .before .label .ensures .0) (c .before .before .before .before .before .next .given .1) (c .before .before .before .pass-type .ensures) (c .before .e .given .1) (let a = c .before .before .before .before .before .before .before .before .wide .ensures in omega arith))
+loop-again c = (
+  search needs,
+  noting-more (c .before .before .before .before .before .before .before .before .before .before .before .loop .inv .1)
+      (let a = c .before .before .before .before .before .before .before .before .before .before .before .loop .inv .0 in let b =
+      c .before .before .before .before .before .before .before .before .before .before .before .before .before .before .pre .0 in omega arith)
+      (c .before .before .before .before .before .before .before .before .before .before .loop-test .taken)
+      (c .before .before .before .before .before .before .before .label .ensures .0) (c .before .before .before .before .before .next .given .1)
+      (c .before .before .before .pass-type .ensures) (c .before .e .given .1) (let a =
+      c .before .before .before .before .before .before .before .before .wide .ensures in omega arith),
+)
 
 same-length-4 : tie.Need-same-length-4 Inv-loop μ-loop
 same-length-4 c = search needs

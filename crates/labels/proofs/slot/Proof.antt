@@ -22,7 +22,11 @@ rem-result : tie.Need-rem-result
 rem-result c = search needs
 
 returns : tie.Need-returns
-returns c = (slot-is (c .before .before .before .args .how) _ _ (c .before .match-rule .ensures) (c .label-hash .ensures), mod-lt (c .label-hash .result) (c .before .before .before .pre .1))
+returns c = (
+  slot-is (c .before .before .before .args .how) _ _ (c .before .match-rule .ensures) (c .label-hash .ensures),
+  mod-lt
+      (c .label-hash .result) (c .before .before .before .pre .1),
+)
 
 pub slot-spec : {M : Type 1} → statement M
 slot-spec =

@@ -6,4 +6,6 @@ use Rattle.selector.proofs.refusal.Tie as tie
 
 pub refusal-spec : {M : Type 1} → statement M
 refusal-spec =
-    tie.close (tie.spec (λ c κs. search needs) (λ c. search needs) (λ c. search needs) (λ c. refusal-placed _ _ (c .before .has-place .ensures) (c .if1 .taken)) (λ c. search needs) (λ c. refusal-unplaced _ _ (c .before .has-place .ensures) (c .if1 .left)))
+    tie.close (tie.spec (λ c κs. search needs) (λ c. search needs) (λ c. search needs)
+    (λ c. refusal-placed _ _ (c .before .has-place .ensures) (c .if1 .taken)) (λ c. search needs)
+    (λ c. refusal-unplaced _ _ (c .before .has-place .ensures) (c .if1 .left)))

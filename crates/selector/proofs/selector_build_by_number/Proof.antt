@@ -12,5 +12,16 @@ use Rattle.selector.proofs.selector_build_by_number.Tie as tie
 pub selector-build-by-number-spec : {M : Type 1} → statement M
 selector-build-by-number-spec =
     tie.close
-    (tie.spec (λ c κs. search needs) (λ c κs. search needs) (λ c κs. search needs) (λ c. search needs) (λ c. let f : Policy → Answer Bytes = (λ p. buildByNumber p (c .before .before .before .before .before .before .before .before .before .before .args .source-index) (c .before .before .before .before .before .before .before .before .before .before .args .owner) (now (c .before .before .before .before .before .before .before .before .before .before .args .incoming)) (now (c .before .before .before .before .before .before .before .before .before .before .args .target)) (now (c .before .before .before .before .before .before .before .before .before .before .args .defaults)) (length (now (c .before .before .before .before .before .before .before .before .before .before .args .plan)))) in
-    (build-answered (c .before .before .before .before .before .from-word .ensures) f (c .before .before .before .build-by-number .ensures .0) (c .written .ensures), build-buffer (c .before .before .before .before .before .from-word .ensures) f _ (c .before .before .before .build-by-number .ensures .1))))
+    (tie.spec (λ c κs. search needs) (λ c κs. search needs) (λ c κs. search needs) (λ c. search needs)
+    (λ c. let f : Policy → Answer Bytes = (λ p. buildByNumber p
+    (c .before .before .before .before .before .before .before .before .before .before .args .source-index)
+    (c .before .before .before .before .before .before .before .before .before .before .args .owner)
+    (now (c .before .before .before .before .before .before .before .before .before .before .args .incoming))
+    (now (c .before .before .before .before .before .before .before .before .before .before .args .target))
+    (now (c .before .before .before .before .before .before .before .before .before .before .args .defaults))
+    (length (now (c .before .before .before .before .before .before .before .before .before .before .args .plan)))) in (
+      build-answered (c .before .before .before .before .before .from-word .ensures) f (c .before .before .before .build-by-number .ensures .0)
+          (c .written .ensures),
+      build-buffer (c .before .before .before .before .before .from-word .ensures) f _
+          (c .before .before .before .build-by-number .ensures .1),
+    )))

@@ -9,4 +9,7 @@ use Rattle.selector.proofs.selector_read_layout.Tie as tie
 pub selector-read-layout-spec : {M : Type 1} → statement M
 selector-read-layout-spec =
     tie.close
-    (tie.spec (λ c κs. search needs) (λ c. search needs) (λ c. search needs) (λ c κs. search needs) (λ c. layout-accepted (layout (now (c .before .before .before .before .args .bytes))) (c .before .before .read-layout .ensures) (c .enum-told .given .1)) (λ c. layout-refused (layout (now (c .before .before .before .before .before .before .args .bytes))) (c .before .before .before .before .read-layout .ensures) (c .before .before .k .given .1) (c .refusal .ensures)))
+    (tie.spec (λ c κs. search needs) (λ c. search needs) (λ c. search needs) (λ c κs. search needs)
+    (λ c. layout-accepted (layout (now (c .before .before .before .before .args .bytes))) (c .before .before .read-layout .ensures)
+    (c .enum-told .given .1)) (λ c. layout-refused (layout (now (c .before .before .before .before .before .before .args .bytes)))
+    (c .before .before .before .before .read-layout .ensures) (c .before .before .k .given .1) (c .refusal .ensures)))

@@ -6,4 +6,5 @@ use Rattle.selector.proofs.written.Tie as tie
 pub written-spec : {M : Type 1} → statement M
 written-spec =
     tie.close
-    (tie.spec (λ c. search needs) (λ c. search needs) (λ c. search needs) (λ c κs. search needs) (λ c. search (written-length, needs)) (λ c. search (written-refused, needs)))
+    (tie.spec (λ c. search needs) (λ c. search needs) (λ c. search needs) (λ c κs. search needs) (λ c. search (written-length, needs))
+    (λ c. search (written-refused, needs)))

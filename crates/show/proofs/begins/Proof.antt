@@ -9,4 +9,5 @@ use Rattle.show.proofs.begins.Statement.{statement}
 use Rattle.show.proofs.begins.Tie as tie
 
 pub begins-spec : {M : Type 1} → statement M
-begins-spec = tie.close (tie.spec (λ c. search not-begun) (λ c. sym (length-take-le (length (c .before .before .before .before .args .mark .now)) (c .before .before .before .before .args .file .now) (omega arith))) (λ c κs. search needs) (λ c. search needs))
+begins-spec = tie.close (tie.spec (λ c. search not-begun) (λ c. sym (length-take-le (length (c .before .before .before .before .args .mark .now))
+    (c .before .before .before .before .args .file .now) (omega arith))) (λ c κs. search needs) (λ c. search needs))

@@ -6,4 +6,5 @@ use Rattle.builder.proofs.answer.failed.Tie as tie
 
 pub failed-spec : {M : Type 1} → statement M
 failed-spec =
-    tie.close (tie.spec (λ c. search needs) (λ c. search needs) (λ c. search needs) (λ c. rw (c .before .made .given .1)) (λ c. search needs) (λ c. search needs))
+    tie.close (tie.spec (λ c. search needs) (λ c. search needs) (λ c. search needs) (λ c. rw (c .before .made .given .1)) (λ c. search needs)
+    (λ c. search needs))

@@ -1,6 +1,6 @@
 -- `builder::conditions::keeps_required` meets its contract. Assumes nothing.
 use denote.Ref.{now}
-use Rattle.layout.specs.Answers.{labelAt}
+use Rattle.layout.specs.code.Answers.{labelAt}
 use Rattle.builder.proofs.Whole.{keeps-optional, keeps-unmarked, keeps-typed}
 use borrow.Author.Needs.{needs}
 use Rattle.builder.proofs.conditions.keeps_required.Statement.{statement}

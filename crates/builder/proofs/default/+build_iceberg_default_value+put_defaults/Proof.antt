@@ -1,8 +1,10 @@
 -- The proof of the cycle of calls {build_iceberg_default_value, put_defaults}. The measure is 2 for each level left, and 1 more for the fields. `Defaulting`
 -- holds at the head of the
 -- loop. Assumes nothing.
-use Rattle.builder.proofs.Missing.{defaulting-none, defaulting-all, defaulting-unlabelled, field, field-room, defaulting-stop, field-fits, defaulting-more, Defaulting}
-use Rattle.builder.proofs.Defaults.{none-made, default-as, of-leaf, of-list, of-array, struct-as, struct-after, struct-refused, struct-none, struct-some, defaults-room}
+use Rattle.builder.proofs.Missing.{defaulting-none, defaulting-all, defaulting-unlabelled, field, field-room, defaulting-stop, field-fits}
+use Rattle.builder.proofs.Missing.{defaulting-more, Defaulting}
+use Rattle.builder.proofs.Defaults.{none-made, default-as, of-leaf, of-list, of-array, struct-as, struct-after, struct-refused, struct-none, struct-some}
+use Rattle.builder.proofs.Defaults.{defaults-room}
 use Rattle.builder.proofs.Putting.{type-after}
 use Rattle.matching.specs.Default.{defaultsOf}
 use Rattle.forms.proofs.Writing.{extent}
@@ -13,7 +15,7 @@ use borrow.Author.Needs.{needs}
 use Prim.Native.Nat.{ℕ, _<_, _+_, _-_, _*_}
 use native.Mathlib.Omega.{arith}
 use Rattle.defaults.specs.Lookup.{getDefaultValue}
-use Rattle.defaults.specs.Stands.{TableAt}
+use Rattle.defaults.specs.code.Stands.{TableAt}
 use borrow.Fn.Kinds.{In}
 use borrow.Fn.PlainCycle.{Measures, is, falls, and}
 use Rattle.builder.proofs.default.build_iceberg_default_value.Reads as build-iceberg-default-value

@@ -1,5 +1,5 @@
 -- `builder::default::constant_made` meets its contract. Assumes nothing.
-use Rattle.builder.specs.Answers.{valueLen}
+use Rattle.builder.specs.code.Answers.{valueLen}
 use mathlib.Core.Path.{ap}
 use native.Mathlib.Omega.{arith}
 use borrow.Author.Needs.{needs}

@@ -4,7 +4,7 @@ use Rattle.builder.proofs.Matching.{makes-as, makes-refused}
 use Rattle.matching.specs.Default.{buildIcebergDefaultValue}
 use Rattle.defaults.specs.Lookup.{getDefaultValue}
 use Rattle.forms.proofs.Writing.{extent}
-use Rattle.layout.specs.Answers.{labelAt}
+use Rattle.layout.specs.code.Answers.{labelAt}
 use native.Mathlib.Omega.{arith}
 use denote.Ref.{now}
 use mathlib.Core.Path.{_∙_}

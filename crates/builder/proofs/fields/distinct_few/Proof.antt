@@ -22,13 +22,39 @@ distinct-few-spec =
     (λ c. passing-start distinctNames (c .before .pre))
     (λ c κs. search needs)
     (λ c. search needs)
-    (λ c κs. column distinctNames (c .before .before .before .before .before .loop .inv) (c .before .before .before .before .loop-test .taken) (c .before .before .before .label .ensures .0) (c .before .l .given .1) .head)
+    (λ c κs.
+    let c3 = c .before .before .before in let c4 = c3 .before in let c5 = c4 .before in
+    column distinctNames (c5 .loop .inv) (c4 .loop-test .taken) (c3 .label .ensures .0) (c .before .l .given .1) .head)
     (λ c. search needs)
-    (λ c κs. (tail-at distinctNames (c .before .before .before .before .before .before .before .loop .inv) (c .before .before .before .before .before .before .loop-test .taken) (c .before .before .before .before .before .label .ensures .0) (c .before .before .before .l .given .1) (c .before .skip-type .ensures (column distinctNames (c .before .before .before .before .before .before .before .loop .inv) (c .before .before .before .before .before .before .loop-test .taken) (c .before .before .before .before .before .label .ensures .0) (c .before .before .before .l .given .1) .head)), label-in _ (c .before .before .before .before .before .label .ensures .1) (c .before .before .before .l .given .1)))
-    (λ c. names-stop (c .before .before .before .before .before .before .before .before .before .loop .inv) (c .before .before .before .before .before .before .before .before .loop-test .taken) (c .before .before .before .before .before .before .before .label .ensures .0) (c .before .before .before .before .before .l .given .1) (c .before .before .before .skip-type .ensures (column distinctNames (c .before .before .before .before .before .before .before .before .before .loop .inv) (c .before .before .before .before .before .before .before .before .loop-test .taken) (c .before .before .before .before .before .before .before .label .ensures .0) (c .before .before .before .before .before .l .given .1) .head)) (tail-at distinctNames (c .before .before .before .before .before .before .before .before .before .loop .inv) (c .before .before .before .before .before .before .before .before .loop-test .taken) (c .before .before .before .before .before .before .before .label .ensures .0) (c .before .before .before .before .before .l .given .1) (c .before .before .before .skip-type .ensures (column distinctNames (c .before .before .before .before .before .before .before .before .before .loop .inv) (c .before .before .before .before .before .before .before .before .loop-test .taken) (c .before .before .before .before .before .before .before .label .ensures .0) (c .before .before .before .before .before .l .given .1) .head))) (c .before .name-among .ensures (tail-at distinctNames (c .before .before .before .before .before .before .before .before .before .loop .inv) (c .before .before .before .before .before .before .before .before .loop-test .taken) (c .before .before .before .before .before .before .before .label .ensures .0) (c .before .before .before .before .before .l .given .1) (c .before .before .before .skip-type .ensures (column distinctNames (c .before .before .before .before .before .before .before .before .before .loop .inv) (c .before .before .before .before .before .before .before .before .loop-test .taken) (c .before .before .before .before .before .before .before .label .ensures .0) (c .before .before .before .before .before .l .given .1) .head)))) (c .if1 .taken))
+    (λ c κs.
+    let c3 = c .before .before .before in let c5 = c3 .before .before in let c6 = c5 .before in let c7 = c6 .before in (
+      tail-at distinctNames (c7 .loop .inv) (c6 .loop-test .taken) (c5 .label .ensures .0) (c3 .l .given .1)
+          (c .before .skip-type .ensures (column distinctNames (c7 .loop .inv) (c6 .loop-test .taken) (c5 .label .ensures .0)
+          (c3 .l .given .1) .head)),
+      label-in _ (c5 .label .ensures .1) (c3 .l .given .1),
+    ))
+    (λ c.
+    let c3 = c .before .before .before in let c5 = c3 .before .before in let c7 = c5 .before .before in let c8 = c7 .before in let c9 = c8 .before in
+    names-stop (c9 .loop .inv) (c8 .loop-test .taken) (c7 .label .ensures .0) (c5 .l .given .1)
+    (c3 .skip-type .ensures (column distinctNames (c9 .loop .inv) (c8 .loop-test .taken) (c7 .label .ensures .0) (c5 .l .given .1) .head))
+    (tail-at distinctNames (c9 .loop .inv) (c8 .loop-test .taken) (c7 .label .ensures .0) (c5 .l .given .1)
+    (c3 .skip-type .ensures (column distinctNames (c9 .loop .inv) (c8 .loop-test .taken) (c7 .label .ensures .0) (c5 .l .given .1) .head)))
+    (c .before .name-among .ensures (tail-at distinctNames (c9 .loop .inv) (c8 .loop-test .taken) (c7 .label .ensures .0) (c5 .l .given .1)
+    (c3 .skip-type .ensures (column distinctNames (c9 .loop .inv) (c8 .loop-test .taken) (c7 .label .ensures .0) (c5 .l .given .1) .head))))
+    (c .if1 .taken))
     (λ c. search needs)
-    (λ c. passing-unlabelled distinctNames (c .before .before .before .before .loop .inv) (c .before .before .before .loop-test .taken) (c .before .before .label .ensures .0) (c .enum-told .given .1))
+    (λ c.
+    let c2 = c .before .before in let c3 = c2 .before in let c4 = c3 .before in
+    passing-unlabelled distinctNames (c4 .loop .inv) (c3 .loop-test .taken) (c2 .label .ensures .0) (c .enum-told .given .1))
     (λ c. search needs)
     (λ c. search needs)
-    (λ c. names-more (c .before .before .before .before .before .before .before .before .before .loop .inv) (c .before .before .before .before .before .before .before .before .loop-test .taken) (c .before .before .before .before .before .before .before .label .ensures .0) (c .before .before .before .before .before .l .given .1) (c .before .before .before .skip-type .ensures (column distinctNames (c .before .before .before .before .before .before .before .before .before .loop .inv) (c .before .before .before .before .before .before .before .before .loop-test .taken) (c .before .before .before .before .before .before .before .label .ensures .0) (c .before .before .before .before .before .l .given .1) .head)) (tail-at distinctNames (c .before .before .before .before .before .before .before .before .before .loop .inv) (c .before .before .before .before .before .before .before .before .loop-test .taken) (c .before .before .before .before .before .before .before .label .ensures .0) (c .before .before .before .before .before .l .given .1) (c .before .before .before .skip-type .ensures (column distinctNames (c .before .before .before .before .before .before .before .before .before .loop .inv) (c .before .before .before .before .before .before .before .before .loop-test .taken) (c .before .before .before .before .before .before .before .label .ensures .0) (c .before .before .before .before .before .l .given .1) .head))) (c .before .name-among .ensures (tail-at distinctNames (c .before .before .before .before .before .before .before .before .before .loop .inv) (c .before .before .before .before .before .before .before .before .loop-test .taken) (c .before .before .before .before .before .before .before .label .ensures .0) (c .before .before .before .before .before .l .given .1) (c .before .before .before .skip-type .ensures (column distinctNames (c .before .before .before .before .before .before .before .before .before .loop .inv) (c .before .before .before .before .before .before .before .before .loop-test .taken) (c .before .before .before .before .before .before .before .label .ensures .0) (c .before .before .before .before .before .l .given .1) .head)))) (c .if1 .left))
+    (λ c.
+    let c3 = c .before .before .before in let c5 = c3 .before .before in let c7 = c5 .before .before in let c8 = c7 .before in let c9 = c8 .before in
+    names-more (c9 .loop .inv) (c8 .loop-test .taken) (c7 .label .ensures .0) (c5 .l .given .1)
+    (c3 .skip-type .ensures (column distinctNames (c9 .loop .inv) (c8 .loop-test .taken) (c7 .label .ensures .0) (c5 .l .given .1) .head))
+    (tail-at distinctNames (c9 .loop .inv) (c8 .loop-test .taken) (c7 .label .ensures .0) (c5 .l .given .1)
+    (c3 .skip-type .ensures (column distinctNames (c9 .loop .inv) (c8 .loop-test .taken) (c7 .label .ensures .0) (c5 .l .given .1) .head)))
+    (c .before .name-among .ensures (tail-at distinctNames (c9 .loop .inv) (c8 .loop-test .taken) (c7 .label .ensures .0) (c5 .l .given .1)
+    (c3 .skip-type .ensures (column distinctNames (c9 .loop .inv) (c8 .loop-test .taken) (c7 .label .ensures .0) (c5 .l .given .1) .head))))
+    (c .if1 .left))
     (λ c. unfold distinctNames in passing-done distinctNames (c .before .loop .inv) (c .loop-test .left) refl))

@@ -1,6 +1,6 @@
 -- `builder::fields::has_counterpart` meets its contract. Assumes nothing.
 use denote.Ref.{now}
-use Rattle.layout.specs.Answers.{labelAt}
+use Rattle.layout.specs.code.Answers.{labelAt}
 use Rattle.layout.specs.Find.{counterpart}
 use Rattle.builder.proofs.Names.{found-some, found-none}
 use borrow.Author.Needs.{needs}

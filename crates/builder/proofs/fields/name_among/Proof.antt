@@ -1,5 +1,5 @@
 -- `builder::fields::name_among` meets its contract. Assumes nothing.
-use Rattle.layout.specs.Answers.{spanAt}
+use Rattle.layout.specs.code.Answers.{spanAt}
 use Rattle.layout.specs.Find.{columnNamed}
 use denote.Ref.{now}
 use Rattle.layout.proofs.Finding.{by-name}
@@ -19,5 +19,13 @@ name-among-spec =
     (λ c κs. search needs)
     (λ c. search needs)
     (λ c. search needs)
-    (λ c. λ P. found-some (c .before .before .before .before .before .before .before .args .v) (c .before .before .before .before .before .before .before .args .depth) (now (c .before .before .before .before .before .before .before .args .s)) (columnNamed (spanAt (now (c .before .before .before .before .before .before .before .args .t)) (c .before .before .before .before .before .before .before .args .name)) (P .columns)) (by-name (c .before .before .before .before .before .before .before .args .v) (c .before .before .before .before .before .before .before .args .depth) (now (c .before .before .before .before .before .before .before .args .s)) (c .before .before .column-named .result) (now (c .before .before .before .before .before .before .before .args .t)) (c .before .before .before .before .before .before .before .args .name) (P .columns) (c .before .before .column-named .ensures P)) (c .enum-told .given .1))
-    (λ c. λ P. found-none (c .before .before .before .before .before .before .before .args .v) (c .before .before .before .before .before .before .before .args .depth) (now (c .before .before .before .before .before .before .before .args .s)) (columnNamed (spanAt (now (c .before .before .before .before .before .before .before .args .t)) (c .before .before .before .before .before .before .before .args .name)) (P .columns)) (by-name (c .before .before .before .before .before .before .before .args .v) (c .before .before .before .before .before .before .before .args .depth) (now (c .before .before .before .before .before .before .before .args .s)) (c .before .before .column-named .result) (now (c .before .before .before .before .before .before .before .args .t)) (c .before .before .before .before .before .before .before .args .name) (P .columns) (c .before .before .column-named .ensures P)) (c .enum-told2 .given .1)))
+    (λ c.
+    let c2 = c .before .before in let c7 = c2 .before .before .before .before .before in
+    λ P. found-some (c7 .args .v) (c7 .args .depth) (now (c7 .args .s)) (columnNamed (spanAt (now (c7 .args .t)) (c7 .args .name)) (P .columns))
+    (by-name (c7 .args .v) (c7 .args .depth) (now (c7 .args .s)) (c2 .column-named .result) (now (c7 .args .t)) (c7 .args .name) (P .columns)
+    (c2 .column-named .ensures P)) (c .enum-told .given .1))
+    (λ c.
+    let c2 = c .before .before in let c7 = c2 .before .before .before .before .before in
+    λ P. found-none (c7 .args .v) (c7 .args .depth) (now (c7 .args .s)) (columnNamed (spanAt (now (c7 .args .t)) (c7 .args .name)) (P .columns))
+    (by-name (c7 .args .v) (c7 .args .depth) (now (c7 .args .s)) (c2 .column-named .result) (now (c7 .args .t)) (c7 .args .name) (P .columns)
+    (c2 .column-named .ensures P)) (c .enum-told2 .given .1)))

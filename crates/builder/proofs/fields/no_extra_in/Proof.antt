@@ -1,7 +1,7 @@
 -- `builder::fields::no_extra_in` meets its contract. Assumes nothing.
 use mathlib.Core.Path.{refl}
 use Rattle.matching.specs.Build.{noExtra}
-use Rattle.builder.specs.Bundles.{FieldsAt}
+use Rattle.builder.specs.code.Bundles.{FieldsAt}
 use Rattle.layout.proofs.Ways.{label-in}
 use Rattle.builder.proofs.Names.{Passing, passing-start, passing-done, passing-unlabelled, column, fields-stop, fields-more}
 use borrow.Author.Needs.{needs}
@@ -10,7 +10,8 @@ use Rattle.builder.proofs.fields.no_extra_in.Tie as tie
 
 abbrev Inv-loop : tie.InvT-loop
 Inv-loop build incoming target rows chains v fields at₀ left₀ at left =
-    (Q : FieldsAt (build .target) (rows .depth) target (rows .target)) → Passing v (rows .depth) incoming (λ cs. noExtra (build .matching) cs (Q .columns)) (rows .incoming .count) at₀
+    (Q : FieldsAt (build .target) (rows .depth) target (rows .target)) → Passing v (rows .depth) incoming
+    (λ cs. noExtra (build .matching) cs (Q .columns)) (rows .incoming .count) at₀
     left at
 
 abbrev μ-loop : tie.MeasureT-loop

@@ -15,9 +15,19 @@ apply-outcome-spec =
     (λ c. search needs)
     (λ c κs. search needs)
     (λ c. search needs)
-    (λ c κs. (c .before .before .before .before .before .before .pre .0, omega (arith, extent (c .before .before .before .before .before .before .pre .0), c .before .before .before .before .before .before .pre .1)))
+    (λ c κs. (
+      c .before .before .before .before .before .before .pre .0,
+      omega (
+        arith,
+        extent
+            (c .before .before .before .before .before .before .pre .0),
+        c .before .before .before .before .before .before .pre .1,
+      ),
+    ))
     (λ c. search needs)
     (λ c. λ Q. ruled-bare Q _ _ _ (c .before .before .before .before .enum-told .given .1) (c .before .before .put-position .ensures))
     (λ c. λ Q. ruled-refused Q _ _ _ _ (c .before .before .outcome .given .1) (c .mismatch-number .ensures))
     (λ c. search needs)
-    (λ c. λ Q. ruled-cast Q _ _ _ (c .before .before .before .before .before .outcome2 .given .1) (c .before .before .put-cast .ensures .0 Q) (c .before .before .put-cast .ensures .1 Q)))
+    (λ c.
+    let c2 = c .before .before in let c5 = c2 .before .before .before in
+    λ Q. ruled-cast Q _ _ _ (c5 .outcome2 .given .1) (c2 .put-cast .ensures .0 Q) (c2 .put-cast .ensures .1 Q)))

@@ -18,4 +18,6 @@ leaf-rule-spec =
     (λ c. search needs)
     (λ c. search needs)
     (λ c κs. search needs)
-    (λ c. rule-spans (c .before .before .before .before .before .before .before .args .policy) (now (c .before .before .before .before .before .before .before .args .incoming)) (now (c .before .before .before .before .before .before .before .args .target)) (c .before .before .before .before .before .before .before .args .l) (c .before .before .before .before .before .before .before .args .u) (c .leaf-type-pair .ensures)))
+    (λ c.
+    let c7 = c .before .before .before .before .before .before .before in
+    rule-spans (c7 .args .policy) (now (c7 .args .incoming)) (now (c7 .args .target)) (c7 .args .l) (c7 .args .u) (c .leaf-type-pair .ensures)))

@@ -12,8 +12,20 @@ array-part-spec =
     (λ c κs. search needs)
     (λ c. search needs)
     (λ c. search needs)
-    (λ c. λ d P. array-is (c .before .before .before .before .before .before .args .v) d (now (c .before .before .before .before .before .before .args .s)) (c .before .before .before .before .before .before .args .c .at) (c .before .before .before .before .before .before .args .w) (P .tree) (P .end) (c .before .before .before .before .element-part .ensures d P) (c .before .before .x .given .1) (c .if1 .taken))
+    (λ c.
+    let c2 = c .before .before in let c4 = c2 .before .before in let c6 = c4 .before .before in
+    λ d P. array-is (c6 .args .v) d (now (c6 .args .s)) (c6 .args .c .at) (c6 .args .w) (P .tree) (P .end) (c4 .element-part .ensures d P)
+    (c2 .x .given .1) (c .if1 .taken))
     (λ c. search needs)
-    (λ c. λ d P. array-list (c .before .before .before .before .args .v) d (now (c .before .before .before .before .args .s)) (c .before .before .before .before .args .c .at) (c .before .before .before .before .args .w) (P .tree) (P .end) (c .before .before .element-part .ensures d P) (c .enum-told .given .1))
-    (λ c. λ d P. array-width (c .before .before .before .before .before .before .args .v) d (now (c .before .before .before .before .before .before .args .s)) (c .before .before .before .before .before .before .args .c .at) (c .before .before .before .before .before .before .args .w) (P .tree) (P .end) (c .before .before .before .before .element-part .ensures d P) (c .before .before .x .given .1) (c .if1 .left))
-    (λ c. λ d P. array-none (c .before .before .before .before .args .v) d (now (c .before .before .before .before .args .s)) (c .before .before .before .before .args .c .at) (c .before .before .before .before .args .w) (P .tree) (P .end) (c .before .before .element-part .ensures d P) (c .enum-told2 .given .1)))
+    (λ c.
+    let c2 = c .before .before in let c4 = c2 .before .before in
+    λ d P. array-list (c4 .args .v) d (now (c4 .args .s)) (c4 .args .c .at) (c4 .args .w) (P .tree) (P .end) (c2 .element-part .ensures d P)
+    (c .enum-told .given .1))
+    (λ c.
+    let c2 = c .before .before in let c4 = c2 .before .before in let c6 = c4 .before .before in
+    λ d P. array-width (c6 .args .v) d (now (c6 .args .s)) (c6 .args .c .at) (c6 .args .w) (P .tree) (P .end) (c4 .element-part .ensures d P)
+    (c2 .x .given .1) (c .if1 .left))
+    (λ c.
+    let c2 = c .before .before in let c4 = c2 .before .before in
+    λ d P. array-none (c4 .args .v) d (now (c4 .args .s)) (c4 .args .c .at) (c4 .args .w) (P .tree) (P .end) (c2 .element-part .ensures d P)
+    (c .enum-told2 .given .1)))

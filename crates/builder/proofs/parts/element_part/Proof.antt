@@ -1,6 +1,6 @@
 -- `builder::parts::element_part` meets its contract. Assumes nothing.
 use mathlib.Core.Path.{refl, sym, ap, _∙_}
-use Rattle.layout.specs.Answers.{headRes}
+use Rattle.layout.specs.code.Answers.{headRes}
 use Rattle.layout.proofs.View.{never-headless, list-labelled, array-labelled}
 use Rattle.builder.proofs.Matching.{element-mismatch, list-taken, array-taken}
 use borrow.Author.Needs.{needs}
@@ -25,8 +25,17 @@ element-part-spec =
     (λ c. search needs)
     (λ c. λ d P. element-mismatch P _ (sym (c .before .before .head .ensures .0) ∙ ap (headRes _) (c .enum-told .given .1)) refl)
     (λ c. λ d P. element-mismatch P _ (sym (c .before .before .head .ensures .0) ∙ ap (headRes _) (c .enum-told2 .given .1)) refl)
-    (λ c. λ d P. list-taken P (c .before .before .before .before .before .before .before .head .ensures .0) (c .before .before .before .element-label .ensures .0) (c .before .before .before .element-label .ensures .1) (c .before .l .given .1) (c .before .before .before .before .before .d .given .1))
-    (λ c. λ d P. list-labelled P (c .before .before .before .before .before .before .head .ensures .0) (c .before .before .element-label .ensures .0) (c .before .before .before .before .d .given .1) (c .enum-told3 .given .1))
-    (λ c. λ d P. array-taken P (c .before .before .before .before .before .before .before .head .ensures .0) (c .before .before .before .element-label2 .ensures .0) (c .before .before .before .element-label2 .ensures .1) (c .before .l2 .given .1) (c .before .before .before .before .before .w .given .1))
-    (λ c. λ d P. array-labelled P (c .before .before .before .before .before .before .head .ensures .0) (c .before .before .element-label2 .ensures .0) (c .before .before .before .before .w .given .1) (c .enum-told4 .given .1))
+    (λ c.
+    let c3 = c .before .before .before in let c5 = c3 .before .before in let c7 = c5 .before .before in
+    λ d P. list-taken P (c7 .head .ensures .0) (c3 .element-label .ensures .0) (c3 .element-label .ensures .1) (c .before .l .given .1) (c5 .d .given .1))
+    (λ c.
+    let c2 = c .before .before in let c4 = c2 .before .before in let c6 = c4 .before .before in
+    λ d P. list-labelled P (c6 .head .ensures .0) (c2 .element-label .ensures .0) (c4 .d .given .1) (c .enum-told3 .given .1))
+    (λ c.
+    let c3 = c .before .before .before in let c5 = c3 .before .before in let c7 = c5 .before .before in
+    λ d P. array-taken P (c7 .head .ensures .0) (c3 .element-label2 .ensures .0) (c3 .element-label2 .ensures .1) (c .before .l2 .given .1)
+    (c5 .w .given .1))
+    (λ c.
+    let c2 = c .before .before in let c4 = c2 .before .before in let c6 = c4 .before .before in
+    λ d P. array-labelled P (c6 .head .ensures .0) (c2 .element-label2 .ensures .0) (c4 .w .given .1) (c .enum-told4 .given .1))
     (λ c. λ d P. never-headless P (c .before .before .head .ensures .0) (c .enum-told5 .given .1)))

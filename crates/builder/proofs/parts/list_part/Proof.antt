@@ -13,6 +13,12 @@ list-part-spec =
     (λ c. search needs)
     (λ c. search needs)
     (λ c. search needs)
-    (λ c. λ d P. list-is (c .before .before .before .before .before .args .v) d (now (c .before .before .before .before .before .args .s)) (c .before .before .before .before .before .args .c .at) (P .tree) (P .end) (c .before .before .before .element-part .ensures d P) (c .before .l .given .1))
-    (λ c. λ d P. list-array (c .before .before .before .before .args .v) d (now (c .before .before .before .before .args .s)) (c .before .before .before .before .args .c .at) (P .tree) (P .end) (c .before .before .element-part .ensures d P) (c .enum-told .given .1))
-    (λ c. λ d P. list-none (c .before .before .before .before .args .v) d (now (c .before .before .before .before .args .s)) (c .before .before .before .before .args .c .at) (P .tree) (P .end) (c .before .before .element-part .ensures d P) (c .enum-told2 .given .1)))
+    (λ c.
+    let c3 = c .before .before .before in let c5 = c3 .before .before in
+    λ d P. list-is (c5 .args .v) d (now (c5 .args .s)) (c5 .args .c .at) (P .tree) (P .end) (c3 .element-part .ensures d P) (c .before .l .given .1))
+    (λ c.
+    let c2 = c .before .before in let c4 = c2 .before .before in
+    λ d P. list-array (c4 .args .v) d (now (c4 .args .s)) (c4 .args .c .at) (P .tree) (P .end) (c2 .element-part .ensures d P) (c .enum-told .given .1))
+    (λ c.
+    let c2 = c .before .before in let c4 = c2 .before .before in
+    λ d P. list-none (c4 .args .v) d (now (c4 .args .s)) (c4 .args .c .at) (P .tree) (P .end) (c2 .element-part .ensures d P) (c .enum-told2 .given .1)))

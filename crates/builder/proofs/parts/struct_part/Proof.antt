@@ -1,6 +1,6 @@
 -- `builder::parts::struct_part` meets its contract. Assumes nothing.
 use mathlib.Core.Path.{refl, sym, ap, _∙_}
-use Rattle.layout.specs.Answers.{headRes}
+use Rattle.layout.specs.code.Answers.{headRes}
 use Rattle.layout.proofs.View.{never-headless}
 use Rattle.builder.proofs.Matching.{struct-mismatch, struct-taken}
 use borrow.Author.Needs.{needs}

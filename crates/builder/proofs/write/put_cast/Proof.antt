@@ -14,9 +14,30 @@ put-cast-spec =
     (λ c. search needs)
     (λ c κs. search needs)
     (λ c. search needs)
-    (λ c. omega (arith, extent (c .before .before .before .before .before .before .before .before .before .before .before .before .pre .0), c .before .before .before .before .write-form .ensures .0 (c .before .before .before .before .before .before .before .before .before .before .before .before .pre .0) .0, c .before .before .before .before .before .before .before .before .before .before .before .before .pre .1))
+    (λ c. omega (
+      arith,
+      extent (c .before .before .before .before .before .before .before .before .before .before .before .before .pre .0),
+      c .before .before .before .before .write-form .ensures .0
+          (c .before .before .before .before .before .before .before .before .before .before .before .before .pre .0) .0,
+      c .before .before .before .before .before .before .before .before .before .before .before .before .pre .1,
+    ))
     (λ c κs. search needs)
     (λ c κs. search needs)
-    (λ c. omega (arith, extent (c .before .before .before .before .before .before .before .before .before .before .before .before .before .before .before .before .before .pre .0), c .before .before .before .before .before .before .before .before .before .write-form .ensures .0 (c .before .before .before .before .before .before .before .before .before .before .before .before .before .before .before .before .before .pre .0) .0, c .before .before .before .before .before .before .before .before .before .before .before .before .before .before .before .before .before .pre .1))
+    (λ c. omega (
+      arith,
+      extent (c .before .before .before .before .before .before .before .before .before .before .before .before .before .before
+          .before .before .before .pre .0),
+      c .before .before .before .before .before .before .before .before .before .write-form .ensures .0
+          (c .before .before .before .before .before .before .before .before .before .before .before .before .before .before .before .before .before .pre
+          .0) .0,
+      c .before .before .before .before .before .before .before .before .before .before .before .before .before .before .before .before
+          .before .pre .1,
+    ))
     (λ c. search needs)
-    (λ c. (λ Q. cast-long _ _ _ (c .before .before .before .before .before .before .before .before .before .write-form .ensures .0 Q .0), λ Q. cast-put _ _ _ _ _ (c .before .before .before .before .before .before .before .before .before .before .before .before .before .put-head .ensures) (c .before .before .before .before .before .before .before .before .before .write-form .ensures .0 Q .0) (c .before .before .before .before .before .before .before .before .before .write-form .ensures .1 Q) (c .before .before .before .before .option-code .ensures) (c .before .before .before .put .ensures))))
+    (λ c.
+    let c3 = c .before .before .before in let c4 = c3 .before in let c9 = c4 .before .before .before .before .before in let c13 =
+    c9 .before .before .before .before in (
+      λ Q. cast-long _ _ _ (c9 .write-form .ensures .0 Q .0),
+      λ Q. cast-put _ _ _ _ _ (c13 .put-head .ensures) (c9 .write-form .ensures .0 Q .0)
+          (c9 .write-form .ensures .1 Q) (c4 .option-code .ensures) (c3 .put .ensures),
+    )))

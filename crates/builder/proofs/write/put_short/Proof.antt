@@ -7,4 +7,5 @@ use Rattle.builder.proofs.write.put_short.Tie as tie
 pub put-short-spec : {M : Type 1} → statement M
 put-short-spec =
     tie.close
-    (tie.spec (λ c. search needs) (λ c κs. search needs) (λ c. search needs) (λ c. search needs) (λ c κs. search needs) (λ c. search needs) (λ c. short-put _ _ _ (c .before .before .before .before .before .before .put .ensures) (c .before .before .put2 .ensures)))
+    (tie.spec (λ c. search needs) (λ c κs. search needs) (λ c. search needs) (λ c. search needs) (λ c κs. search needs) (λ c. search needs)
+    (λ c. short-put _ _ _ (c .before .before .before .before .before .before .put .ensures) (c .before .before .put2 .ensures)))

@@ -8,10 +8,11 @@ use mathlib.Core.Path.{_≡_, refl, sym, _∙_}
 use native.Mathlib.Omega.{arith}
 use Prim.Native.Nat.{_-_}
 use Rattle.layout.specs.Layout.{deepest}
-use Rattle.layout.specs.Stands.{ColumnsAt}
+use Rattle.layout.specs.code.Stands.{ColumnsAt}
 use Rattle.defaults.specs.Lookup.{getDefaultValue}
-use Rattle.defaults.specs.Stands.{TableAt}
-use Rattle.calls.proofs.Building.{Building, building-none, building-all, building-unlabelled, column, column-after, column-name, column-room, column-made, building-stop, column-fits, building-more}
+use Rattle.defaults.specs.code.Stands.{TableAt}
+use Rattle.calls.proofs.Building.{Building, building-none, building-all, building-unlabelled, column, column-after, column-name, column-room}
+use Rattle.calls.proofs.Building.{column-made, building-stop, column-fits, building-more}
 use borrow.Author.Needs.{needs}
 use Rattle.calls.proofs.columns.build_each.Statement.{statement}
 use Rattle.calls.proofs.columns.build_each.Tie as tie

@@ -2,7 +2,7 @@
 use Prim.Native.Nat.{_-_}
 use native.Mathlib.Omega.{arith}
 use Rattle.layout.specs.Layout.{deepest}
-use Rattle.builder.specs.Bundles.{FieldsAt}
+use Rattle.builder.specs.code.Bundles.{FieldsAt}
 use Rattle.layout.proofs.Ways.{label-in}
 use Rattle.calls.proofs.Seeking.{Seeking, seeking-none, seeking-all, seeking-unlabelled, column, seeking-stop, seeking-more}
 use borrow.Author.Needs.{needs}

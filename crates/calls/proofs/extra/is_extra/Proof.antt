@@ -1,6 +1,6 @@
 -- `calls::extra::is_extra` meets its contract. Assumes nothing.
 use denote.Ref.{now}
-use Rattle.layout.specs.Answers.{labelAt}
+use Rattle.layout.specs.code.Answers.{labelAt}
 use Rattle.layout.specs.Find.{counterpart}
 use Rattle.calls.proofs.Seeking.{found-some, found-none}
 use borrow.Author.Needs.{needs}

@@ -15,4 +15,7 @@ put-plan-head-spec =
     (λ c κs. search needs)
     (λ c κs. search needs)
     (λ c. search needs)
-    (λ c. unfold overlay u16Bytes in rw (c .before .before .put-short2 .ensures, c .before .before .before .before .before .before .put-short .ensures, c .before .before .before .before .before .before .before .before .before .before .put3 .ensures, c .before .before .before .before .before .before .before .before .before .before .before .before .before .before .put2 .ensures, c .before .before .before .before .before .before .before .before .before .before .before .before .before .before .before .before .before .before .put .ensures)))
+    (λ c.
+    let c2 = c .before .before in let c6 = c2 .before .before .before .before in let c10 = c6 .before .before .before .before in let c14 =
+    c10 .before .before .before .before in let c18 = c14 .before .before .before .before in
+    unfold overlay u16Bytes in rw (c2 .put-short2 .ensures, c6 .put-short .ensures, c10 .put3 .ensures, c14 .put2 .ensures, c18 .put .ensures)))

@@ -14,4 +14,7 @@ write-plan-spec =
     (λ c. λ p e h. (omega (arith, c .if2 .taken), refl))
     (λ c κs. omega (arith, c .before .before .before .before .before .pre))
     (λ c. search needs)
-    (λ c. λ p e h. plan-copied _ p _ _ e (h (c .before .before .before .before .if2 .left)) (within-both _ p e (c .before .before .before .before .before .if1 .left) (omega (arith, c .before .before .before .before .before .before .before .before .pre, c .before .before .before .before .if2 .left))) (c .before .before .before .before .if2 .left) (c .before .before .before .before .before .if1 .left) (c .before .before .copy .ensures)))
+    (λ c. λ p e h. plan-copied _ p _ _ e (h (c .before .before .before .before .if2 .left))
+    (within-both _ p e (c .before .before .before .before .before .if1 .left)
+    (omega (arith, c .before .before .before .before .before .before .before .before .pre, c .before .before .before .before .if2 .left)))
+    (c .before .before .before .before .if2 .left) (c .before .before .before .before .before .if1 .left) (c .before .before .copy .ensures)))

@@ -11,9 +11,13 @@ cast-fits-spec =
     (tie.spec
     (λ c. search needs)
     (λ c. search needs)
-    (λ c κs. let (t, H) = c .before .before .before .before .before .before .before .pre in leaf-inside H (c .before .before .before .h .given .1) (c .enum-told .given .1))
+    (λ c κs.
+    let c3 = c .before .before .before in let c7 = c3 .before .before .before .before in
+    let (t, H) = c7 .pre in leaf-inside H (c3 .h .given .1) (c .enum-told .given .1))
     (λ c. search needs)
-    (λ c κs. let (t, H) = c .before .before .before .before .before .before .before .pre in leaf-inside H (c .before .before .before .h .given .1) (c .enum-told2 .given .1))
+    (λ c κs.
+    let c3 = c .before .before .before in let c7 = c3 .before .before .before .before in
+    let (t, H) = c7 .pre in leaf-inside H (c3 .h .given .1) (c .enum-told2 .given .1))
     (λ c. search needs)
     (λ c. search needs)
     (λ c. search needs)

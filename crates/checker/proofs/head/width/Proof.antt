@@ -1,7 +1,8 @@
 -- `checker::head::width` meets its contract. Assumes nothing.
-use Rattle.checker.proofs.Headed.{Widening, mapped-before, widening-start, widening-asks, widening-incoming, widening-plan, widening-less, widening-again}
+use Rattle.checker.proofs.Headed.{Widening, mapped-before, widening-start, widening-asks, widening-incoming, widening-plan, widening-less}
+use Rattle.checker.proofs.Headed.{widening-again}
 use borrow.Author.Needs.{needs}
-use Rattle.walk.specs.Standing.{rank}
+use Rattle.walk.specs.code.Walks.{rank}
 use Rattle.checker.proofs.head.width.Statement.{statement}
 use Rattle.checker.proofs.head.width.Tie as tie
 
@@ -22,10 +23,18 @@ width-spec =
     (λ c κs. widening-asks (c .to-input .ensures) (c .before .loop .inv))
     (λ c. search needs)
     (λ c κs. search needs)
-    (λ c. widening-incoming (c .before .before .before .before .before .to-input .ensures) (c .before .before .before .before .before .before .loop .inv) (c .before .before .before .before .resolve .ensures) (c .before .enum-told .given .1) (c .raw-width .ensures))
+    (λ c.
+    let c4 = c .before .before .before .before in let c5 = c4 .before in let c6 = c5 .before in
+    widening-incoming (c5 .to-input .ensures) (c6 .loop .inv) (c4 .resolve .ensures) (c .before .enum-told .given .1) (c .raw-width .ensures))
     (λ c. search needs)
     (λ c κs. search needs)
-    (λ c. widening-plan (c .before .before .before .before .before .to-input .ensures) (c .before .before .before .before .before .before .loop .inv) (c .before .before .before .before .resolve .ensures) (c .before .enum-told2 .given .1) (c .raw-width2 .ensures))
+    (λ c.
+    let c4 = c .before .before .before .before in let c5 = c4 .before in let c6 = c5 .before in
+    widening-plan (c5 .to-input .ensures) (c6 .loop .inv) (c4 .resolve .ensures) (c .before .enum-told2 .given .1) (c .raw-width2 .ensures))
     (λ c. search needs)
-    (λ c. widening-less (c .before .before .before .before .before .to-input .ensures) (c .before .before .before .before .before .before .loop .inv) (c .before .before .before .before .resolve .ensures))
-    (λ c. widening-again (c .before .before .before .before .before .to-input .ensures) (c .before .before .before .before .before .before .loop .inv) (c .before .before .before .before .resolve .ensures) (c .before .enum-told3 .given .1)))
+    (λ c.
+    let c4 = c .before .before .before .before in let c5 = c4 .before in let c6 = c5 .before in
+    widening-less (c5 .to-input .ensures) (c6 .loop .inv) (c4 .resolve .ensures))
+    (λ c.
+    let c4 = c .before .before .before .before in let c5 = c4 .before in let c6 = c5 .before in
+    widening-again (c5 .to-input .ensures) (c6 .loop .inv) (c4 .resolve .ensures) (c .before .enum-told3 .given .1)))

@@ -1,13 +1,16 @@
--- `column_fit`, `element_fit`, `fields_fit`, `mapped_fit`, `sized_fit` and `type_fit` of `checker::limits` meet their contracts, by the falling measures below. Assumes nothing.
+-- `column_fit`, `element_fit`, `fields_fit`, `mapped_fit`, `sized_fit` and `type_fit` of `checker::limits` meet their contracts, by the falling measures
+-- below. Assumes nothing.
 use borrow.Author.Needs.{needs}
 use native.Mathlib.Omega.{arith}
 use mathlib.Core.Path.{refl, ap, _∙_}
 use mathlib.Core.Bool.{false}
-use Rattle.checker.specs.Limits.{aroundOf}
+use Rattle.checker.specs.code.Limits.{aroundOf}
 use Rattle.checker.proofs.Resolving.{named-typed}
 use Rattle.checker.proofs.Children.{made-asks}
 use Rattle.checker.proofs.Headed.{from-incoming, from-plan}
-use Rattle.checker.proofs.Fitting.{fit-long, fit-bounded, fit-around, fit-none, struct-short, struct-asks, struct-bounded, struct-fits, list-asks, array-asks, list-fits, array-fits, made-no-leaf, sized-is, column-over, column-fits, Fitting, fitting-start, fitting-end, fitting-asks, fitting-over, fitting-small, fitting-more}
+use Rattle.checker.proofs.Fitting.{fit-long, fit-bounded, fit-around, fit-none, struct-short, struct-asks, struct-bounded, struct-fits, list-asks}
+use Rattle.checker.proofs.Fitting.{array-asks, list-fits, array-fits, made-no-leaf, sized-is, column-over, column-fits, Fitting, fitting-start}
+use Rattle.checker.proofs.Fitting.{fitting-end, fitting-asks, fitting-over, fitting-small, fitting-more}
 use Prim.Native.Nat.{ℕ, _+_, _*_, _-_, _<_}
 use borrow.Fn.Kinds.{In}
 use borrow.Fn.PlainCycle.{Measures, is, falls, and}

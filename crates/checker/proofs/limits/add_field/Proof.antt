@@ -1,7 +1,7 @@
 -- `checker::limits::add_field` meets its contract. Assumes nothing.
 use native.Mathlib.Omega.{arith}
 use mathlib.Core.Path.{sym, ap, _∙_}
-use Rattle.checker.specs.Limits.{addedOf, joinedOf}
+use Rattle.checker.specs.code.Limits.{addedOf, joinedOf}
 use Rattle.checker.proofs.Fitting.{fit-bounded}
 use borrow.Author.Needs.{needs}
 use Rattle.checker.proofs.limits.add_field.Statement.{statement}

@@ -1,7 +1,7 @@
 -- `checker::limits::around` meets its contract. Assumes nothing.
 use native.Mathlib.Omega.{arith}
 use mathlib.Core.Path.{sym, ap}
-use Rattle.checker.specs.Limits.{aroundOf}
+use Rattle.checker.specs.code.Limits.{aroundOf}
 use borrow.Author.Needs.{needs}
 use Rattle.checker.proofs.limits.around.Statement.{statement}
 use Rattle.checker.proofs.limits.around.Tie as tie

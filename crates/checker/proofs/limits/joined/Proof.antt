@@ -1,7 +1,7 @@
 -- `checker::limits::joined` meets its contract. Assumes nothing.
 use native.Mathlib.Omega.{arith}
 use mathlib.Core.Path.{sym, ap}
-use Rattle.checker.specs.Limits.{joinedOf}
+use Rattle.checker.specs.code.Limits.{joinedOf}
 use Rattle.checker.proofs.Fitting.{joined-is}
 use borrow.Author.Needs.{needs}
 use Rattle.checker.proofs.limits.joined.Statement.{statement}

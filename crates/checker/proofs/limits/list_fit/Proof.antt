@@ -1,7 +1,7 @@
 -- `checker::limits::list_fit` meets its contract. Assumes nothing.
 use native.Mathlib.Omega.{arith}
 use mathlib.Core.Path.{ap, _∙_}
-use Rattle.checker.specs.Limits.{aroundOf}
+use Rattle.checker.specs.code.Limits.{aroundOf}
 use Rattle.checker.proofs.Fitting.{fit-bounded, fit-around}
 use Rattle.checker.proofs.limits.list_fit.Statement.{statement}
 use Rattle.checker.proofs.limits.list_fit.Tie as tie

@@ -1,8 +1,9 @@
 -- `checker::name::name_at` meets its contract. Assumes nothing.
-use Rattle.checker.proofs.Naming.{Naming, naming-start, named-before, naming-is, naming-input-less, naming-input, naming-scope, naming-column, naming-top, direct-asks, naming-direct, naming-child-asks, naming-child-less, naming-child}
-use Rattle.walk.specs.Standing.{rank}
-use Rattle.walk.specs.Ends.{EndsAt}
-use Rattle.walk.proofs.Standing.{walk-inside}
+use Rattle.checker.proofs.Naming.{Naming, naming-start, named-before, naming-is, naming-input-less, naming-input, naming-scope, naming-column}
+use Rattle.checker.proofs.Naming.{naming-top, direct-asks, naming-direct, naming-child-asks, naming-child-less, naming-child}
+use Rattle.walk.specs.code.Walks.{rank}
+use Rattle.walk.specs.code.Ends.{EndsAt}
+use Rattle.walk.proofs.Walks.{walk-inside}
 use denote.Ref.{now}
 use native.Mathlib.Omega.{arith}
 use borrow.Author.Needs.{needs}
@@ -28,17 +29,57 @@ name-at-spec =
     (λ c. naming-is (c .before .before .before .before .loop .inv .0) (c .before .before .before .own-name .ensures) (c .before .name .given .1))
     (λ c. search needs)
     (λ c κs. named-before (c .before .before .before .loop .inv .0 .start))
-    (λ c. naming-input-less (c .before .before .before .before .loop .inv .0) (c .before .before .before .own-name .ensures) (c .before .enum-told .given .1) (c .to-input .ensures))
-    (λ c. (naming-input (c .before .before .before .before .loop .inv .0) (c .before .before .before .own-name .ensures) (c .before .enum-told .given .1) (c .to-input .ensures), c .before .before .before .before .loop .inv .1))
+    (λ c.
+    let c3 = c .before .before .before in let c4 = c3 .before in
+    naming-input-less (c4 .loop .inv .0) (c3 .own-name .ensures) (c .before .enum-told .given .1) (c .to-input .ensures))
+    (λ c.
+    let c3 = c .before .before .before in let c4 = c3 .before in
+    (naming-input (c4 .loop .inv .0) (c3 .own-name .ensures) (c .before .enum-told .given .1) (c .to-input .ensures), c4 .loop .inv .1))
     (λ c. search needs)
-    (λ c κs. (_, naming-column (c .before .before .before .before .before .before .loop .inv .0) (c .before .before .before .before .before .own-name .ensures) (c .before .before .before .k .given .1) (c .if1 .taken) (c .before .before .before .before .before .before .loop .inv .0 .start)))
-    (λ c. naming-top (c .before .before .before .before .before .before .before .loop .inv .0) (c .before .before .before .before .before .before .own-name .ensures) (c .before .before .before .before .k .given .1) (c .before .if1 .taken) (c .column-name .ensures))
-    (λ c κs. (naming-scope (c .before .before .before .before .before .before .loop .inv .0) (c .before .before .before .before .before .own-name .ensures) (c .before .before .before .k .given .1), omega (arith, c .if1 .left)))
-    (λ c κs. direct-asks (c .before .before .before .before .before .before .before .loop .inv .0) (c .before .before .before .before .before .before .own-name .ensures) (c .before .before .before .before .k .given .1) (c .enclosing .ensures))
+    (λ c κs.
+    let c3 = c .before .before .before in let c5 = c3 .before .before in let c6 = c5 .before in
+    (_, naming-column (c6 .loop .inv .0) (c5 .own-name .ensures) (c3 .k .given .1) (c .if1 .taken) (c6 .loop .inv .0 .start)))
+    (λ c.
+    let c4 = c .before .before .before .before in let c6 = c4 .before .before in let c7 = c6 .before in
+    naming-top (c7 .loop .inv .0) (c6 .own-name .ensures) (c4 .k .given .1) (c .before .if1 .taken) (c .column-name .ensures))
+    (λ c κs. (
+      naming-scope (c .before .before .before .before .before .before .loop .inv .0)
+          (c .before .before .before .before .before .own-name .ensures) (c .before .before .before .k .given .1),
+      omega (arith, c .if1 .left),
+    ))
+    (λ c κs.
+    let c4 = c .before .before .before .before in let c6 = c4 .before .before in let c7 = c6 .before in
+    direct-asks (c7 .loop .inv .0) (c6 .own-name .ensures) (c4 .k .given .1) (c .enclosing .ensures))
     (λ c. search needs)
-    (λ c. naming-direct (c .before .before .before .before .before .before .before .before .before .before .before .loop .inv .0) (c .before .before .before .before .before .before .before .before .before .before .own-name .ensures) (c .before .before .before .before .before .before .before .before .k .given .1) (c .before .before .before .before .enclosing .ensures) (c .before .before .before .direct-name .ensures) (c .before .name2 .given .1))
+    (λ c.
+    let c3 = c .before .before .before in let c4 = c3 .before in let c8 = c4 .before .before .before .before in let c10 = c8 .before .before in let
+    c11 = c10 .before in
+    naming-direct (c11 .loop .inv .0) (c10 .own-name .ensures) (c8 .k .given .1) (c4 .enclosing .ensures) (c3 .direct-name .ensures)
+    (c .before .name2 .given .1))
     (λ c. search needs)
-    (λ c κs. (walk-inside (naming-child-asks (c .before .before .before .before .before .before .before .before .before .before .before .loop .inv .0) (c .before .before .before .before .before .before .before .before .before .before .own-name .ensures) (c .before .before .before .before .before .before .before .before .k .given .1) (c .before .before .before .before .enclosing .ensures) (c .before .before .before .direct-name .ensures) (c .before .enum-told2 .given .1) .0 .1), c .before .before .before .before .before .before .before .before .before .before .before .loop .inv .1))
-    (λ c κs. (naming-child-asks (c .before .before .before .before .before .before .before .before .before .before .before .before .loop .inv .0) (c .before .before .before .before .before .before .before .before .before .before .before .own-name .ensures) (c .before .before .before .before .before .before .before .before .before .k .given .1) (c .before .before .before .before .before .enclosing .ensures) (c .before .before .before .before .direct-name .ensures) (c .before .before .enum-told2 .given .1), c .ends-for .ensures))
-    (λ c. naming-child-less (c .before .before .before .before .before .before .before .before .before .before .before .before .before .loop .inv .0) (c .before .before .before .before .before .before .before .before .before .before .before .before .own-name .ensures) (c .before .before .before .before .before .before .before .before .before .before .k .given .1) (c .before .before .before .before .before .before .enclosing .ensures) (c .before .before .before .before .before .direct-name .ensures) (c .before .before .before .enum-told2 .given .1) (c .child-in .ensures))
-    (λ c. (naming-child (c .before .before .before .before .before .before .before .before .before .before .before .before .before .loop .inv .0) (c .before .before .before .before .before .before .before .before .before .before .before .before .own-name .ensures) (c .before .before .before .before .before .before .before .before .before .before .k .given .1) (c .before .before .before .before .before .before .enclosing .ensures) (c .before .before .before .before .before .direct-name .ensures) (c .before .before .before .enum-told2 .given .1) (c .child-in .ensures), c .before .ends-for .ensures)))
+    (λ c κs.
+    let c3 = c .before .before .before in let c4 = c3 .before in let c8 = c4 .before .before .before .before in let c10 = c8 .before .before in let
+    c11 = c10 .before in (
+      walk-inside (naming-child-asks (c11 .loop .inv .0) (c10 .own-name .ensures) (c8 .k .given .1) (c4 .enclosing .ensures)
+          (c3 .direct-name .ensures) (c .before .enum-told2 .given .1) .0 .1),
+      c11 .loop .inv .1,
+    ))
+    (λ c κs.
+    let c2 = c .before .before in let c4 = c2 .before .before in let c5 = c4 .before in let c9 = c5 .before .before .before .before in let c11 =
+    c9 .before .before in let c12 = c11 .before in (
+      naming-child-asks (c12 .loop .inv .0) (c11 .own-name .ensures) (c9 .k .given .1) (c5 .enclosing .ensures) (c4 .direct-name .ensures)
+          (c2 .enum-told2 .given .1),
+      c .ends-for .ensures,
+    ))
+    (λ c.
+    let c3 = c .before .before .before in let c5 = c3 .before .before in let c6 = c5 .before in let c10 = c6 .before .before .before .before in let
+    c12 = c10 .before .before in let c13 = c12 .before in
+    naming-child-less (c13 .loop .inv .0) (c12 .own-name .ensures) (c10 .k .given .1) (c6 .enclosing .ensures) (c5 .direct-name .ensures)
+    (c3 .enum-told2 .given .1) (c .child-in .ensures))
+    (λ c.
+    let c3 = c .before .before .before in let c5 = c3 .before .before in let c6 = c5 .before in let c10 = c6 .before .before .before .before in let
+    c12 = c10 .before .before in let c13 = c12 .before in (
+      naming-child (c13 .loop .inv .0) (c12 .own-name .ensures) (c10 .k .given .1) (c6 .enclosing .ensures) (c5 .direct-name .ensures)
+          (c3 .enum-told2 .given .1) (c .child-in .ensures),
+      c .before .ends-for .ensures,
+    )))

@@ -22,9 +22,13 @@ own-name-spec =
     (λ c. search needs)
     (λ c. search needs)
     (λ c. λ i v n a N. own-position N (c .before .before .before .head .ensures (N .standing .here)) (c .before .k .given .1))
-    (λ c. λ i v n a N. own-constant N (c .before .before .before .before .head .ensures (N .standing .here)) (c .before .before .name .given .1) (c .named .ensures))
+    (λ c.
+    let c2 = c .before .before in let c4 = c2 .before .before in
+    λ i v n a N. own-constant N (c4 .head .ensures (N .standing .here)) (c2 .name .given .1) (c .named .ensures))
     (λ c. λ i v n a N. own-cast N (c .before .before .head .ensures (N .standing .here)) (c .enum-told .given .1))
-    (λ c. λ i v n a N. own-rename N (c .before .before .before .before .before .head .ensures (N .standing .here)) (c .before .before .before .input .given .1) (c .before .rename-name .ensures) (c .named2 .ensures))
+    (λ c.
+    let c3 = c .before .before .before in let c5 = c3 .before .before in
+    λ i v n a N. own-rename N (c5 .head .ensures (N .standing .here)) (c3 .input .given .1) (c .before .rename-name .ensures) (c .named2 .ensures))
     (λ c. λ i v n a N. own-struct N (c .before .before .head .ensures (N .standing .here)) (c .enum-told2 .given .1))
     (λ c. λ i v n a N. own-list N (c .before .before .head .ensures (N .standing .here)) (c .enum-told3 .given .1))
     (λ c. λ i v n a N. own-array N (c .before .before .head .ensures (N .standing .here)) (c .enum-told4 .given .1))

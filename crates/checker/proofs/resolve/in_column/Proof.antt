@@ -8,4 +8,16 @@ use Rattle.checker.proofs.resolve.in_column.Tie as tie
 pub in-column-spec : {M : Type 1} → statement M
 in-column-spec =
     tie.close
-    (tie.spec (λ c κs. search needs) (λ c. search needs) (λ c κs. let (t, A) = c .before .before .before .before .before .pre .0 in ((t, column-type A (field-here (field-found (A .columns) (c .before .before .before .before .before .args .k) (A .found) (c .before .before .before .column-at .ensures (A .columns))) (c .before .c .given .1))), c .before .before .before .before .before .pre .1)) (λ c. search needs) (λ c. λ t A. c .type-at .ensures t (column-type A (field-here (field-found (A .columns) (c .before .before .before .before .before .before .args .k) (A .found) (c .before .before .before .before .column-at .ensures (A .columns))) (c .before .before .c .given .1)))) (λ c. λ t A. field-never (field-found (A .columns) (c .before .before .before .before .args .k) (A .found) (c .before .before .column-at .ensures (A .columns))) (c .enum-told .given .1)))
+    (tie.spec (λ c κs. search needs) (λ c. search needs) (λ c κs. let (t, A) = c .before .before .before .before .before .pre .0 in (
+      (
+        t,
+        column-type A (field-here (field-found (A .columns) (c .before .before .before .before .before .args .k) (A .found)
+            (c .before .before .before .column-at .ensures (A .columns))) (c .before .c .given .1)),
+      ),
+      c .before .before .before .before .before .pre .1,
+    ))
+    (λ c. search needs) (λ c. λ t A. c .type-at .ensures t (column-type A (field-here
+    (field-found (A .columns) (c .before .before .before .before .before .before .args .k) (A .found)
+    (c .before .before .before .before .column-at .ensures (A .columns))) (c .before .before .c .given .1))))
+    (λ c. λ t A. field-never (field-found (A .columns) (c .before .before .before .before .args .k) (A .found)
+    (c .before .before .column-at .ensures (A .columns))) (c .enum-told .given .1)))

@@ -11,20 +11,36 @@ stopped-spec =
     (tie.spec
     (λ c κs. search needs)
     (λ c. search needs)
-    (λ c κs. let (t, S) = c .before .before .before .before .before .before .before .pre in ((t, stop-column S (c .before .before .before .head .ensures (S .typed .standing .here)) (c .before .k .given .1)), stop-bounds S))
+    (λ c κs.
+    let c3 = c .before .before .before in let c7 = c3 .before .before .before .before in
+    let (t, S) = c7 .pre in ((t, stop-column S (c3 .head .ensures (S .typed .standing .here)) (c .before .k .given .1)), stop-bounds S))
     (λ c. search needs)
-    (λ c κs. let (t, S) = c .before .before .before .before .before .before .before .pre in ((t, stop-constant S (c .before .before .before .head .ensures (S .typed .standing .here)) (c .before .d .given .1)), stop-bounds S))
+    (λ c κs.
+    let c3 = c .before .before .before in let c7 = c3 .before .before .before .before in
+    let (t, S) = c7 .pre in ((t, stop-constant S (c3 .head .ensures (S .typed .standing .here)) (c .before .d .given .1)), stop-bounds S))
     (λ c. search needs)
     (λ c κs. search needs)
-    (λ c κs. let (t, S) = c .before .before .before .before .before .before .before .before .pre in let h = c .before .before .before .before .head .ensures (S .typed .standing .here) in ((t, stop-cast S h (c .before .before .d2 .given .1) (c .skip-selector .ensures (is-cast h (c .before .before .d2 .given .1) .input))), stop-bounds S))
+    (λ c κs.
+    let c2 = c .before .before in let c4 = c2 .before .before in let c8 = c4 .before .before .before .before in
+    let (t, S) = c8 .pre in let h = c4 .head .ensures (S .typed .standing .here) in
+    ((t, stop-cast S h (c2 .d2 .given .1) (c .skip-selector .ensures (is-cast h (c2 .d2 .given .1) .input))), stop-bounds S))
     (λ c. search needs)
     (λ c. search needs)
     (λ c. search needs)
     (λ c. search needs)
     (λ c. search needs)
-    (λ c. λ t S. record { answer = c .in-column .ensures t (stop-column S (c .before .before .before .before .head .ensures (S .typed .standing .here)) (c .before .before .k .given .1)) })
-    (λ c. λ t S. record { answer = c .type-at .ensures t (stop-constant S (c .before .before .before .before .head .ensures (S .typed .standing .here)) (c .before .before .d .given .1)) })
-    (λ c. λ t S. let h = c .before .before .before .before .before .head .ensures (S .typed .standing .here) in record { answer = c .type-at2 .ensures t (stop-cast S h (c .before .before .before .d2 .given .1) (c .before .skip-selector .ensures (is-cast h (c .before .before .before .d2 .given .1) .input))) })
+    (λ c.
+    let c2 = c .before .before in let c4 = c2 .before .before in
+    λ t S. record { answer = c .in-column .ensures t (stop-column S (c4 .head .ensures (S .typed .standing .here)) (c2 .k .given .1)) })
+    (λ c.
+    let c2 = c .before .before in let c4 = c2 .before .before in
+    λ t S. record { answer = c .type-at .ensures t (stop-constant S (c4 .head .ensures (S .typed .standing .here)) (c2 .d .given .1)) })
+    (λ c.
+    let c3 = c .before .before .before in let c5 = c3 .before .before in
+    λ t S. let h = c5 .head .ensures (S .typed .standing .here) in record {
+      answer = c .type-at2 .ensures t
+          (stop-cast S h (c3 .d2 .given .1) (c .before .skip-selector .ensures (is-cast h (c3 .d2 .given .1) .input)));
+    })
     (λ c. λ t S. stop-rename S (c .before .before .head .ensures (S .typed .standing .here)) (c .enum-told .given .1))
     (λ c. λ t S. stop-struct S (c .before .before .head .ensures (S .typed .standing .here)) (c .enum-told2 .given .1))
     (λ c. λ t S. stop-list S (c .before .before .head .ensures (S .typed .standing .here)) (c .enum-told3 .given .1))

@@ -1,6 +1,8 @@
 -- `same_as`, `same_column`, `same_element`, `same_fields` and `same_mapped` of `checker::same` meet their contracts, by the falling measures below. Assumes
 -- nothing.
-use Rattle.checker.proofs.Alike.{raw-ends, codes-differ, numbers-differ, struct-there, list-there, array-there, structs-same, lists-same, arrays-same, field-differs, field-goes, Matching, matching-start, matching-end, matching-first, matching-asks, matching-no, matching-more}
+use Rattle.checker.proofs.Alike.{raw-ends, codes-differ, numbers-differ, struct-there, list-there, array-there, structs-same, lists-same, arrays-same}
+use Rattle.checker.proofs.Alike.{field-differs, field-goes, Matching, matching-start, matching-end, matching-first, matching-asks, matching-no}
+use Rattle.checker.proofs.Alike.{matching-more}
 use Rattle.checker.proofs.Fitting.{made-no-leaf, struct-asks, list-asks, array-asks}
 use Rattle.checker.proofs.Children.{made-asks}
 use Rattle.checker.proofs.Headed.{from-incoming, from-plan}
@@ -205,8 +207,10 @@ pub +same-as+same-column+same-element+same-fields+same-mapped-spec : {M : Type 1
     (λ c κs. search needs)
     (λ c. search needs)
     (λ c κs. c .before .before .before .before .before .before .before .before .pre .1 .0)
-    (λ c κs. let (a, N) = c .before .before .before .before .before .before .before .before .before .before .pre .1 .0 in
-    ((_, c .before .name-at .ensures a N), label-in _ (c .before .before .before .before .before .label .ensures .1) (c .before .before .before .l .given .1)))
+    (λ c κs.
+    let c3 = c .before .before .before in let c5 = c3 .before .before in let c10 = c5 .before .before .before .before .before in
+    let (a, N) = c10 .pre .1 .0 in
+    ((_, c .before .name-at .ensures a N), label-in _ (c5 .label .ensures .1) (c3 .l .given .1)))
     (λ c. λ a E N. field-differs E (c .before .before .before .before .before .before .before .label .ensures .0)
     (c .before .before .before .before .before .l .given .1) a (c .before .same-name .ensures (a .name) (c .before .before .before .name-at .ensures a N))
     (not-true _ (c .if1 .taken)))
@@ -364,9 +368,12 @@ pub +same-as+same-column+same-element+same-fields+same-mapped-spec : {M : Type 1
             (c .enum-told3 .given .1) .element,
       ),
     ))
-    (λ c. λ u Q R. made-no-leaf R
-    (c .before .before .before .before .before .before .before .before .before .before .before .before .before .before .before .before .before .pre .1 .1 .0)
-    (c .before .before .before .before .before .before .before .before .before .before .before .before .type-head .ensures u R) (c .enum-told .given .1))
+    (λ c.
+    let c12 = c .before .before .before .before .before .before .before .before .before .before .before .before in let c17 =
+    c12 .before .before .before .before .before in
+    λ u Q R. made-no-leaf R
+    (c17 .pre .1 .1 .0)
+    (c12 .type-head .ensures u R) (c .enum-told .given .1))
     (λ c. λ u Q R. structs-same
     (c .before .before .before .before .before .before .before .before .before .before .before .before .before .before .before .type-head .ensures u R)
     (c .before .before .before .before .before .before .before .before .before .before .before .before .before .before .code .ensures) Q

@@ -1,7 +1,7 @@
 -- `checker::same::code` meets its contract. Assumes nothing.
 use Rattle.checker.specs.declared.place.TypeHead.{TypeHead}
-use Rattle.checker.specs.Same.{codeOf}
-use Rattle.checker.specs.Standing.{headKind}
+use Rattle.checker.specs.code.Same.{codeOf}
+use Rattle.checker.specs.code.TypesAt.{headKind}
 use mathlib.Core.Path.{sym, ap}
 use borrow.Author.Needs.{needs}
 use Rattle.checker.proofs.same.code.Statement.{statement}

@@ -1,6 +1,6 @@
 -- `checker::same::target_code` meets its contract. Assumes nothing.
 use Rattle.direct.proofs.Casting.{kind-of}
-use Rattle.checker.specs.Same.{codeOf}
+use Rattle.checker.specs.code.Same.{codeOf}
 use Rattle.layout.proofs.View.{never-headless}
 use mathlib.Core.Path.{refl, ap}
 use borrow.Author.Needs.{needs}

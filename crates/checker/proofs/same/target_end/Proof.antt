@@ -1,7 +1,7 @@
 -- `checker::same::target_end` meets its contract. Assumes nothing.
 use borrow.Author.Needs.{needs}
 use mathlib.Core.Path.{sym, ap}
-use Rattle.checker.specs.Same.{endsFrom}
+use Rattle.checker.specs.code.Same.{endsFrom}
 use Rattle.checker.proofs.same.target_end.Statement.{statement}
 use Rattle.checker.proofs.same.target_end.Tie as tie
 

@@ -4,8 +4,11 @@ use Prim.Native.Nat.{_+_, _*_, _-_, ℕ, _<_}
 use mathlib.Core.Path.{sym, _∙_}
 use mathlib.Core.Bool.{true, false}
 use native.Mathlib.Omega.{arith}
-use Rattle.walk.specs.Standing.{rank}
-use Rattle.checker.proofs.Selecting.{checking-before, transform-is, a-transform, input-asks, input-stands, input-falls, input-refused, input-passed, rest-of, one-element, element-child-asks, element-small, element-step, element-answer, element-refused, element-passed, element-typed, element-given, mapping-asks, Passing, passing-start, passing-asks, passing-falls, passing-named, passing-refused, passing-more, passing-end}
+use Rattle.walk.specs.code.Walks.{rank}
+use Rattle.checker.proofs.Selecting.{checking-before, transform-is, a-transform, input-asks, input-stands, input-falls, input-refused, input-passed}
+use Rattle.checker.proofs.Selecting.{rest-of, one-element, element-child-asks, element-small, element-step, element-answer, element-refused}
+use Rattle.checker.proofs.Selecting.{element-passed, element-typed, element-given, mapping-asks, Passing, passing-start, passing-asks, passing-falls}
+use Rattle.checker.proofs.Selecting.{passing-named, passing-refused, passing-more, passing-end}
 use borrow.Author.Needs.{needs}
 use borrow.Fn.Kinds.{In}
 use borrow.Fn.PlainCycle.{Measures, is, falls, and}

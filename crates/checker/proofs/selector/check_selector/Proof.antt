@@ -1,7 +1,7 @@
 -- `checker::selector::check_selector` meets its contract. Assumes nothing.
 use mathlib.Core.Path.{ap, _∙_}
 use Rattle.plan.specs.Check.{typeOf}
-use Rattle.checker.specs.Checking.{droppedOf}
+use Rattle.checker.specs.code.Checking.{droppedOf}
 use Rattle.checker.proofs.Selecting.{checking-scope, scope-is}
 use Rattle.checker.proofs.Checks.{dropped-is}
 use borrow.Author.Needs.{needs}

@@ -20,7 +20,9 @@ check-source-spec =
     (λ c. search needs)
     (λ c. search needs)
     (λ c. search needs)
-    (λ c. λ incoming v n s Δ C e h. checks-position C (c .before .before .before .before .head .ensures (C .standing .here)) (c .before .before .k .given .1) (c .check-position .ensures Δ e))
+    (λ c.
+    let c2 = c .before .before in let c4 = c2 .before .before in
+    λ incoming v n s Δ C e h. checks-position C (c4 .head .ensures (C .standing .here)) (c2 .k .given .1) (c .check-position .ensures Δ e))
     (λ c. λ incoming v n s Δ C e h. checks-constant C (c .before .before .head .ensures (C .standing .here)) (c .enum-told .given .1))
     (λ c. λ incoming v n s Δ C e h. no-transform C h (is-cast (c .before .before .head .ensures (C .standing .here)) (c .enum-told2 .given .1) .is) refl)
     (λ c. λ incoming v n s Δ C e h. no-transform C h (is-rename (c .before .before .head .ensures (C .standing .here)) (c .enum-told3 .given .1) .is) refl)

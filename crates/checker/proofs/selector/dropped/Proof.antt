@@ -1,6 +1,6 @@
 -- `checker::selector::dropped` meets its contract. Assumes nothing.
 use mathlib.Core.Path.{sym, ap}
-use Rattle.checker.specs.Checking.{droppedOf}
+use Rattle.checker.specs.code.Checking.{droppedOf}
 use borrow.Author.Needs.{needs}
 use Rattle.checker.proofs.selector.dropped.Statement.{statement}
 use Rattle.checker.proofs.selector.dropped.Tie as tie

@@ -1,7 +1,7 @@
 -- `checker::selector::fields_left` meets its contract. Assumes nothing.
 use borrow.Author.Needs.{needs}
 use mathlib.Core.Path.{sym, ap}
-use Rattle.checker.specs.Checking.{fieldsLeft}
+use Rattle.checker.specs.code.Checking.{fieldsLeft}
 use Rattle.checker.specs.declared.place.TypeHead.{TypeHead}
 use Rattle.checker.proofs.selector.fields_left.Statement.{statement}
 use Rattle.checker.proofs.selector.fields_left.Tie as tie

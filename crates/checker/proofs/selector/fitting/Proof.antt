@@ -1,6 +1,6 @@
 -- `checker::selector::fitting` meets its contract. Assumes nothing.
 use mathlib.Core.Path.{sym, ap}
-use Rattle.checker.specs.Checking.{fittingOf}
+use Rattle.checker.specs.code.Checking.{fittingOf}
 use borrow.Author.Needs.{needs}
 use Rattle.checker.proofs.selector.fitting.Statement.{statement}
 use Rattle.checker.proofs.selector.fitting.Tie as tie

@@ -1,7 +1,7 @@
 -- `checker::selector::is_transform` meets its contract. Assumes nothing.
 use mathlib.Core.Path.{sym, ap}
 use Rattle.walk.proofs.Heads.{is-position, is-constant, is-cast, is-rename, is-struct, is-list, is-array, never-refused}
-use Rattle.checker.specs.Checking.{isTransform}
+use Rattle.checker.specs.code.Checking.{isTransform}
 use borrow.Author.Needs.{needs}
 use Rattle.checker.proofs.selector.is_transform.Statement.{statement}
 use Rattle.checker.proofs.selector.is_transform.Tie as tie

@@ -1,7 +1,7 @@
 -- `checker::selector::nothing_left` meets its contract. Assumes nothing.
 use borrow.Author.Needs.{needs}
 use mathlib.Core.Path.{sym, ap}
-use Rattle.checker.specs.Checking.{nothingLeft}
+use Rattle.checker.specs.code.Checking.{nothingLeft}
 use Rattle.checker.proofs.selector.nothing_left.Statement.{statement}
 use Rattle.checker.proofs.selector.nothing_left.Tie as tie
 

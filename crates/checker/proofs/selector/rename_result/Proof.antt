@@ -1,7 +1,7 @@
 -- `checker::selector::rename_result` meets its contract. Assumes nothing.
 use mathlib.Core.Path.{ap, _∙_}
 use mathlib.Core.Bool.{true}
-use Rattle.checker.specs.Checking.{fittingOf}
+use Rattle.checker.specs.code.Checking.{fittingOf}
 use Rattle.checker.proofs.Resolving.{named-typed}
 use Rattle.checker.proofs.Checks.{result-is, result-kept}
 use Rattle.checker.specs.declared.selector.Measured.{Measured}

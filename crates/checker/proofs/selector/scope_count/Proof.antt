@@ -17,6 +17,8 @@ scope-count-spec =
     (λ c. search needs)
     (λ c. search needs)
     (λ c. λ Δ S. scope-parts (c .before .before .before .enclosing .ensures Δ S) (c .before .before .type-head .ensures) (c .enum-told .given .1))
-    (λ c. λ Δ S. scope-parts (c .before .before .before .before .enclosing .ensures Δ S) (c .before .before .before .type-head .ensures) (c .before .count .given .1))
+    (λ c.
+    let c3 = c .before .before .before in let c4 = c3 .before in
+    λ Δ S. scope-parts (c4 .enclosing .ensures Δ S) (c3 .type-head .ensures) (c .before .count .given .1))
     (λ c. λ Δ S. scope-parts (c .before .before .before .enclosing .ensures Δ S) (c .before .before .type-head .ensures) (c .enum-told2 .given .1))
     (λ c. λ Δ S. scope-parts (c .before .before .before .enclosing .ensures Δ S) (c .before .before .type-head .ensures) (c .enum-told3 .given .1)))

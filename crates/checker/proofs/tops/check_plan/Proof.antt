@@ -20,8 +20,10 @@ check-plan-spec =
     let b = c .before .before .before .before .before .before .before .before .before in
     let a = b .before .before .before .before .before .before .args in
     let L = layout-at (now (a .incoming)) (b .before .before .read-layout .ensures) (b .v .given .1) .0 in
-    let M = layout-at (now (a .target)) (c .before .before .before .before .before .before .before .read-layout2 .ensures) (c .before .before .before .before .before .vt .given .1) .0 in
-    let P = plan-at (now (a .plan)) (λ i. b .before .before .before .shared-slice-known3 .given i .fits) (c .before .before .before .read-plan .ensures) (c .before .count .given .1) in
+    let M = layout-at (now (a .target)) (c .before .before .before .before .before .before .before .read-layout2 .ensures)
+    (c .before .before .before .before .before .vt .given .1) .0 in
+    let P = plan-at (now (a .plan)) (λ i. b .before .before .before .shared-slice-known3 .given i .fits) (c .before .before .before .read-plan .ensures)
+    (c .before .count .given .1) in
     ((L .columns, _, plan-tops L P), M .columns))
     (λ c. search needs)
     (λ c. search needs)
@@ -31,14 +33,17 @@ check-plan-spec =
     let b = d .before .before .before .before .before .before .before .before .before in
     let a = b .before .before .before .before .before .before .args in
     let L = layout-at (now (a .incoming)) (b .before .before .read-layout .ensures) (b .v .given .1) .0 in
-    let M = layout-at (now (a .target)) (d .before .before .before .before .before .before .before .read-layout2 .ensures) (d .before .before .before .before .before .vt .given .1) .0 in
-    let P = plan-at (now (a .plan)) (λ i. b .before .before .before .shared-slice-known3 .given i .fits) (d .before .before .before .read-plan .ensures) (d .before .count .given .1) in
+    let M = layout-at (now (a .target)) (d .before .before .before .before .before .before .before .read-layout2 .ensures)
+    (d .before .before .before .before .before .vt .given .1) .0 in
+    let P = plan-at (now (a .plan)) (λ i. b .before .before .before .shared-slice-known3 .given i .fits) (d .before .before .before .read-plan .ensures)
+    (d .before .count .given .1) in
     all-read _ _ _ L M P (c .check-read .ensures (L .columns) _ (M .columns) (plan-tops L P)))
     (λ c.
     let b = c .before .before .before .before .before .before .before .before .before in
     let a = b .before .before .before .before .before .before .args in
     let L = layout-at (now (a .incoming)) (b .before .before .read-layout .ensures) (b .v .given .1) .0 in
-    let M = layout-at (now (a .target)) (c .before .before .before .before .before .before .before .read-layout2 .ensures) (c .before .before .before .before .before .vt .given .1) .0 in
+    let M = layout-at (now (a .target)) (c .before .before .before .before .before .before .before .read-layout2 .ensures)
+    (c .before .before .before .before .before .vt .given .1) .0 in
     refused-third _ _ _ L M (plan-refused (now (a .plan)) (c .before .before .before .read-plan .ensures) (c .before .k .given .1)))
     (λ c.
     let b = c .before .before .before .before .before in

@@ -13,7 +13,9 @@ check-types-spec =
     (λ c. λ Γ ss Q T. read-direct T (fieldsOf (Q .columns)) (c .before .fits-target .ensures (c .if1 .taken) (T .columns) (T .selectors) Q))
     (λ c κs. search needs)
     (λ c. search needs)
-    (λ c κs. let (Γ, ss, T) = c .before .before .before .before .before .before .before .before .pre .0 in ((_, all-typed T (c .before .before .check-tops .ensures Γ ss T) (c .enum-told .given .1)), c .before .before .before .before .before .before .before .before .pre .1))
+    (λ c κs.
+    let c2 = c .before .before in let c8 = c2 .before .before .before .before .before .before in
+    let (Γ, ss, T) = c8 .pre .0 in ((_, all-typed T (c2 .check-tops .ensures Γ ss T) (c .enum-told .given .1)), c8 .pre .1))
     (λ c. search needs)
     (λ c. λ Γ ss Q T.
     let e = c .before .before .before .before .check-tops .ensures Γ ss T in

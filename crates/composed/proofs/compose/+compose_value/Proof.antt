@@ -31,7 +31,16 @@ compose-value-below t =
     compose-value.Pre
 
 abbrev compose-value-claims : ℕ → compose-value-lts.Claims
-compose-value-claims t = (input-of-reads.Asked, input-of-reads.Learnt, compose-leaf-reads.Asked, compose-leaf-reads.Learnt, compose-value-below t, compose-value.Post, compose-over-reads.Asked, compose-over-reads.Learnt)
+compose-value-claims t = (
+  input-of-reads.Asked,
+  input-of-reads.Learnt,
+  compose-leaf-reads.Asked,
+  compose-leaf-reads.Learnt,
+  compose-value-below t,
+  compose-value.Post,
+  compose-over-reads.Asked,
+  compose-over-reads.Learnt,
+)
 
 pub +compose-value-spec : {M : Type 1} → statement M
 +compose-value-spec = close μ-compose-value λ t. compose-value-lts.spec (compose-value-claims t)

@@ -31,7 +31,8 @@ compose-leaf-spec =
     let c17 = c .before .before .before .before .before .before .before .before .before .before .before .before .before .before .before .before .before in
     (c17 .pre .1 .0, (c17 .pre .1 .1 .0 .0, (c17 .pre .1 .1 .0 .1, c17 .pre .0))))
     (λ c κs.
-    let c1 = c .before in let c19 = c1 .before .before .before .before .before .before .before .before .before .before .before .before .before .before .before .before .before .before in (
+    let c1 = c .before in let c19 = c1 .before .before .before .before .before .before .before .before .before .before .before .before .before .before
+    .before .before .before .before in (
       c19 .pre .0,
       (
         (_, c1 .indexed-value .ensures (c19 .pre .1 .0)),

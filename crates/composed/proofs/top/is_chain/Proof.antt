@@ -1,6 +1,6 @@
 use Rattle.composed.proofs.Chains.{cast-falls, rename-falls}
 use Rattle.walk.proofs.Heads.{is-cast, is-rename}
-use Rattle.walk.specs.Stands.{SelectorAt}
+use Rattle.walk.specs.code.Stands.{SelectorAt}
 use lib.ListN.{length}
 use Prim.Native.Nat.{_-_}
 use borrow.Author.Needs.{needs}

@@ -1,7 +1,7 @@
 use Rattle.transfer.proofs.Rows.{Running, running-none, running-ends, running-all, running-head, running-more}
 use Rattle.transfer.proofs.Reaching.{unknown, reached-end, reached-to}
-use Rattle.index.specs.Indexed.{RowIn}
-use Rattle.walk.specs.Stands.{SelectorsAt}
+use Rattle.index.specs.code.Indexed.{RowIn}
+use Rattle.walk.specs.code.Stands.{SelectorsAt}
 use lib.ListN.{length}
 use borrow.Author.Needs.{needs}
 use native.Mathlib.Omega.{arith}
@@ -12,7 +12,8 @@ use Rattle.composed.proofs.top.transfer_tops.Tie as tie
 
 abbrev Inv-loop : tie.InvT-loop
 Inv-loop lay rec row types values plan out₀ ends count levels k₀ c₀ i₀ out k c i =
-    (length out ≡ length out₀) × (k ≤ 16387) × ((X : RowIn lay rec row) (S : SelectorsAt plan count (c₀ .at)) → Running (X .values .values) S out₀ k₀ i (c .at) k out)
+    (length out ≡ length out₀) × (k ≤ 16387) × ((X : RowIn lay rec row) (S : SelectorsAt plan count (c₀ .at)) → Running (X .values .values) S out₀ k₀ i
+    (c .at) k out)
 
 abbrev μ-loop : tie.MeasureT-loop
 μ-loop lay rec row types values plan out₀ ends count levels k₀ c₀ i₀ out k c i = count - i

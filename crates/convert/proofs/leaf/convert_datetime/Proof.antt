@@ -17,5 +17,8 @@ convert-datetime-spec =
     (λ c. search needs)
     (λ c. datetime-integer _ _ (c .before .before .class-of .ensures) _ (c .enum-told .given .1))
     (λ c. datetime-float _ _ (c .before .before .class-of .ensures) _ (c .enum-told2 .given .1))
-    (λ c. datetime-datetime _ _ (c .before .before .before .before .before .class-of .ensures) _ (c .before .unit-change .result) (c .rescale .result) (c .before .before .before .v .given .1) (c .before .unit-change .ensures .0) (c .rescale .ensures))
+    (λ c.
+    let c1 = c .before in let c3 = c1 .before .before in let c5 = c3 .before .before in
+    datetime-datetime _ _ (c5 .class-of .ensures) _ (c1 .unit-change .result) (c .rescale .result) (c3 .v .given .1) (c1 .unit-change .ensures .0)
+    (c .rescale .ensures))
     (λ c. datetime-other _ _ (c .before .before .class-of .ensures) _ (c .enum-told3 .given .1)))

@@ -14,4 +14,9 @@ put-number-spec =
     (λ c κs. search needs)
     (λ c. search needs)
     (λ c. search needs)
-    (λ c. (number-long (c .before .before .before .before .before .before .before .before .before .before .args .kind) _ (c .before .before .before .before .before .before .before .before .width .ensures .0), number-stored (c .before .before .before .before .before .before .before .before .before .before .args .kind) _ _ _ (c .before .before .before .before .before .before .before .before .width .ensures .0) (c .before .before .before .before .before .before .put .ensures) (c .before .before .put-number .ensures))))
+    (λ c.
+    let c2 = c .before .before in let c6 = c2 .before .before .before .before in let c8 = c6 .before .before in let c10 = c8 .before .before in (
+      number-long (c10 .args .kind) _ (c8 .width .ensures .0),
+      number-stored (c10 .args .kind) _ _ _ (c8 .width .ensures .0) (c6 .put .ensures)
+          (c2 .put-number .ensures),
+    )))

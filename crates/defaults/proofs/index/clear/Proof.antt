@@ -2,7 +2,7 @@
 use Prim.Native.Nat.{_-_}
 use mathlib.Core.Path.{_≡_, refl}
 use lib.ListN.{length}
-use Rattle.defaults.specs.Index.{Cleared}
+use Rattle.defaults.specs.code.Index.{Cleared}
 use Rattle.defaults.proofs.Indexing.{cleared-start, cleared-more, cleared-end}
 use borrow.Author.Needs.{needs}
 use Rattle.defaults.proofs.index.clear.Statement.{statement}

@@ -20,7 +20,8 @@ get-default-value-spec =
     (λ c κs.
     let b = c .before .before .before .before .before .if1 .left in let e = c .before .before .before .before .before .before .before .before .before in
     let I = e .pre .1 (omega arith) in let d = e .args in
-    partition-found (e .pre .0) _ (own-found I (d .defaults .owner) (d .id) Partition (c .before .before .before .before .owner-in .ensures) (c .before .before .before .find-entry .ensures))
+    partition-found (e .pre .0) _ (own-found I (d .defaults .owner) (d .id) Partition (c .before .before .before .before .owner-in .ensures)
+    (c .before .before .before .find-entry .ensures))
     (c .before .c .given .1))
     (λ c. search needs)
     (λ c κs.
@@ -28,27 +29,37 @@ get-default-value-spec =
     c .before .before .before .before .before .before .before .before .pre .1 (omega arith) .inside)
     (λ c. search needs)
     (λ c κs.
-    let b = c .before .before .before .before .before .before .before .before .if1 .left in let e = c .before .before .before .before .before .before .before .before .before .before .before .before in
+    let b = c .before .before .before .before .before .before .before .before .if1 .left in let e =
+    c .before .before .before .before .before .before .before .before .before .before .before .before in
     let I = e .pre .1 (omega arith) in let d = e .args in let o = c .before .before .before .before .before .before .before .owner-in .ensures in
-    initial-found (e .pre .0) _ (own-found I (d .defaults .owner) (d .id) Partition o (c .before .before .before .before .before .before .find-entry .ensures)) (c .before .before .before .before .enum-told .given .1)
+    initial-found (e .pre .0) _ (own-found I (d .defaults .owner) (d .id) Partition o
+    (c .before .before .before .before .before .before .find-entry .ensures)) (c .before .before .before .before .enum-told .given .1)
     (own-found I (d .defaults .owner) (d .id) Initial o (c .before .before .before .find-entry2 .ensures)) (c .before .c2 .given .1))
     (λ c. search needs)
     (λ c.
-    let b = c .before .before .before .before .before .before .if1 .left in let e = c .before .before .before .before .before .before .before .before .before .before in
+    let b = c .before .before .before .before .before .before .if1 .left in let e =
+    c .before .before .before .before .before .before .before .before .before .before in
     let I = e .pre .1 (omega arith) in let d = e .args in
     λ P.
-    partition-wins P _ (own-found I (d .defaults .owner) (d .id) Partition (c .before .before .before .before .before .owner-in .ensures) (c .before .before .before .before .find-entry .ensures))
+    partition-wins P _ (own-found I (d .defaults .owner) (d .id) Partition (c .before .before .before .before .before .owner-in .ensures)
+    (c .before .before .before .before .find-entry .ensures))
     (d .defaults .«source_index») (c .partition-value .result) (c .before .before .c .given .1) (c .partition-value .ensures))
     (λ c.
-    let b = c .before .before .before .before .before .before .before .before .before .if1 .left in let e = c .before .before .before .before .before .before .before .before .before .before .before .before .before in
+    let b = c .before .before .before .before .before .before .before .before .before .if1 .left in let e =
+    c .before .before .before .before .before .before .before .before .before .before .before .before .before in
     let I = e .pre .1 (omega arith) in let d = e .args in let o = c .before .before .before .before .before .before .before .before .owner-in .ensures in
     λ P.
-    initial-wins P _ (own-found I (d .defaults .owner) (d .id) Partition o (c .before .before .before .before .before .before .before .find-entry .ensures)) (c .before .before .before .before .before .enum-told .given .1)
-    (own-found I (d .defaults .owner) (d .id) Initial o (c .before .before .before .before .find-entry2 .ensures)) (d .defaults .«source_index») (c .initial-value .result)
+    initial-wins P _ (own-found I (d .defaults .owner) (d .id) Partition o
+    (c .before .before .before .before .before .before .before .find-entry .ensures))
+    (c .before .before .before .before .before .enum-told .given .1)
+    (own-found I (d .defaults .owner) (d .id) Initial o (c .before .before .before .before .find-entry2 .ensures)) (d .defaults .«source_index»)
+    (c .initial-value .result)
     (c .before .before .c2 .given .1) (c .initial-value .ensures))
     (λ c.
-    let b = c .before .before .before .before .before .before .before .if1 .left in let e = c .before .before .before .before .before .before .before .before .before .before .before in
+    let b = c .before .before .before .before .before .before .before .if1 .left in let e =
+    c .before .before .before .before .before .before .before .before .before .before .before in
     let I = e .pre .1 (omega arith) in let d = e .args in let o = c .before .before .before .before .before .before .owner-in .ensures in
     λ P.
-    no-entry P _ (own-found I (d .defaults .owner) (d .id) Partition o (c .before .before .before .before .before .find-entry .ensures)) (c .before .before .before .enum-told .given .1)
+    no-entry P _ (own-found I (d .defaults .owner) (d .id) Partition o (c .before .before .before .before .before .find-entry .ensures))
+    (c .before .before .before .enum-told .given .1)
     (own-found I (d .defaults .owner) (d .id) Initial o (c .before .before .find-entry2 .ensures)) (d .defaults .«source_index») (c .enum-told2 .given .1)))

@@ -10,7 +10,11 @@ initial-value-spec =
     (tie.spec
     (λ c κs. search needs)
     (λ c. search needs)
-    (λ c κs. (zone-in _ (c .before .before .before .read-leaf-type .ensures .1) (c .before .l .given .1), initial-value (c .before .before .before .before .before .pre) (c .before .before .before .read-leaf-type .ensures .0) (c .before .l .given .1)))
+    (λ c κs.
+    let c1 = c .before in let c3 = c1 .before .before in let c5 = c3 .before .before in
+    (zone-in _ (c3 .read-leaf-type .ensures .1) (c1 .l .given .1), initial-value (c5 .pre) (c3 .read-leaf-type .ensures .0) (c1 .l .given .1)))
     (λ c. search needs)
-    (λ c. λ k P. initial-taken P (c .before .before .before .before .read-leaf-type .ensures .0) (c .before .before .l .given .1) k (c .unless-null .result) (c .unless-null .ensures))
+    (λ c.
+    let c2 = c .before .before in let c4 = c2 .before .before in
+    λ k P. initial-taken P (c4 .read-leaf-type .ensures .0) (c2 .l .given .1) k (c .unless-null .result) (c .unless-null .ensures))
     (λ c. λ k P. initial-never P (c .before .before .read-leaf-type .ensures .0) (c .enum-told .given .1)))

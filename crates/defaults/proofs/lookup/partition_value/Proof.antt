@@ -10,8 +10,15 @@ partition-value-spec =
     (tie.spec
     (λ c κs. search needs)
     (λ c. search needs)
-    (λ c κs. load-loaded (c .before .before .before .before .before .before .pre) (c .before .before .before .before .byte .ensures) (c .before .before .b .given .1) (c .if1 .taken))
+    (λ c κs.
+    let c2 = c .before .before in let c4 = c2 .before .before in let c6 = c4 .before .before in
+    load-loaded (c6 .pre) (c4 .byte .ensures) (c2 .b .given .1) (c .if1 .taken))
     (λ c. search needs)
-    (λ c. λ P. load-taken P (c .before .before .before .before .before .byte .ensures) (c .before .before .before .b .given .1) (c .before .before .before .before .before .before .before .args .source-index) (c .loaded-value .result) (c .before .if1 .taken) (c .loaded-value .ensures))
-    (λ c. λ P. load-failed P (c .before .before .before .before .byte .ensures) (c .before .before .b .given .1) (c .before .before .before .before .before .before .args .source-index) (c .if1 .left))
+    (λ c.
+    let c3 = c .before .before .before in let c5 = c3 .before .before in let c7 = c5 .before .before in
+    λ P. load-taken P (c5 .byte .ensures) (c3 .b .given .1) (c7 .args .source-index) (c .loaded-value .result) (c .before .if1 .taken)
+    (c .loaded-value .ensures))
+    (λ c.
+    let c2 = c .before .before in let c4 = c2 .before .before in let c6 = c4 .before .before in
+    λ P. load-failed P (c4 .byte .ensures) (c2 .b .given .1) (c6 .args .source-index) (c .if1 .left))
     (λ c. λ P. load-never P (c .before .before .byte .ensures) (c .enum-told .given .1)))

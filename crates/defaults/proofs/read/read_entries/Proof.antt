@@ -6,7 +6,8 @@ use native.Mathlib.Omega.{arith}
 use lib.ListN.{length}
 use denote.Ref.{now}
 use Rattle.layout.proofs.Ways.{clash}
-use Rattle.defaults.proofs.Indexing.{Filling, filling-start, filling-all, filling-end, filling-broken, filling-inside, filling-repeated, filling-more, pushed-length}
+use Rattle.defaults.proofs.Indexing.{Filling, filling-start, filling-all, filling-end, filling-broken, filling-inside, filling-repeated, filling-more}
+use Rattle.defaults.proofs.Indexing.{pushed-length}
 use borrow.Author.Needs.{needs}
 use Rattle.defaults.proofs.read.read_entries.Statement.{statement}
 use Rattle.defaults.proofs.read.read_entries.Tie as tie

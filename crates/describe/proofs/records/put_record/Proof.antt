@@ -13,7 +13,9 @@ put-record-spec =
     (tie.spec
     (λ c κs. search needs)
     (λ c. search needs)
-    (λ c κs. let (L, z) = layout-at (now (c .before .before .before .before .before .before .args .lay)) (c .before .before .before .read-layout .ensures) (c .before .v .given .1) in
+    (λ c κs.
+    let c3 = c .before .before .before in let c6 = c3 .before .before .before in
+    let (L, z) = layout-at (now (c6 .args .lay)) (c3 .read-layout .ensures) (c .before .v .given .1) in
     columns-moved (sym z) (L .columns))
     (λ c. search needs)
     (λ c κs. search needs)

@@ -26,7 +26,22 @@ put-type-below t =
     and 1 put-type-kinds.ps (falls 1 put-type-kinds.ps _<_ μ-put-type t) put-type.Pre
 
 abbrev put-type-claims : ℕ → put-type-lts.Claims
-put-type-claims t = (head-reads.Asked, head-reads.Learnt, put-leaf-type-reads.Asked, put-leaf-type-reads.Learnt, put-reads.Asked, put-reads.Learnt, put-count-reads.Asked, put-count-reads.Learnt, element-label-reads.Asked, element-label-reads.Learnt, put-type-below t, put-type.Post, put-number-reads.Asked, put-number-reads.Learnt)
+put-type-claims t = (
+  head-reads.Asked,
+  head-reads.Learnt,
+  put-leaf-type-reads.Asked,
+  put-leaf-type-reads.Learnt,
+  put-reads.Asked,
+  put-reads.Learnt,
+  put-count-reads.Asked,
+  put-count-reads.Learnt,
+  element-label-reads.Asked,
+  element-label-reads.Learnt,
+  put-type-below t,
+  put-type.Post,
+  put-number-reads.Asked,
+  put-number-reads.Learnt,
+)
 
 pub +put-type-spec : {M : Type 1} → statement M
 +put-type-spec = close μ-put-type λ t. put-type-lts.spec (put-type-claims t)

@@ -19,8 +19,16 @@ leaf-fits-spec =
     (λ c. search needs)
     (λ c κs. search needs)
     (λ c. search needs)
-    (λ c. λ Q. leaf-passes Q (c .before .before .before .before .head .ensures .0) _ (c .before .before .before .before .before .before .before .args .o) (c .before .before .m .given .1) (c .pair-passes .ensures))
-    (λ c. λ Q. struct-passes Q (c .before .before .before .head .ensures .0) (c .before .before .before .before .before .before .args .l) _ (c .before .before .before .before .before .before .args .o) (c .from-null .ensures) (c .before .enum-told .given .1))
-    (λ c. λ Q. list-passes Q (c .before .before .before .head .ensures .0) (c .before .before .before .before .before .before .args .l) _ (c .before .before .before .before .before .before .args .o) (c .from-null2 .ensures) (c .before .enum-told2 .given .1))
-    (λ c. λ Q. array-passes Q (c .before .before .before .head .ensures .0) (c .before .before .before .before .before .before .args .l) _ (c .before .before .before .before .before .before .args .o) (c .from-null3 .ensures) (c .before .enum-told3 .given .1))
+    (λ c.
+    let c2 = c .before .before in let c4 = c2 .before .before in let c7 = c4 .before .before .before in
+    λ Q. leaf-passes Q (c4 .head .ensures .0) _ (c7 .args .o) (c2 .m .given .1) (c .pair-passes .ensures))
+    (λ c.
+    let c3 = c .before .before .before in let c6 = c3 .before .before .before in
+    λ Q. struct-passes Q (c3 .head .ensures .0) (c6 .args .l) _ (c6 .args .o) (c .from-null .ensures) (c .before .enum-told .given .1))
+    (λ c.
+    let c3 = c .before .before .before in let c6 = c3 .before .before .before in
+    λ Q. list-passes Q (c3 .head .ensures .0) (c6 .args .l) _ (c6 .args .o) (c .from-null2 .ensures) (c .before .enum-told2 .given .1))
+    (λ c.
+    let c3 = c .before .before .before in let c6 = c3 .before .before .before in
+    λ Q. array-passes Q (c3 .head .ensures .0) (c6 .args .l) _ (c6 .args .o) (c .from-null3 .ensures) (c .before .enum-told3 .given .1))
     (λ c. λ Q. never-headless Q (c .before .before .head .ensures .0) (c .enum-told4 .given .1)))

@@ -18,4 +18,6 @@ pair-passes-spec =
     (λ c. search needs)
     (λ c. search needs)
     (λ c κs. search needs)
-    (λ c. pair-spans (now (c .before .before .before .before .before .before .before .args .s)) (now (c .before .before .before .before .before .before .before .args .plan)) (c .before .before .before .before .before .before .before .args .l) (c .before .before .before .before .before .before .before .args .m) (c .before .before .before .before .before .before .before .args .o) (c .cast-passes .ensures)))
+    (λ c.
+    let c7 = c .before .before .before .before .before .before .before in
+    pair-spans (now (c7 .args .s)) (now (c7 .args .plan)) (c7 .args .l) (c7 .args .m) (c7 .args .o) (c .cast-passes .ensures)))

@@ -17,8 +17,16 @@ type-fits-spec =
     (λ c. search needs)
     (λ c. search needs)
     (λ c. search needs)
-    (λ c. λ T Q. leaf-type-fits T (c .before .before .before .before .head .ensures .0) (dtypeOf (Q .tree)) (c .before .before .before .before .before .before .before .args .o) (c .before .before .l .given .1) (c .leaf-fits .ensures Q))
-    (λ c. λ T Q. struct-never T (c .before .before .head .ensures .0) (dtypeOf (Q .tree)) (c .before .before .before .before .before .args .o) (c .enum-told .given .1))
-    (λ c. λ T Q. list-never T (c .before .before .head .ensures .0) (dtypeOf (Q .tree)) (c .before .before .before .before .before .args .o) (c .enum-told2 .given .1))
-    (λ c. λ T Q. array-never T (c .before .before .head .ensures .0) (dtypeOf (Q .tree)) (c .before .before .before .before .before .args .o) (c .enum-told3 .given .1))
+    (λ c.
+    let c2 = c .before .before in let c4 = c2 .before .before in let c7 = c4 .before .before .before in
+    λ T Q. leaf-type-fits T (c4 .head .ensures .0) (dtypeOf (Q .tree)) (c7 .args .o) (c2 .l .given .1) (c .leaf-fits .ensures Q))
+    (λ c.
+    let c2 = c .before .before in let c5 = c2 .before .before .before in
+    λ T Q. struct-never T (c2 .head .ensures .0) (dtypeOf (Q .tree)) (c5 .args .o) (c .enum-told .given .1))
+    (λ c.
+    let c2 = c .before .before in let c5 = c2 .before .before .before in
+    λ T Q. list-never T (c2 .head .ensures .0) (dtypeOf (Q .tree)) (c5 .args .o) (c .enum-told2 .given .1))
+    (λ c.
+    let c2 = c .before .before in let c5 = c2 .before .before .before in
+    λ T Q. array-never T (c2 .head .ensures .0) (dtypeOf (Q .tree)) (c5 .args .o) (c .enum-told3 .given .1))
     (λ c. λ T Q. never-headless T (c .before .before .head .ensures .0) (c .enum-told4 .given .1)))

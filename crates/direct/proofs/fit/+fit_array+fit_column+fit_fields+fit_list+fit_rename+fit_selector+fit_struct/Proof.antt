@@ -2,7 +2,8 @@
 -- The measure is 4 for each level left, and more for the functions that call at the same level. `Fitting` holds at the head of the loop.
 -- Assumes nothing.
 use Rattle.direct.proofs.Rows.{column-asks, column-fits, Fitting, fitting-none, fitting-all, fitting-asks, fitting-more}
-use Rattle.direct.proofs.Fitting.{unknown, none-given, fit-to, gives-to, rename-asks, rename-fits, struct-asks, struct-fits, list-asks, list-fits, array-asks, array-fits}
+use Rattle.direct.proofs.Fitting.{unknown, none-given, fit-to, gives-to, rename-asks, rename-fits, struct-asks, struct-fits, list-asks, list-fits}
+use Rattle.direct.proofs.Fitting.{array-asks, array-fits}
 use Rattle.direct.proofs.Opening.{both-structs, both-lists, both-arrays}
 use Rattle.direct.proofs.Scoping.{taken-at}
 use Rattle.walk.proofs.Heads.{is-constant, is-cast, is-rename, is-struct, is-list, is-array}

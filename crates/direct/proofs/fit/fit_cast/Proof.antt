@@ -13,7 +13,9 @@ fit-cast-spec =
     (λ c κs. c .before .before .before .before .pre .0 .scoped)
     (λ c. search needs)
     (λ c κs. search needs)
-    (λ c κs. let (A, C) = c .before .before .before .before .before .before .before .before .before .pre in (cast-type A C (c .skip-selector .ensures (C .input)), A .type))
+    (λ c κs.
+    let c9 = c .before .before .before .before .before .before .before .before .before in
+    let (A, C) = c9 .pre in (cast-type A C (c .skip-selector .ensures (C .input)), A .type))
     (λ c. search needs)
     (λ c κs. search needs)
     (λ c κs. search needs)
@@ -22,9 +24,13 @@ fit-cast-spec =
     (λ c κs. search needs)
     (λ c. search needs)
     (λ c. search needs)
-    (λ c. λ A C.
-    let K = taken-at (c .before .before .before .before .before .before .before .before .before .before .before .before .before .take-position .ensures (A .scoped) (C .input)) (c .before .before .before .before .before .before .before .before .before .before .before .name .given .1) in
-    let T = cast-type A C (c .before .before .before .before .before .before .before .before .before .skip-selector .ensures (C .input)) in
-    cast-fits A C K (c .before .before .before .before .before .before .before .before .same-type .ensures T (A .type)) (c .before .before .before .before .before .before .f .given .1) (c .before .before .before .before .cast-option .ensures T (C .option)) (c .before .before .before .type-fits .ensures (K .type) T) (not-false _ (c .before .before .if1 .left)) (c .before .skip-selector2 .ensures (A .selector)) (c .named .ensures))
+    (λ c.
+    let c2 = c .before .before in let c3 = c2 .before in let c4 = c3 .before in let c6 = c4 .before .before in let c8 = c6 .before .before in let c9
+    = c8 .before in let c11 = c9 .before .before in let c13 = c11 .before .before in
+    λ A C.
+    let K = taken-at (c13 .take-position .ensures (A .scoped) (C .input)) (c11 .name .given .1) in
+    let T = cast-type A C (c9 .skip-selector .ensures (C .input)) in
+    cast-fits A C K (c8 .same-type .ensures T (A .type)) (c6 .f .given .1) (c4 .cast-option .ensures T (C .option)) (c3 .type-fits .ensures (K .type) T)
+    (not-false _ (c2 .if1 .left)) (c .before .skip-selector2 .ensures (A .selector)) (c .named .ensures))
     (λ c. search needs)
     (λ c. search needs))

@@ -11,14 +11,18 @@ fit-position-spec =
     (tie.spec
     (λ c κs. search needs)
     (λ c. search needs)
-    (λ c κs. let A = c .before .before .before .before .before .before .before .before .pre in (taken-at (c .before .before .before .take-position .ensures (A .scoped) (A .selector)) (c .before .name .given .1) .type, A .type))
+    (λ c κs.
+    let c3 = c .before .before .before in let c8 = c3 .before .before .before .before .before in
+    let A = c8 .pre in (taken-at (c3 .take-position .ensures (A .scoped) (A .selector)) (c .before .name .given .1) .type, A .type))
     (λ c. search needs)
     (λ c κs. search needs)
     (λ c κs. search needs)
     (λ c. search needs)
     (λ c. search needs)
-    (λ c. λ A.
-    let K = taken-at (c .before .before .before .before .before .before .before .before .before .take-position .ensures (A .scoped) (A .selector)) (c .before .before .before .before .before .before .before .name .given .1) in
-    position-fits A K (c .before .before .before .before .before .same-type .ensures (K .type) (A .type)) (c .before .before .before .f .given .1) (c .before .skip-selector .ensures (A .selector)) (c .named .ensures))
+    (λ c.
+    let c3 = c .before .before .before in let c5 = c3 .before .before in let c7 = c5 .before .before in let c9 = c7 .before .before in
+    λ A.
+    let K = taken-at (c9 .take-position .ensures (A .scoped) (A .selector)) (c7 .name .given .1) in
+    position-fits A K (c5 .same-type .ensures (K .type) (A .type)) (c3 .f .given .1) (c .before .skip-selector .ensures (A .selector)) (c .named .ensures))
     (λ c. search needs)
     (λ c. search needs))

@@ -20,10 +20,16 @@ both-inside-spec =
     (λ c κs. search needs)
     (λ c. search needs)
     (λ c. search needs)
-    (λ c. λ T Q. structs-in (c .before .before .before .before .before .before .before .inside-of .ensures T) (c .before .before .before .inside-of2 .ensures Q) (c .before .before .before .before .before .n .given .1) (c .before .m .given .1))
+    (λ c.
+    let c3 = c .before .before .before in let c5 = c3 .before .before in let c7 = c5 .before .before in
+    λ T Q. structs-in (c7 .inside-of .ensures T) (c3 .inside-of2 .ensures Q) (c5 .n .given .1) (c .before .m .given .1))
     (λ c. search needs)
-    (λ c. λ T Q. lists-in (c .before .before .before .before .before .before .before .inside-of .ensures T) (c .before .before .before .inside-of3 .ensures Q) (c .before .before .before .before .before .x .given .1) (c .before .y .given .1))
+    (λ c.
+    let c3 = c .before .before .before in let c5 = c3 .before .before in let c7 = c5 .before .before in
+    λ T Q. lists-in (c7 .inside-of .ensures T) (c3 .inside-of3 .ensures Q) (c5 .x .given .1) (c .before .y .given .1))
     (λ c. search needs)
-    (λ c. λ T Q. arrays-in (c .before .before .before .before .before .before .before .before .inside-of .ensures T) (c .before .before .before .before .inside-of4 .ensures Q) (c .before .before .before .before .before .before .w .given .1) (c .before .before .u .given .1) (c .if1 .taken))
+    (λ c.
+    let c2 = c .before .before in let c4 = c2 .before .before in let c6 = c4 .before .before in let c8 = c6 .before .before in
+    λ T Q. arrays-in (c8 .inside-of .ensures T) (c4 .inside-of4 .ensures Q) (c6 .w .given .1) (c2 .u .given .1) (c .if1 .taken))
     (λ c. search needs)
     (λ c. search needs))

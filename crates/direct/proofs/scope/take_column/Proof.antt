@@ -13,5 +13,10 @@ take-column-spec =
     (λ c κs. search needs)
     (λ c. search needs)
     (λ c κs. search needs)
-    (λ c. λ X. let T = scope-columns X (c .before .before .before .scope .given .1) in column-taken T (c .before .before .before .before .before .before .before .args .k) _ (c .before .indexed-column .ensures (T .columns)) (c .taken-from .ensures))
-    (λ c. λ X. let T = scope-element X (c .before .before .scope2 .given .1) in in-element T (c .before .before .before .before .before .before .args .k) (c .take-element .ensures (T .type))))
+    (λ c.
+    let c3 = c .before .before .before in let c7 = c3 .before .before .before .before in
+    λ X. let T = scope-columns X (c3 .scope .given .1) in column-taken T (c7 .args .k) _ (c .before .indexed-column .ensures (T .columns))
+    (c .taken-from .ensures))
+    (λ c.
+    let c2 = c .before .before in let c6 = c2 .before .before .before .before in
+    λ X. let T = scope-element X (c2 .scope2 .given .1) in in-element T (c6 .args .k) (c .take-element .ensures (T .type))))

@@ -2,7 +2,7 @@
 -- head of the loop. Assumes nothing.
 use Rattle.ends.proofs.Skipping.{Skipping, skipping-none, skipping-all, skipping-first, skipping-unlabelled, skipping-more}
 use Rattle.ends.proofs.Entries.{end-of, found-is}
-use Rattle.ends.specs.Ends.{Ends}
+use Rattle.ends.specs.code.Ends.{Ends}
 use Rattle.layout.proofs.View.{deep, leaf-at, struct-at, list-at, array-at, list-labelled, array-labelled, never-headless}
 use native.Mathlib.Omega.{arith}
 use lib.ListN.{length}

@@ -16,6 +16,8 @@ plain-end-spec =
     (λ c. search needs)
     (λ c. search needs)
     (λ c. search needs)
-    (λ c. λ v d P. end-of P (plain-at P (c .before .before .before .before .before .before .byte .ensures) (c .before .before .before .before .code .given .1) (sym (c .before .before .plain-leaf .ensures) ∙ c .enum-told .given .1) .1))
+    (λ c.
+    let c2 = c .before .before in let c4 = c2 .before .before in let c6 = c4 .before .before in
+    λ v d P. end-of P (plain-at P (c6 .byte .ensures) (c4 .code .given .1) (sym (c2 .plain-leaf .ensures) ∙ c .enum-told .given .1) .1))
     (λ c. search needs)
     (λ c. search needs))

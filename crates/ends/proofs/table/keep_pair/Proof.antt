@@ -1,6 +1,6 @@
 -- `ends::table::keep_pair` meets its contract: one pair more that is true. Assumes nothing.
 use lib.ListN.{length, set, length-set}
-use Rattle.ends.specs.Ends.{Ends}
+use Rattle.ends.specs.code.Ends.{Ends}
 use Prim.Native.Nat.{ℕ, _%_, _<_, _≤_, _-_}
 use mathlib.Core.List.{List}
 use mathlib.Core.Path.{subst, refl, sym, ap, _∙_, _≡_}
@@ -41,7 +41,8 @@ keep-pair-spec =
     let L = c .before .before .before .loop in
     let i = L .j - 1 in
     let kept : List ℕ → List ℕ = λ u. set (set u i (a .args .d)) (L .j) (a .args .n) in (
-      (λ v s T E. subst (λ (u : List ℕ). Ends v s (kept u)) (sym (L .inv .0)) (ends-pair T i (L .j) _ _ (omega arith) (a .pre .0) E (omega arith) (omega arith))),
+      (λ v s T E. subst (λ (u : List ℕ). Ends v s (kept u)) (sym (L .inv .0)) (ends-pair T i (L .j) _ _ (omega arith) (a .pre .0) E (omega arith)
+          (omega arith))),
       length-set (set (L .ends) i (a .args .d)) (L .j) (a .args .n) ∙ length-set (L .ends) i (a .args .d) ∙ ap (λ (u : List ℕ). length u) (L .inv .0),
     ))
     (λ c. search needs)

@@ -29,7 +29,15 @@ pair-length-spec =
     (λ c. search needs)
     (λ c. search needs)
     (λ c κs. search needs)
-    (λ c. (λ v s T. found-pair T (c .before .before .before .before .before .before .before .before .before .pre) (omega arith) (omega arith) (omega arith) (sym (c .before .wide2 .ensures) ∙ c .if2 .taken) (c .before .before .before .before .wide .ensures), omega (arith, c .before .before .before .before .before .shared-slice-known2 .given (c .before .before .before .before .before .before .before .loop .j))))
+    (λ c. (
+      λ v s T. found-pair T (c .before .before .before .before .before .before .before .before .before .pre) (omega arith) (omega arith)
+          (omega arith) (sym (c .before .wide2 .ensures) ∙ c .if2 .taken) (c .before .before .before .before .wide .ensures),
+      omega (
+        arith,
+        c .before .before .before .before .before .shared-slice-known2 .given
+            (c .before .before .before .before .before .before .before .loop .j),
+      ),
+    ))
     (λ c. search needs)
     (λ c. search needs)
     (λ c. search needs)

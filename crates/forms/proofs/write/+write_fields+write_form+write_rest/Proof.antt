@@ -3,7 +3,8 @@
 use Rattle.layout.specs.declared.cursor.Cursor.{Cursor}
 use lib.ListN.{length}
 use mathlib.Core.Path.{refl, sym, ap, _∙_}
-use Rattle.forms.proofs.Writing.{Writing, writing-none, writing-all, writing-more, column, column-name, unlabelled, extent, form-written, rest-leaf, rest-struct, rest-list, rest-array, none-stored, rest-room, element-room, wrote, stored}
+use Rattle.forms.proofs.Writing.{Writing, writing-none, writing-all, writing-more, column, column-name, unlabelled, extent, form-written, rest-leaf}
+use Rattle.forms.proofs.Writing.{rest-struct, rest-list, rest-array, none-stored, rest-room, element-room, wrote, stored}
 use Rattle.forms.proofs.Heads.{head-at, form-long, end-struct, end-list, end-array}
 use Rattle.layout.proofs.View.{deep, struct-at, list-at, array-at, list-labelled, array-labelled, never-headless}
 use borrow.Author.Needs.{needs}

@@ -71,7 +71,12 @@ index-row-spec =
     ))
     (λ c.
     let c4 = c .before .before .before .before in
-    omega (arith, c4 .if2 .left, c4 .before .before .before .before .before .before .before .before .before .before .before .before .before .before .good .1 .1 .0))
+    omega (
+      arith,
+      c4 .if2 .left,
+      c4 .before .before .before .before .before .before .before .before .before .before .before .before .before .before
+          .good .1 .1 .0,
+    ))
     (λ c.
     let c7 = c .before .before .before .before .before .before .before in let c8 = c7 .before in
     let h = c8 .storable .ensures (c7 .if1 .taken) in omega (arith, h .0))

@@ -1,7 +1,7 @@
 -- `infer::compose::compose_type` meets its contract. The measure is the levels left. Assumes nothing.
 use native.Mathlib.Omega.{arith}
 use Rattle.infer.proofs.Composing.{input-at, inferred-to, unsettled, input-typed}
-use Rattle.infer.proofs.Standing.{standing}
+use Rattle.infer.proofs.FormsAt.{standing}
 use borrow.Author.Needs.{needs}
 use Prim.Native.Nat.{ℕ, _<_}
 use borrow.Fn.Kinds.{In}
@@ -72,10 +72,22 @@ pub +compose-type-spec : {M : Type 1} → statement M
     ))
     (λ c. search needs)
     (λ c κs.
-    let (a, b, d, e) = c .before .before .before .before .before .before .before .before .before .before .before .before .before .before .before .before .before .before .before .before .before .pre .1 .1 .1 in
-    let I = input-at (c .before .before .before .before .before .before .before .before .before .before .before .before .before .before .input-of .ensures (c .before .before .before .before .before .before .before .before .before .before .before .before .before .before .before .before .before .before .before .before .before .pre .1 .1 .0)) (c .before .before .before .before .before .before .before .before .before .before .before .before .input .given .1) in
-    let W = inferred-to (c .before .before .before .before .before .before .before .before .compose-type .ensures (c .before .before .before .before .before .before .before .before .before .before .before .before .before .before .before .before .before .before .before .before .before .pre .1 .0) (I .input) .1) (c .before .before .enum-told2 .given .1) in
-    (standing (W .writes), (c .before .before .before .before .before .before .before .before .before .before .before .before .before .before .before .before .before .before .before .before .before .pre .1 .1 .0, (omega arith, b, omega arith, omega arith, omega arith))))
+    let (a, b, d, e) = c .before .before .before .before .before .before .before .before .before .before .before .before .before .before .before
+    .before .before .before .before .before .before .pre .1 .1 .1 in
+    let I = input-at (c .before .before .before .before .before .before .before .before .before .before .before .before .before .before .input-of
+    .ensures (c .before .before .before .before .before .before .before .before .before .before .before .before .before .before .before .before
+    .before .before .before .before .before .pre .1 .1 .0))
+    (c .before .before .before .before .before .before .before .before .before .before .before .before .input .given .1) in
+    let W = inferred-to (c .before .before .before .before .before .before .before .before .compose-type .ensures
+    (c .before .before .before .before .before .before .before .before .before .before .before .before .before .before .before .before .before
+    .before .before .before .before .pre .1 .0) (I .input) .1) (c .before .before .enum-told2 .given .1) in (
+      standing (W .writes),
+      (
+        c .before .before .before .before .before .before .before .before .before .before .before .before .before .before .before
+            .before .before .before .before .before .before .pre .1 .1 .0,
+        (omega arith, b, omega arith, omega arith, omega arith),
+      ),
+    ))
     (λ c. search needs)
     (λ c. search needs)
     (λ c. λ X P. (_, c .before .before .infer-leaf .ensures X P))

@@ -17,4 +17,14 @@ copy-nested-spec =
     (λ c. search needs)
     (λ c κs. search needs)
     (λ c. search needs)
-    (λ c. λ T. copied T (λ i. omega (arith, c .before .before .before .before .before .before .before .before .before .before .before .before .shared-slice-known .given i)) (c .before .before .before .before .before .before .before .before .before .before .before .before .before .args .depth) (now (c .before .before .before .before .before .before .before .before .before .before .before .before .before .args .out)) (c .before .before .before .before .before .before .before .before .before .before .before .before .before .args .k) (c .before .before .before .before .before .before .before .before .before .before .form-size .ensures T) (omega (arith, c .before .before .before .before .before .before .before .before .if1 .left)) (omega (arith, c .before .before .before .before .before .before .if2 .left)) (omega (arith, c .before .before .before .before .if3 .left)) (c .before .before .write-form .ensures .1 T)))
+    (λ c. λ T. copied T (λ i. omega (
+      arith,
+      c .before .before .before .before .before .before .before .before .before .before .before .before
+          .shared-slice-known .given i,
+    )) (c .before .before .before .before .before .before .before .before .before .before .before .before .before .args
+    .depth) (now (c .before .before .before .before .before .before .before .before .before .before .before .before .before .args .out))
+    (c .before .before .before .before .before .before .before .before .before .before .before .before .before .args .k)
+    (c .before .before .before .before .before .before .before .before .before .before .form-size .ensures T)
+    (omega (arith, c .before .before .before .before .before .before .before .before .if1 .left))
+    (omega (arith, c .before .before .before .before .before .before .if2 .left)) (omega (arith, c .before .before .before .before .if3 .left))
+    (c .before .before .write-form .ensures .1 T)))

@@ -7,7 +7,9 @@ use borrow.Author.Tests.{not-false}
 use Rattle.walk.proofs.View.{selector-moved}
 use Rattle.walk.proofs.Heads.{is-cast, is-rename, is-struct, is-list, is-array}
 use Rattle.direct.proofs.Scoping.{taken-at}
-use Rattle.infer.proofs.Transforms.{inferred-short, fields-short, depth-as, input-at, named-to, in-struct, in-list, in-array, array-width, cast-from, rename-from, struct-from, list-from, array-from, rename-infers, list-infers, array-infers, struct-infers, list-scope, array-scope, struct-scope, struct-selectors, unrenamed-infers, input-takes, column-infers}
+use Rattle.infer.proofs.Transforms.{inferred-short, fields-short, depth-as, input-at, named-to, in-struct, in-list, in-array, array-width, cast-from}
+use Rattle.infer.proofs.Transforms.{rename-from, struct-from, list-from, array-from, rename-infers, list-infers, array-infers, struct-infers, list-scope}
+use Rattle.infer.proofs.Transforms.{array-scope, struct-scope, struct-selectors, unrenamed-infers, input-takes, column-infers}
 use Rattle.infer.proofs.Behind.{same-size, list-left, array-left, struct-left, name-left}
 use borrow.Author.Needs.{needs}
 use native.Mathlib.Omega.{arith}

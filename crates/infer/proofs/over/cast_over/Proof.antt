@@ -13,6 +13,12 @@ cast-over-spec =
     (λ c κs. search needs)
     (λ c κs. search needs)
     (λ c. search needs)
-    (λ c κs. let (T, ((a, P, S), L)) = c .before .before .before .before .before .before .before .before .pre in (cast-type S (c .before .before .before .before .skip-selector .ensures (S .input)), (L .1, L .2, L .3)))
+    (λ c κs.
+    let c4 = c .before .before .before .before in let c8 = c4 .before .before .before .before in
+    let (T, ((a, P, S), L)) = c8 .pre in (cast-type S (c4 .skip-selector .ensures (S .input)), (L .1, L .2, L .3)))
     (λ c. search needs)
-    (λ c. λ T a P S Γ n e. let Q = cast-type S (c .before .before .before .before .before .before .before .skip-selector .ensures (S .input)) in cast-infers T Γ S e (c .before .before .before .before .before .before .cast-option .ensures Q (S .option)) (c .before .before .before .before .before .type-fits .ensures T Q) (not-false _ (c .before .before .before .before .if1 .left)) (c .before .before .copy-type .ensures Q) (c .before .before .before .before .before .before .before .before .before .before .before .pre .1 .1 .4)))
+    (λ c.
+    let c2 = c .before .before in let c4 = c2 .before .before in let c5 = c4 .before in let c6 = c5 .before in let c7 = c6 .before in let c11 =
+    c7 .before .before .before .before in
+    λ T a P S Γ n e. let Q = cast-type S (c7 .skip-selector .ensures (S .input)) in cast-infers T Γ S e (c6 .cast-option .ensures Q (S .option))
+    (c5 .type-fits .ensures T Q) (not-false _ (c4 .if1 .left)) (c2 .copy-type .ensures Q) (c11 .pre .1 .1 .4)))

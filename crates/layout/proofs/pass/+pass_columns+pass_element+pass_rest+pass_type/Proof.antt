@@ -3,7 +3,8 @@
 use borrow.Author.Needs.{needs}
 use Prim.Native.Nat.{ℕ, _<_, _+_, _-_, _*_}
 use native.Mathlib.Omega.{arith}
-use Rattle.layout.proofs.Passing.{Passing, passing-none, passing-all, passing-no-label, passing-no-type, passing-more, not-plain, type-passed, rest-passed, element-passed}
+use Rattle.layout.proofs.Passing.{Passing, passing-none, passing-all, passing-no-label, passing-no-type, passing-more, not-plain, type-passed}
+use Rattle.layout.proofs.Passing.{rest-passed, element-passed}
 use borrow.Fn.Kinds.{In}
 use borrow.Fn.PlainCycle.{Measures, is, falls, and}
 use Rattle.layout.proofs.pass.pass_columns.Reads as pass-columns

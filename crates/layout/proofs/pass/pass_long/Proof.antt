@@ -5,4 +5,5 @@ use Rattle.layout.proofs.pass.pass_long.Statement.{statement}
 use Rattle.layout.proofs.pass.pass_long.Tie as tie
 
 pub pass-long-spec : {M : Type 1} → statement M
-pass-long-spec = tie.close (tie.spec (λ c. search (long-in, long-past, long-short)) (λ c. search needs) (λ c. search needs) (λ c. search (long-in, long-past, long-short)) (λ c. search (long-in, long-past, long-short)))
+pass-long-spec = tie.close (tie.spec (λ c. search (long-in, long-past, long-short)) (λ c. search needs) (λ c. search needs)
+    (λ c. search (long-in, long-past, long-short)) (λ c. search (long-in, long-past, long-short)))

@@ -1,9 +1,10 @@
 -- `layout::read::repeats` meets its contract: the loop keeps `Scanning`. Assumes nothing.
 use Prim.Native.Nat.{_-_}
 use native.Mathlib.Omega.{arith}
-use Rattle.layout.specs.Answers.{labelAt}
+use Rattle.layout.specs.code.Answers.{labelAt}
 use Rattle.layout.proofs.Ways.{label-in}
-use Rattle.layout.proofs.Reading.{Scanning, scanning-none, scanning-all, scanning-no-label, scanning-found, scanning-no-type, scanning-more, scanning-free}
+use Rattle.layout.proofs.Reading.{Scanning, scanning-none, scanning-all, scanning-no-label, scanning-found, scanning-no-type, scanning-more}
+use Rattle.layout.proofs.Reading.{scanning-free}
 use borrow.Author.Needs.{needs}
 use Rattle.layout.proofs.read.repeats.Statement.{statement}
 use Rattle.layout.proofs.read.repeats.Tie as tie

@@ -2,7 +2,7 @@
 use mathlib.Core.Path.{refl}
 use native.Mathlib.Omega.{arith}
 use Prim.Native.Nat.{_-_}
-use Rattle.layout.specs.Answers.{labelAt}
+use Rattle.layout.specs.code.Answers.{labelAt}
 use Rattle.layout.proofs.Noting.{Searching, searching-none, searched-none, searching-full, searching-empty, searching-met, searching-more}
 use Rattle.layout.proofs.Noting.{searched-first}
 use borrow.Author.Needs.{needs}

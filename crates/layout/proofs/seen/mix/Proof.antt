@@ -1,7 +1,7 @@
 -- `layout::seen::mix` meets its contract. Assumes nothing.
 use borrow.Author.Needs.{needs}
 use mathlib.Core.Path.{refl}
-use Rattle.layout.specs.Seen.{mixed}
+use Rattle.layout.specs.code.Seen.{mixed}
 use Rattle.layout.proofs.seen.mix.Statement.{statement}
 use Rattle.layout.proofs.seen.mix.Tie as tie
 

@@ -5,22 +5,27 @@ use borrow.Rule.Slice.PartMut.{take-put, same-len-mid}
 use lib.Seq.{length-take-le}
 use lib.ListN.{length, take}
 use native.Mathlib.Omega.{arith}
-use Rattle.matcher.proofs.Remaining.{Remaining, remaining-all, remaining-none, remaining-unlabelled, field, field-name, field-after, remaining-stop, remaining-room, remaining-more}
+use Rattle.matcher.proofs.Remaining.{Remaining, remaining-all, remaining-none, remaining-unlabelled, field, field-name, field-after, remaining-stop}
+use Rattle.matcher.proofs.Remaining.{remaining-room, remaining-more}
 use denote.Ref.{now}
 use mathlib.Core.Path.{_≡_, refl, sym, ap, _∙_}
 use Rattle.builder.proofs.Names.{not-false}
-use Rattle.layout.specs.Answers.{headRes, labelAt}
+use Rattle.layout.specs.code.Answers.{headRes, labelAt}
 use Rattle.layout.proofs.Ways.{clash, head-in}
 use Rattle.layout.proofs.View.{deep, leaf-at, never-headless}
 use Rattle.forms.proofs.Writing.{extent, text-long}
 use Rattle.plan.specs.Selector.{position, listMapping, arrayMapping}
 use Rattle.matching.specs.Build.{structPart, listPart, arrayPart, listSelector, arraySelector}
 use Rattle.layout.specs.Find.{counterpart}
-use Rattle.builder.specs.Answers.{elementOf, defaultsAt}
+use Rattle.builder.specs.code.Answers.{elementOf, defaultsAt}
 use Rattle.builder.proofs.Matching.{leaf-none, makes-refused, makes-as}
 use Rattle.builder.proofs.Rows.{makes-room, list-maps, array-maps}
 use Rattle.builder.proofs.Taking.{part-struct, part-no-struct, part-list, part-array, part-no-element, part-inner, part-no-inner, found-here, found-absent}
-use Rattle.matcher.proofs.Cycle.{makes-to, required-unkept, nested-is, nested-null, nested-other, nested-struct, nested-inner, struct-other, struct-faulted, struct-stops, struct-left-out, struct-kept, row-room, count-at, columns-within, rename-on, renamed-plain, renamed-stopped, renamed-made, none-at, none-is, element-unlike, element-stopped, element-left-out, element-kept, element-names, inner-list, inner-list-other, inner-array, inner-array-other, inner-none, sought-at, sought-absent}
+use Rattle.matcher.proofs.Cycle.{makes-to, required-unkept, nested-is, nested-null, nested-other, nested-struct, nested-inner, struct-other}
+use Rattle.matcher.proofs.Cycle.{struct-faulted, struct-stops, struct-left-out, struct-kept, row-room, count-at, columns-within, rename-on}
+use Rattle.matcher.proofs.Cycle.{renamed-plain, renamed-stopped, renamed-made, none-at, none-is, element-unlike, element-stopped, element-left-out}
+use Rattle.matcher.proofs.Cycle.{element-kept, element-names, inner-list, inner-list-other, inner-array, inner-array-other, inner-none, sought-at}
+use Rattle.matcher.proofs.Cycle.{sought-absent}
 use mathlib.Core.Bool.{Bool, _&&_}
 use borrow.Author.Needs.{needs}
 use Prim.Native.Nat.{ℕ, _<_, _+_, _-_, _*_}

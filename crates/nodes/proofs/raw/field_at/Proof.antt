@@ -15,6 +15,10 @@ field-at-spec =
     (λ c. search needs)
     (λ c. search needs)
     (λ c. search needs)
-    (λ c. λ X. field-found X (c .before .before .before .before .before .before .before .before .if1 .left) (c .before .before .before .before .before .before .before .read-fields .ensures) (c .before .before .before .before .before .t .given .1) (c .before .before .before .label .ensures .0) (c .before .e .given .1))
-    (λ c. λ X. field-unlabelled X (c .before .before .before .before .before .before .before .if1 .left) (c .before .before .before .before .before .before .read-fields .ensures) (c .before .before .before .before .t .given .1) (c .before .before .label .ensures .0) (c .enum-told .given .1))
+    (λ c.
+    let c3 = c .before .before .before in let c5 = c3 .before .before in let c7 = c5 .before .before in let c8 = c7 .before in
+    λ X. field-found X (c8 .if1 .left) (c7 .read-fields .ensures) (c5 .t .given .1) (c3 .label .ensures .0) (c .before .e .given .1))
+    (λ c.
+    let c2 = c .before .before in let c4 = c2 .before .before in let c6 = c4 .before .before in let c7 = c6 .before in
+    λ X. field-unlabelled X (c7 .if1 .left) (c6 .read-fields .ensures) (c4 .t .given .1) (c2 .label .ensures .0) (c .enum-told .given .1))
     (λ c. λ X. field-unread X (c .before .before .before .if1 .left) (c .before .before .read-fields .ensures) (c .enum-told2 .given .1)))

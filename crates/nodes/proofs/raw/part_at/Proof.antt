@@ -11,8 +11,12 @@ part-at-spec =
     (λ c κs. search needs)
     (λ c. search needs)
     (λ c. search needs)
-    (λ c κs. (raw-present (c .before .before .before .before .before .before .before .pre .0) (c .before .before .before .read-presence .ensures) (c .before .d .given .1) .inner, c .before .before .before .before .before .before .before .pre .1))
+    (λ c κs.
+    let c3 = c .before .before .before in let c7 = c3 .before .before .before .before in
+    (raw-present (c7 .pre .0) (c3 .read-presence .ensures) (c .before .d .given .1) .inner, c7 .pre .1))
     (λ c. search needs)
     (λ c. λ X. nowhere (raw-null X (c .before .before .read-presence .ensures) (c .enum-told .given .1) .part _))
-    (λ c. λ X. let I = raw-present X (c .before .before .before .before .read-presence .ensures) (c .before .before .d .given .1) in part-as (c .before .before .before .before .before .before .before .before .args .k) (I .is) (c .present-part .ensures (I .inner)))
+    (λ c.
+    let c2 = c .before .before in let c4 = c2 .before .before in let c8 = c4 .before .before .before .before in
+    λ X. let I = raw-present X (c4 .read-presence .ensures) (c2 .d .given .1) in part-as (c8 .args .k) (I .is) (c .present-part .ensures (I .inner)))
     (λ c. λ X. raw-unread X (c .before .before .read-presence .ensures) (c .enum-told2 .given .1)))

@@ -23,8 +23,12 @@ value-at-spec =
     (λ c κs. (c .before .loop .inv .goes (c .before .before .before .before .before .pre .0) .raw, c .before .before .before .before .before .pre .1 .1))
     (λ c. search needs)
     (λ c. search needs)
-    (λ c. going-nowhere (c .before .before .before .before .loop .inv) (c .before .before .before .loop-test .taken) (c .before .before .before .before .before .before .before .before .pre .1 .0 .1) (c .before .before .part-at .ensures) (c .enum-told .given .1))
+    (λ c.
+    let c2 = c .before .before in let c3 = c2 .before in let c4 = c3 .before in let c8 = c4 .before .before .before .before in
+    going-nowhere (c4 .loop .inv) (c3 .loop-test .taken) (c8 .pre .1 .0 .1) (c2 .part-at .ensures) (c .enum-told .given .1))
     (λ c. search needs)
     (λ c. search needs)
-    (λ c. going-more (c .before .before .before .before .before .loop .inv) (c .before .before .before .before .loop-test .taken) (c .before .before .before .before .before .before .before .before .before .pre .1 .0 .1) (c .before .before .before .part-at .ensures) (c .before .e .given .1))
+    (λ c.
+    let c3 = c .before .before .before in let c4 = c3 .before in let c5 = c4 .before in let c9 = c5 .before .before .before .before in
+    going-more (c5 .loop .inv) (c4 .loop-test .taken) (c9 .pre .1 .0 .1) (c3 .part-at .ensures) (c .before .e .given .1))
     (λ c. going-end (c .before .loop .inv) (c .loop-test .left)))

@@ -25,10 +25,22 @@ type-part-spec =
     (λ c. search needs)
     (λ c. search needs)
     (λ c. λ p u L. leads-leaf _ _ _ _ _ _ L (c .before .before .head .ensures .0) (c .enum-told .given .1))
-    (λ c. λ p u L. leads-field _ _ _ _ _ _ L (c .before .before .before .before .before .before .before .head .ensures .0) (c .before .before .before .before .before .n .given .1) (c .before .before .before .column-at .ensures) (c .before .e .given .1))
-    (λ c. λ p u L. leads-absent _ _ _ _ _ _ L (c .before .before .before .before .before .before .head .ensures .0) (c .before .before .before .before .n .given .1) (c .before .before .column-at .ensures) (c .enum-told2 .given .1))
-    (λ c. λ p u L. leads-list _ _ _ _ _ _ L (c .before .before .before .before .before .before .before .head .ensures .0) (c .before .before .before .element-label .ensures .0) (c .before .e2 .given .1) (c .before .before .before .before .before .d .given .1))
-    (λ c. λ p u L. list-labelled (L .type) (c .before .before .before .before .before .before .head .ensures .0) (c .before .before .element-label .ensures .0) (c .before .before .before .before .d .given .1) (c .enum-told3 .given .1))
-    (λ c. λ p u L. leads-array _ _ _ _ _ _ L (c .before .before .before .before .before .before .before .head .ensures .0) (c .before .before .before .element-label2 .ensures .0) (c .before .e3 .given .1) (c .before .before .before .before .before .d2 .given .1))
-    (λ c. λ p u L. array-labelled (L .type) (c .before .before .before .before .before .before .head .ensures .0) (c .before .before .element-label2 .ensures .0) (c .before .before .before .before .d2 .given .1) (c .enum-told4 .given .1))
+    (λ c.
+    let c3 = c .before .before .before in let c5 = c3 .before .before in let c7 = c5 .before .before in
+    λ p u L. leads-field _ _ _ _ _ _ L (c7 .head .ensures .0) (c5 .n .given .1) (c3 .column-at .ensures) (c .before .e .given .1))
+    (λ c.
+    let c2 = c .before .before in let c4 = c2 .before .before in let c6 = c4 .before .before in
+    λ p u L. leads-absent _ _ _ _ _ _ L (c6 .head .ensures .0) (c4 .n .given .1) (c2 .column-at .ensures) (c .enum-told2 .given .1))
+    (λ c.
+    let c3 = c .before .before .before in let c5 = c3 .before .before in let c7 = c5 .before .before in
+    λ p u L. leads-list _ _ _ _ _ _ L (c7 .head .ensures .0) (c3 .element-label .ensures .0) (c .before .e2 .given .1) (c5 .d .given .1))
+    (λ c.
+    let c2 = c .before .before in let c4 = c2 .before .before in let c6 = c4 .before .before in
+    λ p u L. list-labelled (L .type) (c6 .head .ensures .0) (c2 .element-label .ensures .0) (c4 .d .given .1) (c .enum-told3 .given .1))
+    (λ c.
+    let c3 = c .before .before .before in let c5 = c3 .before .before in let c7 = c5 .before .before in
+    λ p u L. leads-array _ _ _ _ _ _ L (c7 .head .ensures .0) (c3 .element-label2 .ensures .0) (c .before .e3 .given .1) (c5 .d2 .given .1))
+    (λ c.
+    let c2 = c .before .before in let c4 = c2 .before .before in let c6 = c4 .before .before in
+    λ p u L. array-labelled (L .type) (c6 .head .ensures .0) (c2 .element-label2 .ensures .0) (c4 .d2 .given .1) (c .enum-told4 .given .1))
     (λ c. λ p u L. never-headless (L .type) (c .before .before .head .ensures .0) (c .enum-told5 .given .1)))

@@ -19,7 +19,9 @@ column-filled-spec =
     (λ c. search needs)
     (λ c. search needs)
     (λ c. search needs)
-    (λ c. λ P. leaf-top P (c .before .before .before .before .head .ensures .0) _ (told _ (c .before .before .before .before .before .if1 .left)) (c .before .before .l .given .1) (c .kind .ensures))
+    (λ c.
+    let c2 = c .before .before in let c4 = c2 .before .before in let c5 = c4 .before in
+    λ P. leaf-top P (c4 .head .ensures .0) _ (told _ (c5 .if1 .left)) (c2 .l .given .1) (c .kind .ensures))
     (λ c. λ P. struct-top P (c .before .before .head .ensures .0) _ (told _ (c .before .before .before .if1 .left)) (c .enum-told .given .1))
     (λ c. λ P. list-top P (c .before .before .head .ensures .0) _ (told _ (c .before .before .before .if1 .left)) (c .enum-told2 .given .1))
     (λ c. λ P. array-top P (c .before .before .head .ensures .0) _ (told _ (c .before .before .before .if1 .left)) (c .enum-told3 .given .1))

@@ -27,10 +27,22 @@ part-mark-spec =
     (λ c. search needs)
     (λ c. search needs)
     (λ c. λ P. leaf-part P _ (c .before .before .head .ensures .0) (c .enum-told .given .1))
-    (λ c. λ P. field-part P _ (c .before .before .before .before .before .before .before .head .ensures .0) (c .before .before .before .before .before .n .given .1) (c .before .before .before .column-at .ensures) (c .before .l .given .1))
-    (λ c. λ P. absent-part P _ (c .before .before .before .before .before .before .head .ensures .0) (c .before .before .before .before .n .given .1) (c .before .before .column-at .ensures) (c .enum-told2 .given .1))
-    (λ c. λ P. list-part P _ (c .before .before .before .before .before .before .before .before .head .ensures .0) (c .before .before .before .before .element-label .ensures .0) (c .before .before .l2 .given .1) (c .element-mark .ensures) (c .before .before .before .before .before .before .d .given .1))
-    (λ c. λ P. list-labelled P (c .before .before .before .before .before .before .head .ensures .0) (c .before .before .element-label .ensures .0) (c .before .before .before .before .d .given .1) (c .enum-told3 .given .1))
-    (λ c. λ P. array-part P _ (c .before .before .before .before .before .before .before .before .head .ensures .0) (c .before .before .before .before .element-label2 .ensures .0) (c .before .before .l3 .given .1) (c .element-mark2 .ensures) (c .before .before .before .before .before .before .d2 .given .1))
-    (λ c. λ P. array-labelled P (c .before .before .before .before .before .before .head .ensures .0) (c .before .before .element-label2 .ensures .0) (c .before .before .before .before .d2 .given .1) (c .enum-told4 .given .1))
+    (λ c.
+    let c3 = c .before .before .before in let c5 = c3 .before .before in let c7 = c5 .before .before in
+    λ P. field-part P _ (c7 .head .ensures .0) (c5 .n .given .1) (c3 .column-at .ensures) (c .before .l .given .1))
+    (λ c.
+    let c2 = c .before .before in let c4 = c2 .before .before in let c6 = c4 .before .before in
+    λ P. absent-part P _ (c6 .head .ensures .0) (c4 .n .given .1) (c2 .column-at .ensures) (c .enum-told2 .given .1))
+    (λ c.
+    let c2 = c .before .before in let c4 = c2 .before .before in let c6 = c4 .before .before in let c8 = c6 .before .before in
+    λ P. list-part P _ (c8 .head .ensures .0) (c4 .element-label .ensures .0) (c2 .l2 .given .1) (c .element-mark .ensures) (c6 .d .given .1))
+    (λ c.
+    let c2 = c .before .before in let c4 = c2 .before .before in let c6 = c4 .before .before in
+    λ P. list-labelled P (c6 .head .ensures .0) (c2 .element-label .ensures .0) (c4 .d .given .1) (c .enum-told3 .given .1))
+    (λ c.
+    let c2 = c .before .before in let c4 = c2 .before .before in let c6 = c4 .before .before in let c8 = c6 .before .before in
+    λ P. array-part P _ (c8 .head .ensures .0) (c4 .element-label2 .ensures .0) (c2 .l3 .given .1) (c .element-mark2 .ensures) (c6 .d2 .given .1))
+    (λ c.
+    let c2 = c .before .before in let c4 = c2 .before .before in let c6 = c4 .before .before in
+    λ P. array-labelled P (c6 .head .ensures .0) (c2 .element-label2 .ensures .0) (c4 .d2 .given .1) (c .enum-told4 .given .1))
     (λ c. λ P. never-headless P (c .before .before .head .ensures .0) (c .enum-told5 .given .1)))

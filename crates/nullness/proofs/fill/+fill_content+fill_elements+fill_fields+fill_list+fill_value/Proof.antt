@@ -11,9 +11,10 @@ use Prim.Native.Nat.{ℕ, _<_, _+_, _-_, _*_}
 use native.Mathlib.Omega.{arith}
 use lib.ListN.{length}
 use mathlib.Core.Path.{_≡_, refl, _∙_}
-use Rattle.nullness.specs.Nulls.{Grown}
-use Rattle.nullness.proofs.Table.{grown-same, grown-then}
-use Rattle.nullness.proofs.Filling.{nulls-as, each-as, null-nulls, leaf-nulls, struct-nulls, list-nulls, array-nulls, Elements, elements-none, elements-all, elements-raw, elements-more, Row, row-none, row-all, row-raw, row-more}
+use Rattle.nullness.specs.code.Nulls.{Grown}
+use Rattle.nullness.proofs.NullsTable.{grown-same, grown-then}
+use Rattle.nullness.proofs.Filling.{nulls-as, each-as, null-nulls, leaf-nulls, struct-nulls, list-nulls, array-nulls, Elements, elements-none}
+use Rattle.nullness.proofs.Filling.{elements-all, elements-raw, elements-more, Row, row-none, row-all, row-raw, row-more}
 use borrow.Fn.Kinds.{In}
 use borrow.Fn.PlainCycle.{Measures, is, falls, and}
 use Rattle.nullness.proofs.fill.fill_content.Reads as fill-content
@@ -109,7 +110,18 @@ fill-value-below t =
     and 3 fill-value-kinds.ps (falls 3 fill-value-kinds.ps _<_ μ-fill-value t) fill-value.Pre
 
 abbrev fill-content-claims : ℕ → fill-content-lts.Claims
-fill-content-claims t = (head-reads.Asked, head-reads.Learnt, fill-fields-below t, fill-fields.Post, element-label-reads.Asked, element-label-reads.Learnt, fill-list-below t, fill-list.Post, fill-elements-below t, fill-elements.Post)
+fill-content-claims t = (
+  head-reads.Asked,
+  head-reads.Learnt,
+  fill-fields-below t,
+  fill-fields.Post,
+  element-label-reads.Asked,
+  element-label-reads.Learnt,
+  fill-list-below t,
+  fill-list.Post,
+  fill-elements-below t,
+  fill-elements.Post,
+)
 
 abbrev fill-elements-claims : ℕ → fill-elements-lts.Claims
 fill-elements-claims t = (fill-value-below t, fill-value.Post, read-element-reads.Asked, read-element-reads.Learnt)
@@ -121,16 +133,25 @@ abbrev fill-list-claims : ℕ → fill-list-lts.Claims
 fill-list-claims t = (short-reads.Asked, short-reads.Learnt, fill-elements-below t, fill-elements.Post)
 
 abbrev fill-value-claims : ℕ → fill-value-lts.Claims
-fill-value-claims t = (read-presence-reads.Asked, read-presence-reads.Learnt, keep-null-reads.Asked, keep-null-reads.Learnt, fill-content-below t, fill-content.Post)
+fill-value-claims t = (
+  read-presence-reads.Asked,
+  read-presence-reads.Learnt,
+  keep-null-reads.Asked,
+  keep-null-reads.Learnt,
+  fill-content-below t,
+  fill-content.Post,
+)
 
 abbrev fill-elements-Inv-loop : fill-elements-lts.InvT-loop
-fill-elements-Inv-loop plan depth n t ends nulls₀ d₀ i₀ nulls d i = Elements plan n (t .at) (d₀ .at) nulls i (d .at) × Grown nulls₀ nulls × (length nulls ≡ length nulls₀)
+fill-elements-Inv-loop plan depth n t ends nulls₀ d₀ i₀ nulls d i = Elements plan n (t .at) (d₀ .at) nulls i (d .at) × Grown nulls₀ nulls ×
+    (length nulls ≡ length nulls₀)
 
 abbrev fill-elements-μ-loop : fill-elements-lts.MeasureT-loop
 fill-elements-μ-loop plan depth n t ends nulls₀ d₀ i₀ nulls d i = n - i
 
 abbrev fill-fields-Inv-loop : fill-fields-lts.InvT-loop
-fill-fields-Inv-loop plan depth n ends nulls₀ d₀ b₀ i₀ nulls d b i = Row plan n (d₀ .at) (b₀ .at) nulls i (d .at) (b .at) × Grown nulls₀ nulls × (length nulls ≡ length nulls₀)
+fill-fields-Inv-loop plan depth n ends nulls₀ d₀ b₀ i₀ nulls d b i = Row plan n (d₀ .at) (b₀ .at) nulls i (d .at) (b .at) × Grown nulls₀ nulls ×
+    (length nulls ≡ length nulls₀)
 
 abbrev fill-fields-μ-loop : fill-fields-lts.MeasureT-loop
 fill-fields-μ-loop plan depth n ends nulls₀ d₀ b₀ i₀ nulls d b i = n - i
@@ -162,8 +183,14 @@ pub +fill-content+fill-elements+fill-fields+fill-list+fill-value-spec : {M : Typ
     let c4 = c2 .before .before in
     let c6 = c4 .before .before in
     let c8 = c6 .before .before in
-    let c12 = c8 .before .before .before .before in
-    (omega (arith, c12 .pre .0), (c12 .pre .1 .0, list-is (c12 .pre .1 .1) (c8 .head .ensures .0) (c4 .element-label .ensures .0) (c2 .f .given .1) (c6 .e .given .1) .inner)))
+    let c12 = c8 .before .before .before .before in (
+      omega (arith, c12 .pre .0),
+      (
+        c12 .pre .1 .0,
+        list-is (c12 .pre .1 .1) (c8 .head .ensures .0) (c4 .element-label .ensures .0) (c2 .f .given .1)
+            (c6 .e .given .1) .inner,
+      ),
+    ))
     (λ c. search needs)
     (λ c. search needs)
     (λ c κs. search needs)
@@ -173,8 +200,14 @@ pub +fill-content+fill-elements+fill-fields+fill-list+fill-value-spec : {M : Typ
     let c4 = c2 .before .before in
     let c6 = c4 .before .before in
     let c8 = c6 .before .before in
-    let c12 = c8 .before .before .before .before in
-    (omega (arith, c12 .pre .0), (c12 .pre .1 .0, array-value (c12 .pre .1 .1) (c8 .head .ensures .0) (c4 .element-label2 .ensures .0) (c2 .f2 .given .1) (c6 .w .given .1) .elements)))
+    let c12 = c8 .before .before .before .before in (
+      omega (arith, c12 .pre .0),
+      (
+        c12 .pre .1 .0,
+        array-value (c12 .pre .1 .1) (c8 .head .ensures .0) (c4 .element-label2 .ensures .0)
+            (c2 .f2 .given .1) (c6 .w .given .1) .elements,
+      ),
+    ))
     (λ c. search needs)
     (λ c. search needs)
     (λ c. (grown-same _, λ e X. leaf-nulls (leaf-value X (c .before .before .head .ensures .0) (c .enum-told .given .1))))
@@ -182,23 +215,32 @@ pub +fill-content+fill-elements+fill-fields+fill-list+fill-value-spec : {M : Typ
     (λ c.
     let c2 = c .before .before in
     let c5 = c2 .before .before .before in
-    let c7 = c5 .before .before in
-    (c2 .fill-fields .ensures .0, λ e X. let S = struct-value X (c7 .head .ensures .0) (c5 .n .given .1) in struct-nulls (c7 .head .ensures .0) (c5 .n .given .1) (S .is) (c2 .fill-fields .ensures .1 e (S .row))))
+    let c7 = c5 .before .before in (
+      c2 .fill-fields .ensures .0,
+      λ e X. let S = struct-value X (c7 .head .ensures .0) (c5 .n .given .1) in struct-nulls (c7 .head .ensures .0)
+          (c5 .n .given .1) (S .is) (c2 .fill-fields .ensures .1 e (S .row)),
+    ))
     (λ c. search needs)
-    (λ c. (
-      c .before .before .fill-list .ensures .0,
+    (λ c.
+    let c2 = c .before .before in let c5 = c2 .before .before .before in let c7 = c5 .before .before in let c9 = c7 .before .before in let c11 =
+    c9 .before .before in (
+      c2 .fill-list .ensures .0,
       λ e X.
-          let L = list-is X (c .before .before .before .before .before .before .before .before .before .before .before .head .ensures .0) (c .before .before .before .before .before .before .before .element-label .ensures .0) (c .before .before .before .before .before .f .given .1) (c .before .before .before .before .before .before .before .before .before .e .given .1) in
-          let A = a-list X (c .before .before .before .before .before .before .before .before .before .before .before .head .ensures .0) (c .before .before .before .before .before .before .before .before .before .e .given .1) in
-          list-nulls (c .before .before .before .before .before .before .before .before .before .before .before .head .ensures .0) (c .before .before .before .before .before .before .before .element-label .ensures .0) (c .before .before .before .before .before .f .given .1) (c .before .before .fill-list .ensures .1 e (L .inner) (A .values) (L .is ∙ A .is)) (c .before .before .before .before .before .before .before .before .before .e .given .1) (A .is),
+          let L = list-is X (c11 .head .ensures .0) (c7 .element-label .ensures .0) (c5 .f .given .1) (c9 .e .given .1) in
+          let A = a-list X (c11 .head .ensures .0) (c9 .e .given .1) in
+          list-nulls (c11 .head .ensures .0) (c7 .element-label .ensures .0) (c5 .f .given .1)
+          (c2 .fill-list .ensures .1 e (L .inner) (A .values) (L .is ∙ A .is)) (c9 .e .given .1) (A .is),
     ))
     (λ c. (grown-same _, λ e. clash (cc)))
     (λ c. search needs)
-    (λ c. (
-      c .before .before .fill-elements .ensures .0,
+    (λ c.
+    let c2 = c .before .before in let c5 = c2 .before .before .before in let c7 = c5 .before .before in let c9 = c7 .before .before in let c11 =
+    c9 .before .before in (
+      c2 .fill-elements .ensures .0,
       λ e X.
-          let A = array-value X (c .before .before .before .before .before .before .before .before .before .before .before .head .ensures .0) (c .before .before .before .before .before .before .before .element-label2 .ensures .0) (c .before .before .before .before .before .f2 .given .1) (c .before .before .before .before .before .before .before .before .before .w .given .1) in
-          array-nulls (c .before .before .before .before .before .before .before .before .before .before .before .head .ensures .0) (c .before .before .before .before .before .before .before .element-label2 .ensures .0) (c .before .before .before .before .before .f2 .given .1) (c .before .before .fill-elements .ensures .1 e (A .elements)) (c .before .before .before .before .before .before .before .before .before .w .given .1) (A .is),
+          let A = array-value X (c11 .head .ensures .0) (c7 .element-label2 .ensures .0) (c5 .f2 .given .1) (c9 .w .given .1) in
+          array-nulls (c11 .head .ensures .0) (c7 .element-label2 .ensures .0) (c5 .f2 .given .1) (c2 .fill-elements .ensures .1 e (A .elements))
+          (c9 .w .given .1) (A .is),
     ))
     (λ c. (grown-same _, λ e. clash (cc)))
     (λ c. (grown-same _, λ e. clash (cc))))
@@ -231,8 +273,12 @@ pub +fill-content+fill-elements+fill-fields+fill-list+fill-value-spec : {M : Typ
     let c4 = c3 .before in
     let c7 = c4 .before .before .before in
     let c9 = c7 .before .before in
-    let c10 = c9 .before in
-    (elements-more (c10 .loop .inv .0) (c9 .loop-test .taken) (c7 .fill-value .ensures .0) (c7 .fill-value .ensures .1 (told _ (c4 .if1 .left))) (c3 .read-element .ensures) (c .before .e .given .1), grown-then (c10 .loop .inv .1) (c7 .fill-value .ensures .0), c7 .fill-value .kept .1 .1 .1 .1 .1 .0 ∙ c10 .loop .inv .2))
+    let c10 = c9 .before in (
+      elements-more (c10 .loop .inv .0) (c9 .loop-test .taken) (c7 .fill-value .ensures .0) (c7 .fill-value .ensures .1 (told _ (c4 .if1 .left)))
+          (c3 .read-element .ensures) (c .before .e .given .1),
+      grown-then (c10 .loop .inv .1) (c7 .fill-value .ensures .0),
+      c7 .fill-value .kept .1 .1 .1 .1 .1 .0 ∙ c10 .loop .inv .2,
+    ))
     (λ c. search needs)
     (λ c. (c .before .loop .inv .1, λ e X. elements-all (c .before .loop .inv .0) (c .loop-test .left) X)))
     (λ t. fill-fields-lts.spec (fill-fields-claims t)
@@ -284,8 +330,13 @@ pub +fill-content+fill-elements+fill-fields+fill-list+fill-value-spec : {M : Typ
     let c10 = c7 .before .before .before in
     let c12 = c10 .before .before in
     let c13 = c12 .before in
-    let c14 = c13 .before in
-    (row-more (c14 .loop .inv .0) (c13 .loop-test .taken) (c12 .label .ensures .0) (c10 .e .given .1) (c7 .fill-value .ensures .0) (c7 .fill-value .ensures .1 (told _ (c4 .if1 .left))) (c3 .read-value .ensures) (c .before .f .given .1), grown-then (c14 .loop .inv .1) (c7 .fill-value .ensures .0), c7 .fill-value .kept .1 .1 .1 .1 .1 .0 ∙ c14 .loop .inv .2))
+    let c14 = c13 .before in (
+      row-more (c14 .loop .inv .0) (c13 .loop-test .taken) (c12 .label .ensures .0) (c10 .e .given .1) (c7 .fill-value .ensures .0)
+          (c7 .fill-value .ensures .1 (told _ (c4 .if1 .left))) (c3 .read-value .ensures) (c .before .f .given .1),
+      grown-then (c14 .loop .inv .1)
+          (c7 .fill-value .ensures .0),
+      c7 .fill-value .kept .1 .1 .1 .1 .1 .0 ∙ c14 .loop .inv .2,
+    ))
     (λ c. search needs)
     (λ c. (c .before .loop .inv .1, λ e X. row-all (c .before .loop .inv .0) (c .loop-test .left) X)))
     (λ t. fill-list-lts.spec (fill-list-claims t)
@@ -304,8 +355,11 @@ pub +fill-content+fill-elements+fill-fields+fill-list+fill-value-spec : {M : Typ
     (λ c.
     let c2 = c .before .before in
     let c5 = c2 .before .before .before in
-    let c7 = c5 .before .before in
-    (c2 .fill-elements .ensures .0, λ e X vs q. let L = list-elements X (c7 .short .ensures) (c5 .n .given .1) in each-as (L .is) q (c2 .fill-elements .ensures .1 e (L .elements))))
+    let c7 = c5 .before .before in (
+      c2 .fill-elements .ensures .0,
+      λ e X vs q. let L = list-elements X (c7 .short .ensures) (c5 .n .given .1) in each-as (L .is) q
+          (c2 .fill-elements .ensures .1 e (L .elements)),
+    ))
     (λ c. (grown-same _, λ e. clash (cc))))
     λ t. fill-value-lts.spec (fill-value-claims t)
     (fill-value-at t)
@@ -327,12 +381,18 @@ pub +fill-content+fill-elements+fill-fields+fill-list+fill-value-spec : {M : Typ
     (λ c.
     let c2 = c .before .before in
     let c4 = c2 .before .before in
-    let c6 = c4 .before .before in
-    (c2 .keep-null .ensures .grown, λ e X. null-nulls (null-at (X .value) (c6 .read-presence .ensures) (c4 .enum-told .given .1) .0) (c2 .keep-null .ensures .kept e)))
+    let c6 = c4 .before .before in (
+      c2 .keep-null .ensures .grown,
+      λ e X. null-nulls (null-at (X .value) (c6 .read-presence .ensures) (c4 .enum-told .given .1) .0)
+          (c2 .keep-null .ensures .kept e),
+    ))
     (λ c. search needs)
     (λ c.
     let c2 = c .before .before in
     let c5 = c2 .before .before .before in
-    let c7 = c5 .before .before in
-    (c2 .fill-content .ensures .0, λ e X. let I = raw-present X (c7 .read-presence .ensures) (c5 .d .given .1) in nulls-as (I .is) (c2 .fill-content .ensures .1 e (I .inner))))
+    let c7 = c5 .before .before in (
+      c2 .fill-content .ensures .0,
+      λ e X. let I = raw-present X (c7 .read-presence .ensures) (c5 .d .given .1) in nulls-as (I .is)
+          (c2 .fill-content .ensures .1 e (I .inner)),
+    ))
     (λ c. (grown-same _, λ e. clash (cc)))

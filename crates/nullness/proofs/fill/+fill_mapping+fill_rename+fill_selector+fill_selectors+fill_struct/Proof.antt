@@ -4,7 +4,7 @@ use borrow.Author.Needs.{needs}
 use Prim.Native.Nat.{ℕ, _<_, _+_, _-_, _*_}
 use lib.ListN.{length}
 use mathlib.Core.Path.{_≡_}
-use Rattle.nullness.specs.Nulls.{Nulls}
+use Rattle.nullness.specs.code.Nulls.{Nulls}
 use borrow.Fn.Kinds.{In}
 use borrow.Fn.PlainCycle.{Measures, is, falls, and}
 use Rattle.nullness.proofs.fill.fill_mapping.Reads as fill-mapping
@@ -112,7 +112,20 @@ abbrev fill-rename-claims : ℕ → fill-rename-lts.Claims
 fill-rename-claims t = (fill-selector-below t, fill-selector.Post, text-reads.Asked, text-reads.Learnt)
 
 abbrev fill-selector-claims : ℕ → fill-selector-lts.Claims
-fill-selector-claims t = (byte-reads.Asked, byte-reads.Learnt, fill-constant-reads.Asked, fill-constant-reads.Learnt, fill-rename-below t, fill-rename.Post, fill-struct-below t, fill-struct.Post, fill-mapping-below t, fill-mapping.Post, read-selector-reads.Asked, read-selector-reads.Learnt)
+fill-selector-claims t = (
+  byte-reads.Asked,
+  byte-reads.Learnt,
+  fill-constant-reads.Asked,
+  fill-constant-reads.Learnt,
+  fill-rename-below t,
+  fill-rename.Post,
+  fill-struct-below t,
+  fill-struct.Post,
+  fill-mapping-below t,
+  fill-mapping.Post,
+  read-selector-reads.Asked,
+  read-selector-reads.Learnt,
+)
 
 abbrev fill-selectors-claims : ℕ → fill-selectors-lts.Claims
 fill-selectors-claims t = (fill-selector-below t, fill-selector.Post)

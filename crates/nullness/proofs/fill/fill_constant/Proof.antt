@@ -12,7 +12,9 @@ fill-constant-spec =
     (λ c. search needs)
     (λ c κs. search needs)
     (λ c. search needs)
-    (λ c κs. (type-read (c .before .before .before .before .pass-type .ensures) (c .before .before .d .given .1), c .before .before .before .before .before .before .before .before .before .before .before .pre))
+    (λ c κs.
+    let c2 = c .before .before in let c4 = c2 .before .before in let c11 = c4 .before .before .before .before .before .before .before in
+    (type-read (c4 .pass-type .ensures) (c2 .d .given .1), c11 .pre))
     (λ c. search needs)
     (λ c. search needs)
     (λ c. search needs)

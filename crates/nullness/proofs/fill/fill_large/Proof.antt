@@ -1,7 +1,7 @@
 -- `nullness::fill::fill_large` meets its contract: one constant more, whose nulls are in the table. Assumes nothing.
 use mathlib.Core.Path.{refl}
 use Rattle.nullness.proofs.Filling.{constant-nulls}
-use Rattle.nullness.proofs.Table.{nulls-grown}
+use Rattle.nullness.proofs.NullsTable.{nulls-grown}
 use Rattle.ends.proofs.Entries.{ends-none}
 use borrow.Author.Needs.{needs}
 use Rattle.nullness.proofs.fill.fill_large.Statement.{statement}
@@ -21,6 +21,7 @@ fill-large-spec =
     let c4 = c2 .before .before in
     let c7 = c4 .before .before .before in
     let c12 = c7 .before .before .before .before .before in
-    c2 .keep-constant .ensures _ (nulls-grown (c7 .fill-value .ensures .0) (c12 .pre .1)) (constant-nulls (c12 .pre .0 .0 .type) (c12 .pre .0 .1) (c7 .fill-value .ensures .1 (c4 .if1 .taken))))
+    c2 .keep-constant .ensures _ (nulls-grown (c7 .fill-value .ensures .0) (c12 .pre .1))
+    (constant-nulls (c12 .pre .0 .0 .type) (c12 .pre .0 .1) (c7 .fill-value .ensures .1 (c4 .if1 .taken))))
     (λ c. search needs)
     (λ c. nulls-grown (c .before .before .before .fill-value .ensures .0) (c .before .before .before .before .before .before .before .before .pre .1)))

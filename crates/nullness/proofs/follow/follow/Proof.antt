@@ -2,7 +2,7 @@
 use Rattle.nullness.proofs.Following.{Followings, following-start, following-located, input-starts, following-passes, following-fails, following-input}
 use native.Mathlib.Omega.{arith}
 use borrow.Author.Needs.{needs}
-use Rattle.walk.specs.Standing.{rank}
+use Rattle.walk.specs.code.Walks.{rank}
 use Rattle.nullness.proofs.follow.follow.Statement.{statement}
 use Rattle.nullness.proofs.follow.follow.Tie as tie
 
@@ -19,17 +19,32 @@ follow-spec =
     Inv-loop
     μ-loop
     (λ c. following-start _ _ _ _ (λ i. omega (arith, c .before .shared-slice-known3 .given i)))
-    (λ c κs. let F = c .loop .inv (c .before .before .before .before .before .pre .1 .0) (c .before .before .before .before .before .pre .1 .1) in (F .state, F .standing))
     (λ c κs.
-    let L = following-located (c .before .loop .inv (c .before .before .before .before .before .before .pre .1 .0) (c .before .before .before .before .before .before .pre .1 .1)) (c .locate .ensures) in
+    let c5 = c .before .before .before .before .before in
+    let F = c .loop .inv (c5 .pre .1 .0) (c5 .pre .1 .1) in (F .state, F .standing))
+    (λ c κs.
+    let L = following-located (c .before .loop .inv (c .before .before .before .before .before .before .pre .1 .0)
+    (c .before .before .before .before .before .before .pre .1 .1)) (c .locate .ensures) in
     (c .before .before .before .before .before .before .pre .1 .0, (c .before .before .before .before .before .before .pre .0, (L .state, L .standing))))
     (λ c. search needs)
-    (λ c. λ P F. following-passes (c .before .before .before .before .loop .inv P F) (c .before .before .before .locate .ensures) (c .before .before .at-stop .ensures P) (c .enum-told .given .1))
-    (λ c. search needs)
-    (λ c. λ P F. following-fails (c .before .before .before .before .loop .inv P F) (c .before .before .before .locate .ensures) (c .before .before .at-stop .ensures P) (c .enum-told2 .given .1))
-    (λ c. search needs)
-    (λ c κs. input-starts (c .before .before .before .before .loop .inv (c .before .before .before .before .before .before .before .before .before .pre .1 .0) (c .before .before .before .before .before .before .before .before .before .pre .1 .1)) (c .before .before .before .locate .ensures))
     (λ c.
-    let F = c .before .before .before .before .before .loop .inv (c .before .before .before .before .before .before .before .before .before .before .pre .1 .0) (c .before .before .before .before .before .before .before .before .before .before .pre .1 .1) in
-    following-input F (c .before .before .before .before .locate .ensures) (c .before .before .before .at-stop .ensures (c .before .before .before .before .before .before .before .before .before .before .pre .1 .0)) (c .before .enum-told3 .given .1) (c .to-input .ensures) .1)
-    (λ c. λ P F. following-input (c .before .before .before .before .before .loop .inv P F) (c .before .before .before .before .locate .ensures) (c .before .before .before .at-stop .ensures P) (c .before .enum-told3 .given .1) (c .to-input .ensures) .0))
+    let c2 = c .before .before in let c3 = c2 .before in let c4 = c3 .before in
+    λ P F. following-passes (c4 .loop .inv P F) (c3 .locate .ensures) (c2 .at-stop .ensures P) (c .enum-told .given .1))
+    (λ c. search needs)
+    (λ c.
+    let c2 = c .before .before in let c3 = c2 .before in let c4 = c3 .before in
+    λ P F. following-fails (c4 .loop .inv P F) (c3 .locate .ensures) (c2 .at-stop .ensures P) (c .enum-told2 .given .1))
+    (λ c. search needs)
+    (λ c κs.
+    let c3 = c .before .before .before in let c4 = c3 .before in let c9 = c4 .before .before .before .before .before in
+    input-starts (c4 .loop .inv (c9 .pre .1 .0) (c9 .pre .1 .1)) (c3 .locate .ensures))
+    (λ c.
+    let F = c .before .before .before .before .before .loop .inv
+    (c .before .before .before .before .before .before .before .before .before .before .pre .1 .0)
+    (c .before .before .before .before .before .before .before .before .before .before .pre .1 .1) in
+    following-input F (c .before .before .before .before .locate .ensures) (c .before .before .before .at-stop .ensures
+    (c .before .before .before .before .before .before .before .before .before .before .pre .1 .0)) (c .before .enum-told3 .given .1)
+    (c .to-input .ensures) .1)
+    (λ c.
+    let c3 = c .before .before .before in let c4 = c3 .before in let c5 = c4 .before in
+    λ P F. following-input (c5 .loop .inv P F) (c4 .locate .ensures) (c3 .at-stop .ensures P) (c .before .enum-told3 .given .1) (c .to-input .ensures) .0))

@@ -1,5 +1,5 @@
 -- `nullness::marks::meets_by_table` meets its contract: the table is that of the plan's constants. Assumes nothing.
-use Rattle.nullness.proofs.Table.{nulls-zeros}
+use Rattle.nullness.proofs.NullsTable.{nulls-zeros}
 use borrow.Author.Needs.{needs}
 use Rattle.nullness.proofs.marks.meets_by_table.Statement.{statement}
 use Rattle.nullness.proofs.marks.meets_by_table.Tie as tie

@@ -2,7 +2,7 @@
 use mathlib.Core.Path.{refl, sym}
 use lib.Seq.{length-take-le}
 use Rattle.nullness.proofs.Marking.{stride-as}
-use Rattle.nullness.proofs.Table.{nulls-none}
+use Rattle.nullness.proofs.NullsTable.{nulls-none}
 use borrow.Author.Needs.{needs}
 use Rattle.nullness.proofs.marks.meets_marks.Statement.{statement}
 use Rattle.nullness.proofs.marks.meets_marks.Tie as tie

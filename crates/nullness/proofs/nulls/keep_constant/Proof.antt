@@ -1,5 +1,5 @@
 -- `nullness::nulls::keep_constant` meets its contract: one constant more. Assumes nothing.
-use Rattle.nullness.proofs.Table.{nulls-constant}
+use Rattle.nullness.proofs.NullsTable.{nulls-constant}
 use borrow.Author.Needs.{needs}
 use Rattle.nullness.proofs.nulls.keep_constant.Statement.{statement}
 use Rattle.nullness.proofs.nulls.keep_constant.Tie as tie

@@ -1,5 +1,5 @@
 -- `nullness::nulls::keep_null` meets its contract: one bit more. Assumes nothing.
-use Rattle.nullness.proofs.Table.{null-lost, null-kept}
+use Rattle.nullness.proofs.NullsTable.{null-lost, null-kept}
 use borrow.Author.Needs.{needs}
 use Rattle.nullness.proofs.nulls.keep_null.Statement.{statement}
 use Rattle.nullness.proofs.nulls.keep_null.Tie as tie

@@ -1,5 +1,5 @@
 -- `nullness::stop::answer` meets its contract: by the answer. Assumes nothing.
-use Rattle.nullness.specs.Stops.{answered}
+use Rattle.nullness.specs.code.Stops.{answered}
 use Rattle.nullness.proofs.stop.answer.Statement.{statement}
 use Rattle.nullness.proofs.stop.answer.Tie as tie
 

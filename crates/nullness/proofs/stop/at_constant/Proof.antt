@@ -8,4 +8,6 @@ use Rattle.nullness.proofs.stop.at_constant.Tie as tie
 
 pub at-constant-spec : {M : Type 1} → statement M
 at-constant-spec =
-    tie.close (tie.spec (λ c κs. search needs) (λ c. λ X x M. constant-filled M _ (sym (c .before .may-be-null .ensures (untold _ (c .if1 .taken)) X)) refl) (λ c κs. search needs) (λ c. λ X x M. constant-null M _ (c .before .in-constant .ensures X) (c .if2 .taken)) (λ c. λ X x M. constant-filled M _ (c .before .in-constant .ensures X) (c .if2 .left)))
+    tie.close (tie.spec (λ c κs. search needs) (λ c. λ X x M. constant-filled M _ (sym (c .before .may-be-null .ensures (untold _ (c .if1 .taken)) X))
+    refl) (λ c κs. search needs) (λ c. λ X x M. constant-null M _ (c .before .in-constant .ensures X) (c .if2 .taken))
+    (λ c. λ X x M. constant-filled M _ (c .before .in-constant .ensures X) (c .if2 .left)))

@@ -12,9 +12,17 @@ at-stop-spec =
     (tie.spec
     (λ c κs. search needs)
     (λ c. search needs)
-    (λ c κs. (c .before .before .before .before .before .before .before .before .pre .0, (c .before .before .before .before .before .before .before .before .pre .1 .0 .0, path-room (c .before .before .before .before .before .before .before .before .pre .1 .1 .1))))
+    (λ c κs.
+    let c8 = c .before .before .before .before .before .before .before .before in
+    (c8 .pre .0, (c8 .pre .1 .0 .0, path-room (c8 .pre .1 .1 .1))))
     (λ c. search needs)
-    (λ c κs. (c .before .before .before .before .before .before .before .before .pre .1 .0 .1, (constant-raw (c .before .before .before .before .before .before .before .before .pre .1 .1 .1) (c .before .before .before .head .ensures (c .before .before .before .before .before .before .before .before .pre .1 .1 .1 .here)) (c .before .t .given .1), c .before .before .before .before .before .before .before .before .pre .1 .1)))
+    (λ c κs.
+    let c3 = c .before .before .before in let c8 = c3 .before .before .before .before .before in
+    (c8 .pre .1 .0 .1, (constant-raw (c8 .pre .1 .1 .1) (c3 .head .ensures (c8 .pre .1 .1 .1 .here)) (c .before .t .given .1), c8 .pre .1 .1)))
+    (λ c. search needs)
+    (λ c κs. search needs)
+    (λ c. search needs)
+    (λ c κs. search needs)
     (λ c. search needs)
     (λ c κs. search needs)
     (λ c. search needs)
@@ -22,12 +30,12 @@ at-stop-spec =
     (λ c. search needs)
     (λ c κs. search needs)
     (λ c. search needs)
-    (λ c κs. search needs)
-    (λ c. search needs)
-    (λ c κs. search needs)
-    (λ c. search needs)
-    (λ c. λ P x M. c .at-position .ensures P _ x M (position-stop M (c .before .before .before .before .head .ensures (M .here)) (c .before .before .k .given .1)))
-    (λ c. λ P x M. constant-stop M _ (c .before .before .before .before .head .ensures (M .here)) (c .before .before .t .given .1) (λ R. c .at-constant .ensures R x M))
+    (λ c.
+    let c2 = c .before .before in let c4 = c2 .before .before in
+    λ P x M. c .at-position .ensures P _ x M (position-stop M (c4 .head .ensures (M .here)) (c2 .k .given .1)))
+    (λ c.
+    let c2 = c .before .before in let c4 = c2 .before .before in
+    λ P x M. constant-stop M _ (c4 .head .ensures (M .here)) (c2 .t .given .1) (λ R. c .at-constant .ensures R x M))
     (λ c. λ P x M. cast-stop M _ (c .before .before .before .head .ensures (M .here)) (c .at-transform .ensures _ x M) (c .before .enum-told .given .1))
     (λ c. λ P x M. rename-stop M _ (c .before .before .before .head .ensures (M .here)) (c .at-transform2 .ensures _ x M) (c .before .enum-told2 .given .1))
     (λ c. λ P x M. struct-stop M _ (c .before .before .before .head .ensures (M .here)) (c .at-transform3 .ensures _ x M) (c .before .enum-told3 .given .1))

@@ -21,7 +21,9 @@ convert-spec =
       fitting-at (a .from) (p .result) (e .result) (p .ensures) (e .ensures),
       fitting-at (a .to) (c .before .precision2 .result) (c .max-exponent2 .result) (c .before .precision2 .ensures) (c .max-exponent2 .ensures),
     ))
-    (λ c. unfold floatToFloat in let a = c .before .before .before .before .before .args in
+    (λ c.
+    let c1 = c .before in let c2 = c1 .before in let c3 = c2 .before in let c4 = c3 .before in let c5 = c4 .before in
+    unfold floatToFloat in let a = c5 .args in
     c .convert-pattern .ensures
-    ∙ ap₂ (λ (x y : ℕ). converted x y (c .before .before .precision2 .result) (c .before .max-exponent2 .result) (a .b)) (c .before .before .before .before .precision .ensures) (c .before .before .before .max-exponent .ensures)
-    ∙ ap₂ (λ (x y : ℕ). converted (precisionOf (a .from)) (emaxOf (a .from)) x y (a .b)) (c .before .before .precision2 .ensures) (c .before .max-exponent2 .ensures)))
+    ∙ ap₂ (λ (x y : ℕ). converted x y (c2 .precision2 .result) (c1 .max-exponent2 .result) (a .b)) (c4 .precision .ensures) (c3 .max-exponent .ensures)
+    ∙ ap₂ (λ (x y : ℕ). converted (precisionOf (a .from)) (emaxOf (a .from)) x y (a .b)) (c2 .precision2 .ensures) (c1 .max-exponent2 .ensures)))

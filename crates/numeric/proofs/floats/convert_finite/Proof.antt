@@ -20,7 +20,10 @@ convert-finite-spec =
     (λ c. search needs)
     (λ c. search needs)
     (λ c κs. search needs)
-    (λ c. let a = c .before .before .before .args in subnormal-is (a .p) (a .emax) (a .q) (a .gmax) (a .m) (c .before .before .power .result) (c .before .before .power .ensures) (c .round-to .result) (c .before .if1 .taken) (c .round-to .ensures))
+    (λ c.
+    let c2 = c .before .before in let c3 = c2 .before in
+    let a = c3 .args in subnormal-is (a .p) (a .emax) (a .q) (a .gmax) (a .m) (c2 .power .result) (c2 .power .ensures) (c .round-to .result)
+    (c .before .if1 .taken) (c .round-to .ensures))
     (λ c. let a = c .before .before .args in
     let h = c .before .power .result in
     let d : a .p - 1 ≤ 52 = omega arith in
@@ -30,5 +33,12 @@ convert-finite-spec =
     let h0 : 0 < h = omega arith in
     omega (arith, mod-lt (a .m) h0))
     (λ c. search needs)
-    (λ c κs. let a = c .before .before .args in omega (arith, field-le (a .p) (a .emax) (a .q) (a .gmax) (a .m) (c .before .power .result) (c .before .power .ensures) (c .before .before .pre .2)))
-    (λ c. let a = c .before .before .before .args in normal-is (a .p) (a .emax) (a .q) (a .gmax) (a .m) (c .before .before .power .result) (c .before .before .power .ensures) (c .round-to2 .result) (c .before .if1 .left) (c .round-to2 .ensures)))
+    (λ c κs. let a = c .before .before .args in omega (
+      arith,
+      field-le (a .p) (a .emax) (a .q) (a .gmax) (a .m) (c .before .power .result)
+          (c .before .power .ensures) (c .before .before .pre .2),
+    ))
+    (λ c.
+    let c2 = c .before .before in let c3 = c2 .before in
+    let a = c3 .args in normal-is (a .p) (a .emax) (a .q) (a .gmax) (a .m) (c2 .power .result) (c2 .power .ensures) (c .round-to2 .result)
+    (c .before .if1 .left) (c .round-to2 .ensures)))

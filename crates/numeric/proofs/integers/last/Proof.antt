@@ -6,4 +6,7 @@ use Rattle.numeric.proofs.integers.last.Statement.{statement}
 use Rattle.numeric.proofs.integers.last.Tie as tie
 
 pub last-spec : {M : Type 1} → statement M
-last-spec = tie.close (tie.spec (λ c. search needs) (λ c κs. search needs) (λ c. let a = c .before .args in half-pos (a .w) 0 (c .power .result) (c .before .pre .0) (c .power .ensures)) (λ c. let a = c .before .args in omega (arith, half-le (a .w) 0 (c .power .result) (c .before .pre .0) (c .power .ensures) (c .before .pre .1))) (λ c. let a = c .before .args in last-is (a .w) 0 (c .power .result) (c .before .pre .0) (c .power .ensures)))
+last-spec = tie.close (tie.spec (λ c. search needs) (λ c κs. search needs) (λ c. let a = c .before .args in half-pos (a .w) 0 (c .power .result)
+    (c .before .pre .0) (c .power .ensures)) (λ c. let a = c .before .args in omega
+    (arith, half-le (a .w) 0 (c .power .result) (c .before .pre .0) (c .power .ensures) (c .before .pre .1)))
+    (λ c. let a = c .before .args in last-is (a .w) 0 (c .power .result) (c .before .pre .0) (c .power .ensures)))

@@ -9,4 +9,15 @@ use Rattle.numeric.proofs.integers.low.Tie as tie
 pub low-spec : {M : Type 1} → statement M
 low-spec =
     tie.close
-    (tie.spec (λ c. search needs) (λ c κs. search needs) (λ c. let a = c .before .args in half-pos (a .w) (a .b) (c .power .result) (c .before .pre .0) (c .power .ensures)) (λ c. let a = c .before .args in omega (arith, half-le (a .w) (a .b) (c .power .result) (c .before .pre .0) (c .power .ensures) (c .before .pre .1), sign-one (a .b / c .power .result) (c .power .result))) (λ c. let a = c .before .args in half-pos (a .w) (a .b) (c .power .result) (c .before .pre .0) (c .power .ensures)) (λ c. let a = c .before .args in record { fits = low-fits (a .w) (a .b) (c .power .result) (c .before .pre .0) (c .power .ensures) (c .before .pre .1) }) (λ c. let a = c .before .args in low-is (a .w) (a .b) (c .power .result) (c .before .pre .0) (c .power .ensures)))
+    (tie.spec (λ c. search needs) (λ c κs. search needs) (λ c. let a = c .before .args in half-pos (a .w) (a .b) (c .power .result) (c .before .pre .0)
+    (c .power .ensures)) (λ c. let a = c .before .args in omega (
+      arith,
+      half-le (a .w) (a .b) (c .power .result) (c .before .pre .0)
+          (c .power .ensures) (c .before .pre .1),
+      sign-one (a .b / c .power .result) (c .power .result),
+    ))
+    (λ c. let a = c .before .args in half-pos (a .w) (a .b) (c .power .result) (c .before .pre .0) (c .power .ensures))
+    (λ c. let a = c .before .args in record {
+      fits = low-fits (a .w) (a .b) (c .power .result) (c .before .pre .0) (c .power .ensures)
+          (c .before .pre .1);
+    }) (λ c. let a = c .before .args in low-is (a .w) (a .b) (c .power .result) (c .before .pre .0) (c .power .ensures)))

@@ -12,6 +12,12 @@ number-spec =
     (λ c κs. search needs)
     (λ c κs. search needs)
     (λ c κs. let a = c .before .before .before .args in bits-at (a .i) (c .before .before .bits .result) (c .before .before .bits .ensures))
-    (λ c. let a = c .before .before .before .before .args in c .signed-number .ensures ∙ number-signed (a .i) (c .before .before .before .bits .result) (a .b) (c .before .before .before .bits .ensures) (sym (c .before .before .is-signed .ensures) ∙ c .before .if1 .taken))
+    (λ c.
+    let c2 = c .before .before in let c3 = c2 .before in let c4 = c3 .before in
+    let a = c4 .args in c .signed-number .ensures ∙ number-signed (a .i) (c3 .bits .result) (a .b) (c3 .bits .ensures)
+    (sym (c2 .is-signed .ensures) ∙ c .before .if1 .taken))
     (λ c κs. let a = c .before .before .before .args in bits-at (a .i) (c .before .before .bits .result) (c .before .before .bits .ensures))
-    (λ c. let a = c .before .before .before .before .args in number-unsigned (a .i) (c .before .before .before .bits .result) (a .b) (c .low .result) (c .before .before .before .bits .ensures) (sym (c .before .before .is-signed .ensures) ∙ c .before .if1 .left) (c .low .ensures)))
+    (λ c.
+    let c2 = c .before .before in let c3 = c2 .before in let c4 = c3 .before in
+    let a = c4 .args in number-unsigned (a .i) (c3 .bits .result) (a .b) (c .low .result) (c3 .bits .ensures)
+    (sym (c2 .is-signed .ensures) ∙ c .before .if1 .left) (c .low .ensures)))

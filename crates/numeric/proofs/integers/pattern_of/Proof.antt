@@ -15,6 +15,13 @@ pattern-of-spec =
     (λ c. search needs)
     (λ c κs. search needs)
     (λ c κs. search needs)
-    (λ c. last-low (c .before .before .before .before .before .args .w) (c .before .before .before .z2 .given .0 .0) (c .before .last .result) (c .low2 .result) (c .before .last .ensures) (c .low2 .ensures) .0)
-    (λ c. low-pattern (c .before .before .before .before .args .w) (c .before .before .z .given .0 .0) (c .low .result) (c .low .ensures) ∙ sym (ap (λ z. pattern (c .before .before .before .before .args .w) (wholeOf z)) (c .before .before .z .given .1)))
-    (λ c. last-low (c .before .before .before .before .before .args .w) (c .before .before .before .z2 .given .0 .0) (c .before .last .result) (c .low2 .result) (c .before .last .ensures) (c .low2 .ensures) .1 ∙ sym (ap (λ z. pattern (c .before .before .before .before .before .args .w) (wholeOf z)) (c .before .before .before .z2 .given .1))))
+    (λ c.
+    let c1 = c .before in let c3 = c1 .before .before in let c5 = c3 .before .before in
+    last-low (c5 .args .w) (c3 .z2 .given .0 .0) (c1 .last .result) (c .low2 .result) (c1 .last .ensures) (c .low2 .ensures) .0)
+    (λ c.
+    let c2 = c .before .before in let c4 = c2 .before .before in
+    low-pattern (c4 .args .w) (c2 .z .given .0 .0) (c .low .result) (c .low .ensures) ∙ sym (ap (λ z. pattern (c4 .args .w) (wholeOf z)) (c2 .z .given .1)))
+    (λ c.
+    let c1 = c .before in let c3 = c1 .before .before in let c5 = c3 .before .before in
+    last-low (c5 .args .w) (c3 .z2 .given .0 .0) (c1 .last .result) (c .low2 .result) (c1 .last .ensures) (c .low2 .ensures) .1 ∙ sym
+    (ap (λ z. pattern (c5 .args .w) (wholeOf z)) (c3 .z2 .given .1))))

@@ -7,4 +7,5 @@ use Rattle.numeric.proofs.integers.widen.Statement.{statement}
 use Rattle.numeric.proofs.integers.widen.Tie as tie
 
 pub widen-spec : {M : Type 1} → statement M
-widen-spec = tie.close (tie.spec (λ c κs. search needs) (λ c κs. search needs) (λ c κs. bits-at (c .before .before .args .to) (c .bits .result) (c .bits .ensures)) (λ c. unfold widened in c .pattern-of .ensures ∙ ap₂ pattern (c .before .bits .ensures) (c .before .before .number .ensures)))
+widen-spec = tie.close (tie.spec (λ c κs. search needs) (λ c κs. search needs) (λ c κs. bits-at (c .before .before .args .to) (c .bits .result)
+    (c .bits .ensures)) (λ c. unfold widened in c .pattern-of .ensures ∙ ap₂ pattern (c .before .bits .ensures) (c .before .before .number .ensures)))

@@ -21,6 +21,9 @@ shift-nearest-spec =
     (λ c. subst (λ (x : ℕ). 0 < x) (sym (c .power .ensures)) (pow-pos (c .before .before .before .args .s - 1)))
     (λ c. let a = c .before .before .before .before .args in sym (half-less (a .m) (a .s) (a .s - 1) (omega arith) (c .if3 .taken)))
     (λ c. let a = c .before .before .before .before .before .args in omega (arith, shr-le (a .m) (a .s - 1)))
-    (λ c. let a = c .before .before .before .before .before .args in let z : a .m % 2 ^ (a .s - 1) ≡ 0 = ap (λ (x : ℕ). a .m % x) (sym (c .before .before .power .ensures)) ∙ c .if4 .taken in sym (half-tie (a .m) (a .s) (a .s - 1) (omega arith) (c .before .if3 .left) z))
+    (λ c. let a = c .before .before .before .before .before .args in let z : a .m % 2 ^ (a .s - 1) ≡ 0 = ap (λ (x : ℕ). a .m % x)
+    (sym (c .before .before .power .ensures)) ∙ c .if4 .taken in sym (half-tie (a .m) (a .s) (a .s - 1) (omega arith) (c .before .if3 .left) z))
     (λ c. let a = c .before .before .before .before .before .args in omega (arith, shr-le (a .m) (a .s - 1)))
-    (λ c. let a = c .before .before .before .before .before .args in let z : (a .m % 2 ^ (a .s - 1) ≡ 0 → ⊥) = λ e. c .if4 .left (ap (λ (x : ℕ). a .m % x) (c .before .before .power .ensures) ∙ e) in sym (half-more (a .m) (a .s) (a .s - 1) (omega arith) (c .before .if3 .left) z)))
+    (λ c. let a = c .before .before .before .before .before .args in let z : (a .m % 2 ^ (a .s - 1) ≡ 0 → ⊥) = λ e. c .if4 .left
+    (ap (λ (x : ℕ). a .m % x) (c .before .before .power .ensures) ∙ e) in sym
+    (half-more (a .m) (a .s) (a .s - 1) (omega arith) (c .before .if3 .left) z)))

@@ -9,4 +9,6 @@ use Rattle.numeric.proofs.times.divide.Tie as tie
 
 pub divide-spec : {M : Type 1} → statement M
 divide-spec =
-    tie.close (tie.spec (λ c. search needs) (λ c. let a = c .before .args in positive-down (a .b) (a .k) (c .if1 .taken)) (λ c. search needs) (λ c. search needs) (λ c. let a = c .before .args in omega (arith, div-le-self (18446744073709551615 - a .b) (a .k))) (λ c. let a = c .before .args in negative-down (a .b) (a .k) (c .if1 .left) (c .before .fits .b .fits)))
+    tie.close (tie.spec (λ c. search needs) (λ c. let a = c .before .args in positive-down (a .b) (a .k) (c .if1 .taken)) (λ c. search needs)
+    (λ c. search needs) (λ c. let a = c .before .args in omega (arith, div-le-self (18446744073709551615 - a .b) (a .k)))
+    (λ c. let a = c .before .args in negative-down (a .b) (a .k) (c .if1 .left) (c .before .fits .b .fits)))

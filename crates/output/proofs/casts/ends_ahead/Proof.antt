@@ -1,4 +1,4 @@
-use Rattle.walk.proofs.Standing.{walk-small, walk-inside}
+use Rattle.walk.proofs.Walks.{walk-small, walk-inside}
 use native.Mathlib.Omega.{arith}
 use borrow.Author.Needs.{needs}
 use Rattle.output.proofs.casts.ends_ahead.Statement.{statement}

@@ -1,8 +1,8 @@
 use Rattle.output.proofs.Passing.{Passing, passing-none, passing-goes, passing-casts, passing-small, passing-origin, is-ends, is-goes, is-casts}
-use Rattle.walk.specs.Standing.{WalkAt, rank}
-use Rattle.walk.specs.Ends.{EndsAt}
-use Rattle.walk.specs.Moves.{Stopped}
-use Rattle.walk.specs.State.{State}
+use Rattle.walk.specs.code.Walks.{WalkAt, rank}
+use Rattle.walk.specs.code.Ends.{EndsAt}
+use Rattle.walk.specs.code.Moves.{Stopped}
+use Rattle.walk.specs.code.State.{State}
 use native.Mathlib.Omega.{arith}
 use borrow.Author.Needs.{needs}
 use Rattle.output.proofs.casts.find_origin.Statement.{statement}

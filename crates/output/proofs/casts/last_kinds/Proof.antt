@@ -1,9 +1,9 @@
 use Rattle.output.proofs.Passing.{is-ends, is-goes, is-casts, Ahead, Keeping}
 use Rattle.output.proofs.Passing.{ahead-all, ahead-ends, keeping-none, keeping-all, keeping-goes, keeping-casts}
-use Rattle.walk.specs.Standing.{WalkAt, rank}
-use Rattle.walk.specs.Ends.{EndsAt}
-use Rattle.walk.specs.Moves.{Stopped}
-use Rattle.walk.specs.State.{State}
+use Rattle.walk.specs.code.Walks.{WalkAt, rank}
+use Rattle.walk.specs.code.Ends.{EndsAt}
+use Rattle.walk.specs.code.Moves.{Stopped}
+use Rattle.walk.specs.code.State.{State}
 use Rattle.layout.specs.declared.leaf.Leaf.{Leaf}
 use mathlib.Core.Path.{refl}
 use mathlib.Core.List.{List}

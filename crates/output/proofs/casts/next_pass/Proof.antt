@@ -1,5 +1,5 @@
 use Rattle.output.proofs.Passing.{pass-ends, pass-rename, pass-below, pass-at-end, type-as}
-use Rattle.walk.proofs.Standing.{path-some, path-none}
+use Rattle.walk.proofs.Walks.{path-some, path-none}
 use Rattle.walk.proofs.Heads.{is-position, is-constant, is-cast, is-rename, is-struct, is-list, is-array, never-refused}
 use mathlib.Core.Path.{sym, _∙_}
 use borrow.Author.Needs.{needs}
@@ -14,7 +14,9 @@ next-pass-spec =
     (λ c. search needs)
     (λ c. search needs)
     (λ c. search needs)
-    (λ c. λ x W S. pass-below x (W .selector) (is-cast (c .before .before .before .before .before .head .ensures (W .here)) (c .before .before .before .input .given .1) .is) (path-some W (c .if1 .taken)))
+    (λ c.
+    let c3 = c .before .before .before in let c5 = c3 .before .before in
+    λ x W S. pass-below x (W .selector) (is-cast (c5 .head .ensures (W .here)) (c3 .input .given .1) .is) (path-some W (c .if1 .taken)))
     (λ c κs. search needs)
     (λ c κs. search needs)
     (λ c. search needs)

@@ -4,14 +4,14 @@ use Rattle.output.proofs.Emitting.{Rowing, rowing-none, rowing-past, ro
 use Rattle.output.proofs.Emitting.{parts-asks, part-reached, part-room, part-emit, part-falls, part-emits}
 use Rattle.raw.proofs.Storing.{stores-as}
 use Rattle.output.proofs.Sources.{from-null, from-record, from-constant, from-struct, from-list, from-array}
-use Rattle.output.specs.Answers.{EmitAt, Mapped}
-use Rattle.walk.specs.Standing.{rank}
-use Rattle.walk.specs.Children.{Reached}
+use Rattle.output.specs.code.Answers.{EmitAt, Mapped}
+use Rattle.walk.specs.code.Walks.{rank}
+use Rattle.walk.specs.code.Children.{Reached}
 use Rattle.walk.specs.declared.walk.Walk.{Walk}
 use Rattle.walk.proofs.Children.{reached-child}
 use Rattle.layout.specs.Bytes.{Bytes}
 use Rattle.layout.specs.declared.edition.Edition.{Edition}
-use Rattle.walk.specs.Values.{stateValue}
+use Rattle.walk.specs.code.Values.{stateValue}
 use Rattle.plan.specs.Reach.{parts}
 use Rattle.values.specs.Value.{countValues}
 use lib.ListN.{length}

@@ -1,5 +1,5 @@
 use Rattle.output.proofs.Casting.{casting-to, block-all, block-number, block-overflow}
-use Rattle.output.specs.Chain.{Kept, Casting}
+use Rattle.output.specs.code.Chain.{Kept, Casting}
 use Rattle.values.specs.Value.{Value, vnumber}
 use Rattle.layout.specs.declared.leaf.Leaf.{Leaf}
 use mathlib.Core.List.{List}

@@ -1,7 +1,7 @@
 use Rattle.output.proofs.Casting.{casting-none, casting-all, cast-number, cast-overflow}
-use Rattle.output.specs.Chain.{Passed, Casting}
-use Rattle.walk.specs.Standing.{WalkAt}
-use Rattle.walk.specs.State.{State}
+use Rattle.output.specs.code.Chain.{Passed, Casting}
+use Rattle.walk.specs.code.Walks.{WalkAt}
+use Rattle.walk.specs.code.State.{State}
 use Rattle.values.specs.Value.{vnumber}
 use Rattle.layout.specs.declared.leaf.Leaf.{Leaf}
 use lib.ListN.{length}

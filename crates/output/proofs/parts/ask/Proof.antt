@@ -1,9 +1,9 @@
 use Rattle.output.proofs.Asking.{Asking, asking-answer, asking-input, asking-outward, is-answer, is-input, is-outward}
 use Rattle.output.proofs.Outward.{outward-inside, entered-deep}
-use Rattle.nodes.specs.Raw.{RowAt}
-use Rattle.walk.proofs.Standing.{walk-starts}
-use Rattle.walk.specs.Standing.{WalkAt, rank}
-use Rattle.walk.specs.State.{State}
+use Rattle.nodes.specs.code.Raw.{RowAt}
+use Rattle.walk.proofs.Walks.{walk-starts}
+use Rattle.walk.specs.code.Walks.{WalkAt, rank}
+use Rattle.walk.specs.code.State.{State}
 use mathlib.Core.Path.{refl}
 use native.Mathlib.Omega.{arith}
 use borrow.Author.Needs.{needs}
@@ -25,7 +25,9 @@ ask-spec =
     (tie.spec
     Inv-loop
     μ-loop
-    (λ c. (c .before .before .before .before .pre .1 .0, c .before .before .before .before .pre .1 .1, λ X x W. record { state = x; standing = W; same = refl }))
+    (λ c.
+    let c4 = c .before .before .before .before in
+    (c4 .pre .1 .0, c4 .pre .1 .1, λ X x W. record { state = x; standing = W; same = refl }))
     (λ c κs. c .loop .inv .1)
     (λ c κs. let (R, (x, W), f) = c .before .before .loop .inv in
     let O = c .before .find-origin .ensures x W in

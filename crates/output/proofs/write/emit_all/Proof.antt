@@ -1,5 +1,5 @@
 use Rattle.output.proofs.Whole.{Running, running-none, running-past, running-all, running-asks, running-more}
-use Rattle.output.specs.Answers.{EmitAllAt}
+use Rattle.output.specs.code.Answers.{EmitAllAt}
 use lib.ListN.{length}
 use mathlib.Core.Path.{_≡_, refl, _∙_}
 use Prim.Native.Nat.{_-_}

@@ -11,7 +11,14 @@ hand-over-spec =
     (tie.spec
     (λ c. λ ρ ss a x z E. aside-exceeds ρ ss x z E (now (c .before .before .before .args .out)) (c .if1 .taken))
     (λ c. λ ρ ss a x z E. aside-tight ρ ss x z E (omega (arith, c .before .if1 .left)) (now (c .before .before .before .before .args .out)) (c .if2 .taken))
-    (λ c κs. (omega arith, c .before .before .before .before .before .pre (omega (arith, c .before .before .if1 .left)), omega (arith, c .before .before .if1 .left)))
+    (λ c κs. (
+      omega arith,
+      c .before .before .before .before .before .pre (omega (arith, c .before .before .if1 .left)),
+      omega
+          (arith, c .before .before .if1 .left),
+    ))
     (λ c. search needs)
     (λ c. λ ρ ss a x z E.
-    aside-fits ρ ss x z E (omega (arith, c .before .before .before .before .before .if1 .left)) (now (c .before .before .before .before .before .before .before .before .args .out)) (omega (arith, c .before .before .before .before .if2 .left)) (c .before .before .copy .ensures)))
+    aside-fits ρ ss x z E (omega (arith, c .before .before .before .before .before .if1 .left))
+    (now (c .before .before .before .before .before .before .before .before .args .out))
+    (omega (arith, c .before .before .before .before .if2 .left)) (c .before .before .copy .ensures)))

@@ -1,6 +1,7 @@
 -- `overflow::overflows::over_type`, `over_element` and `over_fields` meet their contracts: they call each other with the depth of the type falling; the loop
 -- keeps `Fieldings`. Assumes nothing.
-use Rattle.overflow.proofs.Paths.{Fieldings, step-top, step-leaves, step-room, step-deep, time-leaves, never-leaves, struct-leaves, list-leaves, array-leaves, fielding-none, fielding-all, fielding-labelled, fielding-type, fielding-found, fielding-more}
+use Rattle.overflow.proofs.Paths.{Fieldings, step-top, step-leaves, step-room, step-deep, time-leaves, never-leaves, struct-leaves, list-leaves}
+use Rattle.overflow.proofs.Paths.{array-leaves, fielding-none, fielding-all, fielding-labelled, fielding-type, fielding-found, fielding-more}
 use Rattle.layout.proofs.View.{deep, struct-at, list-at, array-at, never-headless, list-labelled, array-labelled}
 use borrow.Author.Needs.{needs}
 use Prim.Native.Nat.{ℕ, _<_, _+_, _-_, _*_}

@@ -15,4 +15,5 @@ top-overflows-spec =
     (c5 .pre .0, (c5 .pre .1 .0, (c5 .pre .1 .1 .0, omega (arith, c5 .pre .1 .1 .1), length-replicate {A = ℕ} 64 0))))
     (λ c. λ X T Q e.
     let c3 = c .before .before .before in
-    top-unclean (λ i. omega (arith, c3 .before .shared-slice-known2 .given i)) (λ i. omega (arith, c3 .shared-slice-known3 .given i)) X T e (c .over-type .ensures X T Q)))
+    top-unclean (λ i. omega (arith, c3 .before .shared-slice-known2 .given i)) (λ i. omega (arith, c3 .shared-slice-known3 .given i)) X T e
+    (c .over-type .ensures X T Q)))

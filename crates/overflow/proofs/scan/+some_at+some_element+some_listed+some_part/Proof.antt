@@ -1,6 +1,7 @@
 -- `overflow::scan::some_at`, `some_part`, `some_listed` and `some_element` meet their contracts: they call each other with the path getting shorter; the loop
 -- keeps `Scanning`. Assumes nothing.
-use Rattle.overflow.proofs.Scanning.{Scanning, path-end, path-cons, at-end, same-node, leaf-step, struct-step, list-step, array-step, list-elements, list-any, scanning-none, scanning-all, scanning-raw, scanning-found, scanning-stuck, scanning-more}
+use Rattle.overflow.proofs.Scanning.{Scanning, path-end, path-cons, at-end, same-node, leaf-step, struct-step, list-step, array-step, list-elements}
+use Rattle.overflow.proofs.Scanning.{list-any, scanning-none, scanning-all, scanning-raw, scanning-found, scanning-stuck, scanning-more}
 use Rattle.overflow.proofs.Raw.{leaf-value, struct-value, a-list, array-value}
 use Rattle.nodes.proofs.Node.{raw-present, raw-unread, list-is}
 use Rattle.values.proofs.Inside.{null-at, never-uncounted}
@@ -10,7 +11,7 @@ use Prim.Native.Nat.{ℕ, _<_, _+_, _-_, _*_}
 use native.Mathlib.Omega.{arith}
 use lib.ListN.{length}
 use mathlib.Core.Path.{_≡_, sym}
-use Rattle.overflow.specs.Some.{someFound}
+use Rattle.overflow.specs.code.Some.{someFound}
 use borrow.Fn.Kinds.{In}
 use borrow.Fn.PlainCycle.{Measures, is, falls, and}
 use Rattle.overflow.proofs.scan.some_at.Reads as some-at

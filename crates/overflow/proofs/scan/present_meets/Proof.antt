@@ -1,5 +1,5 @@
 -- `overflow::scan::present_meets` meets its contract: each want has its function. Assumes nothing.
-use Rattle.overflow.specs.Want.{meets}
+use Rattle.overflow.specs.code.Want.{meets}
 use borrow.Author.Needs.{needs}
 use Rattle.overflow.proofs.scan.present_meets.Statement.{statement}
 use Rattle.overflow.proofs.scan.present_meets.Tie as tie

@@ -1,8 +1,9 @@
 -- `overflow::seek::seek` meets its contract: the loop keeps `Going`. Assumes nothing.
-use Rattle.overflow.proofs.Seeking.{Going, seeking-located, seeking-no, seeking-yes, input-starts, seeking-input, outward-starts, seeking-outward, going-start}
+use Rattle.overflow.proofs.Seeking.{Going, seeking-located, seeking-no, seeking-yes, input-starts, seeking-input, outward-starts, seeking-outward}
+use Rattle.overflow.proofs.Seeking.{going-start}
 use native.Mathlib.Omega.{arith}
 use borrow.Author.Needs.{needs}
-use Rattle.walk.specs.Standing.{rank}
+use Rattle.walk.specs.code.Walks.{rank}
 use Rattle.overflow.proofs.seek.seek.Statement.{statement}
 use Rattle.overflow.proofs.seek.seek.Tie as tie
 

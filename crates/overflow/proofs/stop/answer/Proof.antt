@@ -1,5 +1,5 @@
 -- `overflow::stop::answer` meets its contract: by the answer. Assumes nothing.
-use Rattle.overflow.specs.Seek.{answered}
+use Rattle.overflow.specs.code.Seek.{answered}
 use Rattle.overflow.proofs.stop.answer.Statement.{statement}
 use Rattle.overflow.proofs.stop.answer.Tie as tie
 

@@ -1,5 +1,6 @@
 -- `overflow::stop::at_stop` meets its contract: each selector has its law in `Stops`. Assumes nothing.
-use Rattle.overflow.proofs.Stops.{position-stop, rename-stop, struct-stop, list-stop, array-stop, constant-stop, cast-stop, constant-raw, cast-type, path-room}
+use Rattle.overflow.proofs.Stops.{position-stop, rename-stop, struct-stop, list-stop, array-stop, constant-stop, cast-stop, constant-raw, cast-type}
+use Rattle.overflow.proofs.Stops.{path-room}
 use Rattle.walk.proofs.Heads.{never-refused}
 use borrow.Author.Needs.{needs}
 use Rattle.overflow.proofs.stop.at_stop.Statement.{statement}

@@ -17,7 +17,9 @@ before-cast-spec =
     (λ c. search needs)
     (λ c. search needs)
     (λ c. search needs)
-    (λ c. λ T. cast-leaf T (c .before .before .before .before .before .head .ensures .0) (c .before .before .before .before .before .before .before .args .want) (c .before .before .before .l .given .1) (c .before .time-of .ensures) (c .before-time .ensures))
+    (λ c.
+    let c3 = c .before .before .before in let c5 = c3 .before .before in let c7 = c5 .before .before in
+    λ T. cast-leaf T (c5 .head .ensures .0) (c7 .args .want) (c3 .l .given .1) (c .before .time-of .ensures) (c .before-time .ensures))
     (λ c. λ T. cast-struct T (c .before .before .head .ensures .0) (c .before .before .before .before .args .want) (c .enum-told .given .1))
     (λ c. λ T. cast-list T (c .before .before .head .ensures .0) (c .before .before .before .before .args .want) (c .enum-told2 .given .1))
     (λ c. λ T. cast-array T (c .before .before .head .ensures .0) (c .before .before .before .before .args .want) (c .enum-told3 .given .1))

@@ -1,5 +1,5 @@
 -- `overflow::stop::before_time` meets its contract: each want is a case of `timeStop`. Assumes nothing.
-use Rattle.overflow.specs.Seek.{timeStop}
+use Rattle.overflow.specs.code.Seek.{timeStop}
 use borrow.Author.Needs.{needs}
 use Rattle.overflow.proofs.stop.before_time.Statement.{statement}
 use Rattle.overflow.proofs.stop.before_time.Tie as tie

@@ -1,5 +1,5 @@
 -- `overflow::want::before_product` meets its contract: by the definition. Assumes nothing.
-use Rattle.overflow.specs.Want.{boundsBefore}
+use Rattle.overflow.specs.code.Want.{boundsBefore}
 use mathlib.Core.Path.{refl}
 use borrow.Author.Needs.{needs}
 use Rattle.overflow.proofs.want.before_product.Statement.{statement}

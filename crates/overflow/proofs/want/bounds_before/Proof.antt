@@ -1,5 +1,5 @@
 -- `overflow::want::bounds_before` meets its contract: each pair of units is a case of `unitChange`. Assumes nothing.
-use Rattle.overflow.specs.Want.{boundsBefore}
+use Rattle.overflow.specs.code.Want.{boundsBefore}
 use borrow.Author.Needs.{needs}
 use Rattle.overflow.proofs.want.bounds_before.Statement.{statement}
 use Rattle.overflow.proofs.want.bounds_before.Tie as tie

@@ -14,4 +14,6 @@ is-position-spec =
     (λ c. search needs)
     (λ c. λ h. position-untold h)
     (λ c. search needs)
-    (λ c. λ h. position-told (now (c .before .before .before .before .args .s)) (c .before .before .before .before .args .c .at) (c .before .before .before .if1 .left) (c .before .before .if2 .left) (c .before .if3 .left) h))
+    (λ c.
+    let c2 = c .before .before in let c3 = c2 .before in let c4 = c3 .before in
+    λ h. position-told (now (c4 .args .s)) (c4 .args .c .at) (c3 .if1 .left) (c2 .if2 .left) (c .before .if3 .left) h))

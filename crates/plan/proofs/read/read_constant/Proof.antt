@@ -21,5 +21,7 @@ read-constant-spec =
     let d = c .before .before .before .before .before .before .before .d .given .1 in
     let type = c .before .before .before .before .before .pass-type .ensures in
     constant-to _ _ name d type (c .before .before .before .e .given .1) (c .before .read-constant-value .ensures) (c .value-end .ensures))
-    (λ c. constant-untyped _ _ (c .before .before .before .before .before .before .before .text .ensures .0) (c .before .before .before .before .before .d .given .1) (c .before .before .before .pass-type .ensures) (c .before .k .given .1))
+    (λ c.
+    let c3 = c .before .before .before in let c5 = c3 .before .before in let c7 = c5 .before .before in
+    constant-untyped _ _ (c7 .text .ensures .0) (c5 .d .given .1) (c3 .pass-type .ensures) (c .before .k .given .1))
     (λ c. constant-stopped _ _ (c .before .before .before .text .ensures .0) (c .before .k2 .given .1)))

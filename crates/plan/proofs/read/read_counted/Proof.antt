@@ -14,7 +14,13 @@ read-counted-spec =
     (λ c. search needs)
     (λ c. search needs)
     (λ c. search needs)
-    (λ c. plan-whole _ (c .before .before .before .before .before .before .before .before .before .short .ensures) (c .before .before .before .before .before .before .before .n .given .1) (c .before .before .before .before .before .read-selectors .ensures) (c .before .before .before .e .given .1) (c .if1 .taken))
-    (λ c. plan-longer _ (c .before .before .before .before .before .before .before .before .before .short .ensures) (c .before .before .before .before .before .before .before .n .given .1) (c .before .before .before .before .before .read-selectors .ensures) (c .before .before .before .e .given .1) (c .if1 .left))
-    (λ c. plan-broken _ (c .before .before .before .before .before .before .short .ensures) (c .before .before .before .before .n .given .1) (c .before .before .read-selectors .ensures) (c .enum-told .given .1))
+    (λ c.
+    let c3 = c .before .before .before in let c5 = c3 .before .before in let c7 = c5 .before .before in let c9 = c7 .before .before in
+    plan-whole _ (c9 .short .ensures) (c7 .n .given .1) (c5 .read-selectors .ensures) (c3 .e .given .1) (c .if1 .taken))
+    (λ c.
+    let c3 = c .before .before .before in let c5 = c3 .before .before in let c7 = c5 .before .before in let c9 = c7 .before .before in
+    plan-longer _ (c9 .short .ensures) (c7 .n .given .1) (c5 .read-selectors .ensures) (c3 .e .given .1) (c .if1 .left))
+    (λ c.
+    let c2 = c .before .before in let c4 = c2 .before .before in let c6 = c4 .before .before in
+    plan-broken _ (c6 .short .ensures) (c4 .n .given .1) (c2 .read-selectors .ensures) (c .enum-told .given .1))
     (λ c. plan-uncounted _ (c .before .before .short .ensures) (c .enum-told2 .given .1)))

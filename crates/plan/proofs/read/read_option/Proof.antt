@@ -14,6 +14,10 @@ read-option-spec =
     (λ c. search needs)
     (λ c. search needs)
     (λ c. search needs)
-    (λ c. option-known _ _ (c .before .before .before .before .before .before .byte .ensures) (c .before .before .before .before .b .given .1) (c .before .before .option-of-code .ensures) (c .enum-told .given .1))
-    (λ c. option-unknown _ _ (c .before .before .before .before .before .before .byte .ensures) (c .before .before .before .before .b .given .1) (c .before .before .option-of-code .ensures) (c .enum-told2 .given .1))
+    (λ c.
+    let c2 = c .before .before in let c4 = c2 .before .before in let c6 = c4 .before .before in
+    option-known _ _ (c6 .byte .ensures) (c4 .b .given .1) (c2 .option-of-code .ensures) (c .enum-told .given .1))
+    (λ c.
+    let c2 = c .before .before in let c4 = c2 .before .before in let c6 = c4 .before .before in
+    option-unknown _ _ (c6 .byte .ensures) (c4 .b .given .1) (c2 .option-of-code .ensures) (c .enum-told2 .given .1))
     (λ c. option-stopped _ _ (c .before .before .before .byte .ensures) (c .before .k .given .1)))

@@ -6,4 +6,6 @@ use Rattle.plan.proofs.read.read_position.Tie as tie
 
 pub read-position-spec : {M : Type 1} → statement M
 read-position-spec =
-    tie.close (tie.spec (λ c κs. search needs) (λ c. search needs) (λ c. search needs) (λ c. position-to _ _ (c .before .before .before .short .ensures) (c .before .d .given .1)) (λ c. position-stopped _ _ (c .before .before .before .short .ensures) (c .before .k .given .1)))
+    tie.close (tie.spec (λ c κs. search needs) (λ c. search needs) (λ c. search needs)
+    (λ c. position-to _ _ (c .before .before .before .short .ensures) (c .before .d .given .1))
+    (λ c. position-stopped _ _ (c .before .before .before .short .ensures) (c .before .k .given .1)))

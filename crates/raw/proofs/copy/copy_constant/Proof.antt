@@ -24,19 +24,30 @@ enum-known-e c = search needs
 copy-requires : tie.Need-copy-requires
 copy-requires c κs =
     let X = c .before .before .before .before .before .before .before .before .pre .0 in
-    let (a, b) = raw-ends X (c .before .before .before .before .read-constant-value .ensures (X .type)) (λ i. omega (arith, c .before .before .before .before .before .before .before .shared-slice-known .given i)) (c .before .before .e .given .1) in
+    let (a, b) = raw-ends X (c .before .before .before .before .read-constant-value .ensures (X .type))
+    (λ i. omega (arith, c .before .before .before .before .before .before .before .shared-slice-known .given i)) (c .before .before .e .given .1) in
     (omega (arith, a), b, omega (arith, b, c .before .before .before .before .before .before .before .before .pre .1))
 
 sub-result : tie.Need-sub-result
 sub-result c =
     let X = c .before .before .before .before .before .before .before .before .before .before .before .before .before .pre .0 in
-    let (a, b) = raw-ends X (c .before .before .before .before .before .before .before .before .before .read-constant-value .ensures (X .type)) (λ i. omega (arith, c .before .before .before .before .before .before .before .before .before .before .before .before .shared-slice-known .given i)) (c .before .before .before .before .before .before .before .e .given .1) in
+    let (a, b) = raw-ends X (c .before .before .before .before .before .before .before .before .before .read-constant-value .ensures (X .type))
+    (λ i. omega (
+      arith,
+      c .before .before .before .before .before .before .before .before .before .before .before .before .shared-slice-known .given
+          i,
+    )) (c .before .before .before .before .before .before .before .e .given .1) in
     omega (arith, a)
 
 add-result : tie.Need-add-result
 add-result c =
     let X = c .before .before .before .before .before .before .before .before .before .before .before .before .before .pre .0 in
-    let (a, b) = raw-ends X (c .before .before .before .before .before .before .before .before .before .read-constant-value .ensures (X .type)) (λ i. omega (arith, c .before .before .before .before .before .before .before .before .before .before .before .before .shared-slice-known .given i)) (c .before .before .before .before .before .before .before .e .given .1) in
+    let (a, b) = raw-ends X (c .before .before .before .before .before .before .before .before .before .read-constant-value .ensures (X .type))
+    (λ i. omega (
+      arith,
+      c .before .before .before .before .before .before .before .before .before .before .before .before .shared-slice-known .given
+          i,
+    )) (c .before .before .before .before .before .before .before .e .given .1) in
     omega (arith, a, b, c .before .before .before .before .before .before .before .before .before .before .before .before .before .pre .1)
 
 enum-told : tie.Need-enum-told
@@ -49,7 +60,16 @@ returns : tie.Need-returns
 returns c = λ X.
     let r = c .before .before .before .before .before .before .before .before .before .read-constant-value .ensures (X .type) in
     let q = c .before .before .before .before .before .before .before .e .given .1 in
-    raw-stored X r (λ i. omega (arith, c .before .before .before .before .before .before .before .before .before .before .before .before .shared-slice-known .given i)) q _ _ (copy-stored (dtypeOf (X .type .tree)) _ _ (X .type .end) r (λ i. omega (arith, c .before .before .before .before .before .before .before .before .before .before .before .before .shared-slice-known .given i)) _ _ q (c .before .before .before .before .copy .ensures))
+    raw-stored X r (λ i. omega (
+      arith,
+      c .before .before .before .before .before .before .before .before .before .before .before .before
+          .shared-slice-known .given i,
+    )) q _ _ (copy-stored (dtypeOf (X .type .tree)) _ _ (X .type .end) r
+    (λ i. omega (
+      arith,
+      c .before .before .before .before .before .before .before .before .before .before .before .before .shared-slice-known .given
+          i,
+    )) _ _ q (c .before .before .before .before .copy .ensures))
 
 returns-2 : tie.Need-returns-2
 returns-2 c = λ X. raw-refused X (c .before .before .read-constant-value .ensures (X .type)) (c .enum-told .given .1)

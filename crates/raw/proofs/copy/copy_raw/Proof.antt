@@ -10,10 +10,25 @@ copy-raw-spec =
     (tie.spec
     (λ c κs. search needs)
     (λ c. search needs)
-    (λ c. let X = c .before .before .before .before .before .before .before .before .before .before .before .before .before .pre .0 in omega (arith, raw-ends X (c .before .before .before .before .before .before .before .copy-value .ensures .0 (X .type)) (λ i. omega (arith, c .before .before .before .before .before .before .before .before .before .before .before .shared-slice-known2 .given i)) (c .before .before .before .e .given .1) .0))
-    (λ c. let X = c .before .before .before .before .before .before .before .before .before .before .before .before .before .pre .0 in let (a, b) = raw-ends X (c .before .before .before .before .before .before .before .copy-value .ensures .0 (X .type)) (λ i. omega (arith, c .before .before .before .before .before .before .before .before .before .before .before .shared-slice-known2 .given i)) (c .before .before .before .e .given .1) in omega (arith, a, b, c .before .before .before .before .before .before .before .before .before .before .before .before .before .pre .1 .0))
+    (λ c. let X = c .before .before .before .before .before .before .before .before .before .before .before .before .before .pre .0 in omega (
+      arith,
+      raw-ends X (c .before .before .before .before .before .before .before .copy-value .ensures .0 (X .type))
+          (λ i. omega (arith, c .before .before .before .before .before .before .before .before .before .before .before .shared-slice-known2 .given i))
+          (c .before .before .before .e .given .1) .0,
+    ))
+    (λ c. let X = c .before .before .before .before .before .before .before .before .before .before .before .before .before .pre .0 in let (a, b) =
+    raw-ends X (c .before .before .before .before .before .before .before .copy-value .ensures .0 (X .type))
+    (λ i. omega (arith, c .before .before .before .before .before .before .before .before .before .before .before .shared-slice-known2 .given i))
+    (c .before .before .before .e .given .1) in omega (
+      arith,
+      a,
+      b,
+      c .before .before .before .before .before .before .before .before .before .before .before .before .before .pre .1 .0,
+    ))
     (λ c. search needs)
     (λ c. search needs)
-    (λ c. λ X. raw-stored X (c .before .before .before .before .before .before .before .copy-value .ensures .0 (X .type)) (λ i. omega (arith, c .before .before .before .before .before .before .before .before .before .before .before .shared-slice-known2 .given i)) (c .before .before .before .e .given .1) _ _ (c .before .before .before .before .before .before .before .copy-value .ensures .1 (X .type)))
+    (λ c. λ X. raw-stored X (c .before .before .before .before .before .before .before .copy-value .ensures .0 (X .type))
+    (λ i. omega (arith, c .before .before .before .before .before .before .before .before .before .before .before .shared-slice-known2 .given i))
+    (c .before .before .before .e .given .1) _ _ (c .before .before .before .before .before .before .before .copy-value .ensures .1 (X .type)))
     (λ c. search needs)
     (λ c. λ X. raw-refused X (c .before .before .before .before .copy-value .ensures .0 (X .type)) (c .enum-told .given .1)))

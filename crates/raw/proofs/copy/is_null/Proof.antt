@@ -8,4 +8,6 @@ use Rattle.raw.proofs.copy.is_null.Tie as tie
 pub is-null-spec : {M : Type 1} → statement M
 is-null-spec =
     tie.close
-    (tie.spec (λ c κs. search needs) (λ c. search needs) (λ c. search needs) (λ c. search needs) (λ c. λ t X e. null-at X (c .before .before .read-presence .ensures) (c .enum-told .given .1) .0) (λ c. λ t X e. true≠false e refl) (λ c. λ t X e. true≠false e refl))
+    (tie.spec (λ c κs. search needs) (λ c. search needs) (λ c. search needs) (λ c. search needs)
+    (λ c. λ t X e. null-at X (c .before .before .read-presence .ensures) (c .enum-told .given .1) .0) (λ c. λ t X e. true≠false e refl)
+    (λ c. λ t X e. true≠false e refl))

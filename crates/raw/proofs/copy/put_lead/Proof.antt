@@ -13,7 +13,9 @@ put-lead-spec =
     (λ c κs. search needs)
     (λ c. search needs)
     (λ c. search needs)
-    (λ c. unfold overlay in lead-counted _ _ _ (c .before .before .before .before .if1 .taken) (rw (c .before .before .put-number .ensures, c .before .before .before .before .before .before .before .put .ensures)))
+    (λ c.
+    let c2 = c .before .before in let c4 = c2 .before .before in let c7 = c4 .before .before .before in
+    unfold overlay in lead-counted _ _ _ (c4 .if1 .taken) (rw (c2 .put-number .ensures, c7 .put .ensures)))
     (λ c. search needs)
     (λ c. search needs)
     (λ c. unfold overlay in lead-plain _ _ _ (c .if1 .left) (c .before .before .before .put .ensures)))

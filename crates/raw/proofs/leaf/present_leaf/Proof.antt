@@ -17,7 +17,9 @@ present-leaf-spec =
     (λ c. omega (arith, c .shared-slice-known2 .given (c .before .before .before .before .before .args .c .at)))
     (λ c. search needs)
     (λ c. search needs)
-    (λ c κs. let e = sym (c .before .before .before .content-of .ensures) ∙ c .before .w .given .1 in (number-inside (c .before .before .before .before .before .pre) e, number-small (c .before .before .before .before .before .args .leaf) e))
+    (λ c κs.
+    let c3 = c .before .before .before in let c5 = c3 .before .before in
+    let e = sym (c3 .content-of .ensures) ∙ c .before .w .given .1 in (number-inside (c5 .pre) e, number-small (c5 .args .leaf) e))
     (λ c. search needs)
     (λ c κs. (decimal-inside (c .before .before .before .before .pre) (sym (c .before .before .content-of .ensures) ∙ c .enum-told3 .given .1), omega arith))
     (λ c. search needs)

@@ -1,7 +1,7 @@
 -- `rules::pair::apply_rule` meets its contract: an arm is a place in the list of rules; the default is the first place, or past the last.
 use mathlib.Core.Path.{refl, sym}
 use Rattle.rules.specs.Outcomes.{refused}
-use Rattle.rules.specs.Rules.{rules}
+use Rattle.rules.specs.code.Rules.{rules}
 use Rattle.layout.proofs.Keys.{none, first}
 use borrow.Author.Needs.{needs}
 use Rattle.rules.proofs.pair.apply_rule.Statement.{statement}

@@ -29,4 +29,5 @@ leaf-pair-spec =
     let a = c .before .before .before .before .before .before .args in
     let i = c .before .before .before .before .before .kind .ensures in
     let t = c .before .before .before .before .kind2 .ensures in
-    c .apply-rule .ensures ∙ looked-up (c .before .before .before .table .ensures) (a .p) (a .z) (a .incoming) (a .target) i t (c .before .before .lossless .ensures)))
+    c .apply-rule .ensures ∙ looked-up (c .before .before .before .table .ensures) (a .p) (a .z) (a .incoming) (a .target) i t
+    (c .before .before .lossless .ensures)))

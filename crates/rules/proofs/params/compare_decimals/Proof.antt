@@ -11,5 +11,9 @@ compare-decimals-spec =
     (tie.spec
     (λ c. unfold decimalsOf in rw (ne-eqb _ _ (c .if1 .taken)))
     (λ c. unfold decimalsOf in rw (eq-eqb _ _ (c .before .before .before .if1 .left), lt-ltb _ _ (c .if2 .taken)))
-    (λ c. unfold decimalsOf in rw (eq-eqb _ _ (c .before .before .before .before .before .before .if1 .left), le-ltb _ _ (c .before .before .before .if2 .left), eq-eqb _ _ (c .if3 .taken)))
-    (λ c. unfold decimalsOf in rw (eq-eqb _ _ (c .before .before .before .before .before .before .if1 .left), le-ltb _ _ (c .before .before .before .if2 .left), ne-eqb _ _ (c .if3 .left))))
+    (λ c.
+    let c3 = c .before .before .before in let c6 = c3 .before .before .before in
+    unfold decimalsOf in rw (eq-eqb _ _ (c6 .if1 .left), le-ltb _ _ (c3 .if2 .left), eq-eqb _ _ (c .if3 .taken)))
+    (λ c.
+    let c3 = c .before .before .before in let c6 = c3 .before .before .before in
+    unfold decimalsOf in rw (eq-eqb _ _ (c6 .if1 .left), le-ltb _ _ (c3 .if2 .left), ne-eqb _ _ (c .if3 .left))))

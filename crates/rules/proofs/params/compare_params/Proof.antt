@@ -15,12 +15,14 @@ compare-params-spec =
     (λ c κs. search needs)
     (λ c.
     let a = c .before .before .before .before .is-decimal .ensures in
-    no-decimal-target _ _ _ _ a (c .before .before .before .if1 .left) (c .before .before .is-decimal2 .ensures) (c .before .if2 .taken) (c .compare-zones2 .ensures))
+    no-decimal-target _ _ _ _ a (c .before .before .before .if1 .left) (c .before .before .is-decimal2 .ensures) (c .before .if2 .taken)
+    (c .compare-zones2 .ensures))
     (λ c κs. search needs)
     (λ c κs. search needs)
     (λ c κs. search needs)
     (λ c.
     let a = c .before .before .before .before .before .before .is-decimal .ensures in
     let b = c .before .before .before .before .is-decimal2 .ensures in
-    two-decimals _ _ _ _ a (c .before .before .before .before .before .if1 .left) b (c .before .before .before .if2 .left) (c .before .before .decimal-of .ensures)
+    two-decimals _ _ _ _ a (c .before .before .before .before .before .if1 .left) b (c .before .before .before .if2 .left)
+    (c .before .before .decimal-of .ensures)
     (c .before .decimal-of2 .ensures) (c .compare-decimals .ensures)))

@@ -1,4 +1,5 @@
-use Rattle.run.proofs.Running.{ran-refused, record-refused, run-finished, single-pass-settled, single-pass-unknown, same-buffer, row-of, row-seven, record-reads}
+use Rattle.run.proofs.Running.{ran-refused, record-refused, run-finished, single-pass-settled, single-pass-unknown, same-buffer, row-of, row-seven}
+use Rattle.run.proofs.Running.{record-reads}
 use Rattle.values.proofs.Inside.{record-at, record-fitting, record-unfilled}
 use mathlib.Core.Path.{sym, _∙_}
 use denote.Ref.{now}

@@ -22,7 +22,16 @@ abbrev type-of-below : ℕ → In 2 type-of-kinds.ps
 type-of-below t = and 2 type-of-kinds.ps (falls 2 type-of-kinds.ps _<_ μ-type-of t) type-of.Pre
 
 abbrev type-of-claims : ℕ → type-of-lts.Claims
-type-of-claims t = (head-reads.Asked, head-reads.Learnt, position-type-reads.Asked, position-type-reads.Learnt, skip-selector-reads.Asked, skip-selector-reads.Learnt, type-of-below t, type-of.Post)
+type-of-claims t = (
+  head-reads.Asked,
+  head-reads.Learnt,
+  position-type-reads.Asked,
+  position-type-reads.Learnt,
+  skip-selector-reads.Asked,
+  skip-selector-reads.Learnt,
+  type-of-below t,
+  type-of.Post,
+)
 
 pub +type-of-spec : {M : Type 1} → statement M
 +type-of-spec = close μ-type-of λ t. type-of-lts.spec (type-of-claims t)

@@ -3,7 +3,7 @@ use borrow.Author.Needs.{needs}
 use Prim.Native.Nat.{_+_, _*_, _/_, _%_}
 use native.Mathlib.Nat.{div-add-mod'}
 use native.Mathlib.Omega.{arith}
-use Rattle.text.specs.Decimal.{word, one, count}
+use Rattle.text.specs.code.Decimal.{word, one, count}
 use Rattle.text.proofs.Digits.{step}
 use Rattle.text.proofs.decimal.next_digit.Statement.{statement}
 use Rattle.text.proofs.decimal.next_digit.Tie as tie

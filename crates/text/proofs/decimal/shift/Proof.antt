@@ -4,7 +4,7 @@ use Prim.Native.Nat.{ℕ, _*_, _/_, _%_, _<_}
 use mathlib.Core.Path.{_≡_, ap, ap₂, _∙_}
 use native.Mathlib.Nat.{div-add-mod', mod-lt, div-le-self}
 use native.Mathlib.Omega.{arith}
-use Rattle.text.specs.Decimal.{word}
+use Rattle.text.specs.code.Decimal.{word}
 use Rattle.text.proofs.Digits.{power-pos, power-split, spread, under-lt}
 use Rattle.text.proofs.decimal.shift.Statement.{statement}
 use Rattle.text.proofs.decimal.shift.Tie as tie

@@ -1,6 +1,6 @@
 -- `text::floats::put_digits` meets its contract. Assumes nothing.
 use borrow.Author.Needs.{needs}
-use Rattle.text.specs.Decimal.{Words}
+use Rattle.text.specs.code.Decimal.{Words}
 use Rattle.text.proofs.floats.put_digits.Statement.{statement}
 use Rattle.text.proofs.floats.put_digits.Tie as tie
 

@@ -3,7 +3,7 @@ use borrow.Author.Needs.{needs}
 use native.Mathlib.Omega.{arith}
 use Rattle.text.proofs.Digits.{closer, still-some}
 use Prim.Native.Nat.{_+_, _-_, _<_}
-use Rattle.text.specs.Decimal.{one, count, Words}
+use Rattle.text.specs.code.Decimal.{one, count, Words}
 use Rattle.text.proofs.floats.put_small.Statement.{statement}
 use Rattle.text.proofs.floats.put_small.Tie as tie
 

@@ -30,7 +30,18 @@ chain-value-below t =
     and 3 chain-value-kinds.ps (falls 3 chain-value-kinds.ps _<_ μ-chain-value t) chain-value.Pre
 
 abbrev chain-value-claims : ℕ → chain-value-lts.Claims
-chain-value-claims t = (head-reads.Asked, head-reads.Learnt, taken-leaf-reads.Asked, taken-leaf-reads.Learnt, chain-value-below t, chain-value.Post, skip-selector-reads.Asked, skip-selector-reads.Learnt, cast-by-reads.Asked, cast-by-reads.Learnt)
+chain-value-claims t = (
+  head-reads.Asked,
+  head-reads.Learnt,
+  taken-leaf-reads.Asked,
+  taken-leaf-reads.Learnt,
+  chain-value-below t,
+  chain-value.Post,
+  skip-selector-reads.Asked,
+  skip-selector-reads.Learnt,
+  cast-by-reads.Asked,
+  cast-by-reads.Learnt,
+)
 
 pub +chain-value-spec : {M : Type 1} → statement M
 +chain-value-spec = close μ-chain-value λ t. chain-value-lts.spec (chain-value-claims t)

@@ -10,7 +10,11 @@ put-constant-spec =
     tie.close
     (tie.spec
     (λ c κs. c .before .before .pre .0 .type)
-    (λ c κs. let X = c .before .before .before .before .pre .0 in (constant-raw X (c .before .skip-type .ensures (X .type)) .raw, omega (arith, c .before .before .before .before .pre .1)))
+    (λ c κs. let X = c .before .before .before .before .pre .0 in (
+      constant-raw X (c .before .skip-type .ensures (X .type)) .raw,
+      omega
+          (arith, c .before .before .before .before .pre .1),
+    ))
     (λ c κs. search needs)
     (λ c. search needs)
     (λ c. λ X.

@@ -23,8 +23,13 @@ open-present-spec =
     (λ c. search needs)
     (λ c. search needs)
     (λ c. λ X. opened-struct X (c .before .before .before .head .ensures .0) (c .before .n .given .1))
-    (λ c. λ X. let L = list-is X (c .before .before .before .before .before .before .before .before .head .ensures .0) (c .before .before .before .before .element-label .ensures .0) (c .before .before .f .given .1) (c .before .before .before .before .before .before .e .given .1) in opened-as (L .is) (c .open-list .ensures _ _ (L .inner)))
+    (λ c.
+    let c2 = c .before .before in let c4 = c2 .before .before in let c6 = c4 .before .before in let c8 = c6 .before .before in
+    λ X. let L = list-is X (c8 .head .ensures .0) (c4 .element-label .ensures .0) (c2 .f .given .1) (c6 .e .given .1) in opened-as (L .is)
+    (c .open-list .ensures _ _ (L .inner)))
     (λ c. search needs)
-    (λ c. λ X. opened-array X (c .before .before .before .before .before .before .before .head .ensures .0) (c .before .before .before .element-label2 .ensures .0) (c .before .f2 .given .1) (c .before .before .before .before .before .w .given .1))
+    (λ c.
+    let c3 = c .before .before .before in let c5 = c3 .before .before in let c7 = c5 .before .before in
+    λ X. opened-array X (c7 .head .ensures .0) (c3 .element-label2 .ensures .0) (c .before .f2 .given .1) (c5 .w .given .1))
     (λ c. search needs)
     (λ c. search needs))

@@ -15,5 +15,7 @@ open-value-spec =
     (λ c κs. search needs)
     (λ c. search needs)
     (λ c. λ X. record { answer = null-at (X .value) (c .before .before .read-presence .ensures) (c .enum-told .given .1) .0 })
-    (λ c. λ X. let I = raw-present X (c .before .before .before .before .read-presence .ensures) (c .before .before .d .given .1) in opened-as (I .is) (c .open-present .ensures (I .inner)))
+    (λ c.
+    let c2 = c .before .before in let c4 = c2 .before .before in
+    λ X. let I = raw-present X (c4 .read-presence .ensures) (c2 .d .given .1) in opened-as (I .is) (c .open-present .ensures (I .inner)))
     (λ c. search needs))

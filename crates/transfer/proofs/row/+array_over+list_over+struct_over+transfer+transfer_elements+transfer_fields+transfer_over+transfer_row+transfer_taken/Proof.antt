@@ -1,14 +1,17 @@
 -- The functions of `transfer::row` that call each other meet their contracts, by the falling measures below. Assumes nothing.
 use mathlib.Core.Bool.{true, false}
-use Rattle.transfer.proofs.Rows.{Running, running-none, running-ends, running-all, running-head, running-more, Going, going-none, going-all, going-value, going-more, selector-moved, opened-by, constant-reached, rename-reached, struct-null, struct-row, struct-reached, list-null, list-row, list-reached, array-null, array-row, array-reached, fields-at, rename-takes, input-gives, cast-given, rename-given, struct-given, list-given, array-given, taken-node}
+use Rattle.transfer.proofs.Rows.{Running, running-none, running-ends, running-all, running-head, running-more, Going, going-none, going-all, going-value}
+use Rattle.transfer.proofs.Rows.{going-more, selector-moved, opened-by, constant-reached, rename-reached, struct-null, struct-row, struct-reached}
+use Rattle.transfer.proofs.Rows.{list-null, list-row, list-reached, array-null, array-row, array-reached, fields-at, rename-takes, input-gives}
+use Rattle.transfer.proofs.Rows.{cast-given, rename-given, struct-given, list-given, array-given, taken-node}
 use Rattle.transfer.proofs.Reaching.{unknown, reached-as, reached-end, reached-to, reached-null}
 use Rattle.transfer.proofs.Origins.{position-value}
 use Rattle.raw.proofs.Storing.{lead-short}
 use Rattle.direct.proofs.Inputs.{struct-input, list-input, array-input}
-use Rattle.nodes.specs.Raw.{ElementsAt}
-use Rattle.index.specs.Indexed.{RowIn}
+use Rattle.nodes.specs.code.Raw.{ElementsAt}
+use Rattle.index.specs.code.Indexed.{RowIn}
 use Rattle.walk.proofs.Heads.{is-position, is-constant, is-cast, is-rename, is-struct, is-list, is-array}
-use Rattle.walk.specs.Stands.{SelectorAt, SelectorsAt}
+use Rattle.walk.specs.code.Stands.{SelectorAt, SelectorsAt}
 use Rattle.plan.specs.Run.{eval}
 use Rattle.values.specs.Value.{vcons, vnil}
 use native.Mathlib.Omega.{arith}
@@ -1110,7 +1113,8 @@ transfer-over-returns-9 t c = λ ρ P N. unknown
 
 abbrev transfer-row-Inv-loop : transfer-row-lts.InvT-loop
 transfer-row-Inv-loop lay rec row types values plan out₀ ends v count levels k₀ c₀ i₀ out k c i =
-    (length out ≡ length out₀) × (k ≤ 16387) × ((X : RowIn lay rec row) (S : SelectorsAt plan count (c₀ .at)) → Running (X .values .values) S out₀ k₀ i (c .at) k out)
+    (length out ≡ length out₀) × (k ≤ 16387) × ((X : RowIn lay rec row) (S : SelectorsAt plan count (c₀ .at)) → Running (X .values .values) S out₀ k₀ i
+    (c .at) k out)
 
 abbrev transfer-row-μ-loop : transfer-row-lts.MeasureT-loop
 transfer-row-μ-loop lay rec row types values plan out₀ ends v count levels k₀ c₀ i₀ out k c i = count - i

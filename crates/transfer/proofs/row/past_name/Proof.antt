@@ -12,6 +12,8 @@ past-name-spec =
     (λ c. search needs)
     (λ c. search needs)
     (λ c. search needs)
-    (λ c. λ ok b e out k new N R. past-text N R (c .before .before .before .before .before .r .given .1) (c .before .before .before .text .ensures .0) (c .before .d .given .1))
+    (λ c.
+    let c3 = c .before .before .before in let c5 = c3 .before .before in
+    λ ok b e out k new N R. past-text N R (c5 .r .given .1) (c3 .text .ensures .0) (c .before .d .given .1))
     (λ c. search needs)
     (λ c. search needs))

@@ -13,6 +13,10 @@ pass-decimal-spec =
     (λ c κs. (decimal-room 0 _ _ (c .before .before .before .pass .ensures) (c .before .d .given .1), omega arith))
     (λ c κs. search needs)
     (λ c. search needs)
-    (λ c. decimal-good _ _ _ (c .before .before .before .before .before .before .pass .ensures) (c .before .before .before .before .d .given .1) (c .before .before .number-at .ensures) (c .before .within-precision .ensures) (c .if1 .taken))
-    (λ c. decimal-large _ _ _ (c .before .before .before .before .before .before .pass .ensures) (c .before .before .before .before .d .given .1) (c .before .before .number-at .ensures) (c .before .within-precision .ensures) (c .if1 .left))
+    (λ c.
+    let c2 = c .before .before in let c4 = c2 .before .before in let c6 = c4 .before .before in
+    decimal-good _ _ _ (c6 .pass .ensures) (c4 .d .given .1) (c2 .number-at .ensures) (c .before .within-precision .ensures) (c .if1 .taken))
+    (λ c.
+    let c2 = c .before .before in let c4 = c2 .before .before in let c6 = c4 .before .before in
+    decimal-large _ _ _ (c6 .pass .ensures) (c4 .d .given .1) (c2 .number-at .ensures) (c .before .within-precision .ensures) (c .if1 .left))
     (λ c. decimal-none _ _ _ (c .before .before .before .pass .ensures) (c .before .k .given .1)))

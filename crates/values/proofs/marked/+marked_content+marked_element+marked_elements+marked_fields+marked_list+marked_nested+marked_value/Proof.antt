@@ -1,7 +1,10 @@
 -- The proof of the cycle of calls {marked_content, marked_element, marked_elements, marked_fields, marked_list, marked_nested, marked_value}. The measure is 5
 -- for
 -- each level left, and 1, 2, 3, 3, 4, 0 and 2 more. `Fielding` and `Repeating` hold at the heads of the loops; each way has its law in `Walk`. Assumes nothing.
-use Rattle.values.proofs.Walk.{content-leaf, content-no-leaf, content-struct, content-list, content-array, element-null, element-to, element-stopped, element-refused, repeating-none, repeating-stopped, repeating-more, repeating-all, fielding-none, fielding-first, fielding-refused, fielding-labelled, fielding-more, fielding-all, list-counted, list-uncounted, value-null, value-present, value-refused, Fielding, Repeating}
+use Rattle.values.proofs.Walk.{content-leaf, content-no-leaf, content-struct, content-list, content-array, element-null, element-to, element-stopped}
+use Rattle.values.proofs.Walk.{element-refused, repeating-none, repeating-stopped, repeating-more, repeating-all, fielding-none, fielding-first}
+use Rattle.values.proofs.Walk.{fielding-refused, fielding-labelled, fielding-more, fielding-all, list-counted, list-uncounted, value-null, value-present}
+use Rattle.values.proofs.Walk.{value-refused, Fielding, Repeating}
 use Rattle.values.proofs.Numbers.{number-read}
 use Rattle.values.specs.Marked.{marksOf, valueMarked}
 use Rattle.layout.proofs.View.{deep, struct-at, list-at, array-at, list-labelled, array-labelled, never-headless}

@@ -17,10 +17,16 @@ read-number-spec =
     (λ c. search needs)
     (λ c. search needs)
     (λ c. search needs)
-    (λ c. λ mark v d P. let b = c .before .before .before .before .before .before .before .before .before .byte .ensures in
-    let a = c .before .before .before .before in
-    number-to mark P _ _ b (a .before .before .before .code .given .1) (a .before .number-bytes .ensures) (a .if1 .left) (c .before .before .before .pass .ensures) (c .before .d .given .1))
-    (λ c. λ mark v d P. let b = c .before .before .before .before .before .before .before .before .before .byte .ensures in
-    let a = c .before .before .before .before in
-    number-none mark P _ _ b (a .before .before .before .code .given .1) (a .before .number-bytes .ensures) (a .if1 .left) (c .before .before .before .pass .ensures) (c .before .k .given .1))
+    (λ c.
+    let c3 = c .before .before .before in let c4 = c3 .before in let c9 = c4 .before .before .before .before .before in
+    λ mark v d P. let b = c9 .byte .ensures in
+    let a = c4 in
+    number-to mark P _ _ b (a .before .before .before .code .given .1) (a .before .number-bytes .ensures) (a .if1 .left) (c3 .pass .ensures)
+    (c .before .d .given .1))
+    (λ c.
+    let c3 = c .before .before .before in let c4 = c3 .before in let c9 = c4 .before .before .before .before .before in
+    λ mark v d P. let b = c9 .byte .ensures in
+    let a = c4 in
+    number-none mark P _ _ b (a .before .before .before .code .given .1) (a .before .number-bytes .ensures) (a .if1 .left) (c3 .pass .ensures)
+    (c .before .k .given .1))
     (λ c. search needs))

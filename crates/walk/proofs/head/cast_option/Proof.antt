@@ -18,7 +18,17 @@ cast-option-spec =
     (λ c. search needs)
     (λ c. search needs)
     (λ c. search needs)
-    (λ c. λ T O. option-is T O (c .before .before .before .before .before .before .before .before .before .before .before .pass-type .ensures) (c .before .before .before .before .before .before .before .before .before .d .given .1) (c .before .before .before .before .before .before .before .byte .ensures) (c .before .before .before .before .before .b .given .1) (c .before .before .before .option-of-code .ensures) (c .before .o .given .1))
-    (λ c. λ T O. option-unknown T O (c .before .before .before .before .before .before .before .before .before .before .pass-type .ensures) (c .before .before .before .before .before .before .before .before .d .given .1) (c .before .before .before .before .before .before .byte .ensures) (c .before .before .before .before .b .given .1) (c .before .before .option-of-code .ensures) (c .enum-told .given .1))
-    (λ c. λ T O. option-ended T O (c .before .before .before .before .before .before .pass-type .ensures) (c .before .before .before .before .d .given .1) (c .before .before .byte .ensures) (c .enum-told2 .given .1))
+    (λ c.
+    let c3 = c .before .before .before in let c5 = c3 .before .before in let c7 = c5 .before .before in let c9 = c7 .before .before in let c11 =
+    c9 .before .before in
+    λ T O. option-is T O (c11 .pass-type .ensures) (c9 .d .given .1) (c7 .byte .ensures) (c5 .b .given .1) (c3 .option-of-code .ensures)
+    (c .before .o .given .1))
+    (λ c.
+    let c2 = c .before .before in let c4 = c2 .before .before in let c6 = c4 .before .before in let c8 = c6 .before .before in let c10 =
+    c8 .before .before in
+    λ T O. option-unknown T O (c10 .pass-type .ensures) (c8 .d .given .1) (c6 .byte .ensures) (c4 .b .given .1) (c2 .option-of-code .ensures)
+    (c .enum-told .given .1))
+    (λ c.
+    let c2 = c .before .before in let c4 = c2 .before .before in let c6 = c4 .before .before in
+    λ T O. option-ended T O (c6 .pass-type .ensures) (c4 .d .given .1) (c2 .byte .ensures) (c .enum-told2 .given .1))
     (λ c. λ T O. never-stuck T (c .before .before .pass-type .ensures) (c .enum-told3 .given .1)))

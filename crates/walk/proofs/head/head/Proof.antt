@@ -1,6 +1,7 @@
 -- `walk::head::head` meets its contract: each code has its law. Assumes nothing.
 use borrow.Author.Needs.{needs}
-use Rattle.walk.proofs.Heads.{head-ended, head-position, head-uncounted, head-constant, head-unnamed, head-cast, head-rename, head-struct, head-list, head-array, head-unknown}
+use Rattle.walk.proofs.Heads.{head-ended, head-position, head-uncounted, head-constant, head-unnamed, head-cast, head-rename, head-struct, head-list}
+use Rattle.walk.proofs.Heads.{head-array, head-unknown}
 use Rattle.walk.proofs.head.head.Statement.{statement}
 use Rattle.walk.proofs.head.head.Tie as tie
 
@@ -17,10 +18,19 @@ head-spec =
     (λ c. search needs)
     (λ c. search needs)
     (λ c. search needs)
-    (λ c. λ P. head-position P (c .before .before .before .before .before .before .before .before .byte .ensures) (c .before .before .before .before .before .before .code .given .1) (c .before .before .before .before .match2 .keys1) (c .before .before .before .short .ensures) (c .before .k .given .1))
-    (λ c. λ P. head-uncounted P (c .before .before .before .before .before .before .before .byte .ensures) (c .before .before .before .before .before .code .given .1) (c .before .before .before .match2 .keys1) (c .before .before .short .ensures) (c .enum-told .given .1))
-    (λ c. λ P. head-constant P (c .before .before .before .before .before .before .before .before .byte .ensures) (c .before .before .before .before .before .before .code .given .1) (c .before .before .before .before .match2 .keys2) (c .before .before .before .text .ensures .0) (c .before .before .before .text .ensures .1) (c .before .name .given .1))
-    (λ c. λ P. head-unnamed P (c .before .before .before .before .before .before .before .byte .ensures) (c .before .before .before .before .before .code .given .1) (c .before .before .before .match2 .keys2) (c .before .before .text .ensures .0) (c .enum-told2 .given .1))
+    (λ c.
+    let c3 = c .before .before .before in let c4 = c3 .before in let c6 = c4 .before .before in let c8 = c6 .before .before in
+    λ P. head-position P (c8 .byte .ensures) (c6 .code .given .1) (c4 .match2 .keys1) (c3 .short .ensures) (c .before .k .given .1))
+    (λ c.
+    let c2 = c .before .before in let c3 = c2 .before in let c5 = c3 .before .before in let c7 = c5 .before .before in
+    λ P. head-uncounted P (c7 .byte .ensures) (c5 .code .given .1) (c3 .match2 .keys1) (c2 .short .ensures) (c .enum-told .given .1))
+    (λ c.
+    let c3 = c .before .before .before in let c4 = c3 .before in let c6 = c4 .before .before in let c8 = c6 .before .before in
+    λ P. head-constant P (c8 .byte .ensures) (c6 .code .given .1) (c4 .match2 .keys2) (c3 .text .ensures .0) (c3 .text .ensures .1)
+    (c .before .name .given .1))
+    (λ c.
+    let c2 = c .before .before in let c3 = c2 .before in let c5 = c3 .before .before in let c7 = c5 .before .before in
+    λ P. head-unnamed P (c7 .byte .ensures) (c5 .code .given .1) (c3 .match2 .keys2) (c2 .text .ensures .0) (c .enum-told2 .given .1))
     (λ c. λ P. head-cast P (c .before .before .before .before .byte .ensures) (c .before .before .code .given .1) (c .match2 .keys3))
     (λ c. λ P. head-rename P (c .before .before .before .before .byte .ensures) (c .before .before .code .given .1) (c .match2 .keys4))
     (λ c. λ P. head-struct P (c .before .before .before .before .byte .ensures) (c .before .before .code .given .1) (c .match2 .keys5))

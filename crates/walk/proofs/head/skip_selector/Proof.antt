@@ -6,4 +6,6 @@ use Rattle.walk.proofs.head.skip_selector.Tie as tie
 
 pub skip-selector-spec : {M : Type 1} → statement M
 skip-selector-spec =
-    tie.close (tie.spec (λ c κs. search needs) (λ c. search needs) (λ c. search needs) (λ c. λ P. selector-ends P (c .before .before .before .read-selector .ensures) (c .before .e .given .1)) (λ c. λ P. selector-stuck P (c .before .before .read-selector .ensures) (c .enum-told .given .1)))
+    tie.close (tie.spec (λ c κs. search needs) (λ c. search needs) (λ c. search needs)
+    (λ c. λ P. selector-ends P (c .before .before .before .read-selector .ensures) (c .before .e .given .1))
+    (λ c. λ P. selector-stuck P (c .before .before .read-selector .ensures) (c .enum-told .given .1)))

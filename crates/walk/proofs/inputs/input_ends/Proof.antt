@@ -22,7 +22,10 @@ input-ends-spec =
     (λ c κs. search needs)
     (λ c κs. search needs)
     (λ c κs. search needs)
-    (λ c. ending (c .before .no-ends .ensures .1) (c .before .before .before .chained .ensures) (c .before .before .skip-selector .ensures) (c .before .no-ends .ensures .0 (now (c .before .before .before .before .before .args .plan))) (c .knowing .ensures))
+    (λ c.
+    let c1 = c .before in let c2 = c1 .before in let c3 = c2 .before in let c5 = c3 .before .before in
+    ending (c1 .no-ends .ensures .1) (c3 .chained .ensures) (c2 .skip-selector .ensures) (c1 .no-ends .ensures .0 (now (c5 .args .plan)))
+    (c .knowing .ensures))
     (λ c. search needs)
     (λ c. search needs)
     (λ c κs. search needs)

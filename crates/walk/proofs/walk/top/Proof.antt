@@ -1,5 +1,5 @@
 -- `walk::walk::top` meets its contract: nothing is entered. Assumes nothing.
-use Rattle.walk.proofs.Standing.{top}
+use Rattle.walk.proofs.Walks.{top}
 use mathlib.Core.Path.{refl}
 use Rattle.walk.proofs.walk.top.Statement.{statement}
 use Rattle.walk.proofs.walk.top.Tie as tie

@@ -1,7 +1,7 @@
 -- `layout::cursor::Cursor::datetime_head` meets its contract: each way through it is found by the rules `ways`. Assumes nothing.
 use borrow.Author.Needs.{needs}
 use Rattle.layout.proofs.Ways.{ways}
-use Rattle.layout.specs.Layout.{datetimeKind}
+use Rattle.layout.specs.Layout.{datetimeHead}
 use Rattle.layout.proofs.cursor.Cursor.datetime_head.Statement.{statement}
 use Rattle.layout.proofs.cursor.Cursor.datetime_head.Tie as tie
 
@@ -15,6 +15,6 @@ datetime-head-spec =
     (λ c. search needs)
     (λ c. search needs)
     (λ c. search needs)
-    (λ c. unfold datetimeKind in search (ways, needs) depth 12)
-    (λ c. unfold datetimeKind in search (ways, needs) depth 12)
-    (λ c. unfold datetimeKind in search (ways, needs) depth 12))
+    (λ c. unfold datetimeHead in search (ways, needs) depth 12)
+    (λ c. unfold datetimeHead in search (ways, needs) depth 12)
+    (λ c. unfold datetimeHead in search (ways, needs) depth 12))

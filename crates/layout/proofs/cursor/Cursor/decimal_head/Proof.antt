@@ -1,7 +1,7 @@
 -- `layout::cursor::Cursor::decimal_head` meets its contract: each way through it is found by the rules `ways`. Assumes nothing.
 use borrow.Author.Needs.{needs}
 use Rattle.layout.proofs.Ways.{ways}
-use Rattle.layout.specs.Layout.{decimalKind}
+use Rattle.layout.specs.Layout.{decimalHead}
 use Rattle.layout.proofs.cursor.Cursor.decimal_head.Statement.{statement}
 use Rattle.layout.proofs.cursor.Cursor.decimal_head.Tie as tie
 
@@ -12,5 +12,5 @@ decimal-head-spec =
     (λ c κs. search needs)
     (λ c. search needs)
     (λ c. search needs)
-    (λ c. unfold decimalKind in search (ways, needs) depth 12)
-    (λ c. unfold decimalKind in search (ways, needs) depth 12))
+    (λ c. unfold decimalHead in search (ways, needs) depth 12)
+    (λ c. unfold decimalHead in search (ways, needs) depth 12))

@@ -18,4 +18,6 @@ from-word-spec =
     (λ c κs. search needs)
     (λ c κs. search needs)
     (λ c κs. search needs)
-    (λ c. rw (c .ignore-if2 .ensures, c .before .insert-if2 .ensures, c .before .before .ignore-if .ensures, c .before .before .before .insert-if .ensures, by-one (c .before .before .before .before .args .word))))
+    (λ c.
+    let c2 = c .before .before in let c3 = c2 .before in let c4 = c3 .before in
+    rw (c .ignore-if2 .ensures, c .before .insert-if2 .ensures, c2 .ignore-if .ensures, c3 .insert-if .ensures, by-one (c4 .args .word))))

@@ -1,6 +1,6 @@
 -- `walk::walk::Walk::child` meets its contract: the input is skipped. Assumes nothing.
 use borrow.Author.Needs.{needs}
-use Rattle.walk.proofs.Standing.{walk-small}
+use Rattle.walk.proofs.Walks.{walk-small}
 use denote.Ref.{now}
 use Rattle.walk.proofs.walk.Walk.child.Statement.{statement}
 use Rattle.walk.proofs.walk.Walk.child.Tie as tie

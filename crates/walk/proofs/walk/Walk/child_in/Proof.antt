@@ -1,6 +1,6 @@
 -- `walk::walk::Walk::child_in` meets its contract: the input's end is known or found. Assumes nothing.
 use borrow.Author.Needs.{needs}
-use Rattle.walk.proofs.Standing.{walk-small}
+use Rattle.walk.proofs.Walks.{walk-small}
 use denote.Ref.{now}
 use Rattle.walk.proofs.walk.Walk.child_in.Statement.{statement}
 use Rattle.walk.proofs.walk.Walk.child_in.Tie as tie

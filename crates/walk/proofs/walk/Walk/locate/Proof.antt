@@ -1,9 +1,9 @@
 -- `walk::walk::Walk::locate` meets its contract: each move leaves less, and none is left at the end. Assumes nothing.
 use borrow.Author.Needs.{needs}
 use denote.Ref.{now}
-use Rattle.walk.specs.State.{State}
-use Rattle.walk.specs.Ends.{EndsAt}
-use Rattle.walk.specs.Standing.{WalkAt, rank}
+use Rattle.walk.specs.code.State.{State}
+use Rattle.walk.specs.code.Ends.{EndsAt}
+use Rattle.walk.specs.code.Walks.{WalkAt, rank}
 use Rattle.walk.proofs.Moving.{Walking, walking-none, walking-input, walking-enter, walking-leave, walking-done, input-asks, enter-asks, leave-asks}
 use Rattle.walk.proofs.walk.Walk.locate.Statement.{statement}
 use Rattle.walk.proofs.walk.Walk.locate.Tie as tie
@@ -23,18 +23,52 @@ locate-spec =
     (λ c κs. search needs)
     (λ c. (λ x M. walking-none M, c .no-ends .ensures .0 (now (c .before .before .args .plan))))
     (λ c κs. let N = c .loop .inv .0 (c .before .before .before .pre .0) (c .before .before .before .pre .1) in ((N .state, N .standing), c .loop .inv .1))
-    (λ c κs. let N = c .before .loop .inv .0 (c .before .before .before .before .pre .0) (c .before .before .before .before .pre .1) in ((N .state, N .standing), c .ends-ahead .ensures))
+    (λ c κs.
+    let c4 = c .before .before .before .before in
+    let N = c .before .loop .inv .0 (c4 .pre .0) (c4 .pre .1) in ((N .state, N .standing), c .ends-ahead .ensures))
     (λ c. search needs)
-    (λ c κs. let N = c .before .before .before .before .loop .inv .0 (c .before .before .before .before .before .before .before .pre .0) (c .before .before .before .before .before .before .before .pre .1) in input-asks N (c .before .before .next-move .ensures (N .state) (N .standing)))
-    (λ c. let N = c .before .before .before .before .before .loop .inv .0 (c .before .before .before .before .before .before .before .before .pre .0) (c .before .before .before .before .before .before .before .before .pre .1) in walking-input N (c .before .before .before .next-move .ensures (N .state) (N .standing)) (c .before .enum-told .given .1) (c .to-input .ensures) .1)
-    (λ c. (λ x M. let N = c .before .before .before .before .before .loop .inv .0 x M in walking-input N (c .before .before .before .next-move .ensures (N .state) (N .standing)) (c .before .enum-told .given .1) (c .to-input .ensures) .0, c .before .before .before .before .ends-ahead .ensures))
+    (λ c κs.
+    let c2 = c .before .before in let c4 = c2 .before .before in let c7 = c4 .before .before .before in
+    let N = c4 .loop .inv .0 (c7 .pre .0) (c7 .pre .1) in input-asks N (c2 .next-move .ensures (N .state) (N .standing)))
+    (λ c.
+    let c3 = c .before .before .before in let c5 = c3 .before .before in let c8 = c5 .before .before .before in
+    let N = c5 .loop .inv .0 (c8 .pre .0) (c8 .pre .1) in walking-input N (c3 .next-move .ensures (N .state) (N .standing))
+    (c .before .enum-told .given .1) (c .to-input .ensures) .1)
+    (λ c.
+    let c3 = c .before .before .before in let c4 = c3 .before in let c5 = c4 .before in (
+      λ x M. let N = c5 .loop .inv .0 x M in walking-input N (c3 .next-move .ensures (N .state) (N .standing)) (c .before .enum-told .given .1)
+          (c .to-input .ensures) .0,
+      c4 .ends-ahead .ensures,
+    ))
     (λ c. search needs)
-    (λ c κs. let N = c .before .before .before .before .before .loop .inv .0 (c .before .before .before .before .before .before .before .before .pre .0) (c .before .before .before .before .before .before .before .before .pre .1) in enter-asks N (c .before .before .before .next-move .ensures (N .state) (N .standing)) (c .before .part .given .1))
-    (λ c. let N = c .before .before .before .before .before .before .loop .inv .0 (c .before .before .before .before .before .before .before .before .before .pre .0) (c .before .before .before .before .before .before .before .before .before .pre .1) in walking-enter N (c .before .before .before .before .next-move .ensures (N .state) (N .standing)) (c .before .before .part .given .1) (c .enter .ensures) .1)
-    (λ c. (λ x M. let N = c .before .before .before .before .before .before .loop .inv .0 x M in walking-enter N (c .before .before .before .before .next-move .ensures (N .state) (N .standing)) (c .before .before .part .given .1) (c .enter .ensures) .0, c .before .before .before .before .before .ends-ahead .ensures))
+    (λ c κs.
+    let c3 = c .before .before .before in let c5 = c3 .before .before in let c8 = c5 .before .before .before in
+    let N = c5 .loop .inv .0 (c8 .pre .0) (c8 .pre .1) in enter-asks N (c3 .next-move .ensures (N .state) (N .standing)) (c .before .part .given .1))
+    (λ c.
+    let c2 = c .before .before in let c4 = c2 .before .before in let c6 = c4 .before .before in let c9 = c6 .before .before .before in
+    let N = c6 .loop .inv .0 (c9 .pre .0) (c9 .pre .1) in walking-enter N (c4 .next-move .ensures (N .state) (N .standing)) (c2 .part .given .1)
+    (c .enter .ensures) .1)
+    (λ c.
+    let c2 = c .before .before in let c4 = c2 .before .before in let c5 = c4 .before in let c6 = c5 .before in (
+      λ x M. let N = c6 .loop .inv .0 x M in walking-enter N (c4 .next-move .ensures (N .state) (N .standing)) (c2 .part .given .1)
+          (c .enter .ensures) .0,
+      c5 .ends-ahead .ensures,
+    ))
     (λ c. search needs)
-    (λ c κs. let N = c .before .before .before .before .before .loop .inv .0 (c .before .before .before .before .before .before .before .before .pre .0) (c .before .before .before .before .before .before .before .before .pre .1) in leave-asks N (c .before .before .before .next-move .ensures (N .state) (N .standing)) (c .before .k .given .1))
-    (λ c. let N = c .before .before .before .before .before .before .loop .inv .0 (c .before .before .before .before .before .before .before .before .before .pre .0) (c .before .before .before .before .before .before .before .before .before .pre .1) in walking-leave N (c .before .before .before .before .next-move .ensures (N .state) (N .standing)) (c .before .before .k .given .1) (c .leave .ensures) .1)
-    (λ c. (λ x M. let N = c .before .before .before .before .before .before .loop .inv .0 x M in walking-leave N (c .before .before .before .before .next-move .ensures (N .state) (N .standing)) (c .before .before .k .given .1) (c .leave .ensures) .0, c .before .before .before .before .before .ends-ahead .ensures))
+    (λ c κs.
+    let c3 = c .before .before .before in let c5 = c3 .before .before in let c8 = c5 .before .before .before in
+    let N = c5 .loop .inv .0 (c8 .pre .0) (c8 .pre .1) in leave-asks N (c3 .next-move .ensures (N .state) (N .standing)) (c .before .k .given .1))
+    (λ c.
+    let c2 = c .before .before in let c4 = c2 .before .before in let c6 = c4 .before .before in let c9 = c6 .before .before .before in
+    let N = c6 .loop .inv .0 (c9 .pre .0) (c9 .pre .1) in walking-leave N (c4 .next-move .ensures (N .state) (N .standing)) (c2 .k .given .1)
+    (c .leave .ensures) .1)
+    (λ c.
+    let c2 = c .before .before in let c4 = c2 .before .before in let c5 = c4 .before in let c6 = c5 .before in (
+      λ x M. let N = c6 .loop .inv .0 x M in walking-leave N (c4 .next-move .ensures (N .state) (N .standing)) (c2 .k .given .1)
+          (c .leave .ensures) .0,
+      c5 .ends-ahead .ensures,
+    ))
     (λ c. search needs)
-    (λ c. λ x M. let N = c .before .before .before .before .loop .inv .0 x M in walking-done N (c .before .before .next-move .ensures (N .state) (N .standing)) (c .enum-told2 .given .1)))
+    (λ c.
+    let c2 = c .before .before in let c4 = c2 .before .before in
+    λ x M. let N = c4 .loop .inv .0 x M in walking-done N (c2 .next-move .ensures (N .state) (N .standing)) (c .enum-told2 .given .1)))

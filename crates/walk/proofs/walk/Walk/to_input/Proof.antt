@@ -1,6 +1,6 @@
 -- `walk::walk::Walk::to_input` meets its contract: the input stands behind the code. Assumes nothing.
 use borrow.Author.Needs.{needs}
-use Rattle.walk.proofs.Standing.{to-input}
+use Rattle.walk.proofs.Walks.{to-input}
 use Rattle.walk.proofs.walk.Walk.to_input.Statement.{statement}
 use Rattle.walk.proofs.walk.Walk.to_input.Tie as tie
 

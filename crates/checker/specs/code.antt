@@ -1,0 +1,6 @@
+pub mod Shallow
+pub mod TypesAt
+pub mod Limits
+pub mod Same
+pub mod Checking
+pub mod Tops

@@ -1,0 +1,5 @@
+pub mod Places
+pub mod Scopes
+pub mod Insides
+pub mod Fits
+pub mod Inputs

@@ -1,0 +1,5 @@
+pub mod Answers
+pub mod Scan
+pub mod Pass
+pub mod Seen
+pub mod Stands

@@ -1,0 +1,5 @@
+pub mod Incoming
+pub mod Places
+pub mod Stops
+pub mod Marked
+pub mod Nulls

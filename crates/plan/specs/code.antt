@@ -1,0 +1,5 @@
+pub mod Paths
+pub mod Fits
+pub mod Formed
+pub mod Fallback
+pub mod Answers

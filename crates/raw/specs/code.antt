@@ -1,0 +1,3 @@
+pub mod Constant
+pub mod Number
+pub mod Stored

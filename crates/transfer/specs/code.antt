@@ -1,0 +1,4 @@
+pub mod Reaching
+pub mod Opening
+pub mod Chains
+pub mod Given

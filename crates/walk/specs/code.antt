@@ -1,0 +1,9 @@
+pub mod Stands
+pub mod Parts
+pub mod Ends
+pub mod State
+pub mod Moves
+pub mod Types
+pub mod Values
+pub mod Walks
+pub mod Children
