@@ -1,12 +1,14 @@
 // Whether one pass settles a plan or a record that was accepted.
 use infer::target::fits_target;
+use layout::columns::ColumnRange;
 use layout::cursor::Cursor;
 use layout::read::LayoutRead;
 use layout::read::read_layout;
+use output::write::scratch;
 use plan::read::PlanRead;
 use plan::read::read_plan;
-use run::single_pass::Direct;
-use run::single_pass::write_direct;
+use run::single_pass::SinglePass;
+use run::single_pass::write_single_pass;
 use values::record::RecordRead;
 use values::record::read_record;
 
@@ -35,6 +37,7 @@ pub fn checks(incoming: &[u8], target: &[u8], plan: &[u8]) -> bool {
 // Whether `composed` writes the output of a plan for a record.
 pub fn writes(incoming: &[u8], plan: &[u8], rec: &[u8], output: &mut [u8]) -> bool {
     let none: [u16; 1] = [0; 1];
+    let mut aside = scratch();
     match read_layout(incoming) {
         LayoutRead::Read {
             edition: v,
@@ -49,19 +52,27 @@ pub fn writes(incoming: &[u8], plan: &[u8], rec: &[u8], output: &mut [u8]) -> bo
                 rec,
                 &none[..0],
             ) {
-                RecordRead::Fits => match write_direct(
-                    incoming,
-                    v,
-                    n,
-                    rec,
-                    plan,
-                    count,
-                    output,
-                    &none[..0],
-                ) {
-                    Direct::Is(_) => true,
-                    Direct::Unknown => false,
-                },
+                RecordRead::Fits => {
+                    let first = Cursor { at: 7 };
+                    let columns = ColumnRange {
+                        edition: v,
+                        count: n,
+                        first,
+                    };
+                    match write_single_pass(
+                        incoming,
+                        columns,
+                        rec,
+                        plan,
+                        count,
+                        &mut aside,
+                        output,
+                        &none[..0],
+                    ) {
+                        SinglePass::Is(_) => true,
+                        SinglePass::Unknown => false,
+                    }
+                }
                 RecordRead::Refused(_) => false,
             },
             PlanRead::Refused(_) => false,
