@@ -1,4 +1,5 @@
--- A default that is put in is not null (a null value is not taken), so whether no required field would be null is told by its parts. Assumes nothing.
+-- A default that is put in is not null (a null value is not taken), so whether no required field would be null is told
+-- by its parts. Assumes nothing.
 use Prim.Native.Nat.{ℕ, zero, suc}
 use mathlib.Core.Path.{_≡_, refl, sym, ap, _∙_}
 use mathlib.Core.Bool.{Bool, true, false, not, _&&_}

@@ -1,4 +1,5 @@
--- Test 12 by the reader's test of siblings: columns that stand there are read under the rule of names exactly where no name is repeated. Assumes nothing.
+-- Test 12 by the reader's test of siblings: columns that stand there are read under the rule of names exactly where no
+-- name is repeated. Assumes nothing.
 use Prim.Native.Nat.{ℕ, zero, suc, _+_}
 use mathlib.Core.Path.{_≡_, refl, sym, ap, _∙_}
 use mathlib.Core.List.{List, [], _∷_, _++_}

@@ -1,4 +1,5 @@
--- Laws of the matchers over a variable answer X: what a mapping or a rename around it answers and writes. Assumes nothing.
+-- Laws of the matchers over a variable answer X: what a mapping or a rename around it answers and writes. Assumes
+-- nothing.
 use Prim.Native.Nat.{ℕ, suc, _+_, _*_, _≤_, _<_}
 use mathlib.Core.Path.{_≡_, refl, sym, ap, _∙_, subst}
 use mathlib.Core.Bool.{Bool, true, false, _&&_}

@@ -74,7 +74,8 @@ pub fn both(a: bool, b: bool) -> bool
     if a { b } else { false }
 }
 
-// A mapping is left out when its selectors take each its own position and their counts are equal: `is_input_passthrough`.
+// A mapping is left out when its selectors take each its own position and their counts are equal:
+// `is_input_passthrough`.
 pub fn unchanged(n: u16, m: u16, same: bool) -> bool
     ensures { λ r. ⌜ r ≡ (eqb n m && same) ⌝ }
 {

@@ -74,7 +74,8 @@ pub fn needs_rename(how: Matching, incoming: &[u8], l: Label, target: &[u8], m: 
     }
 }
 
-// Test 55 (document 02, L5): a required target column takes a required incoming one, whose type is not null. Of the target column this is the mark.
+// Test 55 (document 02, L5): a required target column takes a required incoming one, whose type is not null. Of the
+// target column this is the mark.
 pub fn keeps_required(incoming: &[u8], column: Column, required: bool) -> bool
     ensures { λ r. ⌜ KeepsRequired column required (now (incoming .entry)) r ⌝ }
 {

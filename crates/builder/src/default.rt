@@ -1,4 +1,5 @@
-// The value of a target column with no counterpart, as source 000's `build_iceberg_default_value` finds it, and the constant that holds it.
+// The value of a target column with no counterpart, as source 000's `build_iceberg_default_value` finds it, and the
+// constant that holds it.
 ghost use mathlib.Core.Path.{_≡_};
 ghost use mathlib.Core.Bool.{_||_};
 ghost use Prim.Native.Nat.{ℕ, _+_, _*_, _^_, _≤_, _<_};
@@ -41,14 +42,16 @@ use rules::policy::Policy;
 use store::copy;
 use store::put;
 
-// A refusal's number; no default, and a null was written; or the length of the value that was written, and whether no required field inside it is null.
+// A refusal's number; no default, and a null was written; or the length of the value that was written, and whether no
+// required field inside it is null.
 pub enum DefaultMade {
     Refused(u8),
     None,
     Some(usize, bool),
 }
 
-// The same for the values of a struct's fields: whether one has a default, whether no required one is null, and their length.
+// The same for the values of a struct's fields: whether one has a default, whether no required one is null, and their
+// length.
 pub enum DefaultsMade {
     Failed(u8),
     Done(bool, bool, usize),
@@ -291,8 +294,8 @@ fn constant_made(head: usize, made: DefaultMade) -> Made
     }
 }
 
-// A target column with no counterpart: under Insert a constant of its default, or else of null; otherwise the refusal. 54 is tested once that default
-// is worked out.
+// A target column with no counterpart: under Insert a constant of its default, or else of null; otherwise the refusal.
+// 54 is tested once that default is worked out.
 pub fn put_missing(
     build: Build,
     table: &[u8],

@@ -66,8 +66,8 @@ fn distinct_few(s: &[u8], v: Edition, depth: u8, n: u16, c: Cursor) -> bool
     true
 }
 
-// No name is repeated among `n` columns. Many are read again under the rule of names, which is the reader's own test of siblings, with its table in
-// the arena.
+// No name is repeated among `n` columns. Many are read again under the rule of names, which is the reader's own test of
+// siblings, with its table in the arena.
 pub fn distinct_names(s: &[u8], v: Edition, depth: u8, n: u16, c: Cursor, arena: &mut [u16]) -> bool
     requires { ⌜ ColumnsAt v depth (now s) n (c .at) ⌝ }
     ensures { λ r. ⌜ ((P : ColumnsAt v depth (now (s .entry)) n (c .at)) → r ≡ distinctNames (P .columns)) ⌝ }
@@ -168,7 +168,8 @@ fn no_extra_in(build: Build, incoming: &[u8], target: &[u8], rows: Rows, chains:
     true
 }
 
-// Test 13: each incoming field has a counterpart among the target's. A table of these stands in the arena while it runs.
+// Test 13: each incoming field has a counterpart among the target's. A table of these stands in the arena while it
+// runs.
 pub fn no_extra(build: Build, incoming: &[u8], target: &[u8], rows: Rows, arena: &mut [u16]) -> bool
     requires { ⌜ RowsAt build rows (now incoming) (now target) ⌝ }
     ensures { λ r. ⌜ NoExtra build rows (now (incoming .entry)) (now (target .entry)) r ⌝ }

@@ -1,4 +1,5 @@
--- The loop that looks for an extra column: what is answered of the columns that are left is answered of all. Assumes nothing.
+-- The loop that looks for an extra column: what is answered of the columns that are left is answered of all. Assumes
+-- nothing.
 use Prim.Native.Nat.{ℕ, _+_, _-_, _≤_, _<_}
 use mathlib.Core.Path.{_≡_, refl, sym, ap, _∙_}
 use mathlib.Core.Bool.{Bool, true, false}

@@ -83,7 +83,8 @@ fn accepted(line: &[u8], k: usize, given: u64, buffer: &[u8]) -> Outcome {
     }
 }
 
-// A call that was lent a buffer filled as above: an answer 0 is followed by the result's bytes; a refused call changed nothing.
+// A call that was lent a buffer filled as above: an answer 0 is followed by the result's bytes; a refused call changed
+// nothing.
 pub fn written(line: &[u8], k: usize, given: u64, buffer: &[u8]) -> Outcome
     requires { ⌜ k < 16 ⌝ }
 {

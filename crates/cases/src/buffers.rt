@@ -1,5 +1,5 @@
-// Buffers for what the words of a line stand for, longer than the limits allow. Each is a function's result, of which a caller knows the length alone: written in place,
-// a list of that length would be computed in the caller's proof.
+// Buffers for what the words of a line stand for, longer than the limits allow. Each is a function's result, of which a
+// caller knows the length alone: written in place, a list of that length would be computed in the caller's proof.
 ghost use mathlib.Core.Path.{_≡_};
 ghost use Prim.Native.Nat.{_<_};
 ghost use lib.ListN.{length};

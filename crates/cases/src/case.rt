@@ -1,5 +1,5 @@
-// One case: a line of the list, replayed by the call that its first word names. Another call is added by a function like `layout_case`
-// and a kind: a line here in `kind_of`, `answer_word` and `replay_case`, and a count in the tally.
+// One case: a line of the list, replayed by the call that its first word names. Another call is added by a function
+// like `layout_case` and a kind: a line here in `kind_of`, `answer_word` and `replay_case`, and a count in the tally.
 use crate::answer::Expected;
 use crate::answer::compared;
 use crate::answer::expected_answer;

@@ -1,4 +1,5 @@
-// How many of the accepted cases one pass settles. A pass that settles nothing would meet its contract, and change these counts.
+// How many of the accepted cases one pass settles. A pass that settles nothing would meet its contract, and change
+// these counts.
 ghost use Prim.Native.Nat.{_<_};
 use crate::buffers::plan_buffer;
 use crate::buffers::short_buffer;

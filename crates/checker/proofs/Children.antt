@@ -1,4 +1,5 @@
--- The selectors of a struct mapping that makes a type, one after the other (`walk/proofs/Children.antt`). Assumes nothing.
+-- The selectors of a struct mapping that makes a type, one after the other (`walk/proofs/Children.antt`). Assumes
+-- nothing.
 use Prim.Native.Nat.{ℕ, _+_, _<_}
 use mathlib.Core.Path.{_≡_, _∙_}
 use native.Mathlib.Omega.{arith}

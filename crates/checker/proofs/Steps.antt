@@ -1,5 +1,5 @@
--- A walk through selectors that passed the check keeps the type where it stands, and where it stops a path is left only of a column, a constant or a cast.
--- Assumes nothing.
+-- A walk through selectors that passed the check keeps the type where it stands, and where it stops a path is left only
+-- of a column, a constant or a cast. Assumes nothing.
 use Prim.Native.Nat.{ℕ, zero, suc, _≤_, _<_}
 use mathlib.Core.Path.{_≡_, refl, sym, ap, _∙_, subst}
 use mathlib.Core.List.{List, [], _∷_}

@@ -1,4 +1,5 @@
--- What is within the limits of a result without being measured: a part of what is within them, a column of a layout, a transform's result. Assumes nothing.
+-- What is within the limits of a result without being measured: a part of what is within them, a column of a layout, a
+-- transform's result. Assumes nothing.
 use Prim.Native.Nat.{ℕ, zero, suc, _+_, _≤_}
 use mathlib.Core.Path.{_≡_, refl, sym, ap, _∙_}
 use mathlib.Core.Bool.{Bool, true, false, _&&_, true≢false}

@@ -1,4 +1,5 @@
-// Refusal 32 for a result type: deeper than 16, or over 16,384 bytes in version 1 form. A type is measured within the levels and bytes that are left, so that none is looked at past the limit.
+// Refusal 32 for a result type: deeper than 16, or over 16,384 bytes in version 1 form. A type is measured within the
+// levels and bytes that are left, so that none is looked at past the limit.
 ghost use mathlib.Core.Path.{_≡_};
 ghost use mathlib.Core.Bool.{Bool};
 ghost use Prim.Native.Nat.{ℕ, _+_, _^_, _<_, max};
@@ -33,8 +34,8 @@ pub enum Fit {
     Over,
 }
 
-// What is known of the type of what a selector gives: the length in version 1 form and the depth of a transform's result. A position
-// or a constant is measured only where something is made of it.
+// What is known of the type of what a selector gives: the length in version 1 form and the depth of a transform's
+// result. A position or a constant is measured only where something is made of it.
 pub enum Size {
     Is(usize, u8),
     Unknown,

@@ -1,4 +1,5 @@
-// Refusal 33 for a type: whether the type of what a selector gives is the same as one of the target's, ids and element names dropped.
+// Refusal 33 for a type: whether the type of what a selector gives is the same as one of the target's, ids and element
+// names dropped.
 ghost use mathlib.Core.Path.{_≡_};
 ghost use mathlib.Core.Bool.{_&&_};
 ghost use Prim.Native.Nat.{ℕ};

@@ -1,5 +1,5 @@
-// The check of one selector: 31 no such position, 32 a transform that doesn't fit. "Selectors in order, input before transform (a mapping's input kind, then its selectors, then its
-// result)."
+// The check of one selector: 31 no such position, 32 a transform that doesn't fit. "Selectors in order, input before
+// transform (a mapping's input kind, then its selectors, then its result)."
 ghost use mathlib.Core.Path.{_≡_};
 ghost use mathlib.Core.Bool.{Bool, true, false};
 ghost use Prim.Native.Nat.{ℕ};
@@ -93,7 +93,8 @@ fn scope_count(incoming: &[u8], v: Edition, n: u16, plan: &[u8], w: Walk) -> u16
     }
 }
 
-// Whether the types of all columns that positions can take from are known to be within the limits: those of a layout that is no longer than a type may be.
+// Whether the types of all columns that positions can take from are known to be within the limits: those of a layout
+// that is no longer than a type may be.
 fn columns_within(incoming: &[u8], w: Walk) -> bool
     ensures { λ r. ⌜ (r ≡ true → (v : EditionOf) (n : ℕ) (plan : Bytes) (Δ : Fields) → ScopedAt (now (incoming .entry)) v n plan w Δ → Limited Δ) ⌝ }
 {
@@ -115,8 +116,8 @@ fn is_within(f: Fit) -> bool
     }
 }
 
-// Whether the type of what the input at `x` gives, once it has passed, is known to be within the limits: a transform's result was measured, and
-// a position takes a column of the scope.
+// Whether the type of what the input at `x` gives, once it has passed, is known to be within the limits: a transform's
+// result was measured, and a position takes a column of the scope.
 fn input_within(plan: &[u8], x: Walk, scope: ScopeColumns) -> bool
     requires { ⌜ SelectorAt (now plan) (x .at) ⌝ }
     ensures { λ r. ⌜ (r ≡ true → (incoming : Bytes) (v : EditionOf) (n : ℕ) (s : Selector) (Δ : Fields) (a : Column) → CheckingAt incoming v n (now (plan .entry)) x s Δ → ScopeIs scope Δ → typeOf Δ s ≡ gives a → withinLimits (a .type) ≡ true) ⌝ }
@@ -221,8 +222,9 @@ fn check_source(plan: &[u8], w: Walk, scope: u16) -> Measured
     }
 }
 
-// What is left of a transform's check once its input has passed: nothing; or the selectors of a struct mapping, so many of them over so
-// many columns; or the selector of a list or array mapping, with how many bytes the head of such a type has.
+// What is left of a transform's check once its input has passed: nothing; or the selectors of a struct mapping, so many
+// of them over so many columns; or the selector of a list or array mapping, with how many bytes the head of such a type
+// has.
 pub enum Rest {
     Passed(Size),
     Refused(u8),
@@ -275,8 +277,8 @@ fn arrayed_left(h: TypeHead) -> Rest
     }
 }
 
-// A transform whose input, at which `x` stands, has passed and is within the limits, if that is known: the result of a cast or rename, the
-// kind of a mapping's input.
+// A transform whose input, at which `x` stands, has passed and is within the limits, if that is known: the result of a
+// cast or rename, the kind of a mapping's input.
 fn check_input(
     incoming: &[u8],
     v: Edition,
@@ -326,8 +328,8 @@ fn check_scoped(
     check_source(plan, w, scope.count)
 }
 
-// The input of a transform, then what is left. What a level of nesting keeps on the stack is here and in the two functions below; the
-// larger work is done in functions that return before the next level.
+// The input of a transform, then what is left. What a level of nesting keeps on the stack is here and in the two
+// functions below; the larger work is done in functions that return before the next level.
 fn check_transform(
     incoming: &[u8],
     v: Edition,
@@ -357,7 +359,8 @@ fn check_transform(
     }
 }
 
-// The selectors of a struct mapping, whose positions take from the columns of `scope`, then its result, by the sizes of its fields.
+// The selectors of a struct mapping, whose positions take from the columns of `scope`, then its result, by the sizes of
+// its fields.
 fn check_fields(
     incoming: &[u8],
     v: Edition,
@@ -387,7 +390,8 @@ fn check_fields(
     fitting(around(3, fields))
 }
 
-// The selector of a list or array mapping, then its result, whose head has so many bytes. Its positions take from the element alone.
+// The selector of a list or array mapping, then its result, whose head has so many bytes. Its positions take from the
+// element alone.
 fn check_element(
     incoming: &[u8],
     v: Edition,

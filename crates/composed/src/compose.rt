@@ -127,7 +127,8 @@ fn compose_over(
     }
 }
 
-// The selector at `c` over a row: its type at the start of `form`, its value at the start of `value`. Its inputs take turns in the two pairs of buffers.
+// The selector at `c` over a row: its type at the start of `form`, its value at the start of `value`. Its inputs take
+// turns in the two pairs of buffers.
 pub fn compose_value(
     lay: &[u8],
     rec: &[u8],

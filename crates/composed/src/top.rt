@@ -150,7 +150,8 @@ fn is_chain(plan: &[u8], c: Cursor) -> bool
     }
 }
 
-// Whether the selector at `c` is a position, a constant, a chain of casts or a mapping of a position, inside renames. Nothing rests on it but the time that is needed.
+// Whether the selector at `c` is a position, a constant, a chain of casts or a mapping of a position, inside renames.
+// Nothing rests on it but the time that is needed.
 fn is_direct(plan: &[u8], c: Cursor) -> bool
     requires { ⌜ SelectorAt (now plan) (c .at) ⌝ }
 {

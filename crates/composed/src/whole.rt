@@ -137,8 +137,8 @@ fn output_of(r: Reached) -> Transferred
     }
 }
 
-// That `transfer_tops` is called in two places keeps it a function of its own: called once, it would be compiled into the run, and its buffers would stand below all that the
-// general way needs.
+// That `transfer_tops` is called in two places keeps it a function of its own: called once, it would be compiled into
+// the run, and its buffers would stand below all that the general way needs.
 pub fn transfer_record(
     lay: &[u8],
     v: Edition,

@@ -1,4 +1,5 @@
--- Where a parser ends that reads an entry: never before the offset it began at, and what an entry gives has a byte. Assumes nothing.
+-- Where a parser ends that reads an entry: never before the offset it began at, and what an entry gives has a byte.
+-- Assumes nothing.
 use Prim.Native.Nat.{ℕ, zero, suc, _+_, _≤_}
 use mathlib.Core.Path.{_≡_}
 use mathlib.Core.Bool.{Bool, true, false}

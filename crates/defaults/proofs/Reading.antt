@@ -1,5 +1,5 @@
--- Reading an entry and the entries: what an answer says of the parser, what holds after i of n entries, and what is returned on each way out.
--- Assumes nothing.
+-- Reading an entry and the entries: what an answer says of the parser, what holds after i of n entries, and what is
+-- returned on each way out. Assumes nothing.
 use Prim.Native.Nat.{ℕ, suc, _+_, _-_, _≤_, _<_}
 use mathlib.Core.Path.{_≡_, refl, sym, ap, ap₂, _∙_}
 use mathlib.Core.List.{List, [], _∷_, _++_}

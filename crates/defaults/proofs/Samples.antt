@@ -55,7 +55,8 @@ abbrev numberOf : Res TableTree → ℕ
 numberOf (refuse n) = n
 numberOf (ok t at) = 0
 
--- id 5: an initial 7; for the partition's sources null and 9. Id 6: an initial 8; id 7: a partition that failed; id 8: a null initial
+-- id 5: an initial 7; for the partition's sources null and 9. Id 6: an initial 8; id 7: a partition that failed; id 8:
+-- a null initial
 good : Bytes
 good = tabled 5 (5 ∷ 0 ∷ 0 ∷ 0 ∷ 0 ∷ 2 ∷ 1 ∷ 7 ∷ 5 ∷ 0 ∷ 0 ∷ 0 ∷ 1 ∷ 0 ∷ 2 ∷ 2 ∷ 0 ∷ 0 ∷ 1 ∷ 9
     ∷ 6 ∷ 0 ∷ 0 ∷ 0 ∷ 0 ∷ 2 ∷ 1 ∷ 8 ∷ 7 ∷ 0 ∷ 0 ∷ 0 ∷ 1 ∷ 1 ∷ 8 ∷ 0 ∷ 0 ∷ 0 ∷ 0 ∷ 2 ∷ 0 ∷ [])

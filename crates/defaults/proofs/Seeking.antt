@@ -1,5 +1,5 @@
--- The scan for an entry over a table that was read: it finds what the first entry of the owner with this id and kind gives; and how the two lookups of
--- `get_default_value` make its definition. Assumes nothing.
+-- The scan for an entry over a table that was read: it finds what the first entry of the owner with this id and kind
+-- gives; and how the two lookups of `get_default_value` make its definition. Assumes nothing.
 use Prim.Native.Nat.{ℕ, zero, suc}
 use mathlib.Core.Path.{_≡_, refl, sym, ap, ap₂, _∙_, subst}
 use mathlib.Core.List.{List, [], _∷_, _++_, append-nil, append-assoc}

@@ -1,4 +1,5 @@
--- Rules for `search`: each way through what an entry holds, from what the callees answered and what the tests said. Assumes nothing.
+-- Rules for `search`: each way through what an entry holds, from what the callees answered and what the tests said.
+-- Assumes nothing.
 use Prim.Native.Nat.{ℕ, suc, _+_, _-_, _≤_, _<_}
 use mathlib.Core.Path.{_≡_, refl, sym, ap, _∙_}
 use native.Mathlib.Omega.{arith}

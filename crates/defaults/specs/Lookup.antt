@@ -1,5 +1,6 @@
--- Document 01, "Defaults": the value that the table gives for an id, as source 003's `get_default_value` finds it: a partition entry wins; failed is 26;
--- null or past the end is no default, and no initial one is tried; a null initial value is none.
+-- Document 01, "Defaults": the value that the table gives for an id, as source 003's `get_default_value` finds it: a
+-- partition entry wins; failed is 26; null or past the end is no default, and no initial one is tried; a null initial
+-- value is none.
 use Prim.Native.Nat.{ℕ, zero, suc}
 use mathlib.Core.Bool.{Bool, true, false, not, _&&_}
 use mathlib.Core.List.{List, [], _∷_}

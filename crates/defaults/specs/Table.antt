@@ -1,8 +1,9 @@
--- Document 01, "Defaults", first sentence, and of "Building by number" the reading of the table: 4 over 16,384 bytes; 1 the first five bytes are not
--- `DEF` and version 1 or 2; then forward by byte 2 where the bytes end, 4 a zone over 63 bytes, 3 a type that is no leaf, an unknown unit, kind or load
--- byte, a decimal's precision or scale, or a value that doesn't fit, 5 a repeated id of one kind once that entry is read; last 6 bytes left over.
--- Document 02, L7: "`DEF` version 2 puts a u16 owner before each id, and a build names its owner. An id may stand once for each owner and kind; version 1
--- entries count for every owner."
+-- Document 01, "Defaults", first sentence, and of "Building by number" the reading of the table: 4 over 16,384 bytes; 1
+-- the first five bytes are not `DEF` and version 1 or 2; then forward by byte 2 where the bytes end, 4 a zone over 63
+-- bytes, 3 a type that is no leaf, an unknown unit, kind or load byte, a decimal's precision or scale, or a value that
+-- doesn't fit, 5 a repeated id of one kind once that entry is read; last 6 bytes left over. Document 02, L7: "`DEF`
+-- version 2 puts a u16 owner before each id, and a build names its owner. An id may stand once for each owner and kind;
+-- version 1 entries count for every owner."
 use Prim.Native.Nat.{ℕ, zero, suc}
 use mathlib.Core.List.{List, [], _∷_, _++_}
 use mathlib.Core.Bool.{Bool, true, false, not, _&&_, _||_}
@@ -22,7 +23,8 @@ use Rattle.defaults.specs.declared.read.TableVersion.the-variants.{Share
 use Rattle.defaults.specs.declared.read.EntryKind.{EntryKind}
 use Rattle.defaults.specs.declared.read.EntryKind.the-variants.{Initial, Partition}
 
--- what an entry gives: an initial default; a partition's values, one for each source; a partition whose values could not be loaded
+-- what an entry gives: an initial default; a partition's values, one for each source; a partition whose values could
+-- not be loaded
 pub data Given : Type 0 where
   initial : LeafType → Value → Given
   partition : LeafType → Values → Given

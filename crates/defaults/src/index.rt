@@ -1,6 +1,7 @@
-// An index of a table's entries, by which those of an id are found without a scan. It is one slice: a link for each place where an entry can begin, and
-// behind the links the heads of the chains, as many as there is room for. An id's chain is by its remainder. The head leads to the chain's last entry,
-// the link of an entry to the one before it, and 0 ends a chain.
+// An index of a table's entries, by which those of an id are found without a scan. It is one slice: a link for each
+// place where an entry can begin, and behind the links the heads of the chains, as many as there is room for. An id's
+// chain is by its remainder. The head leads to the chain's last entry, the link of an entry to the one before it, and 0
+// ends a chain.
 ghost use mathlib.Core.Path.{_≡_};
 ghost use Prim.Native.Nat.{_≤_, _<_, _/_};
 ghost use lib.ListN.{length};

@@ -24,8 +24,8 @@ use layout::types::LeafType;
 use values::leaf::Presence;
 use values::leaf::read_presence;
 
-// The defaults of a build: by number those that a table that was read has for an owner, at a source index. With no entries there are none: so by name,
-// and inside elements.
+// The defaults of a build: by number those that a table that was read has for an owner, at a source index. With no
+// entries there are none: so by name, and inside elements.
 pub struct DefaultFieldValues {
     pub version: TableVersion,
     pub count: u16,

@@ -267,8 +267,8 @@ pub fn owner_in(version: TableVersion, owner: u16) -> Owner
     }
 }
 
-// The first of `n` entries that counts for this owner and is of this id and kind, by an index of them: no value is read, and of the entries only those
-// whose ids are in one chain.
+// The first of `n` entries that counts for this owner and is of this id and kind, by an index of them: no value is
+// read, and of the entries only those whose ids are in one chain.
 pub fn find_entry(
     s: &[u8],
     version: TableVersion,
@@ -313,7 +313,8 @@ fn is_found(found: EntryFound) -> bool
     }
 }
 
-// `n` entries, of which none may have the id and the kind of an earlier one that counts for the same owner. An index of them is left behind.
+// `n` entries, of which none may have the id and the kind of an earlier one that counts for the same owner. An index of
+// them is left behind.
 pub fn read_entries(s: &[u8], version: TableVersion, n: u16, c: Cursor, index: &mut [u16]) -> Moved
     requires { ⌜ (length (now s) ≤ 16384) × (0 < c .at) × (links (length (now s)) < length (now index)) ⌝ }
     ensures { λ r. ⌜ r ≡ movedOf (entries version n [] (now (s .entry)) (c .at)) ⌝ }

@@ -1,4 +1,5 @@
--- Document 02, L1: a table of cases beside S1 to S12, over bytes, computed from the definitions that the exported calls' contracts cite. Assumes nothing.
+-- Document 02, L1: a table of cases beside S1 to S12, over bytes, computed from the definitions that the exported
+-- calls' contracts cite. Assumes nothing.
 use Prim.Native.Nat.{ℕ}
 use mathlib.Core.Path.{_≡_, refl}
 use mathlib.Core.List.{[], _∷_, _++_}
@@ -17,7 +18,7 @@ use Rattle.plan.proofs.Samples.{read, checked, ran, recorded}
 use Rattle.matching.specs.Calls.{buildByName, buildByNumber}
 use Rattle.matching.proofs.Samples.{built}
 use Rattle.demands.specs.Refusals.{isIn, placeOf}
-use Rattle.demands.proofs.DefaultsTable.{marking, on, lay, pln, casting, build, run, int64}
+use Rattle.demands.proofs.TableOfCases.{marking, on, lay, pln, casting, build, run, int64}
 
 -- every flag on but decimal_widening
 abbrev off : Policy
@@ -40,7 +41,8 @@ kept r = runPlan (lay (digits 18 0)) (lay (digits 18 0)) (pln (0 ∷ 0 ∷ 0 ∷
 abbrev second : Bytes → Bytes
 second t = 0x4C ∷ 0x41 ∷ 0x59 ∷ 1 ∷ 0 ∷ 2 ∷ 0 ∷ 1 ∷ 0x73 ∷ 1 ∷ 1 ∷ 0x74 ∷ t
 
--- a build by number of one column, of the type decimal(9,2), which the incoming layout lacks; its initial default is of the type t, and r stands behind it
+-- a build by number of one column, of the type decimal(9,2), which the incoming layout lacks; its initial default is of
+-- the type t, and r stands behind it
 abbrev defaulted : Bytes → Bytes → Answer Bytes
 defaulted t r =
     buildByNumber on 0 0 (0x4C ∷ 0x41 ∷ 0x59 ∷ 2 ∷ 0 ∷ 0 ∷ 0 ∷ []) (0x4C ∷ 0x41 ∷ 0x59 ∷ 2 ∷ 0 ∷ 1 ∷ 0 ∷ 1 ∷ 0x74 ∷ 1 ∷ 0 ∷ 0 ∷ 0 ∷ digits 9 2)

@@ -1,6 +1,7 @@
--- Demands 1 and 3, sentence by sentence, over bytes and in the terms of the exported calls' contracts: `checkPlan`, `runPlan`, `bufferAfter` (crate plan,
--- specs/Calls.antt), `buildByName`,
--- `buildByNumber` (crate matching, specs/Calls.antt). `AllBytes` says that a list's numbers are below 256, as those of every lent slice are. Assumes nothing.
+-- Demands 1 and 3, sentence by sentence, over bytes and in the terms of the exported calls' contracts: `checkPlan`,
+-- `runPlan`, `bufferAfter` (crate plan, specs/Calls.antt), `buildByName`, `buildByNumber` (crate matching,
+-- specs/Calls.antt). `AllBytes` says that a list's numbers are below 256, as those of every lent slice are. Assumes
+-- nothing.
 use Prim.Native.Nat.{ℕ, _<_, _^_}
 use mathlib.Core.Path.{_≡_, refl, sym, ap, _∙_, subst}
 use lib.ListN.{length, drop}
@@ -62,9 +63,8 @@ use Rattle.demands.proofs.Built.{built-passes, built-due, by-name-past,
 use Rattle.demands.proofs.Extra.{by-name-raised, by-name-raises, name-ignoring, by-number-raised, by-number-raises, number-ignoring}
 
 -- ---- Demand 1: "No input, however broken, stops a call, and nothing is written by a refused one: it returns its number from document 01 and every lent
--- buffer is unchanged."
--- A call's contract (crate selector) has no `requires`, and gives its answer and its buffer at exit by these definitions for all bytes; `bufferAfter` is what
--- stands in the buffer.
+-- buffer is unchanged." A call's contract (crate selector) has no `requires`, and gives its answer and its buffer at
+-- exit by these definitions for all bytes; `bufferAfter` is what stands in the buffer.
 
 pub refused-unchanged : (n k : ℕ) (buffer : Bytes) → bufferAfter (refusedAt n k) buffer ≡ buffer
 refused-unchanged n k buffer = refl
@@ -73,10 +73,11 @@ refused-unchanged n k buffer = refl
 pub accepted-written : (result buffer : Bytes) → bufferAfter (accepted result) buffer ≡ result ++ drop (length result) buffer
 accepted-written result buffer = refl
 
--- "It returns its number from document 01": a refused call's number is in the call's list (`refusalsOf`) and never 0, and it is met at k: of 1 to 6 and 50
--- the first layout or table that is refused, which is refused with this number; of 11 to 26, 28, 51, 54 and 55 a position below the number of the target's
--- columns, of
--- 31 and 32 below that of the plan's top selectors; of 53 below the number of the incoming columns; of all others 0 (`Refusal`, specs/Refusals.antt).
+-- "It returns its number from document 01": a refused call's number is in the call's list (`refusalsOf`) and never 0,
+-- and it is met at k: of 1 to 6 and 50 the first layout or table that is refused, which is refused with this number; of
+-- 11 to 26, 28, 51, 54 and 55 a position below the number of the target's columns, of 31 and 32 below that of the
+-- plan's top selectors; of 53 below the number of the incoming columns; of all others 0 (`Refusal`,
+-- specs/Refusals.antt).
 
 pub read-layout-refused : (s : Bytes) {n k : ℕ} → readLayout s ≡ refusedAt n k → Refusal readingLayout (refusalIn (layout s) ∷ []) 0 0 n k
 read-layout-refused s e = refused-as (read-layout-in s) e
@@ -100,19 +101,18 @@ module _ (incoming target bytes : Bytes) where
       → Refusal running (layoutsRead incoming target []) 0 (selectorCount bytes) n k
   run-refused rec room e = refused-as (run-plan-in incoming target bytes rec room) e
 
--- The place of a refusal is the one that goes with its number: `placeOf n k` is k where the number has a place, and of all others, 50 to 52 and 54 to 56
--- among them, 0 (`Placed`). How number and place are read out of the word that a call returns stands in crate selector, proofs/Decoded.antt.
+-- The place of a refusal is the one that goes with its number: `placeOf n k` is k where the number has a place, and of
+-- all others, 50 to 52 and 54 to 56 among them, 0 (`Placed`). How number and place are read out of the word that a call
+-- returns stands in crate selector, proofs/Decoded.antt.
 pub refused-placed : {c : Call} {things : List ℕ} {incoming columns n k : ℕ} → Refusal c things incoming columns n k → Placed things incoming columns n
     (placeOf n k)
 refused-placed R = refusal-placed R
 
 -- ---- Demand 3: "For every plan that passes the check from one layout to another, and every record that fits the first: the run refuses with 44 exactly when
--- a strict cast that it
--- reaches multiplies a non-null date-time beyond signed 64 bits. Otherwise, given space, it writes a record that fits the second; short of space it refuses
--- with 45, and
--- no other refusal is left." `ReachesOverflow` (crate plan, specs/Reach.antt) is the condition of 44; the defined output is `output`, and there is space for
--- it where
--- `spacious` says so: for the buffer and for 16,384 bytes.
+-- a strict cast that it reaches multiplies a non-null date-time beyond signed 64 bits. Otherwise, given space, it
+-- writes a record that fits the second; short of space it refuses with 45, and no other refusal is left."
+-- `ReachesOverflow` (crate plan, specs/Reach.antt) is the condition of 44; the defined output is `output`, and there is
+-- space for it where `spacious` says so: for the buffer and for 16,384 bytes.
 
 module _ (incoming target bytes rec : Bytes) (ob : AllBytes bytes) (or : AllBytes rec) (passes : checkPlan incoming target bytes ≡ accepted tt)
     (F : FitsLayout incoming rec) (room : ℕ) where
@@ -138,10 +138,9 @@ module _ (p : Policy) (index owner : ℕ) (incoming target defaults : Bytes) (oi
   by-number-passes = built-passes (by-number-built p index owner incoming target defaults space oi ot od built .built)
 
 -- ---- "For every record that fits the incoming one, the run of such a plan between these same two, unless it refuses as just said, writes exactly the record
--- that document 01
--- calls due: each target field holds the incoming field of the same path, converted by rule, or else its default or null." The due values are `dues` (crate
--- matching,
--- specs/Due.antt), from the build's arguments and the record alone; `written` refuses them with 44 or 45 as above and else gives their bytes.
+-- that document 01 calls due: each target field holds the incoming field of the same path, converted by rule, or else
+-- its default or null." The due values are `dues` (crate matching, specs/Due.antt), from the build's arguments and the
+-- record alone; `written` refuses them with 44 or 45 as above and else gives their bytes.
 
 module _ (p : Policy) (incoming target rec : Bytes) (oi : AllBytes incoming) (ot : AllBytes target) (or : AllBytes rec) (space : ℕ) {bytes : Bytes}
     (built : buildByName p incoming target space ≡ accepted bytes)
@@ -217,7 +216,8 @@ module _ {incoming target bytes rec : Bytes} {F : FitsLayout incoming rec} {room
       go (inr (inl q)) = b (same-number (sym e ∙ q))
       go (inr (inr (b, q, G))) = clash (cc)
 
-  -- "to fit, a record must now meet no 52 either": where it fits and the plan passed the check, the run does not refuse with 52
+  -- "to fit, a record must now meet no 52 either": where it fits and the plan passed the check, the run does not refuse
+  -- with 52
   pub no-large-decimal : {k : ℕ} → runPlan incoming target bytes rec room ≡ refusedAt 52 k → ⊥
   no-large-decimal e = no-other (λ z. omega (arith, z)) (λ z. omega (arith, z)) e
 
@@ -225,7 +225,8 @@ module _ {incoming target bytes rec : Bytes} {F : FitsLayout incoming rec} {room
   pub no-null-required : {k : ℕ} → runPlan incoming target bytes rec room ≡ refusedAt 56 k → ⊥
   no-null-required e = no-other (λ z. omega (arith, z)) (λ z. omega (arith, z)) e
 
--- "A new policy flag allows a larger precision at the same scale ..; the cast is NonStrict"; "51 when the widening flag is off, in place of the cast"
+-- "A new policy flag allows a larger precision at the same scale ..; the cast is NonStrict"; "51 when the widening flag
+-- is off, in place of the cast"
 pub widening-rule : (p : Policy) (d e : Decimal) → widens d e ≡ true → pairRule p (decimal d) (decimal e) ≡ need (p .«decimal_widening») 51 (cast NonStrict)
 unfolding pairRule chain paramsOf decimalsOf
 widening-rule p d e h = rw h
@@ -240,7 +241,8 @@ pub unequal-decimals : (p : Policy) (d e : Decimal) → widens d e ≡ false →
 unfolding pairRule chain paramsOf decimalsOf
 unequal-decimals p d e h g = rw (h, g)
 
--- "In a defaults table the faults of 50 and 52 are 3, in a plan 30": a table is refused with 1 to 6 alone, a plan with 30 alone
+-- "In a defaults table the faults of 50 and 52 are 3, in a plan 30": a table is refused with 1 to 6 alone, a plan with
+-- 30 alone
 pub table-refused : (defaults : Bytes) {n : ℕ} → table defaults ≡ refuse n → isIn n tableRefusals ≡ true
 table-refused defaults e = refused-in (table-in defaults) e
 
@@ -248,9 +250,9 @@ pub plan-refused : (bytes : Bytes) {n : ℕ} → plan bytes ≡ refuse n → isI
 plan-refused bytes e = refused-in (plan-in bytes) e
 
 -- ---- Document 02, L3, "Strict top columns": "the first incoming column with no target counterpart refuses the build", "53 for such a column, tested after the
--- defaults are read and before the first target column, its place being the incoming position". 53 holds exactly where the layouts are read and of an edition
--- that is taken,
--- by number the table too, a column is extra under Raise, and the place is the first one's position (`ExtraColumn`, specs/Stated.antt).
+-- defaults are read and before the first target column, its place being the incoming position". 53 holds exactly where
+-- the layouts are read and of an edition that is taken, by number the table too, a column is extra under Raise, and the
+-- place is the first one's position (`ExtraColumn`, specs/Stated.antt).
 
 module _ (p : Policy) (incoming target : Bytes) (space : ℕ) where
   pub by-name-extra : {k : ℕ} → (buildByName p incoming target space ≡ refusedAt 53 k) ↔ ExtraColumn ByName p incoming target k
@@ -276,9 +278,9 @@ module _ (p : Policy) (index owner : ℕ) (incoming target defaults : Bytes) (sp
 -- and what
 -- fits, 56 included, is what demand 3 is said of; so is that both builders' plans pass the check.
 
--- "An accepted plan must never give null to a required field": what the run of a plan that passed writes fits the target (`run-passed`), and no null of what
--- fits stands
--- in a required field, at whatever level (`FilledAll`, crate values)
+-- "An accepted plan must never give null to a required field": what the run of a plan that passed writes fits the
+-- target (`run-passed`), and no null of what fits stands in a required field, at whatever level (`FilledAll`, crate
+-- values)
 module _ {lay rec : Bytes} (F : FitsLayout lay rec) where
   pub required-filled : FilledAll requiredOf (columnsOf F) (F .values)
   required-filled = record-kept requiredOf rec (columnsOf F) .forth (F .values) (F .end) (F .reads) .1

@@ -7,7 +7,7 @@ pub mod Passed
 pub mod Built
 pub mod Extra
 pub mod Demands
-pub mod DefaultsTable
+pub mod TableOfCases
 pub mod Decimals
 pub mod Marks
 pub mod Loosened

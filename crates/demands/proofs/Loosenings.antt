@@ -1,5 +1,5 @@
--- Document 02, L6: what a loosened policy keeps and what not, computed from the definitions over bytes. Only what is accepted stays: a refusal may change
--- its number and its place, or become a plan. Assumes nothing.
+-- Document 02, L6: what a loosened policy keeps and what not, computed from the definitions over bytes. Only what is
+-- accepted stays: a refusal may change its number and its place, or become a plan. Assumes nothing.
 use Prim.Native.Nat.{ℕ}
 use mathlib.Core.Path.{_≡_, refl}
 use mathlib.Core.List.{[], _∷_}
@@ -8,7 +8,7 @@ use Rattle.rules.specs.Policies.{policyOf}
 use Rattle.plan.specs.Result.{Answer, accepted, refusedAt}
 use Rattle.matching.specs.Calls.{buildByName, buildByNumber}
 use Rattle.matching.proofs.Samples.{built}
-use Rattle.demands.proofs.DefaultsTable.{lay, casting}
+use Rattle.demands.proofs.TableOfCases.{lay, casting}
 
 -- every flag on; all but integer_upcast; all but missing_columns; all but this and
 -- extra_columns; integer_upcast and extra_columns alone

@@ -1,4 +1,5 @@
--- Document 02, L5: a table of cases beside S1 to S12, over bytes, computed from the definitions that the exported calls' contracts cite. Assumes nothing.
+-- Document 02, L5: a table of cases beside S1 to S12, over bytes, computed from the definitions that the exported
+-- calls' contracts cite. Assumes nothing.
 use Prim.Native.Nat.{ℕ}
 use mathlib.Core.Path.{_≡_, refl}
 use mathlib.Core.List.{[], _∷_, _++_}
@@ -10,7 +11,7 @@ use Rattle.plan.proofs.Samples.{read, checked, ran, recorded}
 use Rattle.matching.specs.Calls.{buildByNumber}
 use Rattle.matching.proofs.Samples.{built}
 use Rattle.demands.specs.Refusals.{isIn, placeOf}
-use Rattle.demands.proofs.DefaultsTable.{marking, on, pln}
+use Rattle.demands.proofs.TableOfCases.{marking, on, pln}
 use Rattle.demands.proofs.Decimals.{shown}
 
 -- a layout of version 3 with n columns; a column of the id i and the mark r, all named t

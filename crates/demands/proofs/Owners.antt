@@ -1,4 +1,5 @@
--- Document 02, L7, "Two works on one defaults table", over bytes and in the terms of the exported calls' contracts. Assumes nothing.
+-- Document 02, L7, "Two works on one defaults table", over bytes and in the terms of the exported calls' contracts.
+-- Assumes nothing.
 use Prim.Native.Nat.{ℕ, zero, suc}
 use mathlib.Core.Path.{_≡_, refl, sym, ap, _∙_, subst}
 use mathlib.Core.Bool.{false}
@@ -25,8 +26,8 @@ use Rattle.matching.proofs.Samples.{built}
 use Rattle.demands.specs.Stated.{SameEntries, bare}
 
 -- ---- "For any two accepted tables, of either version, that have the same entries of one owner (owner bytes aside) in the same order, that owner's builds,
--- all else equal, agree in plan, refusal and place." The entries of an owner are `entriesOf` (crate defaults, specs/Table.antt); an answer is the plan, or the
--- refusal and its place.
+-- all else equal, agree in plan, refusal and place." The entries of an owner are `entriesOf` (crate defaults,
+-- specs/Table.antt); an answer is the plan, or the refusal and its place.
 
 module _ (p : Policy) (index owner : ℕ) (incoming target : Bytes) (space : ℕ) {left right : Bytes} (S : SameEntries owner left right) where
   pub by-number-owned : buildByNumber p index owner incoming target left space ≡ buildByNumber p index owner incoming target right space

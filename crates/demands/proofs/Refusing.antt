@@ -1,4 +1,5 @@
--- With which numbers something can refuse: a law for each way in which parsers, results and answers are made. Assumes nothing.
+-- With which numbers something can refuse: a law for each way in which parsers, results and answers are made. Assumes
+-- nothing.
 use Prim.Native.Nat.{ℕ, _<_}
 use mathlib.Core.Path.{_≡_, refl}
 use mathlib.Core.Bool.{Bool, true, false, _&&_, _||_}

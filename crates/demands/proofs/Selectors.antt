@@ -1,4 +1,5 @@
--- With which numbers the check of a plan and the run of one that passed can refuse, over trees; a top selector's refusal has its position. Assumes nothing.
+-- With which numbers the check of a plan and the run of one that passed can refuse, over trees; a top selector's
+-- refusal has its position. Assumes nothing.
 use Prim.Native.Nat.{ℕ, zero, suc, _+_, _≤_, _<_}
 use mathlib.Core.Path.{_≡_, refl}
 use mathlib.Core.Bool.{Bool, true, false}

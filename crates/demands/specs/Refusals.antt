@@ -1,4 +1,5 @@
--- Document 01, "Every operation's refusals": the numbers with which each exported call can refuse, and the place of each.
+-- Document 01, "Every operation's refusals": the numbers with which each exported call can refuse, and the place of
+-- each.
 use Prim.Native.Nat.{ℕ, zero, suc, _+_, _<_}
 use mathlib.Core.Path.{_≡_}
 use mathlib.Core.Bool.{Bool, true, false, _||_}
@@ -35,7 +36,8 @@ tableRefusals = 1 ∷ 2 ∷ 3 ∷ 4 ∷ 5 ∷ 6 ∷ []
 abbrev pub pairRefusals : List ℕ
 pairRefusals = 15 ∷ 16 ∷ 17 ∷ 18 ∷ 19 ∷ 20 ∷ 21 ∷ 22 ∷ 23 ∷ 24 ∷ 51 ∷ []
 
--- a target column: by name "11 .. or 12 to 24", by number "11, 13 to 26, 28"; 54 and 55 (L5) by number alone, since version 1 has no required field
+-- a target column: by name "11 .. or 12 to 24", by number "11, 13 to 26, 28"; 54 and 55 (L5) by number alone, since
+-- version 1 has no required field
 abbrev pub columnRefusals : Matching → List ℕ
 columnRefusals ByName = 11 ∷ 12 ∷ 13 ∷ 14 ∷ pairRefusals
 columnRefusals ByNumber = 11 ∷ 13 ∷ 14 ∷ (pairRefusals ++ (25 ∷ 26 ∷ 28 ∷ 54 ∷ 55 ∷ []))
@@ -48,7 +50,8 @@ extraRefusals = 53 ∷ []
 abbrev pub checkRefusals : List ℕ
 checkRefusals = 30 ∷ 31 ∷ 32 ∷ 33 ∷ 55 ∷ []
 
--- "Running": the record; L1: "52 when a record's decimal is too large"; L5: "56 when a record has null in a required field"
+-- "Running": the record; L1: "52 when a record's decimal is too large"; L5: "56 when a record has null in a required
+-- field"
 abbrev pub recordRefusals : List ℕ
 recordRefusals = 43 ∷ 40 ∷ 41 ∷ 52 ∷ 56 ∷ 42 ∷ []
 
@@ -86,8 +89,8 @@ hasPlace n = isIn n layoutPlaced || (isIn n columnPlaced || isIn n incomingPlace
 unfoldable pub placeOf : ℕ → ℕ → ℕ
 placeOf n k = choose (hasPlace n) k 0
 
--- what is met at a layout or table, or at a column: the numbers that have its place, and 50, 51, 54 and 55, which have none; 53 alone is met at an incoming
--- column
+-- what is met at a layout or table, or at a column: the numbers that have its place, and 50, 51, 54 and 55, which have
+-- none; 53 alone is met at an incoming column
 abbrev pub layoutMet : List ℕ
 layoutMet = 50 ∷ layoutPlaced
 
@@ -99,16 +102,16 @@ abbrev pub refusalIn : {A : Type 0} → Res A → ℕ
 refusalIn (refuse n) = n
 refusalIn (ok a at) = 0
 
--- Things are read in turn, the first at the place i, each with the number of its refusal: the first that is refused has the
--- number n and the place k.
+-- Things are read in turn, the first at the place i, each with the number of its refusal: the first that is refused has
+-- the number n and the place k.
 abbrev pub FirstRefused : ℕ → List ℕ → ℕ → ℕ → Type 0
 FirstRefused i [] n k = ⊥
 FirstRefused i (zero ∷ ms) n k = FirstRefused (i + 1) ms n k
 FirstRefused i (suc m ∷ ms) n k = (n ≡ suc m) × (k ≡ i)
 
--- The call c refuses with n, met at k. It reads the things in turn, as `FirstRefused` has them. Of a build, `incoming` is
--- the number of the incoming top columns and `columns` that of the target's; in a check or a run `columns` is that of
--- the plan's top selectors.
+-- The call c refuses with n, met at k. It reads the things in turn, as `FirstRefused` has them. Of a build, `incoming`
+-- is the number of the incoming top columns and `columns` that of the target's; in a check or a run `columns` is that
+-- of the plan's top selectors.
 pub record Refusal (c : Call) (things : List ℕ) (incoming columns n k : ℕ) : Type 0 where
   pub listed : isIn n (refusalsOf c) ≡ true
   pub positive : 0 < n
@@ -117,8 +120,8 @@ pub record Refusal (c : Call) (things : List ℕ) (incoming columns n k : ℕ) :
   pub atIncoming : isIn n incomingPlaced ≡ true → k < incoming
   pub atNone : isIn n layoutMet ≡ false → isIn n columnMet ≡ false → isIn n incomingPlaced ≡ false → k ≡ 0
 
--- Its place: of 1 to 6 the layout or table; of 11 to 26, 28, 31, 32 the column; of 53 the incoming column; of all others, 50 to
--- 52 and 54 to 56 among them, 0.
+-- Its place: of 1 to 6 the layout or table; of 11 to 26, 28, 31, 32 the column; of 53 the incoming column; of all
+-- others, 50 to 52 and 54 to 56 among them, 0.
 pub record Placed (things : List ℕ) (incoming columns n place : ℕ) : Type 0 where
   pub ofThing : isIn n layoutPlaced ≡ true → FirstRefused 1 things n place
   pub ofColumn : isIn n columnPlaced ≡ true → place < columns

@@ -30,7 +30,8 @@ use Rattle.matching.specs.Build.{build}
 use Rattle.matching.specs.Extra.{FirstExtra}
 use Rattle.matching.specs.Calls.{ReadFor, roomFor}
 
--- `FitsLayout lay rec`: rec is "a record that fits" the layout lay: reading it meets none of 40 to 43, no 52 (L1) and no 56 (L5)
+-- `FitsLayout lay rec`: rec is "a record that fits" the layout lay: reading it meets none of 40 to 43, no 52 (L1) and
+-- no 56 (L5)
 pub record FitsLayout (lay rec : Bytes) : Type 0 where
   pub read : Layout
   pub layoutEnd : ℕ
@@ -61,7 +62,8 @@ columnsOf F = F .read .columns
 abbrev pub output : Values → Selectors → Bytes
 output ρ ss = encodeValues (evals ρ ss)
 
--- 44 exactly where an overflow is reached; else, where there is space, a record that fits the target; else 45; and nothing else
+-- 44 exactly where an overflow is reached; else, where there is space, a record that fits the target; else 45; and
+-- nothing else
 pub record Running (incoming target bytes rec : Bytes) (F : FitsLayout incoming rec) (room : ℕ) : Type 0 where
   pub plan : SelectorsOf bytes
   pub overflow : (runPlan incoming target bytes rec room ≡ refusedAt 44 0) ↔ ReachesOverflow (F .values) (plan .selectors)
@@ -116,7 +118,8 @@ pub record NumberExtraColumn (p : Policy) (incoming target defaults : Bytes) (k 
 
 -- ---- document 02, L7: two tables and one owner
 
--- "two accepted tables, of either version, that have the same entries of one owner (owner bytes aside) in the same order"
+-- "two accepted tables, of either version, that have the same entries of one owner (owner bytes aside) in the same
+-- order"
 pub record SameEntries (owner : ℕ) (left right : Bytes) : Type 0 where
   pub tree : TableTree
   pub end : ℕ

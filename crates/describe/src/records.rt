@@ -1,5 +1,5 @@
-// Values by their types: what is inside a struct, a list or an array is indented below it. A type stands at `t` in `lay`, a value at `c` in `rec`; both were read before, so that
-// no reader refuses here.
+// Values by their types: what is inside a struct, a list or an array is indented below it. A type stands at `t` in
+// `lay`, a value at `c` in `rec`; both were read before, so that no reader refuses here.
 ghost use mathlib.Core.Path.{_≡_};
 ghost use Rattle.layout.specs.code.Stands.{ColumnsAt};
 use crate::columns::put_column;

@@ -1,4 +1,5 @@
-// Whether a selector gives a type of the target, and where both end. Every type that a transform makes on the way is a type of the target, so the limits of results hold.
+// Whether a selector gives a type of the target, and where both end. Every type that a transform makes on the way is a
+// type of the target, so the limits of results hold.
 ghost use Prim.Native.Nat.{ℕ};
 ghost use mathlib.Core.Path.{_≡_};
 ghost use mathlib.Core.List.{List};

@@ -92,7 +92,8 @@ pub fn take_position(
     }
 }
 
-// Fills a table of the `n` fields from `c` on, of which `m` are taken, and answers how many entries it got. Where few are taken, that would take more time than it saves.
+// Fills a table of the `n` fields from `c` on, of which `m` are taken, and answers how many entries it got. Where few
+// are taken, that would take more time than it saves.
 pub fn index_fields(
     incoming: &[u8],
     v: Edition,

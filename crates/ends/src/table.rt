@@ -3,9 +3,9 @@
 // of its start by 4, or 0 where none is known. Else the entries behind it are pairs, the start and the length of a
 // struct, of those that are as long as entry 1 says; a length of 0 is a free pair. A list ends where its element does
 // and a leaf is short, so only structs have entries. Two structs start at least 4 bytes apart, so that 4,096 slots hold
-// all of a type of 16,384 bytes. Of a longer one of n bytes the structs of n / 128 bytes or more have pairs: at most 128
-// stand side by side and 16 in each other, so that 2,048 pairs do. Nothing of this is proved but that every entry is
-// true.
+// all of a type of 16,384 bytes. Of a longer one of n bytes the structs of n / 128 bytes or more have pairs: at most
+// 128 stand side by side and 16 in each other, so that 2,048 pairs do. Nothing of this is proved but that every entry
+// is true.
 ghost use mathlib.Core.Path.{_≡_};
 ghost use Prim.Native.Nat.{_+_, _<_};
 ghost use lib.ListN.{length, getD};

@@ -1,4 +1,5 @@
--- Comparing types and columns that stand in two lists of bytes: what each answer says of the two trees. Assumes nothing.
+-- Comparing types and columns that stand in two lists of bytes: what each answer says of the two trees. Assumes
+-- nothing.
 use Prim.Native.Nat.{ℕ, suc, _+_, _-_, _≤_, _<_}
 use mathlib.Core.Path.{_≡_, refl, sym, ap, _∙_}
 use mathlib.Core.List.{List, [], _∷_, _++_}

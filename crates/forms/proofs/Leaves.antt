@@ -1,4 +1,5 @@
--- The forms of leaves and numbers against the readers' table of codes and the stores' little-endian bytes. Assumes nothing.
+-- The forms of leaves and numbers against the readers' table of codes and the stores' little-endian bytes. Assumes
+-- nothing.
 use Prim.Native.Nat.{ℕ, zero, suc, _+_, _*_, _/_, _%_, _<_}
 use mathlib.Core.Path.{_≡_, refl, sym, ap, _∙_}
 use mathlib.Core.List.{List, [], _∷_}

@@ -1,5 +1,5 @@
--- What holds of every type that was read: how far it reaches, its depth, that it is readable, and in version 1 that its bytes are its form.
--- Assumes nothing.
+-- What holds of every type that was read: how far it reaches, its depth, that it is readable, and in version 1 that its
+-- bytes are its form. Assumes nothing.
 use Prim.Native.Nat.{ℕ, zero, suc, _+_, _≤_, _<_, max}
 use mathlib.Core.Path.{_≡_, refl, sym, ap, _∙_}
 use mathlib.Core.List.{List, [], _∷_, _++_}

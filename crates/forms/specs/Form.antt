@@ -1,4 +1,5 @@
--- Document 01, "Types in plans drop ids and element names" and "type (version 1 form)": the bytes that a version 1 layout has for a type.
+-- Document 01, "Types in plans drop ids and element names" and "type (version 1 form)": the bytes that a version 1
+-- layout has for a type.
 use Prim.Native.Nat.{ℕ, _/_, _%_}
 use mathlib.Core.List.{[], _∷_, _++_}
 use lib.ListN.{length}

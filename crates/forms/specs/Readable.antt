@@ -1,5 +1,5 @@
--- Document 01, "Reading a layout", as conditions on a type: names and zones of at most 63 bytes, numbers within their fields,
--- precision and scale within theirs (document 02, L1), and the depth.
+-- Document 01, "Reading a layout", as conditions on a type: names and zones of at most 63 bytes, numbers within their
+-- fields, precision and scale within theirs (document 02, L1), and the depth.
 use Prim.Native.Nat.{ℕ, suc, _≤_, _<_, max}
 use mathlib.Core.List.{[]}
 use lib.ListN.{length}

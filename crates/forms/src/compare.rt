@@ -33,7 +33,8 @@ pub fn same_text(a: &[u8], p: Span, b: &[u8], q: Span) -> bool
     same_bytes(&a[i..i + p.len], &b[j..j + q.len])
 }
 
-// What the types begin with is compared as bytes: the code, a date-time's unit and zone, a struct's count, an array's width.
+// What the types begin with is compared as bytes: the code, a date-time's unit and zone, a struct's count, an array's
+// width.
 pub fn same_type(
     a: &[u8],
     va: Edition,

@@ -1,5 +1,5 @@
-// What a type begins with has the same bytes in both versions: its code, and a date-time's unit and zone, a struct's count or
-// an array's width.
+// What a type begins with has the same bytes in both versions: its code, and a date-time's unit and zone, a struct's
+// count or an array's width.
 ghost use mathlib.Core.Path.{_≡_};
 ghost use Rattle.layout.specs.Layout.{kind};
 ghost use Rattle.forms.specs.code.Answers.{endOf};

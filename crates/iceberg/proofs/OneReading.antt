@@ -1,6 +1,6 @@
 -- The rules with the differences give one reading, and name the same differences for it: the list is complete. The
--- rules alone give one, too. Where the ids of siblings differ, as in every layout of version 2 or 3 that was read. Assumes
--- nothing.
+-- rules alone give one, too. Where the ids of siblings differ, as in every layout of version 2 or 3 that was read.
+-- Assumes nothing.
 use Prim.Native.Nat.{ℕ, suc}
 use mathlib.Core.Path.{_≡_, refl, sym, ap, ap₂, _∙_}
 use mathlib.Core.Bool.{Bool, true, false}

@@ -1,4 +1,5 @@
--- Required fields (document 02, L5): where 54 names no difference, and where 55 is of an optional column, the specification has no reading. Assumes nothing.
+-- Required fields (document 02, L5): where 54 names no difference, and where 55 is of an optional column, the
+-- specification has no reading. Assumes nothing.
 use Prim.Native.Nat.{ℕ}
 use mathlib.Core.Path.{_≡_, refl, sym, ap, _∙_}
 use mathlib.Core.Bool.{true, false}

@@ -101,8 +101,8 @@ module _ (M : Metadata) where
 
 -- ---- required fields
 
--- "reading a required field that is missing and has no default is an error": what is read for the missing field b has no
--- null in a required field, where `meets` looks for one (plan, specs/Marks.antt)
+-- "reading a required field that is missing and has no default is an error": what is read for the missing field b has
+-- no null in a required field, where `meets` looks for one (plan, specs/Marks.antt)
 unfoldable pub present : Label → ColumnType → Value → Bool
 present b u y = meets (ofValue y) (b .required) u
 
@@ -116,8 +116,8 @@ mayBecome a b = not (b .required) || a .required
 abbrev pub decimalPromotes : Leaf → Leaf → Bool
 decimalPromotes i t = isDecimal i && isDecimal t && widens (decimalOf i) (decimalOf t)
 
--- "int to long; float to double; decimal(P,S) to decimal(P',S) with P' above P; from version 3 also unknown to any type,
--- and date to timestamp or timestamp_ns. Nothing else"; and an unchanged type.
+-- "int to long; float to double; decimal(P,S) to decimal(P',S) with P' above P; from version 3 also unknown to any
+-- type, and date to timestamp or timestamp_ns. Nothing else"; and an unchanged type.
 unfoldable pub promotes : LeafType → LeafType → Bool
 promotes l m =
     equalLeaves l m

@@ -1,4 +1,5 @@
--- Columns after the first i: where they stand, the entries of a table, and the lookup from an entry on. Assumes nothing.
+-- Columns after the first i: where they stand, the entries of a table, and the lookup from an entry on. Assumes
+-- nothing.
 use Prim.Native.Nat.{ℕ, zero, suc, _+_, _-_, _*_, _/_, _%_, _≤_, _<_}
 use mathlib.Core.Path.{_≡_, refl, sym, ap, _∙_, subst}
 use mathlib.Core.List.{List, []}

@@ -1,4 +1,5 @@
--- Columns and their values after the first i: the entries of two tables, and the lookup from an entry on. Assumes nothing.
+-- Columns and their values after the first i: the entries of two tables, and the lookup from an entry on. Assumes
+-- nothing.
 use Prim.Native.Nat.{ℕ, zero, suc, _+_, _-_, _*_, _/_, _%_, _≤_, _<_}
 use mathlib.Core.Path.{_≡_, refl, sym, ap, _∙_, subst}
 use mathlib.Core.List.{List, []}

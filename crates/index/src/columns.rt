@@ -39,8 +39,8 @@ pub fn few(n: u16, count: u16) -> bool {
     count <= 8
 }
 
-// Fills the table and answers how many entries it got. An offset that an entry can't hold ends the table: lookups then pass over the
-// columns themselves.
+// Fills the table and answers how many entries it got. An offset that an entry can't hold ends the table: lookups then
+// pass over the columns themselves.
 pub fn index_columns(
     s: &[u8],
     v: Edition,

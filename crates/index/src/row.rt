@@ -34,7 +34,8 @@ fn storable(j: usize, types: usize, values: usize, at: usize, to: usize) -> bool
     true
 }
 
-// The columns of a row, where their values begin in the record, and how many columns apart the entries of its tables stand.
+// The columns of a row, where their values begin in the record, and how many columns apart the entries of its tables
+// stand.
 pub struct Row {
     pub columns: ColumnRange,
     pub values: Cursor,

@@ -61,7 +61,8 @@ same-selectors P Q = ok-eq (sym (P .reads) ∙ Q .reads)
 
 -- ---- the loop over selectors
 
--- after i of n selectors, whose columns stand from k up to at: what the rest gives and writes, the whole gives and writes
+-- after i of n selectors, whose columns stand from k up to at: what the rest gives and writes, the whole gives and
+-- writes
 pub record Gathering (s : Bytes) (v : Edition) (scope : Scope) (index : List ℕ) (stride : ℕ) (plan : Bytes) (n depth : ℕ) (out₀ : Bytes) (k first : ℕ)
     (out : Bytes) (from at i : ℕ) : Type 0 where
   pub within : i ≤ n

@@ -1,4 +1,5 @@
-// The type that a selector gives whose inputs are transforms: each input's type is written out and serves as the layout of the transform over it.
+// The type that a selector gives whose inputs are transforms: each input's type is written out and serves as the layout
+// of the transform over it.
 ghost use Prim.Native.Nat.{_≤_};
 ghost use lib.ListN.{length};
 ghost use Rattle.layout.specs.Bytes.{Bytes};

@@ -1,4 +1,5 @@
-// Types and what types begin with, written in version 1 form. What the buffer has no room for, or what is no type of a result, is not settled.
+// Types and what types begin with, written in version 1 form. What the buffer has no room for, or what is no type of a
+// result, is not settled.
 ghost use mathlib.Core.Path.{_≡_};
 ghost use mathlib.Core.Bool.{true};
 ghost use Prim.Native.Nat.{ℕ, _≤_};

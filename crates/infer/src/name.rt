@@ -49,7 +49,8 @@ fn name_at(s: &[u8], source: Source, index: &[u16], plan: &[u8], c: Cursor) -> N
     }
 }
 
-// Where the name of the column that the selector at `c` gives stands: in the bytes of the scope or in the plan. `Input` is no answer.
+// Where the name of the column that the selector at `c` gives stands: in the bytes of the scope or in the plan. `Input`
+// is no answer.
 pub fn infer_name(s: &[u8], source: Source, index: &[u16], plan: &[u8], c: Cursor) -> Named
     requires { ⌜ SourceAt (now s) source (now index) ⌝ }
     requires { ⌜ SelectorAt (now plan) (c .at) ⌝ }

@@ -1,4 +1,5 @@
-// The type that a transform gives over a type, and the type that a selector gives over a scope. Recursion goes as deep as types nest.
+// The type that a transform gives over a type, and the type that a selector gives over a scope. Recursion goes as deep
+// as types nest.
 ghost use mathlib.Core.Path.{_≡_};
 ghost use Prim.Native.Nat.{ℕ, _+_, _≤_};
 ghost use lib.ListN.{length};

@@ -284,8 +284,9 @@ fn fits_many(
     }
 }
 
-// A target longer than a layout may be has types that no result has. That `fit_tops` is called in two places keeps it a function of its own: called once, it would be
-// compiled into the check, and its buffers would stand below all that the general check needs.
+// A target longer than a layout may be has types that no result has. That `fit_tops` is called in two places keeps it a
+// function of its own: called once, it would be compiled into the check, and its buffers would stand below all that the
+// general check needs.
 pub fn fits_target(
     incoming: &[u8],
     v: Edition,

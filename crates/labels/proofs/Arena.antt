@@ -1,4 +1,5 @@
--- Part of an arena that was lent and came back: what the borrower says of it, and what the owner keeps. Assumes nothing.
+-- Part of an arena that was lent and came back: what the borrower says of it, and what the owner keeps. Assumes
+-- nothing.
 use Prim.Native.Nat.{ℕ, zero, suc, _+_, _≤_, _<_}
 use mathlib.Core.Path.{_≡_, refl, sym, ap, _∙_, subst}
 use mathlib.Core.List.{List, [], _∷_, _++_}

@@ -1,4 +1,5 @@
--- The loop that follows a chain: what holds at each of its columns, and what is answered on each way out. Assumes nothing.
+-- The loop that follows a chain: what holds at each of its columns, and what is answered on each way out. Assumes
+-- nothing.
 use Prim.Native.Nat.{ℕ, _+_, _-_, _*_, _/_, _%_, _≤_, _<_}
 use mathlib.Core.Path.{_≡_, refl, sym, ap, _∙_, subst}
 use mathlib.Core.List.{List}

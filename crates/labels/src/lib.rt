@@ -1,6 +1,7 @@
-// The counterpart of a label among sibling columns, a layout's or a struct's, found by the label's hash. A table is one slice: two numbers
-// for each column, its link (where its chain goes on) and where it begins, and behind them the heads of the chains, as many as there is room
-// for. The chain of a hash leads through the columns that have it, first ones first, and passes over no type.
+// The counterpart of a label among sibling columns, a layout's or a struct's, found by the label's hash. A table is one
+// slice: two numbers for each column, its link (where its chain goes on) and where it begins, and behind them the heads
+// of the chains, as many as there is room for. The chain of a hash leads through the columns that have it, first ones
+// first, and passes over no type.
 ghost use mathlib.Core.Bool.{true};
 ghost use mathlib.Core.Path.{_≡_};
 ghost use Prim.Native.Nat.{_+_, _≤_, _<_};
@@ -141,8 +142,9 @@ fn fill(s: &[u8], columns: SiblingColumns, table: &mut [u16]) -> bool
     link(s, columns, table)
 }
 
-// Where many labels will be looked up, fills a table for the columns at the start of an arena, and answers its length. 0 where there is none: few
-// labels are found sooner by a scan, or there is no room. Two columns share a head, so that five numbers are enough for two columns.
+// Where many labels will be looked up, fills a table for the columns at the start of an arena, and answers its length.
+// 0 where there is none: few labels are found sooner by a scan, or there is no room. Two columns share a head, so that
+// five numbers are enough for two columns.
 pub fn fill_in(wanted: u16, s: &[u8], columns: SiblingColumns, arena: &mut [u16]) -> usize
     ensures { λ r. ⌜ r ≤ length (now (arena .exit)) ⌝ }
     ensures { λ r. ⌜ (0 < r → Table (columns .edition) (columns .matching) (columns .depth) (now (s .entry)) (columns .count) (columns .first .at) (take r (now (arena .exit)))) ⌝ }

@@ -1,5 +1,5 @@
--- What holds for every leaf: a leaf type is its kind and its zone; each kind that is its code alone stands at its code in the readers' list.
--- Assumes nothing.
+-- What holds for every leaf: a leaf type is its kind and its zone; each kind that is its code alone stands at its code
+-- in the readers' list. Assumes nothing.
 use Prim.Native.Nat.{ℕ, _≤_, _<_}
 use mathlib.Core.Path.{_≡_, refl, sym, ap, _∙_}
 use mathlib.Core.Bool.{false}

@@ -1,5 +1,5 @@
--- The table of labels that were read: which slots are looked at, what a search meets, and what noting a label changes. Equal labels have equal
--- hashes. Assumes nothing.
+-- The table of labels that were read: which slots are looked at, what a search meets, and what noting a label changes.
+-- Equal labels have equal hashes. Assumes nothing.
 use Prim.Native.Nat.{ℕ, zero, suc, _+_, _-_, _*_, _/_, _%_, _≤_, _<_}
 use mathlib.Core.Path.{_≡_, refl, sym, ap, _∙_, subst}
 use mathlib.Core.List.{List, [], _∷_}

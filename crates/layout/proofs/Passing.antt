@@ -1,4 +1,5 @@
--- Passing over labels, types and columns: what is answered on each way, and what holds after i of n columns. Assumes nothing.
+-- Passing over labels, types and columns: what is answered on each way, and what holds after i of n columns. Assumes
+-- nothing.
 use Prim.Native.Nat.{ℕ, zero, suc, _+_, _-_, _≤_, _<_}
 use mathlib.Core.Path.{_≡_, refl, sym, ap, _∙_}
 use mathlib.Core.List.{List, [], _∷_, _++_}

@@ -1,4 +1,5 @@
--- What a type or columns that stand at an offset say of each answer of the readers: one law for each answer. Assumes nothing.
+-- What a type or columns that stand at an offset say of each answer of the readers: one law for each answer. Assumes
+-- nothing.
 use Prim.Native.Nat.{ℕ, zero, suc, _-_}
 use mathlib.Core.Path.{_≡_, refl, sym, ap, _∙_}
 use mathlib.Core.List.{List, [], _∷_, _++_}

@@ -1,6 +1,6 @@
--- Document 01, "Reading a layout" and "Layouts", and document 02, L1 and L5: bytes to a tree, or the number of the first refusal.
--- Each parser refuses where the document has the test: 2 where the bytes end, 4 at a length over 63 or at a depth over 16,
--- 3 at an unknown code, unit or mark, 5 once a sibling that repeats is read.
+-- Document 01, "Reading a layout" and "Layouts", and document 02, L1 and L5: bytes to a tree, or the number of the
+-- first refusal. Each parser refuses where the document has the test: 2 where the bytes end, 4 at a length over 63 or
+-- at a depth over 16, 3 at an unknown code, unit or mark, 5 once a sibling that repeats is read.
 use Prim.Native.Nat.{ℕ, zero, suc, _+_, _*_}
 use mathlib.Core.List.{List, [], _∷_, _++_}
 use mathlib.Core.Bool.{Bool, true, false, not, _||_, _&&_}
@@ -49,7 +49,8 @@ pub data Head : Type 0 where
   aList : Head
   anArray : ℕ → Head
 
--- the leaves that are their code alone, each at the place of its code; 14 is a date-time, and 21, past the list, a decimal
+-- the leaves that are their code alone, each at the place of its code; 14 is a date-time, and 21, past the list, a
+-- decimal
 abbrev pub plainLeaves : List PlainLeaf
 plainLeaves =
     Known Leaf.Null ∷ Known Leaf.Boolean

@@ -1,5 +1,5 @@
--- Document 01, "Layouts", and document 02, L1 and L5: types and layouts as trees. antt has no nested recursion, so lists of columns are data types of their
--- own.
+-- Document 01, "Layouts", and document 02, L1 and L5: types and layouts as trees. antt has no nested recursion, so
+-- lists of columns are data types of their own.
 use Prim.Native.Nat.{ℕ, zero, suc}
 use mathlib.Core.List.{List, []}
 use mathlib.Core.Bool.{Bool}
@@ -59,14 +59,15 @@ zoneOf binary = []
 zoneOf categorical = []
 zoneOf (decimal d) = []
 
--- What stands before a column's type: its name, from version 2 on its id (0 in version 1), and in version 3 whether it is required.
--- L5: "Older columns count as optional".
+-- What stands before a column's type: its name, from version 2 on its id (0 in version 1), and in version 3 whether it
+-- is required. L5: "Older columns count as optional".
 pub record Label : Type 0 where
   pub name : Bytes
   pub id : FieldId
   pub required : Bool
 
--- A type as a layout has it. A list's or array's element is a column from version 2 on; in version 1 its label is empty.
+-- A type as a layout has it. A list's or array's element is a column from version 2 on; in version 1 its label is
+-- empty.
 mutual
   pub data ColumnType : Type 0 where
     cleaf : LeafType → ColumnType
@@ -86,7 +87,8 @@ unfoldable pub countColumns : Columns → ℕ
 countColumns cnil = 0
 countColumns (ccons l t cs) = suc (countColumns cs)
 
--- A type with ids, required marks and element names dropped, as `to_polars_dtype` drops them: what plans hold, and what check and run compare.
+-- A type with ids, required marks and element names dropped, as `to_polars_dtype` drops them: what plans hold, and what
+-- check and run compare.
 mutual
   pub data DataType : Type 0 where
     leaf : LeafType → DataType

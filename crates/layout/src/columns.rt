@@ -114,7 +114,8 @@ impl Cursor {
         }
     }
 
-    // The few steps of version 1 stand in line at the callers, which the compiler does not do with those of all versions.
+    // The few steps of version 1 stand in line at the callers, which the compiler does not do with those of all
+    // versions.
     pub fn label(self, s: &[u8], v: Edition) -> Labelled
         ensures { λ r. ⌜ labelRes (now (s .entry)) r ≡ label v (now (s .entry)) (self .at) ⌝ }
         ensures { λ r. ⌜ labelIn (now (s .entry)) r ⌝ }

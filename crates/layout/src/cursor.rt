@@ -1,4 +1,5 @@
-// A cursor over bytes, by value: each method takes it and hands it back with what was read, or answers a refusal's number.
+// A cursor over bytes, by value: each method takes it and hands it back with what was read, or answers a refusal's
+// number.
 ghost use mathlib.Core.Path.{_≡_};
 ghost use Rattle.layout.specs.Parser.{byte, u16, u32};
 ghost use Rattle.layout.specs.Layout.{text};

@@ -1,4 +1,5 @@
-// A layout's mark and version. Its version is called its edition: how a build matches is another thing (`matching::Matching`).
+// A layout's mark and version. Its version is called its edition: how a build matches is another thing
+// (`matching::Matching`).
 ghost use mathlib.Core.Path.{_≡_};
 ghost use Rattle.layout.specs.Layout.{edition, topRule, innerRule};
 ghost use Rattle.layout.specs.code.Answers.{editionRes};

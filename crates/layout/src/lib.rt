@@ -1,4 +1,5 @@
-// Layouts (document 01): the byte cursor, leaf types, types and columns, reading a layout, and walking over one that was read.
+// Layouts (document 01): the byte cursor, leaf types, types and columns, reading a layout, and walking over one that
+// was read.
 pub mod bytes;
 pub mod columns;
 pub mod cursor;

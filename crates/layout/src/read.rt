@@ -46,7 +46,8 @@ pub enum LayoutRead {
     Refused(u8),
 }
 
-// One type of at most `depth` levels, whose inner columns keep to the rule. `seen` is the table of the labels that were read.
+// One type of at most `depth` levels, whose inner columns keep to the rule. `seen` is the table of the labels that were
+// read.
 fn read_type(s: &[u8], v: Edition, rule: Siblings, depth: u8, c: Cursor, seen: &mut [u16]) -> Moved
     ensures { λ r. ⌜ r ≡ movedOf (type v rule depth (now (s .entry)) (c .at)) ⌝ }
     ensures { λ _. ⌜ Keeps (now (seen .entry)) (now (seen .exit)) ⌝ }
@@ -153,7 +154,8 @@ pub fn read_columns(
     Moved::To(d)
 }
 
-// Whether one of the earlier columns repeats the label `l` of the column at `d`, which is noted. They are scanned only where it may.
+// Whether one of the earlier columns repeats the label `l` of the column at `d`, which is noted. They are scanned only
+// where it may.
 fn is_repeated(
     s: &[u8],
     earlier: ColumnRange,

@@ -1,6 +1,6 @@
-// The labels that were read, in a table of slots. A slot holds where a column begins, or 0. The hash of a label says which slot is looked at
-// first, the others follow in turn, and the label is new where one is empty. Nothing is asked of what a table holds: where it was not cleared,
-// or is full, more is compared.
+// The labels that were read, in a table of slots. A slot holds where a column begins, or 0. The hash of a label says
+// which slot is looked at first, the others follow in turn, and the label is new where one is empty. Nothing is asked
+// of what a table holds: where it was not cleared, or is full, more is compared.
 ghost use mathlib.Core.Path.{_≡_};
 ghost use Prim.Native.Nat.{_+_, _*_, _≤_, _<_};
 ghost use lib.ListN.{length};
@@ -98,8 +98,8 @@ fn may_repeat(s: &[u8], v: Edition, rule: Siblings, l: Label, x: u16) -> bool
     }
 }
 
-// The empty slot for a label of a hash, which is then new; the table's length where it may be repeated. The first slot, most often empty, stands
-// in line.
+// The empty slot for a label of a hash, which is then new; the table's length where it may be repeated. The first slot,
+// most often empty, stands in line.
 pub fn find_slot(s: &[u8], v: Edition, rule: Siblings, l: Label, h: u32, seen: &[u16]) -> usize
     requires { ⌜ spanIn (now s) (l .name) ⌝ }
     ensures { λ r. ⌜ Searched v rule (labelAt (now (s .entry)) l) (now (s .entry)) (now (seen .entry)) h r ⌝ }

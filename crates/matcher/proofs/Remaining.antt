@@ -1,5 +1,5 @@
--- The invariant of the field matcher's loop, as what is still to be done: the whole answer is the answer so far joined to that of the fields that are
--- left, and whatever writes those writes the whole. Assumes nothing.
+-- The invariant of the field matcher's loop, as what is still to be done: the whole answer is the answer so far joined
+-- to that of the fields that are left, and whatever writes those writes the whole. Assumes nothing.
 use Prim.Native.Nat.{ℕ, _+_, _-_, _*_, _<_, _≤_}
 use mathlib.Core.Path.{_≡_, refl, sym, ap, _∙_, subst}
 use mathlib.Core.Bool.{Bool, true, false, _&&_}

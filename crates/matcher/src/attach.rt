@@ -1,5 +1,6 @@
-// The type matcher and the field matcher call each other, the remaining depth falling. They write into a scratch buffer from an index on: a
-// mapping that turns out to be left out is written over, and after a refusal nothing is said of the buffer.
+// The type matcher and the field matcher call each other, the remaining depth falling. They write into a scratch buffer
+// from an index on: a mapping that turns out to be left out is written over, and after a refusal nothing is said of the
+// buffer.
 ghost use Prim.Native.Nat.{_+_, _*_, _≤_, _<_};
 ghost use lib.ListN.{length, take};
 ghost use Rattle.layout.specs.code.Answers.{spanIn};
@@ -205,8 +206,8 @@ fn attach_struct(
     Made::Built(6 + len)
 }
 
-// The field matcher: the target's fields over the incoming fields. A table of the incoming fields stands at the start of the arena, and what is behind
-// it is lent to the types of the fields.
+// The field matcher: the target's fields over the incoming fields. A table of the incoming fields stands at the start
+// of the arena, and what is behind it is lent to the types of the fields.
 fn attach_row(
     build: Build,
     incoming: &[u8],
@@ -246,8 +247,8 @@ fn attach_row(
     )
 }
 
-// The same, counterparts found through the table, the first `used` numbers of the arena, where there is one. A loop, so that 65,535 fields take no
-// stack.
+// The same, counterparts found through the table, the first `used` numbers of the arena, where there is one. A loop, so
+// that 65,535 fields take no stack.
 fn attach_fields(
     build: Build,
     incoming: &[u8],
@@ -324,8 +325,8 @@ fn attach_fields(
     Row::Done(same, to - rows.k)
 }
 
-// One target column over its counterpart among the incoming columns, which the caller has looked up, or the column that is missing.
-// `build_column_selector` is this with 11.
+// One target column over its counterpart among the incoming columns, which the caller has looked up, or the column that
+// is missing. `build_column_selector` is this with 11.
 pub fn attach_field(
     build: Build,
     incoming: &[u8],

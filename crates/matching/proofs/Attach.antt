@@ -1,4 +1,5 @@
--- Both builders as a relation, one rule for each way to take a column to its target, and that they keep to it. Assumes nothing.
+-- Both builders as a relation, one rule for each way to take a column to its target, and that they keep to it. Assumes
+-- nothing.
 use Prim.Native.Nat.{ℕ, _+_}
 use mathlib.Core.Path.{_≡_, refl, ap}
 use mathlib.Core.Bool.{Bool, true, false, _&&_}

@@ -1,5 +1,5 @@
--- 53 over trees: exactly where a top column is extra under Raise, at the position of the first; under Ignore, and where no column is extra, a build goes on
--- as if there were no such test. Assumes nothing.
+-- 53 over trees: exactly where a top column is extra under Raise, at the position of the first; under Ignore, and where
+-- no column is extra, a build goes on as if there were no such test. Assumes nothing.
 use Prim.Native.Nat.{ℕ, _+_, _≤_, _<_}
 use mathlib.Core.Path.{_≡_, refl}
 use mathlib.Core.Bool.{Bool, true, false}

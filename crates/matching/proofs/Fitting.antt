@@ -1,4 +1,5 @@
--- A default fits its field, where the values of the table fit the types that stand beside them; and they do in every table that was read. Assumes nothing.
+-- A default fits its field, where the values of the table fit the types that stand beside them; and they do in every
+-- table that was read. Assumes nothing.
 use Prim.Native.Nat.{ℕ, zero, suc}
 use mathlib.Core.Path.{_≡_, refl, sym, _∙_}
 use mathlib.Core.Bool.{Bool, true, false, not}

@@ -1,4 +1,5 @@
--- Document 02, L6, over trees: a build keeps what it gives when its policy is loosened, for both ways of matching and any defaults. Assumes nothing.
+-- Document 02, L6, over trees: a build keeps what it gives when its policy is loosened, for both ways of matching and
+-- any defaults. Assumes nothing.
 use Prim.Native.Nat.{ℕ, _+_}
 use mathlib.Core.Path.{_≡_, refl}
 use mathlib.Core.Bool.{Bool, _&&_}

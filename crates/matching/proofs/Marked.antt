@@ -1,4 +1,5 @@
--- A built plan passes the check's last test, 55 (document 02, L5): what it gives a required column is never null. Assumes nothing.
+-- A built plan passes the check's last test, 55 (document 02, L5): what it gives a required column is never null.
+-- Assumes nothing.
 use Prim.Native.Nat.{ℕ, suc, _+_}
 use mathlib.Core.Path.{_≡_, refl, sym, ap, ap₂, _∙_}
 use mathlib.Core.Bool.{Bool, true, false}

@@ -1,4 +1,5 @@
--- 54 and 55 in the builders (document 02, L5): what their two tests say, case by case and in the check's terms. Assumes nothing.
+-- 54 and 55 in the builders (document 02, L5): what their two tests say, case by case and in the check's terms. Assumes
+-- nothing.
 use mathlib.Core.Path.{_≡_, refl}
 use mathlib.Core.Bool.{Bool, true, false, _&&_, _||_, not}
 use mathlib.Core.Logic.{_↔_}

@@ -95,7 +95,8 @@ entryOf i k r = i ∷ 0 ∷ 0 ∷ 0 ∷ k ∷ r
 abbrev planned : ℕ → Bytes → Bytes
 planned n ss = 0x50 ∷ 0x4C ∷ 0x4E ∷ 1 ∷ 0 ∷ n ∷ 0 ∷ ss
 
--- every flag on; extra fields under Raise; missing fields under Raise; missing columns under Raise; null_upcast off; extra columns under Raise
+-- every flag on; extra fields under Raise; missing fields under Raise; missing columns under Raise; null_upcast off;
+-- extra columns under Raise
 abbrev on : Policy
 on = policyOf 65535
 
@@ -583,7 +584,8 @@ required-unlike : missingMarked on (defaults 1 (entryOf 2 0 (6 ∷ 1 ∷ 7 ∷ [
 unfolding built
 required-unlike = refl
 
--- "or a required field in the default put in for a missing one": t has the fields b#2, which has the default 7, and a#3 with the mark r
+-- "or a required field in the default put in for a missing one": t has the fields b#2, which has the default 7, and a#3
+-- with the mark r
 abbrev structAdded : Bytes → ℕ → ℕ → Bytes → Answer Bytes
 structAdded d b r u = addMarked on d b (structOf 2 (marked 0x62 2 0 (2 ∷ marked 0x61 3 r u)))
 

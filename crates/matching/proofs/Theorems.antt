@@ -1,4 +1,5 @@
--- Demand 3, from "Every plan that either builder writes" on: the theorems, each under the sentence that it states. Assumes nothing.
+-- Demand 3, from "Every plan that either builder writes" on: the theorems, each under the sentence that it states.
+-- Assumes nothing.
 use Prim.Native.Nat.{ℕ, _≤_}
 use mathlib.Core.Path.{_≡_, ap}
 use mathlib.Core.Logic.{_↔_}
@@ -37,8 +38,9 @@ use Rattle.matching.proofs.Marked.{attachAll-meets}
 use Rattle.matching.proofs.Right.{attachAll-due}
 use Rattle.matching.proofs.Nesting.{attachAll-nests, attached-count, attachAll-formed}
 
--- `LayoutLimits` holds of the columns of every layout that was read (`layout-limits`); `Good` of every table that was read (`table-good`) and of none
--- (`good-none`). Calls.antt has the same for the calls over bytes, where neither is left.
+-- `LayoutLimits` holds of the columns of every layout that was read (`layout-limits`); `Good` of every table that was
+-- read (`table-good`) and of none (`good-none`). Calls.antt has the same for the calls over bytes, where neither is
+-- left.
 module _ (v : Matching) (p : Policy) (d : Defaults) (Γ Δ : Columns) {ss : Selectors} (built : build v p d Γ Δ ≡ accepted ss) where
   -- its types pass the check, up to 33
   build-types : Good d → LayoutLimits Δ → check (fieldsOf Γ) (fieldsOf Δ) ss ≡ accepted tt
@@ -49,8 +51,8 @@ module _ (v : Matching) (p : Policy) (d : Defaults) (Γ Δ : Columns) {ss : Sele
   unfolding checkMarked answered placed demand
   build-passes g z = rw (build-types g z, attachAll-meets v (build→ v p d Γ Δ built))
 
-  -- "For every record that fits the incoming one, the run of such a plan between these same two .. writes exactly the record that document 01 calls due":
-  -- its values are those due,
+  -- "For every record that fits the incoming one, the run of such a plan between these same two .. writes exactly the
+  -- record that document 01 calls due": its values are those due,
   pub build-due : {ρ : Values} → FitsAll (fieldsOf Γ) ρ → evals ρ ss ≡ dues v d Δ Γ ρ
   build-due h = attachAll-due v (build→ v p d Γ Δ built) h
 
@@ -76,8 +78,8 @@ module _ (v : Matching) (p : Policy) (d : Defaults) (Γ Δ : Columns) {ss : Sele
       written-read (build-formed g y z) (omega arith) (omega arith) l
 
 module _ (p : Policy) (d : Defaults) (Γ Δ : Columns) {ss : Selectors} (built : build ByName p d Γ Δ ≡ accepted ss) where
-  -- "Matched by name, a built plan leaves a target column untouched exactly when the incoming column of that name has an equal type." The target column at
-  -- the position j has the label b and the type u; its selector is s.
+  -- "Matched by name, a built plan leaves a target column untouched exactly when the incoming column of that name has
+  -- an equal type." The target column at the position j has the label b and the type u; its selector is s.
   pub build-untouched : (j : Position) {k : Position} {b : Label} {u : ColumnType} {s : Selector} → columnAt j Δ ≡ present k b u → SelectorAt ss (j .0)
       s → Untouched Γ b s ↔ EqualType Γ b u
   build-untouched j e x = column-untouched 0 (j .0) (omega arith) (build→ ByName p d Γ Δ built) x e

@@ -1,5 +1,5 @@
--- "Older columns count as optional" (document 02, L5): where no column of the target is required, 54 and 55 are never met, and the builders' clauses
--- are document 01's, as the equations here have them. Assumes nothing.
+-- "Older columns count as optional" (document 02, L5): where no column of the target is required, 54 and 55 are never
+-- met, and the builders' clauses are document 01's, as the equations here have them. Assumes nothing.
 use Prim.Native.Nat.{ℕ}
 use mathlib.Core.Path.{_≡_, refl}
 use mathlib.Core.Bool.{Bool, true, false}

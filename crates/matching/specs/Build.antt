@@ -1,5 +1,6 @@
--- Document 01, "Matching": both builders, in the shape of source 000: `build_column_selector` with `attach_transforms` by name, and
--- `attach_iceberg_transforms` by number; where they differ stands in the second part. 53 is document 02's (L3), as are 54 and 55 (L5).
+-- Document 01, "Matching": both builders, in the shape of source 000: `build_column_selector` with `attach_transforms`
+-- by name, and `attach_iceberg_transforms` by number; where they differ stands in the second part. 53 is document 02's
+-- (L3), as are 54 and 55 (L5).
 use Prim.Native.Nat.{ℕ, _+_}
 use mathlib.Core.Bool.{Bool, true, false, _&&_, _||_, not}
 use lib.Dec.{eqb}
@@ -70,8 +71,8 @@ abbrev pub isByName : Matching → Bool
 isByName ByName = true
 isByName ByNumber = false
 
--- By name "null incoming, other target (nested too): 15 `null_upcast` off, else NonStrict cast"; another type goes on with r. By number null against a
--- nested type is 24. A leaf target goes by the rule of its pair in both.
+-- By name "null incoming, other target (nested too): 15 `null_upcast` off, else NonStrict cast"; another type goes on
+-- with r. By number null against a nested type is 24. A leaf target goes by the rule of its pair in both.
 unfoldable pub unlessNullType : Matching → Policy → Position → ColumnType → ColumnType → Result Selector → Result Selector
 unlessNullType v p k u t r = choose (isByName v && isNullType t) (demand (p .«null_upcast») 15 (gives (cast (position k) (dtypeOf u) NonStrict))) r
 
@@ -118,8 +119,8 @@ abbrev pub inserts : MissingColumnsPolicy → Bool
 inserts MissingColumnsPolicy.Insert = true
 inserts MissingColumnsPolicy.Raise = false
 
--- 53 (document 02, L3). `extra_column_err`: "the first incoming column with no target counterpart refuses the build", "its place being the incoming position";
--- the incoming columns are fs, the first's position being i, the target's gs
+-- 53 (document 02, L3). `extra_column_err`: "the first incoming column with no target counterpart refuses the build",
+-- "its place being the incoming position"; the incoming columns are fs, the first's position being i, the target's gs
 unfoldable pub extraColumnErr : Matching → Columns → Columns → ℕ → Answer (Unit {0})
 extraColumnErr v cnil gs i = accepted tt
 extraColumnErr v (ccons l t fs) gs i = choose (isAbsent (counterpart v l gs)) (refusedAt 53 i) (extraColumnErr v fs gs (i + 1))
@@ -135,12 +136,13 @@ extraColumns ExtraColumnsPolicy.Raise v fs gs = extraColumnErr v fs gs 0
 unfoldable pub keepsRequired : Label → ColumnType → Label → Bool
 keepsRequired a t b = not (b .required) || (a .required && not (isNullType t))
 
--- 54 "when a missing required field, or a required field in the default put in for a missing one, would be null": not so where the
--- value x stands for the missing column l, of the type u; "below a null there is no value"
+-- 54 "when a missing required field, or a required field in the default put in for a missing one, would be null": not
+-- so where the value x stands for the missing column l, of the type u; "below a null there is no value"
 unfoldable pub fillsRequired : Label → ColumnType → Value → Bool
 fillsRequired l u x = meets (ofValue x) (l .required) u
 
--- a column with no counterpart: a constant under Insert, else the refusal n; 54 is "tested once that default is worked out"
+-- a column with no counterpart: a constant under Insert, else the refusal n; 54 is "tested once that default is worked
+-- out"
 unfoldable pub missing : Defaults → Bool → ℕ → Label → ColumnType → Result Selector
 missing d insert n l u = demand insert n (missingValue d l u >>= λ x. demand (fillsRequired l u x) 54 (gives (constant (l .name) (dtypeOf u) x)))
 
@@ -167,7 +169,8 @@ unfoldable pub inPlace : ℕ → Selectors → Bool
 inPlace i snil = true
 inPlace i (scons s ss) = isPosition i s && inPlace (i + 1) ss
 
--- "A mapping is left out when it takes position i at each i with equal counts (list or array: bare position 0)": `is_input_passthrough`
+-- "A mapping is left out when it takes position i at each i with equal counts (list or array: bare position 0)":
+-- `is_input_passthrough`
 unfoldable pub structSelector : Position → Columns → Selectors → Selector
 structSelector k fs ss = choose (eqb (countColumns fs) (countSelectors ss) && inPlace 0 ss) (position k) (structMapping (position k) ss)
 
@@ -185,8 +188,8 @@ unfoldable pub sought : Lookup → Result Selector → (Position → Label → C
 sought absent r f = r
 sought (present k l t) r f = f k l t
 
--- `attachTransforms v p d u k t`: the selector that takes position k, of the incoming type t, to the target type u. 55 is "tested before their types
--- (elements: after 25)".
+-- `attachTransforms v p d u k t`: the selector that takes position k, of the incoming type t, to the target type u. 55
+-- is "tested before their types (elements: after 25)".
 unfoldable mutual
   pub attachTransforms : Matching → Policy → Defaults → ColumnType → Position → ColumnType → Result Selector
   attachTransforms v p d (cleaf u) k t = leafPart t >>= λ l. ruled (pairRule p l u) k u

@@ -59,7 +59,8 @@ writtenPlan room ss = placed 0 (demand (roomFor room (encodePlan ss)) 27 (gives 
 unfoldable pub buildByName : Policy → Bytes → Bytes → ℕ → Answer Bytes
 buildByName p incoming target room = bothLayouts ByName incoming target (λ a b. answered (build ByName p noDefaults a b) (λ ss. writtenPlan room ss))
 
--- after 10 the defaults are read; the index is the source's, and of the table the entries of the owner count (document 02, L7)
+-- after 10 the defaults are read; the index is the source's, and of the table the entries of the owner count (document
+-- 02, L7)
 unfoldable pub buildByNumber : Policy → ℕ → ℕ → Bytes → Bytes → Bytes → ℕ → Answer Bytes
 buildByNumber p index owner incoming target defaults room =
     bothLayouts ByNumber incoming target

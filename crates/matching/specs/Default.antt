@@ -1,4 +1,5 @@
--- Document 01, "Defaults": the value that stands for a field with no counterpart, as source 000's `build_iceberg_default_value` finds it.
+-- Document 01, "Defaults": the value that stands for a field with no counterpart, as source 000's
+-- `build_iceberg_default_value` finds it.
 use mathlib.Core.Bool.{Bool, true, false, _||_}
 use Rattle.layout.specs.Parser.{choose}
 use Rattle.layout.specs.Tree.{LeafType, Label, ColumnType, cleaf, cstruct, clist, carray, Columns, cnil, ccons, leaf}
@@ -8,7 +9,8 @@ use Rattle.values.specs.Value.{Value, vnull, vstruct, Values, vnil, vcons}
 use Rattle.defaults.specs.Lookup.{Taken, refused, nothing, taken}
 use Rattle.plan.specs.Result.{Result, gives, refuses, _>>=_, demand}
 
--- What is asked for a default: by number a table at a source index (`getDefaultValue`). By name, and inside elements, there is none.
+-- What is asked for a default: by number a table at a source index (`getDefaultValue`). By name, and inside elements,
+-- there is none.
 abbrev pub Defaults : Type 0
 Defaults = FieldId → Taken
 
@@ -47,7 +49,8 @@ withField x g = record { any = isSome x || g .any; values = vcons (orNull x) (g 
 unfoldable pub structDefault : FieldDefaults → Default
 structDefault g = choose (g .any) (some (vstruct (g .values))) none
 
--- `build_iceberg_default_value`: "lists and arrays have none"; only a leaf's id is looked up. The first 26 or 28, in the order of the fields, stays.
+-- `build_iceberg_default_value`: "lists and arrays have none"; only a leaf's id is looked up. The first 26 or 28, in
+-- the order of the fields, stays.
 unfoldable mutual
   pub buildIcebergDefaultValue : Defaults → FieldId → ColumnType → Result Default
   buildIcebergDefaultValue d i (cleaf l) = leafDefault l (d i)

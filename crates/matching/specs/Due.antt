@@ -1,5 +1,5 @@
--- Document 01, the last part of "Plans, check and run": the record due to a build, worked out from the build's arguments and the record, never
--- from the plan.
+-- Document 01, the last part of "Plans, check and run": the record due to a build, worked out from the build's
+-- arguments and the record, never from the plan.
 use Rattle.layout.specs.Parser.{choose}
 use Rattle.layout.specs.Tree.{LeafType, null, leafOf, ColumnType, cleaf, cstruct, clist, carray, Columns, cnil, ccons, leaf}
 use Rattle.layout.specs.Find.{Lookup, absent, present, counterpart}
@@ -46,8 +46,9 @@ unfoldable pub fromCounterpart : Lookup → Value → (ColumnType → Value → 
 fromCounterpart absent x f vs = x
 fromCounterpart (present k l t) x f vs = f t (valueAt vs (k .0))
 
--- `due v d u t x`: what the value x of the incoming type t becomes in the target type u. "By rule, null stays null; .. a struct takes each target field
--- in this same way and drops the rest; a list or array converts each element in order."
+-- `due v d u t x`: what the value x of the incoming type t becomes in the target type u. "By rule, null stays null; ..
+-- a struct takes each target field in this same way and drops the rest; a list or array converts each element in
+-- order."
 unfoldable mutual
   pub due : Matching → Defaults → ColumnType → ColumnType → Value → Value
   due v d (cleaf u) t x = dueLeaf (leafIn t) u x
@@ -55,7 +56,8 @@ unfoldable mutual
   due v d (clist l u) t x = onList (λ y. due v noDefaults u (elementIn t) y) x
   due v d (carray w l u) t x = onArray (λ y. due v noDefaults u (elementIn t) y) x
 
-  -- "Each target column in order takes its counterpart's value, converted by rule; with no counterpart, by number its default if it has one, else null."
+  -- "Each target column in order takes its counterpart's value, converted by rule; with no counterpart, by number its
+  -- default if it has one, else null."
   pub dues : Matching → Defaults → Columns → Columns → Values → Values
   dues v d cnil fs vs = vnil
   dues v d (ccons l u gs) fs vs =

@@ -1,6 +1,6 @@
--- Document 01, the end of "Plans, check and run": "Types are equal when their version 1 forms have the same bytes. A column is untouched when its selector is
--- its
--- counterpart's bare position." Demand 3, its last sentence, is that by name the two below say the same.
+-- Document 01, the end of "Plans, check and run": "Types are equal when their version 1 forms have the same bytes. A
+-- column is untouched when its selector is its counterpart's bare position." Demand 3, its last sentence, is that by
+-- name the two below say the same.
 use mathlib.Core.Path.{_≡_}
 use Rattle.layout.specs.Tree.{Label, ColumnType, Columns, dtypeOf}
 use Rattle.layout.specs.Find.{present, columnNamed}

@@ -1,1 +1,2 @@
-// Both builders over trees (document 01, "Matching"), the due record, and their theorems. All of it stands in specs/ and proofs/: the code is crate `builder`.
+// Both builders over trees (document 01, "Matching"), the due record, and their theorems. All of it stands in specs/
+// and proofs/: the code is crate `builder`.

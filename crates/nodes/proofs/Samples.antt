@@ -1,4 +1,5 @@
--- What the functions ask can be had: a list of two elements, of which the second is null, in a struct of one field. Computed.
+-- What the functions ask can be had: a list of two elements, of which the second is null, in a struct of one field.
+-- Computed.
 use mathlib.Core.Path.{_≡_, refl}
 use mathlib.Core.Bool.{false}
 use mathlib.Core.List.{[], _∷_}

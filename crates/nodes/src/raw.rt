@@ -1,4 +1,5 @@
-// The node of a value at a path, in the bytes of a record or of a constant. A node is where its type and its value begin.
+// The node of a value at a path, in the bytes of a record or of a constant. A node is where its type and its value
+// begin.
 ghost use mathlib.Core.Path.{_≡_};
 ghost use Prim.Native.Nat.{_≤_};
 ghost use lib.ListN.{length};

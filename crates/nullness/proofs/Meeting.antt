@@ -1,4 +1,5 @@
--- Each required place of a target column, and what holds while the columns are asked one after the other. Assumes nothing.
+-- Each required place of a target column, and what holds while the columns are asked one after the other. Assumes
+-- nothing.
 use Prim.Native.Nat.{ℕ, zero, suc, _+_, _-_, _≤_, _<_}
 use mathlib.Core.Path.{_≡_, refl, sym, ap, _∙_, subst}
 use mathlib.Core.Bool.{Bool, true, false, _&&_}

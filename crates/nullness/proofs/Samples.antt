@@ -188,7 +188,8 @@ null-mapping-deep-position : alone opt (cstruct (one req (cstruct (one req byte)
 unfolding alone
 null-mapping-deep-position = refl
 
--- "a list mapping over the constant `[]` of list<null> with a cast of position 0 to int8 inside passes against a required int8 element"
+-- "a list mapping over the constant `[]` of list<null> with a cast of position 0 to int8 inside passes against a
+-- required int8 element"
 empty-null-list : alone req (clist req byte) (listMapping (constantOf (clist opt (cleaf null)) (vlist vnil)) (cast first (leaf int8) NonStrict)) ≡ accepted tt
 unfolding alone
 empty-null-list = refl

@@ -1,5 +1,5 @@
--- A walk through selectors that passed the check, with a path into what they give: its moves keep what can be null there.
--- Assumes nothing.
+-- A walk through selectors that passed the check, with a path into what they give: its moves keep what can be null
+-- there. Assumes nothing.
 use Prim.Native.Nat.{ℕ, zero, suc, _≤_, _<_}
 use mathlib.Core.Path.{_≡_, refl, sym, ap, _∙_, subst}
 use mathlib.Core.Bool.{Bool, true}

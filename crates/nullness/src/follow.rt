@@ -1,5 +1,5 @@
-// Whether a required field may stand at a place of what a selector gives. The place is followed back to a column or a constant;
-// each selector is passed at most once.
+// Whether a required field may stand at a place of what a selector gives. The place is followed back to a column or a
+// constant; each selector is passed at most once.
 ghost use mathlib.Core.Path.{_≡_};
 ghost use Rattle.layout.specs.Tree.{fieldsOf};
 ghost use Rattle.plan.specs.Nullness.{nullnessOf};

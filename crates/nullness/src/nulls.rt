@@ -1,8 +1,8 @@
-// A table of the nulls in a plan's constants. The first 1,024 words have a bit for each offset of the plan: set where a type
-// stands of a place at which one of the values is null. The 64 words behind them have the constants all of whose nulls are in
-// the table, by the offset of their type, one more than it, each in the word of its offset by 1,024: a constant of so many bytes
-// has that word for itself, and smaller ones are not worth a pass. The table is a help, never needed: what it does not have is
-// found by a scan of the constant.
+// A table of the nulls in a plan's constants. The first 1,024 words have a bit for each offset of the plan: set where a
+// type stands of a place at which one of the values is null. The 64 words behind them have the constants all of whose
+// nulls are in the table, by the offset of their type, one more than it, each in the word of its offset by 1,024: a
+// constant of so many bytes has that word for itself, and smaller ones are not worth a pass. The table is a help, never
+// needed: what it does not have is found by a scan of the constant.
 ghost use mathlib.Core.Bool.{true, false};
 ghost use mathlib.Core.Path.{_≡_};
 ghost use Prim.Native.Nat.{_/_, _%_, _^_, _≤_, _<_};
@@ -137,7 +137,8 @@ fn part_start(plan: &[u8], c: Cursor, k: u16) -> TypePart
     }
 }
 
-// Whether a null may stand at a path into the constant whose type stands at `t`: by the table, or since that has no answer.
+// Whether a null may stand at a path into the constant whose type stands at `t`: by the table, or since that has no
+// answer.
 pub fn may_be_null(
     plan: &[u8],
     t: Cursor,

@@ -1,6 +1,7 @@
-// Replays a list of conversions. Standard input has records of sixteen bytes: the operation, the code of what the number is, the code of
-// what it becomes, five zeros, and the pattern, lowest byte first. For each a line is written: the answer as sixteen hexadecimal
-// digits, or `too large`. compare/floats.c makes the list, and the answers by the machine's own arithmetic.
+// Replays a list of conversions. Standard input has records of sixteen bytes: the operation, the code of what the
+// number is, the code of what it becomes, five zeros, and the pattern, lowest byte first. For each a line is written:
+// the answer as sixteen hexadecimal digits, or `too large`. compare/floats.c makes the list, and the answers by the
+// machine's own arithmetic.
 ghost use Prim.Native.Nat.{_+_, _≤_, _<_};
 ghost use lib.ListN.{length};
 use libc::STDIN_FILENO;

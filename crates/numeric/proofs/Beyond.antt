@@ -1,5 +1,5 @@
--- Counts beyond a pair of bounds, and what that means of the count before a change of unit: all changes are monotone, so it is again a pair of bounds.
--- Assumes nothing.
+-- Counts beyond a pair of bounds, and what that means of the count before a change of unit: all changes are monotone,
+-- so it is again a pair of bounds. Assumes nothing.
 use mathlib.Core.Path.{_≡_, sym, ap, _∙_}
 use mathlib.Core.Logic.{_⊎_, inl, inr}
 use mathlib.Core.Bool.{Bool}

@@ -1,5 +1,5 @@
--- Where `rounded` changes nothing: a number of at most p digits, of any exponent, is a format's own. So a float goes to a wider format whole.
--- Assumes nothing.
+-- Where `rounded` changes nothing: a number of at most p digits, of any exponent, is a format's own. So a float goes to
+-- a wider format whole. Assumes nothing.
 use mathlib.Core.Path.{_≡_, refl, sym, ap, _∙_, subst}
 use mathlib.Core.Logic.{_⊎_, inl, inr}
 use Prim.Native.Nat.{ℕ, zero, suc, _+_, _-_, _*_, _/_, _%_, _^_, _≤_, _<_}
@@ -55,7 +55,8 @@ module _ (p : ℕ) (P : 2 ≤ p) where
           ∙ sym (ap (λ (x : ℕ). x * h + q) z ∙ (let t : 0 * h + q ≡ q = omega arith in t))
       go (inr m) (inr g) = encode-full q k g (subst (λ (x : ℕ). q < x) (sym (hidden-twice p P)) m)
 
-  -- A number of p digits at most has a pattern: twice the significand at one less an exponent, until the significand is full or the exponent 0.
+  -- A number of p digits at most has a pattern: twice the significand at one less an exponent, until the significand is
+  -- full or the exponent 0.
   pub representable : (e x : ℕ) → x < 2 ^ p → (b : ℕ) × (magnitude p b ≡ x * 2 ^ e)
   unfolding magnitude
   representable zero x l =

@@ -1,5 +1,5 @@
--- What document 01, "Run", says about numbers, sentence by sentence, each as a theorem about the conversions of specs/. The contracts of `floats`, `integers`
--- and `times` cite these same conversions. Assumes nothing.
+-- What document 01, "Run", says about numbers, sentence by sentence, each as a theorem about the conversions of specs/.
+-- The contracts of `floats`, `integers` and `times` cite these same conversions. Assumes nothing.
 use mathlib.Core.Path.{_≡_, refl, sym, ap, _∙_, subst}
 use mathlib.Core.Bool.{cond}
 use Prim.Native.Nat.{ℕ, suc, _+_, _-_, _*_, _/_, _%_, _^_, _≤_, _<_}

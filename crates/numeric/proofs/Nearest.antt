@@ -1,5 +1,5 @@
--- The one law of rounding: `rounded` is the nearest number of its format, ties to even, for every precision from 2 on and every emax;
--- and no other pattern is. Assumes nothing.
+-- The one law of rounding: `rounded` is the nearest number of its format, ties to even, for every precision from 2 on
+-- and every emax; and no other pattern is. Assumes nothing.
 use mathlib.Core.Path.{_≡_, refl, sym, ap, ap₂, _∙_, subst}
 use mathlib.Core.Logic.{_≢_, _⊎_, inl, inr}
 use mathlib.Core.Bool.{Bool, true, false, not}

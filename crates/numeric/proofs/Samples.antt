@@ -1,4 +1,5 @@
--- S5 to S10 of document 01's samples, and further values, over the definitions that the contracts cite. Each is computed. Assumes nothing.
+-- S5 to S10 of document 01's samples, and further values, over the definitions that the contracts cite. Each is
+-- computed. Assumes nothing.
 use mathlib.Core.Path.{_≡_, refl}
 use Prim.Native.Nat.{ℕ}
 use Rattle.numeric.specs.declared.floats.Format.{Format}

@@ -1,5 +1,5 @@
--- Integers as patterns: the number of a pattern by cases, that `signed` and `pattern` undo each other, and that a kind whose range holds another's
--- keeps its numbers. Assumes nothing.
+-- Integers as patterns: the number of a pattern by cases, that `signed` and `pattern` undo each other, and that a kind
+-- whose range holds another's keeps its numbers. Assumes nothing.
 use mathlib.Core.Path.{_≡_, refl, sym, ap, _∙_, subst}
 use mathlib.Core.Bool.{Bool, true, false, cond}
 use Prim.Native.Nat.{ℕ, zero, suc, _+_, _-_, _*_, _/_, _%_, _^_, _≤_, _<_, zero-le}

@@ -61,7 +61,8 @@ fromInteger p emax (negsuc n) = signBit p emax + rounded p emax (suc n) 1
 abbrev pub finite : ℕ → ℕ → ℕ → ℕ → ℕ → ℕ
 finite p emax q gmax m = rounded q gmax (magnitude p m) (2 ^ scale p emax)
 
--- the format (p, emax)'s pattern b in the format (q, gmax): a finite number is rounded, an infinity stays one, and "the sign is kept"
+-- the format (p, emax)'s pattern b in the format (q, gmax): a finite number is rounded, an infinity stays one, and "the
+-- sign is kept"
 unfoldable pub converted : ℕ → ℕ → ℕ → ℕ → ℕ → ℕ
 converted p emax q gmax b =
     let sign = signOf p emax b * signBit q gmax in

@@ -39,8 +39,8 @@ lowest i = cond (isSigned i) (negsuc (2 ^ (bitsOf i - 1) - 1)) (pos 0)
 abbrev pub highest : Integer → ℤ
 highest i = cond (isSigned i) (pos (2 ^ (bitsOf i - 1) - 1)) (pos (2 ^ bitsOf i - 1))
 
--- The number of b's lowest w bits in two's complement: the top one counts -(2 ^ (w - 1)), the others count as without a sign.
--- `negsuc n` is -(n + 1).
+-- The number of b's lowest w bits in two's complement: the top one counts -(2 ^ (w - 1)), the others count as without a
+-- sign. `negsuc n` is -(n + 1).
 unfoldable pub signed : ℕ → ℕ → ℤ
 signed w b = cond (eqb (b / 2 ^ (w - 1) % 2) 0) (pos (b % 2 ^ (w - 1))) (negsuc (2 ^ (w - 1) - suc (b % 2 ^ (w - 1))))
 

@@ -1,8 +1,9 @@
--- Rounding to a binary format of IEEE 754 (document 01, "Run": "nearest, ties to even, subnormals included, infinity at and past the midpoint above the
--- largest finite value"), for any precision p and any largest exponent emax. binary16 is p = 11, emax = 15; binary32 is
--- p = 24, emax = 127; binary64 is p = 53, emax = 1023. Definitions only.
--- A magnitude is a bit pattern without its sign: the exponent's field, then the p - 1 digits of the trailing significand.
--- All values are counted in units of the format's smallest positive value, 2 ^ -(emax + p - 2), so that they are natural numbers.
+-- Rounding to a binary format of IEEE 754 (document 01, "Run": "nearest, ties to even, subnormals included, infinity at
+-- and past the midpoint above the largest finite value"), for any precision p and any largest exponent emax. binary16
+-- is p = 11, emax = 15; binary32 is p = 24, emax = 127; binary64 is p = 53, emax = 1023. Definitions only. A magnitude
+-- is a bit pattern without its sign: the exponent's field, then the p - 1 digits of the trailing significand. All
+-- values are counted in units of the format's smallest positive value, 2 ^ -(emax + p - 2), so that they are natural
+-- numbers.
 use mathlib.Core.Path.{_≡_}
 use mathlib.Core.Logic.{_≢_}
 use Prim.Native.Nat.{ℕ, zero, suc, _+_, _-_, _*_, _/_, _%_, _^_, _≤_, min}
@@ -26,8 +27,8 @@ abbrev pub fields : ℕ → ℕ → ℕ → ℕ
 fields h zero t = t
 fields h (suc e) t = (h + t) * 2 ^ e
 
--- The number of a pattern, in units. The pattern of infinity is read as the numbers before it are: as 2 ^ (emax + 1), the next after the
--- largest finite one.
+-- The number of a pattern, in units. The pattern of infinity is read as the numbers before it are: as 2 ^ (emax + 1),
+-- the next after the largest finite one.
 unfoldable pub magnitude : ℕ → ℕ → ℕ
 magnitude p b = fields (hidden p) (b / hidden p) (b % hidden p)
 
@@ -35,8 +36,9 @@ magnitude p b = fields (hidden p) (b / hidden p) (b % hidden p)
 abbrev pub distance : ℕ → ℕ → ℕ
 distance a b = (a - b) + (b - a)
 
--- r is num / den, rounded to nearest, ties to even: no pattern up to infinity is nearer, and where another is as near, r is even.
--- Since infinity stands for 2 ^ (emax + 1) and is even, it is r from the midpoint above the largest finite number on.
+-- r is num / den, rounded to nearest, ties to even: no pattern up to infinity is nearer, and where another is as near,
+-- r is even. Since infinity stands for 2 ^ (emax + 1) and is even, it is r from the midpoint above the largest finite
+-- number on.
 pub record IsRounded (p emax num den r : ℕ) : Type 0 where
   pub within : r ≤ infinity p emax
   pub nearest :

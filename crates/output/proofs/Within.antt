@@ -1,4 +1,5 @@
--- The value where a walk stands: the moves keep it, and what is strict goes through the entered mappings. Assumes nothing.
+-- The value where a walk stands: the moves keep it, and what is strict goes through the entered mappings. Assumes
+-- nothing.
 use Prim.Native.Nat.{ℕ, zero, suc}
 use mathlib.Core.Path.{_≡_, refl, ap, sym, _∙_}
 use mathlib.Core.List.{List, [], _∷_}

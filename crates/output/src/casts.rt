@@ -1,4 +1,5 @@
-// From a selector to where its value comes from, past casts and renames, and the casts that are passed. Nothing recurses: a chain of casts can be long.
+// From a selector to where its value comes from, past casts and renames, and the casts that are passed. Nothing
+// recurses: a chain of casts can be long.
 ghost use mathlib.Core.Path.{_≡_};
 ghost use mathlib.Core.List.{List};
 ghost use Prim.Native.Nat.{_≤_};
@@ -24,7 +25,8 @@ use walk::inputs::ends_with;
 use walk::inputs::no_ends;
 use walk::walk::Walk;
 
-// What a walk that no move is left of does next: it is where the value comes from, or goes on to the input, past a cast to a leaf kind or not.
+// What a walk that no move is left of does next: it is where the value comes from, or goes on to the input, past a cast
+// to a leaf kind or not.
 pub enum Pass {
     Ends,
     Goes,
@@ -75,7 +77,8 @@ fn next_pass(plan: &[u8], w: Walk, ends: InputEnds) -> Pass
     }
 }
 
-// The table of ends for the next pass. The type of a cast stands behind its input, so that a chain of casts is read from the innermost outwards once.
+// The table of ends for the next pass. The type of a cast stands behind its input, so that a chain of casts is read
+// from the innermost outwards once.
 fn ends_ahead(plan: &[u8], ends: InputEnds, w: Walk) -> InputEnds
     requires { ⌜ ((x : State) × WalkAt (now plan) w x) ⌝ }
     requires { ⌜ EndsAt (now plan) ends ⌝ }

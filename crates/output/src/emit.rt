@@ -1,4 +1,5 @@
-// Writing what a selector gives, no further than the limit. Recursion goes as deep as the output's parts nest; fields and elements are loops.
+// Writing what a selector gives, no further than the limit. Recursion goes as deep as the output's parts nest; fields
+// and elements are loops.
 ghost use mathlib.Core.Path.{_≡_};
 ghost use mathlib.Core.List.{List};
 ghost use Prim.Native.Nat.{_+_, _^_, _≤_, _<_};

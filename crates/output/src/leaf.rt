@@ -67,7 +67,8 @@ fn block_of(left: usize) -> usize
     if left < 1024 { left } else { 1024 }
 }
 
-// The number of the kind `kind` through the casts that a walk passes, from the innermost outward. They are walked past once for each 1,024 of them.
+// The number of the kind `kind` through the casts that a walk passes, from the innermost outward. They are walked past
+// once for each 1,024 of them.
 fn cast_number(plan: &[u8], w: Walk, casts: usize, kind: Leaf, n: u64) -> CastValue
     requires { ⌜ ((x : State) × WalkAt (now plan) w x) ⌝ }
     ensures { λ r. ⌜ ((x z : State) (ks : List LeafOf) → WalkAt (now (plan .entry)) w x → Passed x ks z → length ks ≡ casts → castValueOf r ≡ castAll ks (vnumber kind n)) ⌝ }

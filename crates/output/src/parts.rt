@@ -26,7 +26,8 @@ use nodes::raw::parts_at;
 use raw::copy::is_null;
 use walk::walk::Walk;
 
-// An answer; or what to ask of the selector's input, or of the innermost mapping's input: none unless there are so many parts, else the count that is known already.
+// An answer; or what to ask of the selector's input, or of the innermost mapping's input: none unless there are so many
+// parts, else the count that is known already.
 pub enum Asked {
     Answer(Parts),
     Input(u32, Parts),
@@ -199,7 +200,8 @@ pub fn parts_count(
     ask(lay, columns, rec, plan, w, 0, Parts::None, table)
 }
 
-// Whether the selector where the walk stands is run at all: inside entered mappings, whether the innermost one's input has the part.
+// Whether the selector where the walk stands is run at all: inside entered mappings, whether the innermost one's input
+// has the part.
 pub fn is_run(
     lay: &[u8],
     columns: ColumnRange,

@@ -29,8 +29,8 @@ use walk::head::head;
 use walk::head::struct_fields;
 use walk::walk::Walk;
 
-// A value in the record, by its type in the layout; a constant's value, by its type in the plan; a mapping, of a struct with the number of its selectors. Null: the
-// path leads nowhere.
+// A value in the record, by its type in the layout; a constant's value, by its type in the plan; a mapping, of a struct
+// with the number of its selectors. Null: the path leads nowhere.
 pub enum Source {
     Null,
     Record(Cursor, Cursor),

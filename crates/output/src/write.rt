@@ -94,8 +94,8 @@ pub fn hand_over(aside: &[u8], len: usize, out: &mut [u8]) -> Written
     Written::Written(len)
 }
 
-// Runs a plan that passed the check over a record that fits, where no strict date-time is too large. It is written aside first, whatever stands there, so that one that
-// is too long changes nothing of the buffer.
+// Runs a plan that passed the check over a record that fits, where no strict date-time is too large. It is written
+// aside first, whatever stands there, so that one that is too long changes nothing of the buffer.
 pub fn write_output(
     lay: &[u8],
     columns: ColumnRange,

@@ -1,4 +1,5 @@
--- The bounds before a cast are the weakest: its input is beyond them just where its result is beyond those after it, or too large. Assumes nothing.
+-- The bounds before a cast are the weakest: its input is beyond them just where its result is beyond those after it, or
+-- too large. Assumes nothing.
 use Prim.Native.Nat.{ℕ, _+_, _-_, _*_, _/_, _^_, _≤_, _<_, min}
 use mathlib.Core.Path.{_≡_, refl, sym, ap, _∙_}
 use mathlib.Core.Bool.{Bool, true}

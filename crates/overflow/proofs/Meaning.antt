@@ -1,4 +1,5 @@
--- Where a walk through selectors that passed the check stops, what is to be asked next says what is asked there. Assumes nothing.
+-- Where a walk through selectors that passed the check stops, what is to be asked next says what is asked there.
+-- Assumes nothing.
 use Prim.Native.Nat.{ℕ}
 use mathlib.Core.Path.{_≡_, refl}
 use mathlib.Core.Bool.{Bool, true, false}

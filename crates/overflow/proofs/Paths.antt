@@ -1,4 +1,5 @@
--- The paths to the date-time leaves of a type that stands in a layout, and what holds while they are asked for. Assumes nothing.
+-- The paths to the date-time leaves of a type that stands in a layout, and what holds while they are asked for. Assumes
+-- nothing.
 use Prim.Native.Nat.{ℕ, _+_, _-_, _≤_, _<_}
 use mathlib.Core.Path.{_≡_, refl, sym, ap, _∙_, subst}
 use mathlib.Core.Bool.{Bool, true, false, _||_}

@@ -1,4 +1,5 @@
--- States of a walk through selectors that passed the check, and what is asked of the values that positions take there. Assumes nothing.
+-- States of a walk through selectors that passed the check, and what is asked of the values that positions take there.
+-- Assumes nothing.
 use Prim.Native.Nat.{ℕ}
 use mathlib.Core.Path.{_≡_, refl, _∙_}
 use mathlib.Core.Bool.{Bool, false}

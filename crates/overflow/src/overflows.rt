@@ -1,5 +1,6 @@
-// Whether a strict cast overflows anywhere in the output of a plan. The output is not visited: for each path to a date-time leaf of the target's types the nodes
-// there, over all elements of the lists and arrays on it, are asked for at once.
+// Whether a strict cast overflows anywhere in the output of a plan. The output is not visited: for each path to a
+// date-time leaf of the target's types the nodes there, over all elements of the lists and arrays on it, are asked for
+// at once.
 ghost use mathlib.Core.Path.{_≡_};
 ghost use mathlib.Core.Bool.{not};
 ghost use mathlib.Core.List.{[], _∷_};

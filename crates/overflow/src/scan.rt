@@ -1,5 +1,5 @@
-// What stands in a value at a path that takes every element of the lists and arrays it goes through. The value stands in a
-// record, or in a plan as a constant.
+// What stands in a value at a path that takes every element of the lists and arrays it goes through. The value stands
+// in a record, or in a plan as a constant.
 ghost use mathlib.Core.Path.{_≡_};
 ghost use Prim.Native.Nat.{_<_, _≤_};
 ghost use lib.ListN.{length};

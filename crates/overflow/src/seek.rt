@@ -1,8 +1,9 @@
-// Whether a node of a selector's result is such as is wanted, at a path that takes every element of the lists and arrays it goes through.
+// Whether a node of a selector's result is such as is wanted, at a path that takes every element of the lists and
+// arrays it goes through.
 //
-// The walk goes back from the result to a column of the record or to a constant. A cast changes what is wanted of its input. A constant answers for itself; then it
-// only has to be found out whether it is run at all, which is asked of the input of the innermost mapping. Each selector is passed at most once, whatever the length
-// of the result.
+// The walk goes back from the result to a column of the record or to a constant. A cast changes what is wanted of its
+// input. A constant answers for itself; then it only has to be found out whether it is run at all, which is asked of
+// the input of the innermost mapping. Each selector is passed at most once, whatever the length of the result.
 ghost use mathlib.Core.Path.{_≡_};
 ghost use Prim.Native.Nat.{_-_, _<_, _≤_};
 ghost use lib.ListN.{getD};

@@ -19,8 +19,8 @@ pub struct Bounds {
     pub below: u64,
 }
 
-// Parts: a struct that is present. Element: a list or array that has an element. Beyond: an overflow, or a date-time whose count, brought to the unit, is beyond
-// the bounds.
+// Parts: a struct that is present. Element: a list or array that has an element. Beyond: an overflow, or a date-time
+// whose count, brought to the unit, is beyond the bounds.
 pub enum Want {
     Parts,
     Element,

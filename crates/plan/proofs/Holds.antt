@@ -29,7 +29,8 @@ pub data Present : Place → Type 0 where
   is-required : Present required
   is-optional : Present optional
 
--- `Holds n v`: v may stand where the nullness is n. The elements of a list are each a record of one column, as `eval` has them.
+-- `Holds n v`: v may stand where the nullness is n. The elements of a list are each a record of one column, as `eval`
+-- has them.
 mutual
   pub data Holds : Nullness → Value → Type 0 where
     h-null : {ns : Nullnesses} → Holds (node optional ns) vnull

@@ -1,4 +1,5 @@
--- Nullness place by place: a constant's by its values there, 55 by the target's required places, and the moves of a walk. Assumes nothing.
+-- Nullness place by place: a constant's by its values there, 55 by the target's required places, and the moves of a
+-- walk. Assumes nothing.
 use Prim.Native.Nat.{ℕ, zero, suc}
 use mathlib.Core.Path.{_≡_, refl, sym, ap, ap₂, _∙_}
 use mathlib.Core.Bool.{Bool, true, false}
@@ -115,7 +116,8 @@ element-place (vcons v vs) zero p h =
     ∙ sym (collected-append (valuesAt v p) (gather (λ w. valuesAt w p) vs))
 element-place vs (suc k) p h = ap (λ (n : Nullness). placeIn n p) (no-second vs k) ∙ nowhere-place p
 
--- "At each place of a constant collect the values it has there: none, never refused; some null, optional; else required"
+-- "At each place of a constant collect the values it has there: none, never refused; some null, optional; else
+-- required"
 pub constant-place : (p : List ℕ) (v : Value) → placeIn (ofValue v) p ≡ collected (valuesAt v p)
 unfolding placeIn valuesAt partsAt ofValue gather collected anyNull choose nullnessAt
 constant-place [] vnull = refl

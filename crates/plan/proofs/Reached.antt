@@ -1,4 +1,5 @@
--- `voverflow` stands in the output of a plan that passed the check exactly where the run reaches a strict cast that overflows. Assumes nothing.
+-- `voverflow` stands in the output of a plan that passed the check exactly where the run reaches a strict cast that
+-- overflows. Assumes nothing.
 use Prim.Native.Nat.{ℕ, zero, suc, _<_}
 use mathlib.Core.Path.{_≡_, refl, ap, _∙_}
 use mathlib.Core.Bool.{Bool, true, false, _&&_}

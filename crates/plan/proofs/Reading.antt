@@ -1,6 +1,5 @@
--- How a run can find each part of its output with no value held in between: a value is a selector in a scope, and each part of it is again a selector in a
--- scope, or a
--- part of the value of a selector that stands before. Assumes nothing.
+-- How a run can find each part of its output with no value held in between: a value is a selector in a scope, and each
+-- part of it is again a selector in a scope, or a part of the value of a selector that stands before. Assumes nothing.
 use Prim.Native.Nat.{ℕ, zero, suc, _<_}
 use mathlib.Core.Path.{_≡_, refl}
 use native.Mathlib.Omega.{arith}

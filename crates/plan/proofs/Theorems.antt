@@ -1,6 +1,5 @@
--- Demand 3, its first two sentences: a plan that passes the check from the columns Γ to the columns Δ, run over a record that fits Γ. And: the reader of plans
--- undoes
--- their encoding. Assumes nothing.
+-- Demand 3, its first two sentences: a plan that passes the check from the columns Γ to the columns Δ, run over a
+-- record that fits Γ. And: the reader of plans undoes their encoding. Assumes nothing.
 use Prim.Native.Nat.{ℕ, _≤_, _<_}
 use mathlib.Core.Path.{_≡_, refl, sym, _∙_}
 use mathlib.Core.Bool.{Bool, true, false}
@@ -64,9 +63,8 @@ module _ (ρ : Values) (ss : Selectors) (room : ℕ) where
       go true p true q = let x = run-writes p q in clash (cc)
       go true p false q = absurd (omega (arith, number-eq (sym (run-exceeds p q) ∙ e)))
 
--- What is left of the run of a plan that passed the check, over a record that fits. `ReachesOverflow` is that it reaches a strict cast that multiplies a
--- non-null
--- date-time beyond signed 64 bits.
+-- What is left of the run of a plan that passed the check, over a record that fits. `ReachesOverflow` is that it
+-- reaches a strict cast that multiplies a non-null date-time beyond signed 64 bits.
 pub record Runs (Δ : Fields) (ρ : Values) (ss : Selectors) (room : ℕ) : Type 0 where
   pub output : FitsAllOver Δ (evals ρ ss)
   pub overflow : (run ρ ss room ≡ refusedAt 44 0) ↔ ReachesOverflow ρ ss

@@ -1,4 +1,5 @@
--- Document 01, "Checking a plan" and "Running", and document 02, L5, over any bytes: the refusals in their order, with their places.
+-- Document 01, "Checking a plan" and "Running", and document 02, L5, over any bytes: the refusals in their order, with
+-- their places.
 use Prim.Native.Nat.{ℕ}
 use mathlib.Core.List.{_++_}
 use lib.ListN.{length, drop}

@@ -1,5 +1,6 @@
 -- Document 01, "Checking a plan" and "The check follows types": the column that each selector gives, then 33.
--- "Selectors in order, input before transform (a mapping's input kind, then its selectors, then its result)": the binds below are in this order.
+-- "Selectors in order, input before transform (a mapping's input kind, then its selectors, then its result)": the binds
+-- below are in this order.
 use Prim.Native.Nat.{ℕ, zero, suc, _+_}
 use mathlib.Core.Bool.{Bool, false, _&&_}
 use mathlib.Core.List.{[]}
@@ -66,7 +67,8 @@ arrayOf (array w t) = gives (record { width = w; element = t })
 unfoldable pub fromNull : LeafType → CastOption → Bool
 fromNull l o = isNull (leafOf l) && hasOption o (Verdict.cast NonStrict)
 
--- "A cast passes if its leaf pair, flags all on, has that option, or null goes NonStrict to any other type; never between equal types."
+-- "A cast passes if its leaf pair, flags all on, has that option, or null goes NonStrict to any other type; never
+-- between equal types."
 unfoldable pub castFits : DataType → DataType → CastOption → Bool
 castFits (leaf i) (leaf t) o = castPasses i t o
 castFits (leaf i) (struct fs) o = fromNull i o

@@ -1,4 +1,5 @@
--- Document 01, "Run", from "Integers keep their value" to "keeps the bytes": what a present number of one leaf kind becomes in another.
+-- Document 01, "Run", from "Integers keep their value" to "keeps the bytes": what a present number of one leaf kind
+-- becomes in another.
 use Prim.Native.Nat.{ℕ}
 use Rattle.layout.specs.declared.leaf.TimeUnit.{TimeUnit}
 use Rattle.layout.specs.declared.leaf.TimeUnit.the-variants.{Nanoseconds, Microseconds, Milliseconds}

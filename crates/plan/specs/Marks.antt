@@ -30,8 +30,8 @@ unfoldable mutual
   givens cnil = nnil
   givens (ccons l t cs) = ncons (given (l .required) t) (givens cs)
 
--- `meets n r t`: what has the nullness n may stand in a column of the mark r and the type t. "A place, of any type, where
--- a constant or a cast of null has no value never counts".
+-- `meets n r t`: what has the nullness n may stand in a column of the mark r and the type t. "A place, of any type,
+-- where a constant or a cast of null has no value never counts".
 unfoldable mutual
   pub meets : Nullness → Bool → ColumnType → Bool
   meets n r (cleaf l) = allowed (topOf n) r

@@ -1,5 +1,5 @@
--- Document 02, L5, "The check carries nullness": at which places what a selector gives can be null, cannot be null, or has
--- no value at all.
+-- Document 02, L5, "The check carries nullness": at which places what a selector gives can be null, cannot be null, or
+-- has no value at all.
 use Prim.Native.Nat.{ℕ, zero, suc}
 use Rattle.values.specs.Value.{Value, vnull, vnumber, vtext, voverflow, vstruct, vlist, varray, Values, vnil, vcons}
 use Rattle.plan.specs.Selector.{Selector, position, constant, cast, rename, structMapping, listMapping, arrayMapping, Selectors, snil, scons}
@@ -7,8 +7,8 @@ use Rattle.plan.specs.Selector.{Selector, position, constant, cast, rena
 pub data Place : Type 0 where
   required optional novalue : Place
 
--- A place and the places inside it: a struct's fields, or the one place of all elements of a list or array. What is left
--- out, as below a null, has no value; so a leaf and a null of any type have nothing inside.
+-- A place and the places inside it: a struct's fields, or the one place of all elements of a list or array. What is
+-- left out, as below a null, has no value; so a leaf and a null of any type have nothing inside.
 mutual
   pub data Nullness : Type 0 where
     node : Place → Nullnesses → Nullness
@@ -73,8 +73,8 @@ unfoldable mutual
 
 -- ---- each selector, over the nullness of the columns: those of a record, of a struct's fields, or the one of an element
 
--- "a position has its column's mark, casts, renames and mappings keep their input's". A cast's input is a leaf: a result of
--- a nested type is null, with nothing inside.
+-- "a position has its column's mark, casts, renames and mappings keep their input's". A cast's input is a leaf: a
+-- result of a nested type is null, with nothing inside.
 unfoldable mutual
   pub nullnessOf : Nullnesses → Selector → Nullness
   nullnessOf Γ (position k) = nullnessAt Γ (k .0)

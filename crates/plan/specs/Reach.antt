@@ -1,5 +1,6 @@
--- Document 01, "A cast is reached when its result, changed further or not, goes into the output; what an outer mapping drops is not worked out", and
--- demand 3, "a strict cast that it reaches multiplies a non-null date-time beyond signed 64 bits". Nothing here speaks of `voverflow` in an output.
+-- Document 01, "A cast is reached when its result, changed further or not, goes into the output; what an outer mapping
+-- drops is not worked out", and demand 3, "a strict cast that it reaches multiplies a non-null date-time beyond signed
+-- 64 bits". Nothing here speaks of `voverflow` in an output.
 use Prim.Native.Nat.{ℕ, suc, _^_, _≤_, _<_}
 use mathlib.Core.Path.{_≡_}
 use mathlib.Core.List.{List, [], _∷_}
@@ -18,7 +19,8 @@ use Rattle.plan.specs.Selector.{Selector, position, cast, rename, struct
 use Rattle.plan.specs.Convert.{multiply, unitChange}
 use Rattle.plan.specs.Run.{valueAt, eval}
 
--- Where a selector is run: over the record, over the fields of the struct that s gives there, over the element j of the list or array that s gives there.
+-- Where a selector is run: over the record, over the fields of the struct that s gives there, over the element j of the
+-- list or array that s gives there.
 pub data Scope : Type 0 where
   top : Scope
   inStruct : Scope → Selector → Scope
@@ -53,9 +55,8 @@ pub data SelectorAt : Selectors → ℕ → Selector → Type 0 where
 pub record Beyond (z : ℤ) : Type 0 where
   pub beyond : 2 ^ 63 ≤ mag z
 
--- `Overflows ρ E s p`: what s gives in E has at the path p (of field and element numbers) the result, changed further or not, of a strict cast that multiplies
--- a
--- non-null date-time beyond signed 64 bits.
+-- `Overflows ρ E s p`: what s gives in E has at the path p (of field and element numbers) the result, changed further
+-- or not, of a strict cast that multiplies a non-null date-time beyond signed 64 bits.
 pub data Overflows (ρ : Values) : Scope → Selector → List ℕ → Type 0 where
   -- the cast itself
   o-cast : {E : Scope} {s : Selector} {u v : TimeUnit} {z : Bytes} {n f : ℕ} → valueIn ρ E s ≡ vnumber (Datetime u) n → unitChange u v ≡ multiply f →

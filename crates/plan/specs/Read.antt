@@ -1,7 +1,7 @@
--- Document 01, "Checking a plan", 30: bytes to a plan. Any fault is 30: over 65,536 bytes, wrong mark or version, early end, unknown code or option,
--- a type or value that breaks its rule, a name over 63 bytes, selectors nested over 64, bytes left.
--- The parsers below refuse with the numbers of a layout's faults (2 the bytes end, 3 an unknown code, 4 too long or too deep, 6 bytes left); `plan` gives 30
--- for each.
+-- Document 01, "Checking a plan", 30: bytes to a plan. Any fault is 30: over 65,536 bytes, wrong mark or version, early
+-- end, unknown code or option, a type or value that breaks its rule, a name over 63 bytes, selectors nested over 64,
+-- bytes left. The parsers below refuse with the numbers of a layout's faults (2 the bytes end, 3 an unknown code, 4 too
+-- long or too deep, 6 bytes left); `plan` gives 30 for each.
 use Prim.Native.Nat.{ℕ, zero, suc}
 use lib.ListN.{length, take}
 use lib.Dec.{leb, eqb}

@@ -1,4 +1,5 @@
--- Document 01, "A refusal is a number and a place": what an operation answers, and what a part of it gives before the place is known.
+-- Document 01, "A refusal is a number and a place": what an operation answers, and what a part of it gives before the
+-- place is known.
 use Prim.Native.Nat.{ℕ}
 use mathlib.Core.Bool.{Bool, true, false}
 

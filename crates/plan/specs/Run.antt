@@ -1,5 +1,5 @@
--- Document 01, "Run": what selectors give over a record, and "Running", 44 and 45.
--- The types have no say: a number carries its kind, and the check has passed what the selectors do. A strict date-time that is too large becomes
+-- Document 01, "Run": what selectors give over a record, and "Running", 44 and 45. The types have no say: a number
+-- carries its kind, and the check has passed what the selectors do. A strict date-time that is too large becomes
 -- `voverflow`, and what a mapping drops is dropped with it; so 44 is that `voverflow` stands in the output.
 use Prim.Native.Nat.{ℕ, zero, suc}
 use mathlib.Core.Bool.{Bool, true, false, _&&_}

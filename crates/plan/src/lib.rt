@@ -1,3 +1,4 @@
-// Plans (document 01): selectors and their bytes, what the check and the run mean, reading a plan, and the answer of a call that writes.
+// Plans (document 01): selectors and their bytes, what the check and the run mean, reading a plan, and the answer of a
+// call that writes.
 pub mod answer;
 pub mod read;

@@ -1,4 +1,5 @@
--- Document 02, L2: "The plan check, which judges with that flag on, keeps its answers", whichever unequal zones count as the same.
+-- Document 02, L2: "The plan check, which judges with that flag on, keeps its answers", whichever unequal zones count
+-- as the same.
 use mathlib.Core.Path.{_≡_, refl, sym, ap, _∙_}
 use mathlib.Core.Bool.{Bool, true, false, _&&_}
 use Rattle.layout.specs.Bytes.{Bytes, sameBytes}

@@ -73,7 +73,8 @@ casts p i t o e =
 
 -- ---- with every flag on
 
--- two types of an integer or float pair that are not equal, and the chain there: computed at each pair, whatever the zones
+-- two types of an integer or float pair that are not equal, and the chain there: computed at each pair, whatever the
+-- zones
 integers-cast : (z : Params) (i t : Leaf) → (isInteger i && isInteger t && holds t i && not (sameType z i t)) ≡ true → chain allOn z i t ≡ cast Overflowing
 unfolding chain
 integers-cast z = where-pair (λ i t. isInteger i && isInteger t && holds t i && not (sameType z i t)) (chain allOn z) (λ i t. cast Overflowing) (λ d e. refl)

@@ -1,4 +1,5 @@
--- Document 02, L6: "two policies where the second allows all that the first allows (flags on, Insert above Raise, Ignore above Raise)".
+-- Document 02, L6: "two policies where the second allows all that the first allows (flags on, Insert above Raise,
+-- Ignore above Raise)".
 use Prim.Native.Nat.{ℕ, _<_}
 use mathlib.Core.Path.{_≡_}
 use mathlib.Core.Bool.{Bool, true}

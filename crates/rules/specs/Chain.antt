@@ -1,4 +1,5 @@
--- Document 01, "Leaf pairs", and document 02, L1: the chain of policy tests, in the order of source 000's `attach_transforms` after its nested types.
+-- Document 01, "Leaf pairs", and document 02, L1: the chain of policy tests, in the order of source 000's
+-- `attach_transforms` after its nested types.
 use mathlib.Core.Bool.{Bool, true, not, _&&_, _||_}
 use lib.Dec.{eqb, ltb}
 use Rattle.layout.specs.declared.leaf.TimeUnit.{TimeUnit}

@@ -1,4 +1,5 @@
--- What the rules of leaf pairs and the conversions ask of a leaf: an integer's range, a float's precision, a date-time's unit.
+-- What the rules of leaf pairs and the conversions ask of a leaf: an integer's range, a float's precision, a
+-- date-time's unit.
 use Prim.Native.Nat.{ℕ}
 use mathlib.Core.Bool.{Bool, true, false}
 use lib.Dec.{eqb}

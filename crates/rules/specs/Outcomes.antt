@@ -1,4 +1,5 @@
--- Document 01, "Leaf pairs", and document 02, L1: what becomes of a pair, the number of each refusal, and the option codes of "Plans, check and run".
+-- Document 01, "Leaf pairs", and document 02, L1: what becomes of a pair, the number of each refusal, and the option
+-- codes of "Plans, check and run".
 use Prim.Native.Nat.{ℕ}
 use mathlib.Core.Bool.{Bool}
 use mathlib.Core.List.{List, [], _∷_}

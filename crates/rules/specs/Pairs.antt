@@ -1,5 +1,5 @@
--- Document 01, "Leaf pairs", for leaf types: the chain at their kinds, with their zones, precisions and scales compared; and of "Plans, check and run" the
--- test of a cast.
+-- Document 01, "Leaf pairs", for leaf types: the chain at their kinds, with their zones, precisions and scales
+-- compared; and of "Plans, check and run" the test of a cast.
 use mathlib.Core.Bool.{Bool, false}
 use lib.Dec.{eqb}
 use Rattle.layout.specs.Tree.{LeafType, leafOf, zoneOf}

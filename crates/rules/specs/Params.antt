@@ -1,4 +1,5 @@
--- What leaf types have beside their kinds, compared: the zones of date-times (document 01, 21), precision and scale of decimals (document 02, L1).
+-- What leaf types have beside their kinds, compared: the zones of date-times (document 01, 21), precision and scale of
+-- decimals (document 02, L1).
 use mathlib.Core.Bool.{Bool, true, false, _&&_}
 use lib.Dec.{eqb, ltb}
 use Rattle.layout.specs.Bytes.{Bytes}

@@ -1,4 +1,5 @@
--- The policy word of the interface: bit k stands for the k-th field, 1 allows (Insert, Ignore). Other bits have no meaning.
+-- The policy word of the interface: bit k stands for the k-th field, 1 allows (Insert, Ignore). Other bits have no
+-- meaning.
 use Prim.Native.Nat.{ℕ, _^_, _/_, _%_}
 use mathlib.Core.Bool.{Bool, true}
 use lib.Dec.{eqb}

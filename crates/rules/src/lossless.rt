@@ -1,9 +1,10 @@
-// Lossless promotion of integers, by the type codes of document 01: 2 to 5 signed, 6 to 9 unsigned, of 8, 16, 32 and 64 bits.
+// Lossless promotion of integers, by the type codes of document 01: 2 to 5 signed, 6 to 9 unsigned, of 8, 16, 32 and 64
+// bits.
 ghost use mathlib.Core.Path.{_≡_};
 ghost use Rattle.rules.specs.Promotion.{promotes};
 
-// Whether the target is an integer type that holds every value of the incoming one: for each incoming type the ranges of
-// targets that hold it. A type holds itself.
+// Whether the target is an integer type that holds every value of the incoming one: for each incoming type the ranges
+// of targets that hold it. A type holds itself.
 pub fn lossless(incoming: u8, target: u8) -> bool
     ensures { λ r. ⌜ r ≡ promotes incoming target ⌝ }
 {

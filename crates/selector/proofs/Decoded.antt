@@ -1,5 +1,5 @@
--- Demand 1, "it returns its number from document 01": the word that each exported call's contract gives, decoded, for all bytes.
--- `AllBytes` says that a list's numbers are below 256, as those of every lent slice are. Assumes nothing.
+-- Demand 1, "it returns its number from document 01": the word that each exported call's contract gives, decoded, for
+-- all bytes. `AllBytes` says that a list's numbers are below 256, as those of every lent slice are. Assumes nothing.
 use Prim.Native.Nat.{ℕ, _<_, _≤_, _^_}
 use native.Mathlib.Omega.{arith}
 use mathlib.Core.Path.{_≡_, refl}

@@ -1,5 +1,5 @@
-// The C interface of the column selector: include/selector.h says what a caller must know. Each call is total, answers a number
-// of 64 bits and rests on the crates below.
+// The C interface of the column selector: include/selector.h says what a caller must know. Each call is total, answers
+// a number of 64 bits and rests on the crates below.
 ghost use mathlib.Core.Path.{_≡_};
 ghost use Prim.Native.Nat.{_<_};
 ghost use lib.ListN.{length};

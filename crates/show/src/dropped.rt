@@ -84,7 +84,8 @@ fn put_left(s: &[u8], v: Edition, n: u16, c: Cursor, taken: &[u8], level: u8) {
     }
 }
 
-// Of what is in scope for the `n` selectors from `c` on. A layout has fewer columns, and a struct in it fewer fields, than 8,192.
+// Of what is in scope for the `n` selectors from `c` on. A layout has fewer columns, and a struct in it fewer fields,
+// than 8,192.
 pub fn put_dropped(plan: &[u8], incoming: &[u8], scope: Scope, n: u16, c: Cursor, level: u8) {
     if let Scope::Columns(source, v, m, first) = scope {
         if let Source::Incoming = source {

@@ -1,7 +1,9 @@
-// Writes a layout, a table of defaults, a plan or a record as readable text: show FILE [LAYOUT [LAYOUT]]. The file's mark says what it is: LAY, DEF or PLN; anything else is a
-// record, which needs its layout. A plan is written with the incoming layout's columns where that is given, and checked where the target layout is given too. What can't be read
-// is refused as the library refuses it, with number, place and words. A file that can't be opened counts as empty; of a longer one a byte past its limit is read, which is
-// enough to refuse it. A program's exit status is always 0; the script ./show answers 1 by the first line, where that is a refusal or says that a record needs its layout.
+// Writes a layout, a table of defaults, a plan or a record as readable text: show FILE [LAYOUT [LAYOUT]]. The file's
+// mark says what it is: LAY, DEF or PLN; anything else is a record, which needs its layout. A plan is written with the
+// incoming layout's columns where that is given, and checked where the target layout is given too. What can't be read
+// is refused as the library refuses it, with number, place and words. A file that can't be opened counts as empty; of a
+// longer one a byte past its limit is read, which is enough to refuse it. A program's exit status is always 0; the
+// script ./show answers 1 by the first line, where that is a refusal or says that a record needs its layout.
 mod dropped;
 mod plans;
 mod scope;

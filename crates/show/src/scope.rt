@@ -1,4 +1,5 @@
-// What a position takes, where that can be told: columns or an element, in the incoming layout or in a type that the plan has.
+// What a position takes, where that can be told: columns or an element, in the incoming layout or in a type that the
+// plan has.
 use describe::columns::put_column;
 use describe::types::put_type;
 use layout::columns::Label;

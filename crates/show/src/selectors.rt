@@ -54,7 +54,8 @@ fn put_cast(plan: &[u8], input: Cursor, level: u8) {
     put_inner(plan, Edition::One, 16, t, deeper(deeper(level)));
 }
 
-// A constant's value of the type at `t`. Of a null one the columns inside its type are written below, else those of the value.
+// A constant's value of the type at `t`. Of a null one the columns inside its type are written below, else those of the
+// value.
 fn put_constant_value(plan: &[u8], t: Cursor, c: Cursor, level: u8) {
     put_value(plan, Edition::One, 16, t, plan, c, level);
     if let Presence::Null(_) = read_presence(plan, c) {

@@ -1,4 +1,5 @@
-// What a selector makes, where the target layout is given. A plan that the check refused may make what the target has not: then it is not known.
+// What a selector makes, where the target layout is given. A plan that the check refused may make what the target has
+// not: then it is not known.
 use crate::scope::Column;
 use crate::scope::find_column;
 use describe::columns::put_column;

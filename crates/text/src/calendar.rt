@@ -1,6 +1,6 @@
 // Days and counts since 1970-01-01 as calendar times, by the Gregorian calendar, which goes on without end on both
-// sides. Time is counted here from 1 March of the year -292,400,000, so that no count is negative; a year that begins in
-// March has its leap day last.
+// sides. Time is counted here from 1 March of the year -292,400,000, so that no count is negative; a year that begins
+// in March has its leap day last.
 ghost use Prim.Native.Nat.{_<_};
 use crate::out::put;
 use crate::out::put_digits;
@@ -87,7 +87,8 @@ pub fn put_date(x: u64) {
     put_days(less(EPOCH - 1, less(0xFFFF_FFFF, x)));
 }
 
-// The whole seconds from the start of a count by its pattern, of which `second` are a second. A count below 0 is -(LAST - x) - 1.
+// The whole seconds from the start of a count by its pattern, of which `second` are a second. A count below 0 is -(LAST
+// - x) - 1.
 fn seconds_of(x: u64, second: u64) -> u64
     requires { ⌜ 0 < second ⌝ }
 {

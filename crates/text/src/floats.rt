@@ -1,4 +1,5 @@
-// Floats: in decimal, then by their bits. Digits are cut off and never rounded, so that those written are the value's own.
+// Floats: in decimal, then by their bits. Digits are cut off and never rounded, so that those written are the value's
+// own.
 ghost use Prim.Native.Nat.{_+_, _^_, _<_};
 ghost use Rattle.numeric.specs.Rounding.{infinity};
 ghost use Rattle.text.specs.code.Decimal.{Words};
@@ -20,7 +21,8 @@ const SIGN: u64 = 0x8000_0000_0000_0000;
 
 const INFINITY: u64 = 0x7ff0_0000_0000_0000;
 
-// A float of a format, by way of the float64 of the same value: with `n` significant digits, and its bits as so many hexadecimal ones.
+// A float of a format, by way of the float64 of the same value: with `n` significant digits, and its bits as so many
+// hexadecimal ones.
 pub fn put_float(x: u64, format: Format, n: u64, digits: usize) {
     put_decimal(convert(x, format, Format::Binary64), n);
     put(b" (bits 0x");
@@ -47,8 +49,9 @@ fn put_sign(x: u64) {
     }
 }
 
-// From 2^-68 up to below 2^64 in decimal: 64 bits hold the whole part, and two words the fraction, since 2^954 units are 2^-120. Outside of that as an odd number times a power
-// of 2, which is exact, and plainer to read than C's hexadecimal form 0x1.8p-30.
+// From 2^-68 up to below 2^64 in decimal: 64 bits hold the whole part, and two words the fraction, since 2^954 units
+// are 2^-120. Outside of that as an odd number times a power of 2, which is exact, and plainer to read than C's
+// hexadecimal form 0x1.8p-30.
 fn put_magnitude(m: u64, n: u64)
     requires { ⌜ m < infinity 53 1023 ⌝ }
 {

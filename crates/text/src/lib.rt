@@ -1,4 +1,5 @@
-// What the program `show` writes its lines with: numbers, quoted texts, leaf types and their values, and refusals in words.
+// What the program `show` writes its lines with: numbers, quoted texts, leaf types and their values, and refusals in
+// words.
 pub mod calendar;
 pub mod decimal;
 pub mod floats;

@@ -1,4 +1,5 @@
-// Which bytes of a text are written as they are: letters in UTF-8 (RFC 3629) that can be seen and don't turn the writing round.
+// Which bytes of a text are written as they are: letters in UTF-8 (RFC 3629) that can be seen and don't turn the
+// writing round.
 ghost use Prim.Native.Nat.{_+_, _≤_, _<_};
 ghost use lib.ListN.{length};
 

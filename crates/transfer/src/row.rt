@@ -1,4 +1,5 @@
-// What selectors give, in one pass over the plan. Recursion goes as deep as selectors nest; columns and elements are loops.
+// What selectors give, in one pass over the plan. Recursion goes as deep as selectors nest; columns and elements are
+// loops.
 ghost use mathlib.Core.Path.{_≡_};
 ghost use mathlib.Core.Bool.{Bool};
 ghost use Prim.Native.Nat.{ℕ, _≤_, _<_};
@@ -185,7 +186,8 @@ fn transfer_elements(
     limited(end, k)
 }
 
-// Fills the tables of a struct's fields, of which `count` are taken; where these are few, it would take longer than passing over fields.
+// Fills the tables of a struct's fields, of which `count` are taken; where these are few, it would take longer than
+// passing over fields.
 fn index_fields(
     lay: &[u8],
     rec: &[u8],

@@ -1,5 +1,5 @@
--- A record is read with marks just where it is read without them, to the same values, and has no null in a required column; where no column is
--- required, reading with marks is reading without. Assumes nothing.
+-- A record is read with marks just where it is read without them, to the same values, and has no null in a required
+-- column; where no column is required, reading with marks is reading without. Assumes nothing.
 use Prim.Native.Nat.{ℕ, zero, suc}
 use mathlib.Core.Path.{_≡_, refl, sym, ap, _∙_}
 use mathlib.Core.Bool.{Bool, true, false}

@@ -1,5 +1,5 @@
--- L5: "Older columns count as optional": a layout of version 1 or 2 has no required column, so its records are read by their types alone.
--- Assumes nothing.
+-- L5: "Older columns count as optional": a layout of version 1 or 2 has no required column, so its records are read by
+-- their types alone. Assumes nothing.
 use Prim.Native.Nat.{ℕ, zero, suc}
 use mathlib.Core.Path.{_≡_, refl, sym, ap, _∙_}
 use mathlib.Core.Bool.{Bool, true, false}

@@ -12,7 +12,8 @@ requiredOf l = l .required
 
 -- `mark` says which columns are required: those of a layout, or none
 module _ (mark : Label → Bool) where
-  -- `Filled r t v`: no null stands at a required place of v, a value of a column of the mark r and the type t. Below a null there is no place.
+  -- `Filled r t v`: no null stands at a required place of v, a value of a column of the mark r and the type t. Below a
+  -- null there is no place.
   mutual
     pub data Filled : Bool → ColumnType → Value → Type 0 where
       full-null : {t : ColumnType} → Filled false t vnull

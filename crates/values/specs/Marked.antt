@@ -1,5 +1,5 @@
--- Document 02, L5: reading by columns whose required marks count: "56 when a record has null in a required field, in byte order", that is
--- at its presence byte. The numbers are those of Reading.antt, and 56.
+-- Document 02, L5: reading by columns whose required marks count: "56 when a record has null in a required field, in
+-- byte order", that is at its presence byte. The numbers are those of Reading.antt, and 56.
 use Prim.Native.Nat.{ℕ}
 use mathlib.Core.Bool.{Bool, true, false, _&&_}
 use Rattle.layout.specs.Parser.{Parser, next, _>>=_, pure, fail, if}

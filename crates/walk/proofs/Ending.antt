@@ -1,4 +1,5 @@
--- What the functions of src/inputs.rt return on each way, from what the callees answered and what the tests said. Assumes nothing.
+-- What the functions of src/inputs.rt return on each way, from what the callees answered and what the tests said.
+-- Assumes nothing.
 use Prim.Native.Nat.{ℕ, zero, suc, _+_, _-_, _≤_, _<_}
 use mathlib.Core.Path.{_≡_, refl, sym, ap, _∙_, subst}
 use mathlib.Core.Bool.{Bool, true, false, not}

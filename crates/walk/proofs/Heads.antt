@@ -1,6 +1,5 @@
--- What the functions of src/head.rt return on each way, from what the callees answered and what the tests said; and what a caller gets from an answer of
--- `head`.
--- Assumes nothing.
+-- What the functions of src/head.rt return on each way, from what the callees answered and what the tests said; and
+-- what a caller gets from an answer of `head`. Assumes nothing.
 use Prim.Native.Nat.{ℕ, _<_, zero-le}
 use mathlib.Core.Path.{_≡_, sym, ap, _∙_, subst}
 use lib.ListN.{getD}

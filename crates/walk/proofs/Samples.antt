@@ -1,4 +1,5 @@
--- A walk through a small plan: the second field of column 0, by a struct mapping that has it as its first. Assumes nothing.
+-- A walk through a small plan: the second field of column 0, by a struct mapping that has it as its first. Assumes
+-- nothing.
 use mathlib.Core.Path.{refl}
 use mathlib.Core.List.{[], _∷_, replicate}
 use native.Mathlib.Omega.{arith}

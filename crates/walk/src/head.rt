@@ -1,5 +1,5 @@
-// What a selector of a plan begins with, and where its parts stand. Everything here walks over a plan that was read before: an answer means something only where a
-// selector stands.
+// What a selector of a plan begins with, and where its parts stand. Everything here walks over a plan that was read
+// before: an answer means something only where a selector stands.
 ghost use mathlib.Core.Path.{_≡_};
 ghost use Prim.Native.Nat.{ℕ, _<_};
 ghost use Rattle.layout.specs.code.Stands.{TypeAt};
@@ -65,7 +65,8 @@ pub fn head(plan: &[u8], c: Cursor) -> SelectorHead
     }
 }
 
-// The end of a selector: where a cast's type, a rename's name, a struct mapping's count, a list or array mapping's element begins, if it is the input.
+// The end of a selector: where a cast's type, a rename's name, a struct mapping's count, a list or array mapping's
+// element begins, if it is the input.
 pub fn skip_selector(plan: &[u8], c: Cursor) -> Cursor
     ensures { λ r. ⌜ ((P : SelectorAt (now (plan .entry)) (c .at)) → r .at ≡ P .end) ⌝ }
 {

@@ -1,5 +1,6 @@
-// The ends of a chain of inputs. A transform's input begins one byte after its code, so that the selectors at an offset and at those behind it are each the input of the one before, up
-// to the first that is a position or a constant. One pass from there outwards finds all their ends. The table is a help, never needed: what it does not have is found by
+// The ends of a chain of inputs. A transform's input begins one byte after its code, so that the selectors at an offset
+// and at those behind it are each the input of the one before, up to the first that is a position or a constant. One
+// pass from there outwards finds all their ends. The table is a help, never needed: what it does not have is found by
 // skipping.
 ghost use mathlib.Core.Path.{_≡_};
 ghost use mathlib.Core.Bool.{true};

@@ -1,5 +1,6 @@
-// A walk through nested selectors. The node of what a selector gives at a path is found by moving through the plan alone: entering a mapping takes a number off the
-// path, a position leaves the innermost mapping and puts its number before the path into the mapping's input.
+// A walk through nested selectors. The node of what a selector gives at a path is found by moving through the plan
+// alone: entering a mapping takes a number off the path, a position leaves the innermost mapping and puts its number
+// before the path into the mapping's input.
 ghost use mathlib.Core.Path.{_≡_};
 ghost use mathlib.Core.List.{[], _∷_};
 ghost use Prim.Native.Nat.{ℕ, _+_, _-_, _<_, _≤_};
@@ -24,8 +25,8 @@ use crate::inputs::no_ends;
 use layout::columns::Position;
 use layout::cursor::Cursor;
 
-// The selector at `at` ends at or before `lim`, inside `deep` entered mappings, whose offsets `maps` has. `path` has the number of the part taken of each and after
-// those, up to `len`, what is left of the path.
+// The selector at `at` ends at or before `lim`, inside `deep` entered mappings, whose offsets `maps` has. `path` has
+// the number of the part taken of each and after those, up to `len`, what is left of the path.
 pub struct Walk {
     pub at: usize,
     pub lim: usize,
@@ -41,7 +42,8 @@ pub enum PartFound {
     None,
 }
 
-// To the input, into the part that stands there, out of a mapping by the number of a part of its input; or no move is left.
+// To the input, into the part that stands there, out of a mapping by the number of a part of its input; or no move is
+// left.
 pub enum Move {
     Input,
     Enter(Cursor),

@@ -1,4 +1,5 @@
--- What the answers of the code stand for, and the contracts of the matchers: what is written into the scratch buffer is right up to its end.
+-- What the answers of the code stand for, and the contracts of the matchers: what is written into the scratch buffer is
+-- right up to its end.
 use mathlib.Core.Path.{_≡_}
 use mathlib.Core.Bool.{Bool, true, false, not, _&&_, _||_}
 use mathlib.Core.List.{_∷_, _++_}
@@ -166,8 +167,8 @@ joinRow here len (Done same n) = Done (here && same) (len + n)
 
 -- ---- what they write
 
--- A selector in the buffer from k on, for target bytes from b to e: with at most 65,536 bytes for each of these an index stays far below 2 ^ 64.
--- After a refusal nothing is said of the buffer.
+-- A selector in the buffer from k on, for target bytes from b to e: with at most 65,536 bytes for each of these an
+-- index stays far below 2 ^ 64. After a refusal nothing is said of the buffer.
 unfoldable pub Wrote : ℕ → ℕ → Bytes → ℕ → Result Selector → Bytes → Type 0
 Wrote b e out k (refuses n) out′ = Unit {0}
 Wrote b e out k (gives s) out′ = Holds out k (encodeSelector s) out′ × (length (encodeSelector s) + 65536 * b ≤ 65536 * e)
@@ -313,7 +314,8 @@ constantMade h (DefaultMade.Refused n) = Refused n
 constantMade h DefaultMade.None = Built (h + 1)
 constantMade h (DefaultMade.Some n f) = Built (h + n)
 
--- A value in the buffer from k on, for target bytes from b to e: a value of a table has at most 16,384 bytes, and what it stands for at least one.
+-- A value in the buffer from k on, for target bytes from b to e: a value of a table has at most 16,384 bytes, and what
+-- it stands for at least one.
 unfoldable pub WroteDefault : ℕ → ℕ → Bytes → ℕ → Result Default → Bytes → Type 0
 WroteDefault b e out k (refuses n) out′ = Unit {0}
 WroteDefault b e out k (gives x) out′ = Holds out k (encodeValue (orNull x)) out′ × (length (encodeValue (orNull x)) + 16384 * b ≤ 16384 * e)

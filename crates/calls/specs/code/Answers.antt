@@ -126,7 +126,8 @@ abbrev pub Attempted : Type 0 → Answer Bytes → Bytes → Attempt → Bytes �
 Attempted Long X out (Attempt.Answer r) out′ = (r ≡ writeResult X) × (out′ ≡ bufferAfter X out)
 Attempted Long X out Attempt.Short out′ = Long × (out′ ≡ out)
 
--- what is built of target columns gs over incoming columns fs, once 53 was tested, and the plan of it in the lent buffer
+-- what is built of target columns gs over incoming columns fs, once 53 was tested, and the plan of it in the lent
+-- buffer
 abbrev pub matchedPlan : {table : Bytes} (build : Build) → DefaultsAt table (build .defaults) → Columns → Columns → Answer Selectors
 matchedPlan build T gs fs = buildFrom (build .matching) (build .policy) (defaultsAt (build .defaults) T) gs fs 0
 

@@ -68,7 +68,8 @@ isTransform (structMapping i ss) = true
 isTransform (listMapping i e) = true
 isTransform (arrayMapping i e) = true
 
--- at the transform s, whose input, at which x stands, has passed and gives a column of a type of which z is known, and whether it is within the limits
+-- at the transform s, whose input, at which x stands, has passed and gives a column of a type of which z is known, and
+-- whether it is within the limits
 pub record PassedInput (incoming : Bytes) (v : Edition) (n : ℕ) (plan : Bytes) (w x : Walk) (z : Size) (within : Bool) (s : Selector) (Δ : Fields) :
     Type 0 where
   pub checking : CheckingAt incoming v n plan w s Δ
@@ -93,7 +94,8 @@ pub record MappingAt (incoming : Bytes) (v : Edition) (n : ℕ) (plan : Bytes) (
   pub passes : typeOf scope i ≡ gives column
   pub kind : column .type ≡ t
 
--- a mapping of a list or an array of elements t by the selector e, which makes f, by a head of so many bytes, of what e gives
+-- a mapping of a list or an array of elements t by the selector e, which makes f, by a head of so many bytes, of what e
+-- gives
 pub data Elements (incoming : Bytes) (v : Edition) (n : ℕ) (plan : Bytes) (w : Walk) : DataType → Selector → (DataType → DataType) → ℕ → Type 0 where
   of-list : {i e : Selector} {t : DataType} → MappingAt incoming v n plan w (listMapping i e) i (list t) → Elements incoming v n plan w t e (λ u. list u) 1
   of-array : {i e : Selector} {x : ℕ} {t : DataType} → MappingAt incoming v n plan w (arrayMapping i e) i (array x t) → Elements incoming v n plan w t e
@@ -130,7 +132,8 @@ arrayedLeft (TypeHead.Struct n) = Rest.Refused 32
 arrayedLeft TypeHead.List = Rest.Refused 32
 arrayedLeft (TypeHead.Array w) = Rest.Element 5
 
--- the check of s is that of a struct mapping's count selectors, over m columns, within the limits or not, and then of its result
+-- the check of s is that of a struct mapping's count selectors, over m columns, within the limits or not, and then of
+-- its result
 pub record FieldsLeft (incoming : Bytes) (v : Edition) (n : ℕ) (plan : Bytes) (w : Walk) (within : Bool) (s : Selector) (Δ : Fields) (count m : ℕ) :
     Type 0 where
   pub input : Selector

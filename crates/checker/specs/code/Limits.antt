@@ -1,5 +1,5 @@
--- Document 01, 32, "its result type is deeper than 16 or over 16,384 bytes in version 1 form": the test within so many levels and bytes, for a type and for a
--- struct's fields.
+-- Document 01, 32, "its result type is deeper than 16 or over 16,384 bytes in version 1 form": the test within so many
+-- levels and bytes, for a type and for a struct's fields.
 use Prim.Native.Nat.{ℕ, _+_, _-_, _≤_, max}
 use mathlib.Core.Path.{_≡_}
 use mathlib.Core.Bool.{Bool, true, false, _&&_}

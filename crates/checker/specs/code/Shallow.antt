@@ -1,5 +1,5 @@
--- Document 01, 30, "selectors nested over 64 (a top one is 1, its input and field selectors one more)", where a walk stands: each mapping that was entered is
--- a level, so there is room for as many.
+-- Document 01, 30, "selectors nested over 64 (a top one is 1, its input and field selectors one more)", where a walk
+-- stands: each mapping that was entered is a level, so there is room for as many.
 use Prim.Native.Nat.{_+_, _≤_, _<_}
 use mathlib.Core.List.{List, [], _∷_}
 use lib.ListN.{length}

@@ -1,4 +1,5 @@
--- What a selector gives, written out: its type in version 1 form at the start of one buffer, its value at the start of another.
+-- What a selector gives, written out: its type in version 1 form at the start of one buffer, its value at the start of
+-- another.
 use mathlib.Core.Path.{_≡_}
 use Rattle.layout.specs.Bytes.{Bytes}
 use Rattle.layout.specs.Tree.{Fields, dtypeOf}

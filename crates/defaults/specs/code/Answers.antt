@@ -36,8 +36,8 @@ abbrev pub versionRes : VersionRead → Res TableVersion
 versionRes (VersionRead.Is v) = ok v 5
 versionRes (VersionRead.Refused n) = refuse n
 
--- an entry of the owner o, whose id stands at the offset: its id and kind, where that begins which it gives (after four bytes of the id and one of the
--- kind), and its end
+-- an entry of the owner o, whose id stands at the offset: its id and kind, where that begins which it gives (after four
+-- bytes of the id and one of the kind), and its end
 unfoldable pub entryOf : Owner → ℕ → Res Entry → EntryRead
 entryOf o at (refuse n) = EntryRead.Refused n
 entryOf o at (ok e m) = EntryRead.Is o (e .id) (kindOf (e .given)) (record { at = at + 5 }) (record { at = m })

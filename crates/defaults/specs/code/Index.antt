@@ -1,5 +1,6 @@
--- An index of a table's entries, in one list: a link for each place where an entry can begin, six bytes apart, then the heads of the chains. An id's chain
--- is by its remainder; its head leads to the chain's last entry, the link of an entry to the one before it, and 0 ends a chain.
+-- An index of a table's entries, in one list: a link for each place where an entry can begin, six bytes apart, then the
+-- heads of the chains. An id's chain is by its remainder; its head leads to the chain's last entry, the link of an
+-- entry to the one before it, and 0 ends a chain.
 use Prim.Native.Nat.{ℕ, zero, suc, _+_, _-_, _/_, _%_, _≤_, _<_}
 use mathlib.Core.Path.{_≡_}
 use mathlib.Core.List.{List}

@@ -1,4 +1,5 @@
--- How the code looks for an entry, over any bytes: the first of n that is of an id and a kind and counts for an owner, as `read_entry` answers them.
+-- How the code looks for an entry, over any bytes: the first of n that is of an id and a kind and counts for an owner,
+-- as `read_entry` answers them.
 use Prim.Native.Nat.{ℕ, zero, suc}
 use mathlib.Core.Bool.{Bool, true, false, _&&_}
 use lib.Dec.{eqb}

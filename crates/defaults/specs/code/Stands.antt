@@ -1,4 +1,5 @@
--- What stands at an offset of a table that was read before, and what the functions that look for a default answer of it.
+-- What stands at an offset of a table that was read before, and what the functions that look for a default answer of
+-- it.
 use Prim.Native.Nat.{ℕ, _<_}
 use mathlib.Core.Path.{_≡_}
 use mathlib.Core.List.{List, []}

@@ -1,4 +1,5 @@
--- A selector that gives a column of the target's type, over a scope: what the functions of the direct check ask and speak of.
+-- A selector that gives a column of the target's type, over a scope: what the functions of the direct check ask and
+-- speak of.
 use Prim.Native.Nat.{ℕ, _≤_}
 use mathlib.Core.Path.{_≡_}
 use mathlib.Core.List.{List}

@@ -1,4 +1,5 @@
--- Types compared part with part, as code compares them. That it is what the document defines (`Same.antt`) is a law (`proofs/Equal.antt`).
+-- Types compared part with part, as code compares them. That it is what the document defines (`Same.antt`) is a law
+-- (`proofs/Equal.antt`).
 use Prim.Native.Nat.{ℕ}
 use mathlib.Core.Bool.{Bool, true, false, _&&_}
 use lib.Dec.{eqb}

@@ -1,4 +1,5 @@
--- A label with a type behind it, that stands at an offset of bytes that were read before: a column, or a list's or array's element.
+-- A label with a type behind it, that stands at an offset of bytes that were read before: a column, or a list's or
+-- array's element.
 use Prim.Native.Nat.{ℕ}
 use mathlib.Core.Path.{_≡_}
 use Rattle.layout.specs.Bytes.{Bytes}

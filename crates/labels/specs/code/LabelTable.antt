@@ -1,5 +1,6 @@
--- A table of sibling columns, a layout's or a struct's, in one list: for each column its link and where it begins, then a head for each chain. A label's
--- chain is by its hash, its head leads to the first column of it, and the link of a column to the next one.
+-- A table of sibling columns, a layout's or a struct's, in one list: for each column its link and where it begins, then
+-- a head for each chain. A label's chain is by its hash, its head leads to the first column of it, and the link of a
+-- column to the next one.
 use Prim.Native.Nat.{ℕ, zero, suc, _+_, _-_, _*_, _%_, _≤_, _<_}
 use mathlib.Core.Path.{_≡_}
 use mathlib.Core.List.{List}

@@ -1,5 +1,6 @@
--- The labels that were read, in a table of slots: a slot holds where a column begins, or 0. A label is looked for from the slot of its hash on, up to
--- an empty one. All that matters is that a search meets every label that was noted; that it meets few others is not stated.
+-- The labels that were read, in a table of slots: a slot holds where a column begins, or 0. A label is looked for from
+-- the slot of its hash on, up to an empty one. All that matters is that a search meets every label that was noted; that
+-- it meets few others is not stated.
 use Prim.Native.Nat.{ℕ, _+_, _-_, _*_, _/_, _%_, _≤_, _<_}
 use mathlib.Core.Path.{_≡_}
 use mathlib.Core.List.{List, [], _∷_}

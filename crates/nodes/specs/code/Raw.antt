@@ -1,4 +1,5 @@
--- A value in the bytes of a record, or of a constant in a plan, and its type in the bytes of a layout or of the same plan.
+-- A value in the bytes of a record, or of a constant in a plan, and its type in the bytes of a layout or of the same
+-- plan.
 use Prim.Native.Nat.{ℕ}
 use mathlib.Core.Path.{_≡_}
 use Rattle.layout.specs.Bytes.{Bytes}

@@ -1,4 +1,5 @@
--- Document 02, L5, nullness by the path to a place: a field has its number, the element of a list or array, every one, 0.
+-- Document 02, L5, nullness by the path to a place: a field has its number, the element of a list or array, every one,
+-- 0.
 use Prim.Native.Nat.{ℕ, zero, suc}
 use mathlib.Core.Path.{_≡_}
 use mathlib.Core.Bool.{Bool, true}

@@ -1,5 +1,6 @@
 -- Where a walk through a plan stops, for the question whether a required field may stand there: an answer, or the
--- question goes on to the input of the transform. It is right where the selectors passed the check (proofs/Meaning.antt).
+-- question goes on to the input of the transform. It is right where the selectors passed the check
+-- (proofs/Meaning.antt).
 use Prim.Native.Nat.{ℕ}
 use mathlib.Core.Path.{_≡_}
 use mathlib.Core.Bool.{Bool, true, false, not}

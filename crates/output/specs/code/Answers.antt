@@ -184,7 +184,8 @@ pub record AskedIs (ρ : Values) (x : State) (least : ℕ) (own : Parts) (r : As
 unfoldable pub size : State → ℕ
 size x = length (x .frames) + length (x .path)
 
--- over the record's values, the value where w stands has no date-time that is too large, and its parts nest no deeper than a walk can follow
+-- over the record's values, the value where w stands has no date-time that is too large, and its parts nest no deeper
+-- than a walk can follow
 pub record EmitAt (v : Edition) (lay : Bytes) (n t : ℕ) (rec plan : Bytes) (w : Walk) : Type 0 where
   pub row : RowAt v lay n t rec 0
   pub state : State
@@ -209,8 +210,8 @@ isList (arrayMapping s e) = false
 
 -- ---- src/write.rt
 
--- over the record's values, the selector at `at` gives what it evaluates to, with no date-time that is too large and parts that nest no deeper than a walk can
--- follow
+-- over the record's values, the selector at `at` gives what it evaluates to, with no date-time that is too large and
+-- parts that nest no deeper than a walk can follow
 pub record EmitTopAt (v : Edition) (lay : Bytes) (n t : ℕ) (rec plan : Bytes) (at : ℕ) : Type 0 where
   pub row : RowAt v lay n t rec 0
   pub selector : SelectorAt plan at
@@ -230,7 +231,8 @@ pub record EmitAllAt (v : Edition) (lay : Bytes) (n t : ℕ) (rec plan : Bytes) 
   pub short : length rec ≤ longest
   pub small : length plan ≤ longestPlan
 
--- a plan that passed the check from the columns of a layout, over a record that fits them, where no strict date-time is too large
+-- a plan that passed the check from the columns of a layout, over a record that fits them, where no strict date-time is
+-- too large
 pub record OutputAt (v : Edition) (lay : Bytes) (n t : ℕ) (rec plan : Bytes) (count first : ℕ) : Type 0 where
   pub row : RowAt v lay n t rec 0
   pub selectors : SelectorsAt plan count first

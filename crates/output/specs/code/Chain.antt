@@ -1,4 +1,5 @@
--- A leaf through its casts: where a walk goes from a selector to the column, constant or mapping that its value comes from, and the casts that it passes.
+-- A leaf through its casts: where a walk goes from a selector to the column, constant or mapping that its value comes
+-- from, and the casts that it passes.
 use Prim.Native.Nat.{ℕ, zero, suc, _-_, _≤_, _<_}
 use mathlib.Core.Path.{_≡_}
 use mathlib.Core.List.{List, [], _∷_}
@@ -73,7 +74,8 @@ unfoldable pub castAll : List Leaf → Value → Value
 castAll [] v = v
 castAll (k ∷ ks) v = castLeaf k (castAll ks v)
 
--- of the first i of the casts ks, counted from the innermost on, those from `left` on are among the kinds, as far as there is room
+-- of the first i of the casts ks, counted from the innermost on, those from `left` on are among the kinds, as far as
+-- there is room
 pub record Kept (ks : List Leaf) (i left : ℕ) (kinds : List Leaf) : Type 0 where
   pub room : length kinds ≡ 1024
   pub right : (m : ℕ) → left ≤ m → m < i → m < 1024 → getD kinds m Null ≡ getD ks (i - 1 - m) Null

@@ -1,4 +1,5 @@
--- The paths to the date-time leaves of a type: the field k of a struct is the number k, the element of a list or an array, every one, the number 0.
+-- The paths to the date-time leaves of a type: the field k of a struct is the number k, the element of a list or an
+-- array, every one, the number 0.
 use Prim.Native.Nat.{ℕ, suc}
 use mathlib.Core.Bool.{Bool, false, _||_}
 use mathlib.Core.List.{List, [], _∷_}

@@ -1,4 +1,5 @@
--- Document 01, 44, "a strict date-time too large anywhere in the output": asked of each path to a date-time leaf of the target's types.
+-- Document 01, 44, "a strict date-time too large anywhere in the output": asked of each path to a date-time leaf of the
+-- target's types.
 use Prim.Native.Nat.{ℕ, _+_, _≤_}
 use mathlib.Core.Path.{_≡_}
 use mathlib.Core.Bool.{Bool}

@@ -1,4 +1,5 @@
--- What is to be asked where a walk stops, and of what. It is right where the selectors passed the check (proofs/Meaning.antt, `stop-means`).
+-- What is to be asked where a walk stops, and of what. It is right where the selectors passed the check
+-- (proofs/Meaning.antt, `stop-means`).
 use Prim.Native.Nat.{ℕ, _+_, _-_}
 use mathlib.Core.Path.{_≡_}
 use mathlib.Core.Bool.{Bool, true, false}

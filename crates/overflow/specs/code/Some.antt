@@ -1,6 +1,5 @@
--- Whether one of the nodes at a path is such as is wanted, where the path takes every element of the lists and arrays that it goes through; and the same of
--- what a
--- selector gives inside the mappings that a walk entered.
+-- Whether one of the nodes at a path is such as is wanted, where the path takes every element of the lists and arrays
+-- that it goes through; and the same of what a selector gives inside the mappings that a walk entered.
 use Prim.Native.Nat.{ℕ, _≤_}
 use mathlib.Core.Bool.{Bool, false, _||_}
 use mathlib.Core.List.{List, [], _∷_}

@@ -1,7 +1,6 @@
--- What is asked of a node of the output, and of the nodes from which it comes.
--- Document 01, 44: "a strict date-time too large anywhere in the output". All changes of unit are monotone, so that what has to stand before a cast for its
--- result to
--- be too large is a count beyond a pair of bounds.
+-- What is asked of a node of the output, and of the nodes from which it comes. Document 01, 44: "a strict date-time too
+-- large anywhere in the output". All changes of unit are monotone, so that what has to stand before a cast for its
+-- result to be too large is a count beyond a pair of bounds.
 use Prim.Native.Nat.{ℕ, _+_, _-_, _*_, _/_, _^_, _≤_, min}
 use mathlib.Core.Bool.{Bool, true, false}
 use lib.Dec.{leb}
@@ -40,7 +39,8 @@ SmallWant Parts = Unit {0}
 SmallWant Element = Unit {0}
 SmallWant (Beyond d u) = Small d
 
--- The bounds before a change of unit, by those after it: a count is beyond the former just where what it is changed to is beyond the latter or too large.
+-- The bounds before a change of unit, by those after it: a count is beyond the former just where what it is changed to
+-- is beyond the latter or too large.
 unfoldable pub boundsBefore : UnitChange → Bounds → Bounds
 boundsBefore (multiply f) d = bounds ((d .above + (f - 1)) / f) (d .below / f)
 boundsBefore (divide f) d = bounds (min (d .above * f) (2 ^ 63)) (min (d .below * f) (2 ^ 63))

@@ -1,6 +1,5 @@
--- Evaluation in which a cast that overflows gives another value, which leaves no mark: an output depends on these values exactly where it has the result of
--- such a
--- cast in it.
+-- Evaluation in which a cast that overflows gives another value, which leaves no mark: an output depends on these
+-- values exactly where it has the result of such a cast in it.
 use Prim.Native.Nat.{ℕ}
 use Rattle.layout.specs.Tree.{leafOf, DataType, leaf, struct, list, array}
 use Rattle.layout.specs.declared.leaf.Leaf.{Leaf}

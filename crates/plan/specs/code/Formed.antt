@@ -1,4 +1,5 @@
--- Document 01, 30, as conditions on a plan: what the reading of a plan has tested of its selectors, but for their nesting and the plan's length.
+-- Document 01, 30, as conditions on a plan: what the reading of a plan has tested of its selectors, but for their
+-- nesting and the plan's length.
 use Prim.Native.Nat.{_<_, _≤_}
 use Rattle.layout.specs.Bytes.{Bytes}
 use Rattle.layout.specs.Tree.{DataType}

@@ -1,4 +1,5 @@
--- L5 place by place, as code goes that builds no tree: a place is a path of field numbers, with 0 for the element of a list or array.
+-- L5 place by place, as code goes that builds no tree: a place is a path of field numbers, with 0 for the element of a
+-- list or array.
 use Prim.Native.Nat.{ℕ, zero, suc}
 use mathlib.Core.Bool.{Bool, true, false}
 use mathlib.Core.List.{List, [], _∷_}

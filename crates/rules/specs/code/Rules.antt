@@ -1,4 +1,5 @@
--- Document 01, "Leaf pairs", "one table of rules": what each rule number of the table stands for, and that a table agrees with the chain.
+-- Document 01, "Leaf pairs", "one table of rules": what each rule number of the table stands for, and that a table
+-- agrees with the chain.
 use mathlib.Core.Path.{_≡_}
 use Prim.Native.Nat.{ℕ, _+_, _*_, _/_, _%_}
 use mathlib.Core.Bool.{Bool, true, _||_}

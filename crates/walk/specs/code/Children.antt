@@ -16,7 +16,8 @@ pub record PartStands (plan : Bytes) (at k m : ℕ) : Type 0 where
 pub record PassedTo (plan : Bytes) (at k m : ℕ) : Type 0 where
   pub passed : (P : SelectorAt plan at) (i : ℕ) (S : StructAt plan at P i) → (Q : SelectorsAt plan k (S .fields .first)) × (Q .end ≡ m)
 
--- of the mapping at an offset the first k parts were passed: the next stands at m, and of a list or array mapping each does
+-- of the mapping at an offset the first k parts were passed: the next stands at m, and of a list or array mapping each
+-- does
 pub record Reached (plan : Bytes) (at k m : ℕ) : Type 0 where
   pub fields : PassedTo plan at k m
   pub element : (getD plan at 0 ≡ 4 → ⊥) → (I : SelectorAt plan (at + 1)) → m ≡ I .end

@@ -1,5 +1,5 @@
--- The moves of a walk. A mapping is entered at the part that the path takes next; a position leaves the innermost mapping for its input, with the number of
--- the part put before the path; a rename has no say where the path goes on.
+-- The moves of a walk. A mapping is entered at the part that the path takes next; a position leaves the innermost
+-- mapping for its input, with the number of the part put before the path; a rename has no say where the path goes on.
 use Prim.Native.Nat.{ℕ, _≤_, _<_}
 use mathlib.Core.Path.{_≡_}
 use mathlib.Core.List.{List, [], _∷_}
@@ -26,8 +26,8 @@ pub data Moves : State → State → Type 0 where
   m-leave-element : {s : Selector} {k : Position} {i : ℕ} {E : List Frame} {p : List ℕ} {x : State} → k .0 ≡ 0 → Moves (state s E (i ∷ p)) x
       → Moves (state (position k) (element s i ∷ E) p) x
 
--- where no move is left: a column of the record; a constant or a cast; a rename or a mapping at the path's end; or, in what the check has not passed, a
--- position that an element does not have, and a field that a mapping does not have
+-- where no move is left: a column of the record; a constant or a cast; a rename or a mapping at the path's end; or, in
+-- what the check has not passed, a position that an element does not have, and a field that a mapping does not have
 pub data Stopped : State → Type 0 where
   s-column : {k : Position} {p : List ℕ} → Stopped (state (position k) [] p)
   s-constant : {n : Bytes} {t : DataType} {v : Value} {E : List Frame} {p : List ℕ} → Stopped (state (constant n t v) E p)

@@ -1,7 +1,7 @@
--- What a selector that stands in a plan is made of. Document 01, "Plans, check and run": "Code u8: 0 position u16; 1 constant: name, type (version 1 form),
--- value.
--- Transforms begin with their input selector: 2 cast: type, option u8; 3 rename: name; 4 struct mapping: u16 count, selectors; 5 list and 6 array mapping: one
--- selector." A record for each speaks of the selector P at an offset and of where its input (a constant's type) begins.
+-- What a selector that stands in a plan is made of. Document 01, "Plans, check and run": "Code u8: 0 position u16; 1
+-- constant: name, type (version 1 form), value. Transforms begin with their input selector: 2 cast: type, option u8; 3
+-- rename: name; 4 struct mapping: u16 count, selectors; 5 list and 6 array mapping: one selector." A record for each
+-- speaks of the selector P at an offset and of where its input (a constant's type) begins.
 use Prim.Native.Nat.{ℕ, _+_, _≤_, _<_}
 use mathlib.Core.Path.{_≡_}
 use lib.ListN.{getD}

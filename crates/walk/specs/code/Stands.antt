@@ -1,4 +1,5 @@
--- What stands at an offset of a plan that was read before: what the functions that walk over its selectors ask and speak of.
+-- What stands at an offset of a plan that was read before: what the functions that walk over its selectors ask and
+-- speak of.
 use Prim.Native.Nat.{ℕ}
 use mathlib.Core.Path.{_≡_}
 use Rattle.layout.specs.Bytes.{Bytes}

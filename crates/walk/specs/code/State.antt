@@ -1,5 +1,6 @@
--- Where a walk through a plan stands, over trees. A node of what a selector gives is named by its path, of field and element numbers; the path is
--- translated through the plan, so that nothing between the record and the output is built, and what a mapping drops is not visited.
+-- Where a walk through a plan stands, over trees. A node of what a selector gives is named by its path, of field and
+-- element numbers; the path is translated through the plan, so that nothing between the record and the output is built,
+-- and what a mapping drops is not visited.
 use Prim.Native.Nat.{ℕ}
 use mathlib.Core.List.{List}
 use Rattle.plan.specs.Selector.{Selector}

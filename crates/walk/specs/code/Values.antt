@@ -1,6 +1,6 @@
--- Document 01, "Run", for a walk: what a selector gives over values, and the value where a walk stands. It differs from `eval` (crate plan, specs/Run.antt)
--- only in what
--- no check passes: a mapping of a value that has no parts is null here.
+-- Document 01, "Run", for a walk: what a selector gives over values, and the value where a walk stands. It differs from
+-- `eval` (crate plan, specs/Run.antt) only in what no check passes: a mapping of a value that has no parts is null
+-- here.
 use Prim.Native.Nat.{ℕ, zero, suc}
 use mathlib.Core.List.{List, [], _∷_}
 use Rattle.values.specs.Value.{Value, vnull, vnumber, vtext, voverflow, vstruct, vlist, varray, Values, vnil, vcons}

@@ -1,6 +1,5 @@
--- The proof of the cycle of calls {build_iceberg_default_value, put_defaults}. The measure is 2 for each level left, and 1 more for the fields. `Defaulting`
--- holds at the head of the
--- loop. Assumes nothing.
+-- The proof of the cycle of calls {build_iceberg_default_value, put_defaults}. The measure is 2 for each level left,
+-- and 1 more for the fields. `Defaulting` holds at the head of the loop. Assumes nothing.
 use Rattle.builder.proofs.Missing.{defaulting-none, defaulting-all, defaulting-unlabelled, field, field-room, defaulting-stop, field-fits}
 use Rattle.builder.proofs.Missing.{defaulting-more, Defaulting}
 use Rattle.builder.proofs.Defaults.{none-made, default-as, of-leaf, of-list, of-array, struct-as, struct-after, struct-refused, struct-none, struct-some}

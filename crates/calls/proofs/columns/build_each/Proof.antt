@@ -1,5 +1,5 @@
--- `calls::columns::build_each` meets its contract. `Building` holds at the head of the loop, and the arena's first `used` numbers are as they were.
--- Assumes nothing.
+-- `calls::columns::build_each` meets its contract. `Building` holds at the head of the loop, and the arena's first
+-- `used` numbers are as they were. Assumes nothing.
 use Rattle.labels.proofs.Arena.{table-kept}
 use borrow.Rule.Slice.PartMut.{take-put, same-len-mid}
 use lib.Seq.{length-take-le}

@@ -1,5 +1,5 @@
--- `column_fit`, `element_fit`, `fields_fit`, `mapped_fit`, `sized_fit` and `type_fit` of `checker::limits` meet their contracts, by the falling measures
--- below. Assumes nothing.
+-- `column_fit`, `element_fit`, `fields_fit`, `mapped_fit`, `sized_fit` and `type_fit` of `checker::limits` meet their
+-- contracts, by the falling measures below. Assumes nothing.
 use borrow.Author.Needs.{needs}
 use native.Mathlib.Omega.{arith}
 use mathlib.Core.Path.{refl, ap, _∙_}

@@ -1,5 +1,5 @@
--- `same_as`, `same_column`, `same_element`, `same_fields` and `same_mapped` of `checker::same` meet their contracts, by the falling measures below. Assumes
--- nothing.
+-- `same_as`, `same_column`, `same_element`, `same_fields` and `same_mapped` of `checker::same` meet their contracts, by
+-- the falling measures below. Assumes nothing.
 use Rattle.checker.proofs.Alike.{raw-ends, codes-differ, numbers-differ, struct-there, list-there, array-there, structs-same, lists-same, arrays-same}
 use Rattle.checker.proofs.Alike.{field-differs, field-goes, Matching, matching-start, matching-end, matching-first, matching-asks, matching-no}
 use Rattle.checker.proofs.Alike.{matching-more}

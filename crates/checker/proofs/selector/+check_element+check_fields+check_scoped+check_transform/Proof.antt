@@ -1,5 +1,5 @@
--- `check_element`, `check_fields`, `check_scoped` and `check_transform` of `checker::selector` meet their contracts, by the falling measures below. Assumes
--- nothing.
+-- `check_element`, `check_fields`, `check_scoped` and `check_transform` of `checker::selector` meet their contracts, by
+-- the falling measures below. Assumes nothing.
 use Prim.Native.Nat.{_+_, _*_, _-_, ℕ, _<_}
 use mathlib.Core.Path.{sym, _∙_}
 use mathlib.Core.Bool.{true, false}

@@ -1,4 +1,5 @@
--- `defaults::lookup::get_default_value` meets its contract: the two lookups make the definition, by the laws of `Seeking`. Assumes nothing.
+-- `defaults::lookup::get_default_value` meets its contract: the two lookups make the definition, by the laws of
+-- `Seeking`. Assumes nothing.
 use native.Mathlib.Omega.{arith}
 use borrow.Author.Needs.{needs}
 use Rattle.defaults.specs.declared.read.EntryKind.the-variants.{Initial, Partition}

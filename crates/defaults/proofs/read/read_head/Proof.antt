@@ -1,4 +1,5 @@
--- `defaults::read::read_head` meets its contract: each way through it is found by the rules `head-ways`. Assumes nothing.
+-- `defaults::read::read_head` meets its contract: each way through it is found by the rules `head-ways`. Assumes
+-- nothing.
 use Rattle.defaults.proofs.Indexing.{head-ways}
 use borrow.Author.Needs.{needs}
 use Rattle.defaults.proofs.read.read_head.Statement.{statement}

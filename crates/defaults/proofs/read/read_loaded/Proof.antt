@@ -1,4 +1,5 @@
--- `defaults::read::read_loaded` meets its contract: each way through it is found by the rules `given-ways`. Assumes nothing.
+-- `defaults::read::read_loaded` meets its contract: each way through it is found by the rules `given-ways`. Assumes
+-- nothing.
 use borrow.Author.Needs.{needs}
 use Rattle.defaults.proofs.Ways.{given-ways}
 use Rattle.defaults.proofs.read.read_loaded.Statement.{statement}

@@ -1,4 +1,5 @@
--- `defaults::read::read_numbered` meets its contract: each way through it is found by the rules `entry-ways`. Assumes nothing.
+-- `defaults::read::read_numbered` meets its contract: each way through it is found by the rules `entry-ways`. Assumes
+-- nothing.
 use borrow.Author.Needs.{needs}
 use Rattle.defaults.proofs.Reading.{entry-ways}
 use Rattle.defaults.proofs.read.read_numbered.Statement.{statement}

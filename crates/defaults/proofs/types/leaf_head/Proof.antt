@@ -1,4 +1,5 @@
--- `defaults::types::leaf_head` meets its contract: each way through it is found by the rules `only-ways`. Assumes nothing.
+-- `defaults::types::leaf_head` meets its contract: each way through it is found by the rules `only-ways`. Assumes
+-- nothing.
 use borrow.Author.Needs.{needs}
 use Rattle.layout.proofs.Ways.{head-in}
 use Rattle.defaults.proofs.Ways.{only-ways}

@@ -1,4 +1,5 @@
--- `defaults::types::read_leaf_type` meets its contract: each way through it is found by the rules `leaf-type-ways`. Assumes nothing.
+-- `defaults::types::read_leaf_type` meets its contract: each way through it is found by the rules `leaf-type-ways`.
+-- Assumes nothing.
 use borrow.Author.Needs.{needs}
 use Rattle.defaults.proofs.Ways.{leaf-type-ways}
 use Rattle.defaults.proofs.types.read_leaf_type.Statement.{statement}

@@ -1,4 +1,5 @@
--- `defaults::types::read_leaf_value` meets its contract: each way through it is found by the rules `value-ways`. Assumes nothing.
+-- `defaults::types::read_leaf_value` meets its contract: each way through it is found by the rules `value-ways`.
+-- Assumes nothing.
 use borrow.Author.Needs.{needs}
 use Rattle.defaults.proofs.Ways.{value-ways}
 use Rattle.defaults.proofs.types.read_leaf_value.Statement.{statement}

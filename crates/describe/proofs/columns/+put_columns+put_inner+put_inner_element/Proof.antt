@@ -1,4 +1,5 @@
--- The proof of the cycle of calls {put_columns, put_inner, put_inner_element}. The measure is 3 for each level left, and 2, 0 and 1 more. Assumes nothing.
+-- The proof of the cycle of calls {put_columns, put_inner, put_inner_element}. The measure is 3 for each level left,
+-- and 2, 0 and 1 more. Assumes nothing.
 use borrow.Author.Needs.{needs}
 use Prim.Native.Nat.{ℕ, _<_, _≤_, _+_, _-_, _*_}
 use borrow.Fn.Kinds.{In}

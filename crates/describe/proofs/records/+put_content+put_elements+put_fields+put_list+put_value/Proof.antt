@@ -1,5 +1,5 @@
--- The proof of the cycle of calls {put_content, put_elements, put_fields, put_list, put_value}. The measure is 5 for each level left, and 0, 2, 2, 3 and 1
--- more. Assumes nothing.
+-- The proof of the cycle of calls {put_content, put_elements, put_fields, put_list, put_value}. The measure is 5 for
+-- each level left, and 0, 2, 2, 3 and 1 more. Assumes nothing.
 use borrow.Author.Needs.{needs}
 use Prim.Native.Nat.{ℕ, _<_, _≤_, _+_, _-_, _*_}
 use borrow.Fn.Kinds.{In}

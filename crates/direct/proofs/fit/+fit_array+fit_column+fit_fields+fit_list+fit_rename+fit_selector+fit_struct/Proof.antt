@@ -1,6 +1,6 @@
--- `fit_array`, `fit_column`, `fit_fields`, `fit_list`, `fit_rename`, `fit_selector` and `fit_struct` of `direct::fit` meet their contracts.
--- The measure is 4 for each level left, and more for the functions that call at the same level. `Fitting` holds at the head of the loop.
--- Assumes nothing.
+-- `fit_array`, `fit_column`, `fit_fields`, `fit_list`, `fit_rename`, `fit_selector` and `fit_struct` of `direct::fit`
+-- meet their contracts. The measure is 4 for each level left, and more for the functions that call at the same level.
+-- `Fitting` holds at the head of the loop. Assumes nothing.
 use Rattle.direct.proofs.Rows.{column-asks, column-fits, Fitting, fitting-none, fitting-all, fitting-asks, fitting-more}
 use Rattle.direct.proofs.Fitting.{unknown, none-given, fit-to, gives-to, rename-asks, rename-fits, struct-asks, struct-fits, list-asks, list-fits}
 use Rattle.direct.proofs.Fitting.{array-asks, array-fits}

@@ -1,5 +1,5 @@
--- The proof of the cycle of calls {fill_columns, fill_type}. The measure is 2 for each level left, and 1 more for columns. `Skipping` and `Ends` hold at the
--- head of the loop. Assumes nothing.
+-- The proof of the cycle of calls {fill_columns, fill_type}. The measure is 2 for each level left, and 1 more for
+-- columns. `Skipping` and `Ends` hold at the head of the loop. Assumes nothing.
 use Rattle.ends.proofs.Skipping.{Skipping, skipping-none, skipping-all, skipping-first, skipping-unlabelled, skipping-more}
 use Rattle.ends.proofs.Entries.{end-of, found-is}
 use Rattle.ends.specs.code.Ends.{Ends}

@@ -1,4 +1,5 @@
--- `ends::local::start_table` meets its contract: a table without entries is true, whatever its starts are counted from. Assumes nothing.
+-- `ends::local::start_table` meets its contract: a table without entries is true, whatever its starts are counted from.
+-- Assumes nothing.
 use Rattle.ends.proofs.Entries.{ends-clear, ends-started}
 use mathlib.Core.Path.{refl, _∙_}
 use lib.ListN.{length-set}

@@ -1,5 +1,5 @@
--- The proof of the cycle of calls {same_column, same_element, same_fields, same_type}. The measure is 4 for each level left of the first
--- type, and 1, 1, 2 and 0 more. `Comparing` holds at the head of the loop. Assumes nothing.
+-- The proof of the cycle of calls {same_column, same_element, same_fields, same_type}. The measure is 4 for each level
+-- left of the first type, and 1, 1, 2 and 0 more. `Comparing` holds at the head of the loop. Assumes nothing.
 use mathlib.Core.Path.{refl}
 use Rattle.forms.proofs.Comparing.{counted, Comparing, head-in, heads-differ, leaf-both, struct-both, list-both, array-both, leaves-same, structs-same}
 use Rattle.forms.proofs.Comparing.{lists-same, arrays-same, behind-label, never-unlabelled, names-differ, names-alike, comparing-none, comparing-all}

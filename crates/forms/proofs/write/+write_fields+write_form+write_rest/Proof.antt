@@ -1,5 +1,5 @@
--- The proof of the cycle of calls {write_fields, write_form, write_rest}. The measure is 3 for each level left, and 2, 1 and 0 more.
--- `Writing` holds at the head of the loop. Assumes nothing.
+-- The proof of the cycle of calls {write_fields, write_form, write_rest}. The measure is 3 for each level left, and 2,
+-- 1 and 0 more. `Writing` holds at the head of the loop. Assumes nothing.
 use Rattle.layout.specs.declared.cursor.Cursor.{Cursor}
 use lib.ListN.{length}
 use mathlib.Core.Path.{refl, sym, ap, _∙_}

@@ -1,6 +1,6 @@
--- `array_over`, `infer_column`, `infer_fields`, `infer_over`, `infer_selector`, `list_over` and `struct_over` of `infer::over` meet their contracts.
--- The measure is 8 for each level left, and more for the functions that call at the same level. `Gathering` holds at the head of the loop.
--- Assumes nothing.
+-- `array_over`, `infer_column`, `infer_fields`, `infer_over`, `infer_selector`, `list_over` and `struct_over` of
+-- `infer::over` meet their contracts. The measure is 8 for each level left, and more for the functions that call at the
+-- same level. `Gathering` holds at the head of the loop. Assumes nothing.
 use mathlib.Core.Path.{sym}
 use lib.Seq.{length-take-le}
 use borrow.Author.Tests.{not-false}

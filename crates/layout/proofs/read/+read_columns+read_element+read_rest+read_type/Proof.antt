@@ -1,5 +1,5 @@
--- The proof of the cycle of calls {read_columns, read_element, read_rest, read_type}. The measure is 3 for each level left, and 1, 1, 2 and 0 more.
--- `Reading` holds at the head of the loop. Assumes nothing.
+-- The proof of the cycle of calls {read_columns, read_element, read_rest, read_type}. The measure is 3 for each level
+-- left, and 1, 1, 2 and 0 more. `Reading` holds at the head of the loop. Assumes nothing.
 use borrow.Author.Needs.{needs}
 use Prim.Native.Nat.{ℕ, _<_, _+_, _-_, _*_}
 use mathlib.Core.Path.{sym, _∙_}

@@ -1,4 +1,5 @@
--- `layout::read::is_repeated` meets its contract: a label is new where a search for it ends at an empty slot. Assumes nothing.
+-- `layout::read::is_repeated` meets its contract: a label is new where a search for it ends at an empty slot. Assumes
+-- nothing.
 use Rattle.layout.proofs.Noting.{keeps-same, notes-met, not-noted, place-keeps, place-notes}
 use borrow.Author.Needs.{needs}
 use Rattle.layout.proofs.read.is_repeated.Statement.{statement}

@@ -1,4 +1,5 @@
--- `layout::types::plain_leaf` meets its contract: an arm is a place in the list of codes; the default is past the last place. Assumes nothing.
+-- `layout::types::plain_leaf` meets its contract: an arm is a place in the list of codes; the default is past the last
+-- place. Assumes nothing.
 use mathlib.Core.Path.{sym}
 use Prim.Native.Nat.{zero-le}
 use lib.ListN.{List·getD-eq-default}

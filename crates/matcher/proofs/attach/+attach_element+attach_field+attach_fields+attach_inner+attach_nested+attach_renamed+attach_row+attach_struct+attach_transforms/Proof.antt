@@ -1,5 +1,6 @@
--- The proof of the matchers' cycle. The measure is 7 for each level left, and up to 6 more by the function. `Remaining` holds at the head of the loop
--- over target fields, and the arena's first `used` numbers are as they were. Assumes nothing.
+-- The proof of the matchers' cycle. The measure is 7 for each level left, and up to 6 more by the function. `Remaining`
+-- holds at the head of the loop over target fields, and the arena's first `used` numbers are as they were. Assumes
+-- nothing.
 use Rattle.labels.proofs.Arena.{table-kept}
 use borrow.Rule.Slice.PartMut.{take-put, same-len-mid}
 use lib.Seq.{length-take-le}

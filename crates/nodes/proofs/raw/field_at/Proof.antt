@@ -1,4 +1,5 @@
--- `nodes::raw::field_at` meets its contract: the column stands after those before it, and its value after theirs. Assumes nothing.
+-- `nodes::raw::field_at` meets its contract: the column stands after those before it, and its value after theirs.
+-- Assumes nothing.
 use Rattle.nodes.proofs.Node.{field-past, field-front, field-found, field-unlabelled, field-unread}
 use borrow.Author.Needs.{needs}
 use Rattle.nodes.proofs.raw.field_at.Statement.{statement}

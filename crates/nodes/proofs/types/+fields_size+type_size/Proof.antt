@@ -1,5 +1,5 @@
--- The proof of the cycle of calls {fields_size, type_size}. The measure is 2 for each level left, and 1 more for columns. `Sizing` holds at the
--- head of the loop. Assumes nothing.
+-- The proof of the cycle of calls {fields_size, type_size}. The measure is 2 for each level left, and 1 more for
+-- columns. `Sizing` holds at the head of the loop. Assumes nothing.
 use Rattle.nodes.proofs.Sizes.{Sizing, sizing-none, sizing-all, sizing-unlabelled, sizing-first, sizing-fits, sizing-more, size-leaf, in-struct, in-list}
 use Rattle.nodes.proofs.Sizes.{in-array, inside-fits, inside-size}
 use Rattle.layout.proofs.View.{deep, struct-at, list-at, array-at, list-labelled, array-labelled, never-headless}

@@ -1,5 +1,5 @@
--- `nullness::fill::fill_value` and what it calls meet their contracts: the measure is the number of levels left; the loops keep `Elements` and
--- `Row`. Assumes nothing.
+-- `nullness::fill::fill_value` and what it calls meet their contracts: the measure is the number of levels left; the
+-- loops keep `Elements` and `Row`. Assumes nothing.
 use Rattle.overflow.proofs.Scanning.{list-elements}
 use Rattle.overflow.proofs.Raw.{leaf-value, struct-value, a-list, array-value}
 use Rattle.nodes.proofs.Node.{raw-present, list-is}

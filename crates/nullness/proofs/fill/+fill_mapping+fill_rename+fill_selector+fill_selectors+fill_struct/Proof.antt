@@ -1,5 +1,5 @@
--- `nullness::fill::fill_selectors` and what it calls meet their contracts: the measure is the number of levels left; all keep `Nulls`.
--- Assumes nothing.
+-- `nullness::fill::fill_selectors` and what it calls meet their contracts: the measure is the number of levels left;
+-- all keep `Nulls`. Assumes nothing.
 use borrow.Author.Needs.{needs}
 use Prim.Native.Nat.{ℕ, _<_, _+_, _-_, _*_}
 use lib.ListN.{length}

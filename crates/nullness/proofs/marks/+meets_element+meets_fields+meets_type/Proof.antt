@@ -1,5 +1,5 @@
--- `nullness::marks::meets_type`, `meets_element` and `meets_fields` meet their contracts: they call each other with the depth
--- of the type falling; the loop keeps `Fieldings`. Assumes nothing.
+-- `nullness::marks::meets_type`, `meets_element` and `meets_fields` meet their contracts: they call each other with the
+-- depth of the type falling; the loop keeps `Fieldings`. Assumes nothing.
 use Rattle.nullness.proofs.Meeting.{step-place, step-met, top-fails, struct-place, list-place, array-place, leaf-meets, struct-meets, list-meets}
 use Rattle.nullness.proofs.Meeting.{array-meets}
 use Rattle.nullness.proofs.Meeting.{Fieldings, fielding-start, fielding-all, fielding-labelled, field, field-place, fielding-fails, fielding-more}

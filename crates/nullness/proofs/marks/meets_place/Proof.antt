@@ -1,4 +1,5 @@
--- `nullness::marks::meets_place` meets its contract: an optional field takes all; a required one what is followed. Assumes nothing.
+-- `nullness::marks::meets_place` meets its contract: an optional field takes all; a required one what is followed.
+-- Assumes nothing.
 use Rattle.nullness.proofs.Meeting.{place-optional, place-follows, place-filled}
 use Rattle.nullness.proofs.Placing.{untold}
 use Rattle.walk.proofs.Ending.{told}

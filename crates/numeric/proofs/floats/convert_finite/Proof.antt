@@ -1,4 +1,5 @@
--- `numeric::floats::convert_finite` meets its contract. The fields give the significand and the exponent. Assumes nothing.
+-- `numeric::floats::convert_finite` meets its contract. The fields give the significand and the exponent. Assumes
+-- nothing.
 use Rattle.numeric.proofs.Conversions.{field-le, subnormal-is, normal-is}
 use native.Mathlib.Nat.{mod-lt}
 use lib.Pow.{pow-pos, pow-mono}

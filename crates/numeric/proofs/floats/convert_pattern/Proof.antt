@@ -1,4 +1,5 @@
--- `numeric::floats::convert_pattern` meets its contract. A finite number, an infinity or a NaN, with the sign. Assumes nothing.
+-- `numeric::floats::convert_pattern` meets its contract. A finite number, an infinity or a NaN, with the sign. Assumes
+-- nothing.
 use Rattle.numeric.specs.Rounding.{infinity}
 use Rattle.numeric.proofs.Conversions.{sign-pos, sign-fits, signed-fits, nan-fits, rounded-le, finite-is, infinite-is, nan-is}
 use native.Mathlib.Nat.{le-of-eq}

@@ -1,4 +1,5 @@
--- `numeric::integers::pattern_of` meets its contract. A negative number counts down from the last pattern. Assumes nothing.
+-- `numeric::integers::pattern_of` meets its contract. A negative number counts down from the last pattern. Assumes
+-- nothing.
 use mathlib.Core.Path.{sym, ap, _∙_}
 use Rattle.numeric.specs.Integers.{pattern, wholeOf}
 use Rattle.numeric.proofs.TwosComplement.{last-low, low-pattern}

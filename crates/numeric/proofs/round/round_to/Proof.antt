@@ -1,5 +1,5 @@
--- `numeric::round::round_to` meets its contract. `kept`: what `scaled` is handed has at most 53 digits before its point. `value`: the result before its bound.
--- Assumes nothing.
+-- `numeric::round::round_to` meets its contract. `kept`: what `scaled` is handed has at most 53 digits before its
+-- point. `value`: the result before its bound. Assumes nothing.
 use Rattle.numeric.proofs.Shifts.{rounded-zero, size-64, field-fits, round-is, round-large, round-kept, closest-le}
 use Rattle.numeric.specs.Rounding.{scale, rounded}
 use lib.Pow.{pow-pos, pow-mono}

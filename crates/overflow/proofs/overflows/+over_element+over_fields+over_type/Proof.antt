@@ -1,5 +1,5 @@
--- `overflow::overflows::over_type`, `over_element` and `over_fields` meet their contracts: they call each other with the depth of the type falling; the loop
--- keeps `Fieldings`. Assumes nothing.
+-- `overflow::overflows::over_type`, `over_element` and `over_fields` meet their contracts: they call each other with
+-- the depth of the type falling; the loop keeps `Fieldings`. Assumes nothing.
 use Rattle.overflow.proofs.Paths.{Fieldings, step-top, step-leaves, step-room, step-deep, time-leaves, never-leaves, struct-leaves, list-leaves}
 use Rattle.overflow.proofs.Paths.{array-leaves, fielding-none, fielding-all, fielding-labelled, fielding-type, fielding-found, fielding-more}
 use Rattle.layout.proofs.View.{deep, struct-at, list-at, array-at, never-headless, list-labelled, array-labelled}

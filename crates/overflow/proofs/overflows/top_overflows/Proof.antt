@@ -1,4 +1,5 @@
--- `overflow::overflows::top_overflows` meets its contract: a value has an overflow just where a path to a leaf has one. Assumes nothing.
+-- `overflow::overflows::top_overflows` meets its contract: a value has an overflow just where a path to a leaf has one.
+-- Assumes nothing.
 use Rattle.overflow.proofs.Columns.{top-unclean}
 use lib.ListN.{length-replicate}
 use native.Mathlib.Omega.{arith}

@@ -1,5 +1,5 @@
--- `overflow::scan::some_at`, `some_part`, `some_listed` and `some_element` meet their contracts: they call each other with the path getting shorter; the loop
--- keeps `Scanning`. Assumes nothing.
+-- `overflow::scan::some_at`, `some_part`, `some_listed` and `some_element` meet their contracts: they call each other
+-- with the path getting shorter; the loop keeps `Scanning`. Assumes nothing.
 use Rattle.overflow.proofs.Scanning.{Scanning, path-end, path-cons, at-end, same-node, leaf-step, struct-step, list-step, array-step, list-elements}
 use Rattle.overflow.proofs.Scanning.{list-any, scanning-none, scanning-all, scanning-raw, scanning-found, scanning-stuck, scanning-more}
 use Rattle.overflow.proofs.Raw.{leaf-value, struct-value, a-list, array-value}

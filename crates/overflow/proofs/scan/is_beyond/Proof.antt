@@ -1,4 +1,5 @@
--- `overflow::scan::is_beyond` meets its contract: by what the type begins with; a date-time by its bytes. Assumes nothing.
+-- `overflow::scan::is_beyond` meets its contract: by what the type begins with; a date-time by its bytes. Assumes
+-- nothing.
 use Rattle.overflow.proofs.Raw.{leaf-timeless, time-within, leaf-time, struct-value, a-list, an-array, struct-timeless, list-timeless, array-timeless}
 use Rattle.layout.proofs.View.{never-headless}
 use native.Mathlib.Omega.{arith}

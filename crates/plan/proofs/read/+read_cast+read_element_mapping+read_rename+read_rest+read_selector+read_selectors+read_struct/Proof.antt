@@ -1,4 +1,5 @@
--- The proof of the cycle of calls that reads selectors: each way has its law in `Moves`. The measure is 4 for each level left. Assumes nothing.
+-- The proof of the cycle of calls that reads selectors: each way has its law in `Moves`. The measure is 4 for each
+-- level left. Assumes nothing.
 use Rattle.plan.proofs.Moves.{array-to, array-stopped, list-to, list-stopped, cast-to, cast-untyped, cast-stopped, rename-to, rename-stopped, struct-to}
 use Rattle.plan.proofs.Moves.{struct-uncounted, struct-stopped, rest-position, rest-constant, rest-cast, rest-rename, rest-struct, rest-element}
 use Rattle.plan.proofs.Moves.{rest-unknown, selector-deep, selector-to, selector-stopped, passing-position, passing-none, passing-all, passing-stopped}

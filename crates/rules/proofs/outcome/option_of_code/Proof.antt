@@ -1,4 +1,5 @@
--- `rules::outcome::option_of_code` meets its contract: an arm is a place in the list of options; the default is past the last place.
+-- `rules::outcome::option_of_code` meets its contract: an arm is a place in the list of options; the default is past
+-- the last place.
 use mathlib.Core.Path.{sym}
 use Prim.Native.Nat.{zero-le}
 use lib.ListN.{List·getD-eq-default}

@@ -1,4 +1,5 @@
--- `rules::pair::apply_rule` meets its contract: an arm is a place in the list of rules; the default is the first place, or past the last.
+-- `rules::pair::apply_rule` meets its contract: an arm is a place in the list of rules; the default is the first place,
+-- or past the last.
 use mathlib.Core.Path.{refl, sym}
 use Rattle.rules.specs.Outcomes.{refused}
 use Rattle.rules.specs.code.Rules.{rules}

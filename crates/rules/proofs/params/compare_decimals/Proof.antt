@@ -1,4 +1,5 @@
--- `rules::params::compare_decimals` meets its contract: the tests of `decimalsOf`, each where it decides. Assumes nothing.
+-- `rules::params::compare_decimals` meets its contract: the tests of `decimalsOf`, each where it decides. Assumes
+-- nothing.
 use native.Mathlib.Omega.{arith}
 use borrow.Author.Tests.{eq-eqb, ne-eqb, lt-ltb, le-ltb}
 use Rattle.rules.specs.Params.{decimalsOf}

@@ -1,6 +1,5 @@
--- The proof of the cycle of calls {put_element, put_input, put_rename, put_selector, put_selectors, put_struct}. The measure is 4 for each level left, and 2,
--- 1, 1, 0, 1 and 2 more.
--- Assumes nothing.
+-- The proof of the cycle of calls {put_element, put_input, put_rename, put_selector, put_selectors, put_struct}. The
+-- measure is 4 for each level left, and 2, 1, 1, 0, 1 and 2 more. Assumes nothing.
 use borrow.Author.Needs.{needs}
 use Prim.Native.Nat.{ℕ, _<_, _≤_, _+_, _-_, _*_}
 use borrow.Fn.Kinds.{In}

@@ -1,4 +1,5 @@
--- `text::decimal::next_digit` meets its contract. Ten times a word fits, and `step` gives the equation. Assumes nothing.
+-- `text::decimal::next_digit` meets its contract. Ten times a word fits, and `step` gives the equation. Assumes
+-- nothing.
 use borrow.Author.Needs.{needs}
 use Prim.Native.Nat.{_+_, _*_, _/_, _%_}
 use native.Mathlib.Nat.{div-add-mod'}

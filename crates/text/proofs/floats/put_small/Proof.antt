@@ -1,4 +1,5 @@
--- `text::floats::put_small` meets its contract. It ends, since a fraction that is not 0 grows tenfold with each zero and stays below 1. Assumes nothing.
+-- `text::floats::put_small` meets its contract. It ends, since a fraction that is not 0 grows tenfold with each zero
+-- and stays below 1. Assumes nothing.
 use borrow.Author.Needs.{needs}
 use native.Mathlib.Omega.{arith}
 use Rattle.text.proofs.Digits.{closer, still-some}

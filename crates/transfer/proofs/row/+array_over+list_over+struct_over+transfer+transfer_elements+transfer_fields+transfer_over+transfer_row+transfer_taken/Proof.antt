@@ -1,4 +1,5 @@
--- The functions of `transfer::row` that call each other meet their contracts, by the falling measures below. Assumes nothing.
+-- The functions of `transfer::row` that call each other meet their contracts, by the falling measures below. Assumes
+-- nothing.
 use mathlib.Core.Bool.{true, false}
 use Rattle.transfer.proofs.Rows.{Running, running-none, running-ends, running-all, running-head, running-more, Going, going-none, going-all, going-value}
 use Rattle.transfer.proofs.Rows.{going-more, selector-moved, opened-by, constant-reached, rename-reached, struct-null, struct-row, struct-reached}

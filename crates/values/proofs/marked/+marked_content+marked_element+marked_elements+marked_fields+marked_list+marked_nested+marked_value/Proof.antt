@@ -1,6 +1,6 @@
--- The proof of the cycle of calls {marked_content, marked_element, marked_elements, marked_fields, marked_list, marked_nested, marked_value}. The measure is 5
--- for
--- each level left, and 1, 2, 3, 3, 4, 0 and 2 more. `Fielding` and `Repeating` hold at the heads of the loops; each way has its law in `Walk`. Assumes nothing.
+-- The proof of the cycle of calls {marked_content, marked_element, marked_elements, marked_fields, marked_list,
+-- marked_nested, marked_value}. The measure is 5 for each level left, and 1, 2, 3, 3, 4, 0 and 2 more. `Fielding` and
+-- `Repeating` hold at the heads of the loops; each way has its law in `Walk`. Assumes nothing.
 use Rattle.values.proofs.Walk.{content-leaf, content-no-leaf, content-struct, content-list, content-array, element-null, element-to, element-stopped}
 use Rattle.values.proofs.Walk.{element-refused, repeating-none, repeating-stopped, repeating-more, repeating-all, fielding-none, fielding-first}
 use Rattle.values.proofs.Walk.{fielding-refused, fielding-labelled, fielding-more, fielding-all, list-counted, list-uncounted, value-null, value-present}

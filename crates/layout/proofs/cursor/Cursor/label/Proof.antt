@@ -1,4 +1,5 @@
--- `layout::cursor::Cursor::label` meets its contract: version 1 by the rules `ways`, the others by `label_of`. Assumes nothing.
+-- `layout::cursor::Cursor::label` meets its contract: version 1 by the rules `ways`, the others by `label_of`. Assumes
+-- nothing.
 use borrow.Author.Needs.{needs}
 use Rattle.layout.proofs.Ways.{ways}
 use Rattle.layout.specs.Layout.{label}

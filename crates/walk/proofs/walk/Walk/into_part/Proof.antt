@@ -1,4 +1,5 @@
--- `walk::walk::Walk::into_part` meets its contract: a number is put at the path's end, and the part entered. Assumes nothing.
+-- `walk::walk::Walk::into_part` meets its contract: a number is put at the path's end, and the part entered. Assumes
+-- nothing.
 use borrow.Author.Needs.{needs}
 use Rattle.walk.proofs.Moving.{child-none, child-in}
 use Rattle.walk.proofs.walk.Walk.into_part.Statement.{statement}

@@ -1,5 +1,5 @@
--- Document 01, "Samples for the table of cases": S1 to S12, over bytes, each computed from the definitions that the exported calls' contracts cite. Assumes
--- nothing.
+-- Document 01, "Samples for the table of cases": S1 to S12, over bytes, each computed from the definitions that the
+-- exported calls' contracts cite. Assumes nothing.
 use Prim.Native.Nat.{ℕ}
 use mathlib.Core.Path.{_≡_, refl}
 use mathlib.Core.List.{[], _∷_, _++_}
