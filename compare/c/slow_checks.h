@@ -45,8 +45,8 @@ static void constant_arrays(text *t, int elements, int fields, int lists) {
     present_arrays(t, elements);
 }
 
-/* What stands before the selectors of a mapping over a mapping of one field, in an element, and how many they are. */
-static void mapping_over(text *t, int selectors) {
+/* A plan of one list mapping, up to the field of the mapping that another one in the element stands over. */
+static void over_one_field(text *t) {
     mark(t, "PLN", 1);
     put(t, 5, 1);
     position(t, 0);
@@ -54,6 +54,11 @@ static void mapping_over(text *t, int selectors) {
     put(t, 4, 1);
     position(t, 0);
     put(t, 1, 2);
+}
+
+/* What stands before the selectors of a mapping over a mapping of one field, in an element, and how many they are. */
+static void mapping_over(text *t, int selectors) {
+    over_one_field(t);
     position(t, 0);
     put(t, (uint64_t)selectors, 2);
 }
@@ -106,13 +111,7 @@ static void rename_position(text *t, int k) {
 
 /* In an element, renames of what a mapping of so many fields makes, each by a position. */
 static void renamed_made(text *t, int renames, int fields) {
-    mark(t, "PLN", 1);
-    put(t, 5, 1);
-    position(t, 0);
-    put(t, 4, 1);
-    put(t, 4, 1);
-    position(t, 0);
-    put(t, 1, 2);
+    over_one_field(t);
     put(t, 4, 1);
     position(t, 0);
     put(t, (uint64_t)fields, 2);
