@@ -62,9 +62,10 @@ use Rattle.demands.proofs.Passed.{passed-runs, exceeds-exactly, ok-eq}
 use Rattle.demands.proofs.Built.{built-passes, built-due, by-name-past, by-name-back, by-number-past, by-number-back}
 use Rattle.demands.proofs.Extra.{by-name-raised, by-name-raises, name-ignoring, by-number-raised, by-number-raises, number-ignoring}
 
--- ---- Demand 1: "No input, however broken, stops a call, and nothing is written by a refused one: it returns its number from document 01 and every lent
--- buffer is unchanged." A call's contract (crate selector) has no `requires`, and gives its answer and its buffer at
--- exit by these definitions for all bytes; `bufferAfter` is what stands in the buffer.
+-- ---- Demand 1: "No input, however broken, stops a call, and nothing is written by a refused one: it returns its
+-- number from document 01 and every lent buffer is unchanged." A call's contract (crate selector) has no `requires`,
+-- and gives its answer and its buffer at exit by these definitions for all bytes; `bufferAfter` is what stands in the
+-- buffer.
 
 pub refused-unchanged : (n k : ℕ) (buffer : Bytes) → bufferAfter (refusedAt n k) buffer ≡ buffer
 refused-unchanged n k buffer = refl
@@ -108,11 +109,11 @@ pub refused-placed : {c : Call} {things : List ℕ} {incoming columns n k : ℕ}
     (placeOf n k)
 refused-placed R = refusal-placed R
 
--- ---- Demand 3: "For every plan that passes the check from one layout to another, and every record that fits the first: the run refuses with 44 exactly when
--- a strict cast that it reaches multiplies a non-null date-time beyond signed 64 bits. Otherwise, given space, it
--- writes a record that fits the second; short of space it refuses with 45, and no other refusal is left."
--- `ReachesOverflow` (crate plan, specs/Reach.antt) is the condition of 44; the defined output is `output`, and there is
--- space for it where `spacious` says so: for the buffer and for 16,384 bytes.
+-- ---- Demand 3: "For every plan that passes the check from one layout to another, and every record that fits the
+-- first: the run refuses with 44 exactly when a strict cast that it reaches multiplies a non-null date-time beyond
+-- signed 64 bits. Otherwise, given space, it writes a record that fits the second; short of space it refuses with 45,
+-- and no other refusal is left." `ReachesOverflow` (crate plan, specs/Reach.antt) is the condition of 44; the defined
+-- output is `output`, and there is space for it where `spacious` says so: for the buffer and for 16,384 bytes.
 
 module _ (incoming target bytes rec : Bytes) (ob : AllBytes bytes) (or : AllBytes rec) (passes : checkPlan incoming target bytes ≡ accepted tt)
     (F : FitsLayout incoming rec) (room : ℕ) where
@@ -137,10 +138,11 @@ module _ (p : Policy) (index owner : ℕ) (incoming target defaults : Bytes) (oi
   pub by-number-passes : checkPlan incoming target bytes ≡ accepted tt
   by-number-passes = built-passes (by-number-built p index owner incoming target defaults space oi ot od built .built)
 
--- ---- "For every record that fits the incoming one, the run of such a plan between these same two, unless it refuses as just said, writes exactly the record
--- that document 01 calls due: each target field holds the incoming field of the same path, converted by rule, or else
--- its default or null." The due values are `dues` (crate matching, specs/Due.antt), from the build's arguments and the
--- record alone; `written` refuses them with 44 or 45 as above and else gives their bytes.
+-- ---- "For every record that fits the incoming one, the run of such a plan between these same two, unless it refuses
+-- as just said, writes exactly the record that document 01 calls due: each target field holds the incoming field of the
+-- same path, converted by rule, or else its default or null." The due values are `dues` (crate matching,
+-- specs/Due.antt), from the build's arguments and the record alone; `written` refuses them with 44 or 45 as above and
+-- else gives their bytes.
 
 module _ (p : Policy) (incoming target rec : Bytes) (oi : AllBytes incoming) (ot : AllBytes target) (or : AllBytes rec) (space : ℕ) {bytes : Bytes}
     (built : buildByName p incoming target space ≡ accepted bytes)
@@ -161,9 +163,8 @@ module _ (p : Policy) (index owner : ℕ) (incoming target defaults rec : Bytes)
       ∙ ap (λ (x : TableTree). written (dues ByNumber (getDefaultValue (entriesOf owner (x .entries)) index) (T .read .columns) (columnsOf F) (F .values)) room)
       (ok-eq (B .tableRead) r)
 
--- ---- "Matched by name, a built plan leaves a target column untouched exactly when the incoming column of that name has an equal type." The target column at
--- the position j
--- has the label b and the type u; its selector is s.
+-- ---- "Matched by name, a built plan leaves a target column untouched exactly when the incoming column of that name
+-- has an equal type." The target column at the position j has the label b and the type u; its selector is s.
 
 module _ (p : Policy) (incoming target : Bytes) (oi : AllBytes incoming) (ot : AllBytes target) (space : ℕ) {bytes : Bytes}
     (built : buildByName p incoming target space ≡ accepted bytes)
@@ -178,8 +179,8 @@ module _ (p : Policy) (incoming target : Bytes) (oi : AllBytes incoming) (ot : A
       let g : S .selectors ≡ B .selectors = ok-eq (S .reads) (B .reads) in
       rw f (build-untouched p noDefaults (B .from) (B .to) (B .built) j (ap (columnAt j) (sym t) ∙ e) (subst (λ (ss : Selectors). SelectorAt ss (j .0) s) g x))
 
--- ---- 27 "just when the defined output is too long, for the buffer or for the fixed limit": the layouts read, the columns all matched, and there is no room
--- for the plan's bytes
+-- ---- 27 "just when the defined output is too long, for the buffer or for the fixed limit": the layouts read, the
+-- columns all matched, and there is no room for the plan's bytes
 
 module _ (p : Policy) (incoming target : Bytes) (space : ℕ) where
   pub by-name-too-long : (buildByName p incoming target space ≡ refusedAt 27 0) ↔ PlanTooLong ByName p noDefaults incoming target space
@@ -190,7 +191,8 @@ module _ (p : Policy) (index owner : ℕ) (incoming target defaults : Bytes) (sp
       ↔ NumberTooLong p index owner incoming target defaults space
   by-number-too-long = (λ e. by-number-past p index owner incoming target defaults space e, λ N. by-number-back p index owner incoming target defaults space N)
 
--- ---- Document 02, L1, "Decimal fields". Its numbers 50, 51 and 52 are in the lists above, and demand 3 is said of decimals as of every other type.
+-- ---- Document 02, L1, "Decimal fields". Its numbers 50, 51 and 52 are in the lists above, and demand 3 is said of
+-- decimals as of every other type.
 
 -- "value an i64 of magnitude below ten to the precision": so is every decimal of a record that fits, at whatever level
 module _ {lay rec : Bytes} (or : AllBytes rec) (F : FitsLayout lay rec) where
@@ -249,10 +251,10 @@ table-refused defaults e = refused-in (table-in defaults) e
 pub plan-refused : (bytes : Bytes) {n : ℕ} → plan bytes ≡ refuse n → isIn n (30 ∷ []) ≡ true
 plan-refused bytes e = refused-in (plan-in bytes) e
 
--- ---- Document 02, L3, "Strict top columns": "the first incoming column with no target counterpart refuses the build", "53 for such a column, tested after the
--- defaults are read and before the first target column, its place being the incoming position". 53 holds exactly where
--- the layouts are read and of an edition that is taken, by number the table too, a column is extra under Raise, and the
--- place is the first one's position (`ExtraColumn`, specs/Stated.antt).
+-- ---- Document 02, L3, "Strict top columns": "the first incoming column with no target counterpart refuses the build",
+-- "53 for such a column, tested after the defaults are read and before the first target column, its place being the
+-- incoming position". 53 holds exactly where the layouts are read and of an edition that is taken, by number the table
+-- too, a column is extra under Raise, and the place is the first one's position (`ExtraColumn`, specs/Stated.antt).
 
 module _ (p : Policy) (incoming target : Bytes) (space : ℕ) where
   pub by-name-extra : {k : ℕ} → (buildByName p incoming target space ≡ refusedAt 53 k) ↔ ExtraColumn ByName p incoming target k
@@ -274,9 +276,9 @@ module _ (p : Policy) (index owner : ℕ) (incoming target defaults : Bytes) (sp
       answered (buildFrom ByNumber p (getDefaultValue (entriesOf owner (t .entries)) index) b a 0) (λ ss. writtenPlan space ss)))
   by-number-ignoring h = number-ignoring p index owner incoming target defaults space h
 
--- ---- Document 02, L5, "Required fields". 54, 55 and 56 are in the lists above, 54 and 55 for a build by number alone; what passes the check, 55 included,
--- and what
--- fits, 56 included, is what demand 3 is said of; so is that both builders' plans pass the check.
+-- ---- Document 02, L5, "Required fields". 54, 55 and 56 are in the lists above, 54 and 55 for a build by number alone;
+-- what passes the check, 55 included, and what fits, 56 included, is what demand 3 is said of; so is that both
+-- builders' plans pass the check.
 
 -- "An accepted plan must never give null to a required field": what the run of a plan that passed writes fits the
 -- target (`run-passed`), and no null of what fits stands in a required field, at whatever level (`FilledAll`, crate

@@ -28,9 +28,9 @@ written-kept : {p q : Policy} → Allows p q → (room : ℕ) (v : Matching) (d 
     → KeptAnswer (answered (build v p d a b) (λ ss. writtenPlan room ss)) (answered (build v q d a b) (λ ss. writtenPlan room ss))
 written-kept A room v d a b = by-answer _ _ (build-kept v A d a b) (λ ss. same-answer (writtenPlan room ss))
 
--- ---- "For any two policies where the second allows all that the first allows (flags on, Insert above Raise, Ignore above Raise), every build accepted
--- under the first, with all other arguments and the buffer length the same, is accepted under the second with the same
--- bytes."
+-- ---- "For any two policies where the second allows all that the first allows (flags on, Insert above Raise, Ignore
+-- above Raise), every build accepted under the first, with all other arguments and the buffer length the same, is
+-- accepted under the second with the same bytes."
 
 module _ {p q : Policy} (A : Allows p q) (incoming target : Bytes) (room : ℕ) {plan : Bytes} where
   pub by-name-loosened : buildByName p incoming target room ≡ accepted plan → buildByName q incoming target room ≡ accepted plan

@@ -25,9 +25,9 @@ use Rattle.matching.specs.Calls.{buildByNumber}
 use Rattle.matching.proofs.Samples.{built}
 use Rattle.demands.specs.Stated.{SameEntries, bare}
 
--- ---- "For any two accepted tables, of either version, that have the same entries of one owner (owner bytes aside) in the same order, that owner's builds,
--- all else equal, agree in plan, refusal and place." The entries of an owner are `entriesOf` (crate defaults,
--- specs/Table.antt); an answer is the plan, or the refusal and its place.
+-- ---- "For any two accepted tables, of either version, that have the same entries of one owner (owner bytes aside) in
+-- the same order, that owner's builds, all else equal, agree in plan, refusal and place." The entries of an owner are
+-- `entriesOf` (crate defaults, specs/Table.antt); an answer is the plan, or the refusal and its place.
 
 module _ (p : Policy) (index owner : ℕ) (incoming target : Bytes) (space : ℕ) {left right : Bytes} (S : SameEntries owner left right) where
   pub by-number-owned : buildByNumber p index owner incoming target left space ≡ buildByNumber p index owner incoming target right space
@@ -102,7 +102,8 @@ module _ (s : Bytes) where
       entriesIn es (refuse n) = es
       entriesIn es (ok t m) = t .entries
 
--- ---- a table of each version with the same entries of the owner 1, beside which the owner 257 has one of the same id and kind
+-- ---- a table of each version with the same entries of the owner 1, beside which the owner 257 has one of the same id
+-- and kind
 
 -- an initial int8 for the id 2, as bytes and as it is read
 abbrev int8Bytes : ℕ → Bytes

@@ -448,7 +448,8 @@ every : missingOf 3 (defaults 1 initialSeven) ≡ constantOf (1 ∷ 7 ∷ [])
 unfolding built
 every = refl
 
--- ---- required fields (document 02, L5). 54 and 55 are met at their column; the place that a call gives them is 0 (`placeOf`, crate demands).
+-- ---- required fields (document 02, L5). 54 and 55 are met at their column; the place that a call gives them is 0
+-- (`placeOf`, crate demands).
 
 -- a column of version 3 with the mark r: 0 optional, 1 required
 abbrev marked : ℕ → ℕ → ℕ → Bytes → Bytes

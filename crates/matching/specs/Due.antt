@@ -10,7 +10,8 @@ use Rattle.plan.specs.Result.{Result, gives, refuses}
 use Rattle.plan.specs.Run.{valueAt, castLeaf, onStruct, onList, onArray}
 use Rattle.matching.specs.Default.{Defaults, noDefaults, missingValue}
 
--- ---- the incoming type's parts. A type of another kind, which an accepted build has only where it is null, has none: its values are null.
+-- ---- the incoming type's parts. A type of another kind, which an accepted build has only where it is null, has none:
+-- its values are null.
 
 abbrev pub leafIn : ColumnType → LeafType
 leafIn (cleaf l) = l

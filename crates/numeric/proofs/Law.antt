@@ -78,7 +78,8 @@ float-nearest from to b l =
     subst (λ (r : ℕ). Nearest to (value from b) (one from) r) (sym (finite-below (precisionOf from) (emaxOf from) (precisionOf to) (emaxOf to) b l))
     (at-formats to (value from b) (one from) (pow-pos (scale (precisionOf from) (emaxOf from))))
 
--- ---- "subnormals included": the law ranges over all patterns, and these are the numbers of those with an exponent's field of 0, and of the others
+-- ---- "subnormals included": the law ranges over all patterns, and these are the numbers of those with an exponent's
+-- field of 0, and of the others
 
 pub subnormal : (p t : ℕ) → t < hidden p → magnitude p (0 * hidden p + t) ≡ t
 unfolding magnitude
@@ -192,7 +193,8 @@ float-back from to b W l =
 pub integer-kept : (from to : Integer) (b : ℕ) → lowest to ≤ℤ lowest from → highest from ≤ℤ highest to → numberOf to (widened from to b) ≡ numberOf from b
 integer-kept from to b l h = widened-kept from to b l h
 
--- ---- "Date-times: multiply by 1,000 or 1,000,000", refused as too large just when the product is beyond signed 64 bits
+-- ---- "Date-times: multiply by 1,000 or 1,000,000", refused as too large just when the product is beyond signed 64
+-- bits
 
 -- the range of signed 64 bits, as `finer` tests it
 pub within-64 : (z : ℤ) → mag z < 2 ^ 63 → (lowest Int64 ≤ℤ z) × (z ≤ℤ highest Int64)

@@ -184,7 +184,8 @@ mutual
 pub meets-places : (n : Nullness) (r : Bool) (t : ColumnType) → (meets n r t ≡ true) ↔ ((p : List ℕ) → Demanded r t p → allowed (placeIn n p) true ≡ true)
 meets-places n r t = (λ e p d. demanded n d e, λ h. demanding t n r h)
 
--- ---- the moves of a walk (crate walk, specs/Moves.antt), with Γ what is known of the columns where the selector stands
+-- ---- the moves of a walk (crate walk, specs/Moves.antt), with Γ what is known of the columns where the selector
+-- stands
 
 module _ (Γ : Nullnesses) (p : List ℕ) where
   pub place-rename : (s : Selector) (n : Bytes) → placeIn (nullnessOf Γ (rename s n)) p ≡ placeIn (nullnessOf Γ s) p

@@ -71,7 +71,8 @@ unfoldable mutual
   ofElements vnil = nnil
   ofElements (vcons v vs) = joinAll (ncons (ofValue v) nnil) (ofElements vs)
 
--- ---- each selector, over the nullness of the columns: those of a record, of a struct's fields, or the one of an element
+-- ---- each selector, over the nullness of the columns: those of a record, of a struct's fields, or the one of an
+-- element
 
 -- "a position has its column's mark, casts, renames and mappings keep their input's". A cast's input is a leaf: a
 -- result of a nested type is null, with nothing inside.
