@@ -4,16 +4,18 @@
 #   compare/cases.py [VECTORS]
 #   compare/cases.py --list FILE     writes the cases of one file of vectors as a list, to standard output (compare/c/vectors)
 #
-# VECTORS has files with answers of a second implementation, one JSON object a line (default: ../shared/vectors beside the repository).
-# The cases of base.jsonl are taken over, of L01.jsonl those that only decimals can ask, of L02.jsonl those whose answers the spellings
-# of UTC changed and of L03.jsonl those of extra top columns, which stand first there. In base.jsonl no decimal stands; in its policy
-# words bit 14, which is theirs now, is on or off, and changes no answer. In the files before L03.jsonl bit 15, which refuses extra top
-# columns now where it is off, had no meaning: it is turned on. In the files before L05.jsonl a layout of version 3 was none (1), and
-# in those before L07.jsonl a table of version 2: such cases are left out.
-# Layouts at the edges of the rules of documents 01 and 02 are added, whose answers come from the reader below, calls with required
-# fields, whose answers stand in compare/required.py, and builds of the original source (compare/rust/sample.txt). The reader is written from these documents and shares nothing with the library; where it
-# disagrees with an answer of VECTORS, nothing is written and the exit status is 1. Which plans one pass is to settle (docs/ARCHITECTURE.md)
-# is read from the plans' bytes. Written: crates/cases/stdin and crates/cases/stdout.
+# VECTORS has files with answers of a second implementation, one JSON object a line (default: ../shared/vectors beside
+# the repository). The cases of base.jsonl are taken over, of L01.jsonl those that only decimals can ask, of L02.jsonl
+# those whose answers the spellings of UTC changed and of L03.jsonl those of extra top columns, which stand first there.
+# In base.jsonl no decimal stands; in its policy words bit 14, which is theirs now, is on or off, and changes no answer.
+# In the files before L03.jsonl bit 15, which refuses extra top columns now where it is off, had no meaning: it is
+# turned on. In the files before L05.jsonl a layout of version 3 was none (1), and in those before L07.jsonl a table of
+# version 2: such cases are left out. Layouts at the edges of the rules of documents 01 and 02 are added, whose answers
+# come from the reader below, calls with required fields, whose answers stand in compare/required.py, and builds of the
+# original source (compare/rust/sample.txt). The reader is written from these documents and shares nothing with the
+# library; where it disagrees with an answer of VECTORS, nothing is written and the exit status is 1. Which plans one
+# pass is to settle (docs/ARCHITECTURE.md) is read from the plans' bytes. Written: crates/cases/stdin and
+# crates/cases/stdout.
 import itertools
 import json
 import os
@@ -34,7 +36,8 @@ TAKEN = [
     ("L05.jsonl", None, "its answers where fields are required"),
     ("L07.jsonl", None, "its answers where tables have owners"),
 ]
-# The lines of these files whose answers a later request changed: L2 the one, a build from the zone Etc/UTC to Z that was 21.
+# The lines of these files whose answers a later request changed: L2 the one, a build from the zone Etc/UTC to Z that
+# was 21.
 CHANGED = {("base.jsonl", 140)}
 # The files whose policy words have no bit for extra top columns.
 BEFORE_EXTRA_COLUMNS = ("base.jsonl", "L01.jsonl", "L02.jsonl")
@@ -441,7 +444,8 @@ def limits():
     yield lay(1, 4094, *(col(u16(n), b"\x00") for n in range(4093)), col(u16(0), b"\x00"))
 
 
-# Precision and scale at their limits and past them; both bytes are read before they are tested, and before a repeat is looked for.
+# Precision and scale at their limits and past them; both bytes are read before they are tested, and before a repeat is
+# looked for.
 def decimals():
     for version, ident in ((1, None), (2, 7)):
         for precision, scale in itertools.product((0, 1, 2, 9, 17, 18, 19, 20, 127, 128, 255), (0, 1, 2, 9, 17, 18, 19, 20, 128, 255)):
@@ -460,7 +464,8 @@ def decimals():
                 yield lay(version, 1, col(b"a", nested(version, depth, array(2), kind), ident))
 
 
-# The mark of version 3, in a column, a field and an element: 0 or 1, tested before the type and, in an element, before its depth.
+# The mark of version 3, in a column, a field and an element: 0 or 1, tested before the type and, in an element, before
+# its depth.
 def marks():
     label = LABELS[3]
     for mark in (0, 1, 2, 3, 127, 128, 255):

@@ -1,11 +1,11 @@
 #!/usr/bin/env python3
-# Makes the folders of examples/: two layouts, the plan that a builder writes for them, a record, and what the run writes; and of the first also what the program `apply` is tried on
-# (crates/apply/data and stdout).
+# Makes the folders of examples/: two layouts, the plan that a builder writes for them, a record, and what the run
+# writes; and of the first also what the program `apply` is tried on (crates/apply/data and stdout).
 #
 #   compare/examples.py
 #
-# Everything is spelled out below by documents 01 and 02, without the library; .ci/run holds the library to these files (compare/c/examples.c builds each
-# plan again and runs it).
+# Everything is spelled out below by documents 01 and 02, without the library; .ci/run holds the library to these files
+# (compare/c/examples.c builds each plan again and runs it).
 import os
 import struct
 import textwrap
@@ -133,7 +133,8 @@ def table(*entries):
     return b"DEF" + u16(1) + u16(len(entries)) + b"".join(entries)
 
 
-# Each folder: what it shows, the policy word, and its files. With `defaults.def` the plan is built by number, for source 0.
+# Each folder: what it shows, the policy word, and its files. With `defaults.def` the plan is built by number, for
+# source 0.
 ALL_ON = lists.Policy(lists.Refusals()).word()
 
 FOLDERS = {

@@ -4,22 +4,25 @@
  *     gcc -O1 -fno-fast-math -Wall -Wextra -o floats compare/floats.c
  *     ./floats crates/numbers/stdin crates/numbers/stdout
  *
- * What answers. Integers and floats to float and double: the processor's conversions. To and from _Float16: gcc's (12 or later, x86-64), which are
- * libgcc's or the processor's. An integer goes to _Float16 by way of float where gcc does so; nothing is rounded twice, since float holds every
- * integer up to 65,536 and all from 65,520 on are infinity. Each rounded answer is tested here against its two neighbours in __float128, whose 113
- * bits hold every difference that decides: no neighbour is nearer, and at a tie the answer is even. C leaves open which NaN a
- * conversion gives, so a NaN's answer is document 01's: positive, only the top fraction bit set. Date-times: __builtin_mul_overflow, and C's
+ * What answers. Integers and floats to float and double: the processor's conversions. To and from _Float16: gcc's (12
+ * or later, x86-64), which are libgcc's or the processor's. An integer goes to _Float16 by way of float where gcc does
+ * so; nothing is rounded twice, since float holds every integer up to 65,536 and all from 65,520 on are infinity. Each
+ * rounded answer is tested here against its two neighbours in __float128, whose 113 bits hold every difference that
+ * decides: no neighbour is nearer, and at a tie the answer is even. C leaves open which NaN a conversion gives, so a
+ * NaN's answer is document 01's: positive, only the top fraction bit set. Date-times: __builtin_mul_overflow, and C's
  * division corrected to round down. Integers: C's conversions between the <stdint.h> types.
  *
- * What is asked. (1) RFC 8949, Appendix A: its float16, float32 and float64 examples, each widened, each result narrowed back, and the longer
- * ones narrowed; the decimal text that the RFC gives is compared too. (2) Integers of every kind to every format: 0, the range's ends, every power of two
- * and its neighbours, and for every power of two that has to be rounded midpoints of two floats with the integers beside them, after an even and an odd
- * significand. (3) Narrower floats: for each exponent of the target, subnormals included, a float of the target, the midpoint to the next one, and
- * the incoming floats beside both; the midpoint below infinity; the incoming format's ends. (4) Wider floats: every power of two in a
- * pattern and its neighbours, so every subnormal length and every exponent. (5) In (3) and (4) both zeros, both infinities, and NaNs of both signs, quiet
- * and signalling, with payloads. (6) Date-times: the last counts that fit and the first that do not, on both sides of zero, and multiples of the
- * divisor with their neighbours. (7) Every pair of integer kinds whose ranges allow it, at the ends of both ranges. (8) In all of
- * them patterns from a fixed sequence (xorshift64, seed 1), with bits above the number's own, which are not to be looked at.
+ * What is asked. (1) RFC 8949, Appendix A: its float16, float32 and float64 examples, each widened, each result
+ * narrowed back, and the longer ones narrowed; the decimal text that the RFC gives is compared too. (2) Integers of
+ * every kind to every format: 0, the range's ends, every power of two and its neighbours, and for every power of two
+ * that has to be rounded midpoints of two floats with the integers beside them, after an even and an odd significand.
+ * (3) Narrower floats: for each exponent of the target, subnormals included, a float of the target, the midpoint to the
+ * next one, and the incoming floats beside both; the midpoint below infinity; the incoming format's ends. (4) Wider
+ * floats: every power of two in a pattern and its neighbours, so every subnormal length and every exponent. (5) In (3)
+ * and (4) both zeros, both infinities, and NaNs of both signs, quiet and signalling, with payloads. (6) Date-times: the
+ * last counts that fit and the first that do not, on both sides of zero, and multiples of the divisor with their
+ * neighbours. (7) Every pair of integer kinds whose ranges allow it, at the ends of both ranges. (8) In all of them
+ * patterns from a fixed sequence (xorshift64, seed 1), with bits above the number's own, which are not to be looked at.
  */
 #include <stdint.h>
 #include <stdio.h>
@@ -181,7 +184,8 @@ static void divide(int k, uint64_t b) {
     answer((uint64_t)q);
 }
 
-/* ---- (1) RFC 8949, "Concise Binary Object Representation (CBOR)", Appendix A: the text, and the bytes after the initial f9, fa or fb */
+/* ---- (1) RFC 8949, "Concise Binary Object Representation (CBOR)", Appendix A: the text, and the bytes after the
+ * initial f9, fa or fb */
 
 static const struct { const char *text; int format; uint64_t pattern; } examples[] = {
     {"0.0", 0, 0x0000},

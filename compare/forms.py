@@ -1,4 +1,5 @@
-# The byte forms of layouts, tables of defaults, plans and values, put together from their parts; documents 01 and 02 have them.
+# The byte forms of layouts, tables of defaults, plans and values, put together from their parts; documents 01 and 02
+# have them.
 
 
 # --- layouts ------------------------------------------------------------------------------------------------------------------

@@ -1,5 +1,5 @@
-# Calls with required fields: a case or more for each sentence of document 02, L5, and its refusals 54, 55 and 56. Answers are written by hand from it.
-# compare/cases.py puts them into the stored list.
+# Calls with required fields: a case or more for each sentence of document 02, L5, and its refusals 54, 55 and 56.
+# Answers are written by hand from it. compare/cases.py puts them into the stored list.
 from forms import (
     INT8, INT16, LIST, NON_STRICT, NONE, NULL, OVERFLOWING, STRING, array, array_map, cast, col, const, decimal, elements, failed, i8, initial, lay,
     list_map, loaded, parts, plan, pos, rename, struct, struct_map, table,
@@ -79,7 +79,8 @@ def run(due, incoming, target, record, *selectors):
     return answered(["run", str(SPACE)] + [hexed(data) for data in (incoming, target, plan(*selectors), record)], due)
 
 
-# Layouts of versions 2 and 3 may be mixed; version 1 has no ids, and by name takes no other. Older columns are optional.
+# Layouts of versions 2 and 3 may be mixed; version 1 has no ids, and by name takes no other. Older columns are
+# optional.
 def versions():
     bare = plan(pos(0))
     for mark in (O, R):
@@ -114,7 +115,8 @@ def dropped():
     yield check(33, three((O, inner)), three((R, INT8)), pos(0))
 
 
-# 55 where a field meets another in a build: before their types; of elements after kind, width and 25; a struct's 13 before its fields'.
+# 55 where a field meets another in a build: before their types; of elements after kind, width and 25; a struct's 13
+# before its fields'.
 def meeting():
     strict = ALL & ~IGNORE_FIELDS
     yield build(55, three((O, INT8)), three((R, INT8)))

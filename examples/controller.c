@@ -1,4 +1,5 @@
-/* How a controller uses the library: a plan is built and checked once for two layouts, then run for every record that arrives.
+/* How a controller uses the library: a plan is built and checked once for two layouts, then run for every record that
+ * arrives.
  *
  *   rt staticlib selector
  *   cc -std=c11 -Iinclude -o controller examples/controller.c target/staticlib/libselector.a
@@ -18,7 +19,8 @@ static const uint8_t record[] = {1, 0xFE, 0xFF};
 static uint8_t plan[SELECTOR_PLAN_MAX];
 static uint8_t output[SELECTOR_RECORD_MAX];
 
-/* The length of an accepted result. A refusal is told by its number and place, as a fitter looks it up in selector.h. */
+/* The length of an accepted result. A refusal is told by its number and place, as a fitter looks it up in
+ * selector.h. */
 static size_t accepted(const char *call, uint64_t answer) {
     if (SELECTOR_NUMBER(answer) != 0) {
         fprintf(stderr, "%s: refused %u, place %u\n", call, SELECTOR_NUMBER(answer), SELECTOR_REST(answer));

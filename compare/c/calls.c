@@ -1,12 +1,13 @@
-/* Replays the builds, checks and runs of a list of cases (its form: the head of crates/cases/stdin) through the C interface, then damages their
- * inputs at random and holds the calls to what the header promises of every call.
+/* Replays the builds, checks and runs of a list of cases (its form: the head of crates/cases/stdin) through the C
+ * interface, then damages their inputs at random and holds the calls to what the header promises of every call.
  *
  *   calls LIST [ROUNDS [SEED]]
  *
- * Each input and the lent buffer ends right before a page that cannot be touched, and in a second pass begins right after one, so that a read or
- * write outside of it ends the program. Of damaged inputs it is tested that a refused call changes nothing of the buffer, that an accepted one changes no
- * byte after its result, that the number is one of the call's, and that a plan which was built passes the check between its own layouts.
- * One line sums up; the exit status is 1 where anything differs. */
+ * Each input and the lent buffer ends right before a page that cannot be touched, and in a second pass begins right
+ * after one, so that a read or write outside of it ends the program. Of damaged inputs it is tested that a refused
+ * call changes nothing of the buffer, that an accepted one changes no byte after its result, that the number is one
+ * of the call's, and that a plan which was built passes the check between its own layouts. One line sums up; the
+ * exit status is 1 where anything differs. */
 #define _DEFAULT_SOURCE
 #include "list.h"
 #include "selector.h"
@@ -17,7 +18,8 @@
 
 enum { INPUTS = 4, SPACE = 73728, FILL = 165, NUMBERS = 128 };
 
-/* --- memory between pages that cannot be touched ------------------------------------------------------------------------------ */
+/* --- memory between pages that cannot be touched
+ * ------------------------------------------------------------------------------ */
 
 static uint8_t *rooms[INPUTS + 1]; /* SPACE bytes each; the last is the lent buffer */
 
@@ -28,7 +30,8 @@ static void make_rooms(void) {
 
 static uint8_t *place(int i, size_t length, int before_end) { return before_end ? rooms[i] + SPACE - length : rooms[i]; }
 
-/* --- a case ------------------------------------------------------------------------------------------------------------------- */
+/* --- a case
+ * ------------------------------------------------------------------------------------------------------------------- */
 
 enum kind { BUILD_NAME, BUILD_NUMBER, CHECK, RUN, KINDS };
 
@@ -74,7 +77,8 @@ static int is_filled(const uint8_t *bytes, size_t length) {
     return 1;
 }
 
-/* --- the list ----------------------------------------------------------------------------------------------------------------- */
+/* --- the list
+ * ----------------------------------------------------------------------------------------------------------------- */
 
 static unsigned long differences, cases[KINDS];
 
@@ -133,7 +137,8 @@ static void replay(unsigned long line, const call *c, const char *number, const 
     }
 }
 
-/* --- damaged inputs ----------------------------------------------------------------------------------------------------------- */
+/* --- damaged inputs
+ * ----------------------------------------------------------------------------------------------------------- */
 
 static uint64_t state;
 static unsigned long met[KINDS][NUMBERS], accepted[KINDS];

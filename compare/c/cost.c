@@ -1,4 +1,5 @@
-/* What the calls cost: the stack of the deepest layouts, measured on a thread's painted stack, and the time of the widest ones.
+/* What the calls cost: the stack of the deepest layouts, measured on a thread's painted stack, and the time of the
+ * widest ones.
  *
  * The exit status is 1 where a call takes more stack than include/selector.h says. */
 #define _DEFAULT_SOURCE

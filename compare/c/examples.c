@@ -1,4 +1,5 @@
-/* Holds the library to the folders of examples/: builds each plan again from the two layouts, checks it and runs it over the record.
+/* Holds the library to the folders of examples/: builds each plan again from the two layouts, checks it and runs it
+ * over the record.
  *
  *   examples FOLDER...
  */

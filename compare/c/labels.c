@@ -1,7 +1,8 @@
-/* Builds whose labels were chosen to share one chain of a table, as one who reads crates/layout/src/seen.rt and crates/labels/src/lib.rt would choose them: names that are all found, names
- * that are all missing, types that take long to pass over, at the top, in a struct, and in a struct inside two others; and labels that are all looked for from one slot of the table of
- * labels that were read. The hash is worked out here again.
- * The exit status is 1 where a build is refused or takes more than a second of processor time. */
+/* Builds whose labels were chosen to share one chain of a table, as one who reads crates/layout/src/seen.rt and
+ * crates/labels/src/lib.rt would choose them: names that are all found, names that are all missing, types that take
+ * long to pass over, at the top, in a struct, and in a struct inside two others; and labels that are all looked for
+ * from one slot of the table of labels that were read. The hash is worked out here again. The exit status is 1 where
+ * a build is refused or takes more than a second of processor time. */
 #define _DEFAULT_SOURCE
 #include "selector.h"
 
@@ -113,7 +114,8 @@ static void expect(const char *name) {
         failed = 1;
 }
 
-/* Incoming columns inside so many lists against target columns, at the top (`around` is -1) or in a struct inside so many others. */
+/* Incoming columns inside so many lists against target columns, at the top (`around` is -1) or in a struct inside so
+ * many others. */
 static void against(const char *name, int around, const labels *in, int lists, const labels *out) {
     int version = in->size == 0 ? 2 : 1;
     if (around < 0)
@@ -137,7 +139,8 @@ static void behind_lists(void) {
     expect("1,637 names looked for from one slot, behind 409 columns of lists");
 }
 
-/* Ids of a struct's fields once more outside it, behind lists. Its fields begin at 26, where an id's slot is two before its slot at the top. */
+/* Ids of a struct's fields once more outside it, behind lists. Its fields begin at 26, where an id's slot is two
+ * before its slot at the top. */
 static void outside(void) {
     labels ids = crowded(680, 0, 26);
     head(&target, 2, 1 + 83 + ids.count);

@@ -1,4 +1,5 @@
-/* What the programs share that replay a list of cases (its form: the head of crates/cases/stdin) and damage its inputs. They define _DEFAULT_SOURCE. */
+/* What the programs share that replay a list of cases (its form: the head of crates/cases/stdin) and damage its
+ * inputs. They define _DEFAULT_SOURCE. */
 #ifndef LIST_H
 #define LIST_H
 

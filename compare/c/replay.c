@@ -1,10 +1,12 @@
-/* Replays the layouts of a list of cases (its form: the head of crates/cases/stdin) through the C interface, and tries damaged layouts.
+/* Replays the layouts of a list of cases (its form: the head of crates/cases/stdin) through the C interface, and tries
+ * damaged layouts.
  *
  *   replay LIST [ROUNDS [SEED]]
  *
- * Each input ends right before a page that cannot be read, and in a second pass begins right after one, so that a read outside of it
- * ends the program. Then ROUNDS layouts (default 300,000) are made at random and damaged; each answer is compared with that of a second
- * reader, below, which is written from documents 01 and 02 alone. One line sums up; the exit status is 1 where anything differs. */
+ * Each input ends right before a page that cannot be read, and in a second pass begins right after one, so that a
+ * read outside of it ends the program. Then ROUNDS layouts (default 300,000) are made at random and damaged; each
+ * answer is compared with that of a second reader, below, which is written from documents 01 and 02 alone. One line
+ * sums up; the exit status is 1 where anything differs. */
 #define _DEFAULT_SOURCE
 #include "list.h"
 #include "selector.h"
@@ -15,7 +17,8 @@
 
 enum { LIMIT = 16384, SPACE = 20480, MOST_DEPTH = 16 };
 
-/* --- inputs between pages that cannot be read --------------------------------------------------------------------------------- */
+/* --- inputs between pages that cannot be read
+ * --------------------------------------------------------------------------------- */
 
 static uint8_t *room; /* SPACE bytes, with a page that cannot be read on either side */
 
@@ -26,7 +29,8 @@ static const uint8_t *placed(const uint8_t *bytes, size_t length, int before_end
     return to;
 }
 
-/* --- a second reader of layouts, from documents 01 and 02 --------------------------------------------------------------------- */
+/* --- a second reader of layouts, from documents 01 and 02
+ * --------------------------------------------------------------------- */
 
 typedef struct {
     const uint8_t *bytes;
@@ -150,7 +154,8 @@ static unsigned second_answer(const uint8_t *bytes, size_t length) {
     return r.refusal;
 }
 
-/* --- the list ----------------------------------------------------------------------------------------------------------------- */
+/* --- the list
+ * ----------------------------------------------------------------------------------------------------------------- */
 
 static unsigned long differences;
 
@@ -208,7 +213,8 @@ static void one_line(unsigned long line, char *text) {
     }
 }
 
-/* --- layouts at random -------------------------------------------------------------------------------------------------------- */
+/* --- layouts at random
+ * -------------------------------------------------------------------------------------------------------- */
 
 static uint64_t state;
 

@@ -1,8 +1,11 @@
-/* Part of bounded.c: the check of required marks, at its dearest. Every required place of the target asks what the plan gives there, so plans are made in which each answer is far: in every
- * element of a large constant, behind a large constant, behind a column of a long type, below mappings one over another or inside each other. Each plan is tried as it passes, and
- * with a null at the last place that is looked at, or an optional field there (55). Then builds whose missing structs have a default for each required field, or for all but the last (54). */
+/* Part of bounded.c: the check of required marks, at its dearest. Every required place of the target asks what the
+ * plan gives there, so plans are made in which each answer is far: in every element of a large constant, behind a
+ * large constant, behind a column of a long type, below mappings one over another or inside each other. Each plan is
+ * tried as it passes, and with a null at the last place that is looked at, or an optional field there (55). Then
+ * builds whose missing structs have a default for each required field, or for all but the last (54). */
 
-/* As many int8 columns without names as a layout of version 3 has, less what is around them; and a default for each of so many in a table. */
+/* As many int8 columns without names as a layout of version 3 has, less what is around them; and a default for each
+ * of so many in a table. */
 enum { MARKED = 2330, DEFAULTED = 2040, NESTED_STRUCTS = 14 };
 
 enum { OPTIONAL, REQUIRED };
@@ -33,7 +36,8 @@ static void int8_fields(text *t, int fields, int required, int last) {
         int8_of(t, (uint32_t)i, i + 1 == fields ? last : required);
 }
 
-/* One column: so many lists around a struct of such fields. All lists and elements are optional but where `required` says otherwise. */
+/* One column: so many lists around a struct of such fields. All lists and elements are optional but where `required`
+ * says otherwise. */
 static void wide_of(text *t, int lists, int fields, int required, int last) {
     head_of_three(t, 1);
     label_of(t, 0, required);
@@ -88,7 +92,8 @@ static void large_constants(void) {
     }
 }
 
-/* A mapping over a struct constant, or an incoming struct: a constant list, then the fields from the last to the first. */
+/* A mapping over a struct constant, or an incoming struct: a constant list, then the fields from the last to the
+ * first. */
 static void mapped_of(text *t, int constant, int fields, int null) {
     mark(t, "PLN", 1);
     put(t, 4, 1);
@@ -126,7 +131,8 @@ static void wide_mappings(void) {
     }
 }
 
-/* Struct mappings one over another, as in turning_of, over fields that are required; the last is optional where it is said. */
+/* Struct mappings one over another, as in turning_of, over fields that are required; the last is optional where it
+ * is said. */
 static void marked_turns(void) {
     for (int optional = 0; optional < 2; optional++) {
         wide_of(&incoming, 0, FIELDS, REQUIRED, optional ? OPTIONAL : REQUIRED);
@@ -225,7 +231,8 @@ static void cast_nulls(void) {
     }
 }
 
-/* A missing column of structs in structs, the innermost with required fields that have a default each, the last where it is said. */
+/* A missing column of structs in structs, the innermost with required fields that have a default each, the last
+ * where it is said. */
 static void expect_defaults(int lacking) {
     struct timespec from;
     mark(&incoming, "LAY", 0);

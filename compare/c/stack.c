@@ -1,5 +1,6 @@
-/* The stack that each call takes, measured on a thread's painted stack: over the cases of a list (its form: the head of crates/cases/stdin) and over the deepest
- * layouts and plans. The exit status is 1 where a call takes more than include/selector.h says.
+/* The stack that each call takes, measured on a thread's painted stack: over the cases of a list (its form: the head of
+ * crates/cases/stdin) and over the deepest layouts and plans. The exit status is 1 where a call takes more than
+ * include/selector.h says.
  *
  *   stack LIST
  */
@@ -72,7 +73,8 @@ static void measure(void) {
         most[kind] = taken;
 }
 
-/* --- the list ----------------------------------------------------------------------------------------------------------------- */
+/* --- the list
+ * ----------------------------------------------------------------------------------------------------------------- */
 
 static void one_case(enum kind k, char *rest) {
     char *word = strtok(rest, " ");
@@ -109,7 +111,8 @@ static void one_line(unsigned long line, char *text) {
     }
 }
 
-/* --- the deepest layouts ------------------------------------------------------------------------------------------------------ */
+/* --- the deepest layouts
+ * ------------------------------------------------------------------------------------------------------ */
 
 static void put(int i, uint64_t value, int count) {
     for (int k = 0; k < count; k++)
@@ -183,10 +186,11 @@ static void deepest(void) {
         }
 }
 
-/* --- the deepest plans -------------------------------------------------------------------------------------------------------- */
+/* --- the deepest plans
+ * -------------------------------------------------------------------------------------------------------- */
 
-/* Selectors 64 deep, one inside another: fields of struct mappings (4), elements of list or array mappings (5, 6), or inputs of renames (3). Most are refused, but only once the
- * innermost has been looked at. */
+/* Selectors 64 deep, one inside another: fields of struct mappings (4), elements of list or array mappings (5, 6),
+ * or inputs of renames (3). Most are refused, but only once the innermost has been looked at. */
 static void nested_plan(uint32_t code, int levels) {
     length[2] = 0;
     put(2, 'P' | 'L' << 8 | 'N' << 16, 3);
@@ -286,8 +290,8 @@ static void fields_by(uint32_t levels) {
 /* A leaf of the record: null, in version 3 a value. */
 static void leaf_of(uint32_t version) { put(3, version == 3, version == 3 ? 3 : 1); }
 
-/* Struct mappings one over another, the outermost over all levels of its struct: what one pass writes out, in its longer buffers. In version 3 the check follows every required place
- * through all of them. */
+/* Struct mappings one over another, the outermost over all levels of its struct: what one pass writes out, in its
+ * longer buffers. In version 3 the check follows every required place through all of them. */
 static void composed_plans(uint32_t version) {
     for (uint32_t levels = 0; levels <= 14; levels += 7) {
         between_nested(version, 32, 32);
@@ -315,7 +319,8 @@ static void composed_plans(uint32_t version) {
     }
 }
 
-/* A required place that is 15 lists deep: in a constant, in mappings one inside another, and below a null that is cast. */
+/* A required place that is 15 lists deep: in a constant, in mappings one inside another, and below a null that is
+ * cast. */
 static void required_places(void) {
     length[0] = 0;
     put(0, 'L' | 'A' << 8 | 'Y' << 16, 3);

@@ -1,4 +1,5 @@
-//! As firmware calls it: nothing is allocated, the policy is a constant, and the buffers stand where the caller put them.
+//! As firmware calls it: nothing is allocated, the policy is a constant, and the buffers stand where the caller put
+//! them.
 //! `cargo run --no-default-features --example fixed`.
 
 use column_selector::{Incoming, Layout, Plan, Policy, Record, Refusal, Target};

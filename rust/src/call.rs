@@ -1,5 +1,5 @@
-//! The functions of libselector.a, with slices for pointers and lengths, and any policy word. The answer of an accepted build or run is the result's
-//! length, that of any other accepted call 0.
+//! The functions of libselector.a, with slices for pointers and lengths, and any policy word. The answer of an accepted
+//! build or run is the result's length, that of any other accepted call 0.
 
 use crate::Refusal;
 
@@ -61,8 +61,8 @@ fn answered(answer: u64) -> Result<usize, Refusal> {
     }
 }
 
-// SAFETY of the calls below: a slice's pointer is not null and valid for its length; a buffer is lent for writing, so that nothing else refers to it and it
-// overlaps no other slice.
+// SAFETY of the calls below: a slice's pointer is not null and valid for its length; a buffer is lent for writing, so
+// that nothing else refers to it and it overlaps no other slice.
 
 /// `selector_read_layout`.
 pub fn read_layout(layout: &[u8]) -> Result<usize, Refusal> {

@@ -31,8 +31,8 @@
 //! The feature `alloc`, which is on by default, adds `PlanBuf` and `Plan::run`, whose results own their bytes;
 //! without it nothing of the crate allocates. [`call`] has the functions of the C interface over slices.
 //!
-//! The stack that a call takes stands in `include/selector.h`: at most 136 KiB for a build, 160 KiB for a check, 168 KiB
-//! for a run.
+//! The stack that a call takes stands in `include/selector.h`: at most 136 KiB for a build, 160 KiB for a check, 168
+//! KiB for a run.
 #![no_std]
 #![warn(missing_docs)]
 

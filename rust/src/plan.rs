@@ -3,8 +3,8 @@
 use crate::{Defaults, Incoming, Plan, Policy, Record, Refusal, Target, call};
 
 impl<'a> Plan<'a> {
-    /// The plan that takes records of one layout to another, columns matched by name. Both layouts are of version 1. The
-    /// plan stands at the buffer's start, and nothing changes after it; a refused build changes nothing.
+    /// The plan that takes records of one layout to another, columns matched by name. Both layouts are of version 1.
+    /// The plan stands at the buffer's start, and nothing changes after it; a refused build changes nothing.
     pub fn build_by_name_into(
         policy: Policy,
         incoming: Incoming,
@@ -43,8 +43,8 @@ impl<'a> Plan<'a> {
         call::check_plan(incoming, target, self.as_bytes()).map(drop)
     }
 
-    /// Runs the plan over one record of the incoming layout: all of the check, then the record of the target layout, which
-    /// stands at the buffer's start. Nothing changes after it, and nothing at all where the run is refused.
+    /// Runs the plan over one record of the incoming layout: all of the check, then the record of the target layout,
+    /// which stands at the buffer's start. Nothing changes after it, and nothing at all where the run is refused.
     pub fn run_into<'o>(
         self,
         incoming: Incoming,

@@ -1,4 +1,5 @@
-//! The bindings over the library: samples of document 01, the folders of examples/ with what the one of decimals tells, and what is promised of buffers.
+//! The bindings over the library: samples of document 01, the folders of examples/ with what the one of decimals tells,
+//! and what is promised of buffers.
 
 use column_selector::{
     Defaults, ExtraColumns, Incoming, Layout, Place, Plan, PlanBuf, Policy, Reason, Record,
@@ -218,7 +219,8 @@ fn owners() {
     assert_eq!(two.with_owner(2).owner(), 2);
 }
 
-/// What examples/gates/about.txt says of a missing default, of a neighbour whose level is optional, and of a record without a level.
+/// What examples/gates/about.txt says of a missing default, of a neighbour whose level is optional, and of a record
+/// without a level.
 #[test]
 fn gates() {
     let folder = PathBuf::from(env!("CARGO_MANIFEST_DIR")).join("../examples/gates");
@@ -253,7 +255,8 @@ fn gates() {
     );
 }
 
-/// What examples/salinometer/about.txt says of other policies and of the other way round, and the record that has too many digits.
+/// What examples/salinometer/about.txt says of other policies and of the other way round, and the record that has too
+/// many digits.
 #[test]
 fn salinometer() {
     let folder = PathBuf::from(env!("CARGO_MANIFEST_DIR")).join("../examples/salinometer");

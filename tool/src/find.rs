@@ -12,8 +12,8 @@ pub use marks::optional_place;
 pub use run::Run;
 pub use selector::refused_selector;
 
-/// Of the parts of an input, each one longer, the first that is refused, counted from 0. None where the whole of `count`
-/// parts is not.
+/// Of the parts of an input, each one longer, the first that is refused, counted from 0. None where the whole of
+/// `count` parts is not.
 fn first_refused(count: usize, refused: impl Fn(usize) -> Option<bool>) -> Option<usize> {
     let (mut passes, mut refuses) = (0, count);
     if !refused(refuses)? {

@@ -6,8 +6,8 @@ use std::collections::BTreeSet;
 /// The most columns and fields in a type that is followed; the check refuses larger ones.
 const SIZE_LIMIT: usize = 16_384;
 
-/// The column that a selector makes of the columns around it; none where it takes one that is not there, maps what is of
-/// another kind, or makes too large a type.
+/// The column that a selector makes of the columns around it; none where it takes one that is not there, maps what is
+/// of another kind, or makes too large a type.
 pub fn made(selector: &Selector, scope: &[Column]) -> Option<Column> {
     match selector {
         Selector::Position(position) => scope.get(usize::from(*position)).cloned(),

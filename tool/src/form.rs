@@ -31,8 +31,8 @@ pub fn marked(version: u16) -> bool {
     version >= 3
 }
 
-/// A column, a struct's field or an element. The id is 0 where the layout has none, an element's name empty, and none is
-/// required where the layout can't say it.
+/// A column, a struct's field or an element. The id is 0 where the layout has none, an element's name empty, and none
+/// is required where the layout can't say it.
 #[derive(Clone, Debug, PartialEq, Eq)]
 pub struct Column {
     pub name: Bytes,

@@ -177,8 +177,8 @@ pub fn flag(name: &str) -> Option<Policy> {
     Some(Policy::from_word(1 << found.bit))
 }
 
-/// A policy in words: `all`, `none`, a word such as `0x7fff`, and flags, each put in or, after `-`, taken away from what
-/// stands before it. Where the first takes one away, it is from all.
+/// A policy in words: `all`, `none`, a word such as `0x7fff`, and flags, each put in or, after `-`, taken away from
+/// what stands before it. Where the first takes one away, it is from all.
 pub fn policy(text: &str) -> Result<Policy, String> {
     let mut policy = match text.starts_with('-') {
         true => Policy::ALL,

@@ -95,8 +95,8 @@ fn half_below(value: f64) -> (u16, f64) {
     (bits as u16, scaled - whole)
 }
 
-/// The nearest float16, ties to even. A decimal that is so near to a tie that its float64 is the tie is compared with it
-/// digit by digit.
+/// The nearest float16, ties to even. A decimal that is so near to a tie that its float64 is the tie is compared with
+/// it digit by digit.
 fn half_of(decimal: &Decimal, text: &str) -> u16 {
     let value: f64 = text.parse().unwrap_or(f64::INFINITY);
     if value >= 65_536.0 {

@@ -1,5 +1,5 @@
-//! Every byte of the examples cut off or changed: the readers find the refusal that the library gives, at that byte or a
-//! later one.
+//! Every byte of the examples cut off or changed: the readers find the refusal that the library gives, at that byte or
+//! a later one.
 
 mod common;
 

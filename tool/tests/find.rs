@@ -140,7 +140,8 @@ fn required_fields() {
     let refused = |incoming: &str, target: &str, defaults: &str| {
         refused(3, "all", incoming, target, defaults)
     };
-    // An optional field meets a required one: at the top, in a struct, in an element, and each before what is inside it.
+    // An optional field meets a required one: at the top, in a struct, in an element, and each before what is inside
+    // it.
     assert_eq!(
         refused(
             "a @1: int8, b @2: int8",

@@ -1,5 +1,5 @@
-//! The two builders: "Matching", "Leaf pairs" and "Defaults" in document 01, with document 02's L1, L2, L3, L5 and L7. The plan is written as it is
-//! found; what was written of a mapping that is left out is taken back.
+//! The two builders: "Matching", "Leaf pairs" and "Defaults" in document 01, with document 02's L1, L2, L3, L5 and L7.
+//! The plan is written as it is found; what was written of a mapping that is left out is taken back.
 
 use crate::form::{
     Column, Default, Entry, Fault, Layout, Leaf, PLAN_LIMIT, Type, write_text, write_type,
@@ -339,7 +339,8 @@ impl<'a> Build<'a> {
         Ok(())
     }
 
-    /// A column that meets its counterpart: first the marks, then the types; by number with a rename outside where names differ.
+    /// A column that meets its counterpart: first the marks, then the types; by number with a rename outside where
+    /// names differ.
     fn columns(&mut self, at: usize, from: &Column, to: &Column) -> Result<(), Fault> {
         let optional = !from.required || from.type_ == Type::Leaf(Leaf::Plain(0));
         if to.required && optional {

@@ -141,7 +141,8 @@ impl Pairing<'_> {
     }
 }
 
-/// The record due to an accepted build, for a buffer of `space` bytes: 44 where a date-time in it is too large, 45 where it is too long.
+/// The record due to an accepted build, for a buffer of `space` bytes: 44 where a date-time in it is too large, 45
+/// where it is too long.
 pub fn due(
     pairing: Pairing,
     incoming: &Layout,

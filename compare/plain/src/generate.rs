@@ -1,5 +1,5 @@
-//! Pairs of related layouts: the target is the incoming layout reordered, renamed, retyped, with columns dropped, added, given other
-//! ids or repeated names, at every level.
+//! Pairs of related layouts: the target is the incoming layout reordered, renamed, retyped, with columns dropped,
+//! added, given other ids or repeated names, at every level.
 
 pub mod damage;
 pub mod marks;

@@ -1,5 +1,6 @@
-//! The rules of documents 01 and 02 (L1 to L7) in plain Rust: reading layouts, building, checking and running plans, and the record due to a build. It shares
-//! nothing with the proved library: `trial` holds the one against the other, and it is what the library's time is measured against.
+//! The rules of documents 01 and 02 (L1 to L7) in plain Rust: reading layouts, building, checking and running plans,
+//! and the record due to a build. It shares nothing with the proved library: `trial` holds the one against the other,
+//! and it is what the library's time is measured against.
 //!
 //! Also here is what makes inputs for both: layouts, tables, records and plans at random, and how they are damaged.
 

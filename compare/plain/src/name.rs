@@ -1,4 +1,5 @@
-//! A column's name: as many bytes as most names have stand in it, so that a tree of columns is read without a string on the heap for each.
+//! A column's name: as many bytes as most names have stand in it, so that a tree of columns is read without a string on
+//! the heap for each.
 
 use std::fmt;
 use std::hash::{Hash, Hasher};

@@ -1,5 +1,5 @@
-//! Nullness (document 02, L5): what is known of each place of a column that a selector gives, and whether it will do for
-//! a target with required fields. The plan has passed all other tests of the check.
+//! Nullness (document 02, L5): what is known of each place of a column that a selector gives, and whether it will do
+//! for a target with required fields. The plan has passed all other tests of the check.
 
 use crate::form::{Column, Leaf, Type};
 use crate::selector::Selector;
@@ -146,7 +146,8 @@ pub fn has_required(columns: &[Column]) -> bool {
     })
 }
 
-/// Marks each place of the columns that a plan gives where it may be required, and so each that it does not give; the others become optional.
+/// Marks each place of the columns that a plan gives where it may be required, and so each that it does not give; the
+/// others become optional.
 pub fn mark(incoming: &[Column], plan: &[Selector], target: &mut [Column]) {
     let scope = Some(incoming.iter().map(Nullness::of).collect());
     for (selector, column) in plan.iter().zip(target) {

@@ -1,9 +1,10 @@
 //! The run of a checked plan over a record that fits.
 //!
-//! Values are worked out when they are asked for, since what a mapping drops must not be: a mapped struct, list or array is a view of its input and the
-//! selectors over it. A plan can ask for an output far past any limit (a list of 300 elements in each element of another, and so on), so the output is
-//! written no further than the limit. What follows is then searched for an overflow, every view once: views are equal when they have the same
-//! origin and the same selectors over it, and of these there are no more than selectors times values.
+//! Values are worked out when they are asked for, since what a mapping drops must not be: a mapped struct, list or
+//! array is a view of its input and the selectors over it. A plan can ask for an output far past any limit (a list of
+//! 300 elements in each element of another, and so on), so the output is written no further than the limit. What
+//! follows is then searched for an overflow, every view once: views are equal when they have the same origin and the
+//! same selectors over it, and of these there are no more than selectors times values.
 
 use crate::form::{Fault, RECORD_LIMIT, Type};
 use crate::hash::{FastMap, FastSet};

@@ -1,4 +1,5 @@
-//! Reading a layout without making a tree of it: what a reader in Rust costs that only says whether a layout can be read.
+//! Reading a layout without making a tree of it: what a reader in Rust costs that only says whether a layout can be
+//! read.
 
 use crate::form::{DEPTH_LIMIT, Fault, PRECISION_LIMIT, layout_head};
 use crate::reader::{Reader, Siblings};

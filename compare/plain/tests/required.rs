@@ -1,4 +1,5 @@
-//! Required fields at random, on plain Rust alone: what a plan that passes the check writes fits its target, marks included, and plans that are built pass it.
+//! Required fields at random, on plain Rust alone: what a plan that passes the check writes fits its target, marks
+//! included, and plans that are built pass it.
 
 use plain::call;
 use plain::case::Case;

@@ -1,5 +1,5 @@
-//! S1 to S12 of document 01 on the check and the run, and the limits of decimals in document 02, L1. Where a sample speaks of a build, its plan is
-//! written here.
+//! S1 to S12 of document 01 on the check and the run, and the limits of decimals in document 02, L1. Where a sample
+//! speaks of a build, its plan is written here.
 
 use plain::call::{Refusal, check_plan, read_layout, run};
 use plain::form::{Column, Layout, Leaf, Type, write_layout};

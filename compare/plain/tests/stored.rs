@@ -1,4 +1,5 @@
-//! The stored list of cases (crates/cases/stdin) on plain's calls; plans that were built are checked, and run beside the record due.
+//! The stored list of cases (crates/cases/stdin) on plain's calls; plans that were built are checked, and run beside
+//! the record due.
 
 use plain::call;
 use plain::due::{Pairing, due};

@@ -1,6 +1,7 @@
-//! What the calls cost in the library and in plain Rust, measured side by side in one run and printed as ratios. The plain Rust of a build is the original over
-//! its stand-ins, that of the other calls compare/plain; all go from bytes to bytes, with their allocations. Names of up to 22 bytes stand in place, and keys
-//! have a fast hash, in the stand-ins too.
+//! What the calls cost in the library and in plain Rust, measured side by side in one run and printed as ratios. The
+//! plain Rust of a build is the original over its stand-ins, that of the other calls compare/plain; all go from bytes
+//! to bytes, with their allocations. Names of up to 22 bytes stand in place, and keys have a fast hash, in the
+//! stand-ins too.
 
 mod records;
 mod refused;
@@ -112,8 +113,8 @@ fn type_of(index: usize, role: Role, order: Order) -> Type {
     }
 }
 
-/// Of `count` columns the incoming layout lacks a tenth. By number the original's comparison has no missing top columns, so there the target does too. In version 3
-/// every column, field and element is required.
+/// Of `count` columns the incoming layout lacks a tenth. By number the original's comparison has no missing top
+/// columns, so there the target does too. In version 3 every column, field and element is required.
 fn layout(version: u8, count: usize, role: Role, order: Order, place: Place) -> Vec<u8> {
     let missing = role == Role::Incoming || version >= 2;
     let mut columns: Vec<Column> = (0..count)
@@ -465,8 +466,8 @@ impl Planned {
         Planned::of(case, plan)
     }
 
-    /// A plan that no builder writes, but two built plans made into one would be such: each leaf is cast twice, each fifth column is a struct whose fields are turned
-    /// round twice.
+    /// A plan that no builder writes, but two built plans made into one would be such: each leaf is cast twice, each
+    /// fifth column is a struct whose fields are turned round twice.
     fn twice(count: usize) -> Option<Planned> {
         let layout = |code: u8| {
             let named = |name: String, type_: Type| Column::of(name.as_bytes(), type_);
@@ -670,7 +671,8 @@ pub fn run() -> Result<(), String> {
 /// How many columns are missing in a build with a full table of defaults.
 const MISSING: usize = 600;
 
-/// A table of as many entries as fit, with values of int8. In version 2 they are of four owners in turn. The ids are those of the missing columns, or others.
+/// A table of as many entries as fit, with values of int8. In version 2 they are of four owners in turn. The ids are
+/// those of the missing columns, or others.
 fn full_table(version: u8, first: u32) -> Vec<u8> {
     let entry = |index: u32| Entry {
         id: first + if version == 1 { index } else { index / 4 },

@@ -1,4 +1,5 @@
-//! Which cases the comparison takes where decimals stand: those with the flag for their widening off, where a widening is the original's plain mismatch.
+//! Which cases the comparison takes where decimals stand: those with the flag for their widening off, where a widening
+//! is the original's plain mismatch.
 
 use plain::case::Case;
 use plain::form::{self, Column, Layout, Leaf, Type};

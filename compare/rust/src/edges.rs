@@ -239,7 +239,8 @@ fn defaults(cases: &mut Vec<Case>) {
     cases.push(by_number(ALL, &top(&field), &top(&field), &failed));
 }
 
-/// Decimals, with the flag for their widening off: equal ones, a widening, and pairs that no flag allows, alone, as a field and as an element.
+/// Decimals, with the flag for their widening off: equal ones, a widening, and pairs that no flag allows, alone, as a
+/// field and as an element.
 fn decimals(cases: &mut Vec<Case>) {
     let policy = ALL & !DECIMAL_WIDENING;
     let field = |type_: &Type| structure(&[int8("z", 2), column("a", 3, type_.clone())]);

@@ -1,4 +1,5 @@
-//! Every pair of leaf kinds, date-times with seven zones, decimals with four pairs of precision and scale, by name and by number.
+//! Every pair of leaf kinds, date-times with seven zones, decimals with four pairs of precision and scale, by name and
+//! by number.
 
 use crate::decimals;
 use plain::case::{Case, Number};

@@ -1,5 +1,5 @@
-//! What the original answers to a case: its arguments turned into the original's types, its selectors into plan bytes, its errors
-//! into numbers.
+//! What the original answers to a case: its arguments turned into the original's types, its selectors into plan bytes,
+//! its errors into numbers.
 
 use crate::decimals;
 use crate::nodes::io_sources::multi_scan::components::column_selector::ColumnSelector;
@@ -331,7 +331,8 @@ fn decimal(text: &str) -> Option<(u8, u8)> {
     Some((precision.parse().ok()?, scale.parse().ok()?))
 }
 
-/// A mismatch that says no more: 24, and 51 where its two types are decimals that the flag, which the original lacks, would widen.
+/// A mismatch that says no more: 24, and 51 where its two types are decimals that the flag, which the original lacks,
+/// would widen.
 fn plain_mismatch(text: &str) -> u32 {
     let types = || {
         let (rest, target) = text.rsplit_once(" != target: ")?;

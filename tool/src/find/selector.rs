@@ -49,8 +49,8 @@ fn descend(
     descend(refusal, member, &inner, path)
 }
 
-/// Whether a plan of this selector alone is refused so, the columns around it being the incoming ones. Their names have no
-/// effect; they are made different, as those of a layout have to be.
+/// Whether a plan of this selector alone is refused so, the columns around it being the incoming ones. Their names have
+/// no effect; they are made different, as those of a layout have to be.
 fn refuses(refusal: Refusal, selector: &Selector, scope: &[Column]) -> bool {
     let named = |(index, column): (usize, &Column)| Column {
         name: index.to_string().into_bytes(),

@@ -20,7 +20,8 @@ pub fn in_word(letter: char) -> bool {
     letter.is_alphanumeric() || letter == '_' || letter == '-'
 }
 
-/// Bytes between quotes: UTF-8 as it is, but for what can't be seen, quotes and `\`, and bytes that are no text as `\xFF`.
+/// Bytes between quotes: UTF-8 as it is, but for what can't be seen, quotes and `\`, and bytes that are no text as
+/// `\xFF`.
 pub fn quoted(bytes: &[u8]) -> String {
     let mut text = String::from("\"");
     for chunk in bytes.utf8_chunks() {

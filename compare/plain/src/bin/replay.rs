@@ -1,4 +1,5 @@
-//! Replays lists of cases (crates/cases/stdin, compare/plain/vectors) on plain Rust alone. The exit status is 1 where an answer differs.
+//! Replays lists of cases (crates/cases/stdin, compare/plain/vectors) on plain Rust alone. The exit status is 1 where
+//! an answer differs.
 
 use plain::hex::hex;
 use plain::replay::{Answer, Case};

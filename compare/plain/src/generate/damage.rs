@@ -5,7 +5,8 @@ use crate::random::Random;
 /// Codes and limits of all forms.
 const CODES: [u8; 17] = [0, 1, 2, 3, 4, 5, 6, 14, 15, 18, 19, 20, 21, 22, 63, 64, 255];
 
-/// One change: cut, lengthened, a bit or byte changed, a count or length one more or less, a run of bytes taken out or doubled.
+/// One change: cut, lengthened, a bit or byte changed, a count or length one more or less, a run of bytes taken out or
+/// doubled.
 pub fn damage(random: &mut Random, bytes: &mut Vec<u8>) {
     let length = bytes.len();
     let at = random.below(length.max(1) as u64) as usize;

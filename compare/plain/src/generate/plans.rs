@@ -1,4 +1,5 @@
-//! Plans that fit an incoming layout, with the target layout that they lead to: transforms over transforms, constants and casts at every level.
+//! Plans that fit an incoming layout, with the target layout that they lead to: transforms over transforms, constants
+//! and casts at every level.
 
 use super::records::{self, Shares};
 use super::{leaf, name, type_, wider_decimal};

@@ -1,5 +1,5 @@
-//! Records that fit a layout, with the values at which conversions change among them, and records with decimals that are too large or nulls where a value is
-//! required.
+//! Records that fit a layout, with the values at which conversions change among them, and records with decimals that
+//! are too large or nulls where a value is required.
 
 use crate::form::{Column, Leaf, Type};
 use crate::number::Kind;

@@ -1,13 +1,16 @@
-//! Random, damaged and hand-made inputs to every call of the library, each answer held against plain Rust written from document 01.
+//! Random, damaged and hand-made inputs to every call of the library, each answer held against plain Rust written from
+//! document 01.
 //!
 //!     trial [--rounds N] [--seed S]
 //!
-//! Inputs end right before, or begin right after, a page that can't be read; so does the buffer, with guard bytes at its other side. What must hold: the number
-//! and place, or the length and bytes, of a reading, check or run are those of plain Rust; a refused call changes nothing of the buffer, an accepted
-//! one no byte after its result; a plan that was built passes the check, and its run over a record gives the record due, which is worked out without the plan.
+//! Inputs end right before, or begin right after, a page that can't be read; so does the buffer, with guard bytes at
+//! its other side. What must hold: the number and place, or the length and bytes, of a reading, check or run are those
+//! of plain Rust; a refused call changes nothing of the buffer, an accepted one no byte after its result; a plan that
+//! was built passes the check, and its run over a record gives the record due, which is worked out without the plan.
 //!
-//! A line tells of progress every few seconds; a table at the end has how often each call gave each answer. The exit status is 1 where anything differed;
-//! the smallest such input is then printed, made smaller still by leaving out bytes.
+//! A line tells of progress every few seconds; a table at the end has how often each call gave each answer. The exit
+//! status is 1 where anything differed; the smallest such input is then printed, made smaller still by leaving out
+//! bytes.
 
 mod guard;
 mod hard;

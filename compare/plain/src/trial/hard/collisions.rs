@@ -1,5 +1,5 @@
-//! Names and ids that fall together in the library's tables of labels (crates/layout/src/seen.rt, crates/labels), at the top and inside structs: no answer may change
-//! by that.
+//! Names and ids that fall together in the library's tables of labels (crates/layout/src/seen.rt, crates/labels), at
+//! the top and inside structs: no answer may change by that.
 
 use super::values::{column, int8};
 use super::{Trials, layout};
@@ -94,7 +94,8 @@ fn record_within(record: Vec<u8>, levels: u32) -> Vec<u8> {
 }
 
 impl Trials<'_> {
-    /// The columns read, at the top and in a struct; 5 with one of them repeated at the end, but for names in a struct, which may repeat.
+    /// The columns read, at the top and in a struct; 5 with one of them repeated at the end, but for names in a struct,
+    /// which may repeat.
     fn siblings(&mut self, version: u8, columns: &[Column]) {
         let repeated = [columns, &columns[columns.len() / 2..][..1]].concat();
         let mut read = |columns: Vec<Column>, number: u32| {

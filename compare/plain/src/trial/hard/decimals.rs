@@ -1,4 +1,5 @@
-//! Decimals: precision, scale and magnitude at their limits and past them, casts between decimals, and builds under the flag for them.
+//! Decimals: precision, scale and magnitude at their limits and past them, casts between decimals, and builds under the
+//! flag for them.
 
 use super::values::{
     NULL, cast_first, column, count, int8, leaf, list, list_value, struct_value, structure,

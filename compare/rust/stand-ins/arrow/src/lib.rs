@@ -1,4 +1,5 @@
-//! Stand-in for the crate `arrow`: what transform.rs needs to be compiled. Nothing here is run, for Arrow columns are left out.
+//! Stand-in for the crate `arrow`: what transform.rs needs to be compiled. Nothing here is run, for Arrow columns are
+//! left out.
 
 pub mod array {
     use crate::datatypes::ArrowDataType;
