@@ -4,7 +4,6 @@ use layout::columns::Label;
 use layout::columns::Position;
 use layout::cursor::Cursor;
 use layout::edition::Edition;
-use layout::find::Found;
 use layout::matching::Matching;
 use rules::policy::Policy;
 
@@ -73,11 +72,13 @@ pub struct Missing {
     pub number: u8,
 }
 
-// A target column, what was found for it among the incoming columns, and where its selector is written.
+// A target column whose counterpart is sought among incoming columns, with the length of their table, which is 0 where
+// there is none, and where its selector is written.
 pub struct Sought {
     pub depth: u8,
+    pub among: Fields,
+    pub used: usize,
     pub column: Column,
-    pub found: Found,
     pub missing: Missing,
     pub k: usize,
 }

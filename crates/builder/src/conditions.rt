@@ -4,6 +4,7 @@ ghost use mathlib.Core.Bool.{_&&_, _||_, not};
 ghost use Prim.Native.Nat.{ℕ, _+_, _*_, _^_, _≤_, _<_};
 ghost use lib.ListN.{length};
 ghost use Rattle.layout.specs.Tree.{Label as LabelOf};
+ghost use Rattle.layout.specs.Limits.{longest};
 ghost use Rattle.layout.specs.code.Answers.{labelAt, spanIn};
 ghost use Rattle.layout.specs.code.Stands.{TypeAt};
 ghost use Rattle.layout.specs.declared.edition.Edition.{Edition as EditionOf};
@@ -153,7 +154,7 @@ pub fn put_null_cast(
     k: usize,
 ) -> Made
     requires { ⌜ TypeAt v depth (now target) (b .at) ⌝ }
-    requires { ⌜ (length (now target) ≤ 16384) × (k ≤ 65536 * b .at + 1) ⌝ }
+    requires { ⌜ (length (now target) ≤ longest) × (k ≤ 65536 * b .at + 1) ⌝ }
     ensures { λ r. ⌜ ((Q : TypeAt v depth (now (target .entry)) (b .at)) → Makes (b .at) (Q .end) (now (out .entry)) k (nullCast policy position (Q .tree)) r (now (out .exit))) ⌝ }
 {
     if policy.null_upcast {

@@ -6,6 +6,7 @@ ghost use Prim.Native.Nat.{ℕ, _+_, _*_, _^_, _≤_, _<_};
 ghost use lib.ListN.{length};
 ghost use Rattle.store.specs.Overlay.{overlay};
 ghost use Rattle.layout.specs.Tree.{leaf};
+ghost use Rattle.layout.specs.Limits.{longest, longestName};
 ghost use Rattle.layout.specs.code.Answers.{leafAt, spanIn};
 ghost use Rattle.layout.specs.code.Stands.{TypeAt, ColumnsAt};
 ghost use Rattle.forms.specs.Same.{equalTypes};
@@ -147,7 +148,7 @@ fn put_taken(
 ) -> DefaultMade
     requires { ⌜ spanIn (now table) (m .zone) × spanIn (now target) (u .zone) ⌝ }
     requires { ⌜ ValueAt (leaf (leafAt (now table) m)) (now table) (c .at) ⌝ }
-    requires { ⌜ (length (now table) ≤ 16384) × (k + 16384 < 2 ^ 64) ⌝ }
+    requires { ⌜ (length (now table) ≤ longest) × (k + longest < 2 ^ 64) ⌝ }
     ensures { λ r. ⌜ ((b e : ℕ) (P : ValueAt (leaf (leafAt (now (table .entry)) m)) (now (table .entry)) (c .at)) → b < e → MakesDefault anyFilled b e (now (out .entry)) k (demand (equalTypes (leaf (leafAt (now (table .entry)) m)) (leaf (leafAt (now (target .entry)) u))) 28 (gives (some (P .tree)))) r (now (out .exit))) ⌝ }
 {
     if !same_leaf_type(table, m, target, u) {
@@ -175,7 +176,7 @@ fn put_leaf_default(
 ) -> DefaultMade
     requires { ⌜ IndexedTableAt (now table) (now index) defaults ⌝ }
     requires { ⌜ spanIn (now target) (u .zone) ⌝ }
-    requires { ⌜ (length (now table) ≤ 16384) × (k + 16384 < 2 ^ 64) ⌝ }
+    requires { ⌜ (length (now table) ≤ longest) × (k + longest < 2 ^ 64) ⌝ }
     ensures { λ r. ⌜ ((b e : ℕ) (T : TableAt (now (table .entry)) defaults) → b < e → MakesDefault anyFilled b e (now (out .entry)) k (leafDefault (leafAt (now (target .entry)) u) (getDefaultValue (T .entries) (defaults .«source_index») id)) r (now (out .exit))) ⌝ }
 {
     match get_default_value(table, index, defaults, id) {
@@ -198,7 +199,7 @@ pub fn build_iceberg_default_value(
 ) -> DefaultMade
     requires { ⌜ TypeAt (build .target) depth (now target) (column .cursor .at) ⌝ }
     requires { ⌜ IndexedTableAt (now table) (now index) (build .defaults) ⌝ }
-    requires { ⌜ (length (now table) ≤ 16384) × (k + 16384 * length (now target) < 2 ^ 64 + 16384 * column .cursor .at) ⌝ }
+    requires { ⌜ (length (now table) ≤ longest) × (k + longest * length (now target) < 2 ^ 64 + longest * column .cursor .at) ⌝ }
     ensures { λ r. ⌜ FieldDefault build depth (now (table .entry)) (now (target .entry)) (column .label .id) (column .cursor) (now (out .entry)) k r (now (out .exit)) ⌝ }
 {
     let defaults = build.defaults;
@@ -238,19 +239,18 @@ fn put_defaults(
 ) -> DefaultsMade
     requires { ⌜ ColumnsAt (build .target) depth (now target) (fields .count) (fields .first .at) ⌝ }
     requires { ⌜ IndexedTableAt (now table) (now index) (build .defaults) ⌝ }
-    requires { ⌜ (length (now table) ≤ 16384) × (k + 16384 * length (now target) < 2 ^ 64 + 16384 * fields .first .at) ⌝ }
+    requires { ⌜ (length (now table) ≤ longest) × (k + longest * length (now target) < 2 ^ 64 + longest * fields .first .at) ⌝ }
     ensures { λ r. ⌜ FieldsDefaults build depth (now (table .entry)) (now (target .entry)) fields (now (out .entry)) k r (now (out .exit)) ⌝ }
 {
     let v = build.target;
     let n = fields.count;
-    let mut at = fields.first.at;
+    let mut c = fields.first;
     let mut to = k;
     let mut any = false;
     let mut filled = true;
     let mut i: u16 = 0;
     while i < n {
-        let d = Cursor { at };
-        match d.label(target, v) {
+        match c.label(target, v) {
             Labelled::Is(l, b) => {
                 let column = Column {
                     label: l,
@@ -269,8 +269,7 @@ fn put_defaults(
                 if is_default_refused(made) {
                     return failed_default(made);
                 }
-                let e = skip_type(target, v, depth, b);
-                at = e.at;
+                c = skip_type(target, v, depth, b);
                 to += value_len(made);
                 any = either(any, is_some(made));
                 filled = both(filled, fills_required(made, l.required));
@@ -304,10 +303,10 @@ pub fn put_missing(
     sought: Sought,
     out: &mut [u8],
 ) -> Made
-    requires { ⌜ spanIn (now target) (sought .column .label .name) × (sought .column .label .name .len ≤ 63) ⌝ }
+    requires { ⌜ spanIn (now target) (sought .column .label .name) × (sought .column .label .name .len ≤ longestName) ⌝ }
     requires { ⌜ TypeAt (build .target) (sought .depth) (now target) (sought .column .cursor .at) ⌝ }
     requires { ⌜ IndexedTableAt (now table) (now index) (build .defaults) ⌝ }
-    requires { ⌜ (length (now target) ≤ 16384) × (length (now table) ≤ 16384) × (sought .k ≤ 65536 * sought .column .cursor .at) ⌝ }
+    requires { ⌜ (length (now target) ≤ longest) × (length (now table) ≤ longest) × (sought .k ≤ 65536 * sought .column .cursor .at) ⌝ }
     ensures { λ r. ⌜ PutMissing (sought .missing) build (sought .depth) (now (table .entry)) (now (target .entry)) (sought .column) (now (out .entry)) (sought .k) r (now (out .exit)) ⌝ }
 {
     if !sought.missing.insert {

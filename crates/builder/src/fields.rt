@@ -1,11 +1,12 @@
 // Tests of a struct's fields.
 ghost use mathlib.Core.Path.{_≡_};
 ghost use mathlib.Core.Bool.{not};
-ghost use Prim.Native.Nat.{_<_};
-ghost use lib.ListN.{length};
+ghost use Prim.Native.Nat.{_≤_, _<_};
+ghost use lib.ListN.{length, take};
 ghost use Rattle.layout.specs.code.Answers.{spanAt, spanIn, labelAt};
 ghost use Rattle.layout.specs.Find.{columnNamed};
 ghost use Rattle.layout.specs.code.Stands.{ColumnsAt};
+ghost use Rattle.labels.specs.code.LabelTable.{Table};
 ghost use Rattle.matching.specs.Build.{isAbsent, distinctNames, distinct as distinctBy};
 ghost use Rattle.builder.specs.code.Bundles.{TableOf, RowsAt, HasCounterpart, NoExtra};
 use crate::build::Build;
@@ -46,10 +47,9 @@ fn distinct_few(s: &[u8], v: Edition, depth: u8, n: u16, c: Cursor) -> bool
     requires { ⌜ ColumnsAt v depth (now s) n (c .at) ⌝ }
     ensures { λ r. ⌜ ((P : ColumnsAt v depth (now (s .entry)) n (c .at)) → r ≡ distinctNames (P .columns)) ⌝ }
 {
-    let mut at = c.at;
+    let mut d = c;
     let mut left = n;
     while 0 < left {
-        let d = Cursor { at };
         match d.label(s, v) {
             Labelled::Is(l, next) => {
                 let e = skip_type(s, v, depth, next);
@@ -57,7 +57,7 @@ fn distinct_few(s: &[u8], v: Edition, depth: u8, n: u16, c: Cursor) -> bool
                 if name_among(s, v, depth, left - 1, e, s, name) {
                     return false;
                 }
-                at = e.at;
+                d = e;
             }
             Labelled::Refused(_) => return false,
         }
@@ -110,8 +110,32 @@ pub fn distinct(
     }
 }
 
+// Where so many labels will be looked up, a table of these fields at the start of the arena; its length, or 0.
+pub fn fill_fields(
+    how: Matching,
+    v: Edition,
+    depth: u8,
+    s: &[u8],
+    fields: Fields,
+    wanted: u16,
+    arena: &mut [u16],
+) -> usize
+    ensures { λ r. ⌜ r ≤ length (now (arena .exit)) ⌝ }
+    ensures { λ r. ⌜ (0 < r → Table v how depth (now (s .entry)) (fields .count) (fields .first .at) (take r (now (arena .exit)))) ⌝ }
+{
+    let first = fields.first;
+    let columns = SiblingColumns {
+        edition: v,
+        matching: how,
+        depth,
+        count: fields.count,
+        first,
+    };
+    fill_in(wanted, s, columns, arena)
+}
+
 // Whether the incoming label `l` has a counterpart among these target fields. `chains` is their table, or empty.
-fn has_counterpart(
+pub fn has_counterpart(
     build: Build,
     depth: u8,
     target: &[u8],
@@ -149,17 +173,15 @@ fn no_extra_in(build: Build, incoming: &[u8], target: &[u8], rows: Rows, chains:
 {
     let v = build.incoming;
     let fields = rows.target;
-    let mut at = rows.incoming.first.at;
+    let mut c = rows.incoming.first;
     let mut left = rows.incoming.count;
     while 0 < left {
-        let d = Cursor { at };
-        match d.label(incoming, v) {
+        match c.label(incoming, v) {
             Labelled::Is(l, next) => {
                 if !has_counterpart(build, rows.depth, target, fields, chains, incoming, l) {
                     return false;
                 }
-                let e = skip_type(incoming, v, rows.depth, next);
-                at = e.at;
+                c = skip_type(incoming, v, rows.depth, next);
             }
             Labelled::Refused(_) => return false,
         }
@@ -174,16 +196,10 @@ pub fn no_extra(build: Build, incoming: &[u8], target: &[u8], rows: Rows, arena:
     requires { ⌜ RowsAt build rows (now incoming) (now target) ⌝ }
     ensures { λ r. ⌜ NoExtra build rows (now (incoming .entry)) (now (target .entry)) r ⌝ }
 {
-    let matching = build.matching;
-    let edition = build.target;
-    let first = rows.target.first;
-    let columns = SiblingColumns {
-        edition,
-        matching,
-        depth: rows.depth,
-        count: rows.target.count,
-        first,
-    };
-    let used = fill_in(rows.incoming.count, target, columns, arena);
+    let how = build.matching;
+    let v = build.target;
+    let fields = rows.target;
+    let count = rows.incoming.count;
+    let used = fill_fields(how, v, rows.depth, target, fields, count, arena);
     no_extra_in(build, incoming, target, rows, &arena[..used])
 }

@@ -2,6 +2,7 @@
 ghost use mathlib.Core.Path.{_≡_};
 ghost use Prim.Native.Nat.{_+_, _*_, _^_, _≤_, _<_};
 ghost use lib.ListN.{length};
+ghost use Rattle.layout.specs.Limits.{longest};
 ghost use Rattle.layout.specs.code.Answers.{leafAt, spanIn};
 ghost use Rattle.layout.specs.code.Stands.{TypeAt};
 ghost use Rattle.rules.specs.Outcomes.{verdictOf};
@@ -60,7 +61,7 @@ fn apply_outcome(
     k: usize,
 ) -> Made
     requires { ⌜ TypeAt v depth (now target) (b .at) ⌝ }
-    requires { ⌜ (length (now target) ≤ 16384) × (k ≤ 65536 * b .at + 1) ⌝ }
+    requires { ⌜ (length (now target) ≤ longest) × (k ≤ 65536 * b .at + 1) ⌝ }
     ensures { λ r. ⌜ Ruled (verdictOf outcome) v depth (now (target .entry)) (b .at) position (now (out .entry)) k r (now (out .exit)) ⌝ }
 {
     match outcome {
@@ -82,7 +83,7 @@ pub fn attach_leaf(
     out: &mut [u8],
 ) -> Made
     requires { ⌜ TypesAt build types (now incoming) (now target) ⌝ }
-    requires { ⌜ (length (now target) ≤ 16384) × (types .place .k ≤ 65536 * types .target .at + 1) ⌝ }
+    requires { ⌜ (length (now target) ≤ longest) × (types .place .k ≤ 65536 * types .target .at + 1) ⌝ }
     requires { ⌜ spanIn (now target) (u .zone) × LeafStands build types (now target) u ⌝ }
     ensures { λ r. ⌜ AttachedLeaf build types (types .place) (now (incoming .entry)) (now (target .entry)) (now (out .entry)) r (now (out .exit)) ⌝ }
 {

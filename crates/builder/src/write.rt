@@ -5,6 +5,7 @@ ghost use Prim.Native.Nat.{_+_, _*_, _^_, _≤_, _<_};
 ghost use lib.ListN.{length};
 ghost use Rattle.store.specs.Overlay.{overlay};
 ghost use Rattle.layout.specs.Tree.{dtypeOf};
+ghost use Rattle.layout.specs.Limits.{longestName};
 ghost use Rattle.layout.specs.code.Answers.{spanAt, spanIn};
 ghost use Rattle.layout.specs.code.Stands.{TypeAt};
 ghost use Rattle.forms.specs.Form.{u16Bytes};
@@ -79,7 +80,7 @@ pub fn put_constant_head(
     out: &mut [u8],
     k: usize,
 ) -> usize
-    requires { ⌜ spanIn (now target) name × (name .len ≤ 63) ⌝ }
+    requires { ⌜ spanIn (now target) name × (name .len ≤ longestName) ⌝ }
     requires { ⌜ TypeAt v depth (now target) (b .at) ⌝ }
     requires { ⌜ k + 66 + 2 * length (now target) < 2 ^ 64 ⌝ }
     ensures { λ r. ⌜ ((Q : TypeAt v depth (now (target .entry)) (b .at)) → r ≡ length (constantHead (spanAt (now (target .entry)) name) (dtypeOf (Q .tree)))) ⌝ }

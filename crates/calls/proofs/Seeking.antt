@@ -1,26 +1,23 @@
 -- The loop that looks for an extra column: what is answered of the columns that are left is answered of all. Assumes
 -- nothing.
 use Prim.Native.Nat.{ℕ, _+_, _-_, _≤_, _<_}
-use mathlib.Core.Path.{_≡_, refl, sym, ap, _∙_}
-use mathlib.Core.Bool.{Bool, true, false}
+use mathlib.Core.Path.{_≡_, sym, ap, _∙_}
+use mathlib.Core.Bool.{Bool, true, false, not}
 use mathlib.Core.List.{[]}
 use native.Mathlib.Omega.{arith}
 use Rattle.layout.specs.Bytes.{Bytes}
 use Rattle.layout.specs.Parser.{ok, choose}
 use Rattle.layout.specs.Tree.{Columns, cnil}
 use Rattle.layout.specs.Layout.{label, columns, type, deepest}
-use Rattle.layout.specs.Find.{Lookup, absent, present, Finds, counterpart}
+use Rattle.layout.specs.Find.{counterpart}
 use Rattle.layout.specs.code.Answers.{labelRes, labelAt}
 use Rattle.layout.specs.code.Stands.{TypeAt, ColumnsAt}
 use Rattle.layout.specs.declared.columns.Label.{Label as LabelSpan}
 use Rattle.layout.specs.declared.columns.Labelled.{Labelled}
-use Rattle.layout.specs.declared.columns.Position.{Position}
 use Rattle.layout.specs.declared.columns.Siblings.the-variants.{Free}
 use Rattle.layout.specs.declared.cursor.Cursor.{Cursor}
-use Rattle.layout.specs.declared.find.Found.{Found}
 use Rattle.layout.specs.declared.edition.Edition.{Edition}
 use Rattle.layout.specs.declared.matching.Matching.{Matching}
-use Rattle.layout.proofs.Ways.{clash}
 use Rattle.layout.proofs.View.{same-columns, no-column, FirstAt, first-at, first-labelled}
 use Rattle.rules.specs.declared.policy.ExtraColumnsPolicy.{ExtraColumnsPolicy}
 use Rattle.rules.specs.declared.policy.ExtraColumnsPolicy.the-variants.{Ignore, Raise}
@@ -31,14 +28,10 @@ use Rattle.calls.specs.declared.extra.ExtraColumn.{ExtraColumn}
 
 -- ---- a look-up
 
-module _ (v : Edition) (s : Bytes) where
-  pub found-some : (x : Lookup) {r : Found} {k : Position} {l : LabelSpan} {c : Cursor} → Finds v deepest s x r → r ≡ Found.At k l c → false ≡ isAbsent x
-  found-some absent {r} {k} {l} {c} f e = let z : Found.Absent ≡ Found.At k l c = sym f ∙ e in clash (cc)
-  found-some (present k l t) f e = refl
-
-  pub found-none : (x : Lookup) {r : Found} → Finds v deepest s x r → r ≡ Found.Absent → true ≡ isAbsent x
-  found-none absent f e = refl
-  found-none (present k l t) f e = let z : Found.At k (f .span) (f .start) ≡ Found.Absent = sym (f .is) ∙ e in clash (cc)
+-- a column that has no counterpart is extra
+pub absent-is : {r b : Bool} → r ≡ not b → not r ≡ b
+absent-is {b = true} e = ap not e
+absent-is {b = false} e = ap not e
 
 -- ---- the loop: after i of n columns
 

@@ -2,6 +2,7 @@
 ghost use mathlib.Core.Path.{_≡_};
 ghost use Prim.Native.Nat.{_≤_, _<_};
 ghost use lib.ListN.{length};
+ghost use Rattle.layout.specs.Limits.{longest};
 ghost use Rattle.defaults.specs.code.Index.{links};
 ghost use Rattle.plan.specs.Calls.{bufferAfter, writeResult};
 ghost use Rattle.matching.specs.Calls.{buildByName, buildByNumber};
@@ -90,7 +91,7 @@ fn build_numbered(
     arena: &mut [u16],
     plan: &mut [u8],
 ) -> WriteResult
-    requires { ⌜ (length (now defaults) ≤ 16384 → links (length (now defaults)) < length (now index)) ⌝ }
+    requires { ⌜ (length (now defaults) ≤ longest → links (length (now defaults)) < length (now index)) ⌝ }
     ensures { λ r. ⌜ r ≡ writeResult (buildByNumber policy (wanted .«source_index») (wanted .owner) (now (incoming .entry)) (now (target .entry)) (now (defaults .entry)) (length (now (plan .entry)))) ⌝ }
     ensures { λ _. ⌜ now (plan .exit) ≡ bufferAfter (buildByNumber policy (wanted .«source_index») (wanted .owner) (now (incoming .entry)) (now (target .entry)) (now (defaults .entry)) (length (now (plan .entry)))) (now (plan .entry)) ⌝ }
 {

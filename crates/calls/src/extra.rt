@@ -1,22 +1,16 @@
 // Test 53 (document 02, L3): the first incoming column without a counterpart among the target's columns. Where there
 // are many, by a table of these.
-ghost use mathlib.Core.Path.{_≡_};
 ghost use Prim.Native.Nat.{_<_};
 ghost use lib.ListN.{length};
-ghost use Rattle.layout.specs.code.Answers.{labelAt, spanIn};
-ghost use Rattle.layout.specs.Layout.{deepest};
-ghost use Rattle.builder.specs.code.Bundles.{FieldsAt, TableOf};
-ghost use Rattle.calls.specs.code.Answers.{BothIn, IsExtra, FoundExtra, ExtraFound};
+ghost use Rattle.layout.specs.Limits.{deepest};
+ghost use Rattle.builder.specs.code.Bundles.{TableOf};
+ghost use Rattle.calls.specs.code.Answers.{BothIn, FoundExtra, ExtraFound};
 use crate::layouts::Both;
 use builder::build::Build;
-use builder::build::Fields;
-use labels::SiblingColumns;
-use labels::fill_in;
-use labels::find_in;
-use layout::columns::Label;
+use builder::fields::fill_fields;
+use builder::fields::has_counterpart;
 use layout::columns::Labelled;
-use layout::cursor::Cursor;
-use layout::find::Found;
+use layout::limits::DEEPEST;
 use layout::walk::skip_type;
 use rules::policy::ExtraColumnsPolicy;
 
@@ -24,36 +18,6 @@ use rules::policy::ExtraColumnsPolicy;
 pub enum ExtraColumn {
     At(u16),
     Nothing,
-}
-
-// Whether the incoming label `l` has no counterpart among the target's columns. `chains` is a table of these, or empty.
-fn is_extra(
-    build: Build,
-    target: &[u8],
-    fields: Fields,
-    chains: &[u16],
-    incoming: &[u8],
-    l: Label,
-) -> bool
-    requires { ⌜ FieldsAt (build .target) deepest (now target) fields ⌝ }
-    requires { ⌜ (0 < length (now chains) → TableOf build (build .target) deepest (now target) fields (now chains)) ⌝ }
-    requires { ⌜ spanIn (now incoming) (l .name) ⌝ }
-    ensures { λ r. ⌜ IsExtra build (now (target .entry)) fields (labelAt (now (incoming .entry)) l) r ⌝ }
-{
-    let matching = build.matching;
-    let edition = build.target;
-    let first = fields.first;
-    let columns = SiblingColumns {
-        edition,
-        matching,
-        depth: 16,
-        count: fields.count,
-        first,
-    };
-    match find_in(target, columns, chains, incoming, l) {
-        Found::At(_, _, _) => false,
-        Found::Absent => true,
-    }
 }
 
 // The first incoming column that is extra. `chains` is a table of the target's columns, or empty.
@@ -71,17 +35,15 @@ fn first_extra(
     let v = build.incoming;
     let fields = both.target;
     let n = both.incoming.count;
-    let mut at = both.incoming.first.at;
+    let mut c = both.incoming.first;
     let mut i: u16 = 0;
     while i < n {
-        let d = Cursor { at };
-        match d.label(incoming, v) {
+        match c.label(incoming, v) {
             Labelled::Is(l, next) => {
-                if is_extra(build, target, fields, chains, incoming, l) {
+                if !has_counterpart(build, DEEPEST, target, fields, chains, incoming, l) {
                     return ExtraColumn::At(i);
                 }
-                let e = skip_type(incoming, v, 16, next);
-                at = e.at;
+                c = skip_type(incoming, v, DEEPEST, next);
             }
             Labelled::Refused(_) => return ExtraColumn::At(i),
         }
@@ -106,17 +68,11 @@ pub fn extra_column(
     match policy {
         ExtraColumnsPolicy::Ignore => ExtraColumn::Nothing,
         ExtraColumnsPolicy::Raise => {
-            let matching = build.matching;
-            let edition = build.target;
-            let first = both.target.first;
-            let columns = SiblingColumns {
-                edition,
-                matching,
-                depth: 16,
-                count: both.target.count,
-                first,
-            };
-            let used = fill_in(both.incoming.count, target, columns, arena);
+            let how = build.matching;
+            let v = build.target;
+            let fields = both.target;
+            let count = both.incoming.count;
+            let used = fill_fields(how, v, DEEPEST, target, fields, count, arena);
             first_extra(build, incoming, target, both, &arena[..used])
         }
     }

@@ -5,6 +5,7 @@ ghost use Prim.Native.Nat.{_+_, _≤_, _<_};
 ghost use lib.ListN.{length, take};
 ghost use Rattle.store.specs.Overlay.{overlay};
 ghost use Rattle.layout.specs.Bytes.{Bytes};
+ghost use Rattle.layout.specs.Limits.{longest, longestPlan};
 ghost use Rattle.defaults.specs.code.Stands.{IndexedTableAt};
 ghost use Rattle.calls.specs.code.Answers.{BothIn, Attempted, planHead, written, AttemptedIn, PlanMatched, PlanBuilt};
 use crate::columns::ColumnsMade;
@@ -14,6 +15,7 @@ use crate::extra::extra_column;
 use crate::layouts::Both;
 use builder::build::Build;
 use builder::write::put_short;
+use layout::limits::LONGEST_PLAN;
 use plan::answer::WriteResult;
 use store::copy;
 use store::put;
@@ -37,7 +39,7 @@ fn put_plan_head(out: &mut [u8], n: u16)
 
 // The first `len` bytes of what was built; 27 where the lent buffer is shorter.
 fn write_plan(room: &[u8], len: usize, plan: &mut [u8]) -> Attempt
-    requires { ⌜ length (now room) ≤ 65536 ⌝ }
+    requires { ⌜ length (now room) ≤ longestPlan ⌝ }
     ensures { λ r. ⌜ ((p : Bytes) → len ≡ length p → (len ≤ length (now (room .entry)) → take len (now (room .entry)) ≡ p) → Attempted (length (now (room .entry)) < length p) (written (length (now (plan .entry))) p) (now (plan .entry)) r (now (plan .exit))) ⌝ }
 {
     if plan.len() < len {
@@ -64,8 +66,8 @@ fn build_in(
 ) -> Attempt
     requires { ⌜ BothIn build both (now incoming) (now target) ⌝ }
     requires { ⌜ IndexedTableAt (now table) (now index) (build .defaults) ⌝ }
-    requires { ⌜ (length (now target) ≤ 16384) × (length (now table) ≤ 16384) × (both .target .first .at ≡ 7) ⌝ }
-    requires { ⌜ length (now room) ≤ 65536 ⌝ }
+    requires { ⌜ (length (now target) ≤ longest) × (length (now table) ≤ longest) × (both .target .first .at ≡ 7) ⌝ }
+    requires { ⌜ length (now room) ≤ longestPlan ⌝ }
     ensures { λ r. ⌜ AttemptedIn build both (length (now (room .entry))) (now (table .entry)) (now (incoming .entry)) (now (target .entry)) (now (plan .entry)) r (now (plan .exit)) ⌝ }
 {
     put_plan_head(room, both.target.count);
@@ -88,7 +90,7 @@ fn build_small(
 ) -> Attempt
     requires { ⌜ BothIn build both (now incoming) (now target) ⌝ }
     requires { ⌜ IndexedTableAt (now table) (now index) (build .defaults) ⌝ }
-    requires { ⌜ (length (now target) ≤ 16384) × (length (now table) ≤ 16384) × (both .target .first .at ≡ 7) ⌝ }
+    requires { ⌜ (length (now target) ≤ longest) × (length (now table) ≤ longest) × (both .target .first .at ≡ 7) ⌝ }
     ensures { λ r. ⌜ AttemptedIn build both 4096 (now (table .entry)) (now (incoming .entry)) (now (target .entry)) (now (plan .entry)) r (now (plan .exit)) ⌝ }
 {
     let mut room = [0u8; 4096];
@@ -118,10 +120,10 @@ fn build_large(
 ) -> WriteResult
     requires { ⌜ BothIn build both (now incoming) (now target) ⌝ }
     requires { ⌜ IndexedTableAt (now table) (now index) (build .defaults) ⌝ }
-    requires { ⌜ (length (now target) ≤ 16384) × (length (now table) ≤ 16384) × (both .target .first .at ≡ 7) ⌝ }
+    requires { ⌜ (length (now target) ≤ longest) × (length (now table) ≤ longest) × (both .target .first .at ≡ 7) ⌝ }
     ensures { λ r. ⌜ PlanMatched build both (now (table .entry)) (now (incoming .entry)) (now (target .entry)) (now (plan .entry)) r (now (plan .exit)) ⌝ }
 {
-    let mut room = [0u8; 65536];
+    let mut room = [0u8; LONGEST_PLAN];
     match build_in(
         build,
         incoming,
@@ -152,7 +154,7 @@ fn build_matched(
 ) -> WriteResult
     requires { ⌜ BothIn build both (now incoming) (now target) ⌝ }
     requires { ⌜ IndexedTableAt (now table) (now index) (build .defaults) ⌝ }
-    requires { ⌜ (length (now target) ≤ 16384) × (length (now table) ≤ 16384) × (both .target .first .at ≡ 7) ⌝ }
+    requires { ⌜ (length (now target) ≤ longest) × (length (now table) ≤ longest) × (both .target .first .at ≡ 7) ⌝ }
     ensures { λ r. ⌜ PlanMatched build both (now (table .entry)) (now (incoming .entry)) (now (target .entry)) (now (plan .entry)) r (now (plan .exit)) ⌝ }
 {
     if target.len() <= 1024 {
@@ -185,7 +187,7 @@ pub fn build_plan(
 ) -> WriteResult
     requires { ⌜ BothIn build both (now incoming) (now target) ⌝ }
     requires { ⌜ IndexedTableAt (now table) (now index) (build .defaults) ⌝ }
-    requires { ⌜ (length (now target) ≤ 16384) × (length (now table) ≤ 16384) × (both .target .first .at ≡ 7) ⌝ }
+    requires { ⌜ (length (now target) ≤ longest) × (length (now table) ≤ longest) × (both .target .first .at ≡ 7) ⌝ }
     ensures { λ r. ⌜ PlanBuilt build both (now (table .entry)) (now (incoming .entry)) (now (target .entry)) (now (plan .entry)) r (now (plan .exit)) ⌝ }
 {
     let policy = build.policy;

@@ -1,5 +1,5 @@
 -- An index of entries: how a chain is followed, and what holds after each entry that is put in. Assumes nothing.
-use Prim.Native.Nat.{ℕ, zero, suc, _+_, _-_, _/_, _%_, _≤_, _<_}
+use Prim.Native.Nat.{ℕ, zero, suc, _+_, _-_, _/_, _%_, _≤_, _<_, zero-le}
 use mathlib.Core.Path.{_≡_, refl, sym, ap, ap₂, _∙_, subst}
 use mathlib.Core.List.{List, []}
 use mathlib.Core.Bool.{Bool, true, false, _&&_}
@@ -21,12 +21,13 @@ use Rattle.layout.proofs.Ways.{clash}
 use Rattle.layout.proofs.View.{next-ok}
 use Rattle.layout.proofs.Whole.{u16-at}
 use Rattle.layout.proofs.OfBytes.{both}
+use Rattle.labels.specs.code.LabelTable.{Cleared}
 use Rattle.values.proofs.Inside.{renumber-ok}
 use Rattle.values.proofs.Stand.{byte-back}
 use Rattle.defaults.specs.Table.{Given, Entry, kindOf, countsFor, sameKind, sameOwner, entryKind, givenOf, tableNumber, entry, ownerOf, entries}
 use Rattle.defaults.specs.code.Answers.{kindRes, ownerRes, entryOf, entryAfter, entryRead}
 use Rattle.defaults.specs.code.Scan.{isOf, seekOn, seek, isFound}
-use Rattle.defaults.specs.code.Index.{EntryHead, entryHead, entryHeadRes, ownerIn, links, headOf, pushed, Cleared, foundOr, follow, followed, Inside}
+use Rattle.defaults.specs.code.Index.{EntryHead, entryHead, entryHeadRes, ownerIn, links, headOf, pushed, foundOr, follow, followed, Inside}
 use Rattle.defaults.specs.code.Index.{Indexed}
 use Rattle.defaults.specs.declared.read.Owner.{Owner}
 use Rattle.defaults.specs.declared.read.TableVersion.{TableVersion}
@@ -296,19 +297,6 @@ own-found {v} {s} {n} {from} {index} I u i k e f = f ∙ ap (λ (o : Owner). fol
 
 -- ---- the numbers of an index
 
-pub cleared-start : (t : List ℕ) → Cleared 0 t
-cleared-start t = record { empty = λ k lt. absurd (omega arith) }
-
-pub cleared-more : {h : ℕ} {t : List ℕ} → Cleared h t → h < length t → Cleared (h + 1) (set t h 0)
-cleared-more {h} {t} a l = record { empty = λ k lt. go k lt (ℕ-discrete k h) }
-  where
-    go : (k : ℕ) → k < h + 1 → Dec (k ≡ h) → getD (set t h 0) k 0 ≡ 0
-    go k lt (yes e) = ap (λ (b : ℕ). getD (set t h 0) b 0) e ∙ getD-set-same t h 0 0 l
-    go k lt (no e) = getD-set-other t h k 0 0 e ∙ a .empty k (omega arith)
-
-pub cleared-end : {h : ℕ} {t : List ℕ} → Cleared h t → length t ≤ h → Cleared (length t) t
-cleared-end a le = record { empty = λ k lt. a .empty k (omega arith) }
-
 -- a head is behind the links
 pub head-place : (len size : ℕ) (i : FieldId) → links len < size → (links len ≤ headOf len size i) × (headOf len size i < size)
 head-place len size i h = let m = mod-lt (i .0) (let z : 0 < size - links len = omega arith in z) in (omega arith, omega arith)
@@ -324,15 +312,15 @@ pub record Chained (v : TableVersion) (s : Bytes) (n from at : ℕ) (index : Lis
   pub finds : (u : ℕ) (i : FieldId) (k : EntryKind) (f : ℕ) → n ≤ f → followed v (ownerIn v u) i k f s index ≡ seek v (ownerIn v u) i k n s from
 
 -- behind a list's end there is nothing either
-cleared-all : {t : List ℕ} → Cleared (length t) t → (k : ℕ) → getD t k 0 ≡ 0
+cleared-all : {t : List ℕ} → Cleared 0 0 (length t) t → (k : ℕ) → getD t k 0 ≡ 0
 cleared-all {t} C k = go (ltb k (length t)) refl
   where
     go : (b : Bool) → ltb k (length t) ≡ b → getD t k 0 ≡ 0
-    go true h = C .empty k (ltb-true k (length t) h)
+    go true h = C .empty k zero-le (ltb-true k (length t) h)
     go false h = List·getD-eq-default t 0 (ltb-false k (length t) h)
 
 module _ {v : TableVersion} {s : Bytes} {from : ℕ} {index : List ℕ} where
-  pub chained-start : links (length s) < length index → 0 < from → Cleared (length index) index → Chained v s 0 from from index
+  pub chained-start : links (length s) < length index → 0 < from → Cleared 0 0 (length index) index → Chained v s 0 from from index
   unfolding seek
   chained-start long pos C = record {
     inside = record { long = long; within = λ k. let e = cleared-all C k in omega arith };
@@ -505,7 +493,7 @@ pub record Filling (v : TableVersion) (s : Bytes) (n from i at : ℕ) (index : L
   pub chained : Chained v s i from at index
 
 module _ {v : TableVersion} {s : Bytes} {n from : ℕ} {index : List ℕ} where
-  pub filling-start : links (length s) < length index → 0 < from → Cleared (length index) index → Filling v s n from 0 from index
+  pub filling-start : links (length s) < length index → 0 < from → Cleared 0 0 (length index) index → Filling v s n from 0 from index
   filling-start long pos C = record { reading = reading-none v s n from; chained = chained-start long pos C }
 
   module _ {i at : ℕ} (a : Filling v s n from i at index) where

@@ -5,7 +5,7 @@
 ghost use mathlib.Core.Path.{_≡_};
 ghost use Prim.Native.Nat.{_≤_, _<_, _/_};
 ghost use lib.ListN.{length};
-ghost use Rattle.defaults.specs.code.Index.{links, headOf, pushed, Cleared};
+ghost use Rattle.defaults.specs.code.Index.{links, headOf, pushed};
 use layout::columns::FieldId;
 
 // Where the head of an id's chain stands, in an index of this size for a table of this length.
@@ -16,18 +16,6 @@ pub fn head_of(len: usize, size: usize, id: FieldId) -> usize
 {
     let links = len / 6 + 1;
     links + (id.0 as usize) % (size - links)
-}
-
-// Every chain is empty.
-pub fn clear(index: &mut [u16])
-    ensures { λ _. ⌜ length (now (index .exit)) ≡ length (now (index .entry)) ⌝ }
-    ensures { λ _. ⌜ Cleared (length (now (index .exit))) (now (index .exit)) ⌝ }
-{
-    let mut k = 0;
-    while k < index.len() {
-        index[k] = 0;
-        k += 1;
-    }
 }
 
 // The entry of this id that begins at `at` becomes the last of its chain.

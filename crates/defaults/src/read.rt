@@ -3,6 +3,7 @@ ghost use mathlib.Core.Path.{_≡_};
 ghost use mathlib.Core.List.{[]};
 ghost use Prim.Native.Nat.{_≤_, _<_};
 ghost use lib.ListN.{length};
+ghost use Rattle.layout.specs.Limits.{longest};
 ghost use Rattle.layout.specs.code.Answers.{movedOf};
 ghost use Rattle.layout.specs.declared.cursor.Cursor.{Cursor};
 ghost use Rattle.layout.specs.declared.cursor.Moved.{Moved};
@@ -11,13 +12,13 @@ ghost use Rattle.defaults.specs.Table.{tableNumber, entry, ownerOf, entr
 ghost use Rattle.defaults.specs.code.Answers.{kindRes, ownerRes, versionRes, entryOf, entryRead, tableOf};
 ghost use Rattle.defaults.specs.code.Scan.{isOf, isFound};
 ghost use Rattle.defaults.specs.code.Index.{entryHead, entryHeadRes, ownerIn, links, followed, Inside, Indexed, IndexedTable};
-use crate::index::clear;
 use crate::index::head_of;
 use crate::index::push;
 use crate::types::LeafRead;
 use crate::types::read_leaf_type;
 use crate::types::read_leaf_value;
 use crate::types::read_leaf_values;
+use labels::clear;
 use layout::bytes::same_bytes;
 use layout::bytes::wide;
 use layout::columns::FieldId;
@@ -26,6 +27,7 @@ use layout::cursor::Long;
 use layout::cursor::Moved;
 use layout::cursor::Short;
 use layout::cursor::Step;
+use layout::limits::LONGEST;
 
 const SHARED: [u8; 5] = [0x44, 0x45, 0x46, 1, 0];
 
@@ -316,29 +318,28 @@ fn is_found(found: EntryFound) -> bool
 // `n` entries, of which none may have the id and the kind of an earlier one that counts for the same owner. An index of
 // them is left behind.
 pub fn read_entries(s: &[u8], version: TableVersion, n: u16, c: Cursor, index: &mut [u16]) -> Moved
-    requires { ⌜ (length (now s) ≤ 16384) × (0 < c .at) × (links (length (now s)) < length (now index)) ⌝ }
+    requires { ⌜ (length (now s) ≤ longest) × (0 < c .at) × (links (length (now s)) < length (now index)) ⌝ }
     ensures { λ r. ⌜ r ≡ movedOf (entries version n [] (now (s .entry)) (c .at)) ⌝ }
     ensures { λ r. ⌜ ((e : Cursor) → r ≡ Moved.To e → Indexed version (now (s .entry)) n (c .at) (now (index .exit))) ⌝ }
 {
-    clear(index);
-    let mut at = c.at;
+    clear(0, 0, index);
+    let mut d = c;
     let mut i: u16 = 0;
     while i < n {
-        let d = Cursor { at };
         match read_entry(s, version, d) {
             EntryRead::Is(owner, id, kind, _, e) => {
                 let earlier = find_entry(s, version, i, owner, id, kind, index);
                 if is_found(earlier) {
                     return Moved::Refused(5);
                 }
-                push(s.len(), at, id, index);
-                at = e.at;
+                push(s.len(), d.at, id, index);
+                d = e;
             }
             EntryRead::Refused(k) => return Moved::Refused(k),
         }
         i += 1;
     }
-    Moved::To(Cursor { at })
+    Moved::To(d)
 }
 
 fn read_version(s: &[u8]) -> VersionRead
@@ -358,7 +359,7 @@ fn read_version(s: &[u8]) -> VersionRead
 
 // The rest of a table of this version, from the number of its entries on.
 fn read_counted(s: &[u8], version: TableVersion, index: &mut [u16]) -> TableRead
-    requires { ⌜ (length (now s) ≤ 16384) × (links (length (now s)) < length (now index)) ⌝ }
+    requires { ⌜ (length (now s) ≤ longest) × (links (length (now s)) < length (now index)) ⌝ }
     ensures { λ r. ⌜ r ≡ tableOf (countedTable version (now (s .entry)) 5) ⌝ }
     ensures { λ r. ⌜ IndexedTable (now (s .entry)) r (now (index .exit)) ⌝ }
 {
@@ -384,11 +385,11 @@ fn read_counted(s: &[u8], version: TableVersion, index: &mut [u16]) -> TableRead
 
 // An index of the entries is left behind; there is room for it where it is longer than the links that the table needs.
 pub fn read_table(s: &[u8], index: &mut [u16]) -> TableRead
-    requires { ⌜ (length (now s) ≤ 16384 → links (length (now s)) < length (now index)) ⌝ }
+    requires { ⌜ (length (now s) ≤ longest → links (length (now s)) < length (now index)) ⌝ }
     ensures { λ r. ⌜ r ≡ tableOf (table (now (s .entry))) ⌝ }
     ensures { λ r. ⌜ IndexedTable (now (s .entry)) r (now (index .exit)) ⌝ }
 {
-    if 16384 < s.len() {
+    if LONGEST < s.len() {
         return TableRead::Refused(4);
     }
     match read_version(s) {

@@ -66,17 +66,16 @@ pub fn read_leaf_value(s: &[u8], l: LeafType, c: Cursor) -> Moved
 pub fn read_leaf_values(s: &[u8], l: LeafType, n: u32, c: Cursor) -> Moved
     ensures { λ r. ⌜ r ≡ movedOf (times n (value (leaf (leafAt (now (s .entry)) l))) (now (s .entry)) (c .at)) ⌝ }
 {
-    let mut at = c.at;
+    let mut d = c;
     let mut i: u32 = 0;
     while i < n {
-        let d = Cursor { at };
         match read_leaf_value(s, l, d) {
             Moved::To(e) => {
-                at = e.at;
+                d = e;
             }
             Moved::Refused(k) => return Moved::Refused(k),
         }
         i += 1;
     }
-    Moved::To(Cursor { at })
+    Moved::To(d)
 }

@@ -30,20 +30,20 @@ use Rattle.labels.proofs.After.{after-next, after-counts, after-all}
 
 -- ---- the heads
 
-pub cleared-start : {from : ℕ} (t : List ℕ) → Cleared from from t
+pub cleared-start : {ending from : ℕ} (t : List ℕ) → Cleared ending from from t
 cleared-start t = record { empty = λ k le lt. absurd (omega arith) }
 
-pub cleared-more : {from h : ℕ} {t : List ℕ} → Cleared from h t → h < length t → Cleared from (h + 1) (set t h none)
-cleared-more {from} {h} {t} a l = record { empty = λ k le lt. go k le lt (ℕ-discrete k h) }
+pub cleared-more : {ending from h : ℕ} {t : List ℕ} → Cleared ending from h t → h < length t → Cleared ending from (h + 1) (set t h ending)
+cleared-more {ending} {from} {h} {t} a l = record { empty = λ k le lt. go k le lt (ℕ-discrete k h) }
   where
-    go : (k : ℕ) → from ≤ k → k < h + 1 → Dec (k ≡ h) → getD (set t h none) k 0 ≡ none
-    go k le lt (yes e) = ap (λ (b : ℕ). getD (set t h none) b 0) e ∙ getD-set-same t h none 0 l
-    go k le lt (no e) = getD-set-other t h k none 0 e ∙ a .empty k le (omega arith)
+    go : (k : ℕ) → from ≤ k → k < h + 1 → Dec (k ≡ h) → getD (set t h ending) k 0 ≡ ending
+    go k le lt (yes e) = ap (λ (b : ℕ). getD (set t h ending) b 0) e ∙ getD-set-same t h ending 0 l
+    go k le lt (no e) = getD-set-other t h k ending 0 e ∙ a .empty k le (omega arith)
 
-pub cleared-end : {from h : ℕ} {t : List ℕ} → Cleared from h t → length t ≤ h → Cleared from (length t) t
+pub cleared-end : {ending from h : ℕ} {t : List ℕ} → Cleared ending from h t → length t ≤ h → Cleared ending from (length t) t
 cleared-end a le = record { empty = λ k ge lt. a .empty k ge (omega arith) }
 
-pub cleared-from : {from to h : ℕ} {t : List ℕ} → from ≡ to → Cleared from h t → Cleared to h t
+pub cleared-from : {ending from to h : ℕ} {t : List ℕ} → from ≡ to → Cleared ending from h t → Cleared ending to h t
 cleared-from e a = record { empty = λ k le lt. a .empty k (omega arith) lt }
 
 -- ---- the places
@@ -66,11 +66,11 @@ pub record NotingAt (v : Edition) (d : ℕ) (s : Bytes) (n i at : ℕ) (cs : Col
 
 pub record Noting (v : Edition) (d : ℕ) (s : Bytes) (n from i at : ℕ) (table : List ℕ) : Type 0 where
   pub within : i ≤ n
-  pub cleared : Cleared (node n) (length table) table
+  pub cleared : Cleared none (node n) (length table) table
   pub here : (P : ColumnsAt v d s n from) → NotingAt v d s n i at (P .columns) table
 
 module _ {v : Edition} {d : ℕ} {s : Bytes} {n from : ℕ} {table : List ℕ} where
-  pub noting-start : Cleared (node n) (length table) table → Noting v d s n from 0 from table
+  pub noting-start : Cleared none (node n) (length table) table → Noting v d s n from 0 from table
   unfolding after
   noting-start C = record {
     within = omega arith;
@@ -139,7 +139,7 @@ pub leads-to : {x y : ℕ} {a b : Lookup} → x ≡ y → a ≡ b → Leads x a 
 leads-to {x} {y} {a} {b} e f h = subst (λ (k : ℕ). Leads k b) e (subst (λ (k : Lookup). Leads x k) f h)
 
 module _ {v : Edition} {how : Matching} {d : ℕ} {s : Bytes} {heads n : ℕ} {table : List ℕ} where
-  pub linking-start : {i : ℕ} → i ≡ n → node n + heads ≡ length table → Cleared (node n) (length table) table → Linking v how d s heads n i table table
+  pub linking-start : {i : ℕ} → i ≡ n → node n + heads ≡ length table → Cleared none (node n) (length table) table → Linking v how d s heads n i table table
   unfolding findFrom
   linking-start {i} f long C = subst (λ (k : ℕ). Linking v how d s heads n k table table) (sym f) (record {
     within = omega arith;

@@ -9,7 +9,7 @@ ghost use lib.ListN.{length, take};
 ghost use Rattle.layout.specs.code.Answers.{labelAt, spanIn};
 ghost use Rattle.layout.specs.Find.{counterpart, Finds};
 ghost use Rattle.layout.specs.code.Stands.{ColumnsAt};
-ghost use Rattle.labels.specs.code.LabelTable.{most, node, slotOf, Cleared, Noted, Table};
+ghost use Rattle.labels.specs.code.LabelTable.{most, none, node, slotOf, Cleared, Noted, Table};
 use layout::bytes::wide;
 use layout::columns::Label;
 use layout::columns::Labelled;
@@ -51,14 +51,14 @@ fn slot(s: &[u8], how: Matching, heads: usize, l: Label) -> usize
     (label_hash(s, rule, 0, l) as usize) % heads
 }
 
-// Every chain is empty: the numbers from `from` on lead nowhere.
-fn clear(from: usize, table: &mut [u16])
+// Every chain is empty: the numbers from `from` on are `ending`, which ends a chain.
+pub fn clear(ending: u16, from: usize, table: &mut [u16])
     ensures { λ _. ⌜ length (now (table .exit)) ≡ length (now (table .entry)) ⌝ }
-    ensures { λ _. ⌜ Cleared from (length (now (table .exit))) (now (table .exit)) ⌝ }
+    ensures { λ _. ⌜ Cleared ending from (length (now (table .exit))) (now (table .exit)) ⌝ }
 {
     let mut k = from;
     while k < table.len() {
-        table[k] = NONE;
+        table[k] = ending;
         k += 1;
     }
 }
@@ -66,25 +66,24 @@ fn clear(from: usize, table: &mut [u16])
 // Notes where each column begins. False says nothing of what the table then holds.
 fn note(s: &[u8], columns: SiblingColumns, table: &mut [u16]) -> bool
     requires { ⌜ node (columns .count) ≤ length (now table) ⌝ }
-    requires { ⌜ Cleared (node (columns .count)) (length (now table)) (now table) ⌝ }
+    requires { ⌜ Cleared none (node (columns .count)) (length (now table)) (now table) ⌝ }
     ensures { λ _. ⌜ length (now (table .exit)) ≡ length (now (table .entry)) ⌝ }
     ensures { λ r. ⌜ (r ≡ true → Noted (columns .edition) (columns .depth) (now (s .entry)) (columns .count) (columns .first .at) (now (table .exit))) ⌝ }
 {
     let n = columns.count;
-    let mut at = columns.first.at;
+    let mut c = columns.first;
     let mut i: u16 = 0;
     while i < n {
         let v = columns.edition;
-        if 65535 < at {
+        if 65535 < c.at {
             return false;
         }
         let k = 2 * wide(i) + 1;
-        table[k] = at as u16;
-        let d = Cursor { at };
-        match d.label(s, v) {
+        table[k] = c.at as u16;
+        match c.label(s, v) {
             Labelled::Is(_, next) => match pass_type(s, v, columns.depth, next) {
                 Moved::To(e) => {
-                    at = e.at;
+                    c = e;
                 }
                 Moved::Refused(_) => return false,
             },
@@ -135,7 +134,7 @@ fn fill(s: &[u8], columns: SiblingColumns, table: &mut [u16]) -> bool
     if table.len() <= from {
         return false;
     }
-    clear(from, table);
+    clear(NONE, from, table);
     if !note(s, columns, table) {
         return false;
     }

@@ -3,10 +3,10 @@
 use Prim.Native.Nat.{ℕ, _+_, _-_, _*_, _<_, _≤_}
 use mathlib.Core.Path.{_≡_, refl, sym, ap, _∙_, subst}
 use mathlib.Core.Bool.{Bool, true, false, _&&_}
-use mathlib.Core.List.{[]}
+use mathlib.Core.List.{List, []}
 use native.Mathlib.Omega.{arith}
 use native.Mathlib.Nat.{zero-add, add-zero, add-assoc}
-use lib.ListN.{length}
+use lib.ListN.{length, take}
 use Rattle.store.specs.Overlay.{overlay}
 use Rattle.store.proofs.Holds.{holds-exact}
 use Rattle.layout.specs.Bytes.{Bytes}
@@ -22,6 +22,7 @@ use Rattle.layout.specs.declared.edition.Edition.{Edition}
 use Rattle.layout.specs.declared.matching.Matching.{Matching}
 use Rattle.layout.proofs.Ways.{clash, label-in}
 use Rattle.layout.proofs.View.{FirstAt, first-at, first-labelled, no-column, same-columns, label-got}
+use Rattle.labels.specs.code.LabelTable.{Table}
 use Rattle.forms.specs.Form.{textBytes}
 use Rattle.forms.proofs.Read.{label-ends}
 use Rattle.forms.proofs.Writing.{span-long}
@@ -65,6 +66,13 @@ join-failed a n (Built l) h = clash (cc)
 row-moved : {b b′ e e′ : ℕ} (out : Bytes) {k k′ : ℕ} {X Y : Result Selectors} (o : Bytes) → b ≡ b′ → e ≡ e′ → k ≡ k′ → X ≡ Y → WroteRow b e out k X o →
     WroteRow b′ e′ out k′ Y o
 row-moved out o p q r s w = rw (← p, ← q, ← r, ← s) w
+
+-- ---- the table of the incoming columns
+
+-- after a call that left the front of the arena as it was
+pub table-still : {v : Edition} {how : Matching} {d : ℕ} {s : Bytes} {n at k : ℕ} (xs ys : List ℕ) → take k ys ≡ take k xs
+    → (0 < k → Table v how d s n at (take k xs)) → 0 < k → Table v how d s n at (take k ys)
+table-still {v} {how} {d} {s} {n} {at} xs ys e T lt = subst (λ (l : List ℕ). Table v how d s n at l) (sym e) (T lt)
 
 -- ---- the loop
 

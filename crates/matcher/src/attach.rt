@@ -1,12 +1,14 @@
 // The type matcher and the field matcher call each other, the remaining depth falling. They write into a scratch buffer
 // from an index on: a mapping that turns out to be left out is written over, and after a refusal nothing is said of the
 // buffer.
-ghost use Prim.Native.Nat.{_+_, _*_, _≤_, _<_};
+ghost use mathlib.Core.Path.{_≡_};
+ghost use Prim.Native.Nat.{_+_, _*_, _≤_};
 ghost use lib.ListN.{length, take};
+ghost use Rattle.layout.specs.Limits.{longest, longestName};
 ghost use Rattle.layout.specs.code.Answers.{spanIn};
 ghost use Rattle.defaults.specs.code.Stands.{IndexedTableAt};
-ghost use Rattle.builder.specs.code.Bundles.{TableOf, TypesAt, RowsAt};
-ghost use Rattle.matcher.specs.code.Contracts.{FieldsOverAt, PairAt, PairNamed, SoughtAt, StructRoom};
+ghost use Rattle.builder.specs.code.Bundles.{TypesAt, RowsAt};
+ghost use Rattle.matcher.specs.code.Contracts.{FieldsOverAt, PairAt, PairNamed, SoughtAt, SoughtIn, StructRoom};
 ghost use Rattle.matcher.specs.code.Contracts.{AttachedTypes, AttachedNested, AttachedStruct, AttachedRows, AttachedField};
 ghost use Rattle.matcher.specs.code.Contracts.{AttachedPair, AttachedElement, AttachedInner};
 use builder::answer::Made;
@@ -36,6 +38,7 @@ use builder::conditions::put_null_cast;
 use builder::conditions::same_element;
 use builder::conditions::struct_fault;
 use builder::default::put_missing;
+use builder::fields::fill_fields;
 use builder::leaf::attach_leaf;
 use builder::parts::ElementPart;
 use builder::parts::InnerPart;
@@ -51,7 +54,6 @@ use defaults::lookup::DefaultFieldValues;
 use defaults::read::TableVersion;
 use forms::write::write_text;
 use labels::SiblingColumns;
-use labels::fill_in;
 use labels::find_in;
 use layout::columns::Labelled;
 use layout::columns::Position;
@@ -74,7 +76,7 @@ pub fn attach_transforms(
 ) -> Made
     requires { ⌜ TypesAt build types (now incoming) (now target) ⌝ }
     requires { ⌜ IndexedTableAt (now table) (now index) (build .defaults) ⌝ }
-    requires { ⌜ (length (now target) ≤ 16384) × (length (now table) ≤ 16384) × (types .place .k ≤ 65536 * types .target .at + 1) ⌝ }
+    requires { ⌜ (length (now target) ≤ longest) × (length (now table) ≤ longest) × (types .place .k ≤ 65536 * types .target .at + 1) ⌝ }
     ensures { λ r. ⌜ AttachedTypes build (now (incoming .entry)) (now (table .entry)) (now (target .entry)) types (types .place) (now (out .entry)) r (now (out .exit)) ⌝ }
 {
     let b = types.target;
@@ -118,7 +120,7 @@ fn attach_nested(
 ) -> Made
     requires { ⌜ TypesAt build types (now incoming) (now target) ⌝ }
     requires { ⌜ IndexedTableAt (now table) (now index) (build .defaults) ⌝ }
-    requires { ⌜ (length (now target) ≤ 16384) × (length (now table) ≤ 16384) × (types .place .k ≤ 65536 * types .target .at + 1) ⌝ }
+    requires { ⌜ (length (now target) ≤ longest) × (length (now table) ≤ longest) × (types .place .k ≤ 65536 * types .target .at + 1) ⌝ }
     ensures { λ r. ⌜ AttachedNested build (now (incoming .entry)) (now (table .entry)) (now (target .entry)) types (types .place) (now (out .entry)) r (now (out .exit)) ⌝ }
 {
     let how = build.matching;
@@ -148,16 +150,7 @@ fn attach_nested(
             };
             attach_struct(build, incoming, table, index, target, over, out, arena)
         }
-        StructPart::Mismatch => attach_inner(
-            build,
-            incoming,
-            table,
-            index,
-            target,
-            types,
-            out,
-            arena,
-        ),
+        StructPart::Mismatch => attach_inner(build, incoming, index, target, types, out, arena),
     }
 }
 
@@ -195,7 +188,7 @@ fn attach_struct(
     let position = place.position;
     put_head(out, place.k, 4, position);
     put_short(out, place.k + 4, over.target.count);
-    let row = attach_row(build, incoming, table, index, target, rows, out, arena);
+    let row = attach_fields(build, incoming, table, index, target, rows, out, arena);
     let Row::Done(same, len) = row else {
         return refused_row(row);
     };
@@ -207,52 +200,10 @@ fn attach_struct(
 }
 
 // The field matcher: the target's fields over the incoming fields. A table of the incoming fields stands at the start
-// of the arena, and what is behind it is lent to the types of the fields.
-fn attach_row(
-    build: Build,
-    incoming: &[u8],
-    table: &[u8],
-    index: &[u16],
-    target: &[u8],
-    rows: Rows,
-    out: &mut [u8],
-    arena: &mut [u16],
-) -> Row
-    requires { ⌜ RowsAt build rows (now incoming) (now target) ⌝ }
-    requires { ⌜ IndexedTableAt (now table) (now index) (build .defaults) ⌝ }
-    requires { ⌜ (length (now target) ≤ 16384) × (length (now table) ≤ 16384) × (rows .k ≤ 65536 * rows .target .first .at) ⌝ }
-    ensures { λ r. ⌜ AttachedRows build (now (incoming .entry)) (now (table .entry)) (now (target .entry)) rows (rows .k) (now (out .entry)) r (now (out .exit)) ⌝ }
-{
-    let matching = build.matching;
-    let edition = build.incoming;
-    let first = rows.incoming.first;
-    let columns = SiblingColumns {
-        edition,
-        matching,
-        depth: rows.depth,
-        count: rows.incoming.count,
-        first,
-    };
-    let used = fill_in(rows.target.count, incoming, columns, arena);
-    attach_fields(
-        build,
-        incoming,
-        used,
-        table,
-        index,
-        target,
-        rows,
-        out,
-        arena,
-    )
-}
-
-// The same, counterparts found through the table, the first `used` numbers of the arena, where there is one. A loop, so
-// that 65,535 fields take no stack.
+// of the arena where the target's are many. A loop, so that 65,535 fields take no stack.
 fn attach_fields(
     build: Build,
     incoming: &[u8],
-    used: usize,
     table: &[u8],
     index: &[u16],
     target: &[u8],
@@ -262,61 +213,43 @@ fn attach_fields(
 ) -> Row
     requires { ⌜ RowsAt build rows (now incoming) (now target) ⌝ }
     requires { ⌜ IndexedTableAt (now table) (now index) (build .defaults) ⌝ }
-    requires { ⌜ (length (now target) ≤ 16384) × (length (now table) ≤ 16384) × (rows .k ≤ 65536 * rows .target .first .at) ⌝ }
-    requires { ⌜ (used ≤ length (now arena)) × (0 < used → TableOf build (build .incoming) (rows .depth) (now incoming) (rows .incoming) (take used (now arena))) ⌝ }
+    requires { ⌜ (length (now target) ≤ longest) × (length (now table) ≤ longest) × (rows .k ≤ 65536 * rows .target .first .at) ⌝ }
     ensures { λ r. ⌜ AttachedRows build (now (incoming .entry)) (now (table .entry)) (now (target .entry)) rows (rows .k) (now (out .entry)) r (now (out .exit)) ⌝ }
 {
-    let matching = build.matching;
-    let edition = build.incoming;
+    let how = build.matching;
+    let v = build.incoming;
     let w = build.target;
-    let first = rows.incoming.first;
-    let columns = SiblingColumns {
-        edition,
-        matching,
-        depth: rows.depth,
-        count: rows.incoming.count,
-        first,
-    };
+    let among = rows.incoming;
+    let count = rows.target.count;
+    let used = fill_fields(how, v, rows.depth, incoming, among, count, arena);
     let policy = build.policy;
     let missing = policy.missing_struct_fields;
     let insert = inserts(missing);
-    let count = rows.target.count;
-    let mut from = rows.target.first.at;
+    let mut c = rows.target.first;
     let mut i: u16 = 0;
     let mut to = rows.k;
     let mut same = true;
     while i < count {
-        let f = Cursor { at: from };
-        match f.label(target, w) {
+        match c.label(target, w) {
             Labelled::Is(l, next) => {
-                let found = find_in(incoming, columns, &arena[..used], target, l);
                 let sought = Sought {
                     depth: rows.depth,
+                    among,
+                    used,
                     column: Column {
                         label: l,
                         cursor: next,
                     },
-                    found,
                     missing: Missing { insert, number: 14 },
                     k: to,
                 };
-                let made = attach_field(
-                    build,
-                    incoming,
-                    table,
-                    index,
-                    target,
-                    sought,
-                    out,
-                    &mut arena[used..],
-                );
+                let made = attach_field(build, incoming, table, index, target, sought, out, arena);
                 if is_refused(made) {
                     return failed(made);
                 }
                 same = both(same, is_bare(made, i));
                 to += len_of(made);
-                let e = skip_type(target, w, rows.depth, next);
-                from = e.at;
+                c = skip_type(target, w, rows.depth, next);
             }
             Labelled::Refused(_) => return Row::Failed(0),
         }
@@ -325,8 +258,8 @@ fn attach_fields(
     Row::Done(same, to - rows.k)
 }
 
-// One target column over its counterpart among the incoming columns, which the caller has looked up, or the column that
-// is missing. `build_column_selector` is this with 11.
+// One target column over its counterpart among the incoming columns, or the column that is missing. What is behind the
+// table of these in the arena is lent to the types. `build_column_selector` is this with 11.
 pub fn attach_field(
     build: Build,
     incoming: &[u8],
@@ -339,13 +272,26 @@ pub fn attach_field(
 ) -> Made
     requires { ⌜ SoughtAt build sought (now incoming) (now target) ⌝ }
     requires { ⌜ IndexedTableAt (now table) (now index) (build .defaults) ⌝ }
-    requires { ⌜ spanIn (now target) (sought .column .label .name) × (sought .column .label .name .len ≤ 63) ⌝ }
-    requires { ⌜ (length (now target) ≤ 16384) × (length (now table) ≤ 16384) × (sought .k ≤ 65536 * sought .column .cursor .at) ⌝ }
+    requires { ⌜ spanIn (now target) (sought .column .label .name) × (sought .column .label .name .len ≤ longestName) ⌝ }
+    requires { ⌜ (length (now target) ≤ longest) × (length (now table) ≤ longest) × (sought .k ≤ 65536 * sought .column .cursor .at) ⌝ }
+    requires { ⌜ SoughtIn build sought (now incoming) (now arena) ⌝ }
     ensures { λ r. ⌜ AttachedField build (now (incoming .entry)) (now (table .entry)) (now (target .entry)) sought (sought .k) (now (out .entry)) r (now (out .exit)) ⌝ }
+    ensures { λ _. ⌜ take (sought .used) (now (arena .exit)) ≡ take (sought .used) (now (arena .entry)) ⌝ }
 {
+    let matching = build.matching;
+    let edition = build.incoming;
+    let first = sought.among.first;
+    let columns = SiblingColumns {
+        edition,
+        matching,
+        depth: sought.depth,
+        count: sought.among.count,
+        first,
+    };
+    let used = sought.used;
     let column = sought.column;
-    let found = sought.found;
-    match found {
+    let l = column.label;
+    match find_in(incoming, columns, &arena[..used], target, l) {
         Found::At(position, label, cursor) => {
             let pair = Pair {
                 depth: sought.depth,
@@ -356,7 +302,16 @@ pub fn attach_field(
                     k: sought.k,
                 },
             };
-            attach_renamed(build, incoming, table, index, target, pair, out, arena)
+            attach_renamed(
+                build,
+                incoming,
+                table,
+                index,
+                target,
+                pair,
+                out,
+                &mut arena[used..],
+            )
         }
         Found::Absent => put_missing(build, table, index, target, sought, out),
     }
@@ -376,7 +331,7 @@ fn attach_renamed(
     requires { ⌜ PairAt build pair (now incoming) (now target) ⌝ }
     requires { ⌜ IndexedTableAt (now table) (now index) (build .defaults) ⌝ }
     requires { ⌜ PairNamed pair (now incoming) (now target) ⌝ }
-    requires { ⌜ (length (now target) ≤ 16384) × (length (now table) ≤ 16384) × (pair .place .k ≤ 65536 * pair .target .cursor .at) ⌝ }
+    requires { ⌜ (length (now target) ≤ longest) × (length (now table) ≤ longest) × (pair .place .k ≤ 65536 * pair .target .cursor .at) ⌝ }
     ensures { λ r. ⌜ AttachedPair build (now (incoming .entry)) (now (table .entry)) (now (target .entry)) pair (pair .place) (now (out .entry)) r (now (out .exit)) ⌝ }
 {
     let column = pair.incoming;
@@ -415,12 +370,12 @@ fn attach_renamed(
     Made::Built(1 + len + n)
 }
 
-// Two lists or two arrays of one width, of which these are the elements; the mapping has this code.
+// Two lists or two arrays of one width, of which these are the elements; the mapping has this code. Inside elements
+// there are no defaults: a table of no entries, which stands in any bytes.
 fn attach_element(
     mut build: Build,
     code: u8,
     incoming: &[u8],
-    table: &[u8],
     index: &[u16],
     target: &[u8],
     mut pair: Pair,
@@ -429,7 +384,7 @@ fn attach_element(
 ) -> Made
     requires { ⌜ PairAt build pair (now incoming) (now target) ⌝ }
     requires { ⌜ PairNamed pair (now incoming) (now target) ⌝ }
-    requires { ⌜ (length (now target) ≤ 16384) × (length (now table) ≤ 16384) × (pair .place .k + 4 ≤ 65536 * pair .target .cursor .at) ⌝ }
+    requires { ⌜ (length (now target) ≤ longest) × (pair .place .k + 4 ≤ 65536 * pair .target .cursor .at) ⌝ }
     ensures { λ r. ⌜ AttachedElement build code (now (incoming .entry)) (now (target .entry)) pair (pair .place) (now (out .entry)) r (now (out .exit)) ⌝ }
 {
     let how = build.matching;
@@ -454,7 +409,7 @@ fn attach_element(
         k: place.k + 4,
     };
     pair.place = first;
-    let made = attach_renamed(build, incoming, table, index, target, pair, out, arena);
+    let made = attach_renamed(build, incoming, target, index, target, pair, out, arena);
     if is_refused(made) {
         return made;
     }
@@ -469,7 +424,6 @@ fn attach_element(
 fn attach_inner(
     build: Build,
     incoming: &[u8],
-    table: &[u8],
     index: &[u16],
     target: &[u8],
     types: Types,
@@ -477,48 +431,38 @@ fn attach_inner(
     arena: &mut [u16],
 ) -> Made
     requires { ⌜ TypesAt build types (now incoming) (now target) ⌝ }
-    requires { ⌜ (length (now target) ≤ 16384) × (length (now table) ≤ 16384) × (types .place .k ≤ 65536 * types .target .at + 1) ⌝ }
+    requires { ⌜ (length (now target) ≤ longest) × (types .place .k ≤ 65536 * types .target .at + 1) ⌝ }
     ensures { λ r. ⌜ AttachedInner build (now (incoming .entry)) (now (target .entry)) types (types .place) (now (out .entry)) r (now (out .exit)) ⌝ }
 {
     let v = build.incoming;
     let w = build.target;
     let place = types.place;
     match element_part(target, w, types.target) {
-        ElementPart::List(l, e) => {
-            let InnerPart::Is(m, d) = list_part(incoming, v, types.incoming) else {
+        ElementPart::List(label, cursor) => {
+            let element = Column { label, cursor };
+            let InnerPart::Is(label, cursor) = list_part(incoming, v, types.incoming) else {
                 return Made::Refused(24);
             };
             let pair = Pair {
                 depth: types.depth - 1,
-                incoming: Column {
-                    label: m,
-                    cursor: d,
-                },
-                target: Column {
-                    label: l,
-                    cursor: e,
-                },
+                incoming: Column { label, cursor },
+                target: element,
                 place,
             };
-            attach_element(build, 5, incoming, table, index, target, pair, out, arena)
+            attach_element(build, 5, incoming, index, target, pair, out, arena)
         }
-        ElementPart::Array(width, l, e) => {
-            let InnerPart::Is(m, d) = array_part(incoming, v, width, types.incoming) else {
+        ElementPart::Array(width, label, cursor) => {
+            let element = Column { label, cursor };
+            let InnerPart::Is(label, cursor) = array_part(incoming, v, width, types.incoming) else {
                 return Made::Refused(24);
             };
             let pair = Pair {
                 depth: types.depth - 1,
-                incoming: Column {
-                    label: m,
-                    cursor: d,
-                },
-                target: Column {
-                    label: l,
-                    cursor: e,
-                },
+                incoming: Column { label, cursor },
+                target: element,
                 place,
             };
-            attach_element(build, 6, incoming, table, index, target, pair, out, arena)
+            attach_element(build, 6, incoming, index, target, pair, out, arena)
         }
         ElementPart::Mismatch => Made::Refused(24),
     }

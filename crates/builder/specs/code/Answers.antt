@@ -8,6 +8,7 @@ use lib.ListN.{length}
 use lib.Dec.{eqb}
 use Rattle.store.specs.Overlay.{Holds}
 use Rattle.layout.specs.Bytes.{Bytes, sameBytes}
+use Rattle.layout.specs.Limits.{longest, longestName}
 use Rattle.layout.specs.Parser.{choose}
 use Rattle.layout.specs.Tree.{LeafType, Label, ColumnType, cleaf, cstruct, clist, carray, Columns, DataType, dtypeOf}
 use Rattle.layout.specs.code.Answers.{leafAt, labelAt, spanIn}
@@ -102,7 +103,7 @@ pub record ElementIs {R : Type 0} (v : Edition) (d : ℕ) (s : Bytes) (at : ℕ)
   pub is : r ≡ f span start
   pub label : labelAt s span ≡ l
   pub inside : spanIn s (span .name)
-  pub short : span .name .len ≤ 63
+  pub short : span .name .len ≤ longestName
   pub inner : TypeAt v (d - 1) s (start .at)
   pub tree : inner .tree ≡ t
   pub ends : inner .end ≡ e
@@ -318,11 +319,11 @@ constantMade h (DefaultMade.Some n f) = Built (h + n)
 -- it stands for at least one.
 unfoldable pub WroteDefault : ℕ → ℕ → Bytes → ℕ → Result Default → Bytes → Type 0
 WroteDefault b e out k (refuses n) out′ = Unit {0}
-WroteDefault b e out k (gives x) out′ = Holds out k (encodeValue (orNull x)) out′ × (length (encodeValue (orNull x)) + 16384 * b ≤ 16384 * e)
+WroteDefault b e out k (gives x) out′ = Holds out k (encodeValue (orNull x)) out′ × (length (encodeValue (orNull x)) + longest * b ≤ longest * e)
 
 unfoldable pub WroteDefaults : ℕ → ℕ → Bytes → ℕ → Result FieldDefaults → Bytes → Type 0
 WroteDefaults b e out k (refuses n) out′ = Unit {0}
-WroteDefaults b e out k (gives g) out′ = Holds out k (encodeValues (g .values)) out′ × (length (encodeValues (g .values)) + 16384 * b ≤ 16384 * e)
+WroteDefaults b e out k (gives g) out′ = Holds out k (encodeValues (g .values)) out′ × (length (encodeValues (g .values)) + longest * b ≤ longest * e)
 
 -- the default that X is, answered and written
 pub record MakesDefault (f : Value → Bool) (b e : ℕ) (out : Bytes) (k : ℕ) (X : Result Default) (r : DefaultMade) (out′ : Bytes) : Type 0 where

@@ -1,14 +1,13 @@
 -- What the parts of the two calls ask, answer and write.
 use mathlib.Core.Path.{_≡_}
-use mathlib.Core.Bool.{Bool, true}
+use mathlib.Core.Bool.{true}
 use mathlib.Core.List.{_++_}
 use Prim.Native.Nat.{ℕ, _+_, _*_, _≤_, _<_}
 use lib.ListN.{length}
 use Rattle.store.specs.Overlay.{Holds}
 use Rattle.layout.specs.Bytes.{Bytes}
-use Rattle.layout.specs.Tree.{Label, Columns}
-use Rattle.layout.specs.Layout.{deepest}
-use Rattle.layout.specs.Find.{counterpart}
+use Rattle.layout.specs.Tree.{Columns}
+use Rattle.layout.specs.Limits.{longest, deepest}
 use Rattle.layout.specs.declared.edition.Edition.{Edition}
 use Rattle.layout.specs.declared.matching.Matching.{Matching}
 use Rattle.forms.specs.Form.{u16Bytes}
@@ -17,13 +16,12 @@ use Rattle.plan.specs.Result.{Answer, accepted, refusedAt, placed, answered, de
 use Rattle.plan.specs.Selector.{Selectors}
 use Rattle.plan.specs.Encode.{planMark, encodeSelectors, encodePlan}
 use Rattle.plan.specs.Calls.{bufferAfter, writeResult}
-use Rattle.matching.specs.Build.{isAbsent, extraColumnErr, extraColumns, buildFrom, build as buildAll}
+use Rattle.matching.specs.Build.{extraColumnErr, extraColumns, buildFrom, build as buildAll}
 use Rattle.matching.specs.Calls.{takes, bothLayouts, roomFor, writtenPlan}
 use Rattle.builder.specs.code.Answers.{DefaultsAt, defaultsAt}
 use Rattle.builder.specs.code.Bundles.{FieldsAt, Taken}
 use Rattle.builder.specs.declared.answer.Made.{Made}
 use Rattle.builder.specs.declared.build.Build.{Build}
-use Rattle.builder.specs.declared.build.Fields.{Fields}
 use Rattle.plan.specs.declared.answer.WriteResult.{WriteResult}
 use Rattle.calls.specs.declared.write.Attempt.{Attempt}
 use Rattle.calls.specs.declared.columns.ColumnsMade.{ColumnsMade}
@@ -44,7 +42,7 @@ pub record BothAt (how : Matching) (incoming target : Bytes) (v w : Edition) (bo
   pub to : FieldsAt w deepest target (both .target)
   pub taken : takes how w ≡ true
   pub starts : both .target .first .at ≡ 7
-  pub small : length target ≤ 16384
+  pub small : length target ≤ longest
   pub is : (f : Columns → Columns → Answer Bytes) → bothLayouts how incoming target f ≡ f (from .columns) (to .columns)
 
 abbrev pub BothIs : Matching → Bytes → Bytes → BothRead → Type 0
@@ -57,10 +55,6 @@ BothIs how incoming target (BothRead.Refused n k) = (f : Columns → Columns →
 abbrev pub extraAnswer : ExtraColumn → Answer (Unit {0})
 extraAnswer (ExtraColumn.At k) = refusedAt 53 k
 extraAnswer ExtraColumn.Nothing = accepted tt
-
-abbrev pub IsExtra : Build → Bytes → Fields → Label → Bool → Type 0
-IsExtra build target fields l r =
-    (P : FieldsAt (build .target) deepest target fields) → r ≡ isAbsent (counterpart (build .matching) l (P .columns))
 
 abbrev pub FoundExtra : Build → Both → Bytes → Bytes → ExtraColumn → Type 0
 FoundExtra build both incoming target r =

@@ -57,10 +57,6 @@ headOf len size i = links len + (i .0) % (size - links len)
 abbrev pub pushed : ℕ → ℕ → FieldId → List ℕ → List ℕ
 pushed len at i index = set (set index (at / 6) (getD index (headOf len (length index) i) 0)) (headOf len (length index) i) at
 
--- the first n numbers lead nowhere
-pub record Cleared (n : ℕ) (index : List ℕ) : Type 0 where
-  pub empty : (k : ℕ) → k < n → getD index k 0 ≡ 0
-
 -- an entry of a chain, by what was read of it, and what the entries before it come to
 unfoldable pub foundOr : Owner → FieldId → EntryKind → Res EntryHead → EntryFound → EntryFound
 foundOr o i k (refuse n) r = EntryFound.Absent

@@ -12,10 +12,10 @@ use Rattle.labels.proofs.clear.Reads as reads
 use Rattle.labels.proofs.clear.Lts as lts
 
 abbrev Inv-loop : tie.InvT-loop
-Inv-loop from table₀ k₀ table k = (length table ≡ length table₀) × Cleared from k table
+Inv-loop ending from table₀ k₀ table k = (length table ≡ length table₀) × Cleared ending from k table
 
 abbrev μ-loop : tie.MeasureT-loop
-μ-loop from table₀ k₀ table k = length table₀ - k
+μ-loop ending from table₀ k₀ table k = length table₀ - k
 
 loop-holds : tie.Need-loop-holds Inv-loop μ-loop
 loop-holds c = (refl, cleared-start _)

@@ -15,20 +15,20 @@ use Rattle.layout.proofs.cursor.Cursor.label.Reads as label-reads
 use Rattle.layout.proofs.pass.pass_type.Reads as pass-type-reads
 
 abbrev Inv-loop : tie.InvT-loop
-Inv-loop s columns table₀ n at₀ i₀ table at i =
-    (length table ≡ length table₀) × Noting (columns .edition) (columns .depth) s (columns .count) at₀ i at table
+Inv-loop s columns table₀ n c₀ i₀ table c i =
+    (length table ≡ length table₀) × Noting (columns .edition) (columns .depth) s (columns .count) (c₀ .at) i (c .at) table
 
 abbrev μ-loop : tie.MeasureT-loop
-μ-loop s columns table₀ n at₀ i₀ table at i = columns .count - i
+μ-loop s columns table₀ n c₀ i₀ table c i = columns .count - i
 
 loop-holds : tie.Need-loop-holds Inv-loop μ-loop
-loop-holds c = (refl, noting-start (c .before .before .pre .1))
+loop-holds c = (refl, noting-start (c .before .before .before .pre .1))
 
 same-length : tie.Need-same-length Inv-loop μ-loop
 same-length c = search needs
 
 returns : tie.Need-returns Inv-loop μ-loop
-returns c = (c .before .before .loop .inv .0, λ h. clash (cc))
+returns c = (c .before .before .before .loop .inv .0, λ h. clash (cc))
 
 wide-requires : tie.Need-wide-requires Inv-loop μ-loop
 wide-requires c κs = search needs
@@ -80,23 +80,21 @@ returns-3 c = (search needs, λ h. clash (cc))
 
 add-i : tie.Need-add-i Inv-loop μ-loop
 add-i c =
-    let c10 = c .before .before .before .before .before .before .before .before .before .before in let c14 = c10 .before .before .before .before in
-    omega (arith, c10 .loop-test .taken, c14 .good .1 .0)
+    let c12 = c .before .before .before .before .before .before .before .before .before .before .before .before in let c17 = c12 .before .before .before .before .before in
+    omega (arith, c12 .loop-test .taken, c17 .good .1 .0)
 
 loop-less : tie.Need-loop-less Inv-loop μ-loop
 loop-less c = search needs
 
 loop-again : tie.Need-loop-again Inv-loop μ-loop
-loop-again c = (
-  search needs,
-  noting-more (c .before .before .before .before .before .before .before .before .before .before .before .loop .inv .1)
-      (let a = c .before .before .before .before .before .before .before .before .before .before .before .loop .inv .0 in let b =
-      c .before .before .before .before .before .before .before .before .before .before .before .before .before .before .pre .0 in omega arith)
-      (c .before .before .before .before .before .before .before .before .before .before .loop-test .taken)
-      (c .before .before .before .before .before .before .before .label .ensures .0) (c .before .before .before .before .before .next .given .1)
-      (c .before .before .before .pass-type .ensures) (c .before .e .given .1) (let a =
-      c .before .before .before .before .before .before .before .before .wide .ensures in omega arith),
-)
+loop-again c =
+    let c9 = c .before .before .before .before .before .before .before .before .before in let c12 = c9 .before .before .before in let c13 = c12 .before in
+    let c17 = c13 .before .before .before .before in (
+      search needs,
+      noting-more (c13 .loop .inv .1) (let a = c13 .loop .inv .0 in let b = c17 .pre .0 in omega arith) (c12 .loop-test .taken)
+          (c .before .before .before .before .before .before .before .label .ensures .0) (c .before .before .before .before .before .next .given .1) (c .before .before .before .pass-type .ensures) (c .before .e .given .1)
+          (let a = c9 .wide .ensures in omega arith),
+    )
 
 same-length-4 : tie.Need-same-length-4 Inv-loop μ-loop
 same-length-4 c = search needs

@@ -50,9 +50,9 @@ pub record Begins (v : Edition) (d : ℕ) (s : Bytes) (n : ℕ) (cs : Columns) (
   pub rest : ColumnsAt v d s (n - i) o
   pub is : rest .columns ≡ after i cs
 
--- the numbers between these indexes lead nowhere
-pub record Cleared (from to : ℕ) (table : List ℕ) : Type 0 where
-  pub empty : (k : ℕ) → from ≤ k → k < to → getD table k 0 ≡ none
+-- the numbers between these indexes lead nowhere: each is the one that ends a chain
+pub record Cleared (ending from to : ℕ) (table : List ℕ) : Type 0 where
+  pub empty : (k : ℕ) → from ≤ k → k < to → getD table k 0 ≡ ending
 
 -- the first i of the columns cs are noted
 pub record Places (v : Edition) (d : ℕ) (s : Bytes) (n i : ℕ) (cs : Columns) (table : List ℕ) : Type 0 where
@@ -60,7 +60,7 @@ pub record Places (v : Edition) (d : ℕ) (s : Bytes) (n i : ℕ) (cs : Columns)
 
 -- all n columns are noted, and no chain leads anywhere
 pub record Noted (v : Edition) (d : ℕ) (s : Bytes) (n from : ℕ) (table : List ℕ) : Type 0 where
-  pub cleared : Cleared (node n) (length table) table
+  pub cleared : Cleared none (node n) (length table) table
   pub places : (P : ColumnsAt v d s n from) → Places v d s n n (P .columns) table
 
 -- the columns from i on are in their chains

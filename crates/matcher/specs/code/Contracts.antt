@@ -2,17 +2,17 @@
 use mathlib.Core.Path.{_≡_}
 use mathlib.Core.Bool.{true}
 use Prim.Native.Nat.{ℕ, _+_, _-_, _*_, _≤_, _<_}
-use lib.ListN.{length}
+use mathlib.Core.List.{List}
+use lib.ListN.{length, take}
 use Rattle.layout.specs.Bytes.{Bytes}
+use Rattle.layout.specs.Limits.{longest, longestName}
 use Rattle.layout.specs.code.Answers.{labelAt, spanIn}
-use Rattle.layout.specs.Find.{counterpart, Finds}
 use Rattle.layout.specs.code.Stands.{TypeAt}
-use Rattle.layout.specs.Tree.{Columns}
 use Rattle.plan.specs.Selector.{Selector}
 use Rattle.matching.specs.Build.{unlessNullType, attachTransforms, attachFields}
 use Rattle.builder.specs.code.Answers.{Makes, MakesRow, Maps, elementOf, needsRename, DefaultsAt, defaultsAt}
 use Rattle.builder.specs.code.Answers.{attachRenamed, attachField, attachStruct, attachElement, attachInner, attachNested}
-use Rattle.builder.specs.code.Bundles.{FieldsAt, Taken}
+use Rattle.builder.specs.code.Bundles.{FieldsAt, TableOf, Taken}
 use Rattle.builder.specs.declared.answer.Made.{Made}
 use Rattle.builder.specs.declared.answer.Row.{Row}
 use Rattle.builder.specs.declared.build.Build.{Build}
@@ -37,22 +37,23 @@ PairAt build pair incoming target =
 -- both names stand inside their bytes, and the target's is short
 abbrev pub PairNamed : Pair → Bytes → Bytes → Type 0
 PairNamed pair incoming target =
-    spanIn incoming (pair .incoming .label .name) × spanIn target (pair .target .label .name) × (pair .target .label .name .len ≤ 63)
-
--- what was found is the target column's counterpart among some columns
-abbrev pub SoughtAmong : Build → Sought → Bytes → Bytes → Columns → Type 0
-SoughtAmong build sought incoming target fs =
-    Finds (build .incoming) (sought .depth) incoming (counterpart (build .matching) (labelAt target (sought .column .label)) fs) (sought .found)
+    spanIn incoming (pair .incoming .label .name) × spanIn target (pair .target .label .name) × (pair .target .label .name .len ≤ longestName)
 
 abbrev pub SoughtAt : Build → Sought → Bytes → Bytes → Type 0
 SoughtAt build sought incoming target =
-    ((fs : Columns) × SoughtAmong build sought incoming target fs)
+    FieldsAt (build .incoming) (sought .depth) incoming (sought .among)
     × (TypeAt (build .target) (sought .depth) target (sought .column .cursor .at) × Taken build)
+
+-- the columns that are sought among have their table at the start of the arena, where there is one
+abbrev pub SoughtIn : Build → Sought → Bytes → List ℕ → Type 0
+SoughtIn build sought incoming arena =
+    (sought .used ≤ length arena)
+    × (0 < sought .used → TableOf build (build .incoming) (sought .depth) incoming (sought .among) (take (sought .used) arena))
 
 -- the bytes are short, and a mapping's head has room before its fields
 abbrev pub StructRoom : FieldsOver → Place → Bytes → Bytes → Type 0
 StructRoom over place table target =
-    (length target ≤ 16384) × (length table ≤ 16384) × (over .target .first .at ≤ length target) × (place .k + 6 ≤ 65536 * over .target .first .at)
+    (length target ≤ longest) × (length table ≤ longest) × (over .target .first .at ≤ length target) × (place .k + 6 ≤ 65536 * over .target .first .at)
 
 -- ---- what is made
 
@@ -95,13 +96,12 @@ abbrev pub AttachedField : Build → Bytes → Bytes → Bytes → Sought → �
 AttachedField build incoming table target sought k out r out′ =
     (from : ℕ)
     (T : DefaultsAt table (build .defaults))
-    (fs : Columns)
+    (P : FieldsAt (build .incoming) (sought .depth) incoming (sought .among))
     (Q : TypeAt (build .target) (sought .depth) target (sought .column .cursor .at))
-    → SoughtAmong build sought incoming target fs
     → from < sought .column .cursor .at
     → Makes from (Q .end) out k
     (attachField (build .matching) (build .policy) (defaultsAt (build .defaults) T) (sought .missing .insert) (sought .missing .number)
-    (labelAt target (sought .column .label)) (Q .tree) fs) r out′
+    (labelAt target (sought .column .label)) (Q .tree) (P .columns)) r out′
 
 abbrev pub AttachedPair : Build → Bytes → Bytes → Bytes → Pair → Place → Bytes → Made → Bytes → Type 0
 AttachedPair build incoming table target pair place out r out′ =

@@ -106,12 +106,12 @@ put-defaults-claims t = (
 )
 
 abbrev put-defaults-Inv-loop : put-defaults-lts.InvT-loop
-put-defaults-Inv-loop build depth table index target out₀ k v n at₀ to₀ any₀ filled₀ i₀ out at to any filled i =
-    (T : TableAt table (build .defaults)) → Defaulting (getDefaultValue (T .entries) (build .defaults .«source_index»)) v depth target n at₀ out₀ k out at to
-    any filled i
+put-defaults-Inv-loop build depth table index target out₀ k v n c₀ to₀ any₀ filled₀ i₀ out c to any filled i =
+    (T : TableAt table (build .defaults)) → Defaulting (getDefaultValue (T .entries) (build .defaults .«source_index»)) v depth target n (c₀ .at) out₀ k out
+    (c .at) to any filled i
 
 abbrev put-defaults-μ-loop : put-defaults-lts.MeasureT-loop
-put-defaults-μ-loop build depth table index target out₀ k v n at₀ to₀ any₀ filled₀ i₀ out at to any filled i = n - i
+put-defaults-μ-loop build depth table index target out₀ k v n c₀ to₀ any₀ filled₀ i₀ out c to any filled i = n - i
 
 put-defaults-is-default-refused-requires :
     (t : ℕ) → put-defaults-lts.Need-is-default-refused-requires (put-defaults-claims t) (put-defaults-at t) put-defaults.Post put-defaults-Inv-loop
@@ -257,21 +257,21 @@ pub +build-iceberg-default-value+put-defaults-spec : {M : Type 1} → statement 
     put-defaults-Inv-loop
     put-defaults-μ-loop
     (λ c.
-    let c4 = c .before .before .before .before in
-    λ T. defaulting-none (getDefaultValue (T .entries) (c4 .args .build .defaults .«source_index»)) (c4 .pre .1 .0) (c4 .pre .1 .1 .1 .1))
+    let c5 = c .before .before .before .before .before in
+    λ T. defaulting-none (getDefaultValue (T .entries) (c5 .args .build .defaults .«source_index»)) (c5 .pre .1 .0) (c5 .pre .1 .1 .1 .1))
     (λ c κs. search needs)
     (λ c. search needs)
     (λ c κs.
-    let c2 = c .before .before in let c4 = c2 .before .before in let c5 = c4 .before in let c6 = c5 .before in let c11 =
-    c6 .before .before .before .before .before in
-    let W = c6 .loop .inv (c11 .pre .1 .1 .0 .0) in (
+    let c2 = c .before .before in let c4 = c2 .before .before in let c5 = c4 .before in let c6 = c5 .before in let c12 =
+    c6 .before .before .before .before .before .before in
+    let W = c6 .loop .inv (c12 .pre .1 .1 .0 .0) in (
       omega arith,
       (
         field _ W (c5 .loop-test .taken) (c4 .label .ensures .0) (c2 .l .given .1) .head,
         (
-          c11 .pre .1 .1 .0,
+          c12 .pre .1 .1 .0,
           (
-            c11 .pre .1 .1 .1 .0,
+            c12 .pre .1 .1 .1 .0,
             field-room _
                 W (c5 .loop-test .taken) (c4 .label .ensures .0) (c2 .l .given .1),
           ),
@@ -281,9 +281,9 @@ pub +build-iceberg-default-value+put-defaults-spec : {M : Type 1} → statement 
     (put-defaults-is-default-refused-requires t)
     (λ c κs. search needs)
     (λ c.
-    let c5 = c .before .before .before .before .before in let c12 = c5 .before .before .before .before .before .before .before in let c17 =
-    c12 .before .before .before .before .before in
-    c5 .build-iceberg-default-value .kept .1 .1 .1 .1 .1 .1 .0 ∙ c12 .loop .inv (c17 .pre .1 .1 .0 .0) .kept)
+    let c5 = c .before .before .before .before .before in let c12 = c5 .before .before .before .before .before .before .before in let c18 =
+    c12 .before .before .before .before .before .before in
+    c5 .build-iceberg-default-value .kept .1 .1 .1 .1 .1 .1 .0 ∙ c12 .loop .inv (c18 .pre .1 .1 .0 .0) .kept)
     (λ c.
     let c1 = c .before in let c2 = c1 .before in let c5 = c2 .before .before .before in let c8 = c5 .before .before .before in let c10 = c8 .before .before
     in let c11 = c10 .before in let c12 = c11 .before in
@@ -294,14 +294,14 @@ pub +build-iceberg-default-value+put-defaults-spec : {M : Type 1} → statement 
     (c .failed-default .ensures) Q)
     (λ c κs.
     let c7 = c .before .before .before .before .before .before .before in let c9 = c7 .before .before in let c10 = c9 .before in let c11 = c10 .before in let
-    c16 = c11 .before .before .before .before .before in
-    let W = c11 .loop .inv (c16 .pre .1 .1 .0 .0) in
+    c17 = c11 .before .before .before .before .before .before in
+    let W = c11 .loop .inv (c17 .pre .1 .1 .0 .0) in
     field _ W (c10 .loop-test .taken) (c9 .label .ensures .0) (c7 .l .given .1) .head)
     (λ c κs. search needs)
     (λ c.
     let c2 = c .before .before in let c3 = c2 .before in let c6 = c3 .before .before .before in let c9 = c6 .before .before .before in let c11 =
-    c9 .before .before in let c12 = c11 .before in let c13 = c12 .before in let c18 = c13 .before .before .before .before .before in
-    let T = c18 .pre .1 .1 .0 .0 in
+    c9 .before .before in let c12 = c11 .before in let c13 = c12 .before in let c19 = c13 .before .before .before .before .before .before in
+    let T = c19 .pre .1 .1 .0 .0 in
     let W = c13 .loop .inv T in
     omega (
       arith,
@@ -315,30 +315,30 @@ pub +build-iceberg-default-value+put-defaults-spec : {M : Type 1} → statement 
     (λ c κs. search needs)
     (λ c. search needs)
     (λ c.
-    let c5 = c .before .before .before .before .before in let c10 = c5 .before .before .before .before .before in
-    c5 .loop .inv (c10 .pre .1 .1 .0 .0) .kept)
+    let c5 = c .before .before .before .before .before in let c11 = c5 .before .before .before .before .before .before in
+    c5 .loop .inv (c11 .pre .1 .1 .0 .0) .kept)
     (λ c.
     let c1 = c .before in let c3 = c1 .before .before in let c4 = c3 .before in let c5 = c4 .before in
     λ T Q. defaulting-unlabelled _ (c5 .loop .inv T) (c4 .loop-test .taken) (c3 .label .ensures .0) (c1 .m .given .1))
     (λ c.
-    let c16 = c .before .before .before .before .before .before .before .before .before .before .before .before .before .before .before .before in let c22 =
-    c16 .before .before .before .before .before .before in
-    omega (arith, c22 .good .1 .1 .1 .1 .1 .0, c16 .loop-test .taken))
+    let c16 = c .before .before .before .before .before .before .before .before .before .before .before .before .before .before .before .before in let c23 =
+    c16 .before .before .before .before .before .before .before in
+    omega (arith, c23 .good .1 .1 .1 .1 .1 .0, c16 .loop-test .taken))
     (λ c. omega arith)
     (λ c.
     let c1 = c .before in let c2 = c1 .before in let c3 = c2 .before in let c4 = c3 .before in let c5 = c4 .before in let c6 = c5 .before in let c7 =
     c6 .before in let c10 = c7 .before .before .before in let c13 = c10 .before .before .before in let c15 = c13 .before .before in let c16 = c15 .before in
-    let c17 = c16 .before in let c22 = c17 .before .before .before .before .before in
+    let c17 = c16 .before in let c23 = c17 .before .before .before .before .before .before in
     λ T.
     let W = c17 .loop .inv T in
     defaulting-more _ W (c16 .loop-test .taken) (c15 .label .ensures .0) (c13 .l .given .1) (c10 .build-iceberg-default-value .ensures T (field _ W
     (c16 .loop-test .taken) (c15 .label .ensures .0) (c13 .l .given .1) .head)) (c7 .is-default-refused .ensures) (c6 .if1 .left) (table-present
-    (T .entries) (c22 .args .build .defaults .«source_index»)) (c5 .skip-type .ensures) (c4 .value-len .ensures) (c3 .is-some .ensures)
+    (T .entries) (c23 .args .build .defaults .«source_index»)) (c5 .skip-type .ensures) (c4 .value-len .ensures) (c3 .is-some .ensures)
     (c2 .either .ensures) (c1 .fills-required .ensures) (c .both .ensures) (c10 .build-iceberg-default-value .kept .1 .1 .1 .1 .1 .1 .0))
     (λ c.
-    let c1 = c .before in let c6 = c1 .before .before .before .before .before in
-    omega (arith, c1 .loop .inv (c6 .pre .1 .1 .0 .0) .over))
+    let c1 = c .before in let c7 = c1 .before .before .before .before .before .before in
+    omega (arith, c1 .loop .inv (c7 .pre .1 .1 .0 .0) .over))
     (λ c.
-    let c1 = c .before in let c6 = c1 .before .before .before .before .before in
-    c1 .loop .inv (c6 .pre .1 .1 .0 .0) .kept)
+    let c1 = c .before in let c7 = c1 .before .before .before .before .before .before in
+    c1 .loop .inv (c7 .pre .1 .1 .0 .0) .kept)
     (λ c. λ T Q. defaulting-all _ (c .before .loop .inv T) (c .loop-test .left) Q)

@@ -8,10 +8,10 @@ use Rattle.builder.proofs.fields.distinct_few.Statement.{statement}
 use Rattle.builder.proofs.fields.distinct_few.Tie as tie
 
 abbrev Inv-loop : tie.InvT-loop
-Inv-loop s v depth n at₀ left₀ at left = Passing v depth s distinctNames n at₀ left at
+Inv-loop s v depth n d₀ left₀ d left = Passing v depth s distinctNames n (d₀ .at) left (d .at)
 
 abbrev μ-loop : tie.MeasureT-loop
-μ-loop s v depth n at₀ left₀ at left = left
+μ-loop s v depth n d₀ left₀ d left = left
 
 pub distinct-few-spec : {M : Type 1} → statement M
 distinct-few-spec =

@@ -8,24 +8,24 @@ use Rattle.builder.proofs.fields.no_extra.Tie as tie
 use Rattle.builder.proofs.fields.no_extra.Reads as reads
 use Rattle.builder.proofs.fields.no_extra.Lts as lts
 use Rattle.builder.proofs.fields.no_extra_in.Reads as no-extra-in-reads
-use Rattle.labels.proofs.fill_in.Reads as fill-in-reads
+use Rattle.builder.proofs.fields.fill_fields.Reads as fill-fields-reads
 
-fill-in-requires : tie.Need-fill-in-requires
-fill-in-requires c κs = search needs
+fill-fields-requires : tie.Need-fill-fields-requires
+fill-fields-requires c κs = search needs
 
 slice-reshare-prefix-no-extra-in : tie.Need-slice-reshare-prefix-no-extra-in
 slice-reshare-prefix-no-extra-in c = search needs
 
 slice-aggregate-no-extra-in : tie.Need-slice-aggregate-no-extra-in
-slice-aggregate-no-extra-in c = sym (length-take-le (c .before .before .before .fill-in .result)
-    (c .before .before .before .fill-in .last .1 .1 .1 .0) (c .before .before .before .fill-in .ensures .0))
+slice-aggregate-no-extra-in c = sym (length-take-le (c .before .before .before .fill-fields .result)
+    (c .before .before .before .fill-fields .last .1 .1 .1 .1 .1 .1 .0) (c .before .before .before .fill-fields .ensures .0))
 
 no-extra-in-requires : tie.Need-no-extra-in-requires
 no-extra-in-requires c κs =
-    let xs = c .before .before .before .fill-in .last .1 .1 .1 .0 in (
+    let xs = c .before .before .before .fill-fields .last .1 .1 .1 .1 .1 .1 .0 in (
       c .before .before .before .before .before .before .before .before .before .pre,
-      table-kept xs xs (c .before .before .before .fill-in .ensures .0) refl
-          (c .before .before .before .fill-in .ensures .1),
+      table-kept xs xs (c .before .before .before .fill-fields .ensures .0) refl
+          (c .before .before .before .fill-fields .ensures .1),
     )
 
 same-length : tie.Need-same-length
@@ -38,7 +38,7 @@ pub no-extra-spec : {M : Type 1} → statement M
 no-extra-spec =
     tie.close
     (tie.spec
-    fill-in-requires
+    fill-fields-requires
     slice-reshare-prefix-no-extra-in
     slice-aggregate-no-extra-in
     no-extra-in-requires

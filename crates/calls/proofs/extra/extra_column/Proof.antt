@@ -15,11 +15,11 @@ extra-column-spec =
     (λ c. search needs)
     (λ c κs. search needs)
     (λ c. search needs)
-    (λ c. let f = c .before .before .before .fill-in in sym (length-take-le (f .result) (f .last .1 .1 .1 .0) (f .ensures .0)))
+    (λ c. let f = c .before .before .before .fill-fields in sym (length-take-le (f .result) (f .last .1 .1 .1 .1 .1 .1 .0) (f .ensures .0)))
     (λ c κs.
     let c3 = c .before .before .before in let c11 = c3 .before .before .before .before .before .before .before .before in
-    let f = c3 .fill-in in
-    let xs = f .last .1 .1 .1 .0 in
+    let f = c3 .fill-fields in
+    let xs = f .last .1 .1 .1 .1 .1 .1 .0 in
     (c11 .pre, table-kept xs xs (f .ensures .0) refl (f .ensures .1)))
     (λ c. λ P Q. ignoring (c .before .before .before .before .before .args .build .matching) (P .columns) (Q .columns) (c .enum-told .given .1))
     (λ c. search needs)

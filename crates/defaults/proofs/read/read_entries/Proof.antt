@@ -13,17 +13,17 @@ use Rattle.defaults.proofs.read.read_entries.Statement.{statement}
 use Rattle.defaults.proofs.read.read_entries.Tie as tie
 use Rattle.defaults.proofs.read.read_entries.Reads as reads
 use Rattle.defaults.proofs.read.read_entries.Lts as lts
-use Rattle.defaults.proofs.index.clear.Reads as clear-reads
+use Rattle.labels.proofs.clear.Reads as clear-reads
 use Rattle.defaults.proofs.index.push.Reads as push-reads
 use Rattle.defaults.proofs.read.find_entry.Reads as find-entry-reads
 use Rattle.defaults.proofs.read.is_found.Reads as is-found-reads
 use Rattle.defaults.proofs.read.read_entry.Reads as read-entry-reads
 
 abbrev Inv-loop : tie.InvT-loop
-Inv-loop s version n index₀ at₀ i₀ index at i = (length index ≡ length index₀) × Filling version s n at₀ i at index
+Inv-loop s version n index₀ d₀ i₀ index d i = (length index ≡ length index₀) × Filling version s n (d₀ .at) i (d .at) index
 
 abbrev μ-loop : tie.MeasureT-loop
-μ-loop s version n index₀ at₀ i₀ index at i = n - i
+μ-loop s version n index₀ d₀ i₀ index d i = n - i
 
 clear-requires : tie.Need-clear-requires Inv-loop μ-loop
 clear-requires c κs = search needs
@@ -88,7 +88,7 @@ loop-again : tie.Need-loop-again Inv-loop μ-loop
 loop-again c =
     let c2 = c .before .before in let c4 = c2 .before .before in let c5 = c4 .before in let c6 = c5 .before in let c9 = c6 .before .before .before in
     let c11 = c9 .before .before in let c12 = c11 .before in let c13 = c12 .before in let c20 = c13 .before .before .before .before .before .before .before in (
-      ap (λ (l : List ℕ). length l) (c2 .push .ensures) ∙ pushed-length (length (now (c20 .args .s))) (c13 .loop .at) (c9 .owner .given .0 .1 .0)
+      ap (λ (l : List ℕ). length l) (c2 .push .ensures) ∙ pushed-length (length (now (c20 .args .s))) (c13 .loop .d .at) (c9 .owner .given .0 .1 .0)
           (c13 .loop .index) ∙ c13 .loop .inv .0,
       filling-more (c13 .loop .inv .1) (c12 .loop-test .taken) (c11 .read-entry .ensures) (c9 .owner .given .1)
           (c6 .find-entry .ensures) (c5 .is-found .ensures) (c4 .if1 .left) (c2 .push .ensures),

@@ -7,10 +7,10 @@ use Rattle.defaults.proofs.types.read_leaf_values.Statement.{statement}
 use Rattle.defaults.proofs.types.read_leaf_values.Tie as tie
 
 abbrev Inv-loop : tie.InvT-loop
-Inv-loop s l n at₀ i₀ at i = Repeating s l n at₀ i at
+Inv-loop s l n d₀ i₀ d i = Repeating s l n (d₀ .at) i (d .at)
 
 abbrev μ-loop : tie.MeasureT-loop
-μ-loop s l n at₀ i₀ at i = n - i
+μ-loop s l n d₀ i₀ d i = n - i
 
 pub read-leaf-values-spec : {M : Type 1} → statement M
 read-leaf-values-spec =
@@ -26,4 +26,4 @@ read-leaf-values-spec =
     (λ c. omega arith)
     (λ c. omega arith)
     (λ c. search repeating-more)
-    (λ c. search repeating-all))
+    (λ c. repeating-all _ _ _ _ _ _ (c .before .loop .inv) (c .loop-test .left)))

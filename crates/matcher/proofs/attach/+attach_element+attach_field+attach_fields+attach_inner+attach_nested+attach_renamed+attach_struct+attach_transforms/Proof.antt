@@ -1,4 +1,4 @@
--- The proof of the matchers' cycle. The measure is 7 for each level left, and up to 6 more by the function. `Remaining`
+-- The proof of the matchers' cycle. The measure is 7 for each level left, and up to 5 more by the function. `Remaining`
 -- holds at the head of the loop over target fields, and the arena's first `used` numbers are as they were. Assumes
 -- nothing.
 use Rattle.labels.proofs.Arena.{table-kept}
@@ -7,7 +7,7 @@ use lib.Seq.{length-take-le}
 use lib.ListN.{length, take}
 use native.Mathlib.Omega.{arith}
 use Rattle.matcher.proofs.Remaining.{Remaining, remaining-all, remaining-none, remaining-unlabelled, field, field-name, field-after, remaining-stop}
-use Rattle.matcher.proofs.Remaining.{remaining-room, remaining-more}
+use Rattle.matcher.proofs.Remaining.{remaining-room, remaining-more, table-still}
 use denote.Ref.{now}
 use mathlib.Core.Path.{_≡_, refl, sym, ap, _∙_}
 use Rattle.builder.proofs.Names.{not-false}
@@ -34,31 +34,28 @@ use borrow.Fn.Kinds.{In}
 use borrow.Fn.PlainCycle.{Measures, is, falls, and}
 use Rattle.matcher.proofs.attach.attach_element.Reads as attach-element
 use Rattle.matcher.proofs.attach.attach_element.Kinds as attach-element-kinds
-use Rattle.matcher.proofs.attach.+attach_element+attach_field+attach_fields+attach_inner+attach_nested+attach_renamed+attach_row+attach_struct+attach_transforms.Lts-attach_element as attach-element-lts
+use Rattle.matcher.proofs.attach.+attach_element+attach_field+attach_fields+attach_inner+attach_nested+attach_renamed+attach_struct+attach_transforms.Lts-attach_element as attach-element-lts
 use Rattle.matcher.proofs.attach.attach_field.Reads as attach-field
 use Rattle.matcher.proofs.attach.attach_field.Kinds as attach-field-kinds
-use Rattle.matcher.proofs.attach.+attach_element+attach_field+attach_fields+attach_inner+attach_nested+attach_renamed+attach_row+attach_struct+attach_transforms.Lts-attach_field as attach-field-lts
+use Rattle.matcher.proofs.attach.+attach_element+attach_field+attach_fields+attach_inner+attach_nested+attach_renamed+attach_struct+attach_transforms.Lts-attach_field as attach-field-lts
 use Rattle.matcher.proofs.attach.attach_fields.Reads as attach-fields
 use Rattle.matcher.proofs.attach.attach_fields.Kinds as attach-fields-kinds
-use Rattle.matcher.proofs.attach.+attach_element+attach_field+attach_fields+attach_inner+attach_nested+attach_renamed+attach_row+attach_struct+attach_transforms.Lts-attach_fields as attach-fields-lts
+use Rattle.matcher.proofs.attach.+attach_element+attach_field+attach_fields+attach_inner+attach_nested+attach_renamed+attach_struct+attach_transforms.Lts-attach_fields as attach-fields-lts
 use Rattle.matcher.proofs.attach.attach_inner.Reads as attach-inner
 use Rattle.matcher.proofs.attach.attach_inner.Kinds as attach-inner-kinds
-use Rattle.matcher.proofs.attach.+attach_element+attach_field+attach_fields+attach_inner+attach_nested+attach_renamed+attach_row+attach_struct+attach_transforms.Lts-attach_inner as attach-inner-lts
+use Rattle.matcher.proofs.attach.+attach_element+attach_field+attach_fields+attach_inner+attach_nested+attach_renamed+attach_struct+attach_transforms.Lts-attach_inner as attach-inner-lts
 use Rattle.matcher.proofs.attach.attach_nested.Reads as attach-nested
 use Rattle.matcher.proofs.attach.attach_nested.Kinds as attach-nested-kinds
-use Rattle.matcher.proofs.attach.+attach_element+attach_field+attach_fields+attach_inner+attach_nested+attach_renamed+attach_row+attach_struct+attach_transforms.Lts-attach_nested as attach-nested-lts
+use Rattle.matcher.proofs.attach.+attach_element+attach_field+attach_fields+attach_inner+attach_nested+attach_renamed+attach_struct+attach_transforms.Lts-attach_nested as attach-nested-lts
 use Rattle.matcher.proofs.attach.attach_renamed.Reads as attach-renamed
 use Rattle.matcher.proofs.attach.attach_renamed.Kinds as attach-renamed-kinds
-use Rattle.matcher.proofs.attach.+attach_element+attach_field+attach_fields+attach_inner+attach_nested+attach_renamed+attach_row+attach_struct+attach_transforms.Lts-attach_renamed as attach-renamed-lts
-use Rattle.matcher.proofs.attach.attach_row.Reads as attach-row
-use Rattle.matcher.proofs.attach.attach_row.Kinds as attach-row-kinds
-use Rattle.matcher.proofs.attach.+attach_element+attach_field+attach_fields+attach_inner+attach_nested+attach_renamed+attach_row+attach_struct+attach_transforms.Lts-attach_row as attach-row-lts
+use Rattle.matcher.proofs.attach.+attach_element+attach_field+attach_fields+attach_inner+attach_nested+attach_renamed+attach_struct+attach_transforms.Lts-attach_renamed as attach-renamed-lts
 use Rattle.matcher.proofs.attach.attach_struct.Reads as attach-struct
 use Rattle.matcher.proofs.attach.attach_struct.Kinds as attach-struct-kinds
-use Rattle.matcher.proofs.attach.+attach_element+attach_field+attach_fields+attach_inner+attach_nested+attach_renamed+attach_row+attach_struct+attach_transforms.Lts-attach_struct as attach-struct-lts
+use Rattle.matcher.proofs.attach.+attach_element+attach_field+attach_fields+attach_inner+attach_nested+attach_renamed+attach_struct+attach_transforms.Lts-attach_struct as attach-struct-lts
 use Rattle.matcher.proofs.attach.attach_transforms.Reads as attach-transforms
 use Rattle.matcher.proofs.attach.attach_transforms.Kinds as attach-transforms-kinds
-use Rattle.matcher.proofs.attach.+attach_element+attach_field+attach_fields+attach_inner+attach_nested+attach_renamed+attach_row+attach_struct+attach_transforms.Lts-attach_transforms as attach-transforms-lts
+use Rattle.matcher.proofs.attach.+attach_element+attach_field+attach_fields+attach_inner+attach_nested+attach_renamed+attach_struct+attach_transforms.Lts-attach_transforms as attach-transforms-lts
 use Rattle.builder.proofs.answer.both.Reads as both-reads
 use Rattle.builder.proofs.answer.failed.Reads as failed-reads
 use Rattle.builder.proofs.answer.is_bare.Reads as is-bare-reads
@@ -74,6 +71,7 @@ use Rattle.builder.proofs.conditions.put_null_cast.Reads as put-null-cast-reads
 use Rattle.builder.proofs.conditions.same_element.Reads as same-element-reads
 use Rattle.builder.proofs.conditions.struct_fault.Reads as struct-fault-reads
 use Rattle.builder.proofs.default.put_missing.Reads as put-missing-reads
+use Rattle.builder.proofs.fields.fill_fields.Reads as fill-fields-reads
 use Rattle.builder.proofs.leaf.attach_leaf.Reads as attach-leaf-reads
 use Rattle.builder.proofs.parts.array_part.Reads as array-part-reads
 use Rattle.builder.proofs.parts.element_part.Reads as element-part-reads
@@ -83,30 +81,29 @@ use Rattle.builder.proofs.write.put_head.Reads as put-head-reads
 use Rattle.builder.proofs.write.put_position.Reads as put-position-reads
 use Rattle.builder.proofs.write.put_short.Reads as put-short-reads
 use Rattle.forms.proofs.write.write_text.Reads as write-text-reads
-use Rattle.labels.proofs.fill_in.Reads as fill-in-reads
 use Rattle.labels.proofs.find_in.Reads as find-in-reads
 use Rattle.layout.proofs.cursor.Cursor.head.Reads as head-reads
 use Rattle.layout.proofs.cursor.Cursor.label.Reads as label-reads
 use Rattle.layout.proofs.walk.skip_type.Reads as skip-type-reads
 use Rattle.store.proofs.put.Reads as put-reads
-use Rattle.matcher.proofs.attach.+attach_element+attach_field+attach_fields+attach_inner+attach_nested+attach_renamed+attach_row+attach_struct+attach_transforms.{
+use Rattle.matcher.proofs.attach.+attach_element+attach_field+attach_fields+attach_inner+attach_nested+attach_renamed+attach_struct+attach_transforms.{
   statement,
 }
-use Rattle.matcher.proofs.attach.+attach_element+attach_field+attach_fields+attach_inner+attach_nested+attach_renamed+attach_row+attach_struct+attach_transforms.Tie.{
+use Rattle.matcher.proofs.attach.+attach_element+attach_field+attach_fields+attach_inner+attach_nested+attach_renamed+attach_struct+attach_transforms.Tie.{
   close,
 }
 
-abbrev μ-attach-element : Measures 6 attach-element-kinds.ps ℕ
-μ-attach-element κs a = 7 * (a .1 .1 .1 .1 .1 .1 .0 .depth) + 4
+abbrev μ-attach-element : Measures 5 attach-element-kinds.ps ℕ
+μ-attach-element κs a = 7 * (a .1 .1 .1 .1 .1 .0 .depth) + 4
 
 abbrev μ-attach-field : Measures 6 attach-field-kinds.ps ℕ
 μ-attach-field κs a = 7 * (a .1 .1 .1 .1 .1 .0 .depth) + 4
 
 abbrev μ-attach-fields : Measures 6 attach-fields-kinds.ps ℕ
-μ-attach-fields κs a = 7 * (a .1 .1 .1 .1 .1 .1 .0 .depth) + 5
+μ-attach-fields κs a = 7 * (a .1 .1 .1 .1 .1 .0 .depth) + 5
 
-abbrev μ-attach-inner : Measures 6 attach-inner-kinds.ps ℕ
-μ-attach-inner κs a = 7 * (a .1 .1 .1 .1 .1 .0 .depth)
+abbrev μ-attach-inner : Measures 5 attach-inner-kinds.ps ℕ
+μ-attach-inner κs a = 7 * (a .1 .1 .1 .1 .0 .depth)
 
 abbrev μ-attach-nested : Measures 6 attach-nested-kinds.ps ℕ
 μ-attach-nested κs a = 7 * (a .1 .1 .1 .1 .1 .0 .depth) + 1
@@ -114,29 +111,26 @@ abbrev μ-attach-nested : Measures 6 attach-nested-kinds.ps ℕ
 abbrev μ-attach-renamed : Measures 6 attach-renamed-kinds.ps ℕ
 μ-attach-renamed κs a = 7 * (a .1 .1 .1 .1 .1 .0 .depth) + 3
 
-abbrev μ-attach-row : Measures 6 attach-row-kinds.ps ℕ
-μ-attach-row κs a = 7 * (a .1 .1 .1 .1 .1 .0 .depth) + 6
-
 abbrev μ-attach-struct : Measures 6 attach-struct-kinds.ps ℕ
 μ-attach-struct κs a = 7 * (a .1 .1 .1 .1 .1 .0 .depth)
 
 abbrev μ-attach-transforms : Measures 6 attach-transforms-kinds.ps ℕ
 μ-attach-transforms κs a = 7 * (a .1 .1 .1 .1 .1 .0 .depth) + 2
 
-abbrev attach-element-at : ℕ → In 6 attach-element-kinds.ps
+abbrev attach-element-at : ℕ → In 5 attach-element-kinds.ps
 attach-element-at t =
     and
-    6
+    5
     attach-element-kinds.ps
-    (is 6 attach-element-kinds.ps μ-attach-element t)
+    (is 5 attach-element-kinds.ps μ-attach-element t)
     attach-element.Pre
 
-abbrev attach-element-below : ℕ → In 6 attach-element-kinds.ps
+abbrev attach-element-below : ℕ → In 5 attach-element-kinds.ps
 attach-element-below t =
     and
-    6
+    5
     attach-element-kinds.ps
-    (falls 6 attach-element-kinds.ps _<_ μ-attach-element t)
+    (falls 5 attach-element-kinds.ps _<_ μ-attach-element t)
     attach-element.Pre
 
 abbrev attach-field-at : ℕ → In 6 attach-field-kinds.ps
@@ -163,16 +157,16 @@ attach-fields-below t =
     (falls 6 attach-fields-kinds.ps _<_ μ-attach-fields t)
     attach-fields.Pre
 
-abbrev attach-inner-at : ℕ → In 6 attach-inner-kinds.ps
+abbrev attach-inner-at : ℕ → In 5 attach-inner-kinds.ps
 attach-inner-at t =
-    and 6 attach-inner-kinds.ps (is 6 attach-inner-kinds.ps μ-attach-inner t) attach-inner.Pre
+    and 5 attach-inner-kinds.ps (is 5 attach-inner-kinds.ps μ-attach-inner t) attach-inner.Pre
 
-abbrev attach-inner-below : ℕ → In 6 attach-inner-kinds.ps
+abbrev attach-inner-below : ℕ → In 5 attach-inner-kinds.ps
 attach-inner-below t =
     and
-    6
+    5
     attach-inner-kinds.ps
-    (falls 6 attach-inner-kinds.ps _<_ μ-attach-inner t)
+    (falls 5 attach-inner-kinds.ps _<_ μ-attach-inner t)
     attach-inner.Pre
 
 abbrev attach-nested-at : ℕ → In 6 attach-nested-kinds.ps
@@ -202,14 +196,6 @@ attach-renamed-below t =
     attach-renamed-kinds.ps
     (falls 6 attach-renamed-kinds.ps _<_ μ-attach-renamed t)
     attach-renamed.Pre
-
-abbrev attach-row-at : ℕ → In 6 attach-row-kinds.ps
-attach-row-at t =
-    and 6 attach-row-kinds.ps (is 6 attach-row-kinds.ps μ-attach-row t) attach-row.Pre
-
-abbrev attach-row-below : ℕ → In 6 attach-row-kinds.ps
-attach-row-below t =
-    and 6 attach-row-kinds.ps (falls 6 attach-row-kinds.ps _<_ μ-attach-row t) attach-row.Pre
 
 abbrev attach-struct-at : ℕ → In 6 attach-struct-kinds.ps
 attach-struct-at t =
@@ -258,16 +244,23 @@ attach-element-claims t = (
 )
 
 abbrev attach-field-claims : ℕ → attach-field-lts.Claims
-attach-field-claims t = (attach-renamed-below t, attach-renamed.Post, put-missing-reads.Asked, put-missing-reads.Learnt)
+attach-field-claims t = (
+  find-in-reads.Asked,
+  find-in-reads.Learnt,
+  attach-renamed-below t,
+  attach-renamed.Post,
+  put-missing-reads.Asked,
+  put-missing-reads.Learnt,
+)
 
 abbrev attach-fields-claims : ℕ → attach-fields-lts.Claims
 attach-fields-claims t = (
+  fill-fields-reads.Asked,
+  fill-fields-reads.Learnt,
   inserts-reads.Asked,
   inserts-reads.Learnt,
   label-reads.Asked,
   label-reads.Learnt,
-  find-in-reads.Asked,
-  find-in-reads.Learnt,
   attach-field-below t,
   attach-field.Post,
   is-refused-reads.Asked,
@@ -328,9 +321,6 @@ attach-renamed-claims t = (
   write-text-reads.Learnt,
 )
 
-abbrev attach-row-claims : ℕ → attach-row-lts.Claims
-attach-row-claims t = (fill-in-reads.Asked, fill-in-reads.Learnt, attach-fields-below t, attach-fields.Post)
-
 abbrev attach-struct-claims : ℕ → attach-struct-lts.Claims
 attach-struct-claims t = (
   struct-part-reads.Asked,
@@ -341,8 +331,8 @@ attach-struct-claims t = (
   put-head-reads.Learnt,
   put-short-reads.Asked,
   put-short-reads.Learnt,
-  attach-row-below t,
-  attach-row.Post,
+  attach-fields-below t,
+  attach-fields.Post,
   refused-row-reads.Asked,
   refused-row-reads.Learnt,
   unchanged-reads.Asked,
@@ -367,30 +357,30 @@ attach-element-same-element-requires t c κs = search needs
 
 attach-element-returns : (t : ℕ) → attach-element-lts.Need-returns (attach-element-claims t) (attach-element-at t) attach-element.Post
 attach-element-returns t c =
-    let c1 = c .before in let c10 = c1 .before .before .before .before .before .before .before .before .before in
+    let c1 = c .before in let c9 = c1 .before .before .before .before .before .before .before .before in
     λ from f g M P Q lt nm.
-    let a = c10 .args in
+    let a = c9 .args in
     makes-refused _ _ _ _ _ (element-unlike (a .build .matching) (a .build .policy) f (labelAt (now (a .target)) (a .pair .target .label)) (Q .tree) (labelAt
     (now (a .incoming)) (a .pair .incoming .label)) (P .tree) (c1 .same-element .ensures (labelAt (now (a .incoming)) (a .pair .incoming .label))
     (labelAt (now (a .target)) (a .pair .target .label)) refl refl) (c .if1 .taken))
 
 attach-element-put-head-requires : (t : ℕ) → attach-element-lts.Need-put-head-requires (attach-element-claims t) (attach-element-at t) attach-element.Post
 attach-element-put-head-requires t c κs =
-    let c13 = c .before .before .before .before .before .before .before .before .before .before .before .before .before in
-    omega (arith, extent (c13 .pre .1 .0 .1 .0), c13 .pre .1 .1 .1)
+    let c12 = c .before .before .before .before .before .before .before .before .before .before .before .before in
+    omega (arith, extent (c12 .pre .1 .0 .1 .0), c12 .pre .1 .1 .1)
 
-attach-element-add-t26 : (t : ℕ) → attach-element-lts.Need-add-t26 (attach-element-claims t) (attach-element-at t) attach-element.Post
-attach-element-add-t26 t c =
-    let c17 = c .before .before .before .before .before .before .before .before .before .before .before .before .before .before .before .before .before in
-    omega (arith, extent (c17 .pre .1 .0 .1 .0), c17 .pre .1 .1 .1)
+attach-element-add-t25 : (t : ℕ) → attach-element-lts.Need-add-t25 (attach-element-claims t) (attach-element-at t) attach-element.Post
+attach-element-add-t25 t c =
+    let c16 = c .before .before .before .before .before .before .before .before .before .before .before .before .before .before .before .before in
+    omega (arith, extent (c16 .pre .1 .0 .1 .0), c16 .pre .1 .1 .1)
 
 attach-element-attach-renamed-requires : (t : ℕ) → attach-element-lts.Need-attach-renamed-requires (attach-element-claims t) (attach-element-at t)
     attach-element.Post
 attach-element-attach-renamed-requires t c κs =
-    let c19 = c .before .before .before .before .before .before .before .before .before .before .before .before .before .before .before .before .before
-    .before .before in
-    let w = c19 .pre .1 in
-    (omega (arith, c19 .pre .0), (w .0, ((none-at (now (c19 .args .table)), λ n. absurd (omega (arith, n))), (w .1 .0, w .1 .1))))
+    let c18 = c .before .before .before .before .before .before .before .before .before .before .before .before .before .before .before .before .before
+    .before in
+    let w = c18 .pre .1 in
+    (omega (arith, c18 .pre .0), (w .0, ((none-at (now (c18 .args .target)), λ n. absurd (omega (arith, n))), (w .1 .0, (w .1 .1 .0, w .1 .1 .0, w .1 .1 .1)))))
 
 attach-element-is-refused-requires : (t : ℕ) → attach-element-lts.Need-is-refused-requires (attach-element-claims t) (attach-element-at t) attach-element.Post
 attach-element-is-refused-requires t c κs = search needs
@@ -404,13 +394,13 @@ attach-element-same-length-2 t c = search needs
 attach-element-returns-2 : (t : ℕ) → attach-element-lts.Need-returns-2 (attach-element-claims t) (attach-element-at t) attach-element.Post
 attach-element-returns-2 t c =
     let c1 = c .before in let c6 = c1 .before .before .before .before .before in let c12 = c6 .before .before .before .before .before .before in let c16 =
-    c12 .before .before .before .before in let c17 = c16 .before in let c26 = c17 .before .before .before .before .before .before .before .before .before in
+    c12 .before .before .before .before in let c17 = c16 .before in let c25 = c17 .before .before .before .before .before .before .before .before in
     λ from f g M P Q lt nm.
-    let a = c26 .args in
+    let a = c25 .args in
     element-stopped (a .build .matching) (a .build .policy) f g (labelAt (now (a .target)) (a .pair .target .label)) (Q .tree) (labelAt (now (a .incoming))
     (a .pair .incoming .label)) (P .tree) M (c17 .same-element .ensures (labelAt (now (a .incoming)) (a .pair .incoming .label)) (labelAt (now
-    (a .target)) (a .pair .target .label)) refl refl) (c16 .if1 .left) _ _ from _ (c12 .put-head .ensures) (none-is (now (a .table)) 0) _
-    (c6 .attach-renamed .ensures (from + 1) (none-at (now (a .table))) P Q (omega (arith, lt)) nm) (sym (c1 .is-refused .ensures) ∙ c .if2 .taken)
+    (a .target)) (a .pair .target .label)) refl refl) (c16 .if1 .left) _ _ from _ (c12 .put-head .ensures) (none-is (now (a .target)) 0) _
+    (c6 .attach-renamed .ensures (from + 1) (none-at (now (a .target))) P Q (omega (arith, lt)) nm) (sym (c1 .is-refused .ensures) ∙ c .if2 .taken)
 
 attach-element-is-bare-requires : (t : ℕ) → attach-element-lts.Need-is-bare-requires (attach-element-claims t) (attach-element-at t) attach-element.Post
 attach-element-is-bare-requires t c κs = search needs
@@ -418,9 +408,9 @@ attach-element-is-bare-requires t c κs = search needs
 attach-element-put-position-requires : (t : ℕ) → attach-element-lts.Need-put-position-requires (attach-element-claims t) (attach-element-at t)
     attach-element.Post
 attach-element-put-position-requires t c κs =
-    let c29 = c .before .before .before .before .before .before .before .before .before .before .before .before .before .before .before .before .before
-    .before .before .before .before .before .before .before .before .before .before .before .before in
-    omega (arith, extent (c29 .pre .1 .0 .1 .0), c29 .pre .1 .1 .1)
+    let c28 = c .before .before .before .before .before .before .before .before .before .before .before .before .before .before .before .before .before
+    .before .before .before .before .before .before .before .before .before .before .before in
+    omega (arith, extent (c28 .pre .1 .0 .1 .0), c28 .pre .1 .1 .1)
 
 attach-element-same-length-3 : (t : ℕ) → attach-element-lts.Need-same-length-3 (attach-element-claims t) (attach-element-at t) attach-element.Post
 attach-element-same-length-3 t c = search needs
@@ -432,28 +422,28 @@ attach-element-returns-3 : (t : ℕ) → attach-element-lts.Need-returns-3 (atta
 attach-element-returns-3 t c =
     let c2 = c .before .before in let c4 = c2 .before .before in let c5 = c4 .before in let c6 = c5 .before in let c7 = c6 .before in let c12 =
     c7 .before .before .before .before .before in let c18 = c12 .before .before .before .before .before .before in let c22 =
-    c18 .before .before .before .before in let c23 = c22 .before in let c32 = c23 .before .before .before .before .before .before .before .before .before in
+    c18 .before .before .before .before in let c23 = c22 .before in let c31 = c23 .before .before .before .before .before .before .before .before in
     λ from f g M P Q lt nm.
-    let a = c32 .args in
+    let a = c31 .args in
     element-left-out (a .build .matching) (a .build .policy) f g (labelAt (now (a .target)) (a .pair .target .label)) (Q .tree) (labelAt (now (a .incoming))
     (a .pair .incoming .label)) (P .tree) M (c23 .same-element .ensures (labelAt (now (a .incoming)) (a .pair .incoming .label)) (labelAt (now
-    (a .target)) (a .pair .target .label)) refl refl) (c22 .if1 .left) _ _ from _ (c18 .put-head .ensures) (none-is (now (a .table)) 0) _
-    (c12 .attach-renamed .ensures (from + 1) (none-at (now (a .table))) P Q (omega (arith, lt)) nm) (sym (c7 .is-refused .ensures) ∙ c6 .if2 .left) (sym
+    (a .target)) (a .pair .target .label)) refl refl) (c22 .if1 .left) _ _ from _ (c18 .put-head .ensures) (none-is (now (a .target)) 0) _
+    (c12 .attach-renamed .ensures (from + 1) (none-at (now (a .target))) P Q (omega (arith, lt)) nm) (sym (c7 .is-refused .ensures) ∙ c6 .if2 .left) (sym
     (c5 .is-bare .ensures) ∙ c4 .if3 .taken) (c12 .attach-renamed .kept .1 .1 .1 .1 .1 .1 .0 ∙ c18 .put-head .kept .0) (c2 .put-position .ensures) (omega
     (arith, lt, extent Q))
 
 attach-element-len-of-requires : (t : ℕ) → attach-element-lts.Need-len-of-requires (attach-element-claims t) (attach-element-at t) attach-element.Post
 attach-element-len-of-requires t c κs = search needs
 
-attach-element-add-t36 : (t : ℕ) → attach-element-lts.Need-add-t36 (attach-element-claims t) (attach-element-at t) attach-element.Post
-attach-element-add-t36 t c =
-    let c3 = c .before .before .before in let c4 = c3 .before in let c9 = c4 .before .before .before .before .before in let c29 =
+attach-element-add-t35 : (t : ℕ) → attach-element-lts.Need-add-t35 (attach-element-claims t) (attach-element-at t) attach-element.Post
+attach-element-add-t35 t c =
+    let c3 = c .before .before .before in let c4 = c3 .before in let c9 = c4 .before .before .before .before .before in let c28 =
     c9 .before .before .before .before .before .before .before .before .before .before .before .before .before .before .before .before .before .before
-    .before .before in
-    let w = c29 .pre .1 in
+    .before in
+    let w = c28 .pre .1 in
     omega (
       arith,
-      makes-room _ (c9 .attach-renamed .ensures 0 (none-at (now (c29 .args .table))) (w .0 .0) (w .0 .1 .0) (omega (arith, w .1 .1)) (λ n. omega
+      makes-room _ (c9 .attach-renamed .ensures 0 (none-at (now (c28 .args .target))) (w .0 .0) (w .0 .1 .0) (omega (arith, w .1 .1)) (λ n. omega
           (arith, w .1 .1))) (sym (c4 .is-refused .ensures) ∙ c3 .if2 .left),
       c .len-of .ensures,
       extent (w .0 .1 .0),
@@ -469,78 +459,132 @@ attach-element-same-length-6 t c = search needs
 attach-element-returns-4 : (t : ℕ) → attach-element-lts.Need-returns-4 (attach-element-claims t) (attach-element-at t) attach-element.Post
 attach-element-returns-4 t c =
     let c1 = c .before in let c2 = c1 .before in let c3 = c2 .before in let c4 = c3 .before in let c9 = c4 .before .before .before .before .before in let c15
-    = c9 .before .before .before .before .before .before in let c19 = c15 .before .before .before .before in let c20 = c19 .before in let c29 =
-    c20 .before .before .before .before .before .before .before .before .before in
+    = c9 .before .before .before .before .before .before in let c19 = c15 .before .before .before .before in let c20 = c19 .before in let c28 =
+    c20 .before .before .before .before .before .before .before .before in
     λ from f g M P Q lt nm.
-    let a = c29 .args in
+    let a = c28 .args in
     element-kept (a .build .matching) (a .build .policy) f g (labelAt (now (a .target)) (a .pair .target .label)) (Q .tree) (labelAt (now (a .incoming))
     (a .pair .incoming .label)) (P .tree) M (c20 .same-element .ensures (labelAt (now (a .incoming)) (a .pair .incoming .label)) (labelAt (now
-    (a .target)) (a .pair .target .label)) refl refl) (c19 .if1 .left) _ _ from _ (c15 .put-head .ensures) (none-is (now (a .table)) 0) _
-    (c9 .attach-renamed .ensures (from + 1) (none-at (now (a .table))) P Q (omega (arith, lt)) nm) (sym (c4 .is-refused .ensures) ∙ c3 .if2 .left) (sym
+    (a .target)) (a .pair .target .label)) refl refl) (c19 .if1 .left) _ _ from _ (c15 .put-head .ensures) (none-is (now (a .target)) 0) _
+    (c9 .attach-renamed .ensures (from + 1) (none-at (now (a .target))) P Q (omega (arith, lt)) nm) (sym (c4 .is-refused .ensures) ∙ c3 .if2 .left) (sym
     (c2 .is-bare .ensures) ∙ c1 .if3 .left) (c15 .put-head .kept .0) (c .len-of .ensures) (omega arith)
 
-attach-field-enum-known-found : (t : ℕ) → attach-field-lts.Need-enum-known-found (attach-field-claims t) (attach-field-at t) attach-field.Post
-attach-field-enum-known-found t c = search needs
+attach-field-slice-reshare-prefix-find-in : (t : ℕ) → attach-field-lts.Need-slice-reshare-prefix-find-in (attach-field-claims t) (attach-field-at t)
+    attach-field.Post
+attach-field-slice-reshare-prefix-find-in t c =
+    let c9 = c .before .before .before .before .before .before .before .before .before in
+    let b = c9 .pre .1 .1 .1 .1 .1 .0 in omega arith
+
+attach-field-slice-aggregate-find-in : (t : ℕ) → attach-field-lts.Need-slice-aggregate-find-in (attach-field-claims t) (attach-field-at t) attach-field.Post
+attach-field-slice-aggregate-find-in t c =
+    let c10 = c .before .before .before .before .before .before .before .before .before .before in
+    sym (length-take-le (c10 .args .sought .used) (c10 .args .arena .now) (c10 .pre .1 .1 .1 .1 .1 .0))
+
+attach-field-find-in-requires : (t : ℕ) → attach-field-lts.Need-find-in-requires (attach-field-claims t) (attach-field-at t) attach-field.Post
+attach-field-find-in-requires t c κs =
+    let c10 = c .before .before .before .before .before .before .before .before .before .before in
+    let w = c10 .pre .1 in
+    let xs = c10 .args .arena .now in
+    (w .0 .0, (table-kept xs xs (w .1 .1 .1 .1 .0) refl (w .1 .1 .1 .1 .1), w .1 .1 .0 .0))
+
+attach-field-enum-known-position : (t : ℕ) → attach-field-lts.Need-enum-known-position (attach-field-claims t) (attach-field-at t) attach-field.Post
+attach-field-enum-known-position t c = search needs
+
+attach-field-mul-attach-renamed : (t : ℕ) → attach-field-lts.Need-mul-attach-renamed (attach-field-claims t) (attach-field-at t) attach-field.Post
+attach-field-mul-attach-renamed t c =
+    let c15 = c .before .before .before .before .before .before .before .before .before .before .before .before .before .before .before in
+    omega (arith, c15 .pre .1 .1 .1 .1 .1 .0, c15 .good .1 .1 .1 .1 .1 .1 .1 .0 .1)
+
+attach-field-sub-attach-renamed : (t : ℕ) → attach-field-lts.Need-sub-attach-renamed (attach-field-claims t) (attach-field-at t) attach-field.Post
+attach-field-sub-attach-renamed t c =
+    let c15 = c .before .before .before .before .before .before .before .before .before .before .before .before .before .before .before in
+    let b = c15 .pre .1 .1 .1 .1 .1 .0 in omega arith
+
+attach-field-part-attach-renamed-start : (t : ℕ) → attach-field-lts.Need-part-attach-renamed-start (attach-field-claims t) (attach-field-at t)
+    attach-field.Post
+attach-field-part-attach-renamed-start t c =
+    let c15 = c .before .before .before .before .before .before .before .before .before .before .before .before .before .before .before in
+    let b = c15 .pre .1 .1 .1 .1 .1 .0 in omega arith
+
+attach-field-part-attach-renamed-end : (t : ℕ) → attach-field-lts.Need-part-attach-renamed-end (attach-field-claims t) (attach-field-at t) attach-field.Post
+attach-field-part-attach-renamed-end t c = omega arith
 
 attach-field-attach-renamed-requires : (t : ℕ) → attach-field-lts.Need-attach-renamed-requires (attach-field-claims t) (attach-field-at t) attach-field.Post
 attach-field-attach-renamed-requires t c κs =
-    let c3 = c .before .before .before in let c12 = c3 .before .before .before .before .before .before .before .before .before in
-    let a = c12 .args in
-    let w = c12 .pre .1 in
-    let fs = w .0 .0 .0 in
-    let H = found-here (a .build .incoming) (a .sought .depth) (now (a .incoming)) (counterpart (a .build .matching) (labelAt (now (a .target))
-    (a .sought .column .label)) fs) (w .0 .0 .1) (c3 .found .given .1) in
-    (omega (arith, c12 .pre .0), ((H .inner, w .0 .1), (w .1 .0, ((H .inside, w .1 .1 .0 .0, w .1 .1 .0 .1), w .1 .1 .1))))
+    let c3 = c .before .before .before in let c5 = c3 .before .before in let c16 = c5 .before .before .before .before .before .before .before .before
+    .before .before .before in
+    let a = c16 .args in
+    let w = c16 .pre .1 in
+    let H = found-here (a .build .incoming) (a .sought .depth) (now (a .incoming)) (counterpart (a .build .matching) (labelAt (now (a .target)) (a
+    .sought .column .label)) (w .0 .0 .columns)) (c5 .find-in .ensures (w .0 .0)) (c3 .position .given .1) in
+    (omega (arith, c16 .pre .0), ((H .inner, w .0 .1), (w .1 .0, ((H .inside, w .1 .1 .0 .0, w .1 .1 .0 .1), w .1 .1 .1 .0))))
 
 attach-field-enum-told : (t : ℕ) → attach-field-lts.Need-enum-told (attach-field-claims t) (attach-field-at t) attach-field.Post
 attach-field-enum-told t c = search needs
 
 attach-field-put-missing-requires : (t : ℕ) → attach-field-lts.Need-put-missing-requires (attach-field-claims t) (attach-field-at t) attach-field.Post
 attach-field-put-missing-requires t c κs =
-    let c10 = c .before .before .before .before .before .before .before .before .before .before in
-    let w = c10 .pre .1 in
-    (w .1 .1 .0, (w .0 .1 .0, (w .1 .0, w .1 .1 .1)))
+    let c14 = c .before .before .before .before .before .before .before .before .before .before .before .before .before .before in
+    let w = c14 .pre .1 in
+    (w .1 .1 .0, (w .0 .1 .0, (w .1 .0, w .1 .1 .1 .0)))
 
 attach-field-same-length : (t : ℕ) → attach-field-lts.Need-same-length (attach-field-claims t) (attach-field-at t) attach-field.Post
 attach-field-same-length t c = search needs
 
 attach-field-same-length-2 : (t : ℕ) → attach-field-lts.Need-same-length-2 (attach-field-claims t) (attach-field-at t) attach-field.Post
-attach-field-same-length-2 t c = search needs
+attach-field-same-length-2 t c =
+    let c4 = c .before .before .before .before in let c21 = c4 .before .before .before .before .before .before .before .before .before .before
+    .before .before .before .before .before .before .before in
+    same-len-mid (c21 .args .sought .used) (length (c21 .args .arena .now) - c21 .args .sought .used) (c21 .args .arena .now) (c4 .attach-renamed .last
+    .1 .1 .1 .1 .1 .1 .1 .0) (c4 .attach-renamed .kept .1 .1 .1 .1 .1 .1 .1 .0)
 
 attach-field-returns : (t : ℕ) → attach-field-lts.Need-returns (attach-field-claims t) (attach-field-at t) attach-field.Post
 attach-field-returns t c =
-    let c4 = c .before .before .before .before in let c8 = c4 .before .before .before .before in let c17 =
-    c8 .before .before .before .before .before .before .before .before .before in
-    λ from T fs Q F lt.
-    let a = c17 .args in
-    let H = found-here (a .build .incoming) (a .sought .depth) (now (a .incoming)) (counterpart (a .build .matching) (labelAt (now (a .target))
-    (a .sought .column .label)) fs) F (c8 .found .given .1) in
-    makes-as _ _ _ _ _ _ (sought-at (a .build .matching) (a .build .policy) (defaultsAt (a .build .defaults) T) (a .sought .missing .insert)
-    (a .sought .missing .number) (labelAt (now (a .target)) (a .sought .column .label)) (Q .tree) (counterpart (a .build .matching) (labelAt (now
-    (a .target)) (a .sought .column .label)) fs) (H .is)) (c4 .attach-renamed .ensures from T (H .inner) Q (omega (arith, lt)) (λ n. lt))
+    let c4 = c .before .before .before .before in let c8 = c4 .before .before .before .before in let c10 = c8 .before .before in let c21 = c10
+    .before .before .before .before .before .before .before .before .before .before .before in (
+      λ from T P Q lt.
+          let a = c21 .args in
+          let H = found-here (a .build .incoming) (a .sought .depth) (now (a .incoming)) (counterpart (a .build .matching) (labelAt (now (a .target)) (a
+          .sought .column .label)) (P .columns)) (c10 .find-in .ensures P) (c8 .position .given .1) in
+          makes-as _ _ _ _ _ _ (sought-at (a .build .matching) (a .build .policy) (defaultsAt (a .build .defaults) T) (a .sought .missing .insert) (a .sought
+          .missing .number) (labelAt (now (a .target)) (a .sought .column .label)) (Q .tree) (counterpart (a .build .matching) (labelAt (now (a .target)) (a
+          .sought .column .label)) (P .columns)) (H .is)) (c4 .attach-renamed .ensures from T (H .inner) Q (omega (arith, lt)) (λ n. lt)),
+      take-put (c21 .args .sought .used) (length (c21 .args .arena .now) - c21 .args .sought .used) (c21 .args .arena .now) (c4 .attach-renamed .last .1
+          .1 .1 .1 .1 .1 .1 .0) (c21 .pre .1 .1 .1 .1 .1 .0),
+    )
 
 attach-field-same-length-3 : (t : ℕ) → attach-field-lts.Need-same-length-3 (attach-field-claims t) (attach-field-at t) attach-field.Post
 attach-field-same-length-3 t c = search needs
 
+attach-field-same-length-4 : (t : ℕ) → attach-field-lts.Need-same-length-4 (attach-field-claims t) (attach-field-at t) attach-field.Post
+attach-field-same-length-4 t c = search needs
+
 attach-field-returns-2 : (t : ℕ) → attach-field-lts.Need-returns-2 (attach-field-claims t) (attach-field-at t) attach-field.Post
 attach-field-returns-2 t c =
-    let c2 = c .before .before in let c4 = c2 .before .before in let c13 = c4 .before .before .before .before .before .before .before .before .before in
-    λ from T fs Q F lt.
-    let a = c13 .args in
-    let X = counterpart (a .build .matching) (labelAt (now (a .target)) (a .sought .column .label)) fs in
-    makes-as _ _ _ _ _ _ (sought-absent (a .build .matching) (a .build .policy) (defaultsAt (a .build .defaults) T) (a .sought .missing .insert)
-    (a .sought .missing .number) (labelAt (now (a .target)) (a .sought .column .label)) (Q .tree) X (found-absent (a .build .incoming) (a .sought .depth)
-    (now (a .incoming)) X F (c4 .enum-told .given .1))) (c2 .put-missing .ensures from T Q lt)
+    let c2 = c .before .before in let c4 = c2 .before .before in let c6 = c4 .before .before in let c17 = c6 .before .before .before .before .before
+    .before .before .before .before .before .before in (
+      λ from T P Q lt.
+          let a = c17 .args in
+          let X = counterpart (a .build .matching) (labelAt (now (a .target)) (a .sought .column .label)) (P .columns) in
+          makes-as _ _ _ _ _ _ (sought-absent (a .build .matching) (a .build .policy) (defaultsAt (a .build .defaults) T) (a .sought .missing .insert) (a
+          .sought .missing .number) (labelAt (now (a .target)) (a .sought .column .label)) (Q .tree) X (found-absent (a .build .incoming) (a .sought .depth)
+          (now (a .incoming)) X (c6 .find-in .ensures P) (c4 .enum-told .given .1))) (c2 .put-missing .ensures from T Q lt),
+      refl,
+    )
 
 abbrev attach-fields-Inv-loop : attach-fields-lts.InvT-loop
-attach-fields-Inv-loop build incoming used table index target rows out₀ arena₀ w columns insert count from₀ i₀ to₀ same₀ out arena from i to same =
+attach-fields-Inv-loop build incoming table index target rows out₀ arena₀ w among count used insert c₀ i₀ to₀ same₀ out arena c i to same =
     Remaining (build .policy) (build .matching) (build .incoming) (build .target) (rows .depth) incoming (rows .incoming .count) (rows .incoming .first .at)
-    table (build .defaults) target (rows .target .count) from₀ out₀ (rows .k) out from i to same
+    table (build .defaults) target (rows .target .count) (c₀ .at) out₀ (rows .k) out (c .at) i to same
     × (take used arena ≡ take used arena₀) × (length arena ≡ length arena₀)
 
 abbrev attach-fields-μ-loop : attach-fields-lts.MeasureT-loop
-attach-fields-μ-loop build incoming used table index target rows out₀ arena₀ w columns insert count from₀ i₀ to₀ same₀ out arena from i to same =
+attach-fields-μ-loop build incoming table index target rows out₀ arena₀ w among count used insert c₀ i₀ to₀ same₀ out arena c i to same =
     rows .target .count - i
+
+attach-fields-fill-fields-requires : (t : ℕ) → attach-fields-lts.Need-fill-fields-requires (attach-fields-claims t) (attach-fields-at t)
+    attach-fields.Post attach-fields-Inv-loop attach-fields-μ-loop
+attach-fields-fill-fields-requires t c κs = search needs
 
 attach-fields-inserts-requires : (t : ℕ) → attach-fields-lts.Need-inserts-requires (attach-fields-claims t) (attach-fields-at t) attach-fields.Post
     attach-fields-Inv-loop attach-fields-μ-loop
@@ -549,8 +593,8 @@ attach-fields-inserts-requires t c κs = search needs
 attach-fields-loop-holds : (t : ℕ) → attach-fields-lts.Need-loop-holds (attach-fields-claims t) (attach-fields-at t) attach-fields.Post
     attach-fields-Inv-loop attach-fields-μ-loop
 attach-fields-loop-holds t c =
-    let c9 = c .before .before .before .before .before .before .before .before .before in
-    (remaining-all (c9 .pre .1 .0 .1 .0) (c9 .pre .1 .1 .1 .0 .2), refl, refl)
+    let c14 = c .before .before .before .before .before .before .before .before .before .before .before .before .before .before in
+    (remaining-all (c14 .pre .1 .0 .1 .0) (c14 .pre .1 .1 .1 .2), refl, refl)
 
 attach-fields-label-requires : (t : ℕ) → attach-fields-lts.Need-label-requires (attach-fields-claims t) (attach-fields-at t) attach-fields.Post
     attach-fields-Inv-loop attach-fields-μ-loop
@@ -560,86 +604,33 @@ attach-fields-enum-known-l : (t : ℕ) → attach-fields-lts.Need-enum-known-l (
     attach-fields-Inv-loop attach-fields-μ-loop
 attach-fields-enum-known-l t c = search needs
 
-attach-fields-slice-reshare-prefix-find-in :
-    (t : ℕ) → attach-fields-lts.Need-slice-reshare-prefix-find-in (attach-fields-claims t) (attach-fields-at t) attach-fields.Post attach-fields-Inv-loop
-    attach-fields-μ-loop
-attach-fields-slice-reshare-prefix-find-in t c =
-    let c5 = c .before .before .before .before .before in let c15 = c5 .before .before .before .before .before .before .before .before .before .before in
-    let a = c5 .loop .inv .2 in let b = c15 .pre .1 .1 .1 .1 .0 in omega arith
-
-attach-fields-slice-aggregate-find-in : (t : ℕ) → attach-fields-lts.Need-slice-aggregate-find-in (attach-fields-claims t) (attach-fields-at t)
+attach-fields-attach-field-requires : (t : ℕ) → attach-fields-lts.Need-attach-field-requires (attach-fields-claims t) (attach-fields-at t)
     attach-fields.Post attach-fields-Inv-loop attach-fields-μ-loop
-attach-fields-slice-aggregate-find-in t c =
-    let c6 = c .before .before .before .before .before .before in let c16 =
-    c6 .before .before .before .before .before .before .before .before .before .before in
-    sym (length-take-le (c16 .args .used) (c6 .loop .arena) (let a = c6 .loop .inv .2 in let b = c16 .pre .1 .1 .1 .1 .0 in omega arith))
-
-attach-fields-find-in-requires : (t : ℕ) → attach-fields-lts.Need-find-in-requires (attach-fields-claims t) (attach-fields-at t) attach-fields.Post
-    attach-fields-Inv-loop attach-fields-μ-loop
-attach-fields-find-in-requires t c κs =
-    let c2 = c .before .before in let c4 = c2 .before .before in let c5 = c4 .before in let c6 = c5 .before in let c16 =
-    c6 .before .before .before .before .before .before .before .before .before .before in (
-      c16 .pre .1 .0 .0,
-      (
-        table-kept (c16 .args .arena .now) (c6 .loop .arena) (c16 .pre .1 .1 .1 .1 .0) (c6 .loop .inv .1) (c16 .pre .1 .1 .1 .1 .1),
-        field-name (c6 .loop .inv .0) (c5 .loop-test .taken) (c4 .label .ensures .0) (c2 .l .given .1) (c4 .label .ensures .1) .0,
-      ),
-    )
-
-attach-fields-mul-attach-field : (t : ℕ) → attach-fields-lts.Need-mul-attach-field (attach-fields-claims t) (attach-fields-at t) attach-fields.Post
-    attach-fields-Inv-loop attach-fields-μ-loop
-attach-fields-mul-attach-field t c =
-    let c18 = c .before .before .before .before .before .before .before .before .before .before .before .before .before .before .before .before .before
-    .before in
-    omega (arith, c18 .pre .1 .1 .1 .1 .0, c18 .good .1 .1 .1 .1 .1 .1 .1 .1 .0 .1)
-
-attach-fields-sub-attach-field : (t : ℕ) → attach-fields-lts.Need-sub-attach-field (attach-fields-claims t) (attach-fields-at t) attach-fields.Post
-    attach-fields-Inv-loop attach-fields-μ-loop
-attach-fields-sub-attach-field t c =
-    let c8 = c .before .before .before .before .before .before .before .before in let c18 =
-    c8 .before .before .before .before .before .before .before .before .before .before in
-    let a = c8 .loop .inv .2 in let b = c18 .pre .1 .1 .1 .1 .0 in omega arith
-
-attach-fields-part-attach-field-start : (t : ℕ) → attach-fields-lts.Need-part-attach-field-start (attach-fields-claims t) (attach-fields-at t)
-    attach-fields.Post attach-fields-Inv-loop attach-fields-μ-loop
-attach-fields-part-attach-field-start t c =
-    let c8 = c .before .before .before .before .before .before .before .before in let c18 =
-    c8 .before .before .before .before .before .before .before .before .before .before in
-    let a = c8 .loop .inv .2 in let b = c18 .pre .1 .1 .1 .1 .0 in omega arith
-
-attach-fields-part-attach-field-end : (t : ℕ) → attach-fields-lts.Need-part-attach-field-end (attach-fields-claims t) (attach-fields-at t) attach-fields.Post
-    attach-fields-Inv-loop attach-fields-μ-loop
-attach-fields-part-attach-field-end t c = omega arith
-
-attach-fields-attach-field-requires : (t : ℕ) → attach-fields-lts.Need-attach-field-requires (attach-fields-claims t) (attach-fields-at t) attach-fields.Post
-    attach-fields-Inv-loop attach-fields-μ-loop
 attach-fields-attach-field-requires t c κs =
-    let c2 = c .before .before in let c5 = c2 .before .before .before in let c7 = c5 .before .before in let c8 = c7 .before in let c9 = c8 .before in let c19
-    = c9 .before .before .before .before .before .before .before .before .before .before in
-    let w = c19 .pre .1 in (
-      omega (arith, c19 .pre .0),
+    let c3 = c .before .before .before in let c5 = c3 .before .before in let c6 = c5 .before in let c7 = c6 .before in let c13 = c7 .before .before
+    .before .before .before .before in let c22 = c13 .before .before .before .before .before .before .before .before .before in
+    let w = c22 .pre .1 in (
+      omega (arith, c22 .pre .0),
       (
-        (
-          (w .0 .0 .columns, c2 .find-in .ensures (w .0 .0)),
-          (
-            field (c9 .loop .inv .0) (c8 .loop-test .taken)
-                (c7 .label .ensures .0) (c5 .l .given .1) .head,
-            w .0 .1 .1,
-          ),
-        ),
+        (w .0 .0, (field (c7 .loop .inv .0) (c6 .loop-test .taken) (c5 .label .ensures .0) (c3 .l .given .1) .head, w .0 .1 .1)),
         (
           w .1 .0,
           (
-            field-name (c9 .loop .inv .0) (c8 .loop-test .taken)
-                (c7 .label .ensures .0) (c5 .l .given .1) (c7 .label .ensures .1),
+            field-name (c7 .loop .inv .0) (c6 .loop-test .taken) (c5 .label .ensures .0) (c3 .l .given .1) (c5 .label .ensures .1),
             (
-              w .1 .1 .0 .0,
-              w .1 .1 .0 .1,
-              omega (
-                arith,
-                c9 .loop .inv .0 .room,
-                field-after
-                    (c9 .loop .inv .0) (c8 .loop-test .taken) (c7 .label .ensures .0) (c5 .l .given .1),
+              (
+                w .1 .1 .0,
+                w .1 .1 .1,
+                omega (
+                  arith,
+                  c7 .loop .inv .0 .room,
+                  field-after (c7 .loop .inv .0) (c6 .loop-test .taken) (c5 .label .ensures
+                      .0) (c3 .l .given .1),
+                ),
+              ),
+              (
+                (let a = c7 .loop .inv .2 in let b = c13 .fill-fields .ensures .0 in omega arith),
+                table-still (c13 .fill-fields .last .1 .1 .1 .1 .1 .1 .0) (c7 .loop .arena) (c7 .loop .inv .1) (c13 .fill-fields .ensures .1),
               ),
             ),
           ),
@@ -647,8 +638,8 @@ attach-fields-attach-field-requires t c κs =
       ),
     )
 
-attach-fields-is-refused-requires : (t : ℕ) → attach-fields-lts.Need-is-refused-requires (attach-fields-claims t) (attach-fields-at t) attach-fields.Post
-    attach-fields-Inv-loop attach-fields-μ-loop
+attach-fields-is-refused-requires : (t : ℕ) → attach-fields-lts.Need-is-refused-requires (attach-fields-claims t) (attach-fields-at t)
+    attach-fields.Post attach-fields-Inv-loop attach-fields-μ-loop
 attach-fields-is-refused-requires t c κs = search needs
 
 attach-fields-failed-requires : (t : ℕ) → attach-fields-lts.Need-failed-requires (attach-fields-claims t) (attach-fields-at t) attach-fields.Post
@@ -658,28 +649,26 @@ attach-fields-failed-requires t c κs = search needs
 attach-fields-same-length : (t : ℕ) → attach-fields-lts.Need-same-length (attach-fields-claims t) (attach-fields-at t) attach-fields.Post
     attach-fields-Inv-loop attach-fields-μ-loop
 attach-fields-same-length t c =
-    let c7 = c .before .before .before .before .before .before .before in let c17 =
-    c7 .before .before .before .before .before .before .before .before .before .before in
-    c7 .attach-field .kept .1 .1 .1 .1 .1 .1 .0 ∙ c17 .loop .inv .0 .kept
+    let c7 = c .before .before .before .before .before .before .before in let c15 = c7 .before .before .before .before .before .before .before
+    .before in
+    c7 .attach-field .kept .1 .1 .1 .1 .1 .1 .0 ∙ c15 .loop .inv .0 .kept
 
 attach-fields-same-length-2 : (t : ℕ) → attach-fields-lts.Need-same-length-2 (attach-fields-claims t) (attach-fields-at t) attach-fields.Post
     attach-fields-Inv-loop attach-fields-μ-loop
 attach-fields-same-length-2 t c =
-    let c7 = c .before .before .before .before .before .before .before in let c17 =
-    c7 .before .before .before .before .before .before .before .before .before .before in let c27 =
-    c17 .before .before .before .before .before .before .before .before .before .before in
-    same-len-mid (c27 .args .used) (length (c17 .loop .arena) - c27 .args .used) (c17 .loop .arena) (c7 .attach-field .last .1 .1 .1 .1 .1 .1 .1 .0)
-    (c7 .attach-field .kept .1 .1 .1 .1 .1 .1 .1 .0) ∙ c17 .loop .inv .2
+    let c7 = c .before .before .before .before .before .before .before in let c15 = c7 .before .before .before .before .before .before .before
+    .before in let c21 = c15 .before .before .before .before .before .before in
+    c7 .attach-field .kept .1 .1 .1 .1 .1 .1 .1 .0 ∙ c15 .loop .inv .2 ∙ c21 .fill-fields .kept .1 .1 .1 .1 .1 .1 .0
 
-attach-fields-returns : (t : ℕ) → attach-fields-lts.Need-returns (attach-fields-claims t) (attach-fields-at t) attach-fields.Post attach-fields-Inv-loop
-    attach-fields-μ-loop
+attach-fields-returns : (t : ℕ) → attach-fields-lts.Need-returns (attach-fields-claims t) (attach-fields-at t) attach-fields.Post
+    attach-fields-Inv-loop attach-fields-μ-loop
 attach-fields-returns t c =
-    let c1 = c .before in let c2 = c1 .before in let c7 = c2 .before .before .before .before .before in let c10 = c7 .before .before .before in let c13 =
-    c10 .before .before .before in let c15 = c13 .before .before in let c16 = c15 .before in let c17 = c16 .before in let c18 = c17 .before in
-    remaining-stop (c17 .loop .inv .0) (c16 .loop-test .taken) (c15 .label .ensures .0) (c13 .l .given .1) (c18 .inserts .ensures) _ (λ T P.
-    c7 .attach-field .ensures (c17 .loop .from) T (P .columns) (field (c17 .loop .inv .0) (c16 .loop-test .taken) (c15 .label .ensures .0)
-    (c13 .l .given .1) .head) (c10 .find-in .ensures P) (field-after (c17 .loop .inv .0) (c16 .loop-test .taken) (c15 .label .ensures .0)
-    (c13 .l .given .1))) (c .failed .ensures) (sym (c2 .is-refused .ensures) ∙ c1 .if1 .taken)
+    let c1 = c .before in let c2 = c1 .before in let c7 = c2 .before .before .before .before .before in let c11 = c7 .before .before .before .before
+    in let c13 = c11 .before .before in let c14 = c13 .before in let c15 = c14 .before in let c17 = c15 .before .before in
+    remaining-stop (c15 .loop .inv .0) (c14 .loop-test .taken) (c13 .label .ensures .0) (c11 .l .given .1) (c17 .inserts .ensures) _ (λ T P. c7
+    .attach-field .ensures .0 (c15 .loop .c .at) T P (field (c15 .loop .inv .0) (c14 .loop-test .taken) (c13 .label .ensures .0) (c11 .l .given .1)
+    .head) (field-after (c15 .loop .inv .0) (c14 .loop-test .taken) (c13 .label .ensures .0) (c11 .l .given .1))) (c .failed .ensures) (sym (c2
+    .is-refused .ensures) ∙ c1 .if1 .taken)
 
 attach-fields-is-bare-requires : (t : ℕ) → attach-fields-lts.Need-is-bare-requires (attach-fields-claims t) (attach-fields-at t) attach-fields.Post
     attach-fields-Inv-loop attach-fields-μ-loop
@@ -693,34 +682,33 @@ attach-fields-len-of-requires : (t : ℕ) → attach-fields-lts.Need-len-of-requ
     attach-fields-Inv-loop attach-fields-μ-loop
 attach-fields-len-of-requires t c κs = search needs
 
-attach-fields-add-to : (t : ℕ) → attach-fields-lts.Need-add-to (attach-fields-claims t) (attach-fields-at t) attach-fields.Post attach-fields-Inv-loop
-    attach-fields-μ-loop
+attach-fields-add-to : (t : ℕ) → attach-fields-lts.Need-add-to (attach-fields-claims t) (attach-fields-at t) attach-fields.Post
+    attach-fields-Inv-loop attach-fields-μ-loop
 attach-fields-add-to t c =
-    let c3 = c .before .before .before in let c4 = c3 .before in let c9 = c4 .before .before .before .before .before in let c12 = c9 .before .before .before
-    in let c15 = c12 .before .before .before in let c17 = c15 .before .before in let c18 = c17 .before in let c19 = c18 .before in let c20 = c19 .before in
-    let c29 = c20 .before .before .before .before .before .before .before .before .before in
-    let w = c29 .pre .1 in
+    let c3 = c .before .before .before in let c4 = c3 .before in let c9 = c4 .before .before .before .before .before in let c13 = c9 .before .before
+    .before .before in let c15 = c13 .before .before in let c16 = c15 .before in let c17 = c16 .before in let c19 = c17 .before .before in let c32 =
+    c19 .before .before .before .before .before .before .before .before .before .before .before .before .before in
+    let w = c32 .pre .1 in
     omega (
       arith,
-      remaining-room (c19 .loop .inv .0) (c18 .loop-test .taken) (c17 .label .ensures .0) (c15 .l .given .1) (c20 .inserts .ensures) _ (λ T P.
-          c9 .attach-field .ensures (c19 .loop .from) T (P .columns) (field (c19 .loop .inv .0) (c18 .loop-test .taken) (c17 .label .ensures .0)
-          (c15 .l .given .1) .head) (c12 .find-in .ensures P) (field-after (c19 .loop .inv .0) (c18 .loop-test .taken) (c17 .label .ensures .0)
-          (c15 .l .given .1))) (sym (c4 .is-refused .ensures) ∙ c3 .if1 .left) (w .1 .0 .0) (w .0 .0),
-      extent (field (c19 .loop .inv .0) (c18 .loop-test .taken)
-          (c17 .label .ensures .0) (c15 .l .given .1) .head),
-      w .1 .1 .0,
+      remaining-room (c17 .loop .inv .0) (c16 .loop-test .taken) (c15 .label .ensures .0) (c13 .l .given .1) (c19 .inserts .ensures) _ (λ T P. c9
+          .attach-field .ensures .0 (c17 .loop .c .at) T P (field (c17 .loop .inv .0) (c16 .loop-test .taken) (c15 .label .ensures .0) (c13 .l .given .1)
+          .head) (field-after (c17 .loop .inv .0) (c16 .loop-test .taken) (c15 .label .ensures .0) (c13 .l .given .1))) (sym (c4 .is-refused .ensures) ∙ c3
+          .if1 .left) (w .1 .0 .0) (w .0 .0),
+      extent (field (c17 .loop .inv .0) (c16 .loop-test .taken) (c15 .label .ensures .0) (c13 .l .given .1) .head),
+      w .1 .1,
       c .len-of .ensures,
     )
 
-attach-fields-skip-type-requires : (t : ℕ) → attach-fields-lts.Need-skip-type-requires (attach-fields-claims t) (attach-fields-at t) attach-fields.Post
-    attach-fields-Inv-loop attach-fields-μ-loop
+attach-fields-skip-type-requires : (t : ℕ) → attach-fields-lts.Need-skip-type-requires (attach-fields-claims t) (attach-fields-at t)
+    attach-fields.Post attach-fields-Inv-loop attach-fields-μ-loop
 attach-fields-skip-type-requires t c κs =
-    let c15 = c .before .before .before .before .before .before .before .before .before .before .before .before .before .before .before in let c17 =
-    c15 .before .before in let c18 = c17 .before in let c19 = c18 .before in
-    field (c19 .loop .inv .0) (c18 .loop-test .taken) (c17 .label .ensures .0) (c15 .l .given .1) .head
+    let c13 = c .before .before .before .before .before .before .before .before .before .before .before .before .before in let c15 = c13 .before
+    .before in let c16 = c15 .before in let c17 = c16 .before in
+    field (c17 .loop .inv .0) (c16 .loop-test .taken) (c15 .label .ensures .0) (c13 .l .given .1) .head
 
-attach-fields-enum-told : (t : ℕ) → attach-fields-lts.Need-enum-told (attach-fields-claims t) (attach-fields-at t) attach-fields.Post attach-fields-Inv-loop
-    attach-fields-μ-loop
+attach-fields-enum-told : (t : ℕ) → attach-fields-lts.Need-enum-told (attach-fields-claims t) (attach-fields-at t) attach-fields.Post
+    attach-fields-Inv-loop attach-fields-μ-loop
 attach-fields-enum-told t c = search needs
 
 attach-fields-same-length-3 : (t : ℕ) → attach-fields-lts.Need-same-length-3 (attach-fields-claims t) (attach-fields-at t) attach-fields.Post
@@ -729,10 +717,12 @@ attach-fields-same-length-3 t c = search needs
 
 attach-fields-same-length-4 : (t : ℕ) → attach-fields-lts.Need-same-length-4 (attach-fields-claims t) (attach-fields-at t) attach-fields.Post
     attach-fields-Inv-loop attach-fields-μ-loop
-attach-fields-same-length-4 t c = c .before .before .before .before .loop .inv .2
+attach-fields-same-length-4 t c =
+    let c4 = c .before .before .before .before in let c10 = c4 .before .before .before .before .before .before in
+    c4 .loop .inv .2 ∙ c10 .fill-fields .kept .1 .1 .1 .1 .1 .1 .0
 
-attach-fields-returns-2 : (t : ℕ) → attach-fields-lts.Need-returns-2 (attach-fields-claims t) (attach-fields-at t) attach-fields.Post attach-fields-Inv-loop
-    attach-fields-μ-loop
+attach-fields-returns-2 : (t : ℕ) → attach-fields-lts.Need-returns-2 (attach-fields-claims t) (attach-fields-at t) attach-fields.Post
+    attach-fields-Inv-loop attach-fields-μ-loop
 attach-fields-returns-2 t c =
     let c2 = c .before .before in let c3 = c2 .before in let c4 = c3 .before in
     λ T P Q. remaining-unlabelled (c4 .loop .inv .0) (c3 .loop-test .taken) (c2 .label .ensures .0) (c .enum-told .given .1)
@@ -740,37 +730,36 @@ attach-fields-returns-2 t c =
 attach-fields-add-i : (t : ℕ) → attach-fields-lts.Need-add-i (attach-fields-claims t) (attach-fields-at t) attach-fields.Post attach-fields-Inv-loop
     attach-fields-μ-loop
 attach-fields-add-i t c =
-    let c19 = c .before .before .before .before .before .before .before .before .before .before .before .before .before .before .before .before .before
-    .before .before in let c30 = c19 .before .before .before .before .before .before .before .before .before .before .before in
-    omega (arith, c30 .good .1 .1 .1 .1 .1 .1 .0, c19 .loop-test .taken)
+    let c17 = c .before .before .before .before .before .before .before .before .before .before .before .before .before .before .before .before
+    .before in let c33 = c17 .before .before .before .before .before .before .before .before .before .before .before .before .before .before .before
+    .before in
+    omega (arith, c33 .good .1 .1 .1 .1 .1 .0, c17 .loop-test .taken)
 
-attach-fields-loop-less : (t : ℕ) → attach-fields-lts.Need-loop-less (attach-fields-claims t) (attach-fields-at t) attach-fields.Post attach-fields-Inv-loop
-    attach-fields-μ-loop
+attach-fields-loop-less : (t : ℕ) → attach-fields-lts.Need-loop-less (attach-fields-claims t) (attach-fields-at t) attach-fields.Post
+    attach-fields-Inv-loop attach-fields-μ-loop
 attach-fields-loop-less t c = search needs
 
 attach-fields-loop-again : (t : ℕ) → attach-fields-lts.Need-loop-again (attach-fields-claims t) (attach-fields-at t) attach-fields.Post
     attach-fields-Inv-loop attach-fields-μ-loop
 attach-fields-loop-again t c =
-    let c1 = c .before in let c2 = c1 .before in let c3 = c2 .before in let c4 = c3 .before in let c5 = c4 .before in let c10 =
-    c5 .before .before .before .before .before in let c13 = c10 .before .before .before in let c16 = c13 .before .before .before in let c18 =
-    c16 .before .before in let c19 = c18 .before in let c20 = c19 .before in let c21 = c20 .before in let c30 =
-    c21 .before .before .before .before .before .before .before .before .before in (
-      let w = c30 .pre .1 in remaining-more (c20 .loop .inv .0) (c19 .loop-test .taken) (c18 .label .ensures .0) (c16 .l .given .1) (c21 .inserts .ensures) _
-          (λ T P. c10 .attach-field .ensures (c20 .loop .from) T (P .columns) (field (c20 .loop .inv .0) (c19 .loop-test .taken) (c18 .label .ensures .0)
-          (c16 .l .given .1) .head) (c13 .find-in .ensures P) (field-after (c20 .loop .inv .0) (c19 .loop-test .taken) (c18 .label .ensures .0)
-          (c16 .l .given .1))) (sym (c5 .is-refused .ensures) ∙ c4 .if1 .left) (w .1 .0 .0) (w .0 .0) (c10 .attach-field .kept .1 .1 .1 .1 .1 .1 .0)
-          (c .skip-type .ensures (field (c20 .loop .inv .0) (c19 .loop-test .taken) (c18 .label .ensures .0) (c16 .l .given .1) .head)) (c1 .len-of .ensures)
-          (c2 .both .ensures ∙ ap (λ (b : Bool). c20 .loop .same && b) (c3 .is-bare .ensures)),
-      take-put (c30 .args .used) (length (c20 .loop .arena) -
-          c30 .args .used) (c20 .loop .arena) (c10 .attach-field .last .1 .1 .1 .1 .1 .1 .1 .0) (let a = c20 .loop .inv .2 in let b = c30 .pre .1 .1 .1 .1 .0
-          in omega arith) ∙ c20 .loop .inv .1,
-      same-len-mid (c30 .args .used) (length (c20 .loop .arena) - c30 .args .used) (c20 .loop .arena)
-          (c10 .attach-field .last .1 .1 .1 .1 .1 .1 .1 .0) (c10 .attach-field .kept .1 .1 .1 .1 .1 .1 .1 .0) ∙ c20 .loop .inv .2,
+    let c1 = c .before in let c2 = c1 .before in let c3 = c2 .before in let c4 = c3 .before in let c5 = c4 .before in let c10 = c5 .before .before
+    .before .before .before in let c14 = c10 .before .before .before .before in let c16 = c14 .before .before in let c17 = c16 .before in let c18 =
+    c17 .before in let c20 = c18 .before .before in let c33 = c20 .before .before .before .before .before .before .before .before .before .before
+    .before .before .before in
+    let w = c33 .pre .1 in (
+      remaining-more (c18 .loop .inv .0) (c17 .loop-test .taken) (c16 .label .ensures .0) (c14 .l .given .1) (c20 .inserts .ensures) _ (λ T P. c10
+          .attach-field .ensures .0 (c18 .loop .c .at) T P (field (c18 .loop .inv .0) (c17 .loop-test .taken) (c16 .label .ensures .0) (c14 .l .given .1)
+          .head) (field-after (c18 .loop .inv .0) (c17 .loop-test .taken) (c16 .label .ensures .0) (c14 .l .given .1))) (sym (c5 .is-refused .ensures) ∙ c4
+          .if1 .left) (w .1 .0 .0) (w .0 .0) (c10 .attach-field .kept .1 .1 .1 .1 .1 .1 .0) (c .skip-type .ensures (field (c18 .loop .inv .0) (c17
+          .loop-test .taken) (c16 .label .ensures .0) (c14 .l .given .1) .head)) (c1 .len-of .ensures) (c2 .both .ensures ∙ ap (λ (b : Bool). c18 .loop
+          .same && b) (c3 .is-bare .ensures)),
+      c10 .attach-field .ensures .1 ∙ c18 .loop .inv .1,
+      c10 .attach-field .kept .1 .1 .1 .1 .1 .1 .1 .0 ∙ c18 .loop .inv .2,
     )
 
-attach-fields-sub-t45 : (t : ℕ) → attach-fields-lts.Need-sub-t45 (attach-fields-claims t) (attach-fields-at t) attach-fields.Post attach-fields-Inv-loop
-    attach-fields-μ-loop
-attach-fields-sub-t45 t c = search needs
+attach-fields-sub-t39 : (t : ℕ) → attach-fields-lts.Need-sub-t39 (attach-fields-claims t) (attach-fields-at t) attach-fields.Post
+    attach-fields-Inv-loop attach-fields-μ-loop
+attach-fields-sub-t39 t c = search needs
 
 attach-fields-same-length-5 : (t : ℕ) → attach-fields-lts.Need-same-length-5 (attach-fields-claims t) (attach-fields-at t) attach-fields.Post
     attach-fields-Inv-loop attach-fields-μ-loop
@@ -778,10 +767,12 @@ attach-fields-same-length-5 t c = search needs
 
 attach-fields-same-length-6 : (t : ℕ) → attach-fields-lts.Need-same-length-6 (attach-fields-claims t) (attach-fields-at t) attach-fields.Post
     attach-fields-Inv-loop attach-fields-μ-loop
-attach-fields-same-length-6 t c = c .before .before .loop .inv .2
+attach-fields-same-length-6 t c =
+    let c2 = c .before .before in let c8 = c2 .before .before .before .before .before .before in
+    c2 .loop .inv .2 ∙ c8 .fill-fields .kept .1 .1 .1 .1 .1 .1 .0
 
-attach-fields-returns-3 : (t : ℕ) → attach-fields-lts.Need-returns-3 (attach-fields-claims t) (attach-fields-at t) attach-fields.Post attach-fields-Inv-loop
-    attach-fields-μ-loop
+attach-fields-returns-3 : (t : ℕ) → attach-fields-lts.Need-returns-3 (attach-fields-claims t) (attach-fields-at t) attach-fields.Post
+    attach-fields-Inv-loop attach-fields-μ-loop
 attach-fields-returns-3 t c =
     let c1 = c .before in let c2 = c1 .before in
     remaining-none (c2 .loop .inv .0) (c1 .loop-test .left)
@@ -789,54 +780,54 @@ attach-fields-returns-3 t c =
 attach-inner-element-part-requires : (t : ℕ) → attach-inner-lts.Need-element-part-requires (attach-inner-claims t) (attach-inner-at t) attach-inner.Post
 attach-inner-element-part-requires t c κs = search needs
 
-attach-inner-enum-known-l : (t : ℕ) → attach-inner-lts.Need-enum-known-l (attach-inner-claims t) (attach-inner-at t) attach-inner.Post
-attach-inner-enum-known-l t c = search needs
+attach-inner-enum-known-label : (t : ℕ) → attach-inner-lts.Need-enum-known-label (attach-inner-claims t) (attach-inner-at t) attach-inner.Post
+attach-inner-enum-known-label t c = search needs
 
 attach-inner-list-part-requires : (t : ℕ) → attach-inner-lts.Need-list-part-requires (attach-inner-claims t) (attach-inner-at t) attach-inner.Post
 attach-inner-list-part-requires t c κs = search needs
 
-attach-inner-enum-known-m : (t : ℕ) → attach-inner-lts.Need-enum-known-m (attach-inner-claims t) (attach-inner-at t) attach-inner.Post
-attach-inner-enum-known-m t c = search needs
+attach-inner-enum-known-label-2 : (t : ℕ) → attach-inner-lts.Need-enum-known-label-2 (attach-inner-claims t) (attach-inner-at t) attach-inner.Post
+attach-inner-enum-known-label-2 t c = search needs
 
 attach-inner-enum-told : (t : ℕ) → attach-inner-lts.Need-enum-told (attach-inner-claims t) (attach-inner-at t) attach-inner.Post
 attach-inner-enum-told t c = search needs
 
 attach-inner-returns : (t : ℕ) → attach-inner-lts.Need-returns (attach-inner-claims t) (attach-inner-at t) attach-inner.Post
 attach-inner-returns t c =
-    let c2 = c .before .before in let c4 = c2 .before .before in let c6 = c4 .before .before in let c14 =
-    c6 .before .before .before .before .before .before .before .before in
+    let c2 = c .before .before in let c4 = c2 .before .before in let c6 = c4 .before .before in let c13 =
+    c6 .before .before .before .before .before .before .before in
     λ P Q.
-    let a = c14 .args in
+    let a = c13 .args in
     let E = part-list (a .build .target) (a .types .depth) (now (a .target)) (a .types .target .at) (elementOf (Q .tree)) (Q .end) (c6 .element-part .ensures
-    (a .types .depth) Q) (c4 .l .given .1) in
+    (a .types .depth) Q) (c4 .label .given .1) in
     makes-refused _ _ _ _ _ (inner-list-other (a .build .matching) (a .build .policy) (E .label) (E .type) (a .types .place .position) (P .tree) (E .is)
     (part-no-inner (a .build .incoming) (a .types .depth) (now (a .incoming)) (a .types .incoming .at) (listPart (P .tree)) (P .end)
     (c2 .list-part .ensures (a .types .depth) P) (c .enum-told .given .1)))
 
-attach-inner-sub-t26 : (t : ℕ) → attach-inner-lts.Need-sub-t26 (attach-inner-claims t) (attach-inner-at t) attach-inner.Post
-attach-inner-sub-t26 t c =
-    let c16 = c .before .before .before .before .before .before .before .before .before .before .before .before .before .before .before .before in
-    let z = deep (c16 .pre .1 .0 .0) in omega arith
+attach-inner-sub-t27 : (t : ℕ) → attach-inner-lts.Need-sub-t27 (attach-inner-claims t) (attach-inner-at t) attach-inner.Post
+attach-inner-sub-t27 t c =
+    let c15 = c .before .before .before .before .before .before .before .before .before .before .before .before .before .before .before in
+    let z = deep (c15 .pre .1 .0 .0) in omega arith
 
 attach-inner-attach-element-requires : (t : ℕ) → attach-inner-lts.Need-attach-element-requires (attach-inner-claims t) (attach-inner-at t) attach-inner.Post
 attach-inner-attach-element-requires t c κs =
-    let c4 = c .before .before .before .before in let c6 = c4 .before .before in let c8 = c6 .before .before in let c10 = c8 .before .before in let c18 =
-    c10 .before .before .before .before .before .before .before .before in
-    let a = c18 .args in
-    let w = c18 .pre .1 in
+    let c4 = c .before .before .before .before in let c6 = c4 .before .before in let c8 = c6 .before .before in let c10 = c8 .before .before in let c17 =
+    c10 .before .before .before .before .before .before .before in
+    let a = c17 .args in
+    let w = c17 .pre .1 in
     let P = w .0 .0 in
     let Q = w .0 .1 .0 in
     let z = deep P in
     let E = part-list (a .build .target) (a .types .depth) (now (a .target)) (a .types .target .at) (elementOf (Q .tree)) (Q .end)
-    (c10 .element-part .ensures (a .types .depth) Q) (c8 .l .given .1) in
+    (c10 .element-part .ensures (a .types .depth) Q) (c8 .label .given .1) in
     let I = part-inner (a .build .incoming) (a .types .depth) (now (a .incoming)) (a .types .incoming .at) (listPart (P .tree)) (P .end)
-    (c6 .list-part .ensures (a .types .depth) P) (c4 .m .given .1) in (
-      omega (arith, c18 .pre .0),
+    (c6 .list-part .ensures (a .types .depth) P) (c4 .label2 .given .1) in (
+      omega (arith, c17 .pre .0),
       (
         (I .element .inner, (E .element .inner, w .0 .1 .1)),
         (
           (I .element .inside, E .element .inside, E .element .short),
-          (w .1 .0, w .1 .1, omega (arith, E .element .after, w .1)),
+          (w .1 .0, omega (arith, E .element .after, w .1)),
         ),
       ),
     )
@@ -847,18 +838,18 @@ attach-inner-enum-known-width t c = search needs
 attach-inner-array-part-requires : (t : ℕ) → attach-inner-lts.Need-array-part-requires (attach-inner-claims t) (attach-inner-at t) attach-inner.Post
 attach-inner-array-part-requires t c κs = search needs
 
-attach-inner-enum-known-m-2 : (t : ℕ) → attach-inner-lts.Need-enum-known-m-2 (attach-inner-claims t) (attach-inner-at t) attach-inner.Post
-attach-inner-enum-known-m-2 t c = search needs
+attach-inner-enum-known-label-3 : (t : ℕ) → attach-inner-lts.Need-enum-known-label-3 (attach-inner-claims t) (attach-inner-at t) attach-inner.Post
+attach-inner-enum-known-label-3 t c = search needs
 
 attach-inner-enum-told-2 : (t : ℕ) → attach-inner-lts.Need-enum-told-2 (attach-inner-claims t) (attach-inner-at t) attach-inner.Post
 attach-inner-enum-told-2 t c = search needs
 
 attach-inner-returns-2 : (t : ℕ) → attach-inner-lts.Need-returns-2 (attach-inner-claims t) (attach-inner-at t) attach-inner.Post
 attach-inner-returns-2 t c =
-    let c2 = c .before .before in let c4 = c2 .before .before in let c6 = c4 .before .before in let c14 =
-    c6 .before .before .before .before .before .before .before .before in
+    let c2 = c .before .before in let c4 = c2 .before .before in let c6 = c4 .before .before in let c13 =
+    c6 .before .before .before .before .before .before .before in
     λ P Q.
-    let a = c14 .args in
+    let a = c13 .args in
     let E = part-array (a .build .target) (a .types .depth) (now (a .target)) (a .types .target .at) (elementOf (Q .tree)) (Q .end)
     (c6 .element-part .ensures (a .types .depth) Q) (c4 .width .given .1) in
     makes-refused _ _ _ _ _ (inner-array-other (a .build .matching) (a .build .policy) (E .label) (E .type) (a .types .place .position) (P .tree)
@@ -867,29 +858,29 @@ attach-inner-returns-2 t c =
 
 attach-inner-sub-t34 : (t : ℕ) → attach-inner-lts.Need-sub-t34 (attach-inner-claims t) (attach-inner-at t) attach-inner.Post
 attach-inner-sub-t34 t c =
-    let c16 = c .before .before .before .before .before .before .before .before .before .before .before .before .before .before .before .before in
-    let z = deep (c16 .pre .1 .0 .0) in omega arith
+    let c15 = c .before .before .before .before .before .before .before .before .before .before .before .before .before .before .before in
+    let z = deep (c15 .pre .1 .0 .0) in omega arith
 
 attach-inner-attach-element-requires-2 : (t : ℕ) → attach-inner-lts.Need-attach-element-requires-2 (attach-inner-claims t) (attach-inner-at t)
     attach-inner.Post
 attach-inner-attach-element-requires-2 t c κs =
-    let c4 = c .before .before .before .before in let c6 = c4 .before .before in let c8 = c6 .before .before in let c10 = c8 .before .before in let c18 =
-    c10 .before .before .before .before .before .before .before .before in
-    let a = c18 .args in
-    let w = c18 .pre .1 in
+    let c4 = c .before .before .before .before in let c6 = c4 .before .before in let c8 = c6 .before .before in let c10 = c8 .before .before in let c17 =
+    c10 .before .before .before .before .before .before .before in
+    let a = c17 .args in
+    let w = c17 .pre .1 in
     let P = w .0 .0 in
     let Q = w .0 .1 .0 in
     let z = deep P in
     let E = part-array (a .build .target) (a .types .depth) (now (a .target)) (a .types .target .at) (elementOf (Q .tree)) (Q .end)
     (c10 .element-part .ensures (a .types .depth) Q) (c8 .width .given .1) in
     let I = part-inner (a .build .incoming) (a .types .depth) (now (a .incoming)) (a .types .incoming .at) (arrayPart (c8 .width .given .0 .0) (P .tree))
-    (P .end) (c6 .array-part .ensures (a .types .depth) P) (c4 .m2 .given .1) in (
-      omega (arith, c18 .pre .0),
+    (P .end) (c6 .array-part .ensures (a .types .depth) P) (c4 .label3 .given .1) in (
+      omega (arith, c17 .pre .0),
       (
         (I .element .inner, (E .element .inner, w .0 .1 .1)),
         (
           (I .element .inside, E .element .inside, E .element .short),
-          (w .1 .0, w .1 .1, omega (arith, E .element .after, w .1)),
+          (w .1 .0, omega (arith, E .element .after, w .1)),
         ),
       ),
     )
@@ -906,20 +897,20 @@ attach-inner-same-length-2 t c = search needs
 attach-inner-returns-3 : (t : ℕ) → attach-inner-lts.Need-returns-3 (attach-inner-claims t) (attach-inner-at t) attach-inner.Post
 attach-inner-returns-3 t c =
     let c4 = c .before .before .before .before in let c9 = c4 .before .before .before .before .before in let c11 = c9 .before .before in let c13 =
-    c11 .before .before in let c15 = c13 .before .before in let c23 = c15 .before .before .before .before .before .before .before .before in
+    c11 .before .before in let c15 = c13 .before .before in let c22 = c15 .before .before .before .before .before .before .before in
     λ P Q.
-    let a = c23 .args in
+    let a = c22 .args in
     let E = part-list (a .build .target) (a .types .depth) (now (a .target)) (a .types .target .at) (elementOf (Q .tree)) (Q .end)
-    (c15 .element-part .ensures (a .types .depth) Q) (c13 .l .given .1) in
+    (c15 .element-part .ensures (a .types .depth) Q) (c13 .label .given .1) in
     let I = part-inner (a .build .incoming) (a .types .depth) (now (a .incoming)) (a .types .incoming .at) (listPart (P .tree)) (P .end)
-    (c11 .list-part .ensures (a .types .depth) P) (c9 .m .given .1) in
+    (c11 .list-part .ensures (a .types .depth) P) (c9 .label2 .given .1) in
     makes-to _ _ _ _ (E .element .ends) (inner-list (a .build .matching) (a .build .policy) (E .label) (E .type) (a .types .place .position) (P .tree) (E .is)
     (I .is) ∙ element-names (a .build .matching) (a .build .policy) (listSelector (a .types .place .position)) (E .element .label) (E .element .tree)
     (I .element .label) (I .element .tree))
     (c4 .attach-element .ensures (a .types .target .at) (listSelector (a .types .place .position)) (λ s. listMapping (position (a .types .place .position))
     s) (list-maps
     (a .types .place .position)) (I .element .inner) (E .element .inner) (E .element .after) (E .element .named (a .build .matching) _ _
-    (c23 .pre .1 .0 .1 .1)))
+    (c22 .pre .1 .0 .1 .1)))
 
 attach-inner-same-length-3 : (t : ℕ) → attach-inner-lts.Need-same-length-3 (attach-inner-claims t) (attach-inner-at t) attach-inner.Post
 attach-inner-same-length-3 t c = search needs
@@ -930,26 +921,26 @@ attach-inner-same-length-4 t c = search needs
 attach-inner-returns-4 : (t : ℕ) → attach-inner-lts.Need-returns-4 (attach-inner-claims t) (attach-inner-at t) attach-inner.Post
 attach-inner-returns-4 t c =
     let c4 = c .before .before .before .before in let c9 = c4 .before .before .before .before .before in let c11 = c9 .before .before in let c13 =
-    c11 .before .before in let c15 = c13 .before .before in let c23 = c15 .before .before .before .before .before .before .before .before in
+    c11 .before .before in let c15 = c13 .before .before in let c22 = c15 .before .before .before .before .before .before .before in
     λ P Q.
-    let a = c23 .args in
+    let a = c22 .args in
     let E = part-array (a .build .target) (a .types .depth) (now (a .target)) (a .types .target .at) (elementOf (Q .tree)) (Q .end)
     (c15 .element-part .ensures (a .types .depth) Q) (c13 .width .given .1) in
     let I = part-inner (a .build .incoming) (a .types .depth) (now (a .incoming)) (a .types .incoming .at) (arrayPart (c13 .width .given .0 .0) (P .tree))
-    (P .end) (c11 .array-part .ensures (a .types .depth) P) (c9 .m2 .given .1) in
+    (P .end) (c11 .array-part .ensures (a .types .depth) P) (c9 .label3 .given .1) in
     makes-to _ _ _ _ (E .element .ends) (inner-array (a .build .matching) (a .build .policy) (E .label) (E .type) (a .types .place .position) (P .tree)
     (c13 .width .given .0 .0) (E .is) (I .is) ∙ element-names (a .build .matching) (a .build .policy) (arraySelector (a .types .place .position))
     (E .element .label) (E .element .tree) (I .element .label) (I .element .tree))
     (c4 .attach-element2 .ensures (a .types .target .at) (arraySelector (a .types .place .position)) (λ s. arrayMapping (position
     (a .types .place .position)) s)
     (array-maps (a .types .place .position)) (I .element .inner) (E .element .inner) (E .element .after) (E .element .named (a .build .matching) _ _
-    (c23 .pre .1 .0 .1 .1)))
+    (c22 .pre .1 .0 .1 .1)))
 
 attach-inner-returns-5 : (t : ℕ) → attach-inner-lts.Need-returns-5 (attach-inner-claims t) (attach-inner-at t) attach-inner.Post
 attach-inner-returns-5 t c =
-    let c2 = c .before .before in let c10 = c2 .before .before .before .before .before .before .before .before in
+    let c2 = c .before .before in let c9 = c2 .before .before .before .before .before .before .before in
     λ P Q.
-    let a = c10 .args in
+    let a = c9 .args in
     makes-refused _ _ _ _ _ (inner-none (a .build .matching) (a .build .policy) (a .types .place .position) (P .tree) (part-no-element (a .build .target)
     (a .types .depth) (now (a .target)) (a .types .target .at) (elementOf (Q .tree)) (Q .end) (c2 .element-part .ensures (a .types .depth) Q)
     (c .enum-told3 .given .1)))
@@ -1216,24 +1207,6 @@ attach-renamed-returns-4 t c =
     (lt (rename-on (a .build .matching) (labelAt (now (a .target)) (a .pair .target .label)) (labelAt (now (a .incoming)) (a .pair .incoming .label))
     (c23 .needs-rename .ensures) (c22 .if2 .left)))
 
-attach-row-fill-in-requires : (t : ℕ) → attach-row-lts.Need-fill-in-requires (attach-row-claims t) (attach-row-at t) attach-row.Post
-attach-row-fill-in-requires t c κs = search needs
-
-attach-row-attach-fields-requires : (t : ℕ) → attach-row-lts.Need-attach-fields-requires (attach-row-claims t) (attach-row-at t) attach-row.Post
-attach-row-attach-fields-requires t c κs =
-    let c4 = c .before .before .before .before in let c13 = c4 .before .before .before .before .before .before .before .before .before in
-    let w = c13 .pre .1 in
-    (omega (arith, c13 .pre .0), (w .0, (w .1 .0, (w .1 .1, (c4 .fill-in .ensures .0, c4 .fill-in .ensures .1)))))
-
-attach-row-same-length : (t : ℕ) → attach-row-lts.Need-same-length (attach-row-claims t) (attach-row-at t) attach-row.Post
-attach-row-same-length t c = search needs
-
-attach-row-same-length-2 : (t : ℕ) → attach-row-lts.Need-same-length-2 (attach-row-claims t) (attach-row-at t) attach-row.Post
-attach-row-same-length-2 t c = search needs
-
-attach-row-returns : (t : ℕ) → attach-row-lts.Need-returns (attach-row-claims t) (attach-row-at t) attach-row.Post
-attach-row-returns t c = search needs
-
 attach-struct-struct-part-requires : (t : ℕ) → attach-struct-lts.Need-struct-part-requires (attach-struct-claims t) (attach-struct-at t) attach-struct.Post
 attach-struct-struct-part-requires t c κs = search needs
 
@@ -1305,8 +1278,8 @@ attach-struct-add-put-short-2 t c =
     .before .before .before .before .before .before .before .before .before in
     omega (arith, c26 .pre .1 .1 .1)
 
-attach-struct-attach-row-requires : (t : ℕ) → attach-struct-lts.Need-attach-row-requires (attach-struct-claims t) (attach-struct-at t) attach-struct.Post
-attach-struct-attach-row-requires t c κs =
+attach-struct-attach-fields-requires : (t : ℕ) → attach-struct-lts.Need-attach-fields-requires (attach-struct-claims t) (attach-struct-at t) attach-struct.Post
+attach-struct-attach-fields-requires t c κs =
     let c22 = c .before .before .before .before .before .before .before .before .before .before .before .before .before .before .before .before .before
     .before .before .before .before .before in let c24 = c22 .before .before in let c31 = c24 .before .before .before .before .before .before .before in
     let a = c31 .args in
@@ -1344,7 +1317,7 @@ attach-struct-returns-3 t c =
     (c32 .struct-part .ensures (a .build .incoming) (a .over .depth) P) (c30 .n .given .1) in
     struct-stops (a .build .matching) (a .build .policy) (defaultsAt (a .build .defaults) T) (Q .columns) (a .over .place .position) (P .tree)
     (S .inner .columns)
-    (S .is) (c23 .struct-fault .ensures (S .inner) Q) (c20 .if1 .left) _ _ from _ _ (c .refused-row .ensures) (c7 .attach-row .ensures T (S .inner) Q)
+    (S .is) (c23 .struct-fault .ensures (S .inner) Q) (c20 .if1 .left) _ _ from _ _ (c .refused-row .ensures) (c7 .attach-fields .ensures T (S .inner) Q)
     (c1 .enum-told2 .given .1)
 
 attach-struct-unchanged-requires : (t : ℕ) → attach-struct-lts.Need-unchanged-requires (attach-struct-claims t) (attach-struct-at t) attach-struct.Post
@@ -1364,7 +1337,7 @@ attach-struct-same-length-5 : (t : ℕ) → attach-struct-lts.Need-same-length-5
 attach-struct-same-length-5 t c =
     let c13 = c .before .before .before .before .before .before .before .before .before .before .before .before .before in let c29 =
     c13 .before .before .before .before .before .before .before .before .before .before .before .before .before .before .before .before in
-    c13 .attach-row .kept .1 .1 .1 .1 .1 .1 .1 .0 ∙ c29 .struct-fault .kept .1 .1 .1 .1 .0
+    c13 .attach-fields .kept .1 .1 .1 .1 .1 .1 .1 .0 ∙ c29 .struct-fault .kept .1 .1 .1 .1 .0
 
 attach-struct-returns-4 : (t : ℕ) → attach-struct-lts.Need-returns-4 (attach-struct-claims t) (attach-struct-at t) attach-struct.Post
 attach-struct-returns-4 t c =
@@ -1379,9 +1352,9 @@ attach-struct-returns-4 t c =
     (c38 .struct-part .ensures (a .build .incoming) (a .over .depth) P) (c36 .n .given .1) in
     struct-left-out (a .build .matching) (a .build .policy) (defaultsAt (a .build .defaults) T) (Q .columns) (a .over .place .position) (P .tree)
     (S .inner .columns) (S .is) (c29 .struct-fault .ensures (S .inner) Q) (c26 .if1 .left) _ _ from (count-at (S .inner)) (count-at Q)
-    (c7 .row .given .1) _ _ _ (c23 .put-head .ensures) (c18 .put-short .ensures) (c13 .attach-row .ensures T (S .inner) Q) (c5 .unchanged .ensures)
+    (c7 .row .given .1) _ _ _ (c23 .put-head .ensures) (c18 .put-short .ensures) (c13 .attach-fields .ensures T (S .inner) Q) (c5 .unchanged .ensures)
     (c4 .if2 .taken)
-    (c13 .attach-row .kept .1 .1 .1 .1 .1 .1 .0 ∙ c18 .put-short .kept .0 ∙ c23 .put-head .kept .0) (c2 .put-position .ensures) (omega (
+    (c13 .attach-fields .kept .1 .1 .1 .1 .1 .1 .0 ∙ c18 .put-short .kept .0 ∙ c23 .put-head .kept .0) (c2 .put-position .ensures) (omega (
       arith,
       lt,
       columns-within Q (c45 .pre .1 .1 .1 .2),
@@ -1399,7 +1372,7 @@ attach-struct-add-t22 t c =
     (c34 .struct-part .ensures (a .build .incoming) (a .over .depth) P) (c32 .n .given .1) in
     omega (
       arith,
-      row-room _ (c9 .attach-row .ensures (w .1 .0 .0) (S .inner) (w .0 .1 .0)) (c3 .row .given .1),
+      row-room _ (c9 .attach-fields .ensures (w .1 .0 .0) (S .inner) (w .0 .1 .0)) (c3 .row .given .1),
       columns-within (w .0 .1 .0) (w .1 .1 .2),
       w .1 .1,
     )
@@ -1423,7 +1396,7 @@ attach-struct-returns-5 t c =
     struct-kept (a .build .matching) (a .build .policy) (defaultsAt (a .build .defaults) T) (Q .columns) (a .over .place .position) (P .tree)
     (S .inner .columns)
     (S .is) (c25 .struct-fault .ensures (S .inner) Q) (c22 .if1 .left) _ _ from (count-at (S .inner)) (count-at Q) (c3 .row .given .1) _ _ _
-    (c19 .put-head .ensures) (c14 .put-short .ensures) (c9 .attach-row .ensures T (S .inner) Q) (c1 .unchanged .ensures) (c .if2 .left)
+    (c19 .put-head .ensures) (c14 .put-short .ensures) (c9 .attach-fields .ensures T (S .inner) Q) (c1 .unchanged .ensures) (c .if2 .left)
     (c14 .put-short .kept .0 ∙ c19 .put-head .kept .0) lt
 
 attach-transforms-head-requires : (t : ℕ) → attach-transforms-lts.Need-head-requires (attach-transforms-claims t) (attach-transforms-at t)
@@ -1530,9 +1503,9 @@ attach-transforms-returns-4 t c =
 attach-transforms-returns-5 : (t : ℕ) → attach-transforms-lts.Need-returns-5 (attach-transforms-claims t) (attach-transforms-at t) attach-transforms.Post
 attach-transforms-returns-5 t c = λ T P Q. never-headless Q (c .before .before .head .ensures .0) (c .enum-told4 .given .1)
 
-pub +attach-element+attach-field+attach-fields+attach-inner+attach-nested+attach-renamed+attach-row+attach-struct+attach-transforms-spec :
+pub +attach-element+attach-field+attach-fields+attach-inner+attach-nested+attach-renamed+attach-struct+attach-transforms-spec :
     {M : Type 1} → statement M
-+attach-element+attach-field+attach-fields+attach-inner+attach-nested+attach-renamed+attach-row+attach-struct+attach-transforms-spec =
++attach-element+attach-field+attach-fields+attach-inner+attach-nested+attach-renamed+attach-struct+attach-transforms-spec =
     close
     μ-attach-element
     μ-attach-field
@@ -1540,7 +1513,6 @@ pub +attach-element+attach-field+attach-fields+attach-inner+attach-nested+attach
     μ-attach-inner
     μ-attach-nested
     μ-attach-renamed
-    μ-attach-row
     μ-attach-struct
     μ-attach-transforms
     (λ t. attach-element-lts.spec (attach-element-claims t)
@@ -1549,7 +1521,7 @@ pub +attach-element+attach-field+attach-fields+attach-inner+attach-nested+attach
     (attach-element-same-element-requires t)
     (attach-element-returns t)
     (attach-element-put-head-requires t)
-    (attach-element-add-t26 t)
+    (attach-element-add-t25 t)
     (attach-element-attach-renamed-requires t)
     (attach-element-is-refused-requires t)
     (attach-element-same-length t)
@@ -1561,14 +1533,21 @@ pub +attach-element+attach-field+attach-fields+attach-inner+attach-nested+attach
     (attach-element-same-length-4 t)
     (attach-element-returns-3 t)
     (attach-element-len-of-requires t)
-    (attach-element-add-t36 t)
+    (attach-element-add-t35 t)
     (attach-element-same-length-5 t)
     (attach-element-same-length-6 t)
     (attach-element-returns-4 t))
     (λ t. attach-field-lts.spec (attach-field-claims t)
     (attach-field-at t)
     attach-field.Post
-    (attach-field-enum-known-found t)
+    (attach-field-slice-reshare-prefix-find-in t)
+    (attach-field-slice-aggregate-find-in t)
+    (attach-field-find-in-requires t)
+    (attach-field-enum-known-position t)
+    (attach-field-mul-attach-renamed t)
+    (attach-field-sub-attach-renamed t)
+    (attach-field-part-attach-renamed-start t)
+    (attach-field-part-attach-renamed-end t)
     (attach-field-attach-renamed-requires t)
     (attach-field-enum-told t)
     (attach-field-put-missing-requires t)
@@ -1576,23 +1555,18 @@ pub +attach-element+attach-field+attach-fields+attach-inner+attach-nested+attach
     (attach-field-same-length-2 t)
     (attach-field-returns t)
     (attach-field-same-length-3 t)
+    (attach-field-same-length-4 t)
     (attach-field-returns-2 t))
     (λ t. attach-fields-lts.spec (attach-fields-claims t)
     (attach-fields-at t)
     attach-fields.Post
     attach-fields-Inv-loop
     attach-fields-μ-loop
+    (attach-fields-fill-fields-requires t)
     (attach-fields-inserts-requires t)
     (attach-fields-loop-holds t)
     (attach-fields-label-requires t)
     (attach-fields-enum-known-l t)
-    (attach-fields-slice-reshare-prefix-find-in t)
-    (attach-fields-slice-aggregate-find-in t)
-    (attach-fields-find-in-requires t)
-    (attach-fields-mul-attach-field t)
-    (attach-fields-sub-attach-field t)
-    (attach-fields-part-attach-field-start t)
-    (attach-fields-part-attach-field-end t)
     (attach-fields-attach-field-requires t)
     (attach-fields-is-refused-requires t)
     (attach-fields-failed-requires t)
@@ -1611,7 +1585,7 @@ pub +attach-element+attach-field+attach-fields+attach-inner+attach-nested+attach
     (attach-fields-add-i t)
     (attach-fields-loop-less t)
     (attach-fields-loop-again t)
-    (attach-fields-sub-t45 t)
+    (attach-fields-sub-t39 t)
     (attach-fields-same-length-5 t)
     (attach-fields-same-length-6 t)
     (attach-fields-returns-3 t))
@@ -1619,16 +1593,16 @@ pub +attach-element+attach-field+attach-fields+attach-inner+attach-nested+attach
     (attach-inner-at t)
     attach-inner.Post
     (attach-inner-element-part-requires t)
-    (attach-inner-enum-known-l t)
+    (attach-inner-enum-known-label t)
     (attach-inner-list-part-requires t)
-    (attach-inner-enum-known-m t)
+    (attach-inner-enum-known-label-2 t)
     (attach-inner-enum-told t)
     (attach-inner-returns t)
-    (attach-inner-sub-t26 t)
+    (attach-inner-sub-t27 t)
     (attach-inner-attach-element-requires t)
     (attach-inner-enum-known-width t)
     (attach-inner-array-part-requires t)
-    (attach-inner-enum-known-m-2 t)
+    (attach-inner-enum-known-label-3 t)
     (attach-inner-enum-told-2 t)
     (attach-inner-returns-2 t)
     (attach-inner-sub-t34 t)
@@ -1685,14 +1659,6 @@ pub +attach-element+attach-field+attach-fields+attach-inner+attach-nested+attach
     (attach-renamed-same-length-5 t)
     (attach-renamed-same-length-6 t)
     (attach-renamed-returns-4 t))
-    (λ t. attach-row-lts.spec (attach-row-claims t)
-    (attach-row-at t)
-    attach-row.Post
-    (attach-row-fill-in-requires t)
-    (attach-row-attach-fields-requires t)
-    (attach-row-same-length t)
-    (attach-row-same-length-2 t)
-    (attach-row-returns t))
     (λ t. attach-struct-lts.spec (attach-struct-claims t)
     (attach-struct-at t)
     attach-struct.Post
@@ -1708,7 +1674,7 @@ pub +attach-element+attach-field+attach-fields+attach-inner+attach-nested+attach
     (attach-struct-put-head-requires t)
     (attach-struct-add-put-short-2 t)
     (attach-struct-put-short-requires t)
-    (attach-struct-attach-row-requires t)
+    (attach-struct-attach-fields-requires t)
     (attach-struct-enum-known-row t)
     (attach-struct-enum-told-2 t)
     (attach-struct-refused-row-requires t)
