@@ -7,7 +7,7 @@ ghost use Rattle.layout.specs.Tree.{DataType, struct, dtypeOf, fieldsOf};
 ghost use Rattle.layout.specs.code.Stands.{TypeAt, ColumnsAt};
 ghost use Rattle.plan.specs.Nullness.{topOf, insideOf, nullnessAt, nullnessOf, nullnessesOf};
 ghost use Rattle.plan.specs.Marks.{allowed, givens, meets, meetsAll};
-ghost use Rattle.overflow.specs.code.Overflows.{PlanAt};
+ghost use Rattle.overflow.specs.code.Overflows.{PlanAt, ElementTypeAt};
 ghost use Rattle.overflow.specs.code.Ranges.{ColumnsIn};
 ghost use Rattle.nullness.specs.code.Incoming.{IndexAt};
 ghost use Rattle.nullness.specs.code.Nulls.{Nulls};
@@ -97,41 +97,27 @@ fn meets_type(
             };
             meets_fields(incoming, columns, index, plan, nulls, path, tgt, fields)
         }
-        Head::List(e) => match e.element_label(tgt, y) {
-            Labelled::Is(l, f) => {
-                let at = TypePlace {
-                    edition: y,
-                    depth: place.depth - 1,
-                    at: f,
-                };
-                let element = MarkedType {
-                    place: at,
-                    required: l.required,
-                };
-                meets_element(incoming, columns, index, plan, nulls, path, tgt, element)
-            }
-            Labelled::Refused(_) => false,
-        },
-        Head::Array(_, e) => match e.element_label(tgt, y) {
-            Labelled::Is(l, f) => {
-                let at = TypePlace {
-                    edition: y,
-                    depth: place.depth - 1,
-                    at: f,
-                };
-                let element = MarkedType {
-                    place: at,
-                    required: l.required,
-                };
-                meets_element(incoming, columns, index, plan, nulls, path, tgt, element)
-            }
-            Labelled::Refused(_) => false,
-        },
+        Head::List(e) => {
+            let element = TypePlace {
+                edition: y,
+                depth: place.depth - 1,
+                at: e,
+            };
+            meets_element(incoming, columns, index, plan, nulls, path, tgt, element)
+        }
+        Head::Array(_, e) => {
+            let element = TypePlace {
+                edition: y,
+                depth: place.depth - 1,
+                at: e,
+            };
+            meets_element(incoming, columns, index, plan, nulls, path, tgt, element)
+        }
         Head::Refused(_) => false,
     }
 }
 
-// At the places of an element.
+// At the places of a list's or array's element, whose label and type stand at `place`.
 fn meets_element(
     incoming: &[u8],
     columns: ColumnRange,
@@ -140,15 +126,28 @@ fn meets_element(
     nulls: &[u64],
     path: TopPath,
     tgt: &[u8],
-    t: MarkedType,
+    place: TypePlace,
 ) -> bool
     requires { ⌜ IndexAt (now incoming) columns (now index) × Nulls (now plan) (now nulls) ⌝ }
-    requires { ⌜ ((P : ColumnsIn (now incoming) columns) × (Q : TypeAt (t .place .edition) (t .place .depth) (now tgt) (t .place .at .at)) × ElementAt (now plan) (path .top) (fieldsOf (P .columns)) (slice 0 (path .len) (path .steps)) (dtypeOf (Q .tree))) ⌝ }
-    requires { ⌜ (path .len + 1 + t .place .depth ≤ 16) × (length (path .steps) ≡ 64) ⌝ }
-    ensures { λ r. ⌜ ((P : ColumnsIn (now (incoming .entry)) columns) (Q : TypeAt (t .place .edition) (t .place .depth) (now (tgt .entry)) (t .place .at .at)) (S : ElementAt (now (plan .entry)) (path .top) (fieldsOf (P .columns)) (slice 0 (path .len) (path .steps)) (dtypeOf (Q .tree))) → r ≡ meets (nullnessAt (insideOf (nullnessIn (nullnessOf (givens (P .columns)) (S .top .here .tree)) (slice 0 (path .len) (path .steps)))) 0) (t .required) (Q .tree)) ⌝ }
+    requires { ⌜ ((P : ColumnsIn (now incoming) columns) × (Q : ElementTypeAt (place .edition) (place .depth) (now tgt) (place .at .at)) × ElementAt (now plan) (path .top) (fieldsOf (P .columns)) (slice 0 (path .len) (path .steps)) (dtypeOf (Q .type .tree))) ⌝ }
+    requires { ⌜ (path .len + 1 + place .depth ≤ 16) × (length (path .steps) ≡ 64) ⌝ }
+    ensures { λ r. ⌜ ((P : ColumnsIn (now (incoming .entry)) columns) (Q : ElementTypeAt (place .edition) (place .depth) (now (tgt .entry)) (place .at .at)) (S : ElementAt (now (plan .entry)) (path .top) (fieldsOf (P .columns)) (slice 0 (path .len) (path .steps)) (dtypeOf (Q .type .tree))) → r ≡ meets (nullnessAt (insideOf (nullnessIn (nullnessOf (givens (P .columns)) (S .top .here .tree)) (slice 0 (path .len) (path .steps)))) 0) (Q .label .required) (Q .type .tree)) ⌝ }
 {
-    let below = part_path(path, 0);
-    meets_type(incoming, columns, index, plan, nulls, below, tgt, t)
+    let edition = place.edition;
+    let depth = place.depth;
+    let c = place.at;
+    match c.element_label(tgt, edition) {
+        Labelled::Is(l, at) => {
+            let below = part_path(path, 0);
+            let element = TypePlace { edition, depth, at };
+            let t = MarkedType {
+                place: element,
+                required: l.required,
+            };
+            meets_type(incoming, columns, index, plan, nulls, below, tgt, t)
+        }
+        Labelled::Refused(_) => false,
+    }
 }
 
 // At the places of a struct's fields.

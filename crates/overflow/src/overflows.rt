@@ -12,7 +12,7 @@ ghost use Rattle.layout.specs.code.Stands.{TypeAt, ColumnsAt};
 ghost use Rattle.plan.specs.Run.{clean, cleanAll, eval, evals};
 ghost use Rattle.overflow.specs.code.Ranges.{ColumnsIn, RecordAt};
 ghost use Rattle.overflow.specs.code.Leaves.{leaves, leavesFrom};
-ghost use Rattle.overflow.specs.code.Overflows.{TopAt, PlanAt, overAt, partPath, started};
+ghost use Rattle.overflow.specs.code.Overflows.{TopAt, PlanAt, ElementTypeAt, overAt, partPath, started};
 use crate::seek::seek;
 use crate::want::Bounds;
 use crate::want::Timed;
@@ -125,33 +125,27 @@ fn over_type(
             };
             over_fields(lay, columns, rec, plan, path, tgt, fields, table)
         }
-        Head::List(e) => match e.element_label(tgt, y) {
-            Labelled::Is(_, f) => {
-                let element = TypePlace {
-                    edition: y,
-                    depth: place.depth - 1,
-                    at: f,
-                };
-                over_element(lay, columns, rec, plan, path, tgt, element, table)
-            }
-            Labelled::Refused(_) => true,
-        },
-        Head::Array(_, e) => match e.element_label(tgt, y) {
-            Labelled::Is(_, f) => {
-                let element = TypePlace {
-                    edition: y,
-                    depth: place.depth - 1,
-                    at: f,
-                };
-                over_element(lay, columns, rec, plan, path, tgt, element, table)
-            }
-            Labelled::Refused(_) => true,
-        },
+        Head::List(e) => {
+            let element = TypePlace {
+                edition: y,
+                depth: place.depth - 1,
+                at: e,
+            };
+            over_element(lay, columns, rec, plan, path, tgt, element, table)
+        }
+        Head::Array(_, e) => {
+            let element = TypePlace {
+                edition: y,
+                depth: place.depth - 1,
+                at: e,
+            };
+            over_element(lay, columns, rec, plan, path, tgt, element, table)
+        }
         Head::Refused(_) => true,
     }
 }
 
-// Of a list's or array's element, whose type stands at `place`: every one.
+// Of a list's or array's element, whose label and type stand at `place`: every one.
 fn over_element(
     lay: &[u8],
     columns: ColumnRange,
@@ -164,11 +158,20 @@ fn over_element(
 ) -> bool
     requires { ⌜ Ends (columns .edition) (now lay) (now table) ⌝ }
     requires { ⌜ ((X : RecordAt (now lay) columns (now rec)) × TopAt (now plan) (path .top) (fieldsOf (X .columns .columns))) ⌝ }
-    requires { ⌜ TypeAt (place .edition) (place .depth) (now tgt) (place .at .at) × (path .len + 1 + place .depth ≤ 16) × (length (path .steps) ≡ 64) ⌝ }
-    ensures { λ r. ⌜ ((X : RecordAt (now (lay .entry)) columns (now (rec .entry))) (T : TopAt (now (plan .entry)) (path .top) (fieldsOf (X .columns .columns))) (Q : TypeAt (place .edition) (place .depth) (now (tgt .entry)) (place .at .at)) → r ≡ leaves (dtypeOf (Q .tree)) (λ p u. overAt (X .values .values) (T .here .tree) (path .steps) (path .len) (0 ∷ p) u)) ⌝ }
+    requires { ⌜ ElementTypeAt (place .edition) (place .depth) (now tgt) (place .at .at) × (path .len + 1 + place .depth ≤ 16) × (length (path .steps) ≡ 64) ⌝ }
+    ensures { λ r. ⌜ ((X : RecordAt (now (lay .entry)) columns (now (rec .entry))) (T : TopAt (now (plan .entry)) (path .top) (fieldsOf (X .columns .columns))) (Q : ElementTypeAt (place .edition) (place .depth) (now (tgt .entry)) (place .at .at)) → r ≡ leaves (dtypeOf (Q .type .tree)) (λ p u. overAt (X .values .values) (T .here .tree) (path .steps) (path .len) (0 ∷ p) u)) ⌝ }
 {
-    let below = part_path(path, 0);
-    over_type(lay, columns, rec, plan, below, tgt, place, table)
+    let edition = place.edition;
+    let depth = place.depth;
+    let c = place.at;
+    match c.element_label(tgt, edition) {
+        Labelled::Is(_, at) => {
+            let below = part_path(path, 0);
+            let element = TypePlace { edition, depth, at };
+            over_type(lay, columns, rec, plan, below, tgt, element, table)
+        }
+        Labelled::Refused(_) => true,
+    }
 }
 
 // Of a struct's fields.
