@@ -9,6 +9,7 @@ ghost use lib.ListN.{length};
 ghost use Rattle.ends.specs.code.Ends.{Ends};
 ghost use Rattle.layout.specs.Tree.{dtypeOf, fieldsOf};
 ghost use Rattle.layout.specs.code.Stands.{TypeAt, ColumnsAt};
+ghost use Rattle.layout.specs.Limits.{deepest};
 ghost use Rattle.plan.specs.Run.{clean, cleanAll, eval, evals};
 ghost use Rattle.overflow.specs.code.Ranges.{ColumnsIn, RecordAt};
 ghost use Rattle.overflow.specs.code.Leaves.{leaves, leavesFrom};
@@ -23,6 +24,7 @@ use layout::columns::Labelled;
 use layout::cursor::Cursor;
 use layout::edition::Edition;
 use layout::leaf::TimeUnit;
+use layout::limits::DEEPEST;
 use layout::types::Head;
 use layout::walk::skip_type;
 use nodes::places::TopPath;
@@ -103,7 +105,7 @@ fn over_type(
 ) -> bool
     requires { ⌜ Ends (columns .edition) (now lay) (now table) ⌝ }
     requires { ⌜ ((X : RecordAt (now lay) columns (now rec)) × TopAt (now plan) (path .top) (fieldsOf (X .columns .columns))) ⌝ }
-    requires { ⌜ TypeAt (place .edition) (place .depth) (now tgt) (place .at .at) × (path .len + place .depth ≤ 16) × (length (path .steps) ≡ 64) ⌝ }
+    requires { ⌜ TypeAt (place .edition) (place .depth) (now tgt) (place .at .at) × (path .len + place .depth ≤ deepest) × (length (path .steps) ≡ 64) ⌝ }
     ensures { λ r. ⌜ ((X : RecordAt (now (lay .entry)) columns (now (rec .entry))) (T : TopAt (now (plan .entry)) (path .top) (fieldsOf (X .columns .columns))) (Q : TypeAt (place .edition) (place .depth) (now (tgt .entry)) (place .at .at)) → r ≡ leaves (dtypeOf (Q .tree)) (λ p u. overAt (X .values .values) (T .here .tree) (path .steps) (path .len) p u)) ⌝ }
 {
     let y = place.edition;
@@ -158,7 +160,7 @@ fn over_element(
 ) -> bool
     requires { ⌜ Ends (columns .edition) (now lay) (now table) ⌝ }
     requires { ⌜ ((X : RecordAt (now lay) columns (now rec)) × TopAt (now plan) (path .top) (fieldsOf (X .columns .columns))) ⌝ }
-    requires { ⌜ ElementTypeAt (place .edition) (place .depth) (now tgt) (place .at .at) × (path .len + 1 + place .depth ≤ 16) × (length (path .steps) ≡ 64) ⌝ }
+    requires { ⌜ ElementTypeAt (place .edition) (place .depth) (now tgt) (place .at .at) × (path .len + 1 + place .depth ≤ deepest) × (length (path .steps) ≡ 64) ⌝ }
     ensures { λ r. ⌜ ((X : RecordAt (now (lay .entry)) columns (now (rec .entry))) (T : TopAt (now (plan .entry)) (path .top) (fieldsOf (X .columns .columns))) (Q : ElementTypeAt (place .edition) (place .depth) (now (tgt .entry)) (place .at .at)) → r ≡ leaves (dtypeOf (Q .type .tree)) (λ p u. overAt (X .values .values) (T .here .tree) (path .steps) (path .len) (0 ∷ p) u)) ⌝ }
 {
     let edition = place.edition;
@@ -187,7 +189,7 @@ fn over_fields(
 ) -> bool
     requires { ⌜ Ends (columns .edition) (now lay) (now table) ⌝ }
     requires { ⌜ ((X : RecordAt (now lay) columns (now rec)) × TopAt (now plan) (path .top) (fieldsOf (X .columns .columns))) ⌝ }
-    requires { ⌜ ColumnsAt (fields .edition) (fields .depth) (now tgt) (fields .count) (fields .first .at) × (path .len + 1 + fields .depth ≤ 16) × (length (path .steps) ≡ 64) ⌝ }
+    requires { ⌜ ColumnsAt (fields .edition) (fields .depth) (now tgt) (fields .count) (fields .first .at) × (path .len + 1 + fields .depth ≤ deepest) × (length (path .steps) ≡ 64) ⌝ }
     ensures { λ r. ⌜ ((X : RecordAt (now (lay .entry)) columns (now (rec .entry))) (T : TopAt (now (plan .entry)) (path .top) (fieldsOf (X .columns .columns))) (Q : ColumnsAt (fields .edition) (fields .depth) (now (tgt .entry)) (fields .count) (fields .first .at)) → r ≡ leavesFrom (fieldsOf (Q .columns)) 0 (λ p u. overAt (X .values .values) (T .here .tree) (path .steps) (path .len) p u)) ⌝ }
 {
     let edition = fields.edition;
@@ -229,7 +231,7 @@ pub fn top_overflows(
 ) -> bool
     requires { ⌜ Ends (columns .edition) (now lay) (now table) ⌝ }
     requires { ⌜ ((X : RecordAt (now lay) columns (now rec)) × TopAt (now plan) (top .at) (fieldsOf (X .columns .columns))) ⌝ }
-    requires { ⌜ TypeAt (place .edition) (place .depth) (now tgt) (place .at .at) × (place .depth ≤ 16) ⌝ }
+    requires { ⌜ TypeAt (place .edition) (place .depth) (now tgt) (place .at .at) × (place .depth ≤ deepest) ⌝ }
     ensures { λ r. ⌜ ((X : RecordAt (now (lay .entry)) columns (now (rec .entry))) (T : TopAt (now (plan .entry)) (top .at) (fieldsOf (X .columns .columns))) (Q : TypeAt (place .edition) (place .depth) (now (tgt .entry)) (place .at .at)) → T .column .type ≡ dtypeOf (Q .tree) → r ≡ not (clean (eval (X .values .values) (T .here .tree)))) ⌝ }
 {
     let path = TopPath {
@@ -265,14 +267,14 @@ pub fn overflows(
             Labelled::Is(_, e) => {
                 let place = TypePlace {
                     edition,
-                    depth: 16,
+                    depth: DEEPEST,
                     at: e,
                 };
                 if top_overflows(lay, columns, rec, plan, s, tgt, place, table) {
                     return true;
                 }
                 s = skip_selector(plan, s);
-                d = skip_type(tgt, edition, 16, e);
+                d = skip_type(tgt, edition, DEEPEST, e);
             }
             Labelled::Refused(_) => return true,
         }

@@ -1,7 +1,8 @@
 -- `overflow::overflows::over_type`, `over_element` and `over_fields` meet their contracts: they call each other with
 -- the depth of the type falling; the loop keeps `Fieldings`. Assumes nothing.
 use Rattle.overflow.proofs.Paths.{Fieldings, step-top, step-leaves, step-room, step-deep, time-leaves, never-leaves, struct-leaves, list-leaves}
-use Rattle.overflow.proofs.Paths.{array-leaves, element-leaves, fielding-none, fielding-all, fielding-labelled, fielding-type, fielding-found, fielding-more}
+use Rattle.overflow.proofs.Paths.{array-leaves, element-leaves}
+use Rattle.overflow.proofs.Paths.{fielding-none, fielding-all, fielding-labelled, fielding-type, fielding-found, fielding-more}
 use Rattle.overflow.proofs.Elements.{list-element, array-element, element-type, element-labelled}
 use Rattle.layout.proofs.View.{deep, struct-at, never-headless}
 use borrow.Author.Needs.{needs}
@@ -118,8 +119,7 @@ pub +over-element+over-fields+over-type-spec : {M : Type 1} → statement M
     let c10 = c .before .before .before .before .before .before .before .before .before .before in
     omega (arith, c10 .pre .1 .1 .1 .1, c10 .pre .1 .1 .1 .2))
     (λ c κs.
-    let c2 = c .before .before in let c4 = c2 .before .before in let c11 = c4 .before .before .before .before .before .before .before in
-    (
+    let c2 = c .before .before in let c4 = c2 .before .before in let c11 = c4 .before .before .before .before .before .before .before in (
       omega (arith, c11 .pre .0),
       (
         c11 .pre .1 .0,
