@@ -93,11 +93,12 @@ module _ (v : Edition) (d : ℕ) (s : Bytes) {n : Nullness} (deep : d ≤ 16) {r
 -- ---- a part
 
 is-none : {v : Edition} {s : Bytes} {n : Nullness} → n ≡ nowhere → PartIs v s n PartMark.None
-is-none e = record { none = λ q. e; here = λ c m q. clash (cc) }
+is-none e = record { none = λ q. e; read = λ q. clash (cc); here = λ c m q. clash (cc) }
 
 is-here : {v : Edition} {s : Bytes} {n : Nullness} {c : Cursor} {m : Bool} → MarkedAt v s (c .at) m n → PartIs v s n (PartMark.At c m)
 is-here {v} {s} {n} {c} {m} M = record {
   none = λ q. clash (cc);
+  read = λ q. clash (cc);
   here = λ d o q.
       let x : c ≡ d = cc in
       let y : m ≡ o = cc in
@@ -240,6 +241,9 @@ module _ {v : Edition} {s : Bytes} {n : Nullness} {path : List ℕ} {len at : �
     unfolding part
     marking-none q =
         sym (step ∙ ap (λ (x : Nullness). fillsAt x (slice (i + 1) len path)) (g (M .type) .none q) ∙ nowhere-fills (slice (i + 1) len path))
+
+    pub marking-refused : {B : Type 0} → r ≡ PartMark.Refused → B
+    marking-refused q = absurd (g (M .type) .read q)
 
     pub marking-more : {c : Cursor} {o : Bool} → r ≡ PartMark.At c o → Marking v s n path len (c .at) o (i + 1)
     unfolding part

@@ -1,6 +1,6 @@
 -- Each required place of a target column, and what holds while the columns are asked one after the other. Assumes
 -- nothing.
-use Prim.Native.Nat.{ℕ, zero, suc, _+_, _-_, _≤_, _<_}
+use Prim.Native.Nat.{ℕ, suc, _+_, _-_, _≤_, _<_}
 use mathlib.Core.Path.{_≡_, refl, sym, ap, _∙_, subst}
 use mathlib.Core.Bool.{Bool, true, false, _&&_}
 use mathlib.Core.List.{List, [], _∷_, _++_}
@@ -9,7 +9,7 @@ use native.Mathlib.Numerals.{add-one}
 use lib.ListN.{length}
 use lib.Seq.{slice, take-suc-set}
 use Rattle.layout.specs.Bytes.{Bytes, AllBytes}
-use Rattle.layout.specs.Tree.{Label, ColumnType, cleaf, cstruct, clist, carray, cnil, ccons, DataType, struct, list, array, Fields, fnil, fcons, Columns}
+use Rattle.layout.specs.Tree.{Label, ColumnType, cleaf, cstruct, clist, carray, cnil, ccons, DataType, struct, Fields, Columns}
 use Rattle.layout.specs.Tree.{dtypeOf, fieldsOf}
 use Rattle.layout.specs.Layout.{kind, label, elementLabel, columns as columnsOf, type}
 use Rattle.layout.specs.code.Answers.{headRes, labelRes, labelAt}
@@ -21,11 +21,11 @@ use Rattle.layout.specs.declared.columns.Label.{Label as LabelSpan}
 use Rattle.layout.specs.declared.columns.Labelled.{Labelled}
 use Rattle.layout.specs.declared.columns.Siblings.the-variants.{Free}
 use Rattle.layout.specs.declared.edition.Edition.{Edition}
-use Rattle.layout.proofs.View.{leaf-at, struct-at, list-at, array-at, FirstAt, first-at, first-labelled, no-column, same-columns}
+use Rattle.layout.proofs.View.{leaf-at, struct-at, FirstAt, first-at, first-labelled, no-column}
 use Rattle.plan.specs.Result.{gives}
 use Rattle.plan.specs.Selector.{Selector, Selectors, snil, scons}
 use Rattle.plan.specs.Check.{Column, column, columnAt}
-use Rattle.plan.specs.Nullness.{Place, Nullness, Nullnesses, nnil, ncons, topOf, insideOf, nullnessAt, nullnessOf, nullnessesOf}
+use Rattle.plan.specs.Nullness.{Place, Nullness, Nullnesses, topOf, insideOf, nullnessAt, nullnessOf, nullnessesOf}
 use Rattle.plan.specs.Marks.{allowed, givens, meets, meetsAll}
 use Rattle.plan.proofs.Paths.{allowed-optional}
 use Rattle.walk.specs.code.Stands.{SelectorAt}
@@ -35,9 +35,10 @@ use Rattle.walk.specs.declared.walk.Walk.{Walk}
 use Rattle.layout.specs.declared.columns.ColumnRange.{ColumnRange}
 use Rattle.nodes.specs.declared.places.TopPath.{TopPath}
 use Rattle.overflow.specs.code.Ranges.{ColumnsIn}
-use Rattle.overflow.specs.code.Overflows.{TopAt, PlanAt, partPath, started}
+use Rattle.overflow.specs.code.Overflows.{TopAt, PlanAt, ElementTypeAt, partPath, started}
+use Rattle.overflow.proofs.Elements.{list-element, array-element, element-label, element-type}
 use Rattle.overflow.proofs.Paths.{standing}
-use Rattle.overflow.proofs.Columns.{Pairing, no-pair, Next, next, column-top, pair-more, pair-start}
+use Rattle.overflow.proofs.Columns.{Pairing, no-pair, next, column-top, pair-more, pair-start}
 use Rattle.nullness.specs.code.Places.{Leads, l-here, l-field, l-list, l-array, nullnessIn, fillsAt, dropPlaces}
 use Rattle.nullness.specs.code.Stops.{Follows, PlaceAt, ElementAt}
 use Rattle.nullness.proofs.Placing.{leads-more, in-place, in-further, next-meets, none-left}
@@ -104,6 +105,25 @@ module _ (path : TopPath) (k : ℕ) {below : TopPath} (room : length (path .step
       → b ≡ meets (nullnessIn (nullnessOf N (S .top .here .tree)) (slice 0 (below .len) (below .steps))) r t) same-top g in
       step-meets (nullnessOf N (T .here .tree)) r t h (f (further h T L))
 
+-- the same of a list's or array's element
+module _ (path : TopPath) {below : TopPath} (room : length (path .steps) ≡ 64) (e : below ≡ partPath path 0) (short : path .len < 64) {y : Edition} {d : ℕ}
+    {s : Bytes} {at : ℕ} (Q : ElementTypeAt y d s at) {q : Labelled} (g : labelRes s q ≡ elementLabel y s at) {l : LabelSpan} {a : Cursor}
+    (k : q ≡ Labelled.Is l a) {plan : Bytes} {Γ : Fields} (E : ElementAt plan (path .top) Γ (slice 0 (path .len) (path .steps)) (dtypeOf (Q .type .tree))) where
+  pub element-place : PlaceAt plan (below .top) Γ (slice 0 (below .len) (below .steps)) (dtypeOf (element-type Q g k .tree))
+  unfolding element-type
+  element-place = step-place path 0 room e short (E .top) (E .leads)
+
+  pub element-met : (N : Nullnesses) {b : Bool}
+      → ((T : TypeAt y d s (a .at)) (S : PlaceAt plan (below .top) Γ (slice 0 (below .len) (below .steps)) (dtypeOf (T .tree)))
+      → b ≡ meets (nullnessIn (nullnessOf N (S .top .here .tree)) (slice 0 (below .len) (below .steps))) (l .required) (T .tree))
+      → b ≡ meets (nullnessAt (insideOf (nullnessIn (nullnessOf N (E .top .here .tree)) (slice 0 (path .len) (path .steps)))) 0) (Q .label .required)
+      (Q .type .tree)
+  unfolding element-type
+  element-met N x =
+      let n = nullnessAt (insideOf (nullnessIn (nullnessOf N (E .top .here .tree)) (slice 0 (path .len) (path .steps)))) 0 in
+      step-met path 0 room e short (E .top) (E .leads) N (l .required) (Q .type .tree) (λ S. x (element-type Q g k) S)
+      ∙ ap (λ (m : Label). meets n (m .required) (Q .type .tree)) (sym (element-label Q g k))
+
 -- ---- by what a type begins with
 
 and-first : {a b c : Bool} → a ≡ true → c ≡ b → c ≡ (a && b)
@@ -155,16 +175,16 @@ module _ {y : Edition} {d : ℕ} {s : Bytes} {at : ℕ} (Q : TypeAt y d s at) {h
   unfolding meets struct-place
   struct-meets f k = let I = struct-at Q e f in meets-as _ r (I .is) (and-first (sym g ∙ q) (k (I .inner) (struct-place S (I .is))))
 
-  module _ {c : Cursor} {x : Labelled} (j : labelRes s x ≡ elementLabel y s (c .at)) {l : LabelSpan} {f : Cursor} (i : x ≡ Labelled.Is l f) {b : Bool}
-      (k : (T : TypeAt y (d - 1) s (f .at)) (E : ElementAt plan top Γ p (dtypeOf (T .tree)))
-      → b ≡ meets (nullnessAt (insideOf (nullnessIn (nullnessOf N (E .top .here .tree)) p)) 0) (l .required) (T .tree)) where
+  module _ {c : Cursor} {b : Bool}
+      (k : (T : ElementTypeAt y (d - 1) s (c .at)) (E : ElementAt plan top Γ p (dtypeOf (T .type .tree)))
+      → b ≡ meets (nullnessAt (insideOf (nullnessIn (nullnessOf N (E .top .here .tree)) p)) 0) (T .label .required) (T .type .tree)) where
     pub list-meets : h ≡ Head.List c → b ≡ meets (nullnessIn (nullnessOf N (S .top .here .tree)) p) r (Q .tree)
     unfolding meets list-place
-    list-meets z = let I = list-at Q e j z i in meets-as _ r (I .is) (and-first (sym g ∙ q) (k (I .inner) (list-place S (I .is))))
+    list-meets z = let (T, i) = list-element Q e z in meets-as _ r i (and-first (sym g ∙ q) (k T (list-place S i)))
 
     pub array-meets : {w : ℕ} → h ≡ Head.Array w c → b ≡ meets (nullnessIn (nullnessOf N (S .top .here .tree)) p) r (Q .tree)
     unfolding meets array-place
-    array-meets z = let I = array-at Q e j z i in meets-as _ r (I .is) (and-first (sym g ∙ q) (k (I .inner) (array-place S (I .is))))
+    array-meets z = let (T, i) = array-element Q e z in meets-as _ r i (and-first (sym g ∙ q) (k T (array-place S i)))
 
 -- ---- the loop over a struct's columns: the first i of m pass
 

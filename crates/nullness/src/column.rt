@@ -5,6 +5,7 @@ ghost use Prim.Native.Nat.{_≤_};
 ghost use lib.ListN.{length};
 ghost use lib.Seq.{slice};
 ghost use Rattle.layout.specs.code.Stands.{TypeAt};
+ghost use Rattle.layout.specs.Limits.{deepest};
 ghost use Rattle.plan.specs.Nullness.{topOf, nullnessAt};
 ghost use Rattle.plan.specs.Marks.{allowed, given, givens};
 ghost use Rattle.overflow.specs.code.Ranges.{ColumnsIn};
@@ -23,10 +24,11 @@ use layout::find::column_at;
 use layout::types::Head;
 use rules::kinds::kind;
 
-// Where the type of a place stands, and whether the place is marked required.
+// Where the type of a place stands, and whether the place is marked required; or there is no such place.
 pub enum PartMark {
     At(Cursor, bool),
     None,
+    Refused,
 }
 
 // Of an element, whose type stands at `c`: there is one place for all, of the number 0.
@@ -42,8 +44,8 @@ fn element_mark(k: u16, c: Cursor, required: bool) -> PartMark
 
 // Of field `k` or element `k` of the type at `c`.
 fn part_mark(s: &[u8], v: Edition, c: Cursor, k: u16) -> PartMark
-    requires { ⌜ TypeAt v 16 (now s) (c .at) ⌝ }
-    ensures { λ r. ⌜ ((P : TypeAt v 16 (now (s .entry)) (c .at)) → PartIs v (now (s .entry)) (nullnessAt (partsOf (P .tree)) k) r) ⌝ }
+    requires { ⌜ TypeAt v deepest (now s) (c .at) ⌝ }
+    ensures { λ r. ⌜ ((P : TypeAt v deepest (now (s .entry)) (c .at)) → PartIs v (now (s .entry)) (nullnessAt (partsOf (P .tree)) k) r) ⌝ }
 {
     match c.head(s) {
         Head::Leaf(_, _) => PartMark::None,
@@ -53,20 +55,20 @@ fn part_mark(s: &[u8], v: Edition, c: Cursor, k: u16) -> PartMark
         },
         Head::List(d) => match d.element_label(s, v) {
             Labelled::Is(l, e) => element_mark(k, e, l.required),
-            Labelled::Refused(_) => PartMark::None,
+            Labelled::Refused(_) => PartMark::Refused,
         },
         Head::Array(_, d) => match d.element_label(s, v) {
             Labelled::Is(l, e) => element_mark(k, e, l.required),
-            Labelled::Refused(_) => PartMark::None,
+            Labelled::Refused(_) => PartMark::Refused,
         },
-        Head::Refused(_) => PartMark::None,
+        Head::Refused(_) => PartMark::Refused,
     }
 }
 
 // A column of the type at `c`: one of the null type is optional even where it is marked.
 fn column_filled(s: &[u8], v: Edition, c: Cursor, required: bool) -> bool
-    requires { ⌜ TypeAt v 16 (now s) (c .at) ⌝ }
-    ensures { λ r. ⌜ ((P : TypeAt v 16 (now (s .entry)) (c .at)) → r ≡ allowed (topOf (given required (P .tree))) true) ⌝ }
+    requires { ⌜ TypeAt v deepest (now s) (c .at) ⌝ }
+    ensures { λ r. ⌜ ((P : TypeAt v deepest (now (s .entry)) (c .at)) → r ≡ allowed (topOf (given required (P .tree))) true) ⌝ }
 {
     if !required {
         return false;
@@ -92,9 +94,9 @@ fn place_filled(
     path: [u16; 64],
     len: usize,
 ) -> bool
-    requires { ⌜ TypeAt v 16 (now s) (c .at) ⌝ }
+    requires { ⌜ TypeAt v deepest (now s) (c .at) ⌝ }
     requires { ⌜ len ≤ length path ⌝ }
-    ensures { λ r. ⌜ ((P : TypeAt v 16 (now (s .entry)) (c .at)) → r ≡ fillsAt (given required (P .tree)) (slice 0 len path)) ⌝ }
+    ensures { λ r. ⌜ ((P : TypeAt v deepest (now (s .entry)) (c .at)) → r ≡ fillsAt (given required (P .tree)) (slice 0 len path)) ⌝ }
 {
     let mut d = c;
     let mut marked = required;
@@ -106,6 +108,7 @@ fn place_filled(
                 marked = m;
             }
             PartMark::None => return true,
+            PartMark::Refused => return false,
         }
         i += 1;
     }

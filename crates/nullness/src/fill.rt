@@ -3,6 +3,7 @@ ghost use mathlib.Core.Bool.{true};
 ghost use mathlib.Core.Path.{_≡_};
 ghost use Rattle.layout.specs.code.Stands.{TypeAt};
 ghost use Rattle.layout.specs.declared.edition.Edition.{Edition as EditionOf};
+ghost use Rattle.layout.specs.Limits.{deepest};
 ghost use Rattle.ends.specs.code.Ends.{Ends};
 ghost use Rattle.values.specs.Value.{vlist, Values};
 ghost use Rattle.nodes.specs.code.Raw.{RawAt, RowAt, ElementsAt, ListOf, PresentAt};
@@ -16,6 +17,7 @@ use layout::cursor::Short;
 use layout::cursor::Step;
 use layout::cursor::Text;
 use layout::edition::Edition;
+use layout::limits::DEEPEST;
 use layout::pass::pass_type;
 use layout::types::Head;
 use plan::read::read_selector;
@@ -97,7 +99,7 @@ fn fill_fields(
                 if !fill_value(plan, depth, e, b, ends, nulls) {
                     return false;
                 }
-                match read_value(plan, Edition::One, 16, e, plan, b, ends) {
+                match read_value(plan, Edition::One, DEEPEST, e, plan, b, ends) {
                     ValueRead::To(f, g) => {
                         d = f;
                         b = g;
@@ -146,7 +148,7 @@ fn fill_elements(
         if !fill_value(plan, depth, t, d, ends, nulls) {
             return false;
         }
-        match read_element(plan, Edition::One, 16, t, plan, d, ends) {
+        match read_element(plan, Edition::One, DEEPEST, t, plan, d, ends) {
             Moved::To(e) => {
                 d = e;
             }
@@ -174,19 +176,19 @@ fn fill_large(plan: &[u8], t: Cursor, c: Cursor, nulls: &mut [u64])
     ensures { λ _. ⌜ Nulls (now (plan .entry)) (now (nulls .exit)) ⌝ }
 {
     let none: [u16; 1] = [0; 1];
-    if fill_value(plan, 16, t, c, &none[..0], nulls) {
+    if fill_value(plan, DEEPEST, t, c, &none[..0], nulls) {
         keep_constant(nulls, t.at);
     }
 }
 
 // The same, where its value is not read yet.
 fn fill_known(plan: &[u8], t: Cursor, c: Cursor, nulls: &mut [u64]) -> Moved
-    requires { ⌜ ((T : TypeAt EditionOf.One 16 (now plan) (t .at)) × (c .at ≡ T .end)) ⌝ }
+    requires { ⌜ ((T : TypeAt EditionOf.One deepest (now plan) (t .at)) × (c .at ≡ T .end)) ⌝ }
     requires { ⌜ Nulls (now plan) (now nulls) ⌝ }
     ensures { λ _. ⌜ Nulls (now (plan .entry)) (now (nulls .exit)) ⌝ }
 {
     let none: [u16; 1] = [0; 1];
-    match read_element(plan, Edition::One, 16, t, plan, c, &none[..0]) {
+    match read_element(plan, Edition::One, DEEPEST, t, plan, c, &none[..0]) {
         Moved::To(d) => {
             if is_large(t.at, d.at) {
                 fill_large(plan, t, c, nulls);
@@ -203,7 +205,7 @@ fn fill_constant(plan: &[u8], c: Cursor, nulls: &mut [u64]) -> Moved
     ensures { λ _. ⌜ Nulls (now (plan .entry)) (now (nulls .exit)) ⌝ }
 {
     match c.text(plan) {
-        Text::Is(_, t) => match pass_type(plan, Edition::One, 16, t) {
+        Text::Is(_, t) => match pass_type(plan, Edition::One, DEEPEST, t) {
             Moved::To(d) => fill_known(plan, t, d, nulls),
             Moved::Refused(k) => Moved::Refused(k),
         },

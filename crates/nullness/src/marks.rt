@@ -5,9 +5,10 @@ ghost use lib.ListN.{length};
 ghost use lib.Seq.{slice};
 ghost use Rattle.layout.specs.Tree.{DataType, struct, dtypeOf, fieldsOf};
 ghost use Rattle.layout.specs.code.Stands.{TypeAt, ColumnsAt};
+ghost use Rattle.layout.specs.Limits.{deepest};
 ghost use Rattle.plan.specs.Nullness.{topOf, insideOf, nullnessAt, nullnessOf, nullnessesOf};
 ghost use Rattle.plan.specs.Marks.{allowed, givens, meets, meetsAll};
-ghost use Rattle.overflow.specs.code.Overflows.{PlanAt};
+ghost use Rattle.overflow.specs.code.Overflows.{PlanAt, ElementTypeAt};
 ghost use Rattle.overflow.specs.code.Ranges.{ColumnsIn};
 ghost use Rattle.nullness.specs.code.Incoming.{IndexAt};
 ghost use Rattle.nullness.specs.code.Nulls.{Nulls};
@@ -21,6 +22,8 @@ use layout::columns::ColumnRange;
 use layout::columns::Labelled;
 use layout::cursor::Cursor;
 use layout::edition::Edition;
+use layout::limits::DEEPEST;
+use layout::limits::DEEPEST_SELECTOR;
 use layout::types::Head;
 use layout::walk::skip_type;
 use nodes::places::TopPath;
@@ -77,7 +80,7 @@ fn meets_type(
 ) -> bool
     requires { ⌜ IndexAt (now incoming) columns (now index) × Nulls (now plan) (now nulls) ⌝ }
     requires { ⌜ ((P : ColumnsIn (now incoming) columns) × (Q : TypeAt (t .place .edition) (t .place .depth) (now tgt) (t .place .at .at)) × PlaceAt (now plan) (path .top) (fieldsOf (P .columns)) (slice 0 (path .len) (path .steps)) (dtypeOf (Q .tree))) ⌝ }
-    requires { ⌜ (path .len + t .place .depth ≤ 16) × (length (path .steps) ≡ 64) ⌝ }
+    requires { ⌜ (path .len + t .place .depth ≤ deepest) × (length (path .steps) ≡ 64) ⌝ }
     ensures { λ r. ⌜ ((P : ColumnsIn (now (incoming .entry)) columns) (Q : TypeAt (t .place .edition) (t .place .depth) (now (tgt .entry)) (t .place .at .at)) (S : PlaceAt (now (plan .entry)) (path .top) (fieldsOf (P .columns)) (slice 0 (path .len) (path .steps)) (dtypeOf (Q .tree))) → r ≡ meets (nullnessIn (nullnessOf (givens (P .columns)) (S .top .here .tree)) (slice 0 (path .len) (path .steps))) (t .required) (Q .tree)) ⌝ }
 {
     let place = t.place;
@@ -97,41 +100,27 @@ fn meets_type(
             };
             meets_fields(incoming, columns, index, plan, nulls, path, tgt, fields)
         }
-        Head::List(e) => match e.element_label(tgt, y) {
-            Labelled::Is(l, f) => {
-                let at = TypePlace {
-                    edition: y,
-                    depth: place.depth - 1,
-                    at: f,
-                };
-                let element = MarkedType {
-                    place: at,
-                    required: l.required,
-                };
-                meets_element(incoming, columns, index, plan, nulls, path, tgt, element)
-            }
-            Labelled::Refused(_) => false,
-        },
-        Head::Array(_, e) => match e.element_label(tgt, y) {
-            Labelled::Is(l, f) => {
-                let at = TypePlace {
-                    edition: y,
-                    depth: place.depth - 1,
-                    at: f,
-                };
-                let element = MarkedType {
-                    place: at,
-                    required: l.required,
-                };
-                meets_element(incoming, columns, index, plan, nulls, path, tgt, element)
-            }
-            Labelled::Refused(_) => false,
-        },
+        Head::List(e) => {
+            let element = TypePlace {
+                edition: y,
+                depth: place.depth - 1,
+                at: e,
+            };
+            meets_element(incoming, columns, index, plan, nulls, path, tgt, element)
+        }
+        Head::Array(_, e) => {
+            let element = TypePlace {
+                edition: y,
+                depth: place.depth - 1,
+                at: e,
+            };
+            meets_element(incoming, columns, index, plan, nulls, path, tgt, element)
+        }
         Head::Refused(_) => false,
     }
 }
 
-// At the places of an element.
+// At the places of a list's or array's element, whose label and type stand at `place`.
 fn meets_element(
     incoming: &[u8],
     columns: ColumnRange,
@@ -140,15 +129,28 @@ fn meets_element(
     nulls: &[u64],
     path: TopPath,
     tgt: &[u8],
-    t: MarkedType,
+    place: TypePlace,
 ) -> bool
     requires { ⌜ IndexAt (now incoming) columns (now index) × Nulls (now plan) (now nulls) ⌝ }
-    requires { ⌜ ((P : ColumnsIn (now incoming) columns) × (Q : TypeAt (t .place .edition) (t .place .depth) (now tgt) (t .place .at .at)) × ElementAt (now plan) (path .top) (fieldsOf (P .columns)) (slice 0 (path .len) (path .steps)) (dtypeOf (Q .tree))) ⌝ }
-    requires { ⌜ (path .len + 1 + t .place .depth ≤ 16) × (length (path .steps) ≡ 64) ⌝ }
-    ensures { λ r. ⌜ ((P : ColumnsIn (now (incoming .entry)) columns) (Q : TypeAt (t .place .edition) (t .place .depth) (now (tgt .entry)) (t .place .at .at)) (S : ElementAt (now (plan .entry)) (path .top) (fieldsOf (P .columns)) (slice 0 (path .len) (path .steps)) (dtypeOf (Q .tree))) → r ≡ meets (nullnessAt (insideOf (nullnessIn (nullnessOf (givens (P .columns)) (S .top .here .tree)) (slice 0 (path .len) (path .steps)))) 0) (t .required) (Q .tree)) ⌝ }
+    requires { ⌜ ((P : ColumnsIn (now incoming) columns) × (Q : ElementTypeAt (place .edition) (place .depth) (now tgt) (place .at .at)) × ElementAt (now plan) (path .top) (fieldsOf (P .columns)) (slice 0 (path .len) (path .steps)) (dtypeOf (Q .type .tree))) ⌝ }
+    requires { ⌜ (path .len + 1 + place .depth ≤ deepest) × (length (path .steps) ≡ 64) ⌝ }
+    ensures { λ r. ⌜ ((P : ColumnsIn (now (incoming .entry)) columns) (Q : ElementTypeAt (place .edition) (place .depth) (now (tgt .entry)) (place .at .at)) (S : ElementAt (now (plan .entry)) (path .top) (fieldsOf (P .columns)) (slice 0 (path .len) (path .steps)) (dtypeOf (Q .type .tree))) → r ≡ meets (nullnessAt (insideOf (nullnessIn (nullnessOf (givens (P .columns)) (S .top .here .tree)) (slice 0 (path .len) (path .steps)))) 0) (Q .label .required) (Q .type .tree)) ⌝ }
 {
-    let below = part_path(path, 0);
-    meets_type(incoming, columns, index, plan, nulls, below, tgt, t)
+    let edition = place.edition;
+    let depth = place.depth;
+    let c = place.at;
+    match c.element_label(tgt, edition) {
+        Labelled::Is(l, at) => {
+            let below = part_path(path, 0);
+            let element = TypePlace { edition, depth, at };
+            let t = MarkedType {
+                place: element,
+                required: l.required,
+            };
+            meets_type(incoming, columns, index, plan, nulls, below, tgt, t)
+        }
+        Labelled::Refused(_) => false,
+    }
 }
 
 // At the places of a struct's fields.
@@ -164,7 +166,7 @@ fn meets_fields(
 ) -> bool
     requires { ⌜ IndexAt (now incoming) columns (now index) × Nulls (now plan) (now nulls) ⌝ }
     requires { ⌜ ((P : ColumnsIn (now incoming) columns) × (Q : ColumnsAt (fields .edition) (fields .depth) (now tgt) (fields .count) (fields .first .at)) × PlaceAt (now plan) (path .top) (fieldsOf (P .columns)) (slice 0 (path .len) (path .steps)) (struct (fieldsOf (Q .columns)))) ⌝ }
-    requires { ⌜ (path .len + 1 + fields .depth ≤ 16) × (length (path .steps) ≡ 64) ⌝ }
+    requires { ⌜ (path .len + 1 + fields .depth ≤ deepest) × (length (path .steps) ≡ 64) ⌝ }
     ensures { λ r. ⌜ ((P : ColumnsIn (now (incoming .entry)) columns) (Q : ColumnsAt (fields .edition) (fields .depth) (now (tgt .entry)) (fields .count) (fields .first .at)) (S : PlaceAt (now (plan .entry)) (path .top) (fieldsOf (P .columns)) (slice 0 (path .len) (path .steps)) (struct (fieldsOf (Q .columns)))) → r ≡ meetsAll (insideOf (nullnessIn (nullnessOf (givens (P .columns)) (S .top .here .tree)) (slice 0 (path .len) (path .steps)))) (Q .columns)) ⌝ }
 {
     let edition = fields.edition;
@@ -226,7 +228,7 @@ fn meets_columns(
                 };
                 let place = TypePlace {
                     edition,
-                    depth: 16,
+                    depth: DEEPEST,
                     at: e,
                 };
                 let t = MarkedType {
@@ -237,7 +239,7 @@ fn meets_columns(
                     return false;
                 }
                 s = skip_selector(plan, s);
-                d = skip_type(tgt, edition, 16, e);
+                d = skip_type(tgt, edition, DEEPEST, e);
             }
             Labelled::Refused(_) => return false,
         }
@@ -260,7 +262,13 @@ fn meets_by_table(
     ensures { λ r. ⌜ ((P : ColumnsIn (now (incoming .entry)) columns) (D : ColumnsIn (now (tgt .entry)) target) (S : PlanAt (now (plan .entry)) 7 (fieldsOf (P .columns)) (fieldsOf (D .columns))) → r ≡ meetsAll (nullnessesOf (givens (P .columns)) (S .selectors .trees)) (D .columns)) ⌝ }
 {
     let mut nulls = [0u64; 1088];
-    fill_selectors(plan, 64, target.count, Cursor { at: 7 }, &mut nulls);
+    fill_selectors(
+        plan,
+        DEEPEST_SELECTOR,
+        target.count,
+        Cursor { at: 7 },
+        &mut nulls,
+    );
     meets_columns(incoming, columns, index, plan, &nulls, tgt, target)
 }
 
@@ -274,8 +282,8 @@ pub fn meets_marks(
     y: Edition,
     m: u16,
 ) -> bool
-    requires { ⌜ ((P : ColumnsAt v 16 (now incoming) n 7) × (D : ColumnsAt y 16 (now tgt) m 7) × PlanAt (now plan) 7 (fieldsOf (P .columns)) (fieldsOf (D .columns))) ⌝ }
-    ensures { λ r. ⌜ ((P : ColumnsAt v 16 (now (incoming .entry)) n 7) (D : ColumnsAt y 16 (now (tgt .entry)) m 7) (S : PlanAt (now (plan .entry)) 7 (fieldsOf (P .columns)) (fieldsOf (D .columns))) → r ≡ meetsAll (nullnessesOf (givens (P .columns)) (S .selectors .trees)) (D .columns)) ⌝ }
+    requires { ⌜ ((P : ColumnsAt v deepest (now incoming) n 7) × (D : ColumnsAt y deepest (now tgt) m 7) × PlanAt (now plan) 7 (fieldsOf (P .columns)) (fieldsOf (D .columns))) ⌝ }
+    ensures { λ r. ⌜ ((P : ColumnsAt v deepest (now (incoming .entry)) n 7) (D : ColumnsAt y deepest (now (tgt .entry)) m 7) (S : PlanAt (now (plan .entry)) 7 (fieldsOf (P .columns)) (fieldsOf (D .columns))) → r ≡ meetsAll (nullnessesOf (givens (P .columns)) (S .selectors .trees)) (D .columns)) ⌝ }
 {
     let first = Cursor { at: 7 };
     let columns = ColumnRange {

@@ -18,6 +18,7 @@ use layout::columns::Labelled;
 use layout::cursor::Cursor;
 use layout::cursor::Moved;
 use layout::edition::Edition;
+use layout::limits::DEEPEST;
 use layout::pass::pass_columns;
 use layout::types::Head;
 use numeric::round::power;
@@ -99,7 +100,7 @@ pub enum TypePart {
 fn field_start(plan: &[u8], c: Cursor, k: u16) -> TypePart
     ensures { λ r. ⌜ ((e : Cursor) → r ≡ TypePart.At e → FieldStart (now (plan .entry)) (c .at) k (e .at)) ⌝ }
 {
-    match pass_columns(plan, Edition::One, 16, k, c) {
+    match pass_columns(plan, Edition::One, DEEPEST, k, c) {
         Moved::To(d) => match d.label(plan, Edition::One) {
             Labelled::Is(_, e) => TypePart::At(e),
             Labelled::Refused(_) => TypePart::None,

@@ -10,7 +10,7 @@ use Rattle.layout.specs.Parser.{choose}
 use Rattle.layout.proofs.Ways.{clash}
 use Rattle.values.specs.Value.{Value, vnull, vstruct, Values}
 use Rattle.plan.specs.Selector.{Selector}
-use Rattle.walk.specs.code.State.{Frame, State, state}
+use Rattle.walk.specs.code.State.{Frame, inputOf, State, state}
 use Rattle.walk.specs.code.Moves.{Input, i-struct, i-list, i-array}
 use Rattle.walk.specs.code.Walks.{WalkAt, StepsTo}
 use Rattle.walk.specs.code.Values.{opened, givens, within, stateValue}
@@ -18,7 +18,7 @@ use Rattle.walk.specs.declared.walk.Walk.{Walk}
 use Rattle.nodes.specs.code.Raw.{partsOf}
 use Rattle.nodes.specs.declared.raw.Parts.{Parts}
 use Rattle.output.specs.code.Output.{has, answer}
-use Rattle.output.specs.code.Answers.{OriginIs, StructIs, ListIs, ArrayIs, inputOf, leastOf, AskInput, AskOutward, askedAnswer, AskedIs}
+use Rattle.output.specs.code.Answers.{OriginIs, StructIs, ListIs, ArrayIs, leastOf, AskInput, AskOutward, askedAnswer, AskedIs}
 use Rattle.output.specs.declared.casts.Origin.{Origin}
 use Rattle.output.specs.declared.parts.Asked.{Asked}
 use Rattle.output.proofs.Chain.{passed-value}

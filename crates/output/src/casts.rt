@@ -8,6 +8,7 @@ ghost use Rattle.layout.specs.code.Stands.{TypeAt};
 ghost use Rattle.layout.specs.Tree.{dtypeOf};
 ghost use Rattle.layout.specs.declared.leaf.Leaf.{Leaf as LeafOf};
 ghost use Rattle.layout.specs.declared.edition.Edition.{Edition as EditionOf};
+ghost use Rattle.layout.specs.Limits.{deepest};
 ghost use Rattle.plan.specs.Selector.{Selector};
 ghost use Rattle.walk.specs.code.State.{State};
 ghost use Rattle.walk.specs.code.Moves.{Stopped, Input};
@@ -41,7 +42,7 @@ pub struct Origin {
 
 // At a cast whose type begins at `t`, and no path is left.
 fn pass_cast(plan: &[u8], t: Cursor) -> Pass
-    ensures { λ r. ⌜ ((T : TypeAt EditionOf.One 16 (now (plan .entry)) (t .at)) → r ≡ castPass (dtypeOf (T .tree))) ⌝ }
+    ensures { λ r. ⌜ ((T : TypeAt EditionOf.One deepest (now (plan .entry)) (t .at)) → r ≡ castPass (dtypeOf (T .tree))) ⌝ }
 {
     match t.head(plan) {
         Head::Leaf(l, _) => {

@@ -7,6 +7,7 @@ ghost use lib.ListN.{length};
 ghost use Rattle.ends.specs.code.Ends.{Ends};
 ghost use Rattle.layout.specs.declared.edition.Edition.{Edition as EditionOf};
 ghost use Rattle.layout.specs.declared.leaf.Leaf.{Leaf as LeafOf};
+ghost use Rattle.layout.specs.Limits.{longest};
 ghost use Rattle.values.specs.Encode.{encodeValue};
 ghost use Rattle.walk.specs.code.State.{State};
 ghost use Rattle.walk.specs.code.Walks.{WalkAt};
@@ -27,6 +28,7 @@ use crate::source::source_at;
 use layout::columns::ColumnRange;
 use layout::cursor::Cursor;
 use layout::edition::Edition;
+use layout::limits::LONGEST;
 use nodes::raw::Parts;
 use raw::copy::copy_constant;
 use raw::copy::put_lead;
@@ -89,7 +91,7 @@ fn emit_mapping(
 ) -> usize
     requires { ⌜ Ends (columns .edition) (now lay) (now table) ⌝ }
     requires { ⌜ ((A : EmitAt (columns .edition) (now lay) (columns .count) (columns .first .at) (now rec) (now plan) w) × Mapped (A .state)) ⌝ }
-    requires { ⌜ k ≤ 16384 ⌝ }
+    requires { ⌜ k ≤ longest ⌝ }
     ensures { λ r. ⌜ ((A : EmitAt (columns .edition) (now (lay .entry)) (columns .count) (columns .first .at) (now (rec .entry)) (now (plan .entry)) w) → Mapped (A .state) → Emits (now (out .entry)) k (encodeValue (stateValue (A .row .values .values) (A .state))) r (now (out .exit))) ⌝ }
 {
     let Parts::Some(m) = parts_count(lay, columns, rec, plan, w, table) else {
@@ -99,7 +101,7 @@ fn emit_mapping(
     let mut c = first_part(plan, w);
     let mut i: u32 = 0;
     while i < m {
-        if 16384 < at {
+        if LONGEST < at {
             return at;
         }
         let part = child_at(w, i as u16, c);
@@ -123,7 +125,7 @@ pub fn emit(
 ) -> usize
     requires { ⌜ Ends (columns .edition) (now lay) (now table) ⌝ }
     requires { ⌜ EmitAt (columns .edition) (now lay) (columns .count) (columns .first .at) (now rec) (now plan) w ⌝ }
-    requires { ⌜ k ≤ 16384 ⌝ }
+    requires { ⌜ k ≤ longest ⌝ }
     ensures { λ r. ⌜ ((A : EmitAt (columns .edition) (now (lay .entry)) (columns .count) (columns .first .at) (now (rec .entry)) (now (plan .entry)) w) → Emits (now (out .entry)) k (encodeValue (stateValue (A .row .values .values) (A .state))) r (now (out .exit))) ⌝ }
 {
     let o = find_origin(plan, w);

@@ -1,20 +1,18 @@
 // The number of parts of a value, and whether a selector inside entered mappings is run at all.
 ghost use mathlib.Core.Path.{_≡_};
-ghost use mathlib.Core.List.{List, [], _∷_};
-ghost use Prim.Native.Nat.{ℕ, _+_, _-_, _<_, _≤_};
-ghost use lib.ListN.{getD};
+ghost use mathlib.Core.List.{List, _∷_};
+ghost use Prim.Native.Nat.{ℕ, _+_, _-_, _<_};
 ghost use Rattle.ends.specs.code.Ends.{Ends};
-ghost use Rattle.layout.specs.Bytes.{Bytes};
 ghost use Rattle.layout.specs.Parser.{choose};
 ghost use Rattle.values.specs.Value.{Value, vnull, Values};
-ghost use Rattle.walk.specs.code.State.{Frame, State, state};
-ghost use Rattle.walk.specs.code.Walks.{WalkAt, StepsTo};
+ghost use Rattle.walk.specs.code.State.{Frame, State};
+ghost use Rattle.walk.specs.code.Walks.{WalkAt};
 ghost use Rattle.walk.specs.code.Values.{within, stateValue};
 ghost use Rattle.nodes.specs.code.Raw.{RowAt, partsOf};
 ghost use Rattle.nodes.specs.declared.raw.Parts.{Parts as PartsOf};
 ghost use Rattle.output.specs.code.Chain.{ends, next};
 ghost use Rattle.output.specs.code.Output.{answer};
-ghost use Rattle.output.specs.code.Answers.{inputOf, leastOf, ConstantIs, StructIs, AskedIs};
+ghost use Rattle.output.specs.code.Answers.{leastOf, ConstantIs, StructIs, AskedIs};
 use crate::casts::find_origin;
 use crate::source::Source;
 use crate::source::source_at;
@@ -52,21 +50,6 @@ fn meet(least: u32, own: Parts, p: Parts) -> Parts
     }
 }
 
-// To the input of the innermost mapping entered, all of it.
-fn outward(w: Walk) -> Walk
-    requires { ⌜ (0 < w .deep) × (w .deep ≤ 64) × (getD (w .maps) (w .deep - 1) 0 < w .at) ⌝ }
-    ensures { λ r. ⌜ ((plan : Bytes) (x : State) (f : Frame) (E : List Frame) → WalkAt plan w x → x .frames ≡ f ∷ E → StepsTo plan (state (inputOf f) E []) w r) ⌝ }
-{
-    let d = w.deep - 1;
-    let m = w.maps[d] as usize;
-    let mut next = w;
-    next.at = m + 1;
-    next.lim = w.at;
-    next.deep = d;
-    next.len = d;
-    next
-}
-
 // The elements up to `i`, and it.
 fn up_to(i: u16) -> u32
     ensures { λ r. ⌜ r ≡ i + 1 ⌝ }
@@ -74,7 +57,7 @@ fn up_to(i: u16) -> u32
     (i as u32) + 1
 }
 
-// How many parts that input must have, for what is inside to be run.
+// How many parts the innermost mapping's input must have, for what is inside to be run.
 fn least_of(plan: &[u8], w: Walk) -> u32
     requires { ⌜ ((x : State) × WalkAt (now plan) w x) × (0 < w .deep) ⌝ }
     ensures { λ r. ⌜ ((x : State) (f : Frame) (E : List Frame) → WalkAt (now (plan .entry)) w x → x .frames ≡ f ∷ E → r ≡ leastOf f) ⌝ }
@@ -175,7 +158,7 @@ pub fn ask(
                 known = k;
             }
             Asked::Outward(l, k) => {
-                at = outward(z);
+                at = z.outward();
                 m = l;
                 known = k;
             }
@@ -224,7 +207,7 @@ pub fn is_run(
         columns,
         rec,
         plan,
-        outward(w),
+        w.outward(),
         least,
         Parts::Some(0),
         table,

@@ -19,6 +19,7 @@ use ends::local::fill_local;
 use layout::columns::ColumnRange;
 use layout::cursor::Cursor;
 use layout::edition::Edition;
+use layout::limits::DEEPEST;
 use layout::walk::skip_type;
 use nodes::raw::NodeAt;
 use nodes::raw::column_value;
@@ -88,7 +89,7 @@ fn long_constant_node(plan: &[u8], w: Walk, t: Cursor, c: Cursor) -> NodeAt
 {
     let mut ends = [0u16; 4098];
     let path = w.path;
-    fill_local(plan, Edition::One, 16, t, c, &mut ends);
+    fill_local(plan, Edition::One, DEEPEST, t, c, &mut ends);
     value_at(plan, Edition::One, t, plan, c, path, w.deep, w.len, &ends)
 }
 
@@ -99,7 +100,7 @@ fn constant_node(plan: &[u8], w: Walk, t: Cursor) -> NodeAt
     ensures { λ r. ⌜ ((X : ConstantRaw (now (plan .entry)) (t .at)) → NodeOf EditionOf.One (now (plan .entry)) (now (plan .entry)) (valueNode (X .value .tree) (slice (w .deep) (w .len) (w .path))) r) ⌝ }
 {
     let path = w.path;
-    let c = skip_type(plan, Edition::One, 16, t);
+    let c = skip_type(plan, Edition::One, DEEPEST, t);
     if needs_table(plan, t, c, c) {
         return long_constant_node(plan, w, t, c);
     }

@@ -3,6 +3,7 @@ ghost use mathlib.Core.Path.{_≡_};
 ghost use Prim.Native.Nat.{_≤_};
 ghost use lib.ListN.{length};
 ghost use Rattle.ends.specs.code.Ends.{Ends};
+ghost use Rattle.layout.specs.Limits.{longest};
 ghost use Rattle.values.specs.Encode.{encodeValue, encodeValues};
 ghost use Rattle.plan.specs.Run.{eval, evals, run};
 ghost use Rattle.output.specs.code.Output.{Emits};
@@ -11,6 +12,7 @@ ghost use Rattle.output.specs.code.Answers.{EmitTopAt, EmitAllAt, Output
 use crate::emit::emit;
 use layout::columns::ColumnRange;
 use layout::cursor::Cursor;
+use layout::limits::LONGEST;
 use walk::head::StructFields;
 use walk::head::skip_selector;
 use walk::walk::top;
@@ -34,7 +36,7 @@ pub fn emit_top(
 ) -> usize
     requires { ⌜ Ends (columns .edition) (now lay) (now table) ⌝ }
     requires { ⌜ EmitTopAt (columns .edition) (now lay) (columns .count) (columns .first .at) (now rec) (now plan) (c .at) ⌝ }
-    requires { ⌜ k ≤ 16384 ⌝ }
+    requires { ⌜ k ≤ longest ⌝ }
     ensures { λ r. ⌜ ((A : EmitTopAt (columns .edition) (now (lay .entry)) (columns .count) (columns .first .at) (now (rec .entry)) (now (plan .entry)) (c .at)) → Emits (now (out .entry)) k (encodeValue (eval (A .row .values .values) (A .selector .tree))) r (now (out .exit))) ⌝ }
 {
     let w = top(c.at, plan.len());
@@ -54,7 +56,7 @@ fn emit_all(
 ) -> usize
     requires { ⌜ Ends (columns .edition) (now lay) (now table) ⌝ }
     requires { ⌜ EmitAllAt (columns .edition) (now lay) (columns .count) (columns .first .at) (now rec) (now plan) (selectors .count) (selectors .first .at) ⌝ }
-    requires { ⌜ k ≤ 16384 ⌝ }
+    requires { ⌜ k ≤ longest ⌝ }
     ensures { λ r. ⌜ ((A : EmitAllAt (columns .edition) (now (lay .entry)) (columns .count) (columns .first .at) (now (rec .entry)) (now (plan .entry)) (selectors .count) (selectors .first .at)) → Emits (now (out .entry)) k (encodeValues (evals (A .row .values .values) (A .selectors .trees))) r (now (out .exit))) ⌝ }
 {
     let count = selectors.count;
@@ -62,7 +64,7 @@ fn emit_all(
     let mut c = selectors.first;
     let mut i: u16 = 0;
     while i < count {
-        if 16384 < at {
+        if LONGEST < at {
             return at;
         }
         at = emit_top(lay, columns, rec, plan, c, out, at, table);
@@ -74,17 +76,17 @@ fn emit_all(
 
 // Where an output is written before it is known to fit.
 pub fn scratch() -> [u8; 16384]
-    ensures { λ r. ⌜ 16384 ≡ length r ⌝ }
+    ensures { λ r. ⌜ longest ≡ length r ⌝ }
 {
     [0u8; 16384]
 }
 
 // What was written aside, into the lent buffer; one that is too long changes nothing of it.
 pub fn hand_over(aside: &[u8], len: usize, out: &mut [u8]) -> Written
-    requires { ⌜ (len ≤ 16384 → len ≤ length (now aside)) ⌝ }
+    requires { ⌜ (len ≤ longest → len ≤ length (now aside)) ⌝ }
     ensures { λ r. ⌜ HandedOver (now (aside .entry)) len (now (out .entry)) r (now (out .exit)) ⌝ }
 {
-    if 16384 < len {
+    if LONGEST < len {
         return Written::TooLong;
     }
     if out.len() < len {
@@ -108,7 +110,7 @@ pub fn write_output(
 ) -> Written
     requires { ⌜ Ends (columns .edition) (now lay) (now table) ⌝ }
     requires { ⌜ OutputAt (columns .edition) (now lay) (columns .count) (columns .first .at) (now rec) (now plan) (selectors .count) (selectors .first .at) ⌝ }
-    requires { ⌜ 16384 ≡ length (now aside) ⌝ }
+    requires { ⌜ longest ≡ length (now aside) ⌝ }
     ensures { λ r. ⌜ ((A : OutputAt (columns .edition) (now (lay .entry)) (columns .count) (columns .first .at) (now (rec .entry)) (now (plan .entry)) (selectors .count) (selectors .first .at)) → r ≡ writtenOf (run (A .row .values .values) (A .selectors .trees) (length (now (out .entry))))) ⌝ }
     ensures { λ r. ⌜ ((A : OutputAt (columns .edition) (now (lay .entry)) (columns .count) (columns .first .at) (now (rec .entry)) (now (plan .entry)) (selectors .count) (selectors .first .at)) → now (out .exit) ≡ bufferAfter (run (A .row .values .values) (A .selectors .trees) (length (now (out .entry)))) (now (out .entry))) ⌝ }
 {

@@ -1,30 +1,27 @@
 -- What is asked next where a walk stops, by what stands in the plan there. Assumes nothing.
-use Prim.Native.Nat.{ℕ, _+_, _-_, _<_}
+use Prim.Native.Nat.{ℕ, _-_}
 use mathlib.Core.Path.{_≡_, refl, sym, ap, _∙_}
 use mathlib.Core.List.{List, [], _∷_}
 use native.Mathlib.Omega.{arith}
-use lib.ListN.{length, getD}
+use lib.ListN.{getD}
 use Rattle.layout.specs.Bytes.{Bytes}
-use Rattle.layout.specs.Parser.{ok, next}
-use Rattle.layout.specs.Tree.{leaf, ColumnType, clist, carray, dtypeOf}
-use Rattle.layout.specs.Layout.{Head, kind, type, body, listType, arrayType, deepest}
+use Rattle.layout.specs.Tree.{leaf, ColumnType, dtypeOf}
+use Rattle.layout.specs.Layout.{kind, type, deepest}
 use Rattle.layout.specs.code.Answers.{headRes}
 use Rattle.layout.specs.code.Stands.{TypeAt}
 use Rattle.layout.specs.declared.cursor.Cursor.{Cursor}
 use Rattle.layout.specs.declared.types.Head.{Head as HeadSpan}
 use Rattle.layout.specs.declared.types.LeafType.{LeafType as LeafSpan}
-use Rattle.layout.specs.declared.columns.Siblings.the-variants.{Free}
 use Rattle.layout.specs.declared.edition.Edition.the-variants.{One}
 use Rattle.layout.proofs.Ways.{clash}
-use Rattle.layout.proofs.View.{next-ok, leaf-at, struct-at}
+use Rattle.layout.proofs.View.{leaf-at, struct-at}
 use Rattle.layout.proofs.Leaves.{leaf-of-type}
 use Rattle.values.specs.Reading.{value}
 use Rattle.nodes.specs.code.Raw.{RawAt}
 use Rattle.walk.specs.code.State.{Frame, State}
 use Rattle.walk.specs.code.Walks.{Entered, e-fields, e-list, e-array, WalkAt}
 use Rattle.walk.specs.declared.walk.Walk.{Walk}
-use Rattle.walk.proofs.Walks.{walk-starts, top-frames, some-inner, innermost}
-use Rattle.walk.proofs.View.{selector-longer}
+use Rattle.walk.proofs.Walks.{top-frames, some-inner, innermost}
 use Rattle.overflow.specs.code.Want.{timeOf}
 use Rattle.overflow.specs.code.Seek.{RawIn, ranStop, timeStop, castStop}
 use Rattle.overflow.specs.declared.want.Timed.{Timed}
@@ -32,6 +29,7 @@ use Rattle.overflow.specs.declared.want.Want.{Want}
 use Rattle.overflow.specs.declared.want.Want.the-variants.{Parts, Element}
 use Rattle.overflow.specs.declared.stop.Stop.{Stop}
 use Rattle.overflow.specs.declared.stop.Stop.the-variants.{No, Yes, Outward}
+use Rattle.overflow.proofs.Elements.{list-element, array-element}
 
 -- ---- a constant's value, after its type
 
@@ -50,12 +48,6 @@ raw-of {plan} X e = record {
 
 -- ---- a cast, by its type
 
--- a type, after what it begins with
-behind : {s : Bytes} {t : ℕ} (T : TypeAt One deepest s t) {k : Head} {m : ℕ} → kind s t ≡ ok k m → body One Free (type One Free 15) k s m ≡ ok (T .tree)
-    (T .end)
-unfolding type next
-behind T q = rw q at (T .reads)
-
 module _ {s : Bytes} {t : ℕ} (T : TypeAt One deepest s t) {p : HeadSpan} (e : headRes s p ≡ kind s t) (w : Want) where
   pub cast-leaf : {l : LeafSpan} {b : Cursor} → p ≡ HeadSpan.Leaf l b → {q : Timed} {r : Stop} → q ≡ timeOf (l .leaf) → r ≡ timeStop q w → r ≡ castStop
       [] (dtypeOf (T .tree)) w
@@ -69,28 +61,14 @@ module _ {s : Bytes} {t : ℕ} (T : TypeAt One deepest s t) {p : HeadSpan} (e : 
   cast-struct f = sym (ap (λ (c : ColumnType). castStop [] (dtypeOf c) w) (struct-at T e f .is))
 
   pub cast-list : {b : Cursor} → p ≡ HeadSpan.List b → No ≡ castStop [] (dtypeOf (T .tree)) w
-  unfolding castStop dtypeOf body listType
-  cast-list f =
-      let (l, i, h₁, g₁) = next-ok _ _ (behind T (sym e ∙ ap (headRes s) f)) in
-      let (u, j, h₂, g₂) = next-ok _ _ g₁ in
-      let z : T .tree ≡ clist l u = cc in
-      sym (ap (λ (c : ColumnType). castStop [] (dtypeOf c) w) z)
+  unfolding castStop dtypeOf
+  cast-list f = sym (ap (λ (c : ColumnType). castStop [] (dtypeOf c) w) (list-element T e f .1))
 
   pub cast-array : {n : ℕ} {b : Cursor} → p ≡ HeadSpan.Array n b → No ≡ castStop [] (dtypeOf (T .tree)) w
-  unfolding castStop dtypeOf body arrayType
-  cast-array {n} f =
-      let (l, i, h₁, g₁) = next-ok _ _ (behind T (sym e ∙ ap (headRes s) f)) in
-      let (u, j, h₂, g₂) = next-ok _ _ g₁ in
-      let z : T .tree ≡ carray n l u = cc in
-      sym (ap (λ (c : ColumnType). castStop [] (dtypeOf c) w) z)
+  unfolding castStop dtypeOf
+  cast-array f = sym (ap (λ (c : ColumnType). castStop [] (dtypeOf c) w) (array-element T e f .1))
 
 -- ---- whether a constant is run, by the innermost mapping's code
-
--- a mapping begins before what is inside it
-pub entered-before : {plan : Bytes} {m i p : ℕ} {f : Frame} → Entered plan m i p f → m + 1 < p
-entered-before (e-fields c P e l) = omega (arith, selector-longer P)
-entered-before (e-list c P e l) = omega (arith, selector-longer P)
-entered-before (e-array c P e l) = omega (arith, selector-longer P)
 
 code-fields : {plan : Bytes} {m i p : ℕ} {f : Frame} (E : List Frame) → Entered plan m i p f → getD plan m 0 ≡ 4 → Outward Parts ≡ ranStop (f ∷ E)
 unfolding ranStop
@@ -110,12 +88,6 @@ module _ {plan : Bytes} {w : Walk} {x : State} (M : WalkAt plan w x) where
   ran-top e = sym (ap ranStop (top-frames M e))
 
   module _ (h : w .deep ≡ 0 → ⊥) where
-    pub inner-within : getD (w .maps) (w .deep - 1) 0 < length plan
-    inner-within =
-        let (f, F, e) = some-inner h (M .entries) in
-        let I = innermost e (M .entries) in
-        omega (arith, entered-before (I .entered), walk-starts M, M .bound)
-
     pub ran-fields : getD plan (getD (w .maps) (w .deep - 1) 0) 0 ≡ 4 → Outward Parts ≡ ranStop (x .frames)
     ran-fields c =
         let (f, F, e) = some-inner h (M .entries) in

@@ -6,6 +6,7 @@ pub mod Stopping
 pub mod Scaling
 pub mod Raw
 pub mod Scanning
+pub mod Elements
 pub mod Asking
 pub mod Stops
 pub mod Meaning

@@ -13,7 +13,7 @@ use Rattle.values.specs.Value.{Value, Values}
 use Rattle.plan.specs.Selector.{Selector, position, constant, cast, structMapping, listMapping, arrayMapping, Selectors}
 use Rattle.plan.specs.Run.{valueAt}
 use Rattle.plan.specs.code.Fits.{FitsAllOver}
-use Rattle.walk.specs.code.State.{Frame, fields, element, State, state}
+use Rattle.walk.specs.code.State.{Frame, fields, element, inputOf, State, state}
 use Rattle.walk.specs.code.Moves.{Stopped, s-column, s-constant, s-cast, s-rename, s-struct, s-list, s-array, s-no-element, s-no-field, Input as InputOf}
 use Rattle.walk.specs.code.Moves.{i-cast, i-rename, i-struct, i-list, i-array}
 use Rattle.overflow.specs.code.Want.{SmallWant}
@@ -30,11 +30,6 @@ use Rattle.overflow.proofs.Stopping.{column-asked, constant-none, const
 use Rattle.overflow.proofs.Stopping.{cast-nested, cast-other, cast-parts, cast-element, cast-beyond, struct-end, list-end, array-end, struct-end-element}
 use Rattle.overflow.proofs.Stopping.{struct-end-beyond, list-end-parts, list-end-beyond, array-end-parts, array-end-beyond, no-field, no-element}
 
--- the input of an entered mapping
-pub data FrameOf : Frame → Selector → Type 0 where
-  of-fields : {s : Selector} → FrameOf (fields s) s
-  of-element : {s : Selector} {i : ℕ} → FrameOf (element s i) s
-
 module _ (Γ : Fields) (ρ : Values) (x : State) (w : Want) where
   -- a is asked of the input
   pub record InputMeans (a : Want) : Type 0 where
@@ -49,11 +44,9 @@ module _ (Γ : Fields) (ρ : Values) (x : State) (w : Want) where
     pub frame : Frame
     pub outer : List Frame
     pub frames : x .frames ≡ frame ∷ outer
-    pub input : Selector
-    pub of : FrameOf frame input
-    pub typed : TypedState Γ (state input outer [])
+    pub typed : TypedState Γ (state (inputOf frame) outer [])
     pub small : SmallWant a
-    pub same : asked ρ x w ≡ asked ρ (state input outer []) a
+    pub same : asked ρ x w ≡ asked ρ (state (inputOf frame) outer []) a
 
   abbrev pub Means : Stop → Type 0
   Means No = asked ρ x w ≡ false
@@ -77,8 +70,6 @@ module _ {Γ : Fields} {ρ : Values} (r : FitsAllOver Γ ρ) where
     frame = fields s;
     outer = E;
     frames = refl;
-    input = s;
-    of = of-fields;
     typed = outward-fields [] (T .scoped);
     small = tt;
     same = constant-fields ρ w n t v p s E e;
@@ -87,8 +78,6 @@ module _ {Γ : Fields} {ρ : Values} (r : FitsAllOver Γ ρ) where
     frame = element s i;
     outer = E;
     frames = refl;
-    input = s;
-    of = of-element;
     typed = outward-element [] (T .scoped);
     small = tt;
     same = constant-element ρ w n t v p s i E e;

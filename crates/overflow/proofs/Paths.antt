@@ -21,10 +21,9 @@ use Rattle.layout.specs.declared.columns.Label.{Label as LabelSpan}
 use Rattle.layout.specs.declared.columns.Labelled.{Labelled}
 use Rattle.layout.specs.declared.columns.Siblings.the-variants.{Free}
 use Rattle.layout.specs.declared.edition.Edition.{Edition}
-use Rattle.layout.proofs.View.{leaf-at, struct-at, list-at, array-at, FirstAt, first-at, first-labelled, no-column, same-columns}
+use Rattle.layout.proofs.View.{leaf-at, struct-at, FirstAt, first-at, first-labelled, no-column, same-columns}
 use Rattle.layout.proofs.Leaves.{leaf-of-type}
 use Rattle.values.specs.Value.{Values}
-use Rattle.plan.specs.Selector.{Selector}
 use Rattle.plan.specs.Run.{eval}
 use Rattle.layout.specs.declared.columns.ColumnRange.{ColumnRange}
 use Rattle.nodes.specs.declared.places.TopPath.{TopPath}
@@ -36,9 +35,10 @@ use Rattle.overflow.specs.code.Want.{Small, widest, overflowing, timeOf}
 use Rattle.overflow.specs.code.Some.{some}
 use Rattle.overflow.specs.code.Leaves.{atLeaf, leaves, leavesFrom}
 use Rattle.overflow.specs.code.Seek.{Seeks}
-use Rattle.overflow.specs.code.Overflows.{TopAt, overAt, partPath, started}
+use Rattle.overflow.specs.code.Overflows.{TopAt, ElementTypeAt, overAt, partPath, started}
 use Rattle.overflow.specs.declared.want.Timed.{Timed}
 use Rattle.overflow.specs.declared.want.Timed.the-variants.{In, Never}
+use Rattle.overflow.proofs.Elements.{list-element, array-element, element-type, element-tree}
 
 -- ---- a step more of a path
 
@@ -122,15 +122,20 @@ module _ {v : Edition} {d : ℕ} {s : Bytes} {at : ℕ} (Q : TypeAt v d s at) {p
   unfolding leaves dtypeOf
   struct-leaves h g = let S = struct-at Q e h in leaves-as f (S .is) (g (S .inner))
 
-  module _ {c : Cursor} {q : Labelled} (g : labelRes s q ≡ elementLabel v s (c .at)) {l : LabelSpan} {a : Cursor} (k : q ≡ Labelled.Is l a) {b : Bool}
-      (x : (P : TypeAt v (d - 1) s (a .at)) → b ≡ leaves (dtypeOf (P .tree)) (λ p u. f (0 ∷ p) u)) where
+  module _ {c : Cursor} {b : Bool} (x : (E : ElementTypeAt v (d - 1) s (c .at)) → b ≡ leaves (dtypeOf (E .type .tree)) (λ p u. f (0 ∷ p) u)) where
     pub list-leaves : p ≡ Head.List c → b ≡ leaves (dtypeOf (Q .tree)) f
     unfolding leaves dtypeOf
-    list-leaves h = let L = list-at Q e g h k in leaves-as f (L .is) (x (L .inner))
+    list-leaves h = let (E, g) = list-element Q e h in leaves-as f g (x E)
 
     pub array-leaves : {w : ℕ} → p ≡ Head.Array w c → b ≡ leaves (dtypeOf (Q .tree)) f
     unfolding leaves dtypeOf
-    array-leaves h = let L = array-at Q e g h k in leaves-as f (L .is) (x (L .inner))
+    array-leaves h = let (E, g) = array-element Q e h in leaves-as f g (x E)
+
+-- of a list's or array's element
+pub element-leaves : {v : Edition} {d : ℕ} {s : Bytes} {at : ℕ} (E : ElementTypeAt v d s at) {q : Labelled} → labelRes s q ≡ elementLabel v s at
+    → {l : LabelSpan} {a : Cursor} → q ≡ Labelled.Is l a → (f : List ℕ → TimeUnit → Bool) {b : Bool}
+    → ((T : TypeAt v d s (a .at)) → b ≡ leaves (dtypeOf (T .tree)) f) → b ≡ leaves (dtypeOf (E .type .tree)) f
+element-leaves E g k f x = leaves-as f (sym (element-tree E g k)) (x (element-type E g k))
 
 -- ---- the loop over a struct's columns: none of the first i of n has one
 

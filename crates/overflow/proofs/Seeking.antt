@@ -1,11 +1,10 @@
 -- What holds while a node is sought, and what is answered. Assumes nothing.
-use Prim.Native.Nat.{ℕ, _+_, _-_, _≤_, _<_}
+use Prim.Native.Nat.{ℕ, _-_, _≤_, _<_}
 use mathlib.Core.Path.{_≡_, refl, sym, _∙_, subst}
 use mathlib.Core.Bool.{Bool, true, false}
 use mathlib.Core.List.{List, [], _∷_}
 use native.Mathlib.Omega.{arith}
 use lib.ListN.{getD}
-use lib.Seq.{slice-empty}
 use Rattle.layout.specs.Bytes.{Bytes, AllBytes}
 use Rattle.layout.specs.Tree.{Fields, fieldsOf}
 use Rattle.layout.specs.declared.edition.Edition.{Edition}
@@ -21,69 +20,21 @@ use Rattle.plan.proofs.ReadBack.{selector-back}
 use Rattle.nodes.specs.code.Raw.{RowAt}
 use Rattle.layout.specs.declared.columns.ColumnRange.{ColumnRange}
 use Rattle.walk.specs.code.Stands.{SelectorAt}
-use Rattle.walk.specs.code.State.{Frame, State, state as stateOf}
+use Rattle.walk.specs.code.State.{Frame, inputOf, State, state as stateOf}
 use Rattle.walk.specs.code.Moves.{Input as InputOf}
-use Rattle.walk.specs.code.Walks.{Entered, e-fields, e-list, e-array, Entries, e-none, e-more, WalkAt, rank, Located, StepsTo}
+use Rattle.walk.specs.code.Walks.{WalkAt, rank, Located, StepsTo}
 use Rattle.walk.specs.declared.walk.Walk.{Walk}
-use Rattle.walk.proofs.View.{selector-longer}
-use Rattle.walk.proofs.Walks.{walk-starts, innermost}
+use Rattle.walk.proofs.Walks.{walk-starts, outward-asks, frames-deep}
 use Rattle.overflow.specs.code.Ranges.{RecordAt}
 use Rattle.overflow.specs.code.Want.{SmallWant}
 use Rattle.overflow.specs.code.Some.{some, someIn, asked}
-use Rattle.overflow.specs.code.Seek.{stopOf, Seeks, outer}
+use Rattle.overflow.specs.code.Seek.{stopOf, Seeks}
 use Rattle.overflow.specs.declared.want.Want.{Want}
 use Rattle.overflow.specs.declared.stop.Stop.{Stop}
 use Rattle.overflow.specs.declared.stop.Stop.the-variants.{No, Yes, Input, Outward}
 use Rattle.overflow.proofs.Scoped.{in-record, TypedState}
 use Rattle.overflow.proofs.Moving.{moved-typed, moved-asked}
-use Rattle.overflow.proofs.Meaning.{FrameOf, of-fields, of-element, Means, stop-means}
-use Rattle.overflow.proofs.Asking.{entered-before}
-
--- ---- to the input of the innermost mapping
-
-entered-later : {plan : Bytes} {m i p q : ℕ} {f : Frame} → p ≤ q → Entered plan m i p f → Entered plan m i q f
-entered-later h (e-fields c P e l) = e-fields c P e (omega arith)
-entered-later h (e-list c P e l) = e-list c P e (omega arith)
-entered-later h (e-array c P e l) = e-array c P e (omega arith)
-
-entries-later : {plan : Bytes} {maps path : List ℕ} {d p q : ℕ} {E : List Frame} → p ≤ q → Entries plan maps path d p E → Entries plan maps path d q E
-entries-later h e-none = e-none
-entries-later h (e-more t u) = e-more (entered-later h t) u
-
-record InputOut (plan : Bytes) (m p : ℕ) (s : Selector) : Type 0 where
-  here : SelectorAt plan (m + 1)
-  is : here .tree ≡ s
-  ends : here .end ≤ p
-
-input-out : {plan : Bytes} {m i p : ℕ} {f : Frame} {s : Selector} → Entered plan m i p f → FrameOf f s → InputOut plan m p s
-input-out (e-fields c P e l) of-fields = record { here = P; is = e; ends = l }
-input-out (e-list c P e l) of-element = record { here = P; is = e; ends = l }
-input-out (e-array c P e l) of-element = record { here = P; is = e; ends = l }
-
-module _ {plan : Bytes} {w : Walk} {x : State} (M : WalkAt plan w x) {f : Frame} {F : List Frame} (h : x .frames ≡ f ∷ F) where
-  pub outward-asks : (0 < w .deep) × (w .deep ≤ 64) × (getD (w .maps) (w .deep - 1) 0 < w .at)
-  outward-asks = let I = innermost h (M .entries) in (I .some, omega (arith, M .deep, M .short), omega (arith, entered-before (I .entered)))
-
-  pub outward-steps : {s : Selector} → FrameOf f s → StepsTo plan (stateOf s F []) w (outer w)
-  unfolding rank
-  outward-steps g =
-      let I = innermost h (M .entries) in
-      let O = input-out (I .entered) g in
-      record {
-        standing = record {
-          here = O .here;
-          selector = O .is;
-          ends = O .ends;
-          bound = omega (arith, walk-starts M, M .bound);
-          small = M .small;
-          entries = entries-later (omega arith) (I .outer);
-          deep = omega arith;
-          short = omega (arith, M .deep, M .short);
-          room = M .room;
-          path = slice-empty (w .deep - 1) (w .path);
-        };
-        falls = omega (arith, walk-starts M, M .bound, M .small, O .ends, selector-longer (O .here));
-      }
+use Rattle.overflow.proofs.Meaning.{Means, stop-means}
 
 -- ---- b is the answer to a, asked of the nodes where w stands
 
@@ -141,24 +92,21 @@ module _ {plan : Bytes} {Γ : Fields} {ρ : Values} {b : Bool} {w : Walk} {a : W
           )
 
       pub outward-starts : {c : Want} → q ≡ Outward c → (0 < r .deep) × (r .deep ≤ 64) × (getD (r .maps) (r .deep - 1) 0 < r .at)
-      outward-starts e = outward-asks (h (S .state) (S .standing) .standing) (means e .frames)
+      outward-starts e =
+          let S = h (S .state) (S .standing) .standing in
+          outward-asks S (frames-deep S (means e .frames))
 
-      pub seeking-outward : {c : Want} {n : Walk} → q ≡ Outward c → n ≡ outer r → Seeking plan Γ ρ b n c × (rank n < rank w)
+      pub seeking-outward : {c : Want} {n : Walk} → q ≡ Outward c → ((p : Bytes) (x : State) (f : Frame) (E : List Frame) → WalkAt p r x →
+          x .frames ≡ f ∷ E → StepsTo p (stateOf (inputOf f) E []) r n)
+          → Seeking plan Γ ρ b n c × (rank n < rank w)
       unfolding seeking-located
-      seeking-outward {c} e k =
+      seeking-outward e k =
           let L = h (S .state) (S .standing) in
           let O = means e in
-          let N = outward-steps (L .standing) (O .frames) (O .of) in
-          let R : Seeking plan Γ ρ b (outer r) c = record {
-            fits = S .fits;
-            state = _;
-            standing = N .standing;
-            typed = O .typed;
-            small = O .small;
-            is =
-                sym (O .same) ∙ seeking-located .is;
-          } in
-          subst (λ (n : Walk). Seeking plan Γ ρ b n c × (rank n < rank w)) (sym k) (R, omega (arith, N .falls, L .falls))
+          let N = k plan (L .state) (O .frame) (O .outer) (L .standing) (O .frames) in (
+            record { fits = S .fits; state = _; standing = N .standing; typed = O .typed; small = O .small; is = sym (O .same) ∙ seeking-located .is },
+            omega (arith, N .falls, L .falls),
+          )
 
 -- ---- the start
 

@@ -9,10 +9,11 @@ ghost use lib.ListN.{length};
 ghost use Rattle.ends.specs.code.Ends.{Ends};
 ghost use Rattle.layout.specs.Tree.{dtypeOf, fieldsOf};
 ghost use Rattle.layout.specs.code.Stands.{TypeAt, ColumnsAt};
+ghost use Rattle.layout.specs.Limits.{deepest};
 ghost use Rattle.plan.specs.Run.{clean, cleanAll, eval, evals};
 ghost use Rattle.overflow.specs.code.Ranges.{ColumnsIn, RecordAt};
 ghost use Rattle.overflow.specs.code.Leaves.{leaves, leavesFrom};
-ghost use Rattle.overflow.specs.code.Overflows.{TopAt, PlanAt, overAt, partPath, started};
+ghost use Rattle.overflow.specs.code.Overflows.{TopAt, PlanAt, ElementTypeAt, overAt, partPath, started};
 use crate::seek::seek;
 use crate::want::Bounds;
 use crate::want::Timed;
@@ -23,6 +24,7 @@ use layout::columns::Labelled;
 use layout::cursor::Cursor;
 use layout::edition::Edition;
 use layout::leaf::TimeUnit;
+use layout::limits::DEEPEST;
 use layout::types::Head;
 use layout::walk::skip_type;
 use nodes::places::TopPath;
@@ -103,7 +105,7 @@ fn over_type(
 ) -> bool
     requires { ⌜ Ends (columns .edition) (now lay) (now table) ⌝ }
     requires { ⌜ ((X : RecordAt (now lay) columns (now rec)) × TopAt (now plan) (path .top) (fieldsOf (X .columns .columns))) ⌝ }
-    requires { ⌜ TypeAt (place .edition) (place .depth) (now tgt) (place .at .at) × (path .len + place .depth ≤ 16) × (length (path .steps) ≡ 64) ⌝ }
+    requires { ⌜ TypeAt (place .edition) (place .depth) (now tgt) (place .at .at) × (path .len + place .depth ≤ deepest) × (length (path .steps) ≡ 64) ⌝ }
     ensures { λ r. ⌜ ((X : RecordAt (now (lay .entry)) columns (now (rec .entry))) (T : TopAt (now (plan .entry)) (path .top) (fieldsOf (X .columns .columns))) (Q : TypeAt (place .edition) (place .depth) (now (tgt .entry)) (place .at .at)) → r ≡ leaves (dtypeOf (Q .tree)) (λ p u. overAt (X .values .values) (T .here .tree) (path .steps) (path .len) p u)) ⌝ }
 {
     let y = place.edition;
@@ -125,33 +127,27 @@ fn over_type(
             };
             over_fields(lay, columns, rec, plan, path, tgt, fields, table)
         }
-        Head::List(e) => match e.element_label(tgt, y) {
-            Labelled::Is(_, f) => {
-                let element = TypePlace {
-                    edition: y,
-                    depth: place.depth - 1,
-                    at: f,
-                };
-                over_element(lay, columns, rec, plan, path, tgt, element, table)
-            }
-            Labelled::Refused(_) => true,
-        },
-        Head::Array(_, e) => match e.element_label(tgt, y) {
-            Labelled::Is(_, f) => {
-                let element = TypePlace {
-                    edition: y,
-                    depth: place.depth - 1,
-                    at: f,
-                };
-                over_element(lay, columns, rec, plan, path, tgt, element, table)
-            }
-            Labelled::Refused(_) => true,
-        },
+        Head::List(e) => {
+            let element = TypePlace {
+                edition: y,
+                depth: place.depth - 1,
+                at: e,
+            };
+            over_element(lay, columns, rec, plan, path, tgt, element, table)
+        }
+        Head::Array(_, e) => {
+            let element = TypePlace {
+                edition: y,
+                depth: place.depth - 1,
+                at: e,
+            };
+            over_element(lay, columns, rec, plan, path, tgt, element, table)
+        }
         Head::Refused(_) => true,
     }
 }
 
-// Of a list's or array's element, whose type stands at `place`: every one.
+// Of a list's or array's element, whose label and type stand at `place`: every one.
 fn over_element(
     lay: &[u8],
     columns: ColumnRange,
@@ -164,11 +160,20 @@ fn over_element(
 ) -> bool
     requires { ⌜ Ends (columns .edition) (now lay) (now table) ⌝ }
     requires { ⌜ ((X : RecordAt (now lay) columns (now rec)) × TopAt (now plan) (path .top) (fieldsOf (X .columns .columns))) ⌝ }
-    requires { ⌜ TypeAt (place .edition) (place .depth) (now tgt) (place .at .at) × (path .len + 1 + place .depth ≤ 16) × (length (path .steps) ≡ 64) ⌝ }
-    ensures { λ r. ⌜ ((X : RecordAt (now (lay .entry)) columns (now (rec .entry))) (T : TopAt (now (plan .entry)) (path .top) (fieldsOf (X .columns .columns))) (Q : TypeAt (place .edition) (place .depth) (now (tgt .entry)) (place .at .at)) → r ≡ leaves (dtypeOf (Q .tree)) (λ p u. overAt (X .values .values) (T .here .tree) (path .steps) (path .len) (0 ∷ p) u)) ⌝ }
+    requires { ⌜ ElementTypeAt (place .edition) (place .depth) (now tgt) (place .at .at) × (path .len + 1 + place .depth ≤ deepest) × (length (path .steps) ≡ 64) ⌝ }
+    ensures { λ r. ⌜ ((X : RecordAt (now (lay .entry)) columns (now (rec .entry))) (T : TopAt (now (plan .entry)) (path .top) (fieldsOf (X .columns .columns))) (Q : ElementTypeAt (place .edition) (place .depth) (now (tgt .entry)) (place .at .at)) → r ≡ leaves (dtypeOf (Q .type .tree)) (λ p u. overAt (X .values .values) (T .here .tree) (path .steps) (path .len) (0 ∷ p) u)) ⌝ }
 {
-    let below = part_path(path, 0);
-    over_type(lay, columns, rec, plan, below, tgt, place, table)
+    let edition = place.edition;
+    let depth = place.depth;
+    let c = place.at;
+    match c.element_label(tgt, edition) {
+        Labelled::Is(_, at) => {
+            let below = part_path(path, 0);
+            let element = TypePlace { edition, depth, at };
+            over_type(lay, columns, rec, plan, below, tgt, element, table)
+        }
+        Labelled::Refused(_) => true,
+    }
 }
 
 // Of a struct's fields.
@@ -184,7 +189,7 @@ fn over_fields(
 ) -> bool
     requires { ⌜ Ends (columns .edition) (now lay) (now table) ⌝ }
     requires { ⌜ ((X : RecordAt (now lay) columns (now rec)) × TopAt (now plan) (path .top) (fieldsOf (X .columns .columns))) ⌝ }
-    requires { ⌜ ColumnsAt (fields .edition) (fields .depth) (now tgt) (fields .count) (fields .first .at) × (path .len + 1 + fields .depth ≤ 16) × (length (path .steps) ≡ 64) ⌝ }
+    requires { ⌜ ColumnsAt (fields .edition) (fields .depth) (now tgt) (fields .count) (fields .first .at) × (path .len + 1 + fields .depth ≤ deepest) × (length (path .steps) ≡ 64) ⌝ }
     ensures { λ r. ⌜ ((X : RecordAt (now (lay .entry)) columns (now (rec .entry))) (T : TopAt (now (plan .entry)) (path .top) (fieldsOf (X .columns .columns))) (Q : ColumnsAt (fields .edition) (fields .depth) (now (tgt .entry)) (fields .count) (fields .first .at)) → r ≡ leavesFrom (fieldsOf (Q .columns)) 0 (λ p u. overAt (X .values .values) (T .here .tree) (path .steps) (path .len) p u)) ⌝ }
 {
     let edition = fields.edition;
@@ -226,7 +231,7 @@ pub fn top_overflows(
 ) -> bool
     requires { ⌜ Ends (columns .edition) (now lay) (now table) ⌝ }
     requires { ⌜ ((X : RecordAt (now lay) columns (now rec)) × TopAt (now plan) (top .at) (fieldsOf (X .columns .columns))) ⌝ }
-    requires { ⌜ TypeAt (place .edition) (place .depth) (now tgt) (place .at .at) × (place .depth ≤ 16) ⌝ }
+    requires { ⌜ TypeAt (place .edition) (place .depth) (now tgt) (place .at .at) × (place .depth ≤ deepest) ⌝ }
     ensures { λ r. ⌜ ((X : RecordAt (now (lay .entry)) columns (now (rec .entry))) (T : TopAt (now (plan .entry)) (top .at) (fieldsOf (X .columns .columns))) (Q : TypeAt (place .edition) (place .depth) (now (tgt .entry)) (place .at .at)) → T .column .type ≡ dtypeOf (Q .tree) → r ≡ not (clean (eval (X .values .values) (T .here .tree)))) ⌝ }
 {
     let path = TopPath {
@@ -262,14 +267,14 @@ pub fn overflows(
             Labelled::Is(_, e) => {
                 let place = TypePlace {
                     edition,
-                    depth: 16,
+                    depth: DEEPEST,
                     at: e,
                 };
                 if top_overflows(lay, columns, rec, plan, s, tgt, place, table) {
                     return true;
                 }
                 s = skip_selector(plan, s);
-                d = skip_type(tgt, edition, 16, e);
+                d = skip_type(tgt, edition, DEEPEST, e);
             }
             Labelled::Refused(_) => return true,
         }

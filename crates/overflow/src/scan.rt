@@ -22,6 +22,7 @@ use layout::cursor::Moved;
 use layout::cursor::Short;
 use layout::edition::Edition;
 use layout::leaf::TimeUnit;
+use layout::limits::DEEPEST;
 use layout::types::Head;
 use nodes::raw::NodeAt;
 use nodes::raw::field_at;
@@ -253,7 +254,7 @@ fn some_element(
         if some_at(lay, v, t, rec, d, search, table) {
             return true;
         }
-        match read_element(lay, v, 16, t, rec, d, table) {
+        match read_element(lay, v, DEEPEST, t, rec, d, table) {
             Moved::To(e) => {
                 d = e;
             }

@@ -5,35 +5,18 @@
 // input. A constant answers for itself; then it only has to be found out whether it is run at all, which is asked of
 // the input of the innermost mapping. Each selector is passed at most once, whatever the length of the result.
 ghost use mathlib.Core.Path.{_≡_};
-ghost use Prim.Native.Nat.{_-_, _<_, _≤_};
-ghost use lib.ListN.{getD};
 ghost use Rattle.ends.specs.code.Ends.{Ends};
 ghost use Rattle.layout.specs.Tree.{fieldsOf};
 ghost use Rattle.plan.specs.Run.{eval};
 ghost use Rattle.overflow.specs.code.Ranges.{RecordAt};
 ghost use Rattle.overflow.specs.code.Want.{SmallWant};
 ghost use Rattle.overflow.specs.code.Some.{some};
-ghost use Rattle.overflow.specs.code.Seek.{Seeks, outer};
+ghost use Rattle.overflow.specs.code.Seek.{Seeks};
 use crate::stop::Stop;
 use crate::stop::at_stop;
 use crate::want::Want;
 use layout::columns::ColumnRange;
 use walk::walk::Walk;
-
-// To the input of the innermost mapping, with no path.
-fn outward(w: Walk) -> Walk
-    requires { ⌜ (0 < w .deep) × (w .deep ≤ 64) × (getD (w .maps) (w .deep - 1) 0 < w .at) ⌝ }
-    ensures { λ r. ⌜ r ≡ outer w ⌝ }
-{
-    let d = w.deep - 1;
-    let m = w.maps[d] as usize;
-    let mut next = w;
-    next.at = m + 1;
-    next.lim = w.at;
-    next.deep = d;
-    next.len = d;
-    next
-}
 
 pub fn seek(
     lay: &[u8],
@@ -61,7 +44,7 @@ pub fn seek(
                 asks = next;
             }
             Stop::Outward(next) => {
-                x = outward(x);
+                x = x.outward();
                 asks = next;
             }
         }

@@ -9,6 +9,7 @@ ghost use Rattle.layout.specs.Tree.{dtypeOf};
 ghost use Rattle.layout.specs.code.Stands.{TypeAt};
 ghost use Rattle.layout.specs.declared.edition.Edition.{Edition as EditionOf};
 ghost use Rattle.layout.specs.Bytes.{Bytes};
+ghost use Rattle.layout.specs.Limits.{deepest};
 ghost use Rattle.plan.specs.Run.{valueAt};
 ghost use Rattle.plan.specs.Selector.{position};
 ghost use Rattle.nodes.specs.code.Raw.{RawAt};
@@ -30,6 +31,7 @@ use layout::columns::ColumnRange;
 use layout::columns::Position;
 use layout::cursor::Cursor;
 use layout::edition::Edition;
+use layout::limits::DEEPEST;
 use layout::types::Head;
 use layout::walk::skip_type;
 use nodes::raw::NodeAt;
@@ -92,7 +94,7 @@ fn in_long_constant(plan: &[u8], t: Cursor, c: Cursor, search: Search) -> bool
     ensures { λ r. ⌜ ((X : RawAt EditionOf.One (now (plan .entry)) (t .at) (now (plan .entry)) (c .at)) → r ≡ someFound search (X .value .tree)) ⌝ }
 {
     let mut ends = [0u16; 4098];
-    fill_local(plan, Edition::One, 16, t, c, &mut ends);
+    fill_local(plan, Edition::One, DEEPEST, t, c, &mut ends);
     some_at(plan, Edition::One, t, plan, c, search, &ends)
 }
 
@@ -102,7 +104,7 @@ pub fn in_constant(plan: &[u8], t: Cursor, search: Search) -> bool
     requires { ⌜ SmallSearch search ⌝ }
     ensures { λ r. ⌜ ((X : RawIn (now (plan .entry)) (t .at)) → r ≡ someFound search (X .value .tree)) ⌝ }
 {
-    let c = skip_type(plan, Edition::One, 16, t);
+    let c = skip_type(plan, Edition::One, DEEPEST, t);
     if needs_table(plan, t, c, c) {
         return in_long_constant(plan, t, c, search);
     }
@@ -143,9 +145,9 @@ fn before_time(t: Timed, want: Want) -> Stop
 
 // Before a cast to the type that stands at `t`.
 fn before_cast(plan: &[u8], t: Cursor, want: Want) -> Stop
-    requires { ⌜ TypeAt EditionOf.One 16 (now plan) (t .at) ⌝ }
+    requires { ⌜ TypeAt EditionOf.One deepest (now plan) (t .at) ⌝ }
     requires { ⌜ SmallWant want ⌝ }
-    ensures { λ r. ⌜ ((T : TypeAt EditionOf.One 16 (now (plan .entry)) (t .at)) → r ≡ castStop [] (dtypeOf (T .tree)) want) ⌝ }
+    ensures { λ r. ⌜ ((T : TypeAt EditionOf.One deepest (now (plan .entry)) (t .at)) → r ≡ castStop [] (dtypeOf (T .tree)) want) ⌝ }
 {
     match t.head(plan) {
         Head::Leaf(l, _) => {
@@ -226,9 +228,9 @@ fn at_constant(plan: &[u8], t: Cursor, w: Walk, want: Want) -> Stop
 
 // Whose type stands at `t`.
 fn at_cast(plan: &[u8], t: Cursor, w: Walk, want: Want) -> Stop
-    requires { ⌜ TypeAt EditionOf.One 16 (now plan) (t .at) ⌝ }
+    requires { ⌜ TypeAt EditionOf.One deepest (now plan) (t .at) ⌝ }
     requires { ⌜ SmallWant want ⌝ }
-    ensures { λ r. ⌜ ((T : TypeAt EditionOf.One 16 (now (plan .entry)) (t .at)) (x : State) → WalkAt (now (plan .entry)) w x → r ≡ castStop (x .path) (dtypeOf (T .tree)) want) ⌝ }
+    ensures { λ r. ⌜ ((T : TypeAt EditionOf.One deepest (now (plan .entry)) (t .at)) (x : State) → WalkAt (now (plan .entry)) w x → r ≡ castStop (x .path) (dtypeOf (T .tree)) want) ⌝ }
 {
     if w.deep < w.len {
         return Stop::No;

@@ -26,7 +26,8 @@ use Rattle.walk.specs.declared.walk.Move.{Move}
 use Rattle.walk.proofs.View.{selector-longer, selector-moved, selectors-moved, selectors-counted}
 use Rattle.walk.proofs.Trees.{stop-constant, stop-cast, stop-rename, stop-column, stop-element, stop-mapping, stop-no-part, move-rename, move-part}
 use Rattle.walk.proofs.Trees.{move-leave, part-mapping, part-same, part-some}
-use Rattle.walk.proofs.Walks.{entries-none, innermost, some-inner, walk-starts, walk-small, path-some, path-none, path-more, pushed}
+use Rattle.walk.proofs.Walks.{entries-none, innermost, some-inner, entered-before, walk-starts, walk-small, path-some, path-none, path-more}
+use Rattle.walk.proofs.Walks.{outward-asks, frames-deep, pushed}
 
 -- ---- a mapping's part
 
@@ -121,12 +122,6 @@ module _ {s : Bytes} {at : ℕ} {P : SelectorAt s at} (k : ℕ) where
     part-none e = subst (λ (q : PartFound). partAnswer s at P k q) e (R .answer)
 
 -- ---- the next move
-
--- an entered mapping stands before what is inside
-entered-before : {plan : Bytes} {m i p : ℕ} {f : Frame} → Entered plan m i p f → m < p
-entered-before (e-fields c P e l) = omega (arith, selector-longer P)
-entered-before (e-list c P e l) = omega (arith, selector-longer P)
-entered-before (e-array c P e l) = omega (arith, selector-longer P)
 
 module _ {plan : Bytes} {w : Walk} {x : State} (M : WalkAt plan w x) where
   module _ (m : Mapping (x .selector)) where
@@ -276,10 +271,7 @@ module _ {plan : Bytes} {x : State} {w0 w : Walk} (N : Walking plan x w0 w) {q :
   enter-asks e = let A = opened e in (walk-small (N .standing), omega (arith, path-more (N .standing) (A .path), N .standing .short))
 
   pub leave-asks : {k : ℕ} → q ≡ Move.Leave k → (0 < w .deep) × (w .deep ≤ 64) × (getD (w .maps) (w .deep - 1) 0 < w .at)
-  leave-asks e =
-      let A = opened e in
-      let I = innermost (A .frames) (N .standing .entries) in
-      (I .some, omega (arith, N .standing .deep, N .standing .short), entered-before (I .entered))
+  leave-asks e = outward-asks (N .standing) (frames-deep (N .standing) (opened e .frames))
 
 -- ---- into a mapping's part where the path ends
 

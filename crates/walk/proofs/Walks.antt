@@ -12,9 +12,9 @@ use Rattle.layout.proofs.Ways.{clash}
 use Rattle.plan.specs.Selector.{Selector}
 use Rattle.plan.specs.Read.{longestPlan}
 use Rattle.walk.specs.code.Stands.{SelectorAt}
-use Rattle.walk.specs.code.State.{Frame, State, state}
+use Rattle.walk.specs.code.State.{Frame, inputOf, State, state}
 use Rattle.walk.specs.code.Moves.{Input, Takes, t-field, t-element}
-use Rattle.walk.specs.code.Walks.{Entered, e-fields, e-list, e-array, Entries, e-none, e-more, WalkAt, rank, StepsTo, Enters, Leaves}
+use Rattle.walk.specs.code.Walks.{Entered, e-fields, e-list, e-array, Entries, e-none, e-more, WalkAt, rank, outwardOf, StepsTo, Enters, Leaves}
 use Rattle.walk.specs.declared.walk.Walk.{Walk}
 use Rattle.walk.proofs.View.{selector-longer}
 use Rattle.walk.proofs.Trees.{input-at}
@@ -79,15 +79,23 @@ some-inner h e-none = absurd (h refl)
 some-inner h (e-more {f = f} {E = E} t u) = (f, E, refl)
 
 -- the input of an entered mapping
-record Outward (plan : Bytes) (m i j p : ℕ) (s : Selector) : Type 0 where
-  input : SelectorAt plan (m + 1)
-  is : input .tree ≡ s
-  ends : input .end ≤ p
+record EnteredInput (plan : Bytes) (m p : ℕ) (f : Frame) : Type 0 where
+  here : SelectorAt plan (m + 1)
+  is : here .tree ≡ inputOf f
+  ends : here .end ≤ p
 
-outward : {plan : Bytes} {m i j p : ℕ} {k : Position} {f : Frame} {s : Selector} → Entered plan m j p f → Takes k f i s → Outward plan m i j p s
-outward (e-fields c P e l) (t-field h) = record { input = P; is = e; ends = l }
-outward (e-list c P e l) (t-element h) = record { input = P; is = e; ends = l }
-outward (e-array c P e l) (t-element h) = record { input = P; is = e; ends = l }
+entered-input : {plan : Bytes} {m i p : ℕ} {f : Frame} → Entered plan m i p f → EnteredInput plan m p f
+entered-input (e-fields c P e l) = record { here = P; is = e; ends = l }
+entered-input (e-list c P e l) = record { here = P; is = e; ends = l }
+entered-input (e-array c P e l) = record { here = P; is = e; ends = l }
+
+-- a mapping begins before what is inside it
+pub entered-before : {plan : Bytes} {m i p : ℕ} {f : Frame} → Entered plan m i p f → m + 1 < p
+entered-before t = let I = entered-input t in omega (arith, I .ends, selector-longer (I .here))
+
+takes-input : {k : Position} {f : Frame} {i : ℕ} {s : Selector} → Takes k f i s → inputOf f ≡ s
+takes-input (t-field h) = refl
+takes-input (t-element h) = refl
 
 -- ---- the path
 
@@ -201,12 +209,45 @@ module _ {plan : Bytes} {w : Walk} {x : State} (M : WalkAt plan w x) where
 
   -- ---- out of a mapping
 
-  pub leave : {i : ℕ} (L : Leaves x i) → StepsTo plan (state (L .input) (L .outer) (i ∷ x .path)) w
+  pub outward-asks : (w .deep ≡ 0 → ⊥) → (0 < w .deep) × (w .deep ≤ 64) × (getD (w .maps) (w .deep - 1) 0 < w .at)
+  outward-asks z =
+      let (f, F, e) = some-inner z (M .entries) in
+      let I = innermost e (M .entries) in
+      (I .some, omega (arith, M .deep, M .short), omega (arith, entered-before (I .entered)))
+
+  module _ {f : Frame} {F : List Frame} (e : x .frames ≡ f ∷ F) where
+    pub frames-deep : w .deep ≡ 0 → ⊥
+    frames-deep z = let I = innermost e (M .entries) in omega (arith, I .some)
+
+    pub outward : StepsTo plan (state (inputOf f) F []) w (outwardOf w)
+    unfolding rank
+    outward =
+        let I = innermost e (M .entries) in
+        let O = entered-input (I .entered) in
+        record {
+          standing = record {
+            here = O .here;
+            selector = O .is;
+            ends = O .ends;
+            bound = omega (arith, walk-starts, M .bound);
+            small = M .small;
+            entries = entries-later (omega arith) (I .outer);
+            deep = omega arith;
+            short = omega (arith, M .deep, M .short);
+            room = M .room;
+            path = slice-empty (w .deep - 1) (w .path);
+          };
+          falls = omega (arith, walk-starts, M .bound, M .small, O .ends, selector-longer (O .here));
+        }
+
+  -- the same, but that the path goes on from the part that is taken
+  left : {i : ℕ} (L : Leaves x i) → StepsTo plan (state (L .input) (L .outer) (i ∷ x .path)) w
       (record { at = getD (w .maps) (w .deep - 1) 0 + 1; lim = w .at; deep = w .deep - 1; len = w .len; maps = w .maps; path = set (w .path) (w .deep - 1) i })
-  unfolding rank
-  leave {i} L =
+  unfolding rank outward
+  left {i} L =
       let I = innermost (L .frames) (M .entries) in
-      let O = outward (I .entered) (L .takes) in
+      let O = outward (L .frames) in
+      let S = O .standing in
       let d = w .deep - 1 in
       let e : w .deep ≡ suc d = omega (arith, I .some) in
       let l : d < w .len = omega (arith, I .some, M .deep) in
@@ -214,21 +255,25 @@ module _ {plan : Bytes} {w : Walk} {x : State} (M : WalkAt plan w x) where
       let path = set (w .path) d i in
       record {
         standing = record {
-          here = O .input;
-          selector = O .is;
-          ends = O .ends;
-          bound = omega (arith, walk-starts, M .bound);
+          here = S .here;
+          selector = S .selector ∙ takes-input (L .takes);
+          ends = S .ends;
+          bound = S .bound;
           small = M .small;
-          entries =
-              entries-later (omega arith)
-              (entries-same (w .maps) (w .path) (w .maps) path (λ j h. (refl, sym (getD-set-other (w .path) d j i 0 (λ z. omega arith)))) (I .outer));
+          entries = entries-same (w .maps) (w .path) (w .maps) path (λ j h. (refl, sym (getD-set-other (w .path) d j i 0 (λ z. omega arith)))) (S .entries);
           deep = omega arith;
           short = M .short;
           room = (M .room .0, omega (arith, M .room .1, length-set (w .path) d i));
           path = slice-set d (w .len) i (w .path) l r ∙ ap (λ (n : ℕ). i ∷ slice n (w .len) (w .path)) (sym e) ∙ ap (λ (p : List ℕ). i ∷ p) (M .path);
         };
-        falls = omega (arith, walk-starts, M .bound, M .small, O .ends, selector-longer (O .input));
+        falls = O .falls;
       }
+
+  pub leave : {n : Walk} → n ≡ outwardOf w → {i : ℕ} (L : Leaves x i) → StepsTo plan (state (L .input) (L .outer) (i ∷ x .path)) w
+      (record { at = n .at; lim = n .lim; deep = n .deep; len = w .len; maps = n .maps; path = set (n .path) (w .deep - 1) i })
+  leave e {i} L =
+      subst (λ (n : Walk). StepsTo plan (state (L .input) (L .outer) (i ∷ x .path)) w
+      (record { at = n .at; lim = n .lim; deep = n .deep; len = w .len; maps = n .maps; path = set (n .path) (w .deep - 1) i })) (sym e) (left L)
 
   -- ---- a number put at the path's end
 

@@ -2,18 +2,18 @@
 // alone: entering a mapping takes a number off the path, a position leaves the innermost mapping and puts its number
 // before the path into the mapping's input.
 ghost use mathlib.Core.Path.{_≡_};
-ghost use mathlib.Core.List.{[], _∷_};
+ghost use mathlib.Core.List.{List, [], _∷_};
 ghost use Prim.Native.Nat.{ℕ, _+_, _-_, _<_, _≤_};
 ghost use lib.ListN.{length, getD};
 ghost use Rattle.layout.specs.Bytes.{Bytes};
 ghost use Rattle.plan.specs.Selector.{Selector, position};
 ghost use Rattle.plan.specs.Read.{longestPlan};
 ghost use Rattle.walk.specs.code.Stands.{SelectorAt};
-ghost use Rattle.walk.specs.code.State.{Frame, State, state};
+ghost use Rattle.walk.specs.code.State.{Frame, inputOf, State, state};
 ghost use Rattle.walk.specs.code.Moves.{Input, Part, Mapping};
 ghost use Rattle.walk.specs.code.Parts.{StructAt};
 ghost use Rattle.walk.specs.code.Ends.{EndsAt};
-ghost use Rattle.walk.specs.code.Walks.{WalkAt, Located, PartIs, StepsTo, Enters, Leaves, MoveIs};
+ghost use Rattle.walk.specs.code.Walks.{WalkAt, Located, outwardOf, PartIs, StepsTo, Enters, Leaves, MoveIs};
 use crate::head::SelectorHead;
 use crate::head::counted_at;
 use crate::head::head;
@@ -142,18 +142,31 @@ impl Walk {
         next
     }
 
+    // To the input of the innermost mapping, all of it.
+    pub fn outward(self) -> Walk
+        requires { ⌜ (0 < self .deep) × (self .deep ≤ 64) × (getD (self .maps) (self .deep - 1) 0 < self .at) ⌝ }
+        ensures { λ r. ⌜ r ≡ outwardOf self ⌝ }
+        ensures { λ r. ⌜ ((plan : Bytes) (x : State) (f : Frame) (E : List Frame) → WalkAt plan self x → x .frames ≡ f ∷ E → StepsTo plan (state (inputOf f) E []) self r) ⌝ }
+    {
+        let d = self.deep - 1;
+        let m = self.maps[d] as usize;
+        let mut next = self;
+        next.at = m + 1;
+        next.lim = self.at;
+        next.deep = d;
+        next.len = d;
+        next
+    }
+
     // From a position to the input of the innermost mapping, of which it takes the part `k`.
     pub fn leave(self, k: u16) -> Walk
         requires { ⌜ (0 < self .deep) × (self .deep ≤ 64) × (getD (self .maps) (self .deep - 1) 0 < self .at) ⌝ }
         ensures { λ r. ⌜ ((plan : Bytes) (x : State) → WalkAt plan self x → (L : Leaves x k) → StepsTo plan (state (L .input) (L .outer) (k ∷ x .path)) self r) ⌝ }
     {
         let d = self.deep - 1;
-        let m = self.maps[d] as usize;
-        let mut next = self;
+        let mut next = self.outward();
         next.path[d] = k;
-        next.at = m + 1;
-        next.lim = self.at;
-        next.deep = d;
+        next.len = self.len;
         next
     }
 

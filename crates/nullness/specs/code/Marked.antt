@@ -26,7 +26,8 @@ pub record MarkedAt (v : Edition) (s : Bytes) (at : ℕ) (m : Bool) (n : Nullnes
   pub type : TypeAt v deepest s at
   pub is : n ≡ given m (type .tree)
 
--- the answer r for the place n
+-- the answer r for the place n: a type that stands there is not refused
 pub record PartIs (v : Edition) (s : Bytes) (n : Nullness) (r : PartMark) : Type 0 where
   pub none : r ≡ PartMark.None → n ≡ nowhere
+  pub read : r ≡ PartMark.Refused → ⊥
   pub here : (c : Cursor) (m : Bool) → r ≡ PartMark.At c m → MarkedAt v s (c .at) m n

@@ -20,7 +20,7 @@ use Rattle.plan.specs.Check.{check}
 use Rattle.plan.specs.Selector.{Selector, position, constant, cast, rename, structMapping, listMapping, arrayMapping, Selectors, countSelectors}
 use Rattle.plan.specs.Run.{eval, evals, clean, cleanAll, run}
 use Rattle.plan.specs.Calls.{bufferAfter}
-use Rattle.walk.specs.code.State.{Frame, fields, element, State, state}
+use Rattle.walk.specs.code.State.{Frame, fields, element, inputOf, State, state}
 use Rattle.walk.specs.code.Moves.{Moves, Stopped, Input, Mapping}
 use Rattle.walk.specs.code.Stands.{SelectorAt, SelectorsAt}
 use Rattle.walk.specs.code.Walks.{WalkAt, rank}
@@ -148,11 +148,7 @@ pub record SourceIs (ρ : Values) (v : Edition) (lay rec plan : Bytes) (x : Stat
 
 -- ---- src/parts.rt
 
--- an entered mapping's input; and how many parts that must have, for what is inside to be run
-unfoldable pub inputOf : Frame → Selector
-inputOf (fields s) = s
-inputOf (element s i) = s
-
+-- how many parts an entered mapping's input must have, for what is inside to be run
 unfoldable pub leastOf : Frame → ℕ
 leastOf (fields s) = 0
 leastOf (element s i) = i + 1
@@ -252,6 +248,6 @@ writtenOf (refusedAt n k) = Written.TooLong
 -- what was written aside from its start on, of whatever run is clean
 abbrev pub HandedOver : Bytes → ℕ → Bytes → Written → Bytes → Type 0
 HandedOver aside len out w out′ =
-    (ρ : Values) (ss : Selectors) (aside₀ : Bytes) → cleanAll (evals ρ ss) ≡ true → 16384 ≡ length aside₀
+    (ρ : Values) (ss : Selectors) (aside₀ : Bytes) → cleanAll (evals ρ ss) ≡ true → longest ≡ length aside₀
     → Emits aside₀ 0 (encodeValues (evals ρ ss)) len aside
     → (w ≡ writtenOf (run ρ ss (length out))) × (out′ ≡ bufferAfter (run ρ ss (length out)) out)

@@ -7,7 +7,11 @@ use mathlib.Core.List.{List, _++_}
 use lib.ListN.{length, replicate, set}
 use lib.Seq.{slice}
 use Rattle.layout.specs.Bytes.{Bytes}
-use Rattle.layout.specs.Tree.{Fields}
+use Rattle.layout.specs.Parser.{ok}
+use Rattle.layout.specs.Tree.{Label, Fields}
+use Rattle.layout.specs.Layout.{elementLabel}
+use Rattle.layout.specs.code.Stands.{TypeAt}
+use Rattle.layout.specs.declared.edition.Edition.{Edition}
 use Rattle.layout.specs.declared.leaf.TimeUnit.{TimeUnit}
 use Rattle.values.specs.Value.{Values}
 use Rattle.plan.specs.Result.{gives, accepted}
@@ -36,6 +40,13 @@ pub record PlanAt (plan : Bytes) (first : ℕ) (Γ Δ : Fields) : Type 0 where
   pub starts : first ≤ length plan
   pub small : length plan ≤ longestPlan
   pub passes : check Γ Δ (selectors .trees) ≡ accepted tt
+
+-- the label of a list's or array's element, and behind it its type, of at most d levels
+pub record ElementTypeAt (v : Edition) (d : ℕ) (s : Bytes) (at : ℕ) : Type 0 where
+  pub label : Label
+  pub start : ℕ
+  pub labelled : elementLabel v s at ≡ ok label start
+  pub type : TypeAt v d s start
 
 -- an overflow stands in what s gives at the path that begins with the first numbers of `path`, or is beneath them
 abbrev pub overAt : Values → Selector → List ℕ → ℕ → List ℕ → TimeUnit → Bool

@@ -1,10 +1,9 @@
 -- What is to be asked where a walk stops, and of what. It is right where the selectors passed the check
 -- (proofs/Meaning.antt, `stop-means`).
-use Prim.Native.Nat.{ℕ, _+_, _-_}
+use Prim.Native.Nat.{ℕ}
 use mathlib.Core.Path.{_≡_}
 use mathlib.Core.Bool.{Bool, true, false}
 use mathlib.Core.List.{List, [], _∷_}
-use lib.ListN.{getD}
 use Rattle.layout.specs.Bytes.{Bytes}
 use Rattle.layout.specs.Tree.{leafOf, DataType, leaf, struct, list, array, Fields, dtypeOf}
 use Rattle.layout.specs.Layout.{deepest}
@@ -99,7 +98,3 @@ pub record Seeks (plan : Bytes) (w : Walk) (Γ : Fields) : Type 0 where
   pub standing : WalkAt plan w (state selector [] path)
   pub column : Column
   pub passes : typeOf Γ selector ≡ gives column
-
--- at the input of the innermost mapping, with no path
-abbrev pub outer : Walk → Walk
-outer w = record { at = getD (w .maps) (w .deep - 1) 0 + 1; lim = w .at; deep = w .deep - 1; len = w .deep - 1; maps = w .maps; path = w .path }

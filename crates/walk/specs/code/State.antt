@@ -10,6 +10,11 @@ pub data Frame : Type 0 where
   fields : Selector → Frame
   element : Selector → ℕ → Frame
 
+-- its input
+abbrev pub inputOf : Frame → Selector
+inputOf (fields s) = s
+inputOf (element s i) = s
+
 -- a selector, inside the entered mappings, innermost first, and what is left of the path into what it gives
 pub record State : Type 0 where
   pub selector : Selector

@@ -51,6 +51,10 @@ pub record Located (plan : Bytes) (x : State) (w r : Walk) : Type 0 where
   pub stopped : Stopped state
   pub falls : rank r ≤ rank w
 
+-- at the input of the innermost mapping, with no path
+abbrev pub outwardOf : Walk → Walk
+outwardOf w = record { at = getD (w .maps) (w .deep - 1) 0 + 1; lim = w .at; deep = w .deep - 1; len = w .deep - 1; maps = w .maps; path = w .path }
+
 -- the part k of the mapping P stands at m
 pub record PartAt (plan : Bytes) (at : ℕ) (P : SelectorAt plan at) (k m : ℕ) : Type 0 where
   pub frame : Frame

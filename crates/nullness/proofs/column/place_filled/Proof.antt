@@ -1,5 +1,5 @@
 -- `nullness::column::place_filled` meets its contract: the loop keeps `Marking`. Assumes nothing.
-use Rattle.nullness.proofs.Marking.{Marking, marking-start, marking-none, marking-more, marking-end}
+use Rattle.nullness.proofs.Marking.{Marking, marking-start, marking-none, marking-refused, marking-more, marking-end}
 use Prim.Native.Nat.{_-_}
 use Rattle.layout.specs.code.Stands.{TypeAt}
 use Rattle.plan.specs.Marks.{given}
@@ -28,6 +28,10 @@ place-filled-spec =
     (λ c.
     let c2 = c .before .before in let c3 = c2 .before in let c4 = c3 .before in let c6 = c4 .before .before in
     λ P. marking-none (c4 .loop .inv P) (c3 .loop-test .taken) (c6 .pre .1) (c2 .part-mark .ensures) (c .enum-told .given .1))
+    (λ c. search needs)
+    (λ c.
+    let c2 = c .before .before in let c3 = c2 .before in let c4 = c3 .before in let c6 = c4 .before .before in
+    λ P. marking-refused (c4 .loop .inv P) (c3 .loop-test .taken) (c6 .pre .1) (c2 .part-mark .ensures) (c .enum-told2 .given .1))
     (λ c. search needs)
     (λ c. search needs)
     (λ c.

@@ -1,12 +1,13 @@
 -- `nullness::marks::meets_type`, `meets_element` and `meets_fields` meet their contracts: they call each other with the
 -- depth of the type falling; the loop keeps `Fieldings`. Assumes nothing.
-use Rattle.nullness.proofs.Meeting.{step-place, step-met, top-fails, struct-place, list-place, array-place, leaf-meets, struct-meets, list-meets}
+use Rattle.nullness.proofs.Meeting.{element-place, element-met, top-fails, struct-place, list-place, array-place, leaf-meets, struct-meets, list-meets}
 use Rattle.nullness.proofs.Meeting.{array-meets}
 use Rattle.nullness.proofs.Meeting.{Fieldings, fielding-start, fielding-all, fielding-labelled, field, field-place, fielding-fails, fielding-more}
 use Rattle.overflow.proofs.Paths.{step-room, step-deep}
 use Rattle.nullness.proofs.Placing.{untold}
 use Rattle.walk.proofs.Ending.{told}
-use Rattle.layout.proofs.View.{deep, struct-at, list-at, array-at, never-headless, list-labelled, array-labelled}
+use Rattle.overflow.proofs.Elements.{list-element, array-element, element-type, element-labelled}
+use Rattle.layout.proofs.View.{deep, struct-at, never-headless}
 use mathlib.Core.Path.{refl}
 use borrow.Author.Needs.{needs}
 use Prim.Native.Nat.{ℕ, _<_, _+_, _-_, _*_}
@@ -32,7 +33,7 @@ use Rattle.nullness.proofs.marks.+meets_element+meets_fields+meets_type
 use Rattle.nullness.proofs.marks.+meets_element+meets_fields+meets_type.Tie.{close}
 
 abbrev μ-meets-element : Measures 5 meets-element-kinds.ps ℕ
-μ-meets-element κs a = (a .1 .1 .1 .1 .1 .1 .1 .0 .place .depth) * 3 + 1
+μ-meets-element κs a = (a .1 .1 .1 .1 .1 .1 .1 .0 .depth) * 3 + 1
 
 abbrev μ-meets-fields : Measures 5 meets-fields-kinds.ps ℕ
 μ-meets-fields κs a = (a .1 .1 .1 .1 .1 .1 .1 .0 .depth) * 3 + 1
@@ -59,7 +60,14 @@ abbrev meets-type-below : ℕ → In 5 meets-type-kinds.ps
 meets-type-below t = and 5 meets-type-kinds.ps (falls 5 meets-type-kinds.ps _<_ μ-meets-type t) meets-type.Pre
 
 abbrev meets-element-claims : ℕ → meets-element-lts.Claims
-meets-element-claims t = (part-path-reads.Asked, part-path-reads.Learnt, meets-type-below t, meets-type.Post)
+meets-element-claims t = (
+  element-label-reads.Asked,
+  element-label-reads.Learnt,
+  part-path-reads.Asked,
+  part-path-reads.Learnt,
+  meets-type-below t,
+  meets-type.Post,
+)
 
 abbrev meets-fields-claims : ℕ → meets-fields-lts.Claims
 meets-fields-claims t = (
@@ -81,8 +89,6 @@ meets-type-claims t = (
   head-reads.Learnt,
   meets-fields-below t,
   meets-fields.Post,
-  element-label-reads.Asked,
-  element-label-reads.Learnt,
   meets-element-below t,
   meets-element.Post,
 )
@@ -99,30 +105,33 @@ pub +meets-element+meets-fields+meets-type-spec : {M : Type 1} → statement M
     close μ-meets-element μ-meets-fields μ-meets-type (λ t. meets-element-lts.spec (meets-element-claims t)
     (meets-element-at t)
     meets-element.Post
+    (λ c κs. search needs)
+    (λ c. search needs)
     (λ c κs.
-    let c5 = c .before .before .before .before .before in
-    omega (arith, c5 .pre .1 .1 .1 .0, c5 .pre .1 .1 .1 .1))
+    let c10 = c .before .before .before .before .before .before .before .before .before .before in
+    omega (arith, c10 .pre .1 .1 .1 .0, c10 .pre .1 .1 .1 .1))
     (λ c κs.
-    let c6 = c .before .before .before .before .before .before in
-    let R = c6 .pre .1 .1 .0 in let B = c6 .pre .1 .1 .1 in let S = step-place (c6 .args .path) 0 (B .1) (c .part-path .ensures) (omega (arith, B .0))
-    (R .2 .top) (R .2 .leads) in (
-      omega (arith, c6 .pre .0),
+    let c2 = c .before .before in let c4 = c2 .before .before in let c11 = c4 .before .before .before .before .before .before .before in
+    let R = c11 .pre .1 .1 .0 in let B = c11 .pre .1 .1 .1 in let g = c4 .element-label .ensures .0 in let k = c2 .l .given .1 in
+    let S = element-place (c11 .args .path) (B .1) (c .part-path .ensures) (omega (arith, B .0)) (R .1) g k (R .2) in (
+      omega (arith, c11 .pre .0),
       (
-        c6 .pre .1 .0,
+        c11 .pre .1 .0,
         (
-          (R .0, R .1, S),
+          (R .0, element-type (R .1) g k, S),
           (
-            step-deep (c6 .args .path) 0 (B .1) (c .part-path .ensures)
-                _ (B .0),
-            step-room (c6 .args .path) 0 (B .1) (c .part-path .ensures),
+            step-deep (c11 .args .path) 0 (B .1) (c .part-path .ensures) _ (B .0),
+            step-room (c11 .args .path) 0 (B .1) (c .part-path .ensures),
           ),
         ),
       ),
     ))
+    (λ c. search needs)
     (λ c.
-    let c1 = c .before in let c7 = c1 .before .before .before .before .before .before in
-    λ P Q E. let B = c7 .pre .1 .1 .1 in step-met (c7 .args .path) 0 (B .1) (c1 .part-path .ensures) (omega (arith, B .0)) (E .top) (E .leads) _ _ _ (λ S.
-    c .meets-type .ensures P Q S)))
+    let c1 = c .before in let c3 = c1 .before .before in let c5 = c3 .before .before in let c12 = c5 .before .before .before .before .before .before .before in
+    λ P Q E. let B = c12 .pre .1 .1 .1 in element-met (c12 .args .path) (B .1) (c1 .part-path .ensures) (omega (arith, B .0)) Q
+    (c5 .element-label .ensures .0) (c3 .l .given .1) E _ (λ T S. c .meets-type .ensures P T S))
+    (λ c. λ P Q E. element-labelled Q (c .before .before .element-label .ensures .0) (c .enum-told .given .1)))
     (λ t. meets-fields-lts.spec (meets-fields-claims t)
     (meets-fields-at t)
     meets-fields.Post
@@ -196,58 +205,23 @@ pub +meets-element+meets-fields+meets-type-spec : {M : Type 1} → statement M
     let R = c14 .pre .1 .1 .0 in let B = c14 .pre .1 .1 .1 in let h = deep (R .1) in let I = struct-at (R .1) (c4 .head .ensures .0) (c2 .m .given .1) in
     (omega (arith, c14 .pre .0, h), (c14 .pre .1 .0, ((R .0, I .inner, struct-place (R .2) (I .is)), (omega (arith, B .0, h), B .1)))))
     (λ c. search needs)
-    (λ c κs. search needs)
+    (λ c.
+    let c14 = c .before .before .before .before .before .before .before .before .before .before .before .before .before .before in
+    let h = deep (c14 .pre .1 .1 .0 .1) in omega (arith, h))
+    (λ c κs.
+    let c2 = c .before .before in let c4 = c2 .before .before in let c14 = c4 .before .before .before .before .before .before .before .before .before .before in
+    let R = c14 .pre .1 .1 .0 in let B = c14 .pre .1 .1 .1 in let h = deep (R .1) in
+    let (E, i) = list-element (R .1) (c4 .head .ensures .0) (c2 .e .given .1) in
+    (omega (arith, c14 .pre .0, h), (c14 .pre .1 .0, ((R .0, E, list-place (R .2) i), (omega (arith, B .0, h), B .1)))))
     (λ c. search needs)
     (λ c.
-    let c18 = c .before .before .before .before .before .before .before .before .before .before .before .before .before .before .before .before .before .before
-    in
-    let h = deep (c18 .pre .1 .1 .0 .1) in omega (arith, h))
+    let c14 = c .before .before .before .before .before .before .before .before .before .before .before .before .before .before in
+    let h = deep (c14 .pre .1 .1 .0 .1) in omega (arith, h))
     (λ c κs.
-    let c2 = c .before .before in let c4 = c2 .before .before in let c6 = c4 .before .before in let c8 = c6 .before .before in let c18 =
-    c8 .before .before .before .before .before .before .before .before .before .before in
-    let R = c18 .pre .1 .1 .0 in let B = c18 .pre .1 .1 .1 in let h = deep (R .1) in let I = list-at (R .1) (c8 .head .ensures .0)
-    (c4 .element-label .ensures .0) (c6 .e .given .1) (c2 .l .given .1) in (
-      omega (arith, c18 .pre .0, h),
-      (
-        c18 .pre .1 .0,
-        (
-          (
-            R .0,
-            I .inner,
-            list-place
-                (R .2) (I .is),
-          ),
-          (omega (arith, B .0, h), B .1),
-        ),
-      ),
-    ))
-    (λ c. search needs)
-    (λ c. search needs)
-    (λ c κs. search needs)
-    (λ c. search needs)
-    (λ c.
-    let c18 = c .before .before .before .before .before .before .before .before .before .before .before .before .before .before .before .before .before .before
-    in
-    let h = deep (c18 .pre .1 .1 .0 .1) in omega (arith, h))
-    (λ c κs.
-    let c2 = c .before .before in let c4 = c2 .before .before in let c6 = c4 .before .before in let c8 = c6 .before .before in let c18 =
-    c8 .before .before .before .before .before .before .before .before .before .before in
-    let R = c18 .pre .1 .1 .0 in let B = c18 .pre .1 .1 .1 in let h = deep (R .1) in let I = array-at (R .1) (c8 .head .ensures .0)
-    (c4 .element-label2 .ensures .0) (c6 .e2 .given .1) (c2 .l2 .given .1) in (
-      omega (arith, c18 .pre .0, h),
-      (
-        c18 .pre .1 .0,
-        (
-          (
-            R .0,
-            I .inner,
-            array-place (R .2) (I .is),
-          ),
-          (omega (arith, B .0, h), B .1),
-        ),
-      ),
-    ))
-    (λ c. search needs)
+    let c2 = c .before .before in let c4 = c2 .before .before in let c14 = c4 .before .before .before .before .before .before .before .before .before .before in
+    let R = c14 .pre .1 .1 .0 in let B = c14 .pre .1 .1 .1 in let h = deep (R .1) in
+    let (E, i) = array-element (R .1) (c4 .head .ensures .0) (c2 .e2 .given .1) in
+    (omega (arith, c14 .pre .0, h), (c14 .pre .1 .0, ((R .0, E, array-place (R .2) i), (omega (arith, B .0, h), B .1)))))
     (λ c. search needs)
     (λ c.
     let c2 = c .before .before in let c3 = c2 .before in let c4 = c3 .before in
@@ -257,19 +231,11 @@ pub +meets-element+meets-fields+meets-type-spec : {M : Type 1} → statement M
     λ P Q S. struct-meets Q (c5 .head .ensures .0) S _ _ (c7 .meets-place .ensures P _ S) (told _ (c6 .if1 .left)) (c3 .m .given .1) (λ D F.
     c .meets-fields .ensures P D F))
     (λ c.
-    let c3 = c .before .before .before in let c5 = c3 .before .before in let c7 = c5 .before .before in let c9 = c7 .before .before in let c10 = c9 .before in
-    let c11 = c10 .before in
-    λ P Q S. list-meets Q (c9 .head .ensures .0) S _ _ (c11 .meets-place .ensures P _ S) (told _ (c10 .if1 .left)) (c5 .element-label .ensures .0)
-    (c3 .l .given .1) (λ T E. c .meets-element .ensures P T E) (c7 .e .given .1))
+    let c3 = c .before .before .before in let c5 = c3 .before .before in let c6 = c5 .before in let c7 = c6 .before in
+    λ P Q S. list-meets Q (c5 .head .ensures .0) S _ _ (c7 .meets-place .ensures P _ S) (told _ (c6 .if1 .left)) (λ T E. c .meets-element .ensures P T E)
+    (c3 .e .given .1))
     (λ c.
-    let c2 = c .before .before in let c4 = c2 .before .before in let c6 = c4 .before .before in
-    λ P Q S. list-labelled Q (c6 .head .ensures .0) (c2 .element-label .ensures .0) (c4 .e .given .1) (c .enum-told2 .given .1))
-    (λ c.
-    let c3 = c .before .before .before in let c5 = c3 .before .before in let c7 = c5 .before .before in let c9 = c7 .before .before in let c10 = c9 .before in
-    let c11 = c10 .before in
-    λ P Q S. array-meets Q (c9 .head .ensures .0) S _ _ (c11 .meets-place .ensures P _ S) (told _ (c10 .if1 .left)) (c5 .element-label2 .ensures .0)
-    (c3 .l2 .given .1) (λ T E. c .meets-element2 .ensures P T E) (c7 .e2 .given .1))
-    (λ c.
-    let c2 = c .before .before in let c4 = c2 .before .before in let c6 = c4 .before .before in
-    λ P Q S. array-labelled Q (c6 .head .ensures .0) (c2 .element-label2 .ensures .0) (c4 .e2 .given .1) (c .enum-told3 .given .1))
-    (λ c. λ P Q S. never-headless Q (c .before .before .head .ensures .0) (c .enum-told4 .given .1))
+    let c3 = c .before .before .before in let c5 = c3 .before .before in let c6 = c5 .before in let c7 = c6 .before in
+    λ P Q S. array-meets Q (c5 .head .ensures .0) S _ _ (c7 .meets-place .ensures P _ S) (told _ (c6 .if1 .left)) (λ T E. c .meets-element2 .ensures P T E)
+    (c3 .e2 .given .1))
+    (λ c. λ P Q S. never-headless Q (c .before .before .head .ensures .0) (c .enum-told2 .given .1))

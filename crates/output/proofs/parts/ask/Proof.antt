@@ -1,7 +1,6 @@
 use Rattle.output.proofs.Asking.{Asking, asking-answer, asking-input, asking-outward, is-answer, is-input, is-outward}
-use Rattle.output.proofs.Outward.{outward-inside, entered-deep}
 use Rattle.nodes.specs.code.Raw.{RowAt}
-use Rattle.walk.proofs.Walks.{walk-starts}
+use Rattle.walk.proofs.Walks.{walk-starts, outward-asks, frames-deep}
 use Rattle.walk.specs.code.Walks.{WalkAt, rank}
 use Rattle.walk.specs.code.State.{State}
 use mathlib.Core.Path.{refl}
@@ -60,20 +59,20 @@ ask-spec =
     (λ c κs. let (R, (x, W), f) = c .before .before .before .before .before .before .loop .inv in
     let O = c .before .before .before .before .before .find-origin .ensures x W in
     let I = is-outward (c .before .before .before .ask-step .ensures R _ (O .standing) (O .ended)) (c .before .l2 .given .1) in
-    outward-inside (O .standing) (entered-deep (O .standing) (I .is)))
+    outward-asks (O .standing) (frames-deep (O .standing) (I .is)))
     (λ c. let (R, (x, W), f) = c .before .before .before .before .before .before .before .loop .inv in
     let O = c .before .before .before .before .before .before .find-origin .ensures x W in
     let I = is-outward (c .before .before .before .before .ask-step .ensures R _ (O .standing) (O .ended)) (c .before .before .l2 .given .1) in
-    omega (arith, c .outward .ensures _ _ _ _ (O .standing) (I .is) .falls, O .falls))
+    omega (arith, c .outward .ensures .1 _ _ _ _ (O .standing) (I .is) .falls, O .falls))
     (λ c. let (R, (x, W), f) = c .before .before .before .before .before .before .before .loop .inv in
     let O = c .before .before .before .before .before .before .find-origin .ensures x W in
     let I = is-outward (c .before .before .before .before .ask-step .ensures R _ (O .standing) (O .ended)) (c .before .before .l2 .given .1) in
-    let T = c .outward .ensures _ _ _ _ (O .standing) (I .is) in (
+    let T = c .outward .ensures .1 _ _ _ _ (O .standing) (I .is) in (
       R,
       (_, T .standing),
       λ X x W.
           let A = f X x W in
           let O = c .before .before .before .before .before .before .find-origin .ensures _ (A .standing) in
           let I = is-outward (c .before .before .before .before .ask-step .ensures X _ (O .standing) (O .ended)) (c .before .before .l2 .given .1) in
-          asking-outward A O I (c .outward .ensures _ _ _ _ (O .standing) (I .is)),
+          asking-outward A O I (c .outward .ensures .1 _ _ _ _ (O .standing) (I .is)),
     )))

@@ -1,8 +1,10 @@
 -- `overflow::overflows::over_type`, `over_element` and `over_fields` meet their contracts: they call each other with
 -- the depth of the type falling; the loop keeps `Fieldings`. Assumes nothing.
 use Rattle.overflow.proofs.Paths.{Fieldings, step-top, step-leaves, step-room, step-deep, time-leaves, never-leaves, struct-leaves, list-leaves}
-use Rattle.overflow.proofs.Paths.{array-leaves, fielding-none, fielding-all, fielding-labelled, fielding-type, fielding-found, fielding-more}
-use Rattle.layout.proofs.View.{deep, struct-at, list-at, array-at, never-headless, list-labelled, array-labelled}
+use Rattle.overflow.proofs.Paths.{array-leaves, element-leaves}
+use Rattle.overflow.proofs.Paths.{fielding-none, fielding-all, fielding-labelled, fielding-type, fielding-found, fielding-more}
+use Rattle.overflow.proofs.Elements.{list-element, array-element, element-type, element-labelled}
+use Rattle.layout.proofs.View.{deep, struct-at, never-headless}
 use borrow.Author.Needs.{needs}
 use Prim.Native.Nat.{ℕ, _<_, _+_, _-_, _*_}
 use native.Mathlib.Omega.{arith}
@@ -64,7 +66,14 @@ over-type-below t =
     and 5 over-type-kinds.ps (falls 5 over-type-kinds.ps _<_ μ-over-type t) over-type.Pre
 
 abbrev over-element-claims : ℕ → over-element-lts.Claims
-over-element-claims t = (part-path-reads.Asked, part-path-reads.Learnt, over-type-below t, over-type.Post)
+over-element-claims t = (
+  element-label-reads.Asked,
+  element-label-reads.Learnt,
+  part-path-reads.Asked,
+  part-path-reads.Learnt,
+  over-type-below t,
+  over-type.Post,
+)
 
 abbrev over-fields-claims : ℕ → over-fields-lts.Claims
 over-fields-claims t = (
@@ -88,8 +97,6 @@ over-type-claims t = (
   over-leaf-reads.Learnt,
   over-fields-below t,
   over-fields.Post,
-  element-label-reads.Asked,
-  element-label-reads.Learnt,
   over-element-below t,
   over-element.Post,
 )
@@ -106,32 +113,35 @@ pub +over-element+over-fields+over-type-spec : {M : Type 1} → statement M
     close μ-over-element μ-over-fields μ-over-type (λ t. over-element-lts.spec (over-element-claims t)
     (over-element-at t)
     over-element.Post
+    (λ c κs. search needs)
+    (λ c. search needs)
     (λ c κs.
-    let c5 = c .before .before .before .before .before in
-    omega (arith, c5 .pre .1 .1 .1 .1, c5 .pre .1 .1 .1 .2))
+    let c10 = c .before .before .before .before .before .before .before .before .before .before in
+    omega (arith, c10 .pre .1 .1 .1 .1, c10 .pre .1 .1 .1 .2))
     (λ c κs.
-    let c6 = c .before .before .before .before .before .before in (
-      omega (arith, c6 .pre .0),
+    let c2 = c .before .before in let c4 = c2 .before .before in let c11 = c4 .before .before .before .before .before .before .before in (
+      omega (arith, c11 .pre .0),
       (
-        c6 .pre .1 .0,
+        c11 .pre .1 .0,
         (
           (
-            c6 .pre .1 .1 .0 .0,
-            step-top (c6 .args .path) 0 (c6 .pre .1 .1 .1 .2) (c .part-path .ensures)
-                (c6 .pre .1 .1 .0 .1),
+            c11 .pre .1 .1 .0 .0,
+            step-top (c11 .args .path) 0 (c11 .pre .1 .1 .1 .2) (c .part-path .ensures) (c11 .pre .1 .1 .0 .1),
           ),
           (
-            c6 .pre .1 .1 .1 .0,
-            step-deep (c6 .args .path) 0 (c6 .pre .1 .1 .1 .2) (c .part-path .ensures) _ (c6 .pre .1 .1 .1 .1),
-            step-room (c6 .args .path) 0 (c6 .pre .1 .1 .1 .2) (c .part-path .ensures),
+            element-type (c11 .pre .1 .1 .1 .0) (c4 .element-label .ensures .0) (c2 .at .given .1),
+            step-deep (c11 .args .path) 0 (c11 .pre .1 .1 .1 .2) (c .part-path .ensures) _ (c11 .pre .1 .1 .1 .1),
+            step-room (c11 .args .path) 0 (c11 .pre .1 .1 .1 .2) (c .part-path .ensures),
           ),
         ),
       ),
     ))
+    (λ c. search needs)
     (λ c.
-    let c1 = c .before in let c7 = c1 .before .before .before .before .before .before in
-    λ X T Q. step-leaves (c7 .args .path) 0 (c7 .pre .1 .1 .1 .2) (c1 .part-path .ensures) _ T _ (omega (arith, c7 .pre .1 .1 .1 .1)) (λ S.
-    c .over-type .ensures X S Q)))
+    let c1 = c .before in let c3 = c1 .before .before in let c5 = c3 .before .before in let c12 = c5 .before .before .before .before .before .before .before in
+    λ X T Q. element-leaves Q (c5 .element-label .ensures .0) (c3 .at .given .1) _ (λ P. step-leaves (c12 .args .path) 0 (c12 .pre .1 .1 .1 .2)
+    (c1 .part-path .ensures) _ T _ (omega (arith, c12 .pre .1 .1 .1 .1)) (λ S. c .over-type .ensures X S P)))
+    (λ c. λ X T Q. element-labelled Q (c .before .before .element-label .ensures .0) (c .enum-told .given .1)))
     (λ t. over-fields-lts.spec (over-fields-claims t)
     (over-fields-at t)
     over-fields.Post
@@ -227,55 +237,45 @@ pub +over-element+over-fields+over-type-spec : {M : Type 1} → statement M
       ),
     ))
     (λ c. search needs)
-    (λ c κs. search needs)
-    (λ c. search needs)
     (λ c.
-    let c15 = c .before .before .before .before .before .before .before .before .before .before .before .before .before .before .before in
-    let h = deep (c15 .pre .1 .1 .1 .0) in omega (arith, h))
+    let c11 = c .before .before .before .before .before .before .before .before .before .before .before in
+    let h = deep (c11 .pre .1 .1 .1 .0) in omega (arith, h))
     (λ c κs.
-    let c2 = c .before .before in let c4 = c2 .before .before in let c6 = c4 .before .before in let c8 = c6 .before .before in let c15 =
-    c8 .before .before .before .before .before .before .before in
-    let h = deep (c15 .pre .1 .1 .1 .0) in (
-      omega (arith, c15 .pre .0, h),
+    let c2 = c .before .before in let c4 = c2 .before .before in let c11 = c4 .before .before .before .before .before .before .before in
+    let h = deep (c11 .pre .1 .1 .1 .0) in (
+      omega (arith, c11 .pre .0, h),
       (
-        c15 .pre .1 .0,
+        c11 .pre .1 .0,
         (
-          c15 .pre .1 .1 .0,
+          c11 .pre .1 .1 .0,
           (
-            list-at (c15 .pre .1 .1 .1 .0)
-                (c8 .head .ensures .0) (c4 .element-label .ensures .0) (c6 .e .given .1) (c2 .f .given .1) .inner,
-            omega (arith, c15 .pre .1 .1 .1 .1, h),
-            c15 .pre .1 .1 .1 .2,
+            list-element (c11 .pre .1 .1 .1 .0) (c4 .head .ensures .0) (c2 .e .given .1) .0,
+            omega (arith, c11 .pre .1 .1 .1 .1, h),
+            c11 .pre .1 .1 .1 .2,
           ),
         ),
       ),
     ))
     (λ c. search needs)
-    (λ c. search needs)
-    (λ c κs. search needs)
-    (λ c. search needs)
     (λ c.
-    let c15 = c .before .before .before .before .before .before .before .before .before .before .before .before .before .before .before in
-    let h = deep (c15 .pre .1 .1 .1 .0) in omega (arith, h))
+    let c11 = c .before .before .before .before .before .before .before .before .before .before .before in
+    let h = deep (c11 .pre .1 .1 .1 .0) in omega (arith, h))
     (λ c κs.
-    let c2 = c .before .before in let c4 = c2 .before .before in let c6 = c4 .before .before in let c8 = c6 .before .before in let c15 =
-    c8 .before .before .before .before .before .before .before in
-    let h = deep (c15 .pre .1 .1 .1 .0) in (
-      omega (arith, c15 .pre .0, h),
+    let c2 = c .before .before in let c4 = c2 .before .before in let c11 = c4 .before .before .before .before .before .before .before in
+    let h = deep (c11 .pre .1 .1 .1 .0) in (
+      omega (arith, c11 .pre .0, h),
       (
-        c15 .pre .1 .0,
+        c11 .pre .1 .0,
         (
-          c15 .pre .1 .1 .0,
+          c11 .pre .1 .1 .0,
           (
-            array-at (c15 .pre .1 .1 .1 .0)
-                (c8 .head .ensures .0) (c4 .element-label2 .ensures .0) (c6 .e2 .given .1) (c2 .f2 .given .1) .inner,
-            omega (arith, c15 .pre .1 .1 .1 .1, h),
-            c15 .pre .1 .1 .1 .2,
+            array-element (c11 .pre .1 .1 .1 .0) (c4 .head .ensures .0) (c2 .e2 .given .1) .0,
+            omega (arith, c11 .pre .1 .1 .1 .1, h),
+            c11 .pre .1 .1 .1 .2,
           ),
         ),
       ),
     ))
-    (λ c. search needs)
     (λ c. search needs)
     (λ c.
     let c2 = c .before .before in let c4 = c2 .before .before in let c6 = c4 .before .before in let c8 = c6 .before .before in
@@ -287,15 +287,9 @@ pub +over-element+over-fields+over-type-spec : {M : Type 1} → statement M
     let c3 = c .before .before .before in let c5 = c3 .before .before in
     λ X T Q. struct-leaves Q (c5 .head .ensures .0) _ (c3 .m .given .1) (c .over-fields .ensures X T))
     (λ c.
-    let c3 = c .before .before .before in let c5 = c3 .before .before in let c7 = c5 .before .before in let c9 = c7 .before .before in
-    λ X T Q. list-leaves Q (c9 .head .ensures .0) _ (c5 .element-label .ensures .0) (c3 .f .given .1) (c .over-element .ensures X T) (c7 .e .given .1))
+    let c3 = c .before .before .before in let c5 = c3 .before .before in
+    λ X T Q. list-leaves Q (c5 .head .ensures .0) _ (c .over-element .ensures X T) (c3 .e .given .1))
     (λ c.
-    let c2 = c .before .before in let c4 = c2 .before .before in let c6 = c4 .before .before in
-    λ X T Q. list-labelled Q (c6 .head .ensures .0) (c2 .element-label .ensures .0) (c4 .e .given .1) (c .enum-told2 .given .1))
-    (λ c.
-    let c3 = c .before .before .before in let c5 = c3 .before .before in let c7 = c5 .before .before in let c9 = c7 .before .before in
-    λ X T Q. array-leaves Q (c9 .head .ensures .0) _ (c5 .element-label2 .ensures .0) (c3 .f2 .given .1) (c .over-element2 .ensures X T) (c7 .e2 .given .1))
-    (λ c.
-    let c2 = c .before .before in let c4 = c2 .before .before in let c6 = c4 .before .before in
-    λ X T Q. array-labelled Q (c6 .head .ensures .0) (c2 .element-label2 .ensures .0) (c4 .e2 .given .1) (c .enum-told3 .given .1))
-    (λ c. λ X T Q. never-headless Q (c .before .before .head .ensures .0) (c .enum-told4 .given .1))
+    let c3 = c .before .before .before in let c5 = c3 .before .before in
+    λ X T Q. array-leaves Q (c5 .head .ensures .0) _ (c .over-element2 .ensures X T) (c3 .e2 .given .1))
+    (λ c. λ X T Q. never-headless Q (c .before .before .head .ensures .0) (c .enum-told2 .given .1))

@@ -69,7 +69,7 @@ seek-spec =
     let c2 = c .before .before in let c4 = c2 .before .before in let c5 = c4 .before in let c6 = c5 .before in let c11 =
     c6 .before .before .before .before .before in
     seeking-outward (c6 .loop .inv (c11 .pre .1 .0 .0) (c11 .pre .1 .0 .1)) (c5 .locate .ensures) (c4 .at-stop .ensures (c11 .pre .1 .0 .0))
-    (c2 .next2 .given .1) (c .outward .ensures) .1)
+    (c2 .next2 .given .1) (c .outward .ensures .1) .1)
     (λ c.
     let c2 = c .before .before in let c4 = c2 .before .before in let c5 = c4 .before in let c6 = c5 .before in
-    λ X S. seeking-outward (c6 .loop .inv X S) (c5 .locate .ensures) (c4 .at-stop .ensures X) (c2 .next2 .given .1) (c .outward .ensures) .0))
+    λ X S. seeking-outward (c6 .loop .inv X S) (c5 .locate .ensures) (c4 .at-stop .ensures X) (c2 .next2 .given .1) (c .outward .ensures .1) .0))

@@ -1,5 +1,6 @@
 -- `overflow::stop::ran` meets its contract: by the code of the innermost mapping. Assumes nothing.
-use Rattle.overflow.proofs.Asking.{ran-top, inner-within, ran-fields, ran-element}
+use Rattle.overflow.proofs.Asking.{ran-top, ran-fields, ran-element}
+use Rattle.walk.proofs.Moving.{inner-inside}
 use borrow.Author.Needs.{needs}
 use Rattle.overflow.proofs.stop.ran.Statement.{statement}
 use Rattle.overflow.proofs.stop.ran.Tie as tie
@@ -13,6 +14,6 @@ ran-spec =
     (λ c. search needs)
     (λ c. search needs)
     (λ c. search needs)
-    (λ c. inner-within (c .before .before .before .pre .1) (c .before .before .if1 .left))
+    (λ c. inner-inside (c .before .before .before .pre .1) (c .before .before .if1 .left))
     (λ c. λ x M. ran-fields M (c .before .before .before .if1 .left) (c .if2 .taken))
     (λ c. λ x M. ran-element M (c .before .before .before .if1 .left) (c .if2 .left)))
