@@ -1,1 +1,4 @@
+pub mod Parts
+pub mod Following
+pub mod Topping
 pub mod Running

@@ -1,22 +1,19 @@
 -- What the parts of a run answer, over variables. Assumes nothing.
 use Prim.Native.Nat.{ℕ, _≤_}
 use mathlib.Core.Path.{_≡_, refl, sym, ap, subst, _∙_}
-use mathlib.Core.Bool.{Bool, true, false, not}
+use mathlib.Core.Bool.{Bool, true, false}
 use mathlib.Core.List.{[]}
 use native.Mathlib.Omega.{arith}
 use lib.ListN.{length}
 use Rattle.layout.specs.Bytes.{Bytes}
 use Rattle.layout.specs.Parser.{Res, refuse, ok}
-use Rattle.layout.specs.Tree.{Layout, Columns, Fields, fieldsOf}
+use Rattle.layout.specs.Tree.{Columns, Fields, fieldsOf}
 use Rattle.layout.specs.Layout.{layout, type, columns as columnsOf, deepest}
 use Rattle.layout.specs.code.Stands.{ColumnsAt, LayoutAt}
 use Rattle.layout.specs.declared.columns.Siblings.the-variants.{Free}
 use Rattle.layout.specs.declared.edition.Edition.{Edition}
 use Rattle.layout.proofs.View.{same-columns}
 use Rattle.layout.proofs.Ways.{clash}
-use Rattle.forms.specs.Readable.{depthOfFields}
-use Rattle.forms.proofs.Read.{type→, columns→}
-use Rattle.forms.proofs.ReadBack.{columns-extent}
 use Rattle.values.specs.Value.{Values}
 use Rattle.values.specs.Encode.{encodeValues}
 use Rattle.values.specs.Filled.{requiredOf}
@@ -41,7 +38,7 @@ use Rattle.composed.specs.code.Transferring.{transferredAnswer, TransferredIs}
 use Rattle.composed.specs.declared.whole.Transferred.{Transferred}
 use Rattle.overflow.specs.code.Overflows.{PlanAt}
 use Rattle.output.specs.code.Output.{Emits}
-use Rattle.output.specs.code.Answers.{OutputAt, HandedOver, writtenOf}
+use Rattle.output.specs.code.Answers.{HandedOver, writtenOf}
 use Rattle.output.specs.declared.write.Written.{Written}
 use Rattle.output.proofs.Writing.{emits-exact}
 use Rattle.output.proofs.Whole.{aside-inside}
@@ -77,12 +74,8 @@ module _ (Γ : Columns) (ss : Selectors) (rec : Bytes) (room : ℕ) where
     unfolding readAt
     record-run = rw reads
 
-    pub run-overflowing : {b : Bool} → b ≡ not (cleanAll (evals ρ ss)) → b ≡ true → recordRun Γ ss rec room ≡ refusedAt 44 0
-    run-overflowing h t = record-run ∙ run-overflows ρ ss room (not-clean (cleanAll (evals ρ ss)) (sym h ∙ t))
-      where
-        not-clean : (c : Bool) → not c ≡ true → c ≡ false
-        not-clean true q = clash (cc)
-        not-clean false q = refl
+    pub run-overflowing : cleanAll (evals ρ ss) ≡ false → recordRun Γ ss rec room ≡ refusedAt 44 0
+    run-overflowing h = record-run ∙ run-overflows ρ ss room h
 
     pub run-finished : {w : Written} {r : WriteResult} {entry exit : Bytes} → cleanAll (evals ρ ss) ≡ true → w ≡ writtenOf (run ρ ss room) → r ≡ finished w
         → exit ≡ bufferAfter (run ρ ss room) entry
@@ -95,10 +88,6 @@ module _ (Γ : Columns) (ss : Selectors) (rec : Bytes) (room : ℕ) where
         go : (s : Bool) → spacious room (encodeValues (evals ρ ss)) ≡ s → Ran (run ρ ss room) entry r exit
         go true s = by _ (run-writes ρ ss room c s) refl
         go false s = by _ (run-exceeds ρ ss room c s) refl
-
-pub clean-of : {b : Bool} (c : Bool) → b ≡ not c → b ≡ false → c ≡ true
-clean-of true e f = refl
-clean-of false e f = clash (cc)
 
 -- ---- one pass
 
@@ -153,21 +142,6 @@ module _ {incoming plan target : Bytes} {q : Read} (P : PassedAt incoming plan t
 
   pub record-reads : recordMarked requiredOf (P .columns .columns) rec ≡ ok (row-of .values .values) (F .end)
   record-reads = F .reads ∙ ap (λ (vs : Values). ok vs (F .end)) (record-at (record-unfilled F) .is)
-
-  abbrev pub output-of : cleanAll (evals (row-of .values .values) (P .selectors .trees)) ≡ true
-      → OutputAt (q .incoming .edition) incoming (q .incoming .count) (q .incoming .first .at) rec plan (q .selectors) 7
-  output-of c = record {
-    row = row-of;
-    selectors = P .selectors;
-    target = fieldsOf (P .targets .columns);
-    passes = P .passes;
-    deep = columns-extent (columns→ (q .target .edition) Free target deepest (λ at t e h. type→ (q .target .edition) Free target deepest at h)
-        (q .target .count) [] (q .target .first .at) (P .targets .reads)) (P .wide) .0 .deep;
-    clean = c;
-    short = record-at (record-unfilled F) .short;
-    small = P .small;
-    within = P .starts;
-  }
 
 abbrev pub plan-of : {incoming plan target : Bytes} {q : Read} (P : PassedAt incoming plan target q)
     → PlanAt plan 7 (fieldsOf (P .columns .columns)) (fieldsOf (P .targets .columns))

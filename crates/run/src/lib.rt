@@ -2,3 +2,4 @@
 pub mod read;
 pub mod run;
 pub mod single_pass;
+pub mod tops;

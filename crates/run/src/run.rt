@@ -7,23 +7,27 @@ ghost use Rattle.run.specs.code.Answers.{finished, ReadAt, PassedAt, Fil
 use crate::read::Read;
 use crate::single_pass::SinglePass;
 use crate::single_pass::write_single_pass;
+use crate::tops::Tops;
+use crate::tops::TopsWritten;
+use crate::tops::write_tops;
 use checker::tops::PlanChecked;
 use checker::tops::check_read;
 use ends::fill::fill_columns;
+use index::columns::stride_of;
+use index::row::Row;
+use index::row::index_row;
 use layout::columns::ColumnRange;
 use layout::cursor::Cursor;
 use layout::read::LayoutRead;
 use layout::read::read_layout;
 use output::write::Written;
+use output::write::hand_over;
 use output::write::scratch;
-use output::write::write_output;
-use overflow::overflows::overflows;
 use plan::answer::WriteResult;
 use plan::read::PlanRead;
 use plan::read::read_plan;
 use values::record::RecordRead;
 use values::record::read_record;
-use walk::head::StructFields;
 
 // Refusal 45 where the output is too long.
 fn finish(w: Written) -> WriteResult
@@ -35,8 +39,7 @@ fn finish(w: Written) -> WriteResult
     }
 }
 
-// A plan that passed the check, over a record that fits, with a table of where structs end: every selector through
-// paths.
+// A plan that passed the check, over a record that fits, with a table of where structs end: selector by selector.
 fn run_general(
     incoming: &[u8],
     plan: &[u8],
@@ -54,15 +57,34 @@ fn run_general(
 {
     let columns = read.incoming;
     let targets = read.target;
-    let first = Cursor { at: 7 };
-    if overflows(incoming, columns, rec, plan, first, target, targets, ends) {
-        return WriteResult::Refused(44, 0);
-    }
-    let selectors = StructFields {
-        count: read.selectors,
-        first,
+    let stride = stride_of(columns.count);
+    let row = Row {
+        columns,
+        values: Cursor { at: 0 },
+        stride,
     };
-    finish(write_output(incoming, columns, rec, plan, selectors, aside, output, ends))
+    let tops = Tops {
+        columns,
+        stride,
+        targets,
+    };
+    let mut types = [0u16; 256];
+    let mut values = [0u16; 256];
+    let m = index_row(incoming, rec, row, &mut types, &mut values, ends);
+    match write_tops(
+        incoming,
+        rec,
+        tops,
+        &types[..m],
+        &values[..m],
+        plan,
+        target,
+        aside,
+        ends,
+    ) {
+        TopsWritten::To(len) => finish(hand_over(aside, len, output)),
+        TopsWritten::Overflows => WriteResult::Refused(44, 0),
+    }
 }
 
 // The same, with a table of its own.

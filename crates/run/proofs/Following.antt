@@ -1,0 +1,143 @@
+-- What is written after what was written before. Assumes nothing.
+use Prim.Native.Nat.{ℕ, _+_, _≤_, _<_}
+use mathlib.Core.Path.{_≡_, refl, ap, sym, subst, _∙_}
+use mathlib.Core.Bool.{Bool, true, false, not}
+use mathlib.Core.List.{_++_}
+use native.Mathlib.Omega.{arith}
+use native.Mathlib.Decide.{decLt}
+use lib.ListN.{length, take, length-append}
+use borrow.Rule.Slice.PartMut.{midOf, putMid, same-len-mid, take-put}
+use Rattle.layout.specs.Bytes.{Bytes, AllBytes}
+use Rattle.layout.specs.Tree.{DataType, dtypeOf, fieldsOf}
+use Rattle.layout.specs.declared.columns.ColumnRange.{ColumnRange}
+use Rattle.layout.specs.declared.columns.Siblings.the-variants.{Free}
+use Rattle.layout.specs.declared.cursor.Cursor.{Cursor}
+use Rattle.layout.proofs.Ways.{clash}
+use Rattle.forms.specs.Readable.{depthOf}
+use Rattle.forms.proofs.Read.{type→}
+use Rattle.forms.proofs.ReadBack.{type-extent}
+use Rattle.store.specs.Overlay.{Agree, Holds}
+use Rattle.values.specs.Value.{Value}
+use Rattle.values.specs.Encode.{encodeValue}
+use Rattle.values.specs.Record.{longest}
+use Rattle.plan.specs.Run.{eval, clean}
+use Rattle.plan.proofs.Typed.{Typed, check→typed}
+use Rattle.plan.proofs.Preserve.{eval-over}
+use Rattle.raw.specs.code.Stored.{Stores}
+use Rattle.transfer.specs.code.Reaching.{Kept}
+use Rattle.overflow.proofs.Seeking.{row-over, formed-at}
+use Rattle.output.specs.code.Output.{Emits}
+use Rattle.output.specs.code.Answers.{EmitTopAt}
+use Rattle.output.proofs.Given.{eval-given}
+use Rattle.output.proofs.Whole.{fits-levels}
+use Rattle.output.proofs.Writing.{emits-exact, emits-append}
+use Rattle.run.specs.declared.tops.Top.{Top}
+use Rattle.run.specs.declared.tops.TopWritten.{TopWritten}
+use Rattle.run.specs.code.Tops.{TopIn, Follows, topAnswer, TopIs}
+use Rattle.run.proofs.Parts.{part-stored}
+
+-- ---- one run of bytes after another
+
+-- in a buffer that is the same as far as anything is written
+emits-kept : {out₀ a : Bytes} {len : ℕ} {out new : Bytes} → (len ≤ longest → take len new ≡ take len out) → Emits out₀ 0 a len out → Emits out₀ 0 a len new
+unfolding Holds Agree
+emits-kept {out₀} {a} {len} {out} {new} h E = record {
+  fits = λ l.
+      let (e, H) = E .fits l in
+      (e, ap (λ (n : ℕ). take n new) (sym e) ∙ h (omega (arith, e)) ∙ ap (λ (n : ℕ). take n out) e ∙ H);
+  exceeds = E .exceeds;
+}
+
+pub follows-kept : {out new : Bytes} {len : ℕ} {b : Bytes} {r : ℕ} {o : Bytes} → length new ≡ length out → (len ≤ longest → take len new ≡ take len out)
+    → Follows new len b r o → Follows out len b r o
+follows-kept l h F = record { emits = λ out₀ a z E. F .emits out₀ a (l ∙ z) (emits-kept h E) }
+
+-- past the limit nothing more counts
+pub follows-past : {out : Bytes} {len : ℕ} (b : Bytes) {r : ℕ} {new : Bytes} → longest < len → longest < r → Follows out len b r new
+follows-past b h g = record { emits = λ out₀ a z E. emits-beyond a b (beyond E h) g }
+  where
+    beyond : {out₀ a : Bytes} {len : ℕ} {out : Bytes} → Emits out₀ 0 a len out → longest < len → longest < length a
+    beyond {a = a} E h = go (decLt longest (length a))
+      where
+        go : Dec (longest < length a) → longest < length a
+        go (yes i) = i
+        go (no i) = let (e, H) = E .fits (omega arith) in absurd (omega (arith, e))
+
+    emits-beyond : {out₀ : Bytes} (a c : Bytes) {r : ℕ} {new : Bytes} → longest < length a → longest < r → Emits out₀ 0 (a ++ c) r new
+    emits-beyond a c h g =
+        let n : length (a ++ c) ≡ length a + length c = length-append a c in
+        record { fits = λ l. absurd (omega (arith, n)); exceeds = λ l. g }
+
+pub follows-emits : {out : Bytes} {len : ℕ} {b : Bytes} {r : ℕ} {new : Bytes} → len ≤ longest → Emits out len b r new → Follows out len b r new
+follows-emits h W = record { emits = λ out₀ a z E. emits-append z E h W }
+
+-- into the rest of the buffer, where n elements were lent
+follows-stored : (out : Bytes) {len : ℕ} (k n : ℕ) {b : Bytes} {r q : ℕ} {new : Bytes} → k ≡ len → len ≤ longest → length out ≤ k + n
+    → Stores (midOf k n out) 0 b r new → q ≡ len + r → Follows out len b q (putMid k n out new)
+follows-stored out k n {b} {q = q} {new} z h l S e =
+    let E : Emits out k b q (putMid k n out new) = emits-exact out k b (omega (arith, S .ends, e, z)) (part-stored out k n b l (S .stored)) in
+    follows-emits h (subst (λ (j : ℕ). Emits out j b q (putMid k n out new)) z E)
+
+-- ---- one selector
+
+module _ {lay : Bytes} {columns : ColumnRange} {rec plan tgt : Bytes} {top : Top} (A : TopIn lay columns rec plan tgt top) (ro : AllBytes rec)
+    (po : AllBytes plan) where
+  pub top-typed : Typed (fieldsOf (A .row .columns .columns)) (A .selector .here .tree) (A .selector .column .name) (dtypeOf (A .type .tree))
+  top-typed =
+      subst (λ (u : DataType). Typed (fieldsOf (A .row .columns .columns)) (A .selector .here .tree) (A .selector .column .name) u) (A .is)
+      (check→typed (formed-at po (A .selector .here)) (A .selector .passes))
+
+  pub top-low : depthOf (dtypeOf (A .type .tree)) ≤ 16
+  top-low = omega (arith, type-extent (type→ (top .column .edition) Free tgt (top .column .depth) (top .column .at .at) (A .type .reads)) .deep, A .deep)
+
+  abbrev pub top-asks : clean (eval (A .row .values .values) (A .selector .here .tree)) ≡ true
+      → EmitTopAt (columns .edition) lay (columns .count) (columns .first .at) rec plan (top .selector .at)
+  top-asks c = record {
+    row = A .row;
+    selector = A .selector .here;
+    same = eval-given top-typed (row-over ro (A .row));
+    clean = c;
+    low = omega (arith, top-low, fits-levels (eval-over top-typed (row-over ro (A .row))));
+    short = A .short;
+    small = A .selector .small;
+  }
+
+pub clean-of : {b : Bool} (c : Bool) → b ≡ not c → b ≡ false → c ≡ true
+clean-of true e f = refl
+clean-of false e f = clash (cc)
+
+-- ---- its answers
+
+module _ {x : Value} {e : ℕ} {out : Bytes} {len : ℕ} where
+  pub top-overflowing : {b : Bool} {new : Bytes} → b ≡ not (clean x) → b ≡ true → TopIs x e out len TopWritten.Overflows new
+  top-overflowing h t = record { answer = not-clean (clean x) (sym h ∙ t) }
+    where
+      not-clean : (c : Bool) → not c ≡ true → c ≡ false
+      not-clean true q = clash (cc)
+      not-clean false q = refl
+
+  pub top-given : {c : Cursor} {r : ℕ} {new : Bytes} → c .at ≡ e → clean x ≡ true → Follows out len (encodeValue x) r new → TopIs x e out len
+      (TopWritten.To c r) new
+  top-given h c F = record { answer = (h, c, F) }
+
+  module _ (k n : ℕ) (starts : (k ≤ longest) × (len ≤ longest → k ≡ len)) where
+    -- in one pass, into the rest of the buffer
+    pub top-passed : {new : Bytes} → length out ≤ k + n → {c : Cursor} {r q : ℕ} → (c .at ≡ e) × Kept (clean x) (encodeValue x) (midOf k n out) 0 r new
+        → (len ≤ longest → q ≡ len + r) × (longest < len → longest < q) → TopIs x e out len (TopWritten.To c q) (putMid k n out new)
+    top-passed {new} l {c} {r} {q} (h, K) (f, g) = top-given h (K .clean) (go (decLt longest len))
+      where
+        go : Dec (longest < len) → Follows out len (encodeValue x) q (putMid k n out new)
+        go (yes i) = follows-past (encodeValue x) i (g i)
+        go (no i) = let z : len ≤ longest = omega arith in follows-stored out k n (starts .1 z) z l (K .stores) (f z)
+
+    -- after a pass that settled nothing
+    pub top-anew : (new : Bytes) → length new ≡ length (midOf k n out) → k ≤ length out → {r : TopWritten} {o : Bytes}
+        → TopIs x e (putMid k n out new) len r o → TopIs x e out len r o
+    top-anew new z w {r} {o} T = record { answer = go r (T .answer) }
+      where
+        same : len ≤ longest → take len (putMid k n out new) ≡ take len out
+        same i = subst (λ (j : ℕ). take j (putMid k n out new) ≡ take j out) (starts .1 i) (take-put k n out new w)
+
+        go : (r : TopWritten) → topAnswer x e (putMid k n out new) len r o → topAnswer x e out len r o
+        go (TopWritten.To c q) (a, b, F) = (a, b, follows-kept (same-len-mid k n out new z) same F)
+        go TopWritten.Overflows h = h
