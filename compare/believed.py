@@ -6,11 +6,10 @@ the statements of the theorems (STATEMENTS) cite, down to the last. The files of
 docs/ARCHITECTURE.md lists under "What a reader must believe", and no others; and they must have fewer lines than its
 limit. Prints the counts; exit status 1 where the document differs.
 
-They stand in specs/, and what only says how code works in specs/code/.
+They stand in specs/, and what only says how code works in specs/code/: every definition of a file of specs/ is one
+that was met, but for those of STATED.
 
-usage: compare/believed.py [--list] [--beside]
-
---beside prints the definitions that stand in a file with believed ones and are cited by neither.
+usage: compare/believed.py [--list]
 """
 import pathlib
 import re
@@ -26,7 +25,19 @@ STATEMENTS = [
     ("demands", "Loosened"),
     ("demands", "Owners"),
     ("selector", "Decoded"),
+    ("numeric", "Law"),
 ]
+# Definitions in the documents' words that lemmas and the contracts of single functions cite, and no exported call:
+# where rounding gives infinity, the levels of a selector, how many leaf kinds there are, L4's rule by type codes, and a
+# record read by its types alone, which L5 is held against.
+STATED = {
+    ("numeric", "Rounding"): {"PastMidpoint"},
+    ("plan", "Selector"): {"nesting", "nestingAll"},
+    ("rules", "Kinds"): {"kinds"},
+    ("rules", "Promotion"): {"leafAt", "integerAt", "isIntegerCode", "promotes"},
+    ("values", "Marked"): {"valueMarked"},
+    ("values", "Record"): {"recordFrom", "recordOf", "RecordFits", "RecordFilled"},
+}
 
 # Document 02's list as it is printed, to which a computed test holds the rule: cited by the test alone.
 PRINTED = "crates/rules/specs/PrintedList.antt"
@@ -76,6 +87,7 @@ class Module:
             if head:
                 current, is_type = head.group(2), bool(head.group(1))
                 self.words.setdefault(current, set())
+                self.owner.update((part, current) for part in current.split("_") if part and "_" in current)
             elif part:
                 self.owner[part.group(1)] = current
             if current:
@@ -187,13 +199,17 @@ def apart(believed):
     return stated == believed
 
 
-def unused(all_modules, items):
-    """The definitions that stand beside believed ones and are not cited."""
-    places = {place for place, _ in items if place[1] == "specs"}
-    for place in sorted(places):
-        for name in all_modules[place].words:
-            if (place, name) not in items:
-                print(f"{place[0]}/specs/{place[2]}: {name}")
+def all_cited(all_modules, items):
+    """Whether every definition that stands in a file with believed ones is cited, or one of STATED."""
+    good = True
+    for place in sorted({place for place, _ in items if place[1] == "specs"}):
+        crate, _, module = place
+        beside = {name for name in all_modules[place].words if (place, name) not in items}
+        for name in sorted(beside ^ STATED.get((crate, module), set())):
+            what = "is cited by no call and no theorem: it belongs into specs/code/" if name in beside else "is cited"
+            print(f"crates/{crate}/specs/{module}.antt: {name} {what}")
+            good = False
+    return good
 
 
 def main():
@@ -202,8 +218,6 @@ def main():
     by_theorems = followed(all_modules, cited_by_theorems(all_modules))
     calls = files_of(by_calls)
     theorems = files_of(by_theorems) - calls
-    if "--beside" in sys.argv:
-        unused(all_modules, by_calls | by_theorems)
     count = {name: sum((ROOT / p).read_text().count("\n") for p in paths) for name, paths in
              (("calls", calls), ("theorems", theorems))}
     if "--list" in sys.argv:
@@ -211,6 +225,7 @@ def main():
     tables = listed()
     good = len(tables) == 2 and all([compare("contracts", calls, tables[0]), compare("theorems", theorems, tables[1])])
     good = apart(calls | theorems) and good
+    good = all_cited(all_modules, by_calls | by_theorems) and good
     print(f"to be believed: {len(calls)} files, {count['calls']} lines for the calls; "
           f"{len(theorems)} more, {count['theorems']} lines, for the theorems")
     if count["calls"] >= LIMIT:

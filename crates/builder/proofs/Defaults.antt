@@ -6,7 +6,7 @@ use mathlib.Core.List.{[], _∷_}
 use native.Mathlib.Omega.{arith}
 use lib.ListN.{length, set, length-append}
 use lib.Seq.{slice}
-use Rattle.store.specs.Overlay.{overlay, Agree, Holds}
+use Rattle.store.specs.code.Overlay.{overlay, Agree, Holds}
 use Rattle.store.proofs.Overlay.{slice-take}
 use Rattle.store.proofs.Holds.{holds-exact, holds-before, holds-append, holds-over, agree-less}
 use Rattle.layout.specs.Bytes.{Bytes, AllBytes}
@@ -23,10 +23,12 @@ use Rattle.layout.specs.declared.types.LeafType.{LeafType as LeafSpan}
 use Rattle.layout.specs.declared.edition.Edition.{Edition}
 use Rattle.layout.proofs.Ways.{clash, moved-to, moved-refused}
 use Rattle.layout.proofs.View.{leaf-at, StructAt}
-use Rattle.forms.specs.Form.{u16Bytes, kindForm, headOf}
+use Rattle.forms.specs.Form.{u16Bytes, kindForm}
+use Rattle.forms.specs.code.Heads.{headOf}
 use Rattle.forms.specs.Same.{equalTypes}
 use Rattle.forms.proofs.Equal.{equal-types-refl, equal-types-eq}
-use Rattle.rules.specs.Outcomes.{Verdict, untouched, refused as refusedBy, cast as casts, verdictOf}
+use Rattle.rules.specs.Outcomes.{Verdict, untouched, refused as refusedBy, cast as casts}
+use Rattle.rules.specs.code.Answers.{verdictOf}
 use Rattle.rules.specs.Pairs.{pairRule}
 use Rattle.rules.specs.declared.policy.Policy.{Policy}
 use Rattle.rules.specs.declared.outcome.Outcome.{Outcome}

@@ -25,7 +25,8 @@ use Rattle.layout.specs.declared.matching.Matching.{Matching}
 use Rattle.layout.specs.declared.matching.Matching.the-variants.{ByName, ByNumber}
 use Rattle.layout.proofs.Ways.{clash, head-in, label-in}
 use Rattle.layout.proofs.View.{label-got, leaf-at, StructAt, struct-at, ListAt, list-at, ArrayAt, array-at}
-use Rattle.forms.specs.Form.{u16Bytes, u32Bytes, textBytes, kindForm, headOf}
+use Rattle.forms.specs.Form.{u16Bytes, u32Bytes, textBytes, kindForm}
+use Rattle.forms.specs.code.Heads.{headOf}
 use Rattle.forms.proofs.Read.{ok-eq, label-ends}
 use Rattle.forms.proofs.Heads.{HeadAt, head-at}
 use Rattle.forms.proofs.Writing.{span-long}

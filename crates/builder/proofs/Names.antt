@@ -9,7 +9,8 @@ use Rattle.layout.specs.Tree.{Label, ColumnType, Columns, cnil, ccons}
 use Rattle.layout.specs.Layout.{label, columns, type}
 use Rattle.layout.specs.declared.columns.Siblings.the-variants.{Free}
 use Rattle.layout.specs.code.Answers.{labelRes, labelAt, spanAt}
-use Rattle.layout.specs.Find.{Lookup, absent, present, columnNamed, counterpart, Finds}
+use Rattle.layout.specs.Find.{Lookup, absent, present, columnNamed, counterpart}
+use Rattle.layout.specs.code.Finding.{Finds}
 use Rattle.layout.specs.code.Stands.{TypeAt, ColumnsAt}
 use Rattle.layout.specs.declared.columns.Position.{Position}
 use Rattle.layout.specs.declared.columns.Label.{Label as LabelSpan}

@@ -4,7 +4,7 @@ use mathlib.Core.Path.{_≡_, refl, ap, _∙_}
 use mathlib.Core.List.{[], _∷_, _++_}
 use native.Mathlib.Omega.{arith}
 use lib.ListN.{length, set, length-append}
-use Rattle.store.specs.Overlay.{overlay}
+use Rattle.store.specs.code.Overlay.{overlay}
 use Rattle.store.proofs.Overlay.{overlay-append}
 use Rattle.store.proofs.Holds.{holds-exact}
 use Rattle.layout.specs.Bytes.{Bytes}
@@ -14,7 +14,8 @@ use Rattle.layout.specs.declared.columns.Position.{Position}
 use Rattle.layout.specs.declared.edition.Edition.{Edition}
 use Rattle.forms.specs.Form.{u16Bytes, textBytes, leafForm, kindForm, form}
 use Rattle.forms.proofs.Writing.{extent}
-use Rattle.rules.specs.Outcomes.{optionCode, numberOf, verdictOf}
+use Rattle.rules.specs.Outcomes.{optionCode}
+use Rattle.rules.specs.code.Answers.{numberOf, verdictOf}
 use Rattle.rules.specs.declared.outcome.CastOption.{CastOption}
 use Rattle.rules.specs.declared.outcome.Mismatch.{Mismatch}
 use Rattle.rules.specs.declared.outcome.Outcome.{Outcome}

@@ -7,7 +7,7 @@ use mathlib.Core.List.{List, [], _∷_, _++_, append-assoc}
 use native.Mathlib.Omega.{arith}
 use lib.ListN.{length, set, length-append}
 use lib.Dec.{eqb}
-use Rattle.store.specs.Overlay.{overlay, Agree, Holds}
+use Rattle.store.specs.code.Overlay.{overlay, Agree, Holds}
 use Rattle.store.proofs.Overlay.{overlay-append, length-overlay}
 use Rattle.store.proofs.Holds.{holds-exact, holds-before, holds-append, holds-over, agree-less}
 use Rattle.layout.specs.Bytes.{Bytes}

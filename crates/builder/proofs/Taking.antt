@@ -10,7 +10,8 @@ use Rattle.layout.specs.Tree.{Label, ColumnType, cleaf, cstruct, clist, carray,
 use Rattle.layout.specs.Layout.{columns, type}
 use Rattle.layout.specs.code.Answers.{labelAt, spanIn}
 use Rattle.layout.specs.code.Stands.{TypeAt, ColumnsAt}
-use Rattle.layout.specs.Find.{Lookup, absent, present, Finds}
+use Rattle.layout.specs.Find.{Lookup, absent, present}
+use Rattle.layout.specs.code.Finding.{Finds}
 use Rattle.layout.specs.declared.columns.Position.{Position}
 use Rattle.layout.specs.declared.columns.Label.{Label as LabelSpan}
 use Rattle.layout.specs.declared.columns.Siblings.the-variants.{Free}

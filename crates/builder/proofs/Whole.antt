@@ -6,7 +6,7 @@ use native.Mathlib.Omega.{arith}
 use lib.ListN.{length}
 use lib.Dec.{eqb}
 use borrow.Author.Tests.{eq-eqb, ne-eqb}
-use Rattle.store.specs.Overlay.{overlay}
+use Rattle.store.specs.code.Overlay.{overlay}
 use Rattle.store.proofs.Holds.{holds-exact}
 use Rattle.layout.specs.Bytes.{Bytes, sameBytes}
 use Rattle.layout.specs.Parser.{choose}

@@ -4,7 +4,7 @@ ghost use mathlib.Core.Path.{_≡_};
 ghost use mathlib.Core.Bool.{_||_};
 ghost use Prim.Native.Nat.{ℕ, _+_, _*_, _^_, _≤_, _<_};
 ghost use lib.ListN.{length};
-ghost use Rattle.store.specs.Overlay.{overlay};
+ghost use Rattle.store.specs.code.Overlay.{overlay};
 ghost use Rattle.layout.specs.Tree.{leaf};
 ghost use Rattle.layout.specs.Limits.{longest, longestName};
 ghost use Rattle.layout.specs.code.Answers.{leafAt, spanIn};

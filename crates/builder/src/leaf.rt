@@ -5,7 +5,7 @@ ghost use lib.ListN.{length};
 ghost use Rattle.layout.specs.Limits.{longest};
 ghost use Rattle.layout.specs.code.Answers.{leafAt, spanIn};
 ghost use Rattle.layout.specs.code.Stands.{TypeAt};
-ghost use Rattle.rules.specs.Outcomes.{verdictOf};
+ghost use Rattle.rules.specs.code.Answers.{verdictOf};
 ghost use Rattle.rules.specs.Pairs.{pairRule};
 ghost use Rattle.builder.specs.code.Answers.{Ruled};
 ghost use Rattle.builder.specs.code.Bundles.{TypesAt, LeafStands, AttachedLeaf};

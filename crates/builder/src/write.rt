@@ -3,7 +3,7 @@ ghost use mathlib.Core.Path.{_≡_};
 ghost use mathlib.Core.List.{_∷_};
 ghost use Prim.Native.Nat.{_+_, _*_, _^_, _≤_, _<_};
 ghost use lib.ListN.{length};
-ghost use Rattle.store.specs.Overlay.{overlay};
+ghost use Rattle.store.specs.code.Overlay.{overlay};
 ghost use Rattle.layout.specs.Tree.{dtypeOf};
 ghost use Rattle.layout.specs.Limits.{longestName};
 ghost use Rattle.layout.specs.code.Answers.{spanAt, spanIn};

@@ -9,7 +9,7 @@ use lib.ListN.{length, take}
 use lib.Dec.{leb}
 use lib.Seq.{slice}
 use borrow.Author.Tests.{le-leb, lt-leb}
-use Rattle.store.specs.Overlay.{overlay, Holds}
+use Rattle.store.specs.code.Overlay.{overlay, Holds}
 use Rattle.store.proofs.Overlay.{overlay-front, slice-take}
 use Rattle.store.proofs.Holds.{holds-exact, holds-append, holds-front}
 use Rattle.layout.specs.Bytes.{Bytes}
@@ -47,7 +47,8 @@ use Rattle.plan.specs.Encode.{encodeSelectors, encodePlan}
 use Rattle.plan.specs.Read.{longestPlan}
 use Rattle.matching.specs.Default.{Defaults, noDefaults}
 use Rattle.matching.specs.Build.{extraColumns, buildFrom, build}
-use Rattle.plan.specs.Calls.{readAt, writeResult, bufferAfter}
+use Rattle.plan.specs.Calls.{readAt, bufferAfter}
+use Rattle.plan.specs.code.Written.{writeResult}
 use Rattle.matching.specs.Calls.{takes, ofEdition, bothLayouts, roomFor, writtenPlan, buildByName, buildByNumber}
 use Rattle.calls.specs.code.Answers.{BothAt, BothIs, extraAnswer, columnsMade, WroteColumns, MakesColumns, planHead, written, LongerThan, Attempted}
 use Rattle.calls.specs.declared.write.Attempt.{Attempt}

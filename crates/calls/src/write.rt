@@ -3,7 +3,7 @@
 ghost use mathlib.Core.Path.{_≡_};
 ghost use Prim.Native.Nat.{_+_, _≤_, _<_};
 ghost use lib.ListN.{length, take};
-ghost use Rattle.store.specs.Overlay.{overlay};
+ghost use Rattle.store.specs.code.Overlay.{overlay};
 ghost use Rattle.layout.specs.Bytes.{Bytes};
 ghost use Rattle.layout.specs.Limits.{longest, longestPlan};
 ghost use Rattle.defaults.specs.code.Stands.{IndexedTableAt};

@@ -18,7 +18,7 @@ use Rattle.layout.specs.declared.edition.Edition.{Edition}
 use borrow.Author.Tests.{eq-eqb}
 use Rattle.layout.proofs.Ways.{clash}
 use Rattle.layout.proofs.View.{same-columns, label-got, no-column}
-use Rattle.forms.specs.Form.{headOf}
+use Rattle.forms.specs.code.Heads.{headOf}
 use Rattle.forms.specs.code.Compare.{sameDtype, sameFields}
 use Rattle.forms.specs.code.Labelled.{ElementAt, ColumnAt}
 use Rattle.forms.specs.code.Answers.{endOf, sameOf}

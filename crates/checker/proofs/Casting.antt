@@ -5,7 +5,7 @@ use Rattle.layout.specs.Bytes.{Bytes}
 use Rattle.layout.specs.Tree.{DataType, leaf}
 use Rattle.layout.specs.code.Answers.{leafAt, spanIn}
 use Rattle.layout.specs.declared.types.LeafType.{LeafType as LeafSpan}
-use Rattle.forms.specs.Form.{headOf}
+use Rattle.forms.specs.code.Heads.{headOf}
 use Rattle.rules.specs.declared.outcome.CastOption.{CastOption}
 use Rattle.plan.specs.Check.{castFits}
 use Rattle.direct.specs.code.Places.{bytesOf}

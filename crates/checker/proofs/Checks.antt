@@ -16,8 +16,9 @@ use Rattle.layout.specs.declared.edition.Edition.{Edition}
 use Rattle.layout.specs.declared.edition.Edition.the-variants.{One}
 use Rattle.layout.proofs.Ways.{clash}
 use Rattle.layout.proofs.Top.{columns-count}
-use Rattle.forms.specs.Form.{form, headOf}
-use Rattle.forms.specs.Readable.{depthOf}
+use Rattle.forms.specs.Form.{form}
+use Rattle.forms.specs.code.Heads.{headOf}
+use Rattle.forms.specs.Depth.{depthOf}
 use Rattle.forms.proofs.Heads.{count-fields}
 use Rattle.rules.specs.declared.outcome.CastOption.{CastOption}
 use Rattle.plan.specs.Result.{Result, gives, refuses, _>>=_, demand}

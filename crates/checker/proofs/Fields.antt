@@ -10,7 +10,8 @@ use Rattle.layout.specs.Parser.{choose}
 use Rattle.layout.specs.Tree.{Label, ColumnType, Columns, cnil, ccons, Fields, fnil, fcons, dtypeOf, fieldsOf, countFields}
 use Rattle.layout.specs.code.Stands.{TypeAt, ColumnsAt}
 use Rattle.layout.specs.code.Answers.{spanAt, spanIn}
-use Rattle.layout.specs.Find.{Lookup, present, findFrom, FoundAt, Finds, columnAt as lookupAt}
+use Rattle.layout.specs.Find.{Lookup, present, findFrom, columnAt as lookupAt}
+use Rattle.layout.specs.code.Finding.{FoundAt, Finds}
 use Rattle.layout.specs.declared.columns.Position.{Position}
 use Rattle.layout.specs.declared.columns.Label.{Label as LabelSpan}
 use Rattle.layout.specs.declared.cursor.Cursor.{Cursor}

@@ -14,8 +14,9 @@ use Rattle.layout.specs.Tree.{DataType, leaf, struct, list, array, Fields, fnil
 use Rattle.layout.specs.Layout.{aLeaf, aStruct, aList, anArray}
 use Rattle.layout.specs.declared.edition.Edition.{Edition}
 use Rattle.layout.proofs.Ways.{clash}
-use Rattle.forms.specs.Form.{u16Bytes, u32Bytes, textBytes, kindForm, form, formFields, headOf}
-use Rattle.forms.specs.Readable.{depthOf, depthOfFields}
+use Rattle.forms.specs.Form.{u16Bytes, u32Bytes, textBytes, kindForm, form, formFields}
+use Rattle.forms.specs.code.Heads.{headOf}
+use Rattle.forms.specs.Depth.{depthOf, depthOfFields}
 use Rattle.plan.specs.Result.{gives}
 use Rattle.plan.specs.Check.{Column, column, columnAt}
 use Rattle.plan.proofs.Results.{never-refused, gives-eq}

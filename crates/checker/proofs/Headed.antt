@@ -16,7 +16,7 @@ use Rattle.layout.specs.declared.types.LeafType.{LeafType as LeafSpan}
 use Rattle.layout.specs.declared.edition.Edition.{Edition}
 use Rattle.layout.proofs.Ways.{clash}
 use Rattle.layout.proofs.View.{never-headless}
-use Rattle.forms.specs.Form.{headOf}
+use Rattle.forms.specs.code.Heads.{headOf}
 use Rattle.forms.specs.code.Answers.{endOf}
 use Rattle.forms.proofs.Heads.{head-at}
 use Rattle.plan.specs.Selector.{Selector}

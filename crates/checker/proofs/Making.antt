@@ -6,7 +6,7 @@ use native.Mathlib.Omega.{arith}
 use Rattle.layout.specs.Tree.{DataType, struct, array, Fields, countFields}
 use Rattle.layout.specs.Layout.{aStruct, aList}
 use Rattle.layout.proofs.Ways.{clash}
-use Rattle.forms.specs.Form.{headOf}
+use Rattle.forms.specs.code.Heads.{headOf}
 use Rattle.plan.specs.Result.{gives}
 use Rattle.plan.specs.Selector.{Selector, position, constant, cast, rename, structMapping, listMapping, arrayMapping, Selectors, snil, scons, countSelectors}
 use Rattle.plan.specs.Check.{Column, column, columnAt, elementOf, typeOf}

@@ -9,7 +9,8 @@ use Rattle.layout.specs.Tree.{DataType, leaf, struct, list, array, Fields, fiel
 use Rattle.layout.specs.Layout.{kind, aLeaf, aList, anArray}
 use Rattle.layout.specs.code.Answers.{headRes, spanAt, spanIn}
 use Rattle.layout.specs.code.Stands.{ColumnsAt}
-use Rattle.layout.specs.Find.{Finds, columnAt as lookupAt}
+use Rattle.layout.specs.code.Finding.{Finds}
+use Rattle.layout.specs.Find.{columnAt as lookupAt}
 use Rattle.layout.specs.declared.bytes.Span.{Span}
 use Rattle.layout.specs.declared.columns.Position.{Position}
 use Rattle.layout.specs.declared.columns.Label.{Label as LabelSpan}
@@ -20,7 +21,7 @@ use Rattle.layout.specs.declared.types.LeafType.{LeafType as LeafSpan}
 use Rattle.layout.specs.declared.edition.Edition.{Edition}
 use Rattle.layout.proofs.Ways.{clash}
 use Rattle.layout.proofs.View.{struct-at}
-use Rattle.forms.specs.Form.{headOf}
+use Rattle.forms.specs.code.Heads.{headOf}
 use Rattle.plan.specs.Result.{gives}
 use Rattle.plan.specs.Selector.{Selector, structMapping, Selectors}
 use Rattle.plan.specs.Check.{Column, column, columnAt, typeOf}

@@ -15,8 +15,9 @@ use Rattle.layout.specs.declared.edition.Edition.the-variants.{One}
 use Rattle.nodes.specs.code.Typed.{TypeIs}
 use Rattle.plan.proofs.Results.{gives-eq}
 use lib.ListN.{length}
-use Rattle.forms.specs.Form.{form, headOf}
-use Rattle.forms.specs.Readable.{depthOf}
+use Rattle.forms.specs.Form.{form}
+use Rattle.forms.specs.code.Heads.{headOf}
+use Rattle.forms.specs.Depth.{depthOf}
 use Rattle.plan.specs.Result.{Result, gives, refuses, _>>=_}
 use Rattle.rules.specs.declared.outcome.CastOption.{CastOption}
 use Rattle.plan.specs.Selector.{Selector, position, constant, cast, rename, structMapping, listMapping, arrayMapping, Selectors, snil, scons, countSelectors}

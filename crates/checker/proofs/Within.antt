@@ -16,7 +16,7 @@ use Rattle.layout.specs.code.Stands.{ColumnsAt}
 use Rattle.layout.specs.declared.columns.Siblings.the-variants.{Free}
 use Rattle.layout.specs.declared.edition.Edition.{Edition}
 use Rattle.forms.specs.Form.{textBytes, kindForm, form, formFields}
-use Rattle.forms.specs.Readable.{depthOf, depthOfFields}
+use Rattle.forms.specs.Depth.{depthOf, depthOfFields}
 use Rattle.forms.proofs.Read.{ColumnsRead, cr-none, cr-column, type→, columns→}
 use Rattle.forms.proofs.ReadBack.{type-extent}
 use Rattle.plan.specs.Result.{gives}

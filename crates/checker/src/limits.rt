@@ -6,7 +6,7 @@ ghost use Prim.Native.Nat.{ℕ, _+_, _^_, _<_, max};
 ghost use lib.ListN.{length};
 ghost use Rattle.layout.specs.Tree.{DataType, struct, Fields, countFields};
 ghost use Rattle.forms.specs.Form.{form};
-ghost use Rattle.forms.specs.Readable.{depthOf};
+ghost use Rattle.forms.specs.Depth.{depthOf};
 ghost use Rattle.plan.specs.Check.{Column};
 ghost use Rattle.nodes.specs.code.Typed.{TypeIs};
 ghost use Rattle.checker.specs.declared.limits.Fit.{Fit as FitOf};

@@ -7,7 +7,7 @@ ghost use Rattle.layout.specs.Bytes.{Bytes, sameBytes};
 ghost use Rattle.layout.specs.Tree.{DataType, struct, Fields, countFields, dtypeOf, fieldsOf};
 ghost use Rattle.layout.specs.code.Stands.{TypeAt, ColumnsAt};
 ghost use Rattle.layout.specs.declared.edition.Edition.{Edition as EditionOf};
-ghost use Rattle.forms.specs.Form.{headOf};
+ghost use Rattle.forms.specs.code.Heads.{headOf};
 ghost use Rattle.forms.specs.code.Compare.{sameDtype, sameFields};
 ghost use Rattle.forms.specs.code.Labelled.{ElementAt, ColumnAt};
 ghost use Rattle.plan.specs.Check.{Column};

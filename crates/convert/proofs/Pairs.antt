@@ -6,7 +6,8 @@ use lib.ListN.{length, set}
 use Rattle.layout.specs.Bytes.{Bytes}
 use Rattle.layout.specs.declared.leaf.Leaf.{Leaf}
 use Rattle.layout.specs.declared.leaf.TimeUnit.{TimeUnit}
-use Rattle.store.specs.Overlay.{overlay, littleBytes}
+use Rattle.store.specs.code.Overlay.{overlay}
+use Rattle.store.specs.LittleEndian.{littleBytes}
 use Rattle.store.proofs.Overlay.{length-little}
 use Rattle.numeric.specs.declared.integers.Integer.{Integer}
 use Rattle.numeric.specs.declared.floats.Format.{Format}

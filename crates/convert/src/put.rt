@@ -2,7 +2,7 @@
 ghost use mathlib.Core.Path.{_≡_};
 ghost use Prim.Native.Nat.{_+_, _^_, _≤_, _<_};
 ghost use lib.ListN.{length};
-ghost use Rattle.store.specs.Overlay.{overlay};
+ghost use Rattle.store.specs.code.Overlay.{overlay};
 ghost use Rattle.values.specs.Value.{vnumber};
 ghost use Rattle.values.specs.Content.{widthOf};
 ghost use Rattle.values.specs.Encode.{encodeValue};

@@ -17,7 +17,7 @@ use Rattle.layout.specs.declared.types.Head.{Head as HeadSpan}
 use Rattle.layout.specs.declared.types.LeafType.{LeafType as LeafSpan}
 use Rattle.layout.specs.declared.edition.Edition.{Edition}
 use Rattle.layout.proofs.Ways.{clash}
-use Rattle.forms.specs.Form.{headOf}
+use Rattle.forms.specs.code.Heads.{headOf}
 use Rattle.forms.specs.code.Answers.{endOf}
 use Rattle.forms.proofs.Read.{ok-eq}
 use Rattle.forms.proofs.Heads.{head-at}

@@ -9,7 +9,8 @@ use Rattle.layout.specs.Bytes.{Bytes}
 use Rattle.layout.specs.Parser.{choose}
 use Rattle.layout.specs.Tree.{Label, ColumnType, Columns, cnil, ccons, Fields, dtypeOf, fieldsOf}
 use Rattle.layout.specs.code.Stands.{TypeAt}
-use Rattle.layout.specs.Find.{Lookup, absent, present, findFrom, Finds, columnAt as lookupAt}
+use Rattle.layout.specs.Find.{Lookup, absent, present, findFrom, columnAt as lookupAt}
+use Rattle.layout.specs.code.Finding.{Finds}
 use Rattle.layout.specs.declared.bytes.Span.{Span}
 use Rattle.layout.specs.declared.columns.Position.{Position}
 use Rattle.layout.specs.declared.cursor.Cursor.{Cursor}

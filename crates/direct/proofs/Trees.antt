@@ -10,7 +10,7 @@ use Rattle.layout.specs.Tree.{DataType, struct, list, array, Fields, fcons, dty
 use Rattle.layout.specs.code.Stands.{TypeAt}
 use Rattle.layout.specs.declared.edition.Edition.{Edition}
 use Rattle.forms.specs.Form.{form}
-use Rattle.forms.specs.Readable.{depthOf}
+use Rattle.forms.specs.Depth.{depthOf}
 use Rattle.forms.proofs.Equal.{equal-fields-refl}
 use Rattle.forms.proofs.Writing.{extent}
 use Rattle.nodes.proofs.Sizes.{depth-within}

@@ -28,7 +28,8 @@ use Rattle.layout.specs.declared.columns.Siblings.the-variants.{Free}
 use Rattle.layout.specs.declared.edition.Edition.{Edition}
 use Rattle.layout.proofs.Ways.{clash}
 use Rattle.layout.proofs.View.{next-ok, deep, label-got, label-none, same-columns, columns-any, no-column}
-use Rattle.forms.specs.Form.{kindForm, headOf}
+use Rattle.forms.specs.Form.{kindForm}
+use Rattle.forms.specs.code.Heads.{headOf}
 use Rattle.forms.specs.code.Compare.{sameLeaf, sameDtype, sameFields}
 use Rattle.forms.specs.code.Answers.{sameOf}
 use Rattle.forms.specs.code.Labelled.{LabelledAt, ElementAt, ColumnAt}

@@ -18,7 +18,8 @@ use Rattle.layout.specs.declared.types.PlainLeaf.the-variants.{Known}
 use Rattle.layout.proofs.Ways.{clash}
 use Rattle.layout.proofs.OfBytes.{same-bytes-refl, both, same-bytes-eq}
 use Rattle.layout.specs.Layout.{unitCode}
-use Rattle.forms.specs.Form.{u16Bytes, u32Bytes, textBytes, leafForm, kindForm, form, formFields, headOf, restForm}
+use Rattle.forms.specs.Form.{u16Bytes, u32Bytes, textBytes, leafForm, kindForm, form, formFields}
+use Rattle.forms.specs.code.Heads.{headOf, restForm}
 use Rattle.forms.specs.Same.{equalTypes, equalFields}
 use Rattle.forms.specs.code.Compare.{sameLeaf, sameDtype, sameFields}
 use Rattle.forms.proofs.Leaves.{LeafCase, plain, timed, scaled, leafCase}

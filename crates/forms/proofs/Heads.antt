@@ -18,7 +18,8 @@ use Rattle.layout.specs.declared.columns.Siblings.{Siblings}
 use Rattle.layout.specs.declared.columns.Siblings.the-variants.{Free}
 use Rattle.layout.proofs.Top.{columns-count}
 use Rattle.layout.proofs.View.{next-ok, deep}
-use Rattle.forms.specs.Form.{u16Bytes, u32Bytes, leafForm, kindForm, form, headOf, restForm}
+use Rattle.forms.specs.Form.{u16Bytes, u32Bytes, leafForm, kindForm, form}
+use Rattle.forms.specs.code.Heads.{headOf, restForm}
 use Rattle.forms.specs.code.Answers.{endOf}
 use Rattle.forms.proofs.Equal.{form-kind}
 use Rattle.forms.proofs.Read.{ok-eq, kind→, kind-ends, type→}

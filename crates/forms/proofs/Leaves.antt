@@ -5,7 +5,7 @@ use mathlib.Core.Path.{_≡_, refl, sym, ap, _∙_}
 use mathlib.Core.List.{List, [], _∷_}
 use native.Mathlib.Omega.{arith}
 use lib.ListN.{getD, length}
-use Rattle.store.specs.Overlay.{littleBytes}
+use Rattle.store.specs.LittleEndian.{littleBytes}
 use Rattle.layout.specs.Bytes.{Bytes}
 use Rattle.layout.specs.Tree.{LeafType, leafType, null, boolean, integer, float, date, datetime, string, binary, categorical, decimal}
 use Rattle.layout.specs.Layout.{plainLeaf, plainLeaves, integerCode, floatCode, unitCode}
@@ -16,7 +16,7 @@ use Rattle.layout.specs.declared.types.PlainLeaf.{PlainLeaf}
 use Rattle.layout.specs.declared.types.PlainLeaf.the-variants.{Known, Unknown}
 use Rattle.layout.proofs.Leaves.{integer-coded, float-coded}
 use Rattle.layout.proofs.Ways.{clash}
-use Rattle.forms.specs.Readable.{ReadableLeaf}
+use Rattle.forms.specs.code.Readable.{ReadableLeaf}
 use Rattle.forms.specs.Form.{u16Bytes, u32Bytes, textBytes, carried, leafForm}
 
 -- ---- numbers that fit their field

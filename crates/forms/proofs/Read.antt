@@ -26,7 +26,7 @@ use Rattle.layout.proofs.Ways.{clash}
 use Rattle.layout.proofs.View.{next-ok}
 use Rattle.layout.specs.Layout.{unitCode}
 use Rattle.forms.specs.Form.{u16Bytes, u32Bytes, textBytes, carried, leafForm, kindForm}
-use Rattle.forms.specs.Readable.{ShortText, ReadableLeaf}
+use Rattle.forms.specs.code.Readable.{ShortText, ReadableLeaf}
 use Rattle.forms.proofs.Leaves.{plain-form}
 use Rattle.forms.proofs.Slices.{Stands, stands-eq, stands-none, stands-one, stands-append, stands-length}
 use Rattle.layout.proofs.OfBytes.{bytes-part}

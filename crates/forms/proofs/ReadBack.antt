@@ -12,7 +12,8 @@ use Rattle.layout.specs.Layout.{Head, aLeaf, aStruct, aList, anArray}
 use Rattle.layout.specs.declared.edition.Edition.{Edition}
 use Rattle.layout.specs.declared.edition.Edition.the-variants.{One}
 use Rattle.forms.specs.Form.{textBytes, leafForm, kindForm, form, formFields}
-use Rattle.forms.specs.Readable.{Readable, ReadableFields, depthOf, depthOfFields}
+use Rattle.forms.specs.code.Readable.{Readable, ReadableFields}
+use Rattle.forms.specs.Depth.{depthOf, depthOfFields}
 use Rattle.forms.proofs.Slices.{Stands, stands-eq, stands-none, stands-append, stands-length}
 use Rattle.forms.proofs.Read.{KindRead, kind-ends, kind-stands, label-ends, element-ends, label-stands, element-stands, TypeRead, tr-leaf, tr-struct}
 use Rattle.forms.proofs.Read.{tr-list, tr-array, ColumnsRead, cr-none, cr-column}

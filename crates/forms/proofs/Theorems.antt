@@ -19,7 +19,8 @@ use Rattle.layout.specs.declared.columns.Siblings.the-variants.{Free}
 use Rattle.forms.specs.Form.{form, formFields}
 use Rattle.forms.specs.Same.{equalTypes, equalFields}
 use Rattle.forms.specs.code.Compare.{sameDtype}
-use Rattle.forms.specs.Readable.{Readable, depthOf, labelled}
+use Rattle.forms.specs.code.Readable.{Readable, labelled}
+use Rattle.forms.specs.Depth.{depthOf}
 use Rattle.forms.proofs.Equal.{form-eq, equal-types-refl, equal-types-eq, equal-fields-refl, equal-fields-eq, same-is-equal}
 use Rattle.layout.proofs.OfBytes.{same-bytes-refl, same-bytes-eq}
 use Rattle.store.proofs.Overlay.{slice-take}

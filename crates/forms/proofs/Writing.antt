@@ -5,7 +5,7 @@ use mathlib.Core.List.{List, [], _∷_, _++_}
 use native.Mathlib.Omega.{arith}
 use lib.ListN.{length, drop, set, length-drop, length-append}
 use lib.Seq.{slice, length-take-le}
-use Rattle.store.specs.Overlay.{overlay}
+use Rattle.store.specs.code.Overlay.{overlay}
 use Rattle.store.proofs.Overlay.{overlay-append}
 use Rattle.layout.specs.Bytes.{Bytes, AllBytes}
 use Rattle.layout.specs.Parser.{Res, ok}
@@ -24,7 +24,8 @@ use Rattle.layout.specs.declared.columns.Siblings.the-variants.{Free}
 use Rattle.layout.proofs.Ways.{label-in}
 use Rattle.layout.proofs.View.{label-got, leaf-at, StructAt, struct-at, ListAt, list-at, ArrayAt, array-at, same-type, same-columns, no-column, FirstAt}
 use Rattle.layout.proofs.View.{first-at, first-labelled}
-use Rattle.forms.specs.Form.{textBytes, kindForm, form, formFields, headOf, restForm}
+use Rattle.forms.specs.Form.{textBytes, kindForm, form, formFields}
+use Rattle.forms.specs.code.Heads.{headOf, restForm}
 use Rattle.forms.specs.code.Answers.{endOf}
 use Rattle.forms.proofs.Equal.{form-kind}
 use Rattle.store.proofs.Overlay.{slice-take}

@@ -23,7 +23,8 @@ use Rattle.layout.specs.declared.columns.Siblings.the-variants.{Free}
 use Rattle.layout.proofs.FreeRule.{repeats-free}
 use Rattle.layout.specs.Layout.{unitCode}
 use Rattle.forms.specs.Form.{u16Bytes, u32Bytes, textBytes, carried, leafForm, kindForm, form, formFields}
-use Rattle.forms.specs.Readable.{ReadableLeaf, Readable, ReadableFields, depthOf, depthOfFields, labelled, labelledFields, named}
+use Rattle.forms.specs.code.Readable.{ReadableLeaf, Readable, ReadableFields, labelled, labelledFields, named}
+use Rattle.forms.specs.Depth.{depthOf, depthOfFields}
 use Rattle.forms.proofs.Leaves.{LeafCase, plain, timed, scaled, leafCase}
 
 -- what stands behind a part

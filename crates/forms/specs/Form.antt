@@ -53,16 +53,3 @@ unfoldable mutual
   pub formFields : Fields → Bytes
   formFields fnil = []
   formFields (fcons n t fs) = textBytes n ++ (form t ++ formFields fs)
-
--- what a type begins with, and the form of what follows: a struct's columns or an element
-unfoldable pub headOf : DataType → Head
-headOf (leaf l) = aLeaf l
-headOf (struct fs) = aStruct (countFields fs)
-headOf (list t) = aList
-headOf (array w t) = anArray w
-
-unfoldable pub restForm : DataType → Bytes
-restForm (leaf l) = []
-restForm (struct fs) = formFields fs
-restForm (list t) = form t
-restForm (array w t) = form t

@@ -1,4 +1,4 @@
 pub mod Form
 pub mod Same
-pub mod Readable
+pub mod Depth
 pub mod code

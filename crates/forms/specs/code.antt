@@ -1,3 +1,5 @@
 pub mod Compare
 pub mod Answers
 pub mod Labelled
+pub mod Heads
+pub mod Readable

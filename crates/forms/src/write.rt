@@ -2,12 +2,13 @@
 ghost use mathlib.Core.Path.{_≡_};
 ghost use Prim.Native.Nat.{_+_, _*_, _^_, _≤_, _<_};
 ghost use lib.ListN.{length};
-ghost use Rattle.store.specs.Overlay.{overlay};
+ghost use Rattle.store.specs.code.Overlay.{overlay};
 ghost use Rattle.layout.specs.Tree.{dtypeOf, fieldsOf};
 ghost use Rattle.layout.specs.Layout.{kind};
 ghost use Rattle.layout.specs.code.Answers.{spanAt, spanIn};
 ghost use Rattle.layout.specs.code.Stands.{TypeAt, ColumnsAt};
-ghost use Rattle.forms.specs.Form.{textBytes, form, formFields, restForm};
+ghost use Rattle.forms.specs.Form.{textBytes, form, formFields};
+ghost use Rattle.forms.specs.code.Heads.{restForm};
 ghost use Rattle.forms.specs.code.Answers.{endOf};
 use crate::head::head_end;
 use layout::bytes::Span;

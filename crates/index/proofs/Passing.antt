@@ -14,7 +14,8 @@ use Rattle.layout.specs.Tree.{Columns, cnil, ccons}
 use Rattle.layout.specs.Layout.{label, columns as columnsOf, type, deepest}
 use Rattle.layout.specs.code.Answers.{labelRes, labelIn, movedOf}
 use Rattle.layout.specs.code.Stands.{ColumnsAt}
-use Rattle.layout.specs.Find.{Lookup, columnAt, Finds}
+use Rattle.layout.specs.Find.{Lookup, columnAt}
+use Rattle.layout.specs.code.Finding.{Finds}
 use Rattle.layout.specs.declared.columns.Position.{Position}
 use Rattle.layout.specs.declared.columns.Label.{Label as LabelSpan}
 use Rattle.layout.specs.declared.columns.Labelled.{Labelled}

@@ -2,7 +2,8 @@
 ghost use mathlib.Core.Path.{_≡_};
 ghost use Prim.Native.Nat.{ℕ, _≤_, _<_};
 ghost use lib.ListN.{length, take};
-ghost use Rattle.layout.specs.Find.{columnAt, Finds};
+ghost use Rattle.layout.specs.Find.{columnAt};
+ghost use Rattle.layout.specs.code.Finding.{Finds};
 ghost use Rattle.layout.specs.code.Stands.{ColumnsAt};
 ghost use Rattle.layout.specs.Bytes.{Bytes};
 ghost use Rattle.layout.specs.declared.edition.Edition.{Edition as EditionOf};

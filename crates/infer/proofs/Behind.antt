@@ -7,13 +7,14 @@ use native.Mathlib.Omega.{arith}
 use lib.Dec.{leb}
 use lib.ListN.{length, length-append}
 use borrow.Author.Tests.{leb-true, le-leb}
-use Rattle.store.specs.Overlay.{overlay}
+use Rattle.store.specs.code.Overlay.{overlay}
 use Rattle.store.proofs.Overlay.{overlay-append, length-overlay}
 use Rattle.layout.specs.Bytes.{Bytes}
 use Rattle.layout.specs.Tree.{DataType, struct, list, array, Fields, fnil, fcons, countFields}
 use Rattle.layout.specs.Layout.{aStruct, aList, anArray}
 use Rattle.forms.specs.Form.{u16Bytes, u32Bytes, textBytes, kindForm, form, formFields}
-use Rattle.forms.specs.Readable.{ShortText, depthOf, depthOfFields}
+use Rattle.forms.specs.code.Readable.{ShortText}
+use Rattle.forms.specs.Depth.{depthOf, depthOfFields}
 use Rattle.plan.specs.Check.{withinLimits}
 use Rattle.plan.proofs.Results.{and-true}
 use Rattle.infer.specs.code.Writing.{Writes, Fills, WritesFields, lengthOf, behindOf}

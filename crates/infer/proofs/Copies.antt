@@ -6,7 +6,8 @@ use native.Mathlib.Omega.{arith}
 use lib.ListN.{length, set}
 use lib.Seq.{slice, length-slice}
 use borrow.Author.Tests.{le-leb, lt-leb}
-use Rattle.store.specs.Overlay.{overlay, littleBytes}
+use Rattle.store.specs.code.Overlay.{overlay}
+use Rattle.store.specs.LittleEndian.{littleBytes}
 use Rattle.store.proofs.Overlay.{length-little}
 use Rattle.layout.specs.Bytes.{Bytes, AllBytes}
 use Rattle.layout.specs.Tree.{dtypeOf}

@@ -6,14 +6,14 @@ use native.Mathlib.Numerals.{add-one}
 use native.Mathlib.Omega.{arith}
 use lib.ListN.{length, take, drop, set}
 use lib.Seq.{sets, sets-eq, drop-at, length-take-le}
-use Rattle.store.specs.Overlay.{overlay}
+use Rattle.store.specs.code.Overlay.{overlay}
 use Rattle.store.proofs.Overlay.{length-overlay}
 use Rattle.layout.specs.Bytes.{Bytes}
 use Rattle.layout.specs.Tree.{DataType, dtypeOf}
 use Rattle.layout.specs.code.Stands.{TypeAt}
 use Rattle.layout.specs.declared.edition.Edition.the-variants.{One}
 use Rattle.forms.specs.Form.{form}
-use Rattle.forms.specs.Readable.{labelled}
+use Rattle.forms.specs.code.Readable.{labelled}
 use Rattle.forms.proofs.Written.{type-at, dtype-labelled}
 use Rattle.infer.specs.code.Writing.{Writes}
 

@@ -5,14 +5,14 @@ use mathlib.Core.List.{List}
 use native.Mathlib.Omega.{arith}
 use native.Mathlib.Nat.{add-zero}
 use lib.ListN.{length}
-use Rattle.store.specs.Overlay.{overlay}
+use Rattle.store.specs.code.Overlay.{overlay}
 use Rattle.store.proofs.Overlay.{length-overlay}
 use Rattle.layout.specs.Bytes.{Bytes}
 use Rattle.layout.specs.Tree.{Fields, fnil, fcons, countFields}
 use Rattle.layout.specs.declared.cursor.Cursor.{Cursor}
 use Rattle.layout.specs.declared.edition.Edition.{Edition}
 use Rattle.forms.specs.Form.{formFields}
-use Rattle.forms.specs.Readable.{depthOfFields}
+use Rattle.forms.specs.Depth.{depthOfFields}
 use Rattle.forms.proofs.Read.{ok-eq}
 use Rattle.plan.specs.Result.{Result, gives}
 use Rattle.plan.specs.Selector.{Selector, Selectors, snil, scons}

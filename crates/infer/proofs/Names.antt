@@ -4,7 +4,7 @@ use mathlib.Core.Path.{_≡_, refl, sym, ap, _∙_, subst}
 use mathlib.Core.List.{List, []}
 use native.Mathlib.Omega.{arith}
 use lib.ListN.{length}
-use Rattle.store.specs.Overlay.{overlay}
+use Rattle.store.specs.code.Overlay.{overlay}
 use Rattle.layout.specs.Bytes.{Bytes, AllBytes}
 use Rattle.layout.specs.Tree.{DataType, Fields, fnil, fcons}
 use Rattle.layout.specs.code.Answers.{spanAt, spanIn}
@@ -14,7 +14,7 @@ use Rattle.layout.specs.declared.columns.Siblings.the-variants.{Free}
 use Rattle.layout.specs.declared.cursor.Cursor.{Cursor}
 use Rattle.layout.specs.declared.edition.Edition.{Edition}
 use Rattle.forms.specs.Form.{textBytes}
-use Rattle.forms.specs.Readable.{ShortText, ReadableFields}
+use Rattle.forms.specs.code.Readable.{ShortText, ReadableFields}
 use Rattle.forms.proofs.Read.{text-stands, type→, columns→}
 use Rattle.forms.proofs.ReadBack.{columns-readable}
 use Rattle.forms.proofs.Theorems.{read-readable}

@@ -15,7 +15,7 @@ use Rattle.layout.specs.declared.cursor.Cursor.{Cursor}
 use Rattle.layout.specs.declared.edition.Edition.{Edition}
 use Rattle.layout.specs.declared.edition.Edition.the-variants.{One}
 use Rattle.forms.specs.Form.{kindForm, textBytes}
-use Rattle.forms.specs.Readable.{Readable}
+use Rattle.forms.specs.code.Readable.{Readable}
 use Rattle.forms.proofs.Theorems.{read-readable}
 use Rattle.rules.specs.declared.outcome.CastOption.{CastOption}
 use Rattle.plan.specs.Result.{Result, gives}

@@ -4,7 +4,7 @@ ghost use Prim.Native.Nat.{_+_, _≤_, _<_};
 ghost use lib.ListN.{length};
 ghost use Rattle.layout.specs.Bytes.{Bytes};
 ghost use Rattle.forms.specs.Form.{textBytes};
-ghost use Rattle.forms.specs.Readable.{ShortText};
+ghost use Rattle.forms.specs.code.Readable.{ShortText};
 ghost use Rattle.plan.specs.Check.{typeOf};
 ghost use Rattle.walk.specs.code.Stands.{SelectorAt};
 ghost use Rattle.direct.specs.code.Places.{NameAt};

@@ -9,7 +9,8 @@ use Rattle.layout.specs.Tree.{Label, ColumnType, Columns, cnil, ccons}
 use Rattle.layout.specs.Layout.{sameLabel}
 use Rattle.layout.specs.code.Seen.{labelHash}
 use Rattle.layout.specs.declared.columns.Siblings.{Siblings}
-use Rattle.layout.specs.Find.{Lookup, absent, present, findFrom, matchRule}
+use Rattle.layout.specs.Find.{Lookup, absent, present, findFrom}
+use Rattle.layout.specs.code.Finding.{matchRule}
 use Rattle.layout.specs.declared.columns.Position.{Position}
 use Rattle.layout.specs.declared.matching.Matching.{Matching}
 use Rattle.layout.proofs.Ways.{clash, choose-true, choose-false}

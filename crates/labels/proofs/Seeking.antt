@@ -15,7 +15,8 @@ use Rattle.layout.specs.Layout.{label, type, sameLabel}
 use Rattle.layout.specs.code.Answers.{labelRes, labelAt, labelIn}
 use Rattle.layout.specs.code.Seen.{labelHash}
 use Rattle.layout.specs.code.Stands.{ColumnsAt}
-use Rattle.layout.specs.Find.{Lookup, absent, present, findFrom, counterpart, matchRule, Finds}
+use Rattle.layout.specs.Find.{Lookup, absent, present, findFrom, counterpart}
+use Rattle.layout.specs.code.Finding.{matchRule, Finds}
 use Rattle.layout.specs.declared.columns.Position.{Position}
 use Rattle.layout.specs.declared.columns.Label.{Label as LabelSpan}
 use Rattle.layout.specs.declared.columns.Labelled.{Labelled}

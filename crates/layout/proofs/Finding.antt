@@ -14,7 +14,8 @@ use Rattle.layout.specs.Tree.{Label, ColumnType, Columns, cnil, ccons}
 use Rattle.layout.specs.Layout.{label, sameLabel, columns, type}
 use Rattle.layout.specs.code.Answers.{labelRes, labelAt, labelIn, spanAt, movedOf}
 use Rattle.layout.specs.code.Stands.{TypeAt, ColumnsAt}
-use Rattle.layout.specs.Find.{Lookup, absent, present, findFrom, columnNamed, columnOfId, columnAt, counterpart, matchRule, FoundAt, Finds, wantedBy}
+use Rattle.layout.specs.Find.{Lookup, absent, present, findFrom, columnNamed, columnOfId, columnAt, counterpart}
+use Rattle.layout.specs.code.Finding.{matchRule, FoundAt, Finds, wantedBy}
 use Rattle.layout.specs.declared.bytes.Span.{Span}
 use Rattle.layout.specs.declared.columns.Position.{Position}
 use Rattle.layout.specs.declared.columns.Label.{Label as LabelSpan}

@@ -1,7 +1,8 @@
 // Looking a column up among its siblings: its position, its label and where its type stands. Hash lookups become scans.
 ghost use mathlib.Core.Path.{_≡_};
 ghost use Rattle.layout.specs.code.Answers.{labelAt, spanIn};
-ghost use Rattle.layout.specs.Find.{columnNamed, columnOfId, columnAt, counterpart, findFrom, wantedBy, Finds};
+ghost use Rattle.layout.specs.Find.{columnNamed, columnOfId, columnAt, counterpart, findFrom};
+ghost use Rattle.layout.specs.code.Finding.{wantedBy, Finds};
 ghost use Rattle.layout.specs.code.Stands.{ColumnsAt};
 use crate::bytes::same_bytes;
 use crate::columns::FieldId;

@@ -1,6 +1,6 @@
 // How a build matches columns: by name, or by field number.
 ghost use mathlib.Core.Path.{_≡_};
-ghost use Rattle.layout.specs.Find.{matchRule};
+ghost use Rattle.layout.specs.code.Finding.{matchRule};
 use crate::columns::Siblings;
 
 pub enum Matching {

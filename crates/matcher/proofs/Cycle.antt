@@ -6,7 +6,7 @@ use mathlib.Core.List.{[], _∷_}
 use native.Mathlib.Omega.{arith}
 use lib.ListN.{length, set}
 use lib.Dec.{eqb}
-use Rattle.store.specs.Overlay.{overlay, Agree}
+use Rattle.store.specs.code.Overlay.{overlay, Agree}
 use Rattle.store.proofs.Holds.{holds-exact, holds-before, agree-less}
 use Rattle.layout.specs.Bytes.{Bytes}
 use Rattle.layout.specs.Parser.{choose}

@@ -21,7 +21,8 @@ use Rattle.layout.proofs.Ways.{clash}
 use Rattle.layout.proofs.View.{next-ok}
 use Rattle.layout.proofs.Whole.{layout-at, layout-small}
 use Rattle.forms.specs.Form.{textBytes, kindForm, form, formFields}
-use Rattle.forms.specs.Readable.{ShortText, ReadableFields, depthOf, depthOfFields}
+use Rattle.forms.specs.code.Readable.{ShortText, ReadableFields}
+use Rattle.forms.specs.Depth.{depthOf, depthOfFields}
 use Rattle.forms.proofs.Read.{u16-ends, label-ends, TypeRead, tr-leaf, tr-struct, tr-list, tr-array, ColumnsRead, cr-none, cr-column, type→, columns→}
 use Rattle.forms.proofs.ReadBack.{columns-extent, columns-readable}
 use Rattle.plan.specs.Check.{withinLimits, longestType}

@@ -7,7 +7,8 @@ use Rattle.layout.specs.Bytes.{Bytes, sameBytes}
 use Rattle.layout.specs.Parser.{choose}
 use Rattle.layout.specs.Tree.{Label, ColumnType, Columns, cnil, ccons, DataType, Fields, fnil, fcons, dtypeOf, fieldsOf}
 use Rattle.layout.specs.Layout.{sameLabel}
-use Rattle.layout.specs.Find.{Lookup, absent, present, findFrom, columnNamed, counterpart, matchRule}
+use Rattle.layout.specs.Find.{Lookup, absent, present, findFrom, columnNamed, counterpart}
+use Rattle.layout.specs.code.Finding.{matchRule}
 use Rattle.layout.specs.declared.columns.Position.{Position}
 use Rattle.layout.specs.declared.matching.Matching.{Matching}
 use Rattle.layout.proofs.OfBytes.{same-bytes-refl, same-bytes-eq}

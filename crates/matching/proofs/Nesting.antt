@@ -10,7 +10,8 @@ use Rattle.layout.specs.Layout.{deepest}
 use Rattle.layout.specs.declared.columns.Position.{Position}
 use Rattle.layout.specs.declared.matching.Matching.{Matching}
 use Rattle.layout.specs.declared.matching.Matching.the-variants.{ByName, ByNumber}
-use Rattle.forms.specs.Readable.{ShortText, Readable, ReadableFields, depthOf, depthOfFields}
+use Rattle.forms.specs.code.Readable.{ShortText, Readable, ReadableFields}
+use Rattle.forms.specs.Depth.{depthOf, depthOfFields}
 use Rattle.plan.specs.Selector.{Selector, position, rename, structMapping, listMapping, arrayMapping, Selectors, countSelectors, nesting, nestingAll}
 use Rattle.plan.specs.code.Formed.{FormedType, Formed, f-position, f-constant, f-cast, f-rename, f-struct, f-list, f-array, FormedAll, f-nil, f-cons}
 use Rattle.plan.proofs.Typed.{At, here, there}

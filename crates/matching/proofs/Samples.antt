@@ -20,7 +20,7 @@ use Rattle.rules.specs.Zones.{zonesOf, readZone, isUtc}
 use Rattle.rules.specs.Params.{paramsOf}
 use Rattle.rules.specs.Chain.{chain}
 use Rattle.rules.specs.Pairs.{pairRule}
-use Rattle.store.specs.Overlay.{littleBytes}
+use Rattle.store.specs.LittleEndian.{littleBytes}
 use Rattle.values.specs.Value.{vnull, vnumber, vnil, vcons}
 use Rattle.values.specs.Encode.{encodeValue, encodeValues}
 use Rattle.values.specs.Reading.{presence, nullable, flag, little, longText, contentBy, leafContent, times, content, value}

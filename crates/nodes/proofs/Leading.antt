@@ -14,7 +14,8 @@ use Rattle.layout.specs.Tree.{Label, DataType, leaf, struct, list, array, Field
 use Rattle.layout.specs.Layout.{kind, elementLabel, type as typeOf, deepest}
 use Rattle.layout.specs.code.Answers.{headRes, labelRes}
 use Rattle.layout.specs.code.Stands.{TypeAt, ColumnsAt}
-use Rattle.layout.specs.Find.{Lookup, present, findFrom, columnAt as lookupAt, FoundAt, Finds}
+use Rattle.layout.specs.Find.{Lookup, present, findFrom, columnAt as lookupAt}
+use Rattle.layout.specs.code.Finding.{FoundAt, Finds}
 use Rattle.layout.specs.declared.columns.Position.{Position}
 use Rattle.layout.specs.declared.columns.Siblings.the-variants.{Free}
 use Rattle.layout.specs.declared.columns.Label.{Label as LabelSpan}

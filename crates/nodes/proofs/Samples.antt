@@ -15,7 +15,7 @@ use Rattle.layout.specs.declared.columns.Siblings.the-variants.{Free}
 use Rattle.values.specs.Value.{Value, vnull, vnumber, vstruct, vlist, vnil, vcons, countValues}
 use Rattle.values.specs.Reading.{presence, nullable, little, contentBy, leafContent, times, listContent, structContent, content, value}
 use Rattle.forms.specs.Form.{u16Bytes, textBytes, carried, leafForm, kindForm, form}
-use Rattle.forms.specs.Readable.{depthOf}
+use Rattle.forms.specs.Depth.{depthOf}
 use Rattle.plan.specs.Check.{columnAt}
 use Rattle.plan.specs.Run.{valueAt}
 use Rattle.walk.specs.code.Types.{a-here, a-field, a-list}

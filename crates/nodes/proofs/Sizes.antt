@@ -18,8 +18,9 @@ use Rattle.layout.specs.declared.columns.Siblings.the-variants.{Free}
 use Rattle.layout.specs.declared.edition.Edition.{Edition}
 use Rattle.layout.proofs.Ways.{label-in}
 use Rattle.layout.proofs.View.{label-got, leaf-at, struct-at, list-at, array-at, same-columns, no-column, FirstAt, first-at, first-labelled}
-use Rattle.forms.specs.Form.{textBytes, formFields, restForm}
-use Rattle.forms.specs.Readable.{depthOf, depthOfFields}
+use Rattle.forms.specs.Form.{textBytes, formFields}
+use Rattle.forms.specs.code.Heads.{restForm}
+use Rattle.forms.specs.Depth.{depthOf, depthOfFields}
 use Rattle.forms.proofs.Read.{label-ends, type→}
 use Rattle.forms.proofs.ReadBack.{type-extent}
 use Rattle.forms.proofs.Heads.{HeadAt, head-at, form-long, end-leaf, end-struct, end-list, end-array}

@@ -13,7 +13,8 @@ use Rattle.layout.specs.Parser.{ok, next, choose}
 use Rattle.layout.specs.Tree.{leafOf, Label, ColumnType, cleaf, cstruct, clist, carray, Columns, cnil, ccons}
 use Rattle.layout.specs.Layout.{Head, kind, body, listType, arrayType, elementLabel, type}
 use Rattle.layout.specs.code.Answers.{headRes, leafAt, labelRes, labelAt}
-use Rattle.layout.specs.Find.{Lookup, absent, present, findFrom, columnAt, FoundAt, Finds}
+use Rattle.layout.specs.Find.{Lookup, absent, present, findFrom, columnAt}
+use Rattle.layout.specs.code.Finding.{FoundAt, Finds}
 use Rattle.layout.specs.code.Stands.{TypeAt, ColumnsAt}
 use Rattle.layout.specs.declared.cursor.Cursor.{Cursor}
 use Rattle.layout.specs.declared.columns.Position.{Position}

@@ -15,7 +15,8 @@ use lib.Pow.{pow-pos, pow-mono}
 use Rattle.numeric.specs.declared.floats.Format.{Format}
 use Rattle.numeric.specs.declared.floats.Format.the-variants.{Binary16, Binary32, Binary64}
 use Rattle.numeric.specs.Rounding.{hidden, scale, infinity, fields, magnitude, rounded}
-use Rattle.numeric.specs.Floats.{precisionOf, emaxOf, Fitting, signBit, signOf, unsignedOf, nan, fromInteger, finite, converted}
+use Rattle.numeric.specs.Floats.{precisionOf, emaxOf, signBit, signOf, unsignedOf, nan, fromInteger, finite, converted}
+use Rattle.numeric.specs.code.Fitting.{Fitting}
 use Rattle.numeric.proofs.Shifts.{rounded-zero}
 use Rattle.numeric.proofs.TwosComplement.{sign-one}
 

@@ -1,5 +1,5 @@
 -- Conversions to a binary format of IEEE 754, on bit patterns (document 01, "Run": "To float: .."). Definitions only.
-use Prim.Native.Nat.{ℕ, suc, _+_, _-_, _*_, _/_, _%_, _^_, _≤_}
+use Prim.Native.Nat.{ℕ, suc, _+_, _-_, _*_, _/_, _%_, _^_}
 use mathlib.Core.Bool.{cond}
 use lib.Dec.{ltb, eqb}
 use lib.IntN.{ℤ, pos, negsuc}
@@ -30,12 +30,6 @@ widthOf Binary64 = 64
 -- and its bytes
 abbrev pub floatBytes : Format → ℕ
 floatBytes f = widthOf f / 8
-
--- what the code asks of a format: its patterns fit 64 bits
-pub record Fitting (p emax : ℕ) : Type 0 where
-  pub two : 2 ≤ p
-  pub digits : p ≤ 53
-  pub reach : emax ≤ 1023
 
 -- the sign's bit
 abbrev pub signBit : ℕ → ℕ → ℕ

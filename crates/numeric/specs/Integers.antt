@@ -5,8 +5,6 @@ use lib.Dec.{eqb}
 use lib.IntN.{ℤ, pos, negsuc}
 use Rattle.numeric.specs.declared.integers.Integer.{Integer}
 use Rattle.numeric.specs.declared.integers.Integer.the-variants.{Int8, Int16, Int32, Int64, UInt8, UInt16, UInt32, UInt64}
-use Rattle.numeric.specs.declared.integers.Whole.{Whole}
-use Rattle.numeric.specs.declared.integers.Whole.the-variants.{Pos, NegSuc}
 
 abbrev pub bitsOf : Integer → ℕ
 bitsOf Int8 = 8
@@ -60,8 +58,3 @@ pattern w (negsuc n) = 2 ^ w - suc (n % 2 ^ w)
 -- a pattern's number, as a pattern of another kind
 unfoldable pub widened : Integer → Integer → ℕ → ℕ
 widened from to b = pattern (bitsOf to) (numberOf from b)
-
--- what the code's answer stands for
-abbrev pub wholeOf : Whole → ℤ
-wholeOf (Pos n) = pos n
-wholeOf (NegSuc n) = negsuc n

@@ -2,7 +2,8 @@
 ghost use mathlib.Core.Path.{_≡_};
 ghost use Prim.Native.Nat.{_+_, _-_, _*_, _<_};
 ghost use Rattle.numeric.specs.Rounding.{infinity};
-ghost use Rattle.numeric.specs.Floats.{floatBytes, precisionOf, emaxOf, Fitting, signBit, finite, converted, integerToFloat, floatToFloat};
+ghost use Rattle.numeric.specs.Floats.{floatBytes, precisionOf, emaxOf, signBit, finite, converted, integerToFloat, floatToFloat};
+ghost use Rattle.numeric.specs.code.Fitting.{Fitting};
 use crate::integers::Integer;
 use crate::integers::Whole;
 use crate::integers::number;

@@ -1,7 +1,8 @@
 // Integers of 8 to 64 bits, signed or not, as patterns in a u64. The bits above an integer's own are not looked at.
 ghost use mathlib.Core.Path.{_≡_};
 ghost use Prim.Native.Nat.{_-_, _%_, _^_, _≤_, _<_};
-ghost use Rattle.numeric.specs.Integers.{bitsOf, integerBytes, isSigned, signed, numberOf, pattern, widened, wholeOf};
+ghost use Rattle.numeric.specs.Integers.{bitsOf, integerBytes, isSigned, signed, numberOf, pattern, widened};
+ghost use Rattle.numeric.specs.code.Answers.{wholeOf};
 use crate::round::power;
 
 pub enum Integer {

@@ -10,7 +10,7 @@ use lib.Seq.{take-all}
 use Rattle.layout.specs.Bytes.{Bytes}
 use Rattle.layout.specs.declared.leaf.Leaf.{Leaf}
 use Rattle.layout.specs.declared.leaf.Leaf.the-variants.{Null}
-use Rattle.store.specs.Overlay.{overlay}
+use Rattle.store.specs.code.Overlay.{overlay}
 use Rattle.values.specs.Value.{Value, vnumber, voverflow}
 use Rattle.values.specs.Encode.{encodeValue}
 use Rattle.plan.specs.Convert.{convert}

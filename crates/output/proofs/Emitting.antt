@@ -14,7 +14,7 @@ use Rattle.layout.specs.Tree.{leaf, struct, list, array}
 use Rattle.layout.specs.declared.leaf.Leaf.{Leaf}
 use Rattle.layout.specs.declared.edition.Edition.{Edition}
 use Rattle.layout.proofs.Ways.{clash}
-use Rattle.store.specs.Overlay.{overlay}
+use Rattle.store.specs.code.Overlay.{overlay}
 use Rattle.values.specs.Value.{Value, vnull, vnumber, vtext, voverflow, vstruct, vlist, varray, Values, vnil, vcons, countValues}
 use Rattle.values.specs.Encode.{encodeValue, encodeValues}
 use Rattle.values.specs.Record.{longest}

@@ -10,9 +10,9 @@ use Rattle.layout.specs.Layout.{text, leafHead, kindOf, kind, fieldId, fieldMar
 use Rattle.layout.specs.declared.leaf.Leaf.{Leaf}
 use Rattle.layout.specs.declared.edition.Edition.the-variants.{One}
 use Rattle.layout.specs.declared.columns.Siblings.the-variants.{Free}
-use Rattle.store.specs.Overlay.{littleBytes}
+use Rattle.store.specs.LittleEndian.{littleBytes}
 use Rattle.forms.specs.Form.{u16Bytes, textBytes, carried, leafForm, kindForm, form}
-use Rattle.forms.specs.Readable.{depthOf, depthOfFields}
+use Rattle.forms.specs.Depth.{depthOf, depthOfFields}
 use Rattle.forms.specs.Same.{equalTypes, equalFields}
 use Rattle.rules.specs.declared.outcome.CastOption.the-variants.{Overflowing}
 use Rattle.rules.specs.Zones.{zonesOf, readZone, isUtc}

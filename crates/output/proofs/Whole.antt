@@ -14,10 +14,10 @@ use Rattle.layout.specs.Bytes.{Bytes, AllBytes}
 use Rattle.layout.specs.Parser.{ok}
 use Rattle.layout.specs.Tree.{DataType, Fields, fieldsOf}
 use Rattle.layout.specs.declared.edition.Edition.{Edition}
-use Rattle.store.specs.Overlay.{overlay}
+use Rattle.store.specs.code.Overlay.{overlay}
 use Rattle.store.proofs.Overlay.{overlay-front}
 use Rattle.store.proofs.Holds.{holds-front}
-use Rattle.forms.specs.Readable.{depthOf, depthOfFields}
+use Rattle.forms.specs.Depth.{depthOf, depthOfFields}
 use Rattle.values.specs.Value.{Value, Values, countValues}
 use Rattle.values.specs.Encode.{encodeValue, encodeValues}
 use Rattle.values.specs.Record.{longest}

@@ -7,7 +7,7 @@ use native.Mathlib.Omega.{arith}
 use native.Mathlib.Decide.{decLt}
 use lib.ListN.{length, length-append}
 use Rattle.layout.specs.Bytes.{Bytes}
-use Rattle.store.specs.Overlay.{overlay, Holds}
+use Rattle.store.specs.code.Overlay.{overlay, Holds}
 use Rattle.store.proofs.Overlay.{length-overlay}
 use Rattle.store.proofs.Holds.{holds-exact, holds-append}
 use Rattle.values.specs.Value.{Value, vnull, vnumber, vtext, voverflow, vstruct, vlist, varray, Values, vnil, vcons, countValues}

@@ -17,7 +17,7 @@ use Rattle.layout.specs.declared.columns.Siblings.the-variants.{Free}
 use Rattle.layout.specs.declared.edition.Edition.the-variants.{One}
 use Rattle.layout.specs.Layout.{unitCode}
 use Rattle.forms.specs.Form.{u16Bytes, textBytes, carried, leafForm, kindForm, form, formFields}
-use Rattle.forms.specs.Readable.{depthOf, depthOfFields}
+use Rattle.forms.specs.Depth.{depthOf, depthOfFields}
 use Rattle.forms.specs.Same.{equalTypes, equalFields}
 use Rattle.rules.specs.declared.outcome.CastOption.the-variants.{Strict}
 use Rattle.rules.specs.Zones.{zonesOf, readZone, isUtc}

@@ -15,7 +15,7 @@ use Rattle.layout.specs.declared.edition.Edition.the-variants.{One}
 use Rattle.layout.proofs.Ways.{clash}
 use Rattle.layout.proofs.View.{next-ok}
 use Rattle.forms.specs.Form.{u16Bytes, textBytes, form}
-use Rattle.forms.specs.Readable.{ShortText}
+use Rattle.forms.specs.code.Readable.{ShortText}
 use Rattle.forms.proofs.Leaves.{little-u16}
 use Rattle.forms.proofs.Slices.{Stands, stands-length}
 use Rattle.forms.proofs.Read.{text-stands, type→}

@@ -14,7 +14,7 @@ use Rattle.layout.specs.declared.leaf.Leaf.the-variants.{Datetime}
 use Rattle.layout.specs.declared.leaf.Leaf.{Leaf}
 use Rattle.layout.specs.Layout.{unitCode}
 use Rattle.forms.specs.Form.{u16Bytes, textBytes, carried, leafForm, kindForm, form, formFields}
-use Rattle.forms.specs.Readable.{depthOf, depthOfFields}
+use Rattle.forms.specs.Depth.{depthOf, depthOfFields}
 use Rattle.forms.specs.Same.{equalTypes, equalFields}
 use Rattle.rules.specs.declared.outcome.CastOption.the-variants.{NonStrict, Strict, Overflowing}
 use Rattle.rules.specs.Zones.{zonesOf, readZone, isUtc}
@@ -28,7 +28,7 @@ use Rattle.numeric.specs.Times.{finer, coarser}
 use Rattle.values.specs.Value.{vnull, vnumber, vstruct, Values, vnil, vcons}
 use Rattle.values.specs.Reading.{structContent, presence, nullable, little, contentBy, leafContent, content, values, value}
 use Rattle.values.specs.Record.{renumber, recordFrom, recordOf, shortEnough, ended as recordEnded}
-use Rattle.store.specs.Overlay.{littleBytes}
+use Rattle.store.specs.LittleEndian.{littleBytes}
 use Rattle.values.specs.Encode.{encodeValue, encodeValues}
 use Rattle.plan.specs.Result.{Answer, accepted, refusedAt, _>>=_, demand, placed, answered}
 use Rattle.plan.specs.Selector.{Selector, position, constant, cast, rename, structMapping, Selectors, snil, scons, countSelectors}

@@ -14,7 +14,6 @@ use Rattle.plan.specs.Selector.{Selectors}
 use Rattle.plan.specs.Read.{plan}
 use Rattle.plan.specs.Marks.{checkMarked}
 use Rattle.plan.specs.Run.{run}
-use Rattle.plan.specs.declared.answer.WriteResult.{WriteResult}
 
 -- what is read, the place of its refusals, and what follows it
 unfoldable pub readAt : {A B : Type 0} → ℕ → Res A → (A → Answer B) → Answer B
@@ -33,11 +32,6 @@ checkPlan incoming target bytes = readPlan incoming target bytes (λ Γ Δ ss. c
 unfoldable pub runPlan : Bytes → Bytes → Bytes → Bytes → ℕ → Answer Bytes
 runPlan incoming target bytes rec room =
     readPlan incoming target bytes (λ Γ Δ ss. answered (checkMarked Γ Δ ss) (λ x. readAt 0 (recordMarked requiredOf Γ rec) (λ ρ. run ρ ss room)))
-
--- what a call answers that writes: the result's length; or, since "a refusal is a number and a place", these two
-abbrev pub writeResult : Answer Bytes → WriteResult
-writeResult (accepted b) = WriteResult.Written (length b)
-writeResult (refusedAt n k) = WriteResult.Refused n k
 
 -- a lent buffer after a call: the result from its start, the rest as it was; after a refusal all as it was
 abbrev pub bufferAfter : Answer Bytes → Bytes → Bytes

@@ -10,7 +10,7 @@ use Rattle.layout.specs.Bytes.{Bytes}
 use Rattle.layout.specs.Tree.{LeafType, leafOf, DataType, leaf, struct, list, array, Fields, fnil, fcons}
 use Rattle.layout.specs.Limits.{longest, deepest}
 use Rattle.forms.specs.Form.{form}
-use Rattle.forms.specs.Readable.{depthOf}
+use Rattle.forms.specs.Depth.{depthOf}
 use Rattle.forms.specs.Same.{equalFields}
 use Rattle.rules.specs.declared.outcome.CastOption.{CastOption}
 use Rattle.rules.specs.declared.outcome.CastOption.the-variants.{NonStrict}

@@ -3,3 +3,4 @@ pub mod Fits
 pub mod Formed
 pub mod Fallback
 pub mod Answers
+pub mod Written

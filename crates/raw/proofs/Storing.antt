@@ -8,7 +8,8 @@ use lib.ListN.{length}
 use Rattle.layout.specs.Bytes.{Bytes}
 use Rattle.layout.specs.declared.leaf.Leaf.{Leaf}
 use Rattle.layout.proofs.Ways.{clash}
-use Rattle.store.specs.Overlay.{overlay, littleBytes}
+use Rattle.store.specs.code.Overlay.{overlay}
+use Rattle.store.specs.LittleEndian.{littleBytes}
 use Rattle.store.proofs.Overlay.{length-little}
 use Rattle.values.proofs.Leaves.{width-small}
 use Rattle.values.specs.Value.{Value, vnull, vnumber, vtext, voverflow, vstruct, vlist, varray}

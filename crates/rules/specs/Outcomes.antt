@@ -6,11 +6,6 @@ use mathlib.Core.List.{List, [], _∷_}
 use lib.ListN.{getD}
 use Rattle.rules.specs.declared.outcome.CastOption.{CastOption}
 use Rattle.rules.specs.declared.outcome.CastOption.the-variants.{NonStrict, Strict, Overflowing}
-use Rattle.rules.specs.declared.outcome.Mismatch.{Mismatch}
-use Rattle.rules.specs.declared.outcome.Mismatch.the-variants.{NullUpcast, IntegerUpcast, IntegerRange, FloatUpcast, FloatDowncast, IntegerToFloat}
-use Rattle.rules.specs.declared.outcome.Mismatch.the-variants.{TimeZone, UnitCast, CategoricalToString, DecimalWidening, NoRule}
-use Rattle.rules.specs.declared.outcome.Outcome.{Outcome}
-use Rattle.rules.specs.declared.outcome.Outcome.the-variants.{Untouched, Refused, Cast}
 use Rattle.rules.specs.declared.outcome.OptionCode.{OptionCode}
 use Rattle.rules.specs.declared.outcome.OptionCode.the-variants.{Known, Unknown}
 use Rattle.rules.specs.code.Choice.{if_then_else_}
@@ -20,25 +15,6 @@ pub data Verdict : Type 0 where
   untouched : Verdict
   refused : ℕ → Verdict
   cast : CastOption → Verdict
-
--- the refusal's number
-abbrev pub numberOf : Mismatch → ℕ
-numberOf NullUpcast = 15
-numberOf IntegerUpcast = 16
-numberOf IntegerRange = 17
-numberOf FloatUpcast = 18
-numberOf FloatDowncast = 19
-numberOf IntegerToFloat = 20
-numberOf TimeZone = 21
-numberOf UnitCast = 22
-numberOf CategoricalToString = 23
-numberOf DecimalWidening = 51
-numberOf NoRule = 24
-
-abbrev pub verdictOf : Outcome → Verdict
-verdictOf Untouched = untouched
-verdictOf (Refused m) = refused (numberOf m)
-verdictOf (Cast o) = cast o
 
 -- the policy allows it, or the refusal n
 abbrev pub need : Bool → ℕ → Verdict → Verdict

@@ -1,6 +1,7 @@
 // What becomes of a leaf pair, with document 01's numbers and the option codes of plans.
 ghost use mathlib.Core.Path.{_≡_};
-ghost use Rattle.rules.specs.Outcomes.{numberOf, optionCode, optionAt};
+ghost use Rattle.rules.specs.code.Answers.{numberOf};
+ghost use Rattle.rules.specs.Outcomes.{optionCode, optionAt};
 
 pub enum CastOption {
     NonStrict,

@@ -1,7 +1,8 @@
 // The rules of leaf pairs, as the end of `attach_transforms` has them.
 ghost use mathlib.Core.Path.{_≡_};
 ghost use Rattle.layout.specs.Tree.{leafType};
-ghost use Rattle.rules.specs.Outcomes.{numberOf, need, cast, verdictOf};
+ghost use Rattle.rules.specs.code.Answers.{numberOf, verdictOf};
+ghost use Rattle.rules.specs.Outcomes.{need, cast};
 ghost use Rattle.rules.specs.Chain.{chain};
 ghost use Rattle.rules.specs.code.Rules.{integers, datetimes, decimals, ruleOf};
 ghost use Rattle.rules.specs.Pairs.{pairRule, hasOption, castPasses};

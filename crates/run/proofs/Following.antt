@@ -13,10 +13,10 @@ use Rattle.layout.specs.declared.columns.ColumnRange.{ColumnRange}
 use Rattle.layout.specs.declared.columns.Siblings.the-variants.{Free}
 use Rattle.layout.specs.declared.cursor.Cursor.{Cursor}
 use Rattle.layout.proofs.Ways.{clash}
-use Rattle.forms.specs.Readable.{depthOf}
+use Rattle.forms.specs.Depth.{depthOf}
 use Rattle.forms.proofs.Read.{type→}
 use Rattle.forms.proofs.ReadBack.{type-extent}
-use Rattle.store.specs.Overlay.{Agree, Holds}
+use Rattle.store.specs.code.Overlay.{Agree, Holds}
 use Rattle.values.specs.Value.{Value}
 use Rattle.values.specs.Encode.{encodeValue}
 use Rattle.values.specs.Record.{longest}

@@ -6,7 +6,7 @@ use native.Mathlib.Omega.{arith}
 use lib.ListN.{length, take, drop, set, length-drop, drop-of-length-le}
 use lib.Seq.{take-all}
 use borrow.Rule.Slice.PartMut.{midOf, putMid}
-use Rattle.store.specs.Overlay.{overlay}
+use Rattle.store.specs.code.Overlay.{overlay}
 use Rattle.store.proofs.Overlay.{overlay-out}
 
 overlay-cons : (x : ℕ) (out : List ℕ) (k : ℕ) (bs : List ℕ) → overlay (x ∷ out) (suc k) bs ≡ x ∷ overlay out k bs

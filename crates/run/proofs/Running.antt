@@ -27,7 +27,8 @@ use Rattle.plan.specs.Check.{check}
 use Rattle.plan.specs.Marks.{checkMarked}
 use Rattle.plan.specs.Run.{evals, cleanAll, spacious, run}
 use Rattle.plan.specs.Read.{plan}
-use Rattle.plan.specs.Calls.{readAt, readPlan, runPlan, writeResult, bufferAfter}
+use Rattle.plan.specs.Calls.{readAt, readPlan, runPlan, bufferAfter}
+use Rattle.plan.specs.code.Written.{writeResult}
 use Rattle.plan.specs.declared.answer.WriteResult.{WriteResult}
 use Rattle.plan.proofs.Results.{answered-accepted}
 use Rattle.plan.proofs.Theorems.{run-overflows, run-writes, run-exceeds}

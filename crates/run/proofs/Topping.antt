@@ -15,7 +15,7 @@ use Rattle.layout.specs.declared.columns.ColumnRange.{ColumnRange}
 use Rattle.layout.specs.declared.columns.Label.{Label as LabelSpan}
 use Rattle.layout.specs.declared.columns.Labelled.{Labelled}
 use Rattle.layout.specs.declared.edition.Edition.{Edition}
-use Rattle.store.specs.Overlay.{overlay}
+use Rattle.store.specs.code.Overlay.{overlay}
 use Rattle.values.specs.Value.{Value, Values}
 use Rattle.values.specs.Encode.{encodeValue, encodeValues}
 use Rattle.values.specs.Record.{longest}

@@ -2,7 +2,8 @@
 ghost use mathlib.Core.Path.{_≡_};
 ghost use lib.ListN.{length};
 ghost use Rattle.ends.specs.code.Ends.{Ends};
-ghost use Rattle.plan.specs.Calls.{runPlan, bufferAfter, writeResult};
+ghost use Rattle.plan.specs.Calls.{runPlan, bufferAfter};
+ghost use Rattle.plan.specs.code.Written.{writeResult};
 ghost use Rattle.run.specs.code.Answers.{finished, ReadAt, PassedAt, FilledAt, CheckedRuns, RecordRuns, FilledRuns};
 use crate::read::Read;
 use crate::single_pass::SinglePass;

@@ -17,7 +17,8 @@ use Rattle.layout.proofs.Ways.{clash}
 use Rattle.layout.specs.Bytes.{Bytes}
 use Rattle.rules.specs.declared.policy.Policy.{Policy}
 use Rattle.plan.specs.Result.{Answer, accepted, refusedAt}
-use Rattle.plan.specs.Calls.{writeResult, bufferAfter}
+use Rattle.plan.specs.code.Written.{writeResult}
+use Rattle.plan.specs.Calls.{bufferAfter}
 use Rattle.plan.specs.declared.answer.WriteResult.{WriteResult}
 use Rattle.checker.specs.code.Tops.{planChecked}
 use Rattle.checker.specs.declared.tops.PlanChecked.{PlanChecked}

@@ -17,7 +17,8 @@ use Rattle.layout.specs.declared.types.PlainLeaf.{PlainLeaf}
 use Rattle.layout.specs.declared.edition.Edition.{Edition}
 use Rattle.layout.proofs.Ways.{clash, moved-to, moved-refused}
 use Rattle.layout.proofs.View.{plain-at}
-use Rattle.values.specs.Content.{contentOf, numberIn, numberBy, numberBytes}
+use Rattle.values.specs.Content.{contentOf}
+use Rattle.values.specs.code.Numbers.{numberIn, numberBy, numberBytes}
 use Rattle.values.specs.Reading.{contentBy, leafContent}
 use Rattle.values.specs.Marked.{contentMarked}
 use Rattle.values.specs.code.Answers.{valueMoved, NumberIs}

@@ -11,7 +11,8 @@ use Rattle.values.specs.Value.{Value, vnull, vcons}
 use Rattle.values.specs.Reading.{presence, nullable, times, leafContent, structContent, listContent, arrayContent, content, values, value}
 use Rattle.values.specs.code.Answers.{valueMoved}
 use Rattle.values.specs.declared.read.ValueRead.{ValueRead}
-use Rattle.values.specs.Marked.{marksOf, presenceMarked, nullableMarked, contentMarked, valuesMarked, valueMarked}
+use Rattle.values.specs.code.Marks.{marksOf}
+use Rattle.values.specs.Marked.{presenceMarked, nullableMarked, contentMarked, valuesMarked, valueMarked}
 use Rattle.values.specs.Record.{recordNumber, renumber, recordFrom, recordOf, recordMarkedFrom, recordMarked}
 
 next-same : {A B : Type 0} (x : Res A) (j k : A → ℕ → Res B) → ((a : A) (m : ℕ) → j a m ≡ k a m) → next x j ≡ next x k

@@ -1,2 +1,4 @@
 pub mod Answers
 pub mod Stands
+pub mod Numbers
+pub mod Marks

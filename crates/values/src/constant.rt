@@ -19,7 +19,7 @@ pub fn needs_table(s: &[u8], t: Cursor, end: Cursor, c: Cursor) -> bool {
     if end.at < t.at {
         return false;
     }
-    if end.at - t.at < 128 {
+    if end.at - t.at < 24 {
         return false;
     }
     if s.len() <= at {

@@ -6,7 +6,7 @@ use mathlib.Core.List.{_∷_, _++_}
 use Prim.Native.Nat.{ℕ, _+_, _-_, _*_, _<_, _≤_}
 use lib.ListN.{length}
 use lib.Dec.{eqb}
-use Rattle.store.specs.Overlay.{Holds}
+use Rattle.store.specs.code.Overlay.{Holds}
 use Rattle.layout.specs.Bytes.{Bytes, sameBytes}
 use Rattle.layout.specs.Limits.{longest, longestName}
 use Rattle.layout.specs.Parser.{choose}

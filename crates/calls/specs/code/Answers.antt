@@ -4,7 +4,7 @@ use mathlib.Core.Bool.{true}
 use mathlib.Core.List.{_++_}
 use Prim.Native.Nat.{ℕ, _+_, _*_, _≤_, _<_}
 use lib.ListN.{length}
-use Rattle.store.specs.Overlay.{Holds}
+use Rattle.store.specs.code.Overlay.{Holds}
 use Rattle.layout.specs.Bytes.{Bytes}
 use Rattle.layout.specs.Tree.{Columns}
 use Rattle.layout.specs.Limits.{longest, deepest}
@@ -15,7 +15,8 @@ use Rattle.rules.specs.declared.policy.ExtraColumnsPolicy.{ExtraColumnsPolicy}
 use Rattle.plan.specs.Result.{Answer, accepted, refusedAt, placed, answered, demand, gives}
 use Rattle.plan.specs.Selector.{Selectors}
 use Rattle.plan.specs.Encode.{planMark, encodeSelectors, encodePlan}
-use Rattle.plan.specs.Calls.{bufferAfter, writeResult}
+use Rattle.plan.specs.Calls.{bufferAfter}
+use Rattle.plan.specs.code.Written.{writeResult}
 use Rattle.matching.specs.Build.{extraColumnErr, extraColumns, buildFrom, build as buildAll}
 use Rattle.matching.specs.Calls.{takes, bothLayouts, roomFor, writtenPlan}
 use Rattle.builder.specs.code.Answers.{DefaultsAt, defaultsAt}

@@ -8,7 +8,7 @@ use lib.ListN.{length}
 use Rattle.layout.specs.Parser.{choose}
 use Rattle.layout.specs.Tree.{DataType, Fields, countFields}
 use Rattle.forms.specs.Form.{form, formFields}
-use Rattle.forms.specs.Readable.{depthOf, depthOfFields}
+use Rattle.forms.specs.Depth.{depthOf, depthOfFields}
 use Rattle.plan.specs.Result.{gives}
 use Rattle.plan.specs.Check.{Column, columnAt, withinLimits}
 use Rattle.checker.specs.declared.limits.Fit.{Fit}

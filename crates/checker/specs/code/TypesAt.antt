@@ -10,7 +10,7 @@ use Rattle.layout.specs.code.Answers.{spanAt, spanIn, leafAt}
 use Rattle.layout.specs.declared.columns.Position.{Position}
 use Rattle.layout.specs.declared.edition.Edition.{Edition}
 use Rattle.layout.specs.declared.edition.Edition.the-variants.{One}
-use Rattle.forms.specs.Form.{headOf}
+use Rattle.forms.specs.code.Heads.{headOf}
 use Rattle.plan.specs.Result.{gives}
 use Rattle.plan.specs.Selector.{Selector, structMapping, listMapping, arrayMapping, Selectors}
 use Rattle.plan.specs.Check.{Column, columnAt, elementOf, typeOf, typesOf}

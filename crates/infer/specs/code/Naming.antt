@@ -3,7 +3,7 @@ use Prim.Native.Nat.{ℕ, _+_}
 use mathlib.Core.Path.{_≡_}
 use Rattle.layout.specs.Bytes.{Bytes}
 use Rattle.layout.specs.Tree.{Fields}
-use Rattle.forms.specs.Readable.{ShortText}
+use Rattle.forms.specs.code.Readable.{ShortText}
 use Rattle.plan.specs.Result.{Result, gives}
 use Rattle.plan.specs.Check.{Column, typeOf}
 use Rattle.walk.specs.code.Stands.{SelectorAt}

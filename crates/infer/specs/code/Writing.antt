@@ -4,11 +4,12 @@ use mathlib.Core.Path.{_≡_}
 use mathlib.Core.Bool.{Bool, true, false}
 use lib.Dec.{leb}
 use lib.ListN.{length as size}
-use Rattle.store.specs.Overlay.{overlay}
+use Rattle.store.specs.code.Overlay.{overlay}
 use Rattle.layout.specs.Bytes.{Bytes}
 use Rattle.layout.specs.Tree.{DataType, Fields, fnil, fcons, countFields}
 use Rattle.forms.specs.Form.{form, formFields}
-use Rattle.forms.specs.Readable.{Readable, ReadableFields, depthOf, depthOfFields}
+use Rattle.forms.specs.code.Readable.{Readable, ReadableFields}
+use Rattle.forms.specs.Depth.{depthOf, depthOfFields}
 use Rattle.plan.specs.Result.{Result, gives}
 use Rattle.plan.specs.Check.{Column, column, longestType}
 use Rattle.infer.specs.declared.form.Inferred.{Inferred}

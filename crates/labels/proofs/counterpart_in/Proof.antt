@@ -7,7 +7,7 @@ use denote.Ref.{now}
 use lib.ListN.{length}
 use Rattle.layout.specs.code.Answers.{labelAt}
 use Rattle.layout.specs.code.Stands.{ColumnsAt}
-use Rattle.layout.specs.Find.{matchRule}
+use Rattle.layout.specs.code.Finding.{matchRule}
 use Rattle.layout.specs.declared.matching.Matching.{Matching}
 use Rattle.layout.proofs.Ways.{label-in}
 use Rattle.labels.specs.code.LabelTable.{node, Table}

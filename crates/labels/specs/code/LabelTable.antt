@@ -10,7 +10,8 @@ use Rattle.layout.specs.Bytes.{Bytes}
 use Rattle.layout.specs.Tree.{Label, ColumnType, Columns, cnil, ccons}
 use Rattle.layout.specs.code.Seen.{labelHash}
 use Rattle.layout.specs.code.Stands.{ColumnsAt}
-use Rattle.layout.specs.Find.{Lookup, absent, present, findFrom, matchRule}
+use Rattle.layout.specs.Find.{Lookup, absent, present, findFrom}
+use Rattle.layout.specs.code.Finding.{matchRule}
 use Rattle.layout.specs.declared.edition.Edition.{Edition}
 use Rattle.layout.specs.declared.matching.Matching.{Matching}
 

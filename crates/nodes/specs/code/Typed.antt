@@ -9,7 +9,7 @@ use Rattle.layout.specs.Layout.{deepest}
 use Rattle.layout.specs.code.Stands.{TypeAt}
 use Rattle.layout.specs.declared.edition.Edition.{Edition}
 use Rattle.forms.specs.Form.{form, formFields}
-use Rattle.forms.specs.Readable.{depthOf, depthOfFields}
+use Rattle.forms.specs.Depth.{depthOf, depthOfFields}
 use Rattle.walk.specs.code.Types.{Along}
 use Rattle.nodes.specs.declared.types.FormSize.{FormSize}
 

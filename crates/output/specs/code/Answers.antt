@@ -13,7 +13,7 @@ use Rattle.layout.specs.declared.edition.Edition.the-variants.{One}
 use Rattle.values.specs.Value.{Value, vnull, vnumber, voverflow, Values}
 use Rattle.values.specs.Encode.{encodeValues}
 use Rattle.values.specs.Record.{longest}
-use Rattle.forms.specs.Readable.{depthOfFields}
+use Rattle.forms.specs.Depth.{depthOfFields}
 use Rattle.plan.specs.Read.{longestPlan}
 use Rattle.plan.specs.Result.{Answer, accepted, refusedAt}
 use Rattle.plan.specs.Check.{check}

@@ -6,7 +6,7 @@ use lib.Dec.{leb}
 use lib.ListN.{length}
 use Rattle.layout.specs.Bytes.{Bytes}
 use Rattle.layout.specs.Parser.{choose}
-use Rattle.store.specs.Overlay.{Holds}
+use Rattle.store.specs.code.Overlay.{Holds}
 use Rattle.values.specs.Value.{Value, vnull, vnumber, vtext, voverflow, vstruct, vlist, varray, Values, vnil, vcons}
 use Rattle.values.specs.Record.{longest}
 use Rattle.nodes.specs.declared.raw.Parts.{Parts}

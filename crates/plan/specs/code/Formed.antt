@@ -5,7 +5,8 @@ use Rattle.layout.specs.Bytes.{Bytes}
 use Rattle.layout.specs.Tree.{DataType}
 use Rattle.layout.specs.Layout.{deepest}
 use Rattle.layout.specs.declared.columns.Position.{Position}
-use Rattle.forms.specs.Readable.{ShortText, Readable, depthOf}
+use Rattle.forms.specs.code.Readable.{ShortText, Readable}
+use Rattle.forms.specs.Depth.{depthOf}
 use Rattle.rules.specs.declared.outcome.CastOption.{CastOption}
 use Rattle.values.specs.Value.{Value}
 use Rattle.values.specs.Fits.{Fits}

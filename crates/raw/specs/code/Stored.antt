@@ -5,7 +5,8 @@ use mathlib.Core.Bool.{Bool, true, false}
 use mathlib.Core.List.{[], _∷_}
 use lib.ListN.{length}
 use Rattle.layout.specs.Bytes.{Bytes}
-use Rattle.store.specs.Overlay.{overlay, littleBytes}
+use Rattle.store.specs.code.Overlay.{overlay}
+use Rattle.store.specs.LittleEndian.{littleBytes}
 
 -- the bytes b were stored from index k on, and r is where they end
 pub record Stores (out : Bytes) (k : ℕ) (b : Bytes) (r : ℕ) (out′ : Bytes) : Type 0 where

@@ -16,7 +16,8 @@ use Rattle.plan.specs.Read.{longestPlan}
 use Rattle.plan.specs.Check.{check}
 use Rattle.plan.specs.Marks.{checkMarked}
 use Rattle.plan.specs.Run.{evals, cleanAll, run}
-use Rattle.plan.specs.Calls.{readAt, bufferAfter, writeResult}
+use Rattle.plan.specs.Calls.{readAt, bufferAfter}
+use Rattle.plan.specs.code.Written.{writeResult}
 use Rattle.plan.specs.declared.answer.WriteResult.{WriteResult}
 use Rattle.walk.specs.code.Stands.{SelectorsAt}
 use Rattle.output.specs.code.Answers.{writtenOf}

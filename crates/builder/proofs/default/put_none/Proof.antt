@@ -1,6 +1,6 @@
 -- `builder::default::put_none` meets its contract. Assumes nothing.
 use Rattle.values.specs.Encode.{encodeValue}
-use Rattle.store.specs.Overlay.{overlay}
+use Rattle.store.specs.code.Overlay.{overlay}
 use mathlib.Core.Path.{refl}
 use borrow.Author.Needs.{needs}
 use Rattle.builder.proofs.default.put_none.Statement.{statement}

@@ -1,6 +1,6 @@
 -- `builder::default::same_leaf_type` meets its contract. Assumes nothing.
 use Rattle.rules.specs.declared.outcome.Outcome.{Outcome}
-use Rattle.rules.specs.Outcomes.{verdictOf}
+use Rattle.rules.specs.code.Answers.{verdictOf}
 use Rattle.builder.proofs.Defaults.{leaves-same, leaves-unlike, isUntouched}
 use mathlib.Core.Path.{ap}
 use borrow.Author.Needs.{needs}

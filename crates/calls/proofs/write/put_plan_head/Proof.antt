@@ -1,6 +1,6 @@
 -- `calls::write::put_plan_head` meets its contract. Assumes nothing.
 use Rattle.forms.specs.Form.{u16Bytes}
-use Rattle.store.specs.Overlay.{overlay}
+use Rattle.store.specs.code.Overlay.{overlay}
 use borrow.Author.Needs.{needs}
 use Rattle.calls.proofs.write.put_plan_head.Statement.{statement}
 use Rattle.calls.proofs.write.put_plan_head.Tie as tie

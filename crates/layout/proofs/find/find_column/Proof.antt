@@ -1,7 +1,7 @@
 -- `layout::find::find_column` meets its contract: the loop keeps `Seeking`. Assumes nothing.
 use borrow.Author.Needs.{needs}
 use Prim.Native.Nat.{_-_}
-use Rattle.layout.specs.Find.{wantedBy}
+use Rattle.layout.specs.code.Finding.{wantedBy}
 use Rattle.layout.proofs.Ways.{label-in}
 use Rattle.layout.proofs.Finding.{Seeking, seeking-start, seeking-none, seeking-unlabelled, seeking-found, seeking-stuck, seeking-more}
 use Rattle.layout.proofs.find.find_column.Statement.{statement}

@@ -4,7 +4,8 @@ use Prim.Native.Nat.{ℕ, _+_, _≤_}
 use lib.IntN.{pos, negsuc}
 use native.Mathlib.Omega.{arith}
 use Rattle.numeric.specs.Floats.{fromInteger, integerToFloat}
-use Rattle.numeric.specs.Integers.{numberOf, wholeOf}
+use Rattle.numeric.specs.Integers.{numberOf}
+use Rattle.numeric.specs.code.Answers.{wholeOf}
 use Rattle.numeric.specs.Rounding.{infinity}
 use Rattle.numeric.proofs.TwosComplement.{negative-lt}
 use Rattle.numeric.proofs.Conversions.{fitting-at, sign-le, infinity-lt, rounded-le, unsigned-is, negative-is}

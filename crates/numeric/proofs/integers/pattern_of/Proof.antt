@@ -1,7 +1,8 @@
 -- `numeric::integers::pattern_of` meets its contract. A negative number counts down from the last pattern. Assumes
 -- nothing.
 use mathlib.Core.Path.{sym, ap, _∙_}
-use Rattle.numeric.specs.Integers.{pattern, wholeOf}
+use Rattle.numeric.specs.Integers.{pattern}
+use Rattle.numeric.specs.code.Answers.{wholeOf}
 use Rattle.numeric.proofs.TwosComplement.{last-low, low-pattern}
 use borrow.Author.Needs.{needs}
 use Rattle.numeric.proofs.integers.pattern_of.Statement.{statement}

@@ -1,5 +1,5 @@
 use Rattle.raw.proofs.Storing.{lead-counted, lead-plain}
-use Rattle.store.specs.Overlay.{overlay}
+use Rattle.store.specs.code.Overlay.{overlay}
 use borrow.Author.Needs.{needs}
 use Rattle.raw.proofs.copy.put_lead.Statement.{statement}
 use Rattle.raw.proofs.copy.put_lead.Tie as tie

@@ -1,4 +1,4 @@
-use Rattle.store.specs.Overlay.{overlay}
+use Rattle.store.specs.code.Overlay.{overlay}
 use Rattle.values.specs.Encode.{encodeValue}
 use mathlib.Core.Path.{refl}
 use borrow.Author.Needs.{needs}

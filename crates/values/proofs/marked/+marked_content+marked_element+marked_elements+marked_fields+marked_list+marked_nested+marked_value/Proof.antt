@@ -6,7 +6,8 @@ use Rattle.values.proofs.Walk.{element-refused, repeating-none, repeati
 use Rattle.values.proofs.Walk.{fielding-refused, fielding-labelled, fielding-more, fielding-all, list-counted, list-uncounted, value-null, value-present}
 use Rattle.values.proofs.Walk.{value-refused, Fielding, Repeating}
 use Rattle.values.proofs.Numbers.{number-read}
-use Rattle.values.specs.Marked.{marksOf, valueMarked}
+use Rattle.values.specs.code.Marks.{marksOf}
+use Rattle.values.specs.Marked.{valueMarked}
 use Rattle.layout.proofs.View.{deep, struct-at, list-at, array-at, list-labelled, array-labelled, never-headless}
 use borrow.Author.Needs.{needs}
 use Prim.Native.Nat.{ℕ, _<_, _+_, _-_, _*_}

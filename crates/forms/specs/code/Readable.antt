@@ -1,6 +1,6 @@
 -- Document 01, "Reading a layout", as conditions on a type: names and zones of at most 63 bytes, numbers within their
--- fields, precision and scale within theirs (document 02, L1), and the depth.
-use Prim.Native.Nat.{ℕ, suc, _≤_, _<_, max}
+-- fields, precision and scale within theirs (document 02, L1); and the columns that reading gives for such a type.
+use Prim.Native.Nat.{_≤_, _<_}
 use mathlib.Core.List.{[]}
 use lib.ListN.{length}
 use Rattle.layout.specs.Bytes.{Bytes, AllBytes}
@@ -38,18 +38,6 @@ abbrev mutual
   pub ReadableFields : Fields → Type 0
   ReadableFields fnil = Unit {0}
   ReadableFields (fcons n t fs) = ShortText n × (Readable t × ReadableFields fs)
-
--- a leaf is 1; a struct, list or array is one more than its deepest part
-unfoldable mutual
-  pub depthOf : DataType → ℕ
-  depthOf (leaf l) = 1
-  depthOf (struct fs) = suc (depthOfFields fs)
-  depthOf (list t) = suc (depthOf t)
-  depthOf (array w t) = suc (depthOf t)
-
-  pub depthOfFields : Fields → ℕ
-  depthOfFields fnil = 0
-  depthOfFields (fcons n t fs) = max (depthOf t) (depthOfFields fs)
 
 -- A type as version 1 reads it: ids are 0, nothing is required and an element has no name.
 abbrev pub named : Bytes → Label
