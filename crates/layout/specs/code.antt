@@ -3,3 +3,4 @@ pub mod Scan
 pub mod Pass
 pub mod Seen
 pub mod Stands
+pub mod Parts
