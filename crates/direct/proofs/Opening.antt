@@ -4,15 +4,13 @@ use mathlib.Core.Path.{_≡_, sym, ap, subst}
 use native.Mathlib.Omega.{arith}
 use Rattle.layout.specs.Bytes.{Bytes}
 use Rattle.layout.specs.Tree.{dtypeOf}
-use Rattle.layout.specs.Layout.{kind, elementLabel}
-use Rattle.layout.specs.code.Answers.{headRes, labelRes}
+use Rattle.layout.specs.code.Parts.{PartsIs}
 use Rattle.layout.specs.code.Stands.{TypeAt}
 use Rattle.layout.specs.declared.columns.Label.{Label as LabelSpan}
-use Rattle.layout.specs.declared.columns.Labelled.{Labelled}
 use Rattle.layout.specs.declared.cursor.Cursor.{Cursor}
-use Rattle.layout.specs.declared.types.Head.{Head}
+use Rattle.layout.specs.declared.parts.TypeParts.{TypeParts}
 use Rattle.layout.specs.declared.edition.Edition.{Edition}
-use Rattle.layout.proofs.View.{struct-at, list-at, array-at}
+use Rattle.layout.proofs.View.{struct-opened, list-opened, array-opened}
 use Rattle.nodes.proofs.Deeper.{deeper-type, deeper-columns}
 use Rattle.direct.specs.declared.inside.Inside.{Inside}
 use Rattle.direct.specs.declared.inside.Both.{Both}
@@ -20,33 +18,24 @@ use Rattle.direct.specs.code.Insides.{StructIn, ListIn, ArrayIn, ArraysI
 
 -- ---- inside_of
 
-module _ {v : Edition} {s : Bytes} {at : ℕ} (T : TypeAt v 16 s at) {p : Head} (e : headRes s p ≡ kind s at) where
-  pub struct-in : {n : ℕ} {d : Cursor} → p ≡ Head.Struct n d → InsideIs v s at T (Inside.Struct n d)
+module _ {v : Edition} {s : Bytes} {at : ℕ} (T : TypeAt v 16 s at) {r : TypeParts} (R : PartsIs v s at r) where
+  pub struct-in : {n : ℕ} {c : Cursor} → r ≡ TypeParts.Struct n c → InsideIs v s at T (Inside.Struct n c)
   unfolding dtypeOf deeper-columns
-  struct-in f = let S = struct-at T e f in record {
-    parts = record {
-      columns = deeper-columns (omega arith) (S .inner);
-      is = ap dtypeOf (S .is);
-      ends =
-          S .ends;
-    };
-  }
+  struct-in e =
+      let S = struct-opened R T e in
+      record { parts = record { columns = deeper-columns (omega arith) (S .inner); is = ap dtypeOf (S .is); ends = S .ends } }
 
-  module _ {d : Cursor} {q : Labelled} (g : labelRes s q ≡ elementLabel v s (d .at)) {l : LabelSpan} {b : Cursor} (k : q ≡ Labelled.Is l b) where
-    pub list-in : p ≡ Head.List d → InsideIs v s at T (Inside.List b)
-    unfolding dtypeOf deeper-type
-    list-in f = let L = list-at T e g f k in record { parts = record { type = deeper-type (omega arith) (L .inner); is = ap dtypeOf (L .is); ends = L .ends } }
+  pub list-in : {l : LabelSpan} {c : Cursor} → r ≡ TypeParts.List l c → InsideIs v s at T (Inside.List c)
+  unfolding dtypeOf deeper-type
+  list-in e =
+      let L = list-opened R T e in
+      record { parts = record { type = deeper-type (omega arith) (L .inner); is = ap dtypeOf (L .is); ends = L .ends } }
 
-    pub array-in : {w : ℕ} → p ≡ Head.Array w d → InsideIs v s at T (Inside.Array w b)
-    unfolding dtypeOf deeper-type
-    array-in f = let L = array-at T e g f k in record {
-      parts = record {
-        type = deeper-type (omega arith) (L .inner);
-        is = ap dtypeOf (L .is);
-        ends =
-            L .ends;
-      };
-    }
+  pub array-in : {w : ℕ} {l : LabelSpan} {c : Cursor} → r ≡ TypeParts.Array w l c → InsideIs v s at T (Inside.Array w c)
+  unfolding dtypeOf deeper-type
+  array-in e =
+      let L = array-opened R T e in
+      record { parts = record { type = deeper-type (omega arith) (L .inner); is = ap dtypeOf (L .is); ends = L .ends } }
 
 -- ---- both_inside
 

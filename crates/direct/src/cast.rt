@@ -1,6 +1,7 @@
 // "A cast passes if its leaf pair, flags all on, has that option, or null goes NonStrict to any other type; never
 // between equal types."
 ghost use mathlib.Core.Path.{_≡_};
+ghost use Rattle.layout.specs.Limits.{deepest};
 ghost use Rattle.layout.specs.Tree.{leaf, LeafType as LeafTypeOf, leafOf, dtypeOf};
 ghost use Rattle.layout.specs.code.Answers.{leafAt, spanIn};
 ghost use Rattle.layout.specs.code.Stands.{TypeAt};
@@ -42,7 +43,7 @@ fn pair_passes(s: &[u8], l: LeafType, plan: &[u8], m: LeafType, o: CastOption) -
 // A leaf whose zone stands in `s`, to the type at `c` in the plan.
 pub fn leaf_fits(s: &[u8], l: LeafType, plan: &[u8], c: Cursor, o: CastOption) -> bool
     requires { ⌜ spanIn (now s) (l .zone) ⌝ }
-    ensures { λ r. ⌜ ((Q : TypeAt EditionOf.One 16 (now (plan .entry)) (c .at)) → r ≡ castFits (leaf (leafAt (now (s .entry)) l)) (dtypeOf (Q .tree)) o) ⌝ }
+    ensures { λ r. ⌜ ((Q : TypeAt EditionOf.One deepest (now (plan .entry)) (c .at)) → r ≡ castFits (leaf (leafAt (now (s .entry)) l)) (dtypeOf (Q .tree)) o) ⌝ }
 {
     let a = l.leaf;
     match c.head(plan) {
@@ -63,7 +64,7 @@ pub fn type_fits(
     c: Cursor,
     o: CastOption,
 ) -> bool
-    ensures { λ r. ⌜ ((T : TypeAt v 16 (now (incoming .entry)) (d .at)) (Q : TypeAt EditionOf.One 16 (now (plan .entry)) (c .at)) → r ≡ castFits (dtypeOf (T .tree)) (dtypeOf (Q .tree)) o) ⌝ }
+    ensures { λ r. ⌜ ((T : TypeAt v deepest (now (incoming .entry)) (d .at)) (Q : TypeAt EditionOf.One deepest (now (plan .entry)) (c .at)) → r ≡ castFits (dtypeOf (T .tree)) (dtypeOf (Q .tree)) o) ⌝ }
 {
     match d.head(incoming) {
         Head::Leaf(l, _) => leaf_fits(incoming, l, plan, c, o),

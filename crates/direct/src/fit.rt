@@ -3,6 +3,7 @@
 ghost use Prim.Native.Nat.{ℕ};
 ghost use mathlib.Core.Path.{_≡_};
 ghost use mathlib.Core.List.{List};
+ghost use Rattle.layout.specs.Limits.{deepest};
 ghost use Rattle.layout.specs.Bytes.{Bytes};
 ghost use Rattle.layout.specs.code.Stands.{TypeAt};
 ghost use Rattle.walk.specs.code.Stands.{SelectorAt};
@@ -30,6 +31,7 @@ use layout::columns::Labelled;
 use layout::cursor::Cursor;
 use layout::cursor::Text;
 use layout::edition::Edition;
+use layout::limits::DEEPEST;
 use walk::head::SelectorHead;
 use walk::head::cast_option;
 use walk::head::head;
@@ -69,7 +71,16 @@ fn fit_position(
     let v = source.edition;
     let vt = place.edition;
     match take_position(incoming, source, index, plan, c) {
-        Taken::At(name, d) => match same_type(incoming, v, 16, d, target, vt, 16, place.at) {
+        Taken::At(name, d) => match same_type(
+            incoming,
+            v,
+            DEEPEST,
+            d,
+            target,
+            vt,
+            DEEPEST,
+            place.at,
+        ) {
             Same::To(_, f) => Fit::Is(skip_selector(plan, c), f, named(Place::Incoming, name)),
             Same::No => Fit::Unknown,
         },
@@ -87,11 +98,20 @@ fn fit_constant(
     place: TargetPlace,
 ) -> Fit
     requires { ⌜ ((P : SelectorAt (now plan) (c .at)) × ConstantAt (now plan) (c .at) P name (t .at)) ⌝ }
-    requires { ⌜ TypeAt (place .edition) 16 (now target) (place .at .at) ⌝ }
+    requires { ⌜ TypeAt (place .edition) deepest (now target) (place .at .at) ⌝ }
     ensures { λ r. ⌜ ((incoming : Bytes) (source : SourceOf) (index : List ℕ) (A : FitFrom incoming source index (now (plan .entry)) (c .at) (now (target .entry)) place) → ConstantAt (now (plan .entry)) (c .at) (A .selector) name (t .at) → Fits A r) ⌝ }
 {
     let vt = place.edition;
-    match same_type(plan, Edition::One, 16, t, target, vt, 16, place.at) {
+    match same_type(
+        plan,
+        Edition::One,
+        DEEPEST,
+        t,
+        target,
+        vt,
+        DEEPEST,
+        place.at,
+    ) {
         Same::To(_, f) => Fit::Is(skip_selector(plan, c), f, named(Place::Plan, name)),
         Same::No => Fit::Unknown,
     }
@@ -115,7 +135,16 @@ fn fit_cast(
     match take_position(incoming, source, index, plan, input) {
         Taken::At(name, d) => {
             let t = skip_selector(plan, input);
-            match same_type(plan, Edition::One, 16, t, target, vt, 16, place.at) {
+            match same_type(
+                plan,
+                Edition::One,
+                DEEPEST,
+                t,
+                target,
+                vt,
+                DEEPEST,
+                place.at,
+            ) {
                 Same::To(_, f) => {
                     if !type_fits(incoming, v, d, plan, t, cast_option(plan, t)) {
                         return Fit::Unknown;
@@ -259,7 +288,7 @@ fn fit_struct(
                 let stride = field_stride(n);
                 let mut starts: [u16; 64] = [0; 64];
                 let len = index_fields(incoming, v, n, x, m, stride, &mut starts);
-                let inner_index = &starts[..len];
+                let inside = &starts[..len];
                 let inner = Source {
                     edition: v,
                     scope,
@@ -273,7 +302,7 @@ fn fit_struct(
                 match fit_fields(
                     incoming,
                     inner,
-                    inner_index,
+                    inside,
                     plan,
                     first,
                     target,

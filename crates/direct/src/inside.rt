@@ -1,10 +1,10 @@
 // Where the parts of a type stand.
+ghost use Rattle.layout.specs.Limits.{deepest};
 ghost use Rattle.layout.specs.code.Stands.{TypeAt};
 ghost use Rattle.direct.specs.code.Insides.{InsideIs, BothIs};
-use layout::columns::Labelled;
 use layout::cursor::Cursor;
 use layout::edition::Edition;
-use layout::types::Head;
+use layout::parts::TypeParts;
 
 // A struct's columns, a list's or array's element; a leaf has none.
 pub enum Inside {
@@ -23,26 +23,20 @@ pub enum Both {
 }
 
 pub fn inside_of(s: &[u8], v: Edition, c: Cursor) -> Inside
-    ensures { λ r. ⌜ ((T : TypeAt v 16 (now (s .entry)) (c .at)) → InsideIs v (now (s .entry)) (c .at) T r) ⌝ }
+    ensures { λ r. ⌜ ((T : TypeAt v deepest (now (s .entry)) (c .at)) → InsideIs v (now (s .entry)) (c .at) T r) ⌝ }
 {
-    match c.head(s) {
-        Head::Leaf(_, _) => Inside::Leaf,
-        Head::Struct(n, d) => Inside::Struct(n, d),
-        Head::List(d) => match d.element_label(s, v) {
-            Labelled::Is(_, e) => Inside::List(e),
-            Labelled::Refused(_) => Inside::Leaf,
-        },
-        Head::Array(w, d) => match d.element_label(s, v) {
-            Labelled::Is(_, e) => Inside::Array(w, e),
-            Labelled::Refused(_) => Inside::Leaf,
-        },
-        Head::Refused(_) => Inside::Leaf,
+    match c.parts(s, v) {
+        TypeParts::Leaf(_, _) => Inside::Leaf,
+        TypeParts::Struct(n, d) => Inside::Struct(n, d),
+        TypeParts::List(_, e) => Inside::List(e),
+        TypeParts::Array(w, _, e) => Inside::Array(w, e),
+        TypeParts::Refused(_) => Inside::Leaf,
     }
 }
 
 // The types at `c` and at `d`, each in its own bytes.
 pub fn both_inside(a: &[u8], va: Edition, c: Cursor, b: &[u8], vb: Edition, d: Cursor) -> Both
-    ensures { λ r. ⌜ ((T : TypeAt va 16 (now (a .entry)) (c .at)) (Q : TypeAt vb 16 (now (b .entry)) (d .at)) → BothIs va (now (a .entry)) (c .at) T vb (now (b .entry)) (d .at) Q r) ⌝ }
+    ensures { λ r. ⌜ ((T : TypeAt va deepest (now (a .entry)) (c .at)) (Q : TypeAt vb deepest (now (b .entry)) (d .at)) → BothIs va (now (a .entry)) (c .at) T vb (now (b .entry)) (d .at) Q r) ⌝ }
 {
     match inside_of(a, va, c) {
         Inside::Leaf => Both::Apart,

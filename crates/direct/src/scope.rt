@@ -2,6 +2,7 @@
 ghost use mathlib.Core.Path.{_≡_};
 ghost use Prim.Native.Nat.{_≤_};
 ghost use lib.ListN.{length, take};
+ghost use Rattle.layout.specs.Limits.{deepest};
 ghost use Rattle.layout.specs.Tree.{dtypeOf};
 ghost use Rattle.layout.specs.code.Stands.{TypeAt};
 ghost use Rattle.plan.specs.Check.{columnAt, elementOf, typeOf};
@@ -51,7 +52,7 @@ fn taken_from(f: Found) -> Taken
 
 // An element has position 0 and no name.
 fn take_element(incoming: &[u8], v: Edition, c: Cursor, k: Position) -> Taken
-    ensures { λ r. ⌜ ((T : TypeAt v 16 (now (incoming .entry)) (c .at)) → TakenIs (now (incoming .entry)) v (columnAt (elementOf (dtypeOf (T .tree))) (k .0)) r) ⌝ }
+    ensures { λ r. ⌜ ((T : TypeAt v deepest (now (incoming .entry)) (c .at)) → TakenIs (now (incoming .entry)) v (columnAt (elementOf (dtypeOf (T .tree))) (k .0)) r) ⌝ }
 {
     if k.0 == 0 {
         Taken::At(Span { start: 0, len: 0 }, c)

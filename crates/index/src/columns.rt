@@ -2,6 +2,7 @@
 ghost use mathlib.Core.Path.{_≡_};
 ghost use Prim.Native.Nat.{ℕ, _≤_, _<_};
 ghost use lib.ListN.{length, take};
+ghost use Rattle.layout.specs.Limits.{deepest};
 ghost use Rattle.layout.specs.Find.{columnAt};
 ghost use Rattle.layout.specs.code.Finding.{Finds};
 ghost use Rattle.layout.specs.code.Stands.{ColumnsAt};
@@ -15,6 +16,7 @@ use layout::cursor::Cursor;
 use layout::cursor::Moved;
 use layout::edition::Edition;
 use layout::find::Found;
+use layout::limits::DEEPEST;
 use layout::pass::pass_columns;
 
 // A stride at which 256 entries do for `n` columns.
@@ -65,7 +67,7 @@ pub fn index_columns(
         if n - i <= stride {
             return j;
         }
-        match pass_columns(s, v, 16, stride, c) {
+        match pass_columns(s, v, DEEPEST, stride, c) {
             Moved::To(e) => {
                 c = e;
             }
@@ -78,9 +80,9 @@ pub fn index_columns(
 
 // The column after `m` others, whose position is `k`.
 fn column_after(s: &[u8], v: Edition, m: u16, c: Cursor, k: Position) -> Found
-    ensures { λ r. ⌜ ((n : ℕ) (P : ColumnsAt v 16 (now (s .entry)) n (c .at)) → m < n → Finds v 16 (now (s .entry)) (firstAs k (dropColumns m (P .columns))) r) ⌝ }
+    ensures { λ r. ⌜ ((n : ℕ) (P : ColumnsAt v deepest (now (s .entry)) n (c .at)) → m < n → Finds v deepest (now (s .entry)) (firstAs k (dropColumns m (P .columns))) r) ⌝ }
 {
-    match pass_columns(s, v, 16, m, c) {
+    match pass_columns(s, v, DEEPEST, m, c) {
         Moved::To(d) => match d.label(s, v) {
             Labelled::Is(l, e) => Found::At(k, l, e),
             Labelled::Refused(_) => Found::Absent,
@@ -98,7 +100,7 @@ struct Start {
 // The last entry of the table that is not behind column `k`; without one, the first column.
 fn start_of(index: &[u16], stride: u16, first: Cursor, k: u16) -> Start
     requires { ⌜ 0 < stride ⌝ }
-    ensures { λ r. ⌜ ((v : EditionOf) (s : Bytes) (n : ℕ) → Indexed v s n (first .at) stride (now (index .entry)) → (P : ColumnsAt v 16 s n (first .at)) → StartsBefore v s n (first .at) P k (r .at) (r .left)) ⌝ }
+    ensures { λ r. ⌜ ((v : EditionOf) (s : Bytes) (n : ℕ) → Indexed v s n (first .at) stride (now (index .entry)) → (P : ColumnsAt v deepest s n (first .at)) → StartsBefore v s n (first .at) P k (r .at) (r .left)) ⌝ }
 {
     let j = wide(k / stride);
     if j < index.len() {
@@ -124,10 +126,10 @@ pub fn indexed_column(
     stride: u16,
     k: Position,
 ) -> Found
-    requires { ⌜ ColumnsAt v 16 (now s) n (first .at) ⌝ }
+    requires { ⌜ ColumnsAt v deepest (now s) n (first .at) ⌝ }
     requires { ⌜ Indexed v (now s) n (first .at) stride (now index) ⌝ }
     requires { ⌜ 0 < stride ⌝ }
-    ensures { λ r. ⌜ ((P : ColumnsAt v 16 (now (s .entry)) n (first .at)) → Finds v 16 (now (s .entry)) (columnAt k (P .columns)) r) ⌝ }
+    ensures { λ r. ⌜ ((P : ColumnsAt v deepest (now (s .entry)) n (first .at)) → Finds v deepest (now (s .entry)) (columnAt k (P .columns)) r) ⌝ }
 {
     let p = k.0;
     if n <= p {

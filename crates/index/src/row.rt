@@ -10,6 +10,7 @@ ghost use Rattle.index.specs.code.Indexed.{RowIn, IndexedIn};
 use layout::bytes::wide;
 use layout::columns::ColumnRange;
 use layout::cursor::Cursor;
+use layout::limits::DEEPEST;
 use nodes::raw::NodeAt;
 use nodes::raw::field_at;
 use values::read::ValueRead;
@@ -72,7 +73,7 @@ pub fn index_row(
         if n - i <= stride {
             return j;
         }
-        match read_fields(lay, v, 16, stride, t, rec, c, ends) {
+        match read_fields(lay, v, DEEPEST, stride, t, rec, c, ends) {
             ValueRead::To(d, e) => {
                 t = d;
                 c = e;

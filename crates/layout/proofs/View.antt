@@ -1,7 +1,7 @@
 -- What a type or columns that stand at an offset say of each answer of the readers: one law for each answer. Assumes
 -- nothing.
 use Prim.Native.Nat.{ℕ, zero, suc, _-_}
-use mathlib.Core.Path.{_≡_, refl, sym, ap, _∙_}
+use mathlib.Core.Path.{_≡_, refl, sym, ap, _∙_, subst}
 use mathlib.Core.List.{List, [], _∷_, _++_}
 use mathlib.Core.Bool.{Bool, true, false, not}
 use native.Mathlib.Omega.{arith}
@@ -10,12 +10,14 @@ use Rattle.layout.specs.Parser.{Res, refuse, ok, next, choose, Parser, t
 use Rattle.layout.specs.Tree.{LeafType, leafType, Label, ColumnType, cleaf, cstruct, clist, carray, Columns, cnil, ccons}
 use Rattle.layout.specs.Layout.{Head, aLeaf, plainLeaf, kind, body, structType, listType, arrayType, label, label as labelOf, elementLabel, columns, type}
 use Rattle.layout.specs.Layout.{repeatsAny}
-use Rattle.layout.specs.code.Answers.{stepRes, headRes, leafAt, labelRes, labelAt, movedOf}
+use Rattle.layout.specs.code.Answers.{stepRes, headRes, headIn, leafAt, labelRes, labelAt, labelIn, movedOf}
 use Rattle.layout.specs.code.Stands.{TypeAt, ColumnsAt}
+use Rattle.layout.specs.code.Parts.{LeafRead, ElementRead, partsRead, PartsIs}
 use Rattle.layout.specs.declared.cursor.Cursor.{Cursor}
 use Rattle.layout.specs.declared.cursor.Moved.{Moved}
 use Rattle.layout.specs.declared.cursor.Step.{Step}
 use Rattle.layout.specs.declared.leaf.Leaf.{Leaf}
+use Rattle.layout.specs.declared.parts.TypeParts.{TypeParts}
 use Rattle.layout.specs.declared.types.PlainLeaf.{PlainLeaf}
 use Rattle.layout.specs.declared.types.Head.{Head as HeadSpan}
 use Rattle.layout.specs.declared.types.LeafType.{LeafType as LeafSpan}
@@ -23,7 +25,7 @@ use Rattle.layout.specs.declared.columns.Label.{Label as LabelSpan}
 use Rattle.layout.specs.declared.columns.Labelled.{Labelled}
 use Rattle.layout.specs.declared.columns.Siblings.the-variants.{Free}
 use Rattle.layout.specs.declared.edition.Edition.{Edition}
-use Rattle.layout.proofs.Ways.{clash, moved-to, moved-refused}
+use Rattle.layout.proofs.Ways.{clash, head-in, label-in, moved-to, moved-refused}
 use Rattle.layout.proofs.Leaves.{plain-kind}
 use Rattle.layout.proofs.FreeRule.{repeats-free}
 
@@ -142,6 +144,51 @@ module _ {v : Edition} {d : ℕ} {s : Bytes} {at : ℕ} (P : TypeAt v d s at) wh
 
   pub never-stuck : {B : Type 0} {r : Moved} {n : ℕ} → r ≡ movedOf (type v Free d s at) → r ≡ Moved.Refused n → B
   never-stuck {n = n} e f = let z : refuse n ≡ ok (P .tree) (P .end) = sym (moved-refused (type v Free d s at) e f) ∙ P .reads in clash (cc)
+
+-- the answer that holds all parts, by those of the readers
+module _ {v : Edition} {s : Bytes} {at : ℕ} {p : HeadSpan} (e : headRes s p ≡ kind s at) where
+  pub read-leaf : {l : LeafSpan} {c : Cursor} → headIn s p → p ≡ HeadSpan.Leaf l c → PartsIs v s at (TypeParts.Leaf l c)
+  read-leaf i f = record { read = record { head = sym (ap (headRes s) f) ∙ e; inside = head-in s i f } }
+
+  pub read-struct : {n : ℕ} {c : Cursor} → p ≡ HeadSpan.Struct n c → PartsIs v s at (TypeParts.Struct n c)
+  read-struct f = record { read = sym (ap (headRes s) f) ∙ e }
+
+  pub read-element : (h : Cursor → HeadSpan) {c : Cursor} {q : Labelled} {l : LabelSpan} {b : Cursor} → p ≡ h c → labelRes s q ≡ elementLabel v s (c .at)
+      → labelIn s q → q ≡ Labelled.Is l b → ElementRead v s at h l b
+  read-element h {c} f g i k = record { start = c; head = sym (ap (headRes s) f) ∙ e; label = sym (ap (labelRes s) k) ∙ g; inside = label-in s i k }
+
+module _ {v : Edition} {s : Bytes} {at : ℕ} {r : TypeParts} (R : PartsIs v s at r) where
+  read-as : {q : TypeParts} → r ≡ q → partsRead v s at q
+  read-as e = subst (λ (q : TypeParts). partsRead v s at q) e (R .read)
+
+  pub leaf-parts : {l : LeafSpan} {c : Cursor} → r ≡ TypeParts.Leaf l c → LeafRead s at l c
+  leaf-parts e = read-as e
+
+  pub list-parts : {l : LabelSpan} {c : Cursor} → r ≡ TypeParts.List l c → ElementRead v s at (λ b. HeadSpan.List b) l c
+  list-parts e = read-as e
+
+  pub array-parts : {w : ℕ} {l : LabelSpan} {c : Cursor} → r ≡ TypeParts.Array w l c → ElementRead v s at (λ b. HeadSpan.Array w b) l c
+  array-parts e = read-as e
+
+  module _ {d : ℕ} (P : TypeAt v d s at) where
+    pub leaf-opened : {l : LeafSpan} {c : Cursor} → r ≡ TypeParts.Leaf l c → (P .tree ≡ cleaf (leafAt s l)) × (c .at ≡ P .end)
+    leaf-opened {l} {c} e = leaf-at P {p = HeadSpan.Leaf l c} {l = l} {c = c} (leaf-parts e .head) refl
+
+    pub struct-opened : {n : ℕ} {c : Cursor} → r ≡ TypeParts.Struct n c → StructAt v d s at P n (c .at)
+    struct-opened {n} {c} e = struct-at P {p = HeadSpan.Struct n c} {n = n} {c = c} (read-as e) refl
+
+    pub list-opened : {l : LabelSpan} {c : Cursor} → r ≡ TypeParts.List l c → ListAt v d s at P (labelAt s l) (c .at)
+    list-opened {l} {c} e =
+        let E = list-parts e in
+        list-at P {p = HeadSpan.List (E .start)} {c = E .start} (E .head) {q = Labelled.Is l c} (E .label) {l = l} {b = c} refl refl
+
+    pub array-opened : {w : ℕ} {l : LabelSpan} {c : Cursor} → r ≡ TypeParts.Array w l c → ArrayAt v d s at P w (labelAt s l) (c .at)
+    array-opened {w} {l} {c} e =
+        let E = array-parts e in
+        array-at P {p = HeadSpan.Array w (E .start)} {c = E .start} (E .head) {q = Labelled.Is l c} (E .label) {w = w} {l = l} {b = c} refl refl
+
+    pub never-opened : {B : Type 0} {n : ℕ} → r ≡ TypeParts.Refused n → B
+    never-opened {n = n} e = let h : partsRead v s at (TypeParts.Refused n) = read-as e in absurd (h d P)
 
 -- two readings of one place agree
 pub same-type : {v : Edition} {d : ℕ} {s : Bytes} {at : ℕ} (P Q : TypeAt v d s at) → (P .tree ≡ Q .tree) × (P .end ≡ Q .end)

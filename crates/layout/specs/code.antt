@@ -4,3 +4,4 @@ pub mod Pass
 pub mod Seen
 pub mod Stands
 pub mod Finding
+pub mod Parts

@@ -8,6 +8,7 @@ pub mod find;
 pub mod leaf;
 pub mod limits;
 pub mod matching;
+pub mod parts;
 pub mod pass;
 pub mod read;
 pub mod seen;

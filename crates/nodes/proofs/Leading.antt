@@ -11,22 +11,21 @@ use borrow.Author.Tests.{eq-eqb, ne-eqb}
 use Rattle.layout.specs.Bytes.{Bytes}
 use Rattle.layout.specs.Parser.{choose}
 use Rattle.layout.specs.Tree.{Label, DataType, leaf, struct, list, array, Fields, ColumnType, Columns, cnil, ccons, dtypeOf, fieldsOf}
-use Rattle.layout.specs.Layout.{kind, elementLabel, type as typeOf, deepest}
-use Rattle.layout.specs.code.Answers.{headRes, labelRes}
+use Rattle.layout.specs.Layout.{type as typeOf, deepest}
+use Rattle.layout.specs.code.Parts.{PartsIs}
 use Rattle.layout.specs.code.Stands.{TypeAt, ColumnsAt}
 use Rattle.layout.specs.Find.{Lookup, present, findFrom, columnAt as lookupAt}
 use Rattle.layout.specs.code.Finding.{FoundAt, Finds}
 use Rattle.layout.specs.declared.columns.Position.{Position}
 use Rattle.layout.specs.declared.columns.Siblings.the-variants.{Free}
 use Rattle.layout.specs.declared.columns.Label.{Label as LabelSpan}
-use Rattle.layout.specs.declared.columns.Labelled.{Labelled}
 use Rattle.layout.specs.declared.cursor.Cursor.{Cursor}
 use Rattle.layout.specs.declared.find.Found.{Found}
-use Rattle.layout.specs.declared.types.Head.{Head}
+use Rattle.layout.specs.declared.parts.TypeParts.{TypeParts}
 use Rattle.layout.specs.declared.types.LeafType.{LeafType as LeafSpan}
 use Rattle.layout.specs.declared.edition.Edition.{Edition}
 use Rattle.layout.proofs.Ways.{clash}
-use Rattle.layout.proofs.View.{leaf-at, struct-at, list-at, array-at}
+use Rattle.layout.proofs.View.{leaf-opened, struct-opened, list-opened, array-opened}
 use Rattle.plan.specs.Result.{gives}
 use Rattle.plan.specs.Check.{Column, columnAt}
 use Rattle.walk.specs.code.Types.{Along, a-here, a-field, a-list, a-array}
@@ -107,17 +106,17 @@ found-at {v} {s} {r} k l t F = record {
   is = refl;
 }
 
-module _ (v : Edition) (s : Bytes) (c k : ℕ) (p : List ℕ) (u : DataType) (L : LeadsAt v s c (k ∷ p) u) {h : Head} (e : headRes s h ≡ kind s c) where
-  pub leads-leaf : {B : Type 0} {l : LeafSpan} {d : Cursor} → h ≡ Head.Leaf l d → B
+module _ (v : Edition) (s : Bytes) (c k : ℕ) (p : List ℕ) (u : DataType) (L : LeadsAt v s c (k ∷ p) u) {h : TypeParts} (R : PartsIs v s c h) where
+  pub leads-leaf : {B : Type 0} {l : LeafSpan} {d : Cursor} → h ≡ TypeParts.Leaf l d → B
   unfolding dtypeOf
-  leads-leaf f = along-leaf (ap dtypeOf (leaf-at (L .type) e f .0)) (L .along)
+  leads-leaf f = along-leaf (ap dtypeOf (leaf-opened R (L .type) f .0)) (L .along)
 
-  module _ {n : ℕ} {d : Cursor} (f : h ≡ Head.Struct n d) {r : Found} (g : (Q : ColumnsAt v 15 s n (d .at)) → Finds v 15 s
+  module _ {n : ℕ} {d : Cursor} (f : h ≡ TypeParts.Struct n d) {r : Found} (g : (Q : ColumnsAt v 15 s n (d .at)) → Finds v 15 s
       (lookupAt (record { 0 = k }) (Q .columns)) r) where
     taken : Taken v s r p u
     unfolding dtypeOf
     taken =
-        let S = struct-at (L .type) e f in
+        let S = struct-opened R (L .type) f in
         let (c, q, a) = along-field (ap dtypeOf (S .is)) (L .along) in
         let P = placed k k 0 (S .inner .columns) (omega arith) q in
         let F : FoundAt v 15 s (record { 0 = k }) (P .label) (P .type) r = subst (λ (x : Lookup). Finds v 15 s x r) (P .found) (g (S .inner)) in
@@ -140,18 +139,17 @@ module _ (v : Edition) (s : Bytes) (c k : ℕ) (p : List ℕ) (u : DataType) (L 
         let z : Found.At (F .position) (F .span) (F .start) ≡ Found.Absent = sym (F .found) ∙ q in
         clash (cc)
 
-  module _ {d : Cursor} {q : Labelled} (g : labelRes s q ≡ elementLabel v s (d .at)) {l : LabelSpan} {b : Cursor} (j : q ≡ Labelled.Is l b) where
-    pub leads-list : h ≡ Head.List d → LeadsAt v s (b .at) p u
-    unfolding dtypeOf deeper-type
-    leads-list f =
-        let I = list-at (L .type) e g f j in
-        record { type = deeper-type (omega arith) (I .inner); along = along-list (ap dtypeOf (I .is)) (L .along) }
+  pub leads-list : {l : LabelSpan} {d : Cursor} → h ≡ TypeParts.List l d → LeadsAt v s (d .at) p u
+  unfolding dtypeOf deeper-type
+  leads-list f =
+      let I = list-opened R (L .type) f in
+      record { type = deeper-type (omega arith) (I .inner); along = along-list (ap dtypeOf (I .is)) (L .along) }
 
-    pub leads-array : {w : ℕ} → h ≡ Head.Array w d → LeadsAt v s (b .at) p u
-    unfolding dtypeOf deeper-type
-    leads-array f =
-        let I = array-at (L .type) e g f j in
-        record { type = deeper-type (omega arith) (I .inner); along = along-array (ap dtypeOf (I .is)) (L .along) }
+  pub leads-array : {w : ℕ} {l : LabelSpan} {d : Cursor} → h ≡ TypeParts.Array w l d → LeadsAt v s (d .at) p u
+  unfolding dtypeOf deeper-type
+  leads-array f =
+      let I = array-opened R (L .type) f in
+      record { type = deeper-type (omega arith) (I .inner); along = along-array (ap dtypeOf (I .is)) (L .along) }
 
 -- ---- the loop: after the numbers before i
 

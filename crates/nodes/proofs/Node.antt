@@ -5,7 +5,7 @@ use mathlib.Core.List.{List}
 use native.Mathlib.Omega.{arith}
 use Rattle.layout.specs.Bytes.{Bytes}
 use Rattle.layout.specs.Parser.{refuse, ok, next, chunk, u16}
-use Rattle.layout.specs.Tree.{Label, DataType, clist, carray, dtypeOf, fieldsOf}
+use Rattle.layout.specs.Tree.{LeafType, Label, DataType, cleaf, clist, carray, dtypeOf, fieldsOf}
 use Rattle.layout.specs.Layout.{Head, kind, label as labelOf, elementLabel, type, body, listType, arrayType, deepest}
 use Rattle.layout.specs.code.Answers.{shortRes, headRes, labelRes, labelAt}
 use Rattle.layout.specs.code.Stands.{TypeAt, ColumnsAt}
@@ -19,7 +19,7 @@ use Rattle.layout.specs.declared.columns.Labelled.{Labelled}
 use Rattle.layout.specs.declared.columns.Siblings.the-variants.{Free}
 use Rattle.layout.specs.declared.edition.Edition.{Edition}
 use Rattle.layout.proofs.Ways.{clash}
-use Rattle.layout.proofs.View.{next-ok, label-got, label-none, leaf-at, struct-at, list-at, array-at}
+use Rattle.layout.proofs.View.{next-ok, label-got, label-none, StructAt, ListAt, ArrayAt, list-at}
 use Rattle.values.specs.Value.{Value, vnull, vnumber, vtext, Values}
 use Rattle.values.specs.Reading.{presence, flag, little, longText, contentBy, leafContent, content as contentOfType, value, values as valuesOf, times, decimal}
 use Rattle.values.specs.code.Answers.{presenceRes, valueMoved}
@@ -214,17 +214,14 @@ pub record ListIs (v : Edition) (lay : Bytes) (t : ℕ) (rec : Bytes) (c : ℕ) 
   pub inner : ListOf v lay t rec c
   pub is : inner .content .tree ≡ x
 
-module _ {v : Edition} {lay : Bytes} {t : ℕ} {rec : Bytes} {c : ℕ} (X : PresentAt v lay t rec c) {p : HeadSpan} (e : headRes lay p ≡ kind lay t) where
-  pub leaf-none : {l : LeafSpan} {b : Cursor} → p ≡ HeadSpan.Leaf l b → NoParts (X .content .tree)
+module _ {v : Edition} {lay : Bytes} {t : ℕ} {rec : Bytes} {c : ℕ} (X : PresentAt v lay t rec c) where
+  pub leaf-none : {l : LeafType} → X .type .tree ≡ cleaf l → NoParts (X .content .tree)
   unfolding dtypeOf contentOfType leafContent content-as
-  leaf-none f =
-      let P = content-as (ap dtypeOf (leaf-at (X .type) e f .0)) (X .content) in
-      content-no-parts _ _ rec c (X .content .tree) (P .reads)
+  leaf-none e = content-no-parts _ _ rec c (X .content .tree) (content-as (ap dtypeOf e) (X .content) .reads)
 
-  pub struct-row : {n : ℕ} {b : Cursor} → p ≡ HeadSpan.Struct n b → RowIn v lay n (b .at) rec c (X .content .tree)
+  pub struct-row : {n m : ℕ} → StructAt v deepest lay t (X .type) n m → RowIn v lay n m rec c (X .content .tree)
   unfolding dtypeOf content-as opened partsOf deeper-columns
-  struct-row f =
-      let S = struct-at (X .type) e f in
+  struct-row S =
       let I = struct-in (content-as (ap dtypeOf (S .is)) (X .content)) in
       let row : RowAt v lay _ _ rec c = record { columns = deeper-columns (omega arith) (S .inner); values = I .inner } in
       record {
@@ -233,23 +230,25 @@ module _ {v : Edition} {lay : Bytes} {t : ℕ} {rec : Bytes} {c : ℕ} (X : Pres
         parts = ap partsOf (I .is) ∙ ap Parts.Some (count-row row);
       }
 
-  module _ {b : Cursor} {q : Labelled} (g : labelRes lay q ≡ elementLabel v lay (b .at)) {l : LabelSpan} {a : Cursor} (h : q ≡ Labelled.Is l a) where
-    pub list-is : p ≡ HeadSpan.List b → ListIs v lay (a .at) rec c (X .content .tree)
-    unfolding dtypeOf content-as deeper-type
-    list-is f =
-        let L = list-at (X .type) e g f h in
-        record { inner = record { type = deeper-type (omega arith) (L .inner); content = content-as (ap dtypeOf (L .is)) (X .content) }; is = refl }
+  pub list-within : {l : Label} {m : ℕ} → ListAt v deepest lay t (X .type) l m → ListIs v lay m rec c (X .content .tree)
+  unfolding dtypeOf content-as deeper-type
+  list-within L =
+      record { inner = record { type = deeper-type (omega arith) (L .inner); content = content-as (ap dtypeOf (L .is)) (X .content) }; is = refl }
 
-    pub array-elements : {w : ℕ} → p ≡ HeadSpan.Array w b → ElementsIn v lay w (a .at) rec c (X .content .tree)
-    unfolding dtypeOf content-as opened partsOf deeper-type
-    array-elements f =
-        let L = array-at (X .type) e g f h in
-        let I = array-in (content-as (ap dtypeOf (L .is)) (X .content)) in
-        record {
-          elements = record { type = deeper-type (omega arith) (L .inner); values = I .inner };
-          part = λ k. ap (λ (x : Value). partAt x k) (I .is);
-          parts = ap partsOf (I .is) ∙ ap Parts.Some (count-each (I .inner));
-        }
+  pub array-elements : {w : ℕ} {l : Label} {m : ℕ} → ArrayAt v deepest lay t (X .type) w l m → ElementsIn v lay w m rec c (X .content .tree)
+  unfolding dtypeOf content-as opened partsOf deeper-type
+  array-elements L =
+      let I = array-in (content-as (ap dtypeOf (L .is)) (X .content)) in
+      record {
+        elements = record { type = deeper-type (omega arith) (L .inner); values = I .inner };
+        part = λ k. ap (λ (x : Value). partAt x k) (I .is);
+        parts = ap partsOf (I .is) ∙ ap Parts.Some (count-each (I .inner));
+      }
+
+module _ {v : Edition} {lay : Bytes} {t : ℕ} {rec : Bytes} {c : ℕ} (X : PresentAt v lay t rec c) {p : HeadSpan} (e : headRes lay p ≡ kind lay t) where
+  pub list-is : {b : Cursor} {q : Labelled} → labelRes lay q ≡ elementLabel v lay (b .at) → {l : LabelSpan} {a : Cursor} → q ≡ Labelled.Is l a
+      → p ≡ HeadSpan.List b → ListIs v lay (a .at) rec c (X .content .tree)
+  list-is g h f = list-within X (list-at (X .type) e g f h)
 
   -- the number of parts, with no look at the element's type
   pub list-parts : {b : Cursor} {q : Short} {n : ℕ} {d : Cursor} → p ≡ HeadSpan.List b → shortRes q ≡ u16 rec c → q ≡ Short.Is n d → Parts.Some n ≡

@@ -12,6 +12,8 @@ use layout::columns::Labelled;
 use layout::cursor::Cursor;
 use layout::cursor::Short;
 use layout::edition::Edition;
+use layout::limits::DEEPEST;
+use layout::parts::TypeParts;
 use layout::types::Head;
 use values::leaf::Presence;
 use values::leaf::read_presence;
@@ -49,7 +51,7 @@ pub fn field_at(
     if n <= k {
         return NodeAt::Null;
     }
-    match read_fields(lay, v, 16, k, columns, rec, c, ends) {
+    match read_fields(lay, v, DEEPEST, k, columns, rec, c, ends) {
         ValueRead::To(t, d) => match t.label(lay, v) {
             Labelled::Is(_, e) => NodeAt::At(e, d),
             Labelled::Refused(_) => NodeAt::Null,
@@ -77,7 +79,7 @@ fn element_at(
     if n <= i {
         return NodeAt::Null;
     }
-    match read_elements(lay, v, 16, i, t, rec, c, ends) {
+    match read_elements(lay, v, DEEPEST, i, t, rec, c, ends) {
         ValueRead::To(_, d) => NodeAt::At(t, d),
         ValueRead::Refused(_) => NodeAt::Null,
     }
@@ -117,18 +119,12 @@ fn present_part(
     requires { ⌜ Ends v (now lay) (now ends) ⌝ }
     ensures { λ r. ⌜ ((X : PresentAt v (now (lay .entry)) (t .at) (now (rec .entry)) (c .at)) → NodeOf v (now (lay .entry)) (now (rec .entry)) (partAt (X .content .tree) k) r) ⌝ }
 {
-    match t.head(lay) {
-        Head::Leaf(_, _) => NodeAt::Null,
-        Head::Struct(n, e) => field_at(lay, v, n, e, rec, c, k, ends),
-        Head::List(e) => match e.element_label(lay, v) {
-            Labelled::Is(_, f) => list_element(lay, v, f, rec, c, k, ends),
-            Labelled::Refused(_) => NodeAt::Null,
-        },
-        Head::Array(w, e) => match e.element_label(lay, v) {
-            Labelled::Is(_, f) => element_at(lay, v, w, f, rec, c, k, ends),
-            Labelled::Refused(_) => NodeAt::Null,
-        },
-        Head::Refused(_) => NodeAt::Null,
+    match t.parts(lay, v) {
+        TypeParts::Leaf(_, _) => NodeAt::Null,
+        TypeParts::Struct(n, e) => field_at(lay, v, n, e, rec, c, k, ends),
+        TypeParts::List(_, e) => list_element(lay, v, e, rec, c, k, ends),
+        TypeParts::Array(w, _, e) => element_at(lay, v, w, e, rec, c, k, ends),
+        TypeParts::Refused(_) => NodeAt::Null,
     }
 }
 
@@ -162,22 +158,20 @@ pub fn value_at(
     requires { ⌜ Ends v (now lay) (now ends) ⌝ }
     ensures { λ r. ⌜ ((X : RawAt v (now (lay .entry)) (t .at) (now (rec .entry)) (c .at)) → NodeOf v (now (lay .entry)) (now (rec .entry)) (valueNode (X .value .tree) (slice from len path)) r) ⌝ }
 {
-    let mut at = t.at;
-    let mut to = c.at;
+    let mut u = t;
+    let mut d = c;
     let mut i = from;
     while i < len {
-        let u = Cursor { at };
-        let d = Cursor { at: to };
         match part_at(lay, v, u, rec, d, path[i], ends) {
             NodeAt::At(e, f) => {
-                at = e.at;
-                to = f.at;
+                u = e;
+                d = f;
             }
             NodeAt::Null => return NodeAt::Null,
         }
         i += 1;
     }
-    NodeAt::At(Cursor { at }, Cursor { at: to })
+    NodeAt::At(u, d)
 }
 
 // The number of parts of a value that is present.

@@ -4,6 +4,7 @@ ghost use mathlib.Core.List.{List, _∷_};
 ghost use Prim.Native.Nat.{ℕ, _+_, _^_, _≤_, _<_, max};
 ghost use lib.ListN.{length};
 ghost use lib.Seq.{slice};
+ghost use Rattle.layout.specs.Limits.{deepest};
 ghost use Rattle.layout.specs.Tree.{DataType, dtypeOf, fieldsOf};
 ghost use Rattle.layout.specs.code.Stands.{TypeAt, ColumnsAt};
 ghost use Rattle.nodes.specs.code.Typed.{LeadsAt, TypeIs, SizeOf, SizesOf};
@@ -13,28 +14,24 @@ use layout::cursor::Cursor;
 use layout::edition::Edition;
 use layout::find::Found;
 use layout::find::column_at;
+use layout::limits::DEEPEST;
+use layout::parts::TypeParts;
 use layout::types::Head;
 
 // The type of field `k`, or of an element, whose number has no say.
 fn type_part(s: &[u8], v: Edition, c: Cursor, k: u16) -> Cursor
-    requires { ⌜ TypeAt v 16 (now s) (c .at) ⌝ }
+    requires { ⌜ TypeAt v deepest (now s) (c .at) ⌝ }
     ensures { λ r. ⌜ ((p : List ℕ) (u : DataType) → LeadsAt v (now (s .entry)) (c .at) (k ∷ p) u → LeadsAt v (now (s .entry)) (r .at) p u) ⌝ }
 {
-    match c.head(s) {
-        Head::Leaf(_, _) => c,
-        Head::Struct(n, d) => match column_at(s, v, 15, n, d, Position(k)) {
+    match c.parts(s, v) {
+        TypeParts::Leaf(_, _) => c,
+        TypeParts::Struct(n, d) => match column_at(s, v, 15, n, d, Position(k)) {
             Found::At(_, _, e) => e,
             Found::Absent => c,
         },
-        Head::List(d) => match d.element_label(s, v) {
-            Labelled::Is(_, e) => e,
-            Labelled::Refused(_) => c,
-        },
-        Head::Array(_, d) => match d.element_label(s, v) {
-            Labelled::Is(_, e) => e,
-            Labelled::Refused(_) => c,
-        },
-        Head::Refused(_) => c,
+        TypeParts::List(_, e) => e,
+        TypeParts::Array(_, _, e) => e,
+        TypeParts::Refused(_) => c,
     }
 }
 
@@ -44,15 +41,13 @@ pub fn type_at(s: &[u8], v: Edition, c: Cursor, path: [u16; 64], from: usize, le
     requires { ⌜ (from ≤ len) × (len ≤ length path) ⌝ }
     ensures { λ r. ⌜ ((u : DataType) → LeadsAt v (now (s .entry)) (c .at) (slice from len path) u → TypeIs v (now (s .entry)) (r .at) u) ⌝ }
 {
-    let mut at = c.at;
+    let mut d = c;
     let mut i = from;
     while i < len {
-        let d = Cursor { at };
-        let e = type_part(s, v, d, path[i]);
-        at = e.at;
+        d = type_part(s, v, d, path[i]);
         i += 1;
     }
-    Cursor { at }
+    d
 }
 
 // The length of a type's version 1 form and its depth; and where the type ends.
@@ -127,33 +122,28 @@ fn fields_size(s: &[u8], v: Edition, depth: u8, n: u16, c: Cursor) -> FormSize
     requires { ⌜ ColumnsAt v depth (now s) n (c .at) ⌝ }
     ensures { λ r. ⌜ ((P : ColumnsAt v depth (now (s .entry)) n (c .at)) → SizesOf (fieldsOf (P .columns)) (P .end) r) ⌝ }
 {
-    let mut at = c.at;
+    let mut d = c;
     let mut size = 0;
     let mut deep: u8 = 0;
     let mut i: u16 = 0;
     while i < n {
-        let d = Cursor { at };
         match d.label(s, v) {
             Labelled::Is(l, next) => {
                 let t = type_size(s, v, depth, next);
                 size = size + (l.name.len + 1) + t.size;
                 deep = larger(deep, t.deep);
-                at = t.end.at;
+                d = t.end;
             }
             Labelled::Refused(_) => return nothing(c),
         }
         i += 1;
     }
-    FormSize {
-        size,
-        deep,
-        end: Cursor { at },
-    }
+    FormSize { size, deep, end: d }
 }
 
 pub fn form_size(s: &[u8], v: Edition, c: Cursor) -> FormSize
-    requires { ⌜ TypeAt v 16 (now s) (c .at) ⌝ }
-    ensures { λ r. ⌜ ((P : TypeAt v 16 (now (s .entry)) (c .at)) → SizeOf (dtypeOf (P .tree)) (P .end) r) ⌝ }
+    requires { ⌜ TypeAt v deepest (now s) (c .at) ⌝ }
+    ensures { λ r. ⌜ ((P : TypeAt v deepest (now (s .entry)) (c .at)) → SizeOf (dtypeOf (P .tree)) (P .end) r) ⌝ }
 {
-    type_size(s, v, 16, c)
+    type_size(s, v, DEEPEST, c)
 }

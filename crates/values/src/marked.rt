@@ -26,7 +26,7 @@ use layout::cursor::Moved;
 use layout::cursor::Short;
 use layout::cursor::Step;
 use layout::edition::Edition;
-use layout::types::Head;
+use layout::parts::TypeParts;
 
 // The edition of the layout in which a type stands, how many levels the type may have, and whether marks count.
 pub struct Context {
@@ -152,34 +152,22 @@ fn marked_nested(
         depth: cx.depth - 1,
         marks: cx.marks,
     };
-    match t.head(lay) {
-        Head::Leaf(l, e) => {
+    match t.parts(lay, v) {
+        TypeParts::Leaf(l, e) => {
             let leaf = l.leaf;
             match read_leaf(rec, leaf, c) {
                 Moved::To(d) => ValueRead::To(e, d),
                 Moved::Refused(k) => ValueRead::Refused(k),
             }
         }
-        Head::Struct(n, e) => marked_fields(lay, inner, n, e, rec, c, ends),
-        Head::List(e) => match e.element_label(lay, v) {
-            Labelled::Is(l, f) => marked_list(
-                lay,
-                inner,
-                is_required(cx.marks, l),
-                f,
-                rec,
-                c,
-                ends,
-            ),
-            Labelled::Refused(k) => ValueRead::Refused(k),
-        },
-        Head::Array(w, e) => match e.element_label(lay, v) {
-            Labelled::Is(l, f) => {
-                marked_elements(lay, inner, is_required(cx.marks, l), w, f, rec, c, ends)
-            }
-            Labelled::Refused(k) => ValueRead::Refused(k),
-        },
-        Head::Refused(k) => ValueRead::Refused(k),
+        TypeParts::Struct(n, e) => marked_fields(lay, inner, n, e, rec, c, ends),
+        TypeParts::List(l, e) => {
+            marked_list(lay, inner, is_required(cx.marks, l), e, rec, c, ends)
+        }
+        TypeParts::Array(w, l, e) => {
+            marked_elements(lay, inner, is_required(cx.marks, l), w, e, rec, c, ends)
+        }
+        TypeParts::Refused(k) => ValueRead::Refused(k),
     }
 }
 

@@ -6,10 +6,10 @@ use Rattle.nodes.proofs.raw.value_at.Statement.{statement}
 use Rattle.nodes.proofs.raw.value_at.Tie as tie
 
 abbrev Inv-loop : tie.InvT-loop
-Inv-loop lay v rec from len ends path at₀ to₀ i₀ at to i = Going v lay at₀ rec to₀ path from len at to i
+Inv-loop lay v rec from len ends path u₀ d₀ i₀ u d i = Going v lay (u₀ .at) rec (d₀ .at) path from len (u .at) (d .at) i
 
 abbrev μ-loop : tie.MeasureT-loop
-μ-loop lay v rec from len ends path at₀ to₀ i₀ at to i = len - i
+μ-loop lay v rec from len ends path u₀ d₀ i₀ u d i = len - i
 
 pub value-at-spec : {M : Type 1} → statement M
 value-at-spec =

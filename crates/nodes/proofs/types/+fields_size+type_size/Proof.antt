@@ -45,10 +45,10 @@ type-size-below t =
     and 1 type-size-kinds.ps (falls 1 type-size-kinds.ps _<_ μ-type-size t) type-size.Pre
 
 abbrev fields-size-Inv-loop : fields-size-lts.InvT-loop
-fields-size-Inv-loop s v depth n c at₀ size₀ deep₀ i₀ at size deep i = Sizing v depth s n (c .at) at size deep i
+fields-size-Inv-loop s v depth n c d₀ size₀ deep₀ i₀ d size deep i = Sizing v depth s n (c .at) (d .at) size deep i
 
 abbrev fields-size-μ-loop : fields-size-lts.MeasureT-loop
-fields-size-μ-loop s v depth n c at₀ size₀ deep₀ i₀ at size deep i = n - i
+fields-size-μ-loop s v depth n c d₀ size₀ deep₀ i₀ d size deep i = n - i
 
 abbrev fields-size-claims : ℕ → fields-size-lts.Claims
 fields-size-claims t = (
@@ -114,9 +114,9 @@ pub +fields-size+type-size-spec : {M : Type 1} → statement M
     (λ c. search needs)
     (λ c. search needs)
     (λ c.
-    let c3 = c .before .before .before in let c5 = c3 .before .before in let c7 = c5 .before .before in let c8 = c7 .before in let c9 = c8 .before in
-    sizing-more (c9 .loop .inv) (c8 .loop-test .taken) (c7 .label .ensures .0) (c5 .l .given .1) (c7 .label .ensures .1) (c3 .type-size .ensures)
-    (c .larger .ensures))
+    let c1 = c .before in let c4 = c1 .before .before .before in let c6 = c4 .before .before in let c8 = c6 .before .before in let c9 = c8 .before in
+    sizing-more (c9 .before .loop .inv) (c9 .loop-test .taken) (c8 .label .ensures .0) (c6 .l .given .1) (c8 .label .ensures .1) (c4 .type-size .ensures)
+    (c1 .larger .ensures))
     (λ c. sizing-all (c .before .loop .inv) (c .loop-test .left)))
     λ t. type-size-lts.spec (type-size-claims t)
     (type-size-at t)

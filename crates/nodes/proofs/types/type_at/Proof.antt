@@ -6,10 +6,10 @@ use Rattle.nodes.proofs.types.type_at.Statement.{statement}
 use Rattle.nodes.proofs.types.type_at.Tie as tie
 
 abbrev Inv-loop : tie.InvT-loop
-Inv-loop s v from len path at₀ i₀ at i = Leading v s at₀ path from len at i
+Inv-loop s v from len path d₀ i₀ d i = Leading v s (d₀ .at) path from len (d .at) i
 
 abbrev μ-loop : tie.MeasureT-loop
-μ-loop s v from len path at₀ i₀ at i = len - i
+μ-loop s v from len path d₀ i₀ d i = len - i
 
 pub type-at-spec : {M : Type 1} → statement M
 type-at-spec =

@@ -8,7 +8,7 @@ use Rattle.values.proofs.Walk.{value-refused, Fielding, Repeating}
 use Rattle.values.proofs.Numbers.{number-read}
 use Rattle.values.specs.code.Marks.{marksOf}
 use Rattle.values.specs.Marked.{valueMarked}
-use Rattle.layout.proofs.View.{deep, struct-at, list-at, array-at, list-labelled, array-labelled, never-headless}
+use Rattle.layout.proofs.View.{deep, struct-opened, list-opened, array-opened, never-opened}
 use borrow.Author.Needs.{needs}
 use Prim.Native.Nat.{ℕ, _<_, _+_, _-_, _*_}
 use native.Mathlib.Omega.{arith}
@@ -35,9 +35,8 @@ use Rattle.values.proofs.marked.+marked_content+marked_element+marked_e
 use Rattle.values.proofs.marked.marked_value.Reads as marked-value
 use Rattle.values.proofs.marked.marked_value.Kinds as marked-value-kinds
 use Rattle.values.proofs.marked.+marked_content+marked_element+marked_elements+marked_fields+marked_list+marked_nested+marked_value.Lts-marked_value as marked-value-lts
-use Rattle.layout.proofs.cursor.Cursor.element_label.Reads as element-label-reads
-use Rattle.layout.proofs.cursor.Cursor.head.Reads as head-reads
 use Rattle.layout.proofs.cursor.Cursor.label.Reads as label-reads
+use Rattle.layout.proofs.cursor.Cursor.parts.Reads as parts-reads
 use Rattle.layout.proofs.cursor.Cursor.short.Reads as short-reads
 use Rattle.values.proofs.leaf.read_leaf.Reads as read-leaf-reads
 use Rattle.values.proofs.marked.marked_presence.Reads as marked-presence-reads
@@ -156,14 +155,12 @@ marked-list-claims t = (short-reads.Asked, short-reads.Learnt, marked-elements-b
 
 abbrev marked-nested-claims : ℕ → marked-nested-lts.Claims
 marked-nested-claims t = (
-  head-reads.Asked,
-  head-reads.Learnt,
+  parts-reads.Asked,
+  parts-reads.Learnt,
   read-leaf-reads.Asked,
   read-leaf-reads.Learnt,
   marked-fields-below t,
   marked-fields.Post,
-  element-label-reads.Asked,
-  element-label-reads.Learnt,
   is-required-reads.Asked,
   is-required-reads.Learnt,
   marked-list-below t,
@@ -322,74 +319,41 @@ pub +marked-content+marked-element+marked-elements+marked-fields+marked-list+mar
     (λ c. search needs)
     (λ c. search needs)
     (λ c κs.
-    let P = c .before .before .before .before .before .before .before .before .pre .1 .0 in
-    let z = deep P in (
-      omega (arith, c .before .before .before .before .before .before .before .before .pre .0),
-      (
-        struct-at P (c .before .before .before .head .ensures .0)
-            (c .before .n .given .1) .inner,
-        c .before .before .before .before .before .before .before .before .pre .1 .1,
-      ),
-    ))
-    (λ c. search needs)
-    (λ c κs. search needs)
+    let c3 = c .before .before .before in let c8 = c3 .before .before .before .before .before in
+    let P = c8 .pre .1 .0 in
+    let z = deep P in
+    (omega (arith, c8 .pre .0), (struct-opened (c3 .parts .ensures) P (c .before .n .given .1) .inner, c8 .pre .1 .1)))
     (λ c. search needs)
     (λ c κs. search needs)
     (λ c κs.
-    let P = c .before .before .before .before .before .before .before .before .before .before .before .before .before .pre .1 .0 in
+    let c2 = c .before .before in let c4 = c2 .before .before in let c9 = c4 .before .before .before .before .before in
+    let P = c9 .pre .1 .0 in
     let z = deep P in
-    let L = list-at P (c .before .before .before .before .before .before .before .before .head .ensures .0)
-    (c .before .before .before .before .element-label .ensures .0) (c .before .before .before .before .before .before .e .given .1)
-    (c .before .before .l2 .given .1) in (
-      omega (arith, c .before .before .before .before .before .before .before .before .before .before .before .before .before .pre .0),
-      (
-        L .inner,
-        c .before .before .before .before .before .before .before .before .before .before .before .before .before .pre .1 .1,
-      ),
-    ))
-    (λ c. search needs)
-    (λ c. search needs)
-    (λ c κs. search needs)
+    (omega (arith, c9 .pre .0), (list-opened (c4 .parts .ensures) P (c2 .l2 .given .1) .inner, c9 .pre .1 .1)))
     (λ c. search needs)
     (λ c κs. search needs)
     (λ c κs.
-    let P = c .before .before .before .before .before .before .before .before .before .before .before .before .before .pre .1 .0 in
+    let c2 = c .before .before in let c4 = c2 .before .before in let c9 = c4 .before .before .before .before .before in
+    let P = c9 .pre .1 .0 in
     let z = deep P in
-    let L = array-at P (c .before .before .before .before .before .before .before .before .head .ensures .0)
-    (c .before .before .before .before .element-label2 .ensures .0) (c .before .before .before .before .before .before .w .given .1)
-    (c .before .before .l3 .given .1) in (
-      omega (arith, c .before .before .before .before .before .before .before .before .before .before .before .before .before .pre .0),
-      (
-        L .inner,
-        c .before .before .before .before .before .before .before .before .before .before .before .before .before .pre .1 .1,
-      ),
-    ))
-    (λ c. search needs)
+    (omega (arith, c9 .pre .0), (array-opened (c4 .parts .ensures) P (c2 .w .given .1) .inner, c9 .pre .1 .1)))
     (λ c. search needs)
     (λ c.
     let c1 = c .before in let c3 = c1 .before .before in let c5 = c3 .before .before in let c7 = c5 .before .before in
-    λ P. content-leaf _ P _ _ (c7 .head .ensures .0) (c5 .l .given .1) (c3 .read-leaf .ensures) (c1 .d .given .1))
+    λ P. content-leaf _ P _ _ (c7 .parts .ensures) (c5 .l .given .1) (c3 .read-leaf .ensures) (c1 .d .given .1))
     (λ c.
     let c1 = c .before in let c3 = c1 .before .before in let c5 = c3 .before .before in let c7 = c5 .before .before in
-    λ P. content-no-leaf _ P _ _ (c7 .head .ensures .0) (c5 .l .given .1) (c3 .read-leaf .ensures) (c1 .k .given .1))
+    λ P. content-no-leaf _ P _ _ (c7 .parts .ensures) (c5 .l .given .1) (c3 .read-leaf .ensures) (c1 .k .given .1))
     (λ c.
     let c2 = c .before .before in let c4 = c2 .before .before in
-    λ P. content-struct _ P _ _ (c4 .head .ensures .0) (c2 .n .given .1) (c .marked-fields .ensures))
+    λ P. content-struct _ P _ _ (c4 .parts .ensures) (c2 .n .given .1) (c .marked-fields .ensures))
     (λ c.
-    let c1 = c .before in let c3 = c1 .before .before in let c5 = c3 .before .before in let c7 = c5 .before .before in let c9 = c7 .before .before in
-    λ P. content-list _ P _ _ (c9 .head .ensures .0) (c5 .element-label .ensures .0) (c3 .l2 .given .1) (c1 .is-required .ensures) (c7 .e .given .1)
-    (c .marked-list .ensures))
+    let c1 = c .before in let c3 = c1 .before .before in let c5 = c3 .before .before in
+    λ P. content-list _ P _ _ (c5 .parts .ensures) (c1 .is-required .ensures) (c3 .l2 .given .1) (c .marked-list .ensures))
     (λ c.
-    let c1 = c .before in let c3 = c1 .before .before in let c5 = c3 .before .before in let c7 = c5 .before .before in
-    λ P. list-labelled P (c7 .head .ensures .0) (c3 .element-label .ensures .0) (c5 .e .given .1) (c1 .k2 .given .1))
-    (λ c.
-    let c1 = c .before in let c3 = c1 .before .before in let c5 = c3 .before .before in let c7 = c5 .before .before in let c9 = c7 .before .before in
-    λ P. content-array _ P _ _ (c9 .head .ensures .0) (c5 .element-label2 .ensures .0) (c3 .l3 .given .1) (c1 .is-required2 .ensures) (c7 .w .given .1)
-    (c .marked-elements .ensures))
-    (λ c.
-    let c1 = c .before in let c3 = c1 .before .before in let c5 = c3 .before .before in let c7 = c5 .before .before in
-    λ P. array-labelled P (c7 .head .ensures .0) (c3 .element-label2 .ensures .0) (c5 .w .given .1) (c1 .k3 .given .1))
-    (λ c. λ P. never-headless P (c .before .before .before .head .ensures .0) (c .before .k4 .given .1)))
+    let c1 = c .before in let c3 = c1 .before .before in let c5 = c3 .before .before in
+    λ P. content-array _ P _ _ (c5 .parts .ensures) (c1 .is-required2 .ensures) (c3 .w .given .1) (c .marked-elements .ensures))
+    (λ c. λ P. never-opened (c .before .before .before .parts .ensures) P (c .before .k2 .given .1)))
     λ t. marked-value-lts.spec (marked-value-claims t)
     (marked-value-at t)
     marked-value.Post
