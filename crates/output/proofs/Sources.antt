@@ -196,3 +196,6 @@ module _ {ρ : Values} {v : Edition} {lay rec plan : Bytes} {x : State} {r : Sou
 
   pub from-array : r ≡ Source.Array → ArrayIs x
   from-array e = opened e
+
+  pub never-sourced : {B : Type 0} → r ≡ Source.Refused → B
+  never-sourced e = absurd (opened e)

@@ -38,6 +38,9 @@ use walk::child::first_part;
 use walk::child::next_part;
 use walk::walk::Walk;
 
+// An index past the limit: the output is refused.
+const PAST: usize = LONGEST + 1;
+
 // Stores a part of a constant through the casts that `w` passes; behind a cast it is a leaf.
 fn put_part(
     plan: &[u8],
@@ -152,5 +155,6 @@ pub fn emit(
         Source::Struct(_) => emit_mapping(lay, columns, rec, plan, at, out, k, table),
         Source::List => emit_mapping(lay, columns, rec, plan, at, out, k, table),
         Source::Array => emit_mapping(lay, columns, rec, plan, at, out, k, table),
+        Source::Refused => PAST,
     }
 }

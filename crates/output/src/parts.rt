@@ -125,6 +125,7 @@ fn ask_step(
         Source::Struct(count) => ask_struct(meet(least, own, Parts::Some(count as u32))),
         Source::List => Asked::Input(least, own),
         Source::Array => Asked::Input(least, own),
+        Source::Refused => Asked::Answer(Parts::None),
     }
 }
 

@@ -31,7 +31,7 @@ use walk::head::struct_fields;
 use walk::walk::Walk;
 
 // A value in the record, by its type in the layout; a constant's value, by its type in the plan; a mapping, of a struct
-// with the number of its selectors. Null: the path leads nowhere.
+// with the number of its selectors. Null: the path leads nowhere. Refused: the walk does not end there.
 pub enum Source {
     Null,
     Record(Cursor, Cursor),
@@ -39,6 +39,7 @@ pub enum Source {
     Struct(u16),
     List,
     Array,
+    Refused,
 }
 
 fn record_source(node: NodeAt) -> Source
@@ -150,11 +151,11 @@ pub fn source_at(
             Source::Null
         }
         SelectorHead::Constant(_, t) => constant_source(constant_node(plan, w, t)),
-        SelectorHead::Cast(_) => Source::Null,
-        SelectorHead::Rename(_) => Source::Null,
+        SelectorHead::Cast(_) => Source::Refused,
+        SelectorHead::Rename(_) => Source::Refused,
         SelectorHead::Struct(input) => struct_source(plan, w, input),
         SelectorHead::List(_) => Source::List,
         SelectorHead::Array(_) => Source::Array,
-        SelectorHead::Refused => Source::Null,
+        SelectorHead::Refused => Source::Refused,
     }
 }

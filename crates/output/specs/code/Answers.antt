@@ -141,6 +141,7 @@ sourceAnswer ρ v lay rec plan x (Source.Constant t c) = ConstantIs ρ plan x (t
 sourceAnswer ρ v lay rec plan x (Source.Struct n) = StructIs x n
 sourceAnswer ρ v lay rec plan x Source.List = ListIs x
 sourceAnswer ρ v lay rec plan x Source.Array = ArrayIs x
+sourceAnswer ρ v lay rec plan x Source.Refused = ⊥
 
 -- where the value of x comes from
 pub record SourceIs (ρ : Values) (v : Edition) (lay rec plan : Bytes) (x : State) (r : Source) : Type 0 where

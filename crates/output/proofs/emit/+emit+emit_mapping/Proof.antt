@@ -3,7 +3,7 @@ use Rattle.output.proofs.Emitting.{constant-run, constant-skipped, mapp
 use Rattle.output.proofs.Emitting.{Rowing, rowing-none, rowing-past, rowing-all, rowing-small, rowing-more, all-clean}
 use Rattle.output.proofs.Emitting.{parts-asks, part-reached, part-room, part-emit, part-falls, part-emits}
 use Rattle.raw.proofs.Storing.{stores-as}
-use Rattle.output.proofs.Sources.{from-null, from-record, from-constant, from-struct, from-list, from-array}
+use Rattle.output.proofs.Sources.{from-null, from-record, from-constant, from-struct, from-list, from-array, never-sourced}
 use Rattle.output.specs.code.Answers.{EmitAt, Mapped}
 use Rattle.walk.specs.code.Walks.{rank}
 use Rattle.walk.specs.code.Children.{Reached}
@@ -188,6 +188,7 @@ pub +emit+emit-mapping-spec : {M : Type 1} → statement M
     let M = array-mapped (from-array (c3 .source-at .ensures (A .row) _ (O .standing) (O .ended)) (c1 .enum-told4 .given .1)) in
     (omega (arith, O .falls, c11 .pre .0), (c11 .pre .1 .0, (mapped-asks A O M, c11 .pre .1 .1 .1))))
     (λ c. search needs)
+    (λ c. search needs)
     (λ c.
     let c2 = c .before .before in let c4 = c2 .before .before in let c6 = c4 .before .before in let c8 = c6 .before .before in
     λ A.
@@ -229,7 +230,12 @@ pub +emit+emit-mapping-spec : {M : Type 1} → statement M
     λ A.
     let O = c8 .find-origin .ensures _ (A .standing) in
     let M = array-mapped (from-array (c6 .source-at .ensures (A .row) _ (O .standing) (O .ended)) (c4 .enum-told4 .given .1)) in
-    mapped-emits A O M (c2 .emit-mapping3 .ensures)))
+    mapped-emits A O M (c2 .emit-mapping3 .ensures))
+    (λ c.
+    let c2 = c .before .before in let c4 = c2 .before .before in
+    λ A.
+    let O = c4 .find-origin .ensures _ (A .standing) in
+    never-sourced (c2 .source-at .ensures (A .row) _ (O .standing) (O .ended)) (c .enum-told5 .given .1)))
     λ t. emit-mapping-lts.spec (emit-mapping-claims t)
     (emit-mapping-at t)
     emit-mapping.Post

@@ -1,5 +1,5 @@
 use Rattle.output.proofs.Asking.{null-asked, raw-asked, list-asked, array-asked, constant-met}
-use Rattle.output.proofs.Sources.{from-null, from-record, from-constant, from-struct, from-list, from-array}
+use Rattle.output.proofs.Sources.{from-null, from-record, from-constant, from-struct, from-list, from-array, never-sourced}
 use mathlib.Core.Path.{refl}
 use borrow.Author.Needs.{needs}
 use Rattle.output.proofs.parts.ask_step.Statement.{statement}
@@ -30,6 +30,7 @@ ask-step-spec =
     (λ c κs. search needs)
     (λ c. search needs)
     (λ c. search needs)
+    (λ c. search needs)
     (λ c. λ X x W h. null-asked _ x _ _ (from-null (c .before .before .source-at .ensures X x W h) (c .enum-told .given .1)))
     (λ c.
     let c3 = c .before .before .before in let c5 = c3 .before .before in
@@ -43,4 +44,5 @@ ask-step-spec =
     let c3 = c .before .before .before in let c5 = c3 .before .before in
     λ X x W h. c .ask-struct .ensures _ x _ _ _ (from-struct (c5 .source-at .ensures X x W h) (c3 .count .given .1)) (c .before .meet3 .ensures))
     (λ c. λ X x W h. list-asked _ x _ _ (from-list (c .before .before .source-at .ensures X x W h) (c .enum-told2 .given .1)))
-    (λ c. λ X x W h. array-asked _ x _ _ (from-array (c .before .before .source-at .ensures X x W h) (c .enum-told3 .given .1))))
+    (λ c. λ X x W h. array-asked _ x _ _ (from-array (c .before .before .source-at .ensures X x W h) (c .enum-told3 .given .1)))
+    (λ c. λ X x W h. never-sourced (c .before .before .source-at .ensures X x W h) (c .enum-told4 .given .1)))
