@@ -336,6 +336,7 @@ int main(void) {
     slow_constants();
     slow_marks();
     slow_runs();
+    slow_tops();
     arrays_of(&incoming, 1);
     arrays_of(&target, 1);
     positions_of(&plan, 1, 0);

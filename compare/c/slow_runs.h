@@ -74,3 +74,41 @@ static void slow_runs(void) {
     expect_sevens(30);
     expect_sevens(2000);
 }
+
+/* Columns of date-times in milliseconds, each cast strictly to nanoseconds: of one alone one pass does not say what it gives. It is the last, whose time is too large; or a list is
+ * made beside them of lists that are together longer than an output. */
+static void slow_tops(void) {
+    enum { TIMES = 1700 };
+    for (int listed = 0; listed < 2; listed++) {
+        mark(&incoming, "LAY", TIMES);
+        mark(&target, "LAY", (uint32_t)(TIMES + listed));
+        mark(&plan, "PLN", (uint32_t)(TIMES + listed));
+        record.length = 0;
+        for (int i = 0; i < TIMES; i++) {
+            put(&incoming, 0x0E000002 | (uint64_t)i << 8, 4); /* a name of two bytes */
+            put(&incoming, 2, 2);
+            put(&target, 0x0E000002 | (uint64_t)i << 8, 4);
+            put(&target, 0, 2);
+            put(&plan, 2, 1);
+            put(&plan, (uint64_t)i << 8, 3); /* position i */
+            put(&plan, 0x0100000E, 4);       /* Strict */
+            put(&record, 1, 1);
+            put(&record, i + 1 < TIMES || listed ? 1000 : 9223372036855, 8);
+        }
+        if (listed) {
+            put(&target, 0x021300, 3); /* a list of int8 without a name */
+            put(&plan, 0x0505, 2);
+            constant_list(&plan, ELEMENTS);
+            constant_list(&plan, 100);
+            put(&plan, 0x0701020001, 5); /* for each of the lists a constant int8, 7 */
+        }
+        struct timespec from;
+        clock_gettime(CLOCK_PROCESS_CPUTIME_ID, &from);
+        uint64_t checked = selector_check_plan(incoming.bytes, incoming.length, target.bytes, target.length, plan.bytes, plan.length);
+        double check = since(&from);
+        printf("%d casts and %d list of long lists: check %u after %.2f ms\n", TIMES, listed, SELECTOR_NUMBER(checked), check);
+        expect(listed ? "a list beside them" : "the last of them too large", listed ? 0 : 44);
+        if (checked != 0 || check > 1000 || (listed && (output[9 * TIMES] != 1 || output[9 * TIMES + 2 * ELEMENTS + 2] != 7)))
+            failed = 1;
+    }
+}

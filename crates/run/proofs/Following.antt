@@ -8,6 +8,7 @@ use native.Mathlib.Decide.{decLt}
 use lib.ListN.{length, take, length-append}
 use borrow.Rule.Slice.PartMut.{midOf, putMid, same-len-mid, take-put}
 use Rattle.layout.specs.Bytes.{Bytes, AllBytes}
+use Rattle.layout.specs.Limits.{longest, deepest}
 use Rattle.layout.specs.Tree.{DataType, dtypeOf, fieldsOf}
 use Rattle.layout.specs.declared.columns.ColumnRange.{ColumnRange}
 use Rattle.layout.specs.declared.columns.Siblings.the-variants.{Free}
@@ -19,7 +20,6 @@ use Rattle.forms.proofs.ReadBack.{type-extent}
 use Rattle.store.specs.code.Overlay.{Agree, Holds}
 use Rattle.values.specs.Value.{Value}
 use Rattle.values.specs.Encode.{encodeValue}
-use Rattle.values.specs.Record.{longest}
 use Rattle.plan.specs.Run.{eval, clean}
 use Rattle.plan.proofs.Typed.{Typed, check→typed}
 use Rattle.plan.proofs.Preserve.{eval-over}
@@ -87,7 +87,7 @@ module _ {lay : Bytes} {columns : ColumnRange} {rec plan tgt : Bytes} {top : Top
       subst (λ (u : DataType). Typed (fieldsOf (A .row .columns .columns)) (A .selector .here .tree) (A .selector .column .name) u) (A .is)
       (check→typed (formed-at po (A .selector .here)) (A .selector .passes))
 
-  pub top-low : depthOf (dtypeOf (A .type .tree)) ≤ 16
+  pub top-low : depthOf (dtypeOf (A .type .tree)) ≤ deepest
   top-low = omega (arith, type-extent (type→ (top .column .edition) Free tgt (top .column .depth) (top .column .at .at) (A .type .reads)) .deep, A .deep)
 
   abbrev pub top-asks : clean (eval (A .row .values .values) (A .selector .here .tree)) ≡ true

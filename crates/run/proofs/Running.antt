@@ -6,9 +6,10 @@ use mathlib.Core.List.{[]}
 use native.Mathlib.Omega.{arith}
 use lib.ListN.{length}
 use Rattle.layout.specs.Bytes.{Bytes}
+use Rattle.layout.specs.Limits.{longest, deepest}
 use Rattle.layout.specs.Parser.{Res, refuse, ok}
 use Rattle.layout.specs.Tree.{Columns, Fields, fieldsOf}
-use Rattle.layout.specs.Layout.{layout, type, columns as columnsOf, deepest}
+use Rattle.layout.specs.Layout.{layout, type, columns as columnsOf}
 use Rattle.layout.specs.code.Stands.{ColumnsAt, LayoutAt}
 use Rattle.layout.specs.declared.columns.Siblings.the-variants.{Free}
 use Rattle.layout.specs.declared.edition.Edition.{Edition}
@@ -108,7 +109,7 @@ pub same-buffer : (Γ : Columns) (ss : Selectors) (rec : Bytes) {out out′ : By
     → Ran (recordRun Γ ss rec (length out′)) out′ o exit → Ran (recordRun Γ ss rec (length out)) out o exit
 same-buffer Γ ss rec {o = o} {exit} e R = subst (λ (b : Bytes). Ran (recordRun Γ ss rec (length b)) b o exit) e R
 
-module _ (ρ : Values) (ss : Selectors) {aside₀ : Bytes} (size : 16384 ≡ length aside₀) {r : Transferred} {aside : Bytes}
+module _ (ρ : Values) (ss : Selectors) {aside₀ : Bytes} (size : longest ≡ length aside₀) {r : Transferred} {aside : Bytes}
     (T : TransferredIs (cleanAll (evals ρ ss)) (encodeValues (evals ρ ss)) aside₀ r aside) {len : ℕ} (e : r ≡ Transferred.To len) where
   kept : Kept (cleanAll (evals ρ ss)) (encodeValues (evals ρ ss)) aside₀ 0 len aside
   kept = subst (λ (z : Transferred). transferredAnswer (cleanAll (evals ρ ss)) (encodeValues (evals ρ ss)) aside₀ z aside) e (T .answer)

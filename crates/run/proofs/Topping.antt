@@ -6,6 +6,7 @@ use mathlib.Core.List.{[], _++_, append-nil, append-assoc}
 use native.Mathlib.Omega.{arith}
 use lib.ListN.{length}
 use Rattle.layout.specs.Bytes.{Bytes, AllBytes}
+use Rattle.layout.specs.Limits.{longest}
 use Rattle.layout.specs.Tree.{Fields, fieldsOf}
 use Rattle.layout.specs.Layout.{label}
 use Rattle.layout.specs.code.Answers.{labelRes}
@@ -18,7 +19,6 @@ use Rattle.layout.specs.declared.edition.Edition.{Edition}
 use Rattle.store.specs.code.Overlay.{overlay}
 use Rattle.values.specs.Value.{Value, Values}
 use Rattle.values.specs.Encode.{encodeValue, encodeValues}
-use Rattle.values.specs.Record.{longest}
 use Rattle.plan.specs.Selector.{Selector, Selectors, snil, scons}
 use Rattle.plan.specs.Run.{eval, evals, clean, cleanAll}
 use Rattle.walk.proofs.View.{same-selector}
@@ -78,7 +78,7 @@ module _ {plan : Bytes} {Γ : Fields} {ρ : Values} {ss : Selectors} {y : Editio
   topping-all h =
       let z = no-pair (C .pairing) h .0 in
       let e : C .written ≡ encodeValues (evals ρ ss) =
-          sym (C .encoded ∙ ap (λ (b : Bytes). C .written ++ b) (none-encoded ρ (C .pairing .selectors .trees) z) ∙ append-nil (C .written)) in
+      sym (C .encoded ∙ ap (λ (b : Bytes). C .written ++ b) (none-encoded ρ (C .pairing .selectors .trees) z) ∙ append-nil (C .written)) in
       record { answer = (C .clean ∙ none-clean ρ (C .pairing .selectors .trees) z, subst (λ (b : Bytes). Emits out₀ 0 b len out) e (C .emits)) }
 
   module _ (lt : i < m) {q : Labelled} (g : labelRes tgt q ≡ label y tgt to) where

@@ -2,6 +2,7 @@
 ghost use mathlib.Core.Path.{_≡_};
 ghost use lib.ListN.{length};
 ghost use Rattle.ends.specs.code.Ends.{Ends};
+ghost use Rattle.layout.specs.Limits.{longest};
 ghost use Rattle.plan.specs.Calls.{runPlan, bufferAfter};
 ghost use Rattle.plan.specs.code.Written.{writeResult};
 ghost use Rattle.run.specs.code.Answers.{finished, ReadAt, PassedAt, FilledAt, CheckedRuns, RecordRuns, FilledRuns};
@@ -19,6 +20,8 @@ use index::row::Row;
 use index::row::index_row;
 use layout::columns::ColumnRange;
 use layout::cursor::Cursor;
+use layout::limits::DEEPEST;
+use layout::limits::LONGEST;
 use layout::read::LayoutRead;
 use layout::read::read_layout;
 use output::write::Written;
@@ -53,7 +56,7 @@ fn run_general(
 ) -> WriteResult
     requires { ⌜ Ends (read .incoming .edition) (now incoming) (now ends) ⌝ }
     requires { ⌜ FilledAt (now incoming) (now plan) (now target) read (now rec) ⌝ }
-    requires { ⌜ 16384 ≡ length (now aside) ⌝ }
+    requires { ⌜ longest ≡ length (now aside) ⌝ }
     ensures { λ r. ⌜ FilledRuns (now (incoming .entry)) (now (plan .entry)) (now (target .entry)) read (now (rec .entry)) (now (output .entry)) r (now (output .exit)) ⌝ }
 {
     let columns = read.incoming;
@@ -99,13 +102,20 @@ fn run_filled(
     output: &mut [u8],
 ) -> WriteResult
     requires { ⌜ FilledAt (now incoming) (now plan) (now target) read (now rec) ⌝ }
-    requires { ⌜ 16384 ≡ length (now aside) ⌝ }
+    requires { ⌜ longest ≡ length (now aside) ⌝ }
     ensures { λ r. ⌜ FilledRuns (now (incoming .entry)) (now (plan .entry)) (now (target .entry)) read (now (rec .entry)) (now (output .entry)) r (now (output .exit)) ⌝ }
 {
     let columns = read.incoming;
     let v = columns.edition;
     let mut ends = [0u16; 4098];
-    fill_columns(incoming, v, 16, columns.count, columns.first, &mut ends);
+    fill_columns(
+        incoming,
+        v,
+        DEEPEST,
+        columns.count,
+        columns.first,
+        &mut ends,
+    );
     run_general(incoming, plan, target, read, rec, aside, output, &ends)
 }
 
@@ -122,7 +132,7 @@ fn run_unsettled(
 ) -> WriteResult
     requires { ⌜ Ends (read .incoming .edition) (now incoming) (now ends) ⌝ }
     requires { ⌜ FilledAt (now incoming) (now plan) (now target) read (now rec) ⌝ }
-    requires { ⌜ 16384 ≡ length (now aside) ⌝ }
+    requires { ⌜ longest ≡ length (now aside) ⌝ }
     ensures { λ r. ⌜ FilledRuns (now (incoming .entry)) (now (plan .entry)) (now (target .entry)) read (now (rec .entry)) (now (output .entry)) r (now (output .exit)) ⌝ }
 {
     if ends.len() == 0 {
@@ -173,10 +183,10 @@ fn run_record(
 // Whether passing over types takes no time to speak of without a table. A byte of a value can ask for a pass over a
 // type; the record is read twice and at most 16,384 bytes are written, so that is at most 10,000,000 bytes of types.
 fn is_short(len: usize, rec: usize) -> bool {
-    if 16384 < rec {
+    if LONGEST < rec {
         return true;
     }
-    len <= 10000000 / (2 * rec + 16384)
+    len <= 10000000 / (2 * rec + LONGEST)
 }
 
 // With a table of where the structs of the incoming layout end.
@@ -194,7 +204,14 @@ fn run_tabled(
     let columns = read.incoming;
     let v = columns.edition;
     let mut ends = [0u16; 4098];
-    fill_columns(incoming, v, 16, columns.count, columns.first, &mut ends);
+    fill_columns(
+        incoming,
+        v,
+        DEEPEST,
+        columns.count,
+        columns.first,
+        &mut ends,
+    );
     run_record(incoming, plan, target, read, rec, output, &ends)
 }
 

@@ -3,6 +3,7 @@ ghost use mathlib.Core.Path.{_≡_};
 ghost use Prim.Native.Nat.{_≤_};
 ghost use lib.ListN.{length};
 ghost use Rattle.ends.specs.code.Ends.{Ends};
+ghost use Rattle.layout.specs.Limits.{longest, longestPlan};
 ghost use Rattle.walk.specs.code.Stands.{SelectorsAt};
 ghost use Rattle.nodes.specs.code.Raw.{RowAt};
 ghost use Rattle.run.specs.code.Answers.{SinglePassIs};
@@ -31,8 +32,8 @@ pub fn write_single_pass(
     requires { ⌜ Ends (columns .edition) (now lay) (now ends) ⌝ }
     requires { ⌜ RowAt (columns .edition) (now lay) (columns .count) 7 (now rec) 0 ⌝ }
     requires { ⌜ SelectorsAt (now plan) count 7 ⌝ }
-    requires { ⌜ (length (now rec) ≤ 65536) × (length (now plan) ≤ 65536) ⌝ }
-    requires { ⌜ 16384 ≡ length (now aside) ⌝ }
+    requires { ⌜ (length (now rec) ≤ longest) × (length (now plan) ≤ longestPlan) ⌝ }
+    requires { ⌜ longest ≡ length (now aside) ⌝ }
     ensures { λ r. ⌜ ((X : RowAt (columns .edition) (now (lay .entry)) (columns .count) 7 (now (rec .entry)) 0) (S : SelectorsAt (now (plan .entry)) count 7) → SinglePassIs (X .values .values) (S .trees) (now (out .entry)) r (now (out .exit))) ⌝ }
 {
     let v = columns.edition;

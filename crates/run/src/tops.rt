@@ -3,8 +3,8 @@ ghost use mathlib.Core.Path.{_≡_};
 ghost use Prim.Native.Nat.{_+_, _≤_, _<_};
 ghost use lib.ListN.{length};
 ghost use Rattle.ends.specs.code.Ends.{Ends};
+ghost use Rattle.layout.specs.Limits.{longest};
 ghost use Rattle.layout.specs.Tree.{fieldsOf};
-ghost use Rattle.values.specs.Record.{longest};
 ghost use Rattle.plan.specs.Run.{eval, evals};
 ghost use Rattle.index.specs.code.Indexed.{IndexedRow};
 ghost use Rattle.overflow.specs.code.Ranges.{RecordAt, ColumnsIn};
@@ -15,6 +15,9 @@ use index::row::Row;
 use layout::columns::ColumnRange;
 use layout::columns::Labelled;
 use layout::cursor::Cursor;
+use layout::limits::DEEPEST;
+use layout::limits::DEEPEST_SELECTOR;
+use layout::limits::LONGEST;
 use layout::walk::skip_type;
 use nodes::places::TypePlace;
 use output::write::emit_top;
@@ -71,7 +74,7 @@ fn write_general(
         return TopWritten::Overflows;
     }
     let end = skip_selector(plan, c);
-    if 16384 < len {
+    if LONGEST < len {
         return TopWritten::To(end, len);
     }
     let to = emit_top(lay, columns, rec, plan, c, aside, len, ends);
@@ -80,9 +83,9 @@ fn write_general(
 
 // Where what a selector gives is stored: once the output is too long, nothing that stands aside is of use.
 fn start_of(len: usize) -> usize
-    ensures { λ r. ⌜ (r ≤ 16384) × (len ≤ 16384 → r ≡ len) ⌝ }
+    ensures { λ r. ⌜ (r ≤ longest) × (len ≤ longest → r ≡ len) ⌝ }
 {
-    if 16384 < len {
+    if LONGEST < len {
         return 0;
     }
     len
@@ -90,10 +93,10 @@ fn start_of(len: usize) -> usize
 
 // The length of an output that goes on for `r` bytes.
 fn longer(len: usize, r: usize) -> usize
-    requires { ⌜ r ≤ 16384 ⌝ }
-    ensures { λ q. ⌜ (len ≤ 16384 → q ≡ len + r) × (16384 < len → 16384 < q) ⌝ }
+    requires { ⌜ r ≤ longest ⌝ }
+    ensures { λ q. ⌜ (len ≤ longest → q ≡ len + r) × (longest < len → longest < q) ⌝ }
 {
-    if 16384 < len {
+    if LONGEST < len {
         return len;
     }
     len + r
@@ -116,7 +119,7 @@ fn write_top(
     requires { ⌜ Ends (tops .columns .edition) (now lay) (now ends) ⌝ }
     requires { ⌜ IndexedRow (tops .columns .edition) (now lay) (tops .columns .count) (tops .columns .first .at) (now rec) 0 (tops .stride) (now types) (now values) × (0 < tops .stride) ⌝ }
     requires { ⌜ TopIn (now lay) (tops .columns) (now rec) (now plan) (now tgt) top ⌝ }
-    requires { ⌜ 16384 ≡ length (now aside) ⌝ }
+    requires { ⌜ longest ≡ length (now aside) ⌝ }
     ensures { λ r. ⌜ ((A : TopIn (now (lay .entry)) (tops .columns) (now (rec .entry)) (now (plan .entry)) (now (tgt .entry)) top) → TopIs (eval (A .row .values .values) (A .selector .here .tree)) (A .selector .here .end) (now (aside .entry)) (top .len) r (now (aside .exit))) ⌝ }
 {
     let columns = tops.columns;
@@ -130,7 +133,7 @@ fn write_top(
     let k = start_of(len);
     let place = Place {
         selector,
-        levels: 64,
+        levels: DEEPEST_SELECTOR,
         k: 0,
     };
     match transfer_top(
@@ -164,7 +167,7 @@ pub fn write_tops(
     requires { ⌜ Ends (tops .columns .edition) (now lay) (now ends) ⌝ }
     requires { ⌜ IndexedRow (tops .columns .edition) (now lay) (tops .columns .count) (tops .columns .first .at) (now rec) 0 (tops .stride) (now types) (now values) × (0 < tops .stride) ⌝ }
     requires { ⌜ ((X : RecordAt (now lay) (tops .columns) (now rec)) × (D : ColumnsIn (now tgt) (tops .targets)) × PlanAt (now plan) 7 (fieldsOf (X .columns .columns)) (fieldsOf (D .columns))) ⌝ }
-    requires { ⌜ (length (now rec) ≤ longest) × (16384 ≡ length (now aside)) ⌝ }
+    requires { ⌜ (length (now rec) ≤ longest) × (longest ≡ length (now aside)) ⌝ }
     ensures { λ r. ⌜ ((X : RecordAt (now (lay .entry)) (tops .columns) (now (rec .entry))) (D : ColumnsIn (now (tgt .entry)) (tops .targets)) (P : PlanAt (now (plan .entry)) 7 (fieldsOf (X .columns .columns)) (fieldsOf (D .columns))) → TopsAre (evals (X .values .values) (P .selectors .trees)) (now (aside .entry)) r (now (aside .exit))) ⌝ }
 {
     let targets = tops.targets;
@@ -179,7 +182,7 @@ pub fn write_tops(
             Labelled::Is(_, e) => {
                 let column = TypePlace {
                     edition,
-                    depth: 16,
+                    depth: DEEPEST,
                     at: e,
                 };
                 let top = Top {
@@ -194,7 +197,7 @@ pub fn write_tops(
                     }
                     TopWritten::Overflows => return TopsWritten::Overflows,
                 }
-                d = skip_type(tgt, edition, 16, e);
+                d = skip_type(tgt, edition, DEEPEST, e);
             }
             Labelled::Refused(_) => return TopsWritten::Overflows,
         }

@@ -5,14 +5,13 @@ use mathlib.Core.Bool.{true}
 use lib.ListN.{length}
 use Rattle.layout.specs.Bytes.{Bytes}
 use Rattle.layout.specs.Tree.{Columns, fieldsOf}
-use Rattle.layout.specs.Layout.{deepest}
+use Rattle.layout.specs.Limits.{longestPlan, deepest}
 use Rattle.layout.specs.code.Stands.{ColumnsAt}
 use Rattle.values.specs.Value.{Values}
 use Rattle.values.specs.Filled.{requiredOf}
 use Rattle.values.specs.Record.{recordMarked, RecordFilled}
 use Rattle.plan.specs.Result.{Answer, accepted, refusedAt, answered}
 use Rattle.plan.specs.Selector.{Selectors}
-use Rattle.plan.specs.Read.{longestPlan}
 use Rattle.plan.specs.Check.{check}
 use Rattle.plan.specs.Marks.{checkMarked}
 use Rattle.plan.specs.Run.{evals, cleanAll, run}

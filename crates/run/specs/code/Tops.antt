@@ -6,12 +6,11 @@ use mathlib.Core.List.{_++_}
 use lib.ListN.{length}
 use Rattle.layout.specs.Bytes.{Bytes}
 use Rattle.layout.specs.Tree.{dtypeOf, fieldsOf}
-use Rattle.layout.specs.Layout.{deepest}
+use Rattle.layout.specs.Limits.{longest, deepest}
 use Rattle.layout.specs.code.Stands.{TypeAt}
 use Rattle.layout.specs.declared.columns.ColumnRange.{ColumnRange}
 use Rattle.values.specs.Value.{Value, Values}
 use Rattle.values.specs.Encode.{encodeValue, encodeValues}
-use Rattle.values.specs.Record.{longest}
 use Rattle.plan.specs.Run.{clean, cleanAll}
 use Rattle.overflow.specs.code.Ranges.{RecordAt}
 use Rattle.overflow.specs.code.Overflows.{TopAt}

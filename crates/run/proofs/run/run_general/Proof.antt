@@ -10,93 +10,60 @@ use borrow.Author.Needs.{needs}
 use Rattle.run.proofs.run.run_general.Statement.{statement}
 use Rattle.run.proofs.run.run_general.Tie as tie
 
-stride-of-requires : tie.Need-stride-of-requires
-stride-of-requires c κs = search needs
-
-slice-aggregate-index-row : tie.Need-slice-aggregate-index-row
-slice-aggregate-index-row c = search needs
-
-slice-aggregate-index-row-2 : tie.Need-slice-aggregate-index-row-2
-slice-aggregate-index-row-2 c = search needs
-
-index-row-requires : tie.Need-index-row-requires
-index-row-requires c κs = let (P, F) = c .before .before .before .before .before .before .before .before .before .before .before .before .pre .1 .0 in (row-of P F, c .before .before .before .before .before .before .before .before .before .before .before .before .pre .0)
-
-array-share-prefix-types : tie.Need-array-share-prefix-types
-array-share-prefix-types c = search needs
-
-slice-aggregate-write-tops : tie.Need-slice-aggregate-write-tops
-slice-aggregate-write-tops c = sym (length-take-le _ _ (c .before .before .before .index-row .ensures .0))
-
-array-share-prefix-values : tie.Need-array-share-prefix-values
-array-share-prefix-values c = search needs
-
-slice-aggregate-write-tops-2 : tie.Need-slice-aggregate-write-tops-2
-slice-aggregate-write-tops-2 c = sym (length-take-le _ _ (c .before .before .before .before .index-row .ensures .1 .0))
-
-write-tops-requires : tie.Need-write-tops-requires
-write-tops-requires c κs =
-    let p = c .before .before .before .before .before .before .before .before .before .before .before .before .before .before .before .before .before .before .pre in
-    let (P, F) = p .1 .0 in
-    (p .0, ((c .before .before .before .before .before .index-row .ensures .1 .1, c .before .before .before .before .before .before .before .before .stride-of .ensures .1), ((row-of P F, P .targets, plan-of P), (record-at (record-unfilled F) .short, p .1 .1))))
-
-enum-known-len : tie.Need-enum-known-len
-enum-known-len c = search needs
-
-hand-over-requires : tie.Need-hand-over-requires
-hand-over-requires c κs = λ l.
-    let p = c .before .before .before .before .before .before .before .before .before .before .before .before .before .before .before .before .before .before .before .before .before .before .before .before .before .before .pre in
-    let (P, F) = p .1 .0 in
-    let (x, E) = tops-to (c .before .before .before .before .before .before .before .write-tops .ensures (row-of P F) (P .targets) (plan-of P)) (c .before .before .before .len .given .1) in
-    aside-inside (row-of P F .values .values) (P .selectors .trees) x (p .1 .1) E l
-
-finish-requires : tie.Need-finish-requires
-finish-requires c κs = search needs
-
-enum-told : tie.Need-enum-told
-enum-told c = search needs
-
-same-length : tie.Need-same-length
-same-length c = search needs
-
-same-length-2 : tie.Need-same-length-2
-same-length-2 c = search needs
-
-returns : tie.Need-returns
-returns c = λ P F.
-    let a = c .before .before .before .before .before .before .before .before .before .before .before .before .before .before .before .before .before .before .before .before .before .before .before .before .before .before .before .before .before .before .args in
-    let (x, E) = tops-to (c .before .before .before .before .before .before .before .before .before .before .before .write-tops .ensures (row-of P F) (P .targets) (plan-of P)) (c .before .before .before .before .before .before .before .len .given .1) in
-    let (w, b) = c .before .before .before .hand-over .ensures (row-of P F .values .values) (P .selectors .trees) (now (a .aside)) x (c .before .before .before .before .before .before .before .before .before .before .before .before .before .before .before .before .before .before .before .before .before .before .before .before .before .before .before .before .before .before .pre .1 .1) E in
-    run-finished (P .columns .columns) (P .selectors .trees) (now (a .rec)) (length (now (a .output))) (record-reads P F) x w (c .finish .ensures) b
-
-same-length-3 : tie.Need-same-length-3
-same-length-3 c = search needs
-
-returns-2 : tie.Need-returns-2
-returns-2 c = λ P F.
-    let a = c .before .before .before .before .before .before .before .before .before .before .before .before .before .before .before .before .before .before .before .before .before .before .before .args in
-    ran-refused (run-overflowing (P .columns .columns) (P .selectors .trees) (now (a .rec)) (length (now (a .output))) (record-reads P F)
-    (tops-to (c .before .before .before .before .write-tops .ensures (row-of P F) (P .targets) (plan-of P)) (c .enum-told .given .1)))
-
 pub run-general-spec : {M : Type 1} → statement M
 run-general-spec =
     tie.close
     (tie.spec
-    stride-of-requires
-    slice-aggregate-index-row
-    slice-aggregate-index-row-2
-    index-row-requires
-    array-share-prefix-types
-    slice-aggregate-write-tops
-    array-share-prefix-values
-    slice-aggregate-write-tops-2
-    write-tops-requires
-    enum-known-len
-    hand-over-requires
-    finish-requires
-    enum-told
-    same-length
-    same-length-2
-    returns
-    same-length-3
-    returns-2)
+    (λ c κs. search needs)
+    (λ c. search needs)
+    (λ c. search needs)
+    (λ c κs.
+    let c12 = c .before .before .before .before .before .before .before .before .before .before .before .before in
+    let (P, F) = c12 .pre .1 .0 in (row-of P F, c12 .pre .0))
+    (λ c. search needs)
+    (λ c. sym (length-take-le _ _ (c .before .before .before .index-row .ensures .0)))
+    (λ c. search needs)
+    (λ c. sym (length-take-le _ _ (c .before .before .before .before .index-row .ensures .1 .0)))
+    (λ c κs.
+    let c5 = c .before .before .before .before .before in let c8 = c5 .before .before .before in
+    let c18 = c8 .before .before .before .before .before .before .before .before .before .before in
+    let p = c18 .pre in
+    let (P, F) = p .1 .0 in (
+      p .0,
+      (
+        (c5 .index-row .ensures .1 .1, c8 .stride-of .ensures .1),
+        ((row-of P F, P .targets, plan-of P), (record-at (record-unfilled F) .short, p .1 .1)),
+      ),
+    ))
+    (λ c. search needs)
+    (λ c κs.
+    let c3 = c .before .before .before in let c7 = c3 .before .before .before .before in
+    let c17 = c7 .before .before .before .before .before .before .before .before .before .before in
+    let c26 = c17 .before .before .before .before .before .before .before .before .before in
+    λ l.
+    let p = c26 .pre in
+    let (P, F) = p .1 .0 in
+    let (x, E) = tops-to (c7 .write-tops .ensures (row-of P F) (P .targets) (plan-of P)) (c3 .len .given .1) in
+    aside-inside (row-of P F .values .values) (P .selectors .trees) x (p .1 .1) E l)
+    (λ c κs. search needs)
+    (λ c. search needs)
+    (λ c. search needs)
+    (λ c. search needs)
+    (λ c.
+    let c3 = c .before .before .before in let c7 = c3 .before .before .before .before in let c11 = c7 .before .before .before .before in
+    let c21 = c11 .before .before .before .before .before .before .before .before .before .before in
+    let c30 = c21 .before .before .before .before .before .before .before .before .before in
+    λ P F.
+    let a = c30 .args in
+    let (x, E) = tops-to (c11 .write-tops .ensures (row-of P F) (P .targets) (plan-of P)) (c7 .len .given .1) in
+    let (w, b) = c3 .hand-over .ensures (row-of P F .values .values) (P .selectors .trees) (now (a .aside)) x (c30 .pre .1 .1) E in
+    run-finished (P .columns .columns) (P .selectors .trees) (now (a .rec)) (length (now (a .output))) (record-reads P F) x w (c .finish .ensures) b)
+    (λ c. search needs)
+    (λ c.
+    let c4 = c .before .before .before .before in
+    let c14 = c4 .before .before .before .before .before .before .before .before .before .before in
+    let c23 = c14 .before .before .before .before .before .before .before .before .before in
+    λ P F.
+    let a = c23 .args in
+    ran-refused (run-overflowing (P .columns .columns) (P .selectors .trees) (now (a .rec)) (length (now (a .output))) (record-reads P F)
+    (tops-to (c4 .write-tops .ensures (row-of P F) (P .targets) (plan-of P)) (c .enum-told .given .1)))))

@@ -4,7 +4,6 @@ use Rattle.values.proofs.Inside.{record-at, record-fitting, record-unfilled}
 use mathlib.Core.Path.{sym, _∙_}
 use denote.Ref.{now}
 use lib.ListN.{length}
-use native.Mathlib.Omega.{arith}
 use borrow.Author.Needs.{needs}
 use Rattle.run.proofs.run.run_record.Statement.{statement}
 use Rattle.run.proofs.run.run_record.Tie as tie
@@ -26,7 +25,7 @@ run-record-spec =
     let c13 = c5 .before .before .before .before .before .before .before .before in
     let P = c13 .pre .1 in
     let F = record-fitting (P .columns .columns) (now (c13 .args .rec)) (c4 .read-record .ensures (P .columns)) (c2 .enum-told .given .1) in
-    (c13 .pre .0, (row-seven P F, (P .selectors, ((omega (arith, record-at (record-unfilled F) .short), P .small), c5 .scratch .ensures)))))
+    (c13 .pre .0, (row-seven P F, (P .selectors, ((record-at (record-unfilled F) .short, P .small), c5 .scratch .ensures)))))
     (λ c. search needs)
     (λ c κs. search needs)
     (λ c. search needs)

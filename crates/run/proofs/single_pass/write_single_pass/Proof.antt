@@ -1,4 +1,5 @@
 use Rattle.run.proofs.Running.{single-pass-inside, single-pass-handed}
+use native.Mathlib.Omega.{arith}
 use borrow.Author.Needs.{needs}
 use Rattle.run.proofs.single_pass.write_single_pass.Statement.{statement}
 use Rattle.run.proofs.single_pass.write_single_pass.Tie as tie
@@ -9,7 +10,7 @@ write-single-pass-spec =
     (tie.spec
     (λ c κs.
     let c7 = c .before .before .before .before .before .before .before in
-    let p = c7 .pre in (p .0, (p .1 .0, (p .1 .1 .0, p .1 .1 .1 .0))))
+    let p = c7 .pre in let s = p .1 .1 .1 .0 in (p .0, (p .1 .0, (p .1 .1 .0, (omega (arith, s .0), s .1)))))
     (λ c. search needs)
     (λ c κs.
     let c3 = c .before .before .before in

@@ -6,11 +6,6 @@ use native.Mathlib.Omega.{arith}
 use borrow.Author.Needs.{needs}
 use Rattle.run.proofs.tops.write_tops.Statement.{statement}
 use Rattle.run.proofs.tops.write_tops.Tie as tie
-use Rattle.run.proofs.tops.write_tops.Reads as reads
-use Rattle.run.proofs.tops.write_tops.Lts as lts
-use Rattle.layout.proofs.cursor.Cursor.label.Reads as label-reads
-use Rattle.layout.proofs.walk.skip_type.Reads as skip-type-reads
-use Rattle.run.proofs.tops.write_top.Reads as write-top-reads
 
 abbrev Inv-loop : tie.InvT-loop
 Inv-loop lay rec tops types values plan tgt aside₀ ends edition count c₀ d₀ len₀ i₀ aside c d len i =
@@ -19,95 +14,61 @@ Inv-loop lay rec tops types values plan tgt aside₀ ends edition count c₀ d�
 abbrev μ-loop : tie.MeasureT-loop
 μ-loop lay rec tops types values plan tgt aside₀ ends edition count c₀ d₀ len₀ i₀ aside c d len i = count - i
 
-loop-holds : tie.Need-loop-holds Inv-loop μ-loop
-loop-holds c = (refl, toppings-none _ _ _ _ _ _ _ _ _ (λ i. omega (arith, c .before .before .before .before .before .shared-slice-known5 .given i)))
-
-label-requires : tie.Need-label-requires Inv-loop μ-loop
-label-requires c κs = search needs
-
-enum-known-e : tie.Need-enum-known-e Inv-loop μ-loop
-enum-known-e c = search needs
-
-write-top-requires : tie.Need-write-top-requires Inv-loop μ-loop
-write-top-requires c κs =
-    let p = c .before .before .before .before .before .before .before .before .before .before .before .before .before .before .before .before .before .pre in
-    let (l, T) = c .before .before .before .before .before .before .loop .inv in
-    let (X, D, P) = p .1 .1 .0 in
-    (p .0, (p .1 .0, (toppings-in T (p .1 .1 .1 .0) (c .before .before .before .before .before .loop-test .taken) (c .before .before .before .before .label .ensures .0) (c .before .before .e .given .1) X D P, p .1 .1 .1 .1 ∙ sym l)))
-
-enum-known-end : tie.Need-enum-known-end Inv-loop μ-loop
-enum-known-end c = search needs
-
-enum-told : tie.Need-enum-told Inv-loop μ-loop
-enum-told c = search needs
-
-same-length : tie.Need-same-length Inv-loop μ-loop
-same-length c = c .before .before .before .before .write-top .kept .1 .1 .1 .1 .1 .1 .1 .1 .0 ∙ c .before .before .before .before .before .before .before .before .before .before .before .loop .inv .0
-
-returns : tie.Need-returns Inv-loop μ-loop
-returns c = λ X D P.
-    let (l, T) = c .before .before .before .before .before .before .before .before .before .before .before .loop .inv in
-    let s = c .before .before .before .before .before .before .before .before .before .before .before .before .before .before .before .before .before .before .before .before .before .before .pre .1 .1 .1 .0 in
-    toppings-found T s (c .before .before .before .before .before .before .before .before .before .before .loop-test .taken) (c .before .before .before .before .before .before .before .before .before .label .ensures .0) (c .before .before .before .before .before .before .before .e .given .1) X D P
-    (c .before .before .before .before .write-top .ensures (toppings-in T s (c .before .before .before .before .before .before .before .before .before .before .loop-test .taken) (c .before .before .before .before .before .before .before .before .before .label .ensures .0) (c .before .before .before .before .before .before .before .e .given .1) X D P)) (c .enum-told .given .1)
-
-skip-type-requires : tie.Need-skip-type-requires Inv-loop μ-loop
-skip-type-requires c κs =
-    let (X, D, P) = c .before .before .before .before .before .before .before .before .before .before .before .before .before .before .before .before .before .before .before .before .before .before .before .pre .1 .1 .0 in
-    topping-type (c .before .before .before .before .before .before .before .before .before .before .before .before .loop .inv .1 X D P) (c .before .before .before .before .before .before .before .before .before .before .before .loop-test .taken) (c .before .before .before .before .before .before .before .before .before .before .label .ensures .0) (c .before .before .before .before .before .before .before .before .e .given .1)
-
-enum-told-2 : tie.Need-enum-told-2 Inv-loop μ-loop
-enum-told-2 c = search needs
-
-same-length-2 : tie.Need-same-length-2 Inv-loop μ-loop
-same-length-2 c = c .before .before .before .before .loop .inv .0
-
-returns-2 : tie.Need-returns-2 Inv-loop μ-loop
-returns-2 c = λ X D P. topping-labelled (c .before .before .before .before .loop .inv .1 X D P) (c .before .before .before .loop-test .taken) (c .before .before .label .ensures .0) (c .enum-told2 .given .1)
-
-add-i : tie.Need-add-i Inv-loop μ-loop
-add-i c = omega (arith, c .before .before .before .before .before .before .before .before .before .before .before .before .loop-test .taken, c .before .before .before .before .before .before .before .before .before .before .before .before .before .before .before .before .before .before .before .before .before .before .before .before .good .1 .1 .0)
-
-loop-less : tie.Need-loop-less Inv-loop μ-loop
-loop-less c = omega (arith, c .before .before .before .before .before .before .before .before .before .before .before .before .loop-test .taken)
-
-loop-again : tie.Need-loop-again Inv-loop μ-loop
-loop-again c =
-    let (l, T) = c .before .before .before .before .before .before .before .before .before .before .before .before .before .loop .inv in
-    let s = c .before .before .before .before .before .before .before .before .before .before .before .before .before .before .before .before .before .before .before .before .before .before .before .before .pre .1 .1 .1 .0 in
-    let lt = c .before .before .before .before .before .before .before .before .before .before .before .before .loop-test .taken in
-    let g = c .before .before .before .before .before .before .before .before .before .before .before .label .ensures .0 in
-    let h = c .before .before .before .before .before .before .before .before .before .e .given .1 in (
-      c .before .before .before .before .before .before .write-top .kept .1 .1 .1 .1 .1 .1 .1 .1 .0 ∙ l,
-      λ X D P. toppings-more T s lt g h X D P (c .before .before .before .before .before .before .write-top .ensures (toppings-in T s lt g h X D P)) (c .before .before .end .given .1) l (c .skip-type .ensures),
-    )
-
-same-length-3 : tie.Need-same-length-3 Inv-loop μ-loop
-same-length-3 c = c .before .loop .inv .0
-
-returns-3 : tie.Need-returns-3 Inv-loop μ-loop
-returns-3 c = λ X D P. topping-all (c .before .loop .inv .1 X D P) (c .loop-test .left)
-
 pub write-tops-spec : {M : Type 1} → statement M
 write-tops-spec =
     tie.close
     (tie.spec
     Inv-loop
     μ-loop
-    loop-holds
-    label-requires
-    enum-known-e
-    write-top-requires
-    enum-known-end
-    enum-told
-    same-length
-    returns
-    skip-type-requires
-    enum-told-2
-    same-length-2
-    returns-2
-    add-i
-    loop-less
-    loop-again
-    same-length-3
-    returns-3)
+    (λ c. (refl, toppings-none _ _ _ _ _ _ _ _ _ (λ i. omega (arith, c .before .before .before .before .before .shared-slice-known5 .given i))))
+    (λ c κs. search needs)
+    (λ c. search needs)
+    (λ c κs.
+    let c2 = c .before .before in let c4 = c2 .before .before in let c5 = c4 .before in let c6 = c5 .before in
+    let c17 = c6 .before .before .before .before .before .before .before .before .before .before .before in
+    let p = c17 .pre in
+    let (l, T) = c6 .loop .inv in
+    let (X, D, P) = p .1 .1 .0 in
+    (p .0, (p .1 .0, (toppings-in T (p .1 .1 .1 .0) (c5 .loop-test .taken) (c4 .label .ensures .0) (c2 .e .given .1) X D P, p .1 .1 .1 .1 ∙ sym l))))
+    (λ c. search needs)
+    (λ c. search needs)
+    (λ c.
+    let c4 = c .before .before .before .before in let c11 = c4 .before .before .before .before .before .before .before in
+    c4 .write-top .kept .1 .1 .1 .1 .1 .1 .1 .1 .0 ∙ c11 .loop .inv .0)
+    (λ c.
+    let c4 = c .before .before .before .before in let c7 = c4 .before .before .before in let c9 = c7 .before .before in let c10 = c9 .before in
+    let c11 = c10 .before in let c22 = c11 .before .before .before .before .before .before .before .before .before .before .before in
+    λ X D P.
+    let (l, T) = c11 .loop .inv in
+    let s = c22 .pre .1 .1 .1 .0 in
+    toppings-found T s (c10 .loop-test .taken) (c9 .label .ensures .0) (c7 .e .given .1) X D P
+    (c4 .write-top .ensures (toppings-in T s (c10 .loop-test .taken) (c9 .label .ensures .0) (c7 .e .given .1) X D P)) (c .enum-told .given .1))
+    (λ c κs.
+    let c8 = c .before .before .before .before .before .before .before .before in let c10 = c8 .before .before in let c11 = c10 .before in
+    let c12 = c11 .before in let c23 = c12 .before .before .before .before .before .before .before .before .before .before .before in
+    let (X, D, P) = c23 .pre .1 .1 .0 in
+    topping-type (c12 .loop .inv .1 X D P) (c11 .loop-test .taken) (c10 .label .ensures .0) (c8 .e .given .1))
+    (λ c. search needs)
+    (λ c. c .before .before .before .before .loop .inv .0)
+    (λ c.
+    let c2 = c .before .before in let c3 = c2 .before in let c4 = c3 .before in
+    λ X D P. topping-labelled (c4 .loop .inv .1 X D P) (c3 .loop-test .taken) (c2 .label .ensures .0) (c .enum-told2 .given .1))
+    (λ c.
+    let c12 = c .before .before .before .before .before .before .before .before .before .before .before .before in
+    let c24 = c12 .before .before .before .before .before .before .before .before .before .before .before .before in
+    omega (arith, c12 .loop-test .taken, c24 .good .1 .1 .0))
+    (λ c. omega (arith, c .before .before .before .before .before .before .before .before .before .before .before .before .loop-test .taken))
+    (λ c.
+    let c2 = c .before .before in let c6 = c2 .before .before .before .before in let c9 = c6 .before .before .before in
+    let c11 = c9 .before .before in let c12 = c11 .before in let c13 = c12 .before in
+    let c24 = c13 .before .before .before .before .before .before .before .before .before .before .before in
+    let (l, T) = c13 .loop .inv in
+    let s = c24 .pre .1 .1 .1 .0 in
+    let lt = c12 .loop-test .taken in
+    let g = c11 .label .ensures .0 in
+    let h = c9 .e .given .1 in (
+      c6 .write-top .kept .1 .1 .1 .1 .1 .1 .1 .1 .0 ∙ l,
+      λ X D P. toppings-more T s lt g h X D P (c6 .write-top .ensures (toppings-in T s lt g h X D P)) (c2 .end .given .1) l (c .skip-type .ensures),
+    ))
+    (λ c. c .before .loop .inv .0)
+    (λ c. λ X D P. topping-all (c .before .loop .inv .1 X D P) (c .loop-test .left)))
