@@ -13,6 +13,7 @@ use lib.Pow.{pow-pos}
 use lib.Seq.{getD-set-same, getD-set-other}
 use borrow.Author.Tests.{eqb-false, eqb-true}
 use Rattle.layout.specs.Bytes.{Bytes}
+use Rattle.layout.specs.Limits.{longestPlan}
 use Rattle.layout.proofs.Ways.{clash}
 use Rattle.values.specs.Value.{Value}
 use Rattle.overflow.specs.code.Seek.{RawIn}
@@ -39,7 +40,7 @@ bit-set w j = ap (λ (n : ℕ). n % 2) (or-shr w (2 ^ j) j) ∙ or-odd (w / 2 ^ 
     whole : (m : ℕ) → 0 < m → m / m ≡ 1
     whole m h = ap (λ (n : ℕ). n / m) (let e : m ≡ 1 * m + 0 = omega arith in e) ∙ digits-div 1 h
 
-pub bit-test : (l : List ℕ) (at : ℕ) {r : Bool} → at ≤ 65535 → r ≡ eqb (getD l (at / 64) 0 / 2 ^ (at % 64) % 2) 1 → r ≡ false → IsNull l at → ⊥
+pub bit-test : (l : List ℕ) (at : ℕ) {r : Bool} → at < longestPlan → r ≡ eqb (getD l (at / 64) 0 / 2 ^ (at % 64) % 2) 1 → r ≡ false → IsNull l at → ⊥
 bit-test l at h f g N = eqb-false (getD l (at / 64) 0 / 2 ^ (at % 64) % 2) 1 (sym f ∙ g) (N (omega (arith, h)))
 
 -- ---- a null more
@@ -53,7 +54,7 @@ grown-then G H = record { keeps = λ o e. H .keeps o (G .keeps o e); known = λ 
 pub null-lost : {l : List ℕ} {at : ℕ} → NullKept l at false l
 null-lost {l} = record { grown = grown-same l; kept = λ e. clash (cc) }
 
-pub null-kept : {l : List ℕ} {at b : ℕ} → at ≤ 65535 → at / 64 < length l → b ≡ 2 ^ (at % 64) → NullKept l at true
+pub null-kept : {l : List ℕ} {at b : ℕ} → at < longestPlan → at / 64 < length l → b ≡ 2 ^ (at % 64) → NullKept l at true
     (set l (at / 64) (bitOr (getD l (at / 64) 0) b))
 null-kept {l} {at} {b} h lt e = record {
   grown = record { keeps = λ o N q. keeps o (N q) (ℕ-discrete (o / 64) (at / 64)); known = λ t k. known t k };

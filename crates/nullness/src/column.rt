@@ -21,8 +21,12 @@ use layout::cursor::Cursor;
 use layout::edition::Edition;
 use layout::find::Found;
 use layout::find::column_at;
+use layout::limits::DEEPEST;
 use layout::types::Head;
 use rules::kinds::kind;
+
+// The levels of a type inside another.
+const INSIDE: u8 = DEEPEST - 1;
 
 // Where the type of a place stands, and whether the place is marked required; or there is no such place.
 pub enum PartMark {
@@ -49,7 +53,7 @@ fn part_mark(s: &[u8], v: Edition, c: Cursor, k: u16) -> PartMark
 {
     match c.head(s) {
         Head::Leaf(_, _) => PartMark::None,
-        Head::Struct(n, d) => match column_at(s, v, 15, n, d, Position(k)) {
+        Head::Struct(n, d) => match column_at(s, v, INSIDE, n, d, Position(k)) {
             Found::At(_, l, e) => PartMark::At(e, l.required),
             Found::Absent => PartMark::None,
         },

@@ -19,6 +19,7 @@ use layout::cursor::Cursor;
 use layout::cursor::Moved;
 use layout::edition::Edition;
 use layout::limits::DEEPEST;
+use layout::limits::LONGEST_PLAN;
 use layout::pass::pass_columns;
 use layout::types::Head;
 use numeric::round::power;
@@ -35,7 +36,7 @@ fn is_set(w: u64, j: u64) -> bool
 fn is_null(nulls: &[u64], at: usize) -> bool
     ensures { λ r. ⌜ (r ≡ false → IsNull (now (nulls .entry)) at → ⊥) ⌝ }
 {
-    if 65535 < at {
+    if LONGEST_PLAN <= at {
         return true;
     }
     let word = at / 64;
@@ -49,7 +50,7 @@ fn is_null(nulls: &[u64], at: usize) -> bool
 pub fn keep_null(nulls: &mut [u64], at: usize) -> bool
     ensures { λ r. ⌜ NullKept (now (nulls .entry)) at r (now (nulls .exit)) ⌝ }
 {
-    if 65535 < at {
+    if LONGEST_PLAN <= at {
         return false;
     }
     let word = at / 64;
@@ -66,7 +67,7 @@ pub fn keep_null(nulls: &mut [u64], at: usize) -> bool
 fn is_known(nulls: &[u64], at: usize) -> bool
     ensures { λ r. ⌜ (r ≡ true → KnownAt (now (nulls .entry)) at) ⌝ }
 {
-    if 65535 < at {
+    if LONGEST_PLAN <= at {
         return false;
     }
     let slot = 1024 + at / 1024;
@@ -80,7 +81,7 @@ fn is_known(nulls: &[u64], at: usize) -> bool
 pub fn keep_constant(nulls: &mut [u64], at: usize)
     ensures { λ _. ⌜ ((plan : Bytes) → Nulls plan (now (nulls .entry)) → ((X : RawIn plan at) → NullsOf plan (now (nulls .entry)) at (X .value .tree)) → Nulls plan (now (nulls .exit))) ⌝ }
 {
-    if 65535 < at {
+    if LONGEST_PLAN <= at {
         return;
     }
     let slot = 1024 + at / 1024;

@@ -23,7 +23,7 @@ use Rattle.output.specs.declared.casts.Origin.{Origin}
 use Rattle.output.specs.declared.parts.Asked.{Asked}
 use Rattle.output.proofs.Chain.{passed-value}
 use Rattle.output.proofs.Ends.{parts-struct, parts-list, parts-array, parts-casts, struct-value, list-value, array-value}
-use Rattle.output.proofs.Outward.{run-frame}
+use Rattle.output.proofs.Inside.{run-frame}
 
 pub answer-none : (m : ℕ) (own : Parts) → answer m own Parts.None ≡ Parts.None
 unfolding answer has choose

@@ -3,7 +3,7 @@ pub mod Given
 pub mod Chain
 pub mod Ends
 pub mod Writing
-pub mod Outward
+pub mod Inside
 pub mod Asking
 pub mod Casting
 pub mod Emitting

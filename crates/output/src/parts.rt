@@ -1,7 +1,7 @@
 // The number of parts of a value, and whether a selector inside entered mappings is run at all.
 ghost use mathlib.Core.Path.{_≡_};
 ghost use mathlib.Core.List.{List, _∷_};
-ghost use Prim.Native.Nat.{ℕ, _+_, _-_, _<_};
+ghost use Prim.Native.Nat.{ℕ, _+_, _<_};
 ghost use Rattle.ends.specs.code.Ends.{Ends};
 ghost use Rattle.layout.specs.Parser.{choose};
 ghost use Rattle.values.specs.Value.{Value, vnull, Values};

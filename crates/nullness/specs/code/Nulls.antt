@@ -5,6 +5,7 @@ use mathlib.Core.Bool.{Bool, true, false}
 use mathlib.Core.List.{List, [], _∷_}
 use lib.ListN.{getD}
 use Rattle.layout.specs.Bytes.{Bytes}
+use Rattle.layout.specs.Limits.{longestPlan}
 use Rattle.layout.specs.Parser.{ok}
 use Rattle.layout.specs.Tree.{Label, Columns}
 use Rattle.layout.specs.Layout.{aStruct, aList, anArray, kind, label as labelOf, elementLabel, columns, type, deepest}
@@ -46,7 +47,7 @@ pub data Inside (s : Bytes) : ℕ → List ℕ → ℕ → Type 0 where
 
 -- the bit of the offset o is set
 abbrev pub IsNull : List ℕ → ℕ → Type 0
-IsNull nulls o = o < 65536 → getD nulls (o / 64) 0 / 2 ^ (o % 64) % 2 ≡ 1
+IsNull nulls o = o < longestPlan → getD nulls (o / 64) 0 / 2 ^ (o % 64) % 2 ≡ 1
 
 -- the constant whose type stands at t is known
 abbrev pub KnownAt : List ℕ → ℕ → Type 0

@@ -1,4 +1,4 @@
-use Rattle.output.proofs.Outward.{least-of-fields, least-of-element}
+use Rattle.output.proofs.Inside.{least-of-fields, least-of-element}
 use Rattle.walk.proofs.Moving.{inner-inside}
 use mathlib.Core.Path.{_∙_}
 use native.Mathlib.Omega.{arith}
