@@ -1,37 +1,36 @@
 -- What the functions of src/tops.rt answer on each way. Assumes nothing.
 use Prim.Native.Nat.{ℕ, _+_, _-_, _≤_, _<_}
 use mathlib.Core.Path.{_≡_, refl, sym, ap, _∙_, subst}
-use mathlib.Core.Bool.{Bool, true, false, _&&_}
-use mathlib.Core.List.{[]}
+use mathlib.Core.Bool.{Bool, true, false, _&&_, and-assoc}
+use mathlib.Core.List.{List, []}
 use native.Mathlib.Omega.{arith}
 use lib.ListN.{length}
 use Rattle.layout.specs.Bytes.{Bytes, AllBytes, sameBytes}
 use Rattle.layout.specs.Parser.{Res, refuse, ok}
-use Rattle.layout.specs.Tree.{Columns, Fields, fnil, fcons, countFields, dtypeOf, fieldsOf}
-use Rattle.layout.specs.Layout.{layout, type, ended}
+use Rattle.layout.specs.Tree.{Columns, DataType, Fields, fnil, fcons, dtypeOf, fieldsOf}
+use Rattle.layout.specs.Layout.{layout, label, type, ended as endedAt}
+use Rattle.layout.specs.code.Answers.{movedOf}
 use Rattle.layout.specs.code.Stands.{ColumnsAt, LayoutAt}
 use Rattle.layout.specs.declared.columns.Siblings.the-variants.{Free}
 use Rattle.layout.specs.declared.cursor.Cursor.{Cursor}
+use Rattle.layout.specs.declared.cursor.Moved.{Moved}
 use Rattle.layout.specs.declared.edition.Edition.{Edition}
-use Rattle.layout.proofs.Ways.{clash}
-use Rattle.layout.proofs.Top.{columns-count}
+use Rattle.layout.proofs.OfBytes.{same-bytes-refl}
+use Rattle.layout.proofs.Ways.{clash, moved-to, moved-refused}
 use Rattle.layout.proofs.View.{next-ok, same-columns, no-column}
 use Rattle.layout.proofs.Whole.{u16-at, tested}
 use Rattle.forms.specs.code.Compare.{sameDtype, sameFields}
-use Rattle.forms.specs.code.Labelled.{ColumnAt}
-use Rattle.forms.proofs.Equal.{same-fields-eq, same-fields-equal}
-use Rattle.forms.proofs.Heads.{count-fields}
+use Rattle.forms.proofs.Equal.{same-dtype-refl, same-fields-equal}
 use Rattle.forms.proofs.Read.{chosen, ok-eq}
 use borrow.Author.Tests.{eqb-true}
 use Rattle.forms.proofs.Comparing.{split, Split}
 use Rattle.values.proofs.Inside.{renumber-ok}
-use Rattle.plan.specs.Result.{Result, gives, refuses, _>>=_, demand, Answer, accepted, refusedAt, placed, answered}
+use Rattle.plan.specs.Result.{Result, gives, refuses, demand, Answer, accepted, refusedAt, placed, answered}
 use Rattle.plan.specs.Selector.{Selector, Selectors, snil, scons, countSelectors, nesting, nestingAll}
-use Rattle.plan.specs.Check.{Column, typeOf, typesOf, topTypes, against, check}
+use Rattle.plan.specs.Check.{Column, column, typeOf, topTypes, against, check}
 use Rattle.plan.specs.Read.{selectors as selectorsOf, selector, planFrom, planSized, planVersion, planCounted, plan as readPlan}
 use Rattle.plan.specs.code.Answers.{planRead}
 use Rattle.plan.specs.declared.read.PlanRead.{PlanRead}
-use Rattle.plan.proofs.Results.{bind-gives as bind-given, gives-eq, accepted-eq, placed-accepted, answered-accepted, true≠false}
 use Rattle.plan.proofs.ReadBack.{plan-back}
 use Rattle.plan.specs.Calls.{readAt}
 use Rattle.plan.specs.Marks.{checkMarked}
@@ -42,51 +41,85 @@ use Rattle.walk.specs.code.Walks.{WalkAt}
 use Rattle.walk.specs.declared.walk.Walk.{Walk}
 use Rattle.walk.proofs.View.{first-at, no-selector, selectors-counted}
 use Rattle.walk.proofs.Forward.{selectors-from, selector-behind}
+use Rattle.index.specs.code.Indexed.{strideOf, Indexed}
+use Rattle.direct.specs.code.Fits.{ColumnFitAt, FitsColumn}
+use Rattle.direct.specs.declared.fit.FitEnd.{FitEnd}
+use Rattle.direct.specs.declared.scope.Scope.{Scope}
+use Rattle.direct.proofs.Fitting.{gives-to}
 use Rattle.checker.specs.code.Shallow.{Shallow}
 use Rattle.checker.specs.code.TypesAt.{NamedAt}
 use Rattle.checker.specs.code.Same.{endsOf}
 use Rattle.checker.specs.code.Checking.{checkedOf, CheckingAt}
-use Rattle.checker.specs.code.Tops.{planChecked, TopsAt, TypedTops}
+use Rattle.checker.specs.code.Tops.{planChecked, TopsAt, TopAt, sameFirst, restOf, NextColumns, PassesTop, fitParts, FitsTop, topParts, TopIs}
 use Rattle.plan.specs.Calls.{checkPlan, readPlan as layoutsRead}
+use Rattle.checker.specs.declared.each.Top.{Top}
 use Rattle.checker.specs.declared.same.Ends.{Ends}
 use Rattle.checker.specs.declared.selector.Checked.{Checked}
 use Rattle.checker.specs.declared.tops.PlanChecked.{PlanChecked}
-use Rattle.checker.proofs.Given.{types-count}
 use Rattle.checker.proofs.Alike.{ends-at, ends-differ, columns-as}
 
 -- ---- trees
-
-top-refused : (Γ : Fields) (s : Selector) (ss : Selectors) (k : ℕ) {j : ℕ} → checkedOf (typeOf Γ s) ≡ Checked.Refused j → planChecked
-    (topTypes Γ (scons s ss) k) ≡ PlanChecked.Refused j k
-unfolding topTypes placed
-top-refused Γ s ss k {j} e = go (typeOf Γ s) e
-  where
-    go : (x : Result Column) → checkedOf x ≡ Checked.Refused j → planChecked (placed k x
-        (λ c. answered (topTypes Γ ss (k + 1)) (λ fs. accepted (fcons (c .name) (c .type) fs)))) ≡ PlanChecked.Refused j k
-    go (gives a) e = clash (cc)
-    go (refuses n) e = let q : n ≡ j = cc in ap (λ (i : ℕ). PlanChecked.Refused i k) q
 
 passes-gives : {A : Type 0} (x : Result A) → checkedOf x ≡ Checked.Passed → (a : A) × (x ≡ gives a)
 passes-gives (gives a) e = (a, refl)
 passes-gives (refuses n) e = clash (cc)
 
-top-passed : (Γ : Fields) (s : Selector) (ss : Selectors) (k : ℕ) → checkedOf (typeOf Γ s) ≡ Checked.Passed → planChecked (topTypes Γ (scons s ss) k) ≡
-    planChecked (topTypes Γ ss (k + 1))
-unfolding topTypes placed answered
-top-passed Γ s ss k e = let (a, q) = passes-gives (typeOf Γ s) e in rw q (go a (topTypes Γ ss (k + 1)))
-  where
-    go : (c : Column) (x : Answer Fields) → planChecked (answered x (λ fs. accepted (fcons (c .name) (c .type) fs))) ≡ planChecked x
-    go c (accepted a) = refl
-    go c (refusedAt n k) = refl
+refused-refuses : {A : Type 0} (x : Result A) {j : ℕ} → checkedOf x ≡ Checked.Refused j → x ≡ refuses j
+refused-refuses (gives a) e = clash (cc)
+refused-refuses (refuses n) {j} e = let q : n ≡ j = cc in ap refuses q
 
--- what the top selectors give
-tops-typed : (Γ : Fields) (ss : Selectors) (k : ℕ) {fs : Fields} → topTypes Γ ss k ≡ accepted fs → typesOf Γ ss ≡ gives fs
-unfolding topTypes typesOf _>>=_
-tops-typed Γ snil k e = ap gives (accepted-eq e)
-tops-typed Γ (scons s ss) k e =
-    let (c, p, q) = placed-accepted _ _ _ e in
-    let (gs, p₁, q) = answered-accepted _ _ q in
-    rw (p, tops-typed Γ ss (k + 1) p₁) (ap gives (accepted-eq q))
+-- 33 once all selectors have passed
+abbrev closing : Bool → Answer (Unit {0})
+closing b = placed 0 (demand b 33 (gives tt)) accepted
+
+-- the check of the selectors from the k-th on, against the columns Δ that are left; `same` says that those before are the target's
+unfoldable pub checkFrom : Fields → Fields → Selectors → ℕ → Bool → Answer (Unit {0})
+checkFrom Γ Δ ss k same = answered (topTypes Γ ss k) (λ fs. closing (same && sameFields fs Δ))
+
+from-start : (Γ Δ : Fields) (ss : Selectors) → planChecked (check Γ Δ ss) ≡ planChecked (checkFrom Γ Δ ss 0 true)
+unfolding check against checkFrom answered
+from-start Γ Δ ss = go (topTypes Γ ss 0)
+  where
+    go : (x : Answer Fields) → planChecked (answered x (against Δ)) ≡ planChecked (answered x (λ fs. closing (true && sameFields fs Δ)))
+    go (accepted fs) = ap (λ (b : Bool). planChecked (closing b)) (sym (same-fields-equal fs Δ))
+    go (refusedAt n k) = refl
+
+from-refuses : (Γ Δ : Fields) (s : Selector) (ss : Selectors) (k : ℕ) (same : Bool) {j : ℕ} → typeOf Γ s ≡ refuses j
+    → planChecked (checkFrom Γ Δ (scons s ss) k same) ≡ PlanChecked.Refused j k
+unfolding checkFrom topTypes placed answered
+from-refuses Γ Δ s ss k same e = rw e
+
+first-alike : (a : Column) (fs Δ : Fields) (same : Bool) → (same && sameFields (fcons (a .name) (a .type) fs) Δ) ≡
+    ((same && sameFirst a Δ) && sameFields fs (restOf Δ))
+unfolding sameFields sameFirst restOf
+first-alike a fs fnil true = refl
+first-alike a fs fnil false = refl
+first-alike a fs (fcons n t Δ) true = sym (and-assoc (sameBytes (a .name) n) (sameDtype (a .type) t) (sameFields fs Δ))
+first-alike a fs (fcons n t Δ) false = refl
+
+from-gives : (Γ Δ : Fields) (s : Selector) (ss : Selectors) (k : ℕ) (same : Bool) {a : Column} {b : Bool} → typeOf Γ s ≡ gives a →
+    (same && sameFirst a Δ) ≡ b → planChecked (checkFrom Γ Δ (scons s ss) k same) ≡ planChecked (checkFrom Γ (restOf Δ) ss (k + 1) b)
+unfolding checkFrom topTypes placed answered
+from-gives Γ Δ s ss k same {a} {b} e f = rw e (go (topTypes Γ ss (k + 1)))
+  where
+    go : (x : Answer Fields) → planChecked (answered (answered x (λ fs. accepted (fcons (a .name) (a .type) fs)))
+        (λ fs. closing (same && sameFields fs Δ))) ≡ planChecked (answered x (λ fs. closing (b && sameFields fs (restOf Δ))))
+    go (accepted fs) = ap (λ (c : Bool). planChecked (closing c)) (first-alike a fs Δ same ∙ ap (λ (c : Bool). c && sameFields fs (restOf Δ)) f)
+    go (refusedAt n k) = refl
+
+from-differs : (Γ Δ : Fields) (k : ℕ) → planChecked (checkFrom Γ Δ snil k false) ≡ PlanChecked.Refused 33 0
+unfolding checkFrom topTypes placed answered demand
+from-differs Γ Δ k = refl
+
+from-short : (Γ : Fields) (n : Bytes) (t : DataType) (Δ : Fields) (k : ℕ) (same : Bool)
+    → planChecked (checkFrom Γ (fcons n t Δ) snil k same) ≡ PlanChecked.Refused 33 0
+unfolding checkFrom topTypes placed answered demand sameFields
+from-short Γ n t Δ k true = refl
+from-short Γ n t Δ k false = refl
+
+from-passed : (Γ : Fields) (k : ℕ) → planChecked (checkFrom Γ fnil snil k true) ≡ PlanChecked.Passed
+unfolding checkFrom topTypes placed answered demand sameFields
+from-passed Γ k = refl
 
 pub passed-accepted : {A : Type 0} (x : Answer A) → planChecked x ≡ PlanChecked.Passed → (a : A) × (x ≡ accepted a)
 passed-accepted (accepted a) e = (a, refl)
@@ -95,12 +128,10 @@ passed-accepted (refusedAt n k) e = clash (cc)
 -- ---- the first selector
 
 pub record FirstTop (incoming : Bytes) (v : Edition) (n : ℕ) (plan : Bytes) (count at : ℕ) (Γ : Fields) (ss : Selectors) : Type 0 where
-  pub head : SelectorAt plan at
+  pub top : TopAt incoming v n plan at Γ
   pub parts : Selectors
-  pub is : ss ≡ scons (head .tree) parts
-  pub ends : head .end ≤ length plan
-  pub nests : nesting (head .tree) ≤ 64
-  pub tail : TopsAt incoming v n plan (count - 1) (head .end) Γ parts
+  pub is : ss ≡ scons (top .selector .tree) parts
+  pub tail : TopsAt incoming v n plan (count - 1) (top .selector .end) Γ parts
 
 pub first-top : {incoming : Bytes} {v : Edition} {n : ℕ} {plan : Bytes} {count at : ℕ} {Γ : Fields} {ss : Selectors} → TopsAt incoming v n plan count at
     Γ ss → 0 < count → FirstTop incoming v n plan count at Γ ss
@@ -113,11 +144,16 @@ first-top {plan = plan} {ss = ss} T h =
     (F .tail .reads) in
     let e = F .ends in
     record {
-      head = F .head;
+      top = record {
+        columns = T .columns;
+        are = T .are;
+        selector = F .head;
+        ends = omega (arith, T .ends);
+        small = T .small;
+        nests = omega arith;
+      };
       parts = F .tail .trees;
       is = q;
-      ends = omega (arith, T .ends);
-      nests = omega arith;
       tail = record {
         columns = T .columns;
         are = T .are;
@@ -125,306 +161,313 @@ first-top {plan = plan} {ss = ss} T h =
         is = refl;
         ends = omega (arith, T .ends);
         small = T .small;
-        nests = omega
-            arith;
+        nests = omega arith;
       };
     }
 
-module _ {incoming : Bytes} {v : Edition} {n : ℕ} {plan : Bytes} {count at : ℕ} {Γ : Fields} {ss : Selectors}
-    (T : TopsAt incoming v n plan count at Γ ss) (h : 0 < count) where
-  abbrev first : FirstTop incoming v n plan count at Γ ss
-  first = first-top T h
+tops-as : {incoming : Bytes} {v : Edition} {n : ℕ} {plan : Bytes} {m count at to : ℕ} {Γ : Fields} {ss : Selectors} → m ≡ count → at ≡ to → TopsAt
+    incoming v n plan m at Γ ss → TopsAt incoming v n plan count to Γ ss
+tops-as {incoming} {v} {n} {plan} {m} {count} {at} {to} {Γ} {ss} e f T =
+    subst (λ (k : ℕ). TopsAt incoming v n plan k to Γ ss) e (subst (λ (i : ℕ). TopsAt incoming v n plan m i Γ ss) f T)
 
-  module _ {e : Cursor} (ends : (P : SelectorAt plan at) → e .at ≡ P .end) where
-    -- what stands behind it
-    pub next-tops : TopsAt incoming v n plan (count - 1) (e .at) Γ (first .parts)
-    next-tops = subst (λ (i : ℕ). TopsAt incoming v n plan (count - 1) i Γ (first .parts)) (sym (ends (first .head))) (first .tail)
+-- ---- next_column
 
-    module _ {w : Walk} (g : (p : Bytes) (P : SelectorAt p at) → P .end ≤ e .at → e .at ≤ length p → length p ≤ 65536 → WalkAt p w
-        (state (P .tree) [] [])) where
-      standing : WalkAt plan w (state (first .head .tree) [] [])
-      standing = let z = ends (first .head) in g plan (first .head) (omega arith) (omega (arith, first .ends)) (T .small)
-
-      top-shallow : Shallow (state (first .head .tree) [] [])
-      top-shallow = record { here = omega (arith, first .nests); frames = tt }
-
-      top-scope : ScopeOf (fieldsOf (T .columns .columns)) [] Γ
-      top-scope = subst (λ (Δ : Fields). ScopeOf (fieldsOf (T .columns .columns)) [] Δ) (T .are) c-top
-
-      pub top-checking : CheckingAt incoming v n plan w (first .head .tree) Γ
-      top-checking = record { columns = T .columns; frames = []; standing = standing; shallow = top-shallow; scoped = top-scope }
-
-      pub top-named : {a : Column} → typeOf Γ (first .head .tree) ≡ gives a → NamedAt incoming v n plan w a
-      top-named q = record {
-        columns = T .columns;
-        selector = first .head .tree;
-        frames = [];
-        standing = standing;
-        shallow = top-shallow;
-        scope = Γ;
-        scoped = top-scope;
-        passes = q;
+module _ {vt : Edition} {target : Bytes} {m bt : ℕ} (Q : ColumnsAt vt 16 target m bt) where
+  pub none-next : m ≡ 0 → NextColumns Q bt
+  unfolding restOf fieldsOf
+  none-next h =
+      let c = no-column Q h .0 in
+      record {
+        next = columns-as (let z : m ≡ m - 1 = omega arith in z) refl Q;
+        rest = ap fieldsOf c ∙ sym (ap (λ (cs : Columns). restOf (fieldsOf cs)) c);
       }
 
-tops-as : {incoming : Bytes} {v : Edition} {n : ℕ} {plan : Bytes} {m count at : ℕ} {Γ : Fields} {ss : Selectors} → m ≡ count → TopsAt incoming v n plan
-    m at Γ ss → TopsAt incoming v n plan count at Γ ss
-tops-as {incoming} {v} {n} {plan} {at = at} {Γ = Γ} {ss = ss} e T = subst (λ (k : ℕ). TopsAt incoming v n plan k at Γ ss) e T
+  module _ (h : m ≡ 0 → ⊥) where
+    abbrev parted : Split vt 16 target m bt Q
+    parted = split Q h
 
--- ---- check_tops
+    split-next : {e : ℕ} → parted .first .inner .end ≡ e → NextColumns Q e
+    unfolding restOf fieldsOf
+    split-next q = record { next = columns-as refl q (parted .tail); rest = sym (ap (λ (cs : Columns). restOf (fieldsOf cs)) (parted .is)) }
 
-abbrev Skips : Bytes → ℕ → Cursor → Type 0
-Skips plan at e = (P : SelectorAt plan at) → e .at ≡ P .end
+    module _ {r : Moved} (f : r ≡ movedOf (label vt target bt)) where
+      pub next-labelled : {k : ℕ} {e : ℕ} → r ≡ Moved.Refused k → NextColumns Q e
+      next-labelled {k} g =
+          let q : ok (parted .first .label) (parted .first .start) ≡ refuse k = sym (parted .first .labelled) ∙ moved-refused (label vt target bt) f g in
+          clash (cc)
 
-abbrev Tops : ℕ → Cursor → Walk → Type 0
-Tops at e w = (p : Bytes) (P : SelectorAt p at) → P .end ≤ e .at → e .at ≤ length p → length p ≤ 65536 → WalkAt p w (state (P .tree) [] [])
+      pub next-found : {d e : Cursor} {p : Moved} → r ≡ Moved.To d → p ≡ movedOf (type vt Free 16 target (d .at)) → p ≡ Moved.To e → NextColumns Q (e .at)
+      next-found {d} {e} g o i =
+          let (l, q) = moved-to (label vt target bt) f g in
+          let z : parted .first .start ≡ d .at = ok-eq (sym (parted .first .labelled) ∙ q) .1 in
+          let (t, w) = moved-to (type vt Free 16 target (d .at)) o i in
+          split-next (ok-eq (sym (parted .first .inner .reads) ∙ ap (λ (j : ℕ). type vt Free 16 target j) z ∙ w) .1)
 
-pub record Topping (incoming : Bytes) (v : Edition) (n : ℕ) (plan : Bytes) (count from at k : ℕ) : Type 0 where
+      pub next-typed : {d : Cursor} {p : Moved} {k e : ℕ} → r ≡ Moved.To d → p ≡ movedOf (type vt Free 16 target (d .at)) → p ≡ Moved.Refused k → NextColumns Q e
+      next-typed {d} {k = k} g o i =
+          let (l, q) = moved-to (label vt target bt) f g in
+          let z : parted .first .start ≡ d .at = ok-eq (sym (parted .first .labelled) ∙ q) .1 in
+          let w : ok (parted .first .inner .tree) (parted .first .inner .end) ≡ refuse k = sym (parted .first .inner .reads)
+          ∙ ap (λ (j : ℕ). type vt Free 16 target j) z ∙ moved-refused (type vt Free 16 target (d .at)) o i in
+          clash (cc)
+
+-- ---- fit_first
+
+module _ {incoming : Bytes} {v : Edition} {n : ℕ} {plan : Bytes} {at : ℕ} {Γ : Fields} (T : TopAt incoming v n plan at Γ) {vt : Edition}
+    {target : Bytes} {m bt : ℕ} (Q : ColumnsAt vt 16 target m bt) where
+  pub fit-unknown : FitsTop T Q FitEnd.Unknown
+  fit-unknown = record { parts = tt }
+
+  module _ {index : List ℕ} {stride : ℕ} (I : Indexed v incoming n 7 (strideOf n) index) (q : stride ≡ strideOf n) (p : 0 < stride) (h : m ≡ 0 → ⊥)
+      (l : length target ≤ 16384) where
+    abbrev pub fit-asks : ColumnFitAt incoming v (Scope.Columns n (record { at = 7 })) index stride plan at target vt bt
+    fit-asks = record {
+      scoped = record {
+        fields = Γ;
+        parts = record {
+          columns = T .columns;
+          are = T .are;
+          indexed = subst (λ (k : ℕ). Indexed v incoming n 7 k index) (sym q) I;
+          strides = p;
+        };
+      };
+      selector = T .selector;
+      column = parted Q h .first;
+      small = l;
+    }
+
+    fit-passes : {x y : Cursor} → FitsColumn fit-asks (FitEnd.At x y) → PassesTop T Q true true x y
+    unfolding sameFirst fieldsOf
+    fit-passes F =
+        let G = gives-to F refl in
+        let S = parted Q h in
+        record {
+          column = column (S .first .label .name) (dtypeOf (S .first .inner .tree));
+          typed = G .typed;
+          same = ap (λ (cs : Columns). sameFirst (column (S .first .label .name) (dtypeOf (S .first .inner .tree))) (fieldsOf cs)) (S .is)
+              ∙ rw (same-bytes-refl (S .first .label .name)) (same-dtype-refl (dtypeOf (S .first .inner .tree)));
+          ends = G .ends .0;
+          left = split-next Q h (sym (G .ends .1));
+        }
+
+    pub fits-top : {r : FitEnd} → ((A : ColumnFitAt incoming v (Scope.Columns n (record { at = 7 })) index stride plan at target vt bt) → FitsColumn A r)
+        → FitsTop T Q r
+    fits-top {r} F = go r (F fit-asks)
+      where
+        go : (r : FitEnd) → FitsColumn fit-asks r → FitsTop T Q r
+        go (FitEnd.At x y) F = record { parts = fit-passes F }
+        go FitEnd.Unknown F = fit-unknown
+
+-- ---- still_same
+
+pub not-before : {b : Bool} → b ≡ false → (x : Bool) → false ≡ (b && x)
+not-before e x = rw e
+
+module _ {vt : Edition} {target : Bytes} {m bt : ℕ} (Q : ColumnsAt vt 16 target m bt) (a : Column) where
+  pub none-same : m ≡ 0 → (b : Bool) → false ≡ (b && sameFirst a (fieldsOf (Q .columns)))
+  unfolding sameFirst fieldsOf
+  none-same h b = let z = sym (ap (λ (cs : Columns). sameFirst a (fieldsOf cs)) (no-column Q h .0)) in go b z
+    where
+      go : (b : Bool) → false ≡ sameFirst a (fieldsOf (Q .columns)) → false ≡ (b && sameFirst a (fieldsOf (Q .columns)))
+      go true z = z
+      go false z = refl
+
+  module _ (h : m ≡ 0 → ⊥) where
+    first-same : sameFirst a (fieldsOf (Q .columns)) ≡ (sameBytes (a .name) (parted Q h .first .label .name) && sameDtype (a .type)
+        (dtypeOf (parted Q h .first .inner .tree)))
+    unfolding sameFirst fieldsOf
+    first-same = ap (λ (cs : Columns). sameFirst a (fieldsOf cs)) (parted Q h .is)
+
+    module _ {f : Ends} (F : f ≡ endsOf (sameBytes (a .name) (parted Q h .first .label .name) && sameDtype (a .type)
+        (dtypeOf (parted Q h .first .inner .tree))) (parted Q h .first .inner .end)) {b : Bool} (o : b ≡ true) where
+      pub column-same : {x : Cursor} → f ≡ Ends.At x → true ≡ (b && sameFirst a (fieldsOf (Q .columns)))
+      column-same g = rw (o, first-same) (sym (ends-at _ _ (sym F ∙ g) .0))
+
+      pub column-differs : f ≡ Ends.Differ → false ≡ (b && sameFirst a (fieldsOf (Q .columns)))
+      column-differs g = rw (o, first-same) (sym (ends-differ _ _ (sym F ∙ g)))
+
+-- ---- check_top
+
+module _ {incoming : Bytes} {v : Edition} {n : ℕ} {plan : Bytes} {at : ℕ} {Γ : Fields} (T : TopAt incoming v n plan at Γ) {e : Cursor}
+    (ends : (P : SelectorAt plan at) → e .at ≡ P .end) {w : Walk}
+    (g : (p : Bytes) (P : SelectorAt p at) → P .end ≤ e .at → e .at ≤ length p → length p ≤ 65536 → WalkAt p w (state (P .tree) [] [])) where
+  standing : WalkAt plan w (state (T .selector .tree) [] [])
+  standing = let z = ends (T .selector) in g plan (T .selector) (omega arith) (omega (arith, T .ends)) (T .small)
+
+  top-shallow : Shallow (state (T .selector .tree) [] [])
+  top-shallow = record { here = omega (arith, T .nests); frames = tt }
+
+  top-scope : ScopeOf (fieldsOf (T .columns .columns)) [] Γ
+  top-scope = subst (λ (Δ : Fields). ScopeOf (fieldsOf (T .columns .columns)) [] Δ) (T .are) c-top
+
+  pub top-checking : CheckingAt incoming v n plan w (T .selector .tree) Γ
+  top-checking = record { columns = T .columns; frames = []; standing = standing; shallow = top-shallow; scoped = top-scope }
+
+  module _ {r : Checked} (f : r ≡ checkedOf (typeOf Γ (T .selector .tree))) where
+    pub top-gives : r ≡ Checked.Passed → (a : Column) × (typeOf Γ (T .selector .tree) ≡ gives a)
+    top-gives q = passes-gives (typeOf Γ (T .selector .tree)) (sym f ∙ q)
+
+    pub top-named : (q : r ≡ Checked.Passed) → NamedAt incoming v n plan w (top-gives q .0)
+    top-named q = record {
+      columns = T .columns;
+      selector = T .selector .tree;
+      frames = [];
+      standing = standing;
+      shallow = top-shallow;
+      scope = Γ;
+      scoped = top-scope;
+      passes = top-gives q .1;
+    }
+
+    module _ {vt : Edition} {target : Bytes} {m bt : ℕ} (Q : ColumnsAt vt 16 target m bt) {same : Bool} where
+      pub top-refused : {j : ℕ} → r ≡ Checked.Refused j → TopIs T Q same (Top.Refused j)
+      top-refused q = record { parts = refused-refuses (typeOf Γ (T .selector .tree)) (sym f ∙ q) }
+
+      pub top-passed : (q : r ≡ Checked.Passed) {b : Bool} {y : Cursor} → NextColumns Q (y .at)
+          → b ≡ (same && sameFirst (top-gives q .0) (fieldsOf (Q .columns))) → TopIs T Q same (Top.Passed e y b)
+      top-passed q N s = record {
+        parts = record { column = top-gives q .0; typed = top-gives q .1; same = sym s; ends = ends (T .selector); left = N };
+      }
+
+-- ---- check_each
+
+pub record Going (incoming : Bytes) (v : Edition) (n : ℕ) (plan : Bytes) (count from : ℕ) (target : Bytes) (vt : Edition) (m base at bt : ℕ) (same : Bool)
+    (k : ℕ) : Type 0 where
   pub within : k ≤ count
   pub scope : Fields
   pub parts : Selectors
   pub start : TopsAt incoming v n plan (count - k) at scope parts
-  pub keeps : (Γ : Fields) (ss : Selectors) → TopsAt incoming v n plan count from Γ ss
-      → (rs : Selectors) × (TopsAt incoming v n plan (count - k) at Γ rs × (planChecked (topTypes Γ ss 0) ≡ planChecked (topTypes Γ rs k)))
+  pub columns : ColumnsAt vt 16 target (m - k) bt
+  pub keeps : (Γ : Fields) (ss : Selectors) (Q : ColumnsAt vt 16 target m base) → TopsAt incoming v n plan count from Γ ss
+      → (rs : Selectors) × (TopsAt incoming v n plan (count - k) at Γ rs
+      × (planChecked (check Γ (fieldsOf (Q .columns)) ss) ≡ planChecked (checkFrom Γ (fieldsOf (columns .columns)) rs k same)))
 
-module _ {incoming : Bytes} {v : Edition} {n : ℕ} {plan : Bytes} {count from : ℕ} where
-  pub topping-start : {Γ : Fields} {ss : Selectors} → TopsAt incoming v n plan count from Γ ss → Topping incoming v n plan count from from 0
-  topping-start {Γ} {ss} T =
+module _ {incoming : Bytes} {v : Edition} {n : ℕ} {plan : Bytes} {count from : ℕ} {target : Bytes} {vt : Edition} {m base : ℕ} where
+  pub going-start : {Γ : Fields} {ss : Selectors} → TopsAt incoming v n plan count from Γ ss → ColumnsAt vt 16 target m base
+      → Going incoming v n plan count from target vt m base from base true 0
+  going-start {Γ} {ss} T C =
       let z : count ≡ count - 0 = omega arith in
-      record { within = omega arith; scope = Γ; parts = ss; start = tops-as z T; keeps = λ Δ rs U. (rs, (tops-as z U, refl)) }
+      let y : m ≡ m - 0 = omega arith in
+      record {
+        within = omega arith;
+        scope = Γ;
+        parts = ss;
+        start = tops-as z refl T;
+        columns = columns-as y refl C;
+        keeps = λ Δ rs Q U. (
+          rs,
+          (
+            tops-as z refl U,
+            from-start Δ (fieldsOf (Q .columns)) rs ∙ ap (λ (cs : Columns). planChecked (checkFrom Δ (fieldsOf cs) rs 0 true)) (same-columns Q C .0),
+          ),
+        );
+      }
 
-  module _ {at k : ℕ} (O : Topping incoming v n plan count from at k) where
-    pub topping-end : count ≤ k → (Γ : Fields) (ss : Selectors) → TopsAt incoming v n plan count from Γ ss → PlanChecked.Passed ≡ planChecked (topTypes Γ ss 0)
-    unfolding topTypes
-    topping-end h Γ ss T =
-        let (rs, (U, e)) = O .keeps Γ ss T in
-        let q : rs ≡ snil = sym (U .is) ∙ no-selector (U .selectors) (let z : count - k ≡ 0 = omega arith in z) .0 in
-        sym (e ∙ ap (λ (ts : Selectors). planChecked (topTypes Γ ts k)) q)
+  module _ {at bt : ℕ} {same : Bool} {k : ℕ} (O : Going incoming v n plan count from target vt m base at bt same k) where
+    module _ (h : count ≤ k) (Γ : Fields) (ss : Selectors) (Q : ColumnsAt vt 16 target m base) (T : TopsAt incoming v n plan count from Γ ss) where
+      ended : planChecked (check Γ (fieldsOf (Q .columns)) ss) ≡ planChecked (checkFrom Γ (fieldsOf (O .columns .columns)) snil k same)
+      ended =
+          let (rs, (U, e)) = O .keeps Γ ss Q T in
+          let q : rs ≡ snil = sym (U .is) ∙ no-selector (U .selectors) (let z : count - k ≡ 0 = omega arith in z) .0 in
+          e ∙ ap (λ (ts : Selectors). planChecked (checkFrom Γ (fieldsOf (O .columns .columns)) ts k same)) q
 
-    module _ (h : k < count) {e : Cursor} (s : Skips plan at e) {w : Walk} (g : Tops at e w) where
+      pub going-differs : same ≡ false → PlanChecked.Refused 33 0 ≡ planChecked (check Γ (fieldsOf (Q .columns)) ss)
+      going-differs e = sym (ended ∙ ap (λ (b : Bool). planChecked (checkFrom Γ (fieldsOf (O .columns .columns)) snil k b)) e
+          ∙ from-differs Γ (fieldsOf (O .columns .columns)) k)
+
+      pub going-short : count < m → PlanChecked.Refused 33 0 ≡ planChecked (check Γ (fieldsOf (Q .columns)) ss)
+      unfolding fieldsOf
+      going-short l =
+          let S = split (O .columns) (λ z. omega (arith, O .within)) in
+          sym (ended ∙ ap (λ (cs : Columns). planChecked (checkFrom Γ (fieldsOf cs) snil k same)) (S .is) ∙ from-short Γ _ _ _ k same)
+
+      pub going-passed : same ≡ true → m ≤ count → PlanChecked.Passed ≡ planChecked (check Γ (fieldsOf (Q .columns)) ss)
+      unfolding fieldsOf
+      going-passed e l =
+          let c = no-column (O .columns) (let z : m - k ≡ 0 = omega arith in z) .0 in
+          sym (ended ∙ ap (λ (b : Bool). planChecked (checkFrom Γ (fieldsOf (O .columns .columns)) snil k b)) e
+          ∙ ap (λ (cs : Columns). planChecked (checkFrom Γ (fieldsOf cs) snil k true)) c ∙ from-passed Γ k)
+
+    -- what came of two ways
+    pub going-at : {d b : Cursor} {s : Bool} → d .at ≡ at → b .at ≡ bt → s ≡ same
+        → Going incoming v n plan count from target vt m base (d .at) (b .at) s k
+    going-at {d} {b} {s} e f g = rw (e, f, g) O
+
+    module _ (h : k < count) where
       more : 0 < count - k
       more = omega arith
 
-      pub topping-asks : (x : Selector) × (Δ : Fields) × CheckingAt incoming v n plan w x Δ
-      topping-asks = (_, O .scope, top-checking (O .start) more s g)
+      pub going-asks : (Γ : Fields) × TopAt incoming v n plan at Γ
+      going-asks = (O .scope, first-top (O .start) more .top)
 
-      module _ {r : Checked} (f : (x : Selector) (Δ : Fields) → CheckingAt incoming v n plan w x Δ → r ≡ checkedOf (typeOf Δ x)) where
-        pub topping-refused : {j : ℕ} → r ≡ Checked.Refused j → (Γ : Fields) (ss : Selectors) → TopsAt incoming v n plan count from Γ ss →
-            PlanChecked.Refused j k ≡ planChecked (topTypes Γ ss 0)
-        topping-refused q Γ ss T =
-            let (rs, (U, d)) = O .keeps Γ ss T in
+      module _ {l : ℕ} (q : l ≡ m - k) where
+        abbrev pub going-columns : ColumnsAt vt 16 target l bt
+        going-columns = columns-as (sym q) refl (O .columns)
+
+        pub going-refused : {r : Top} {j : ℕ} → ((Γ : Fields) (T : TopAt incoming v n plan at Γ) (Q : ColumnsAt vt 16 target l bt) → TopIs T Q same r)
+            → r ≡ Top.Refused j → (Γ : Fields) (ss : Selectors) (Q : ColumnsAt vt 16 target m base) → TopsAt incoming v n plan count from Γ ss
+            → PlanChecked.Refused j k ≡ planChecked (check Γ (fieldsOf (Q .columns)) ss)
+        going-refused f e Γ ss Q T =
+            let (rs, (U, d)) = O .keeps Γ ss Q T in
             let F = first-top U more in
-            sym (d ∙ ap (λ (ts : Selectors). planChecked (topTypes Γ ts k)) (F .is) ∙ top-refused Γ (F .head .tree) (F .parts) k
-            (sym (f (F .head .tree) Γ (top-checking U more s g)) ∙ q))
+            let Δ = fieldsOf (O .columns .columns) in
+            sym (d ∙ ap (λ (ts : Selectors). planChecked (checkFrom Γ Δ ts k same)) (F .is)
+            ∙ from-refuses Γ Δ (F .top .selector .tree) (F .parts) k same (subst (λ (x : Top). topParts (F .top) going-columns same x) e
+            (f Γ (F .top) going-columns .parts)))
 
-        pub topping-more : r ≡ Checked.Passed → Topping incoming v n plan count from (e .at) (k + 1)
-        topping-more q =
-            let z : count - k - 1 ≡ count - (k + 1) = omega arith in
-            record {
-              within = omega arith;
-              scope = O .scope;
-              parts = first-top (O .start) more .parts;
-              start = tops-as z (next-tops (O .start) more s);
-              keeps = λ Γ ss T.
-                  let (rs, (U, d)) = O .keeps Γ ss T in
-                  let F = first-top U more in (
-                    F .parts,
-                    (
-                      tops-as z (next-tops U more s),
-                      d ∙ ap (λ (ts : Selectors). planChecked (topTypes Γ ts k)) (F .is) ∙ top-passed Γ
-                          (F .head .tree) (F .parts) k (sym (f (F .head .tree) Γ (top-checking U more s g)) ∙ q),
-                    ),
-                  );
-            }
+        module _ {b : Bool} {x y : Cursor} (f : (Γ : Fields) (T : TopAt incoming v n plan at Γ) (Q : ColumnsAt vt 16 target l bt) → PassesTop T Q same b x y) where
+          going-on : Going incoming v n plan count from target vt m base (x .at) (y .at) b (k + 1)
+          going-on =
+              let z : count - k - 1 ≡ count - (k + 1) = omega arith in
+              let F = first-top (O .start) more in
+              let P = f (O .scope) (F .top) going-columns in
+              let Δ = fieldsOf (O .columns .columns) in
+              record {
+                within = omega arith;
+                scope = O .scope;
+                parts = F .parts;
+                start = tops-as z (sym (P .ends)) (F .tail);
+                columns = columns-as (let w : l - 1 ≡ m - (k + 1) = omega arith in w) refl (P .left .next);
+                keeps = λ Γ ss Q T.
+                    let (rs, (U, d)) = O .keeps Γ ss Q T in
+                    let G = first-top U more in
+                    let R = f Γ (G .top) going-columns in (
+                      G .parts,
+                      (
+                        tops-as z (sym (R .ends)) (G .tail),
+                        d ∙ ap (λ (ts : Selectors). planChecked (checkFrom Γ Δ ts k same)) (G .is)
+                            ∙ from-gives Γ Δ (G .top .selector .tree) (G .parts) k same (R .typed) (R .same)
+                            ∙ ap (λ (gs : Fields). planChecked (checkFrom Γ gs (G .parts) (k + 1) b)) (sym (P .left .rest)),
+                      ),
+                    );
+              }
 
--- ---- same_tops
-
-record FirstTyped (incoming : Bytes) (v : Edition) (n : ℕ) (plan : Bytes) (count at : ℕ) (fs : Fields) (w : Walk) (e : Cursor) : Type 0 where
-  column : Column
-  rest : Fields
-  is : fs ≡ fcons (column .name) (column .type) rest
-  named : NamedAt incoming v n plan w column
-  tail : TypedTops incoming v n plan (count - 1) (e .at) rest
-
-first-typed : {incoming : Bytes} {v : Edition} {n : ℕ} {plan : Bytes} {count at : ℕ} {fs : Fields} (T : TypedTops incoming v n plan count at fs) → 0 <
-    count → {e : Cursor} → Skips plan at e → {w : Walk} → Tops at e w
-    → FirstTyped incoming v n plan count at fs w e
-unfolding typesOf
-first-typed T h {e} s {w} g =
-    let F = first-top (T .tops) h in
-    let q = ap (λ (ts : Selectors). typesOf (T .scope) ts) (sym (F .is)) ∙ T .typed in
-    let (c, p, q) = bind-given (typeOf (T .scope) (F .head .tree)) _ q in
-    let (gs, p₁, q) = bind-given (typesOf (T .scope) (F .parts)) _ q in
-    record {
-      column = c;
-      rest = gs;
-      is = sym (gives-eq q);
-      named = top-named (T .tops) h s g p;
-      tail = record { scope = T .scope; parts = F .parts; tops = next-tops (T .tops) h s; typed = p₁ };
-    }
-
-typed-as : {incoming : Bytes} {v : Edition} {n : ℕ} {plan : Bytes} {m count at : ℕ} {fs : Fields} → m ≡ count → TypedTops incoming v n plan m at fs →
-    TypedTops incoming v n plan count at fs
-typed-as {incoming} {v} {n} {plan} {at = at} {fs = fs} e T = subst (λ (k : ℕ). TypedTops incoming v n plan k at fs) e T
-
-pub record Alongside (incoming : Bytes) (v : Edition) (n : ℕ) (plan : Bytes) (count from : ℕ) (target : Bytes) (vt : Edition) (base at bt k : ℕ) : Type 0 where
-  pub within : k ≤ count
-  pub some : Fields
-  pub start : TypedTops incoming v n plan (count - k) at some
-  pub columns : ColumnsAt vt 16 target (count - k) bt
-  pub keeps : (fs : Fields) (Q : ColumnsAt vt 16 target count base) → TypedTops incoming v n plan count from fs
-      → (gs : Fields) × (TypedTops incoming v n plan (count - k) at gs × (sameFields fs (fieldsOf (Q .columns)) ≡ sameFields gs (fieldsOf (columns .columns))))
-
-module _ {incoming : Bytes} {v : Edition} {n : ℕ} {plan : Bytes} {count from : ℕ} {target : Bytes} {vt : Edition} {base : ℕ} where
-  pub alongside-start : {fs : Fields} → TypedTops incoming v n plan count from fs → ColumnsAt vt 16 target count base → Alongside incoming v n plan
-      count from target vt base from base 0
-  alongside-start {fs} T C =
-      let z : count ≡ count - 0 = omega arith in
-      record {
-        within = omega arith;
-        some = fs;
-        start = typed-as z T;
-        columns = columns-as z refl C;
-        keeps = λ gs Q U. (gs, (typed-as z U, ap (λ (cs : Columns). sameFields gs (fieldsOf cs)) (same-columns Q C .0)));
-      }
-
-  module _ {at bt k : ℕ} (O : Alongside incoming v n plan count from target vt base at bt k) where
-    pub alongside-end : count ≤ k → (fs : Fields) (Q : ColumnsAt vt 16 target count base) → TypedTops incoming v n plan count from fs → true ≡
-        sameFields fs (fieldsOf (Q .columns))
-    unfolding sameFields fieldsOf typesOf
-    alongside-end h fs Q T =
-        let z : count - k ≡ 0 = omega arith in
-        let (gs, (U, e)) = O .keeps fs Q T in
-        let p : U .parts ≡ snil = sym (U .tops .is) ∙ no-selector (U .tops .selectors) z .0 in
-        let q : fnil ≡ gs = gives-eq (ap (λ (ts : Selectors). typesOf (U .scope) ts) (sym p) ∙ U .typed) in
-        let c = no-column (O .columns) z .0 in
-        sym (e ∙ ap (λ (cs : Columns). sameFields gs (fieldsOf cs)) c ∙ ap (λ (hs : Fields). sameFields hs fnil) (sym q))
-
-    module _ (h : k < count) {e : Cursor} (s : Skips plan at e) {w : Walk} (g : Tops at e w) where
-      more′ : 0 < count - k
-      more′ = omega arith
-
-      pub alongside-split : Split vt 16 target (count - k) bt (O .columns)
-      alongside-split = split (O .columns) (λ z. omega arith)
-
-      pub alongside-asks : (a : Column) × NamedAt incoming v n plan w a
-      alongside-asks = let F = first-typed (O .start) more′ s g in (F .column, F .named)
-
-      module _ {f : Ends} (F : (a : Column) (E : ColumnAt vt 16 target bt) → NamedAt incoming v n plan w a
-          → f ≡ endsOf (sameBytes (a .name) (E .label .name) && sameDtype (a .type) (dtypeOf (E .inner .tree))) (E .inner .end)) where
-        record Here (fs : Fields) (Q : ColumnsAt vt 16 target count base) : Type 0 where
-          names : Bool
-          types : Bool
-          rest : Fields
-          tail : TypedTops incoming v n plan (count - k - 1) (e .at) rest
-          answers : f ≡ endsOf (names && types) (alongside-split .first .inner .end)
-          is : sameFields fs (fieldsOf (Q .columns)) ≡ (names && (types && sameFields rest (fieldsOf (alongside-split .tail .columns))))
-
-        here : (fs : Fields) (Q : ColumnsAt vt 16 target count base) → TypedTops incoming v n plan count from fs → Here fs Q
-        unfolding sameFields fieldsOf
-        here fs Q T =
-            let (gs, (U, d)) = O .keeps fs Q T in
-            let X = first-typed U more′ s g in
-            let S = alongside-split in
-            let a = X .column in
-            record {
-              names = sameBytes (a .name) (S .first .label .name);
-              types = sameDtype (a .type) (dtypeOf (S .first .inner .tree));
-              rest = X .rest;
-              tail = X .tail;
-              answers = F a (S .first) (X .named);
-              is = d ∙ ap (λ (hs : Fields). sameFields hs (fieldsOf (O .columns .columns))) (X .is) ∙ ap
-                  (λ (cs : Columns). sameFields (fcons (a .name) (a .type) (X .rest)) (fieldsOf cs)) (S .is);
-            }
-
-        pub alongside-no : f ≡ Ends.Differ → (fs : Fields) (Q : ColumnsAt vt 16 target count base) → TypedTops incoming v n plan count from fs → false ≡
-            sameFields fs (fieldsOf (Q .columns))
-        alongside-no q fs Q T =
-            let H = here fs Q T in
-            sym (H .is ∙ none (H .names) (H .types) _ (ends-differ (H .names && H .types) (alongside-split .first .inner .end) (sym (H .answers) ∙ q)))
+        pub going-fits : {r : FitEnd} {x y : Cursor} → ((Γ : Fields) (T : TopAt incoming v n plan at Γ) (Q : ColumnsAt vt 16 target l bt) → FitsTop T Q r)
+            → r ≡ FitEnd.At x y → Going incoming v n plan count from target vt m base (x .at) (y .at) same (k + 1)
+        going-fits f e = going-on (λ Γ T Q. any same (subst (λ (z : FitEnd). fitParts T Q z) e (f Γ T Q .parts)))
           where
-            none : (x y z : Bool) → (x && y) ≡ false → (x && (y && z)) ≡ false
-            none true true z p = true≠false refl p
-            none true false z p = refl
-            none false y z p = refl
+            both : (b c : Bool) → c ≡ true → (b && c) ≡ b
+            both true c p = p
+            both false c p = refl
 
-        at-end : {x : Cursor} → f ≡ Ends.At x → alongside-split .first .inner .end ≡ x .at
-        at-end q =
-            let (a, N) = alongside-asks in
-            sym (ends-at (sameBytes (a .name) (alongside-split .first .label .name) && sameDtype (a .type)
-            (dtypeOf (alongside-split .first .inner .tree))) (alongside-split .first .inner .end) (sym (F a (alongside-split .first) N) ∙ q) .1)
+            any : {Γ : Fields} {T : TopAt incoming v n plan at Γ} {Q : ColumnsAt vt 16 target l bt} {x y : Cursor} (b : Bool) → PassesTop T Q true true x y
+                → PassesTop T Q b b x y
+            any b P = record { column = P .column; typed = P .typed; same = both b _ (P .same); ends = P .ends; left = P .left }
 
-        pub alongside-more : {x : Cursor} → f ≡ Ends.At x → Alongside incoming v n plan count from target vt base (e .at) (x .at) (k + 1)
-        alongside-more q =
-            let z : count - k - 1 ≡ count - (k + 1) = omega arith in
-            record {
-              within = omega arith;
-              some = first-typed (O .start) more′ s g .rest;
-              start = typed-as z (first-typed (O .start) more′ s g .tail);
-              columns = columns-as z (at-end q) (alongside-split .tail);
-              keeps = λ fs Q T.
-                  let H = here fs Q T in (
-                    H .rest,
-                    (
-                      typed-as z (H .tail),
-                      H .is ∙ all (H .names) (H .types) _
-                          (ends-at (H .names && H .types) (alongside-split .first .inner .end) (sym (H .answers) ∙ q) .0),
-                    ),
-                  );
-            }
-          where
-            all : (x y z : Bool) → (x && y) ≡ true → (x && (y && z)) ≡ z
-            all true true z p = refl
-            all true false z p = true≠false p refl
-            all false y z p = true≠false p refl
+        pub going-more : {r : Top} {x y : Cursor} {b : Bool} → ((Γ : Fields) (T : TopAt incoming v n plan at Γ) (Q : ColumnsAt vt 16 target l bt) → TopIs T Q same r)
+            → r ≡ Top.Passed x y b → Going incoming v n plan count from target vt m base (x .at) (y .at) b (k + 1)
+        going-more f e = going-on (λ Γ T Q. subst (λ (z : Top). topParts T Q same z) e (f Γ T Q .parts))
 
--- ---- same_plan
+-- ---- check_types
 
-pub counts-apart : {incoming : Bytes} {v : Edition} {n : ℕ} {plan : Bytes} {count at : ℕ} {fs : Fields} {vt : Edition} {target : Bytes} {m bt : ℕ} →
-    (count ≡ m → ⊥) → (Q : ColumnsAt vt 16 target m bt)
-    → TypedTops incoming v n plan count at fs → false ≡ sameFields fs (fieldsOf (Q .columns))
-counts-apart {count = count} {fs = fs} {vt = vt} {target = target} {m = m} {bt = bt} h Q T = go (sameFields fs (fieldsOf (Q .columns))) refl
-  where
-    left : countFields fs ≡ count
-    left = types-count (T .scope) (T .parts) (T .typed) ∙ ap countSelectors (sym (T .tops .is)) ∙ selectors-counted count (T .tops .selectors)
-
-    right : countFields (fieldsOf (Q .columns)) ≡ m
-    right = count-fields (Q .columns) ∙ columns-count vt Free (type vt Free 16) m [] target bt (Q .columns) (Q .end) (Q .reads)
-
-    go : (b : Bool) → sameFields fs (fieldsOf (Q .columns)) ≡ b → false ≡ b
-    go true p = absurd (h (sym left ∙ ap countFields (same-fields-eq fs (fieldsOf (Q .columns)) p) ∙ right))
-    go false p = refl
-
--- ---- check_read
+pub strided : {v : Edition} {s : Bytes} {n at stride : ℕ} {index : List ℕ} → stride ≡ strideOf n → Indexed v s n at stride index
+    → Indexed v s n at (strideOf n) index
+strided {v} {s} {n} {at} {index = index} e I = subst (λ (k : ℕ). Indexed v s n at k index) e I
 
 pub read-direct : {incoming : Bytes} {v : Edition} {n : ℕ} {plan : Bytes} {count at : ℕ} {Γ : Fields} {ss : Selectors}
     (T : TopsAt incoming v n plan count at Γ ss) (Δ : Fields)
     → check (fieldsOf (T .columns .columns)) Δ (T .selectors .trees) ≡ accepted tt → PlanChecked.Passed ≡ planChecked (check Γ Δ ss)
 read-direct T Δ e = ap planChecked (sym ((λ i. check (sym (T .are) i) Δ (sym (T .is) i)) ∙ e))
-
-module _ {incoming : Bytes} {v : Edition} {n : ℕ} {plan : Bytes} {count at : ℕ} {Γ : Fields} {ss : Selectors}
-    (T : TopsAt incoming v n plan count at Γ ss) {r : PlanChecked} (e : r ≡ planChecked (topTypes Γ ss 0)) where
-  module _ (p : r ≡ PlanChecked.Passed) where
-    pub given : (fs : Fields) × (topTypes Γ ss 0 ≡ accepted fs)
-    given = passed-accepted (topTypes Γ ss 0) (sym e ∙ p)
-
-    pub all-typed : TypedTops incoming v n plan count at (given .0)
-    all-typed = record { scope = Γ; parts = ss; tops = T; typed = tops-typed Γ ss 0 (given .1) }
-
-    pub read-passed : (Δ : Fields) {b : Bool} → b ≡ sameFields (given .0) Δ → b ≡ true → PlanChecked.Passed ≡ planChecked (check Γ Δ ss)
-    unfolding check against answered placed demand
-    read-passed Δ f q = rw (given .1, ← same-fields-equal (given .0) Δ, ← f, q)
-
-    pub read-differs : (Δ : Fields) {b : Bool} → b ≡ sameFields (given .0) Δ → b ≡ false → PlanChecked.Refused 33 0 ≡ planChecked (check Γ Δ ss)
-    unfolding check against answered placed demand
-    read-differs Δ f q = rw (given .1, ← same-fields-equal (given .0) Δ, ← f, q)
-
-  pub read-refused : (Δ : Fields) {j k : ℕ} → r ≡ PlanChecked.Refused j k → PlanChecked.Refused j k ≡ planChecked (check Γ Δ ss)
-  unfolding check answered
-  read-refused Δ {j} {k} q = go (topTypes Γ ss 0) (sym e ∙ q)
-    where
-      go : (x : Answer Fields) → planChecked x ≡ PlanChecked.Refused j k → PlanChecked.Refused j k ≡ planChecked (answered x (against Δ))
-      go (accepted a) e = clash (cc)
-      go (refusedAt a b) e = sym e
 
 -- ---- a plan that was read
 
@@ -445,7 +488,7 @@ record Read (s : Bytes) (ss : Selectors) : Type 0 where
   ends : end ≤ length s
 
 read-at : (s : Bytes) {ss : Selectors} {m : ℕ} → readPlan s ≡ ok ss m → Read s ss
-unfolding readPlan planFrom planCounted planSized planVersion ended
+unfolding readPlan planFrom planCounted planSized planVersion endedAt
 read-at s {ss} {m} e =
     let e = renumber-ok (λ n. 30) (planFrom s 0) e in
     let (x, i, h, e) = next-ok _ _ e in
