@@ -75,11 +75,13 @@ static void slow_runs(void) {
     expect_sevens(2000);
 }
 
-/* Columns of date-times in milliseconds, each cast strictly to nanoseconds: of one alone one pass does not say what it gives. It is the last, whose time is too large; or a list is
- * made beside them of lists that are together longer than an output. */
+/* Columns of date-times in milliseconds, each cast strictly to nanoseconds. One pass settles all selectors but one: the
+ * last cast, whose time is too large; or, beside the casts, a list made of lists that are together longer than an
+ * output. */
 static void slow_tops(void) {
     enum { TIMES = 1700 };
     for (int listed = 0; listed < 2; listed++) {
+        const char *name = listed ? "1,700 casts and a list of long lists" : "1,700 casts, the last time too large";
         mark(&incoming, "LAY", TIMES);
         mark(&target, "LAY", (uint32_t)(TIMES + listed));
         mark(&plan, "PLN", (uint32_t)(TIMES + listed));
@@ -106,8 +108,8 @@ static void slow_tops(void) {
         clock_gettime(CLOCK_PROCESS_CPUTIME_ID, &from);
         uint64_t checked = selector_check_plan(incoming.bytes, incoming.length, target.bytes, target.length, plan.bytes, plan.length);
         double check = since(&from);
-        printf("%d casts and %d list of long lists: check %u after %.2f ms\n", TIMES, listed, SELECTOR_NUMBER(checked), check);
-        expect(listed ? "a list beside them" : "the last of them too large", listed ? 0 : 44);
+        printf("%s: check %u after %.2f ms\n", name, SELECTOR_NUMBER(checked), check);
+        expect(name, listed ? 0 : 44);
         if (checked != 0 || check > 1000 || (listed && (output[9 * TIMES] != 1 || output[9 * TIMES + 2 * ELEMENTS + 2] != 7)))
             failed = 1;
     }

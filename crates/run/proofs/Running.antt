@@ -184,7 +184,6 @@ module _ {incoming plan target : Bytes} {q : Read} (A : ReadAt incoming plan tar
         ∙ marked-checked (A .columns .columns) (A .targets .columns) (A .selectors) (check-passed checked (sym h ∙ f));
     starts = omega (arith, A .tops .ends, selectors-longer (A .tops .selectors));
     small = A .tops .small;
-    wide = omega (arith, A .wide, A .begins);
     first = A .first;
   }
 
@@ -211,13 +210,12 @@ module _ {incoming plan target : Bytes} {q : Read} (A : ReadAt incoming plan tar
 -- ---- what was read
 
 abbrev pub read-at : {incoming plan target : Bytes} {v w : Edition} {n m k : ℕ} (L : LayoutAt incoming v n) (M : LayoutAt target w m) (P : PlanFound plan k)
-    → 7 ≤ length target
     → ReadAt incoming plan target (record {
       incoming = record { edition = v; count = n; first = record { at = 7 } };
       selectors = k;
       target = record { edition = w; count = m; first = record { at = 7 } };
     })
-read-at L M P h = record { columns = L .columns; targets = M .columns; selectors = P .parts; tops = plan-tops L P; wide = h; first = refl; begins = refl }
+read-at L M P = record { columns = L .columns; targets = M .columns; selectors = P .parts; tops = plan-tops L P; first = refl; begins = refl }
 
 -- ---- the run over any bytes
 

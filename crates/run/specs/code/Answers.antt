@@ -51,7 +51,6 @@ pub record ReadAt (incoming plan target : Bytes) (q : Read) : Type 0 where
   pub targets : ColumnsAt (q .target .edition) deepest target (q .target .count) 7
   pub selectors : Selectors
   pub tops : TopsAt incoming (q .incoming .edition) (q .incoming .count) plan (q .selectors) 7 (fieldsOf (columns .columns)) selectors
-  pub wide : 7 ≤ length target
   pub first : q .incoming .first .at ≡ 7
   pub begins : q .target .first .at ≡ 7
 
@@ -66,7 +65,6 @@ pub record PassedAt (incoming plan target : Bytes) (q : Read) : Type 0 where
   pub selectors : SelectorsAt plan (q .selectors) 7
   pub passes : check (fieldsOf (columns .columns)) (fieldsOf (targets .columns)) (selectors .trees) ≡ accepted tt
   pub starts : 7 ≤ length plan
-  pub wide : q .target .first .at ≤ length target
   pub small : length plan ≤ longestPlan
   pub first : q .incoming .first .at ≡ 7
 

@@ -1,6 +1,6 @@
 use lib.ListN.{length}
 use denote.Ref.{now}
-use Rattle.layout.proofs.Whole.{header, layout-at, layout-refused}
+use Rattle.layout.proofs.Whole.{layout-at, layout-refused}
 use Rattle.checker.proofs.Topping.{plan-at, plan-refused}
 use Rattle.run.proofs.Running.{ran-refused, ran-as, read-at, run-first, run-second, run-third, run-checked}
 use borrow.Author.Needs.{needs}
@@ -29,7 +29,7 @@ run-plan-spec =
     let L = layout-at (now (c18 .args .incoming)) (c12 .read-layout .ensures) (c10 .v .given .1) .0 in
     let M = layout-at (now (c18 .args .target)) (c8 .read-layout2 .ensures) (c6 .vt .given .1) .0 in
     let P = plan-at (now (c18 .args .plan)) (λ i. c15 .shared-slice-known3 .given i .fits) (c4 .read-plan .ensures) (c2 .count .given .1) in
-    read-at L M P (header (now (c18 .args .target)) (M .reads)))
+    read-at L M P)
     (λ c. search needs)
     (λ c. search needs)
     (λ c. search needs)
@@ -48,7 +48,7 @@ run-plan-spec =
     let M = layout-at (now (c21 .args .target)) (c11 .read-layout2 .ensures) (c9 .vt .given .1) .0 in
     let P = plan-at (now (c21 .args .plan)) (λ i. c18 .shared-slice-known3 .given i .fits) (c7 .read-plan .ensures) (c5 .count .given .1) in
     let R = ran-as (run-checked (now (c21 .args .incoming)) (now (c21 .args .target)) (now (c21 .args .plan)) (now (c21 .args .rec)) (length (now
-    (c21 .args .output))) L M (P .reads)) (c2 .run-read .ensures (read-at L M P (header (now (c21 .args .target)) (M .reads)))) in
+    (c21 .args .output))) L M (P .reads)) (c2 .run-read .ensures (read-at L M P)) in
     (R .answer, R .buffer))
     (λ c.
     let c1 = c .before in
