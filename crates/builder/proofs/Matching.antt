@@ -11,20 +11,21 @@ use Rattle.layout.specs.Bytes.{Bytes}
 use Rattle.layout.specs.Parser.{Res, ok}
 use Rattle.layout.specs.Tree.{LeafType, leafType, leafOf, Label, ColumnType, cleaf, cstruct, clist, carray, Columns, dtypeOf}
 use Rattle.layout.specs.Layout.{Head, aLeaf, aStruct, aList, anArray, kind, elementLabel}
-use Rattle.layout.specs.code.Answers.{headRes, headIn, leafAt, labelRes, labelAt, labelIn, spanAt, spanIn}
+use Rattle.layout.specs.code.Answers.{headRes, headIn, leafAt, labelAt, spanAt, spanIn}
+use Rattle.layout.specs.code.Parts.{ElementRead, PartsIs}
 use Rattle.layout.specs.code.Stands.{TypeAt, ColumnsAt}
 use Rattle.layout.specs.declared.columns.Position.{Position}
 use Rattle.layout.specs.declared.columns.Label.{Label as LabelSpan}
-use Rattle.layout.specs.declared.columns.Labelled.{Labelled}
 use Rattle.layout.specs.declared.cursor.Cursor.{Cursor}
+use Rattle.layout.specs.declared.parts.TypeParts.{TypeParts}
 use Rattle.layout.specs.declared.types.Head.{Head as HeadSpan}
 use Rattle.layout.specs.declared.types.LeafType.{LeafType as LeafSpan}
 use Rattle.layout.specs.declared.edition.Edition.{Edition}
 use Rattle.layout.specs.declared.edition.Edition.the-variants.{One, Two, Three}
 use Rattle.layout.specs.declared.matching.Matching.{Matching}
 use Rattle.layout.specs.declared.matching.Matching.the-variants.{ByName, ByNumber}
-use Rattle.layout.proofs.Ways.{clash, head-in, label-in}
-use Rattle.layout.proofs.View.{label-got, leaf-at, StructAt, struct-at, ListAt, list-at, ArrayAt, array-at}
+use Rattle.layout.proofs.Ways.{clash, head-in}
+use Rattle.layout.proofs.View.{leaf-at, StructAt, struct-at, ListAt, ArrayAt, list-parts, array-parts, leaf-opened, struct-opened, list-opened, array-opened}
 use Rattle.forms.specs.Form.{u16Bytes, u32Bytes, textBytes, kindForm}
 use Rattle.forms.specs.code.Heads.{headOf}
 use Rattle.forms.proofs.Read.{ok-eq, label-ends}
@@ -85,13 +86,6 @@ no-struct (cstruct cs) e f = differ refl f (ap isStructKind (sym e))
 no-struct (clist l t) e f = refl
 no-struct (carray w l t) e f = refl
 
-no-element : (t : ColumnType) {k : Head} → k ≡ headOf (dtypeOf t) → hasElement k ≡ false → elementOf t ≡ noElement
-unfolding elementOf dtypeOf headOf
-no-element (cleaf l) e f = refl
-no-element (cstruct cs) e f = refl
-no-element (clist l t) e f = differ refl f (ap hasElement (sym e))
-no-element (carray w l t) e f = differ refl f (ap hasElement (sym e))
-
 named-ends : (at : ℕ) (l : Label) {i m : ℕ} {X : Type 0} → (i ≤ m) × ((at + length (textBytes (l .name)) ≤ i) × ((length (l .name) ≤ 63) × X))
     → (at + length (l .name) ≤ i) × (length (l .name) ≤ 63)
 unfolding textBytes
@@ -133,20 +127,63 @@ module _ {v : Edition} {d : ℕ} {s : Bytes} {at : ℕ} (P : TypeAt v d s at) wh
   struct-mismatch k h f = subst (λ (x : Result Columns). StructPartIs v d s at x (P .end) StructPart.Mismatch)
       (sym (no-struct (P .tree) (head-is k h .0) f)) (refl, refl)
 
-  pub element-mismatch : (k : Head) {m : ℕ} → kind s at ≡ ok k m → hasElement k ≡ false → ElementPartIs v d s at (elementOf (P .tree)) (P .end)
-      ElementPart.Mismatch
-  element-mismatch k h f = subst (λ (x : Inner). ElementPartIs v d s at x (P .end) ElementPart.Mismatch) (sym (no-element (P .tree) (head-is k h .0) f)) refl
-
 -- where an element's label stands
-label-bounds : (s : Bytes) (v : Edition) (c : Cursor) {q : Labelled} {l : LabelSpan} {b : Cursor} → labelRes s q ≡ elementLabel v s (c .at) → labelIn s
-    q → q ≡ Labelled.Is l b
-    → (spanIn s (l .name)) × (c .at ≤ b .at) × (l .name .len ≤ 63) × ((how : Matching) (x y : Label) → takes how v ≡ true → needsRename how x y ≡ true →
-    c .at < b .at)
-label-bounds s v c {q} {l} g i k =
-    let h = label-in s i k in
-    let (x, y) = element-label-ends s v (c .at) (label-got s g k) in
-    let z = span-long s (l .name) h in
-    (h, omega arith, omega arith, element-label-later s v (c .at) (label-got s g k))
+label-bounds : {v : Edition} {s : Bytes} {at : ℕ} {h : Cursor → HeadSpan} {l : LabelSpan} {c : Cursor} (E : ElementRead v s at h l c)
+    → (E .start .at ≤ c .at) × (l .name .len ≤ 63) × ((how : Matching) (x y : Label) → takes how v ≡ true → needsRename how x y ≡ true → E .start .at < c .at)
+label-bounds {v} {s} {l = l} E =
+    let (x, y) = element-label-ends s v (E .start .at) (sym (E .label)) in
+    let z = span-long s (l .name) (E .inside) in
+    (omega arith, omega arith, element-label-later s v (E .start .at) (sym (E .label)))
+
+-- an element behind a head that has a byte at least; f makes the answer
+element-is : {R : Type 0} {v : Edition} {d : ℕ} {s : Bytes} {at e : ℕ} {h : Cursor → HeadSpan} {l : LabelSpan} {c : Cursor} (f : LabelSpan → Cursor → R)
+    (E : ElementRead v s at h l c) → at < E .start .at → (I : TypeAt v (d - 1) s (c .at)) → I .end ≡ e → ElementIs v d s at (labelAt s l) (I .tree) e f (f l c)
+element-is {l = l} {c = c} f E a I e =
+    let (x, y, n) = label-bounds E in
+    record {
+      span = l;
+      start = c;
+      is = refl;
+      label = refl;
+      inside = E .inside;
+      short = y;
+      inner = I;
+      tree = refl;
+      ends = e;
+      after = omega arith;
+      named = λ how x y t p. let q = n how x y t p in omega arith;
+    }
+
+module _ {v : Edition} {d : ℕ} {s : Bytes} {at : ℕ} (P : TypeAt v d s at) {r : TypeParts} (R : PartsIs v s at r) where
+  element-mismatch : (t : ColumnType) → P .tree ≡ t → elementOf t ≡ noElement → ElementPartIs v d s at (elementOf (P .tree)) (P .end) ElementPart.Mismatch
+  element-mismatch t e f = subst (λ (x : Inner). ElementPartIs v d s at x (P .end) ElementPart.Mismatch) (sym (ap elementOf e ∙ f)) refl
+
+  pub leaf-inside : {l : LeafSpan} {c : Cursor} → r ≡ TypeParts.Leaf l c → ElementPartIs v d s at (elementOf (P .tree)) (P .end) ElementPart.Mismatch
+  unfolding elementOf
+  leaf-inside f = element-mismatch _ (leaf-opened R P f .0) refl
+
+  pub struct-inside : {n : ℕ} {c : Cursor} → r ≡ TypeParts.Struct n c → ElementPartIs v d s at (elementOf (P .tree)) (P .end) ElementPart.Mismatch
+  unfolding elementOf
+  struct-inside f = element-mismatch _ (struct-opened R P f .is) refl
+
+  pub list-taken : {l : LabelSpan} {c : Cursor} → r ≡ TypeParts.List l c → ElementPartIs v d s at (elementOf (P .tree)) (P .end) (ElementPart.List l c)
+  unfolding elementOf kindForm
+  list-taken {l} {c} f =
+      let E = list-parts R f in
+      let L = list-opened R P f in
+      let z = head-is P aList (sym (E .head)) .1 in
+      subst (λ (t : ColumnType). ElementPartIs v d s at (elementOf t) (P .end) (ElementPart.List l c)) (sym (L .is))
+      (element-is (λ a b. ElementPart.List a b) E (omega arith) (L .inner) (L .ends))
+
+  pub array-taken : {w : ℕ} {l : LabelSpan} {c : Cursor} → r ≡ TypeParts.Array w l c → ElementPartIs v d s at (elementOf (P .tree)) (P .end)
+      (ElementPart.Array w l c)
+  unfolding elementOf kindForm u32Bytes u16Bytes
+  array-taken {w} {l} {c} f =
+      let E = array-parts R f in
+      let L = array-opened R P f in
+      let z = head-is P (anArray w) (sym (E .head)) .1 in
+      subst (λ (t : ColumnType). ElementPartIs v d s at (elementOf t) (P .end) (ElementPart.Array w l c)) (sym (L .is))
+      (element-is (λ a b. ElementPart.Array w a b) E (omega arith) (L .inner) (L .ends))
 
 module _ {v : Edition} {d : ℕ} {s : Bytes} {at : ℕ} (P : TypeAt v d s at) {p : HeadSpan} (e : headRes s p ≡ kind s at) where
   pub leaf-taken : {l : LeafSpan} {c : Cursor} → headIn s p → p ≡ HeadSpan.Leaf l c → LeafPartIs s (leafPart (P .tree)) (LeafPart.Is l)
@@ -162,52 +199,6 @@ module _ {v : Edition} {d : ℕ} {s : Bytes} {at : ℕ} (P : TypeAt v d s at) {p
       let (_, h, w) = head-is P (aStruct n) (sym e ∙ ap (headRes s) f) in
       subst (λ (t : ColumnType). StructPartIs v d s at (structPart t) (P .end) (StructPart.Is n c)) (sym (S .is))
       (record { count = n; start = c; is = refl; inner = S .inner; columns = refl; ends = S .ends; after = omega arith; within = w })
-
-  module _ {c : Cursor} {q : Labelled} (g : labelRes s q ≡ elementLabel v s (c .at)) (i : labelIn s q) {l : LabelSpan} {b : Cursor}
-      (k : q ≡ Labelled.Is l b) where
-    pub list-taken : p ≡ HeadSpan.List c → ElementPartIs v d s at (elementOf (P .tree)) (P .end) (ElementPart.List l b)
-    unfolding elementOf kindForm
-    list-taken f =
-        let L = list-at P e g f k in
-        let (h, x, y, n) = label-bounds s v c g i k in
-        let z = head-is P aList (sym e ∙ ap (headRes s) f) .1 in
-        subst (λ (t : ColumnType). ElementPartIs v d s at (elementOf t) (P .end) (ElementPart.List l b)) (sym (L .is))
-        (record {
-          span = l;
-          start = b;
-          is = refl;
-          label = refl;
-          inside = h;
-          short = y;
-          inner = L .inner;
-          tree = refl;
-          ends = L .ends;
-          after = omega
-              arith;
-          named = λ how x y t p. let q = n how x y t p in omega arith;
-        })
-
-    pub array-taken : {w : ℕ} → p ≡ HeadSpan.Array w c → ElementPartIs v d s at (elementOf (P .tree)) (P .end) (ElementPart.Array w l b)
-    unfolding elementOf kindForm u32Bytes u16Bytes
-    array-taken {w} f =
-        let L = array-at P e g f k in
-        let (h, x, y, n) = label-bounds s v c g i k in
-        let z = head-is P (anArray w) (sym e ∙ ap (headRes s) f) .1 in
-        subst (λ (t : ColumnType). ElementPartIs v d s at (elementOf t) (P .end) (ElementPart.Array w l b)) (sym (L .is))
-        (record {
-          span = l;
-          start = b;
-          is = refl;
-          label = refl;
-          inside = h;
-          short = y;
-          inner = L .inner;
-          tree = refl;
-          ends = L .ends;
-          after = omega
-              arith;
-          named = λ how x y t p. let q = n how x y t p in omega arith;
-        })
 
 -- ---- what a taken part says
 

@@ -6,9 +6,9 @@ ghost use Rattle.layout.specs.declared.edition.Edition.{Edition as EditionOf};
 ghost use Rattle.matching.specs.Build.{leafPart, structPart, listPart, arrayPart, isNullType};
 ghost use Rattle.builder.specs.code.Answers.{LeafPartIs, StructPartIs, ElementPartIs, elementOf, InnerPartIs};
 use layout::columns::Label;
-use layout::columns::Labelled;
 use layout::cursor::Cursor;
 use layout::edition::Edition;
+use layout::parts::TypeParts;
 use layout::types::Head;
 use layout::types::LeafType;
 use rules::kinds::kind;
@@ -64,18 +64,12 @@ pub fn struct_part(s: &[u8], c: Cursor) -> StructPart
 pub fn element_part(s: &[u8], v: Edition, c: Cursor) -> ElementPart
     ensures { λ r. ⌜ ((d : ℕ) (P : TypeAt v d (now (s .entry)) (c .at)) → ElementPartIs v d (now (s .entry)) (c .at) (elementOf (P .tree)) (P .end) r) ⌝ }
 {
-    match c.head(s) {
-        Head::Leaf(_, _) => ElementPart::Mismatch,
-        Head::Struct(_, _) => ElementPart::Mismatch,
-        Head::List(d) => match d.element_label(s, v) {
-            Labelled::Is(l, e) => ElementPart::List(l, e),
-            Labelled::Refused(_) => ElementPart::Mismatch,
-        },
-        Head::Array(w, d) => match d.element_label(s, v) {
-            Labelled::Is(l, e) => ElementPart::Array(w, l, e),
-            Labelled::Refused(_) => ElementPart::Mismatch,
-        },
-        Head::Refused(_) => ElementPart::Mismatch,
+    match c.parts(s, v) {
+        TypeParts::Leaf(_, _) => ElementPart::Mismatch,
+        TypeParts::Struct(_, _) => ElementPart::Mismatch,
+        TypeParts::List(l, e) => ElementPart::List(l, e),
+        TypeParts::Array(w, l, e) => ElementPart::Array(w, l, e),
+        TypeParts::Refused(_) => ElementPart::Mismatch,
     }
 }
 
