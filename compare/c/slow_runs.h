@@ -74,3 +74,20 @@ static void slow_runs(void) {
     expect_sevens(30);
     expect_sevens(2000);
 }
+
+/* Empty arrays of a wide struct through list mappings, each of which is the input of the next. */
+static void mapped_arrays(int mappings) {
+    char name[80];
+    arrays_of(&incoming, 1);
+    arrays_of(&target, 1);
+    mark(&plan, "PLN", 1);
+    for (int i = 0; i < mappings; i++)
+        put(&plan, 5, 1);
+    for (int i = 0; i <= mappings; i++)
+        position(&plan, 0);
+    arrays_record(&record, SELECTOR_RECORD_MAX - 3, 1);
+    snprintf(name, sizeof name, "%d list mappings one over another, of empty arrays", mappings);
+    expect(name, 0);
+    if (memcmp(output, record.bytes, record.length) != 0)
+        failed = 1;
+}
