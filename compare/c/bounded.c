@@ -349,5 +349,7 @@ int main(void) {
     positions_of(&plan, SELECTORS, 1);
     arrays_record(&record, 50, 2);
     expect("2,700 selectors of the column behind 50 of them", 0);
+    mapped_arrays(2);
+    mapped_arrays(20);
     return failed;
 }

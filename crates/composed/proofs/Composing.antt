@@ -12,7 +12,7 @@ use Rattle.layout.specs.declared.edition.Edition.{Edition}
 use Rattle.layout.specs.declared.edition.Edition.the-variants.{One}
 use Rattle.layout.proofs.View.{next-ok}
 use Rattle.store.proofs.Overlay.{overlay-front}
-use Rattle.values.specs.Value.{Values}
+use Rattle.values.specs.Value.{Value, Values}
 use Rattle.values.specs.Encode.{encodeValue}
 use Rattle.values.specs.Fits.{FitsAll, all-nil, all-cons}
 use Rattle.values.specs.Reading.{value, values}
@@ -45,7 +45,9 @@ use Rattle.infer.proofs.FormsAt.{standing as written, standing-is as written-is
 use Rattle.transfer.specs.code.Reaching.{Kept, ReachedIs}
 use Rattle.transfer.specs.declared.leaf.Reached.{Reached}
 use Rattle.transfer.proofs.Reaching.{reached-to}
-use Rattle.composed.specs.code.Composing.{Composed}
+use Rattle.walk.proofs.View.{same-selector}
+use Rattle.composed.specs.code.Composing.{Composed, compositionAnswer, CompositionIs}
+use Rattle.composed.specs.declared.compose.Composition.{Composition}
 
 -- ---- what was read
 
@@ -115,14 +117,25 @@ pub composed-as : {Γ : Fields} {ρ : Values} {s t : Selector} {form value : Byt
 composed-as {Γ} {ρ} {form = form} {value} e C = subst (λ (x : Selector). Composed Γ ρ x form value) e C
 
 -- the value that stands there
-pub raw-node : {form value : Bytes} {t c : Cursor} → t .at ≡ 0 → c .at ≡ 0 → (X : RawAt One form 0 value 0) → NodeOf One form value (X .value .tree)
-    (NodeAt.At t c)
-raw-node e f X = standing (raw-moved (sym e) (sym f) (record { raw = X; is = refl }))
-
-pub composed-node : {Γ : Fields} {ρ : Values} {s : Selector} {form value : Bytes} {t c : Cursor} → t .at ≡ 0 → c .at ≡ 0 → Composed Γ ρ s form value →
-    NodeOf One form value (eval ρ s) (NodeAt.At t c)
-composed-node e f C = standing (raw-moved (sym e) (sym f) (record { raw = C .raw; is = C .is }))
+pub raw-is : {x : Value} {form value : Bytes} {t c : Cursor} → t .at ≡ 0 → c .at ≡ 0 → (X : RawAt One form 0 value 0) → X .value .tree ≡ x → NodeOf One
+    form value x (NodeAt.At t c)
+raw-is e f X h = standing (raw-moved (sym e) (sym f) (record { raw = X; is = h }))
 
 -- the input that was found
 pub input-by : {s : Bytes} {at : ℕ} {P : SelectorAt s at} {r : Input} → InputIs s at P r → {c : Cursor} → r ≡ Input.At c → InputAt s at P (c .at)
 input-by {s} {at} {P} I e = subst (λ (z : Input). inputParts s at P z) e (I .parts)
+
+-- ---- which buffers hold it
+
+pub same-at : {s : Bytes} {a b : ℕ} → a ≡ b → (P : SelectorAt s a) (Q : SelectorAt s b) → P .tree ≡ Q .tree
+same-at {s} e P Q = subst (λ (m : ℕ). (R : SelectorAt s m) → P .tree ≡ R .tree) e (λ R. same-selector P R .0) Q
+
+module _ {Γ : Fields} {ρ : Values} {s : Selector} {form value form′ value′ : Bytes} where
+  pub not-settled : CompositionIs Γ ρ s form value form′ value′ Composition.Unknown
+  not-settled = record { answer = tt }
+
+  pub in-first : {r : Composition} → CompositionIs Γ ρ s form value form′ value′ r → r ≡ Composition.First → Composed Γ ρ s form value
+  in-first K e = subst (λ (z : Composition). compositionAnswer Γ ρ s form value form′ value′ z) e (K .answer)
+
+  pub in-second : {r : Composition} → CompositionIs Γ ρ s form value form′ value′ r → r ≡ Composition.Second → Composed Γ ρ s form′ value′
+  in-second K e = subst (λ (z : Composition). compositionAnswer Γ ρ s form value form′ value′ z) e (K .answer)

@@ -2,19 +2,24 @@
 ghost use Prim.Native.Nat.{_≤_, _<_};
 ghost use lib.ListN.{length};
 ghost use Rattle.ends.specs.code.Ends.{Ends};
+ghost use Rattle.layout.specs.Limits.{longest, longestPlan};
 ghost use Rattle.walk.specs.code.Stands.{SelectorAt};
 ghost use Rattle.index.specs.code.Indexed.{RowIn, IndexedIn};
 ghost use Rattle.direct.specs.code.Inputs.{InputAt};
 ghost use Rattle.transfer.specs.code.Given.{SelectorsIn, SelectorReached, RowReached};
+use crate::compose::Composition;
+use crate::compose::compose_leaf;
 use crate::compose::compose_value;
+use crate::compose::innermost;
+use crate::compose::over_written;
 use direct::input::Input;
 use direct::input::input_of;
 use direct::input::skip_renames;
 use index::row::Row;
 use index::row::indexed_value;
 use layout::cursor::Cursor;
-use layout::edition::Edition;
-use nodes::raw::NodeAt;
+use layout::limits::LONGEST;
+use layout::limits::LONGEST_PLAN;
 use transfer::leaf::Node;
 use transfer::leaf::Place;
 use transfer::leaf::Reached;
@@ -23,14 +28,14 @@ use transfer::leaf::limited;
 use transfer::origin::is_position;
 use transfer::origin::taken_position;
 use transfer::row::transfer;
-use transfer::row::transfer_over;
 use walk::head::SelectorHead;
 use walk::head::head;
 
-// A transform, and where its input stands.
+// A transform, where its input stands, and where what is innermost in it does.
 struct Transform {
     place: Place,
     input: Cursor,
+    leaf: Cursor,
 }
 
 // With buffers for all that a result can be.
@@ -49,40 +54,47 @@ fn over_large(
     requires { ⌜ RowIn (now lay) (now rec) row ⌝ }
     requires { ⌜ IndexedIn (now lay) (now rec) row (now types) (now values) × (0 < row .stride) ⌝ }
     requires { ⌜ ((P : SelectorAt (now plan) (transform .place .selector .at)) × InputAt (now plan) (transform .place .selector .at) P (transform .input .at)) ⌝ }
-    requires { ⌜ (length (now lay) ≤ 65536) × (length (now rec) ≤ 65536) × (length (now plan) ≤ 65536) × (transform .place .k ≤ 16384) ⌝ }
+    requires { ⌜ SelectorAt (now plan) (transform .leaf .at) ⌝ }
+    requires { ⌜ (length (now lay) ≤ longestPlan) × (length (now rec) ≤ longestPlan) × (length (now plan) ≤ longestPlan) × (transform .place .k ≤ longest) ⌝ }
     ensures { λ r. ⌜ ((X : RowIn (now (lay .entry)) (now (rec .entry)) row) (P : SelectorAt (now (plan .entry)) (transform .place .selector .at)) → InputAt (now (plan .entry)) (transform .place .selector .at) P (transform .input .at) → SelectorReached (X .values .values) P (now (out .entry)) (transform .place .k) r (now (out .exit))) ⌝ }
 {
-    let none: [u16; 1] = [0; 1];
-    let place = transform.place;
+    let leaf = transform.leaf;
     let mut form: [u8; 16384] = [0; 16384];
     let mut value: [u8; 16384] = [0; 16384];
     let mut other_form: [u8; 16384] = [0; 16384];
     let mut other_value: [u8; 16384] = [0; 16384];
-    if !compose_value(
+    if !compose_leaf(
         lay,
         rec,
         row,
         types,
         values,
         plan,
-        transform.input,
-        64,
+        leaf,
         &mut form,
         &mut value,
-        &mut other_form,
-        &mut other_value,
         ends,
     ) {
         return Reached::Unknown;
     }
-    let start = Cursor { at: 0 };
-    let edition = Edition::One;
-    let at = NodeAt::At(start, start);
-    let node = Node { edition, at };
-    transfer_over(&form, &value, node, plan, place, out, &none[..0])
+    match compose_value(
+        plan,
+        transform.input,
+        leaf,
+        &mut form,
+        &mut value,
+        &mut other_form,
+        &mut other_value,
+    ) {
+        Composition::First => over_written(&form, &value, plan, transform.place, out),
+        Composition::Second => {
+            over_written(&other_form, &other_value, plan, transform.place, out)
+        }
+        Composition::Unknown => Reached::Unknown,
+    }
 }
 
-// The transform at `c` of the transform at `input`: with buffers that are cleared in no time, where these do.
+// The transform of a transform: with buffers that are cleared in no time, where these do.
 fn over_input(
     lay: &[u8],
     rec: &[u8],
@@ -98,37 +110,46 @@ fn over_input(
     requires { ⌜ RowIn (now lay) (now rec) row ⌝ }
     requires { ⌜ IndexedIn (now lay) (now rec) row (now types) (now values) × (0 < row .stride) ⌝ }
     requires { ⌜ ((P : SelectorAt (now plan) (transform .place .selector .at)) × InputAt (now plan) (transform .place .selector .at) P (transform .input .at)) ⌝ }
-    requires { ⌜ (length (now lay) ≤ 65536) × (length (now rec) ≤ 65536) × (length (now plan) ≤ 65536) × (transform .place .k ≤ 16384) ⌝ }
+    requires { ⌜ SelectorAt (now plan) (transform .leaf .at) ⌝ }
+    requires { ⌜ (length (now lay) ≤ longestPlan) × (length (now rec) ≤ longestPlan) × (length (now plan) ≤ longestPlan) × (transform .place .k ≤ longest) ⌝ }
     ensures { λ r. ⌜ ((X : RowIn (now (lay .entry)) (now (rec .entry)) row) (P : SelectorAt (now (plan .entry)) (transform .place .selector .at)) → InputAt (now (plan .entry)) (transform .place .selector .at) P (transform .input .at) → SelectorReached (X .values .values) P (now (out .entry)) (transform .place .k) r (now (out .exit))) ⌝ }
 {
-    let none: [u16; 1] = [0; 1];
-    let place = transform.place;
+    let leaf = transform.leaf;
     let mut form: [u8; 256] = [0; 256];
     let mut value: [u8; 256] = [0; 256];
     let mut other_form: [u8; 256] = [0; 256];
     let mut other_value: [u8; 256] = [0; 256];
-    if !compose_value(
+    if !compose_leaf(
         lay,
         rec,
         row,
         types,
         values,
         plan,
-        transform.input,
-        64,
+        leaf,
         &mut form,
         &mut value,
-        &mut other_form,
-        &mut other_value,
         ends,
     ) {
         return over_large(lay, rec, row, types, values, plan, transform, out, ends);
     }
-    let start = Cursor { at: 0 };
-    let edition = Edition::One;
-    let at = NodeAt::At(start, start);
-    let node = Node { edition, at };
-    transfer_over(&form, &value, node, plan, place, out, &none[..0])
+    match compose_value(
+        plan,
+        transform.input,
+        leaf,
+        &mut form,
+        &mut value,
+        &mut other_form,
+        &mut other_value,
+    ) {
+        Composition::First => over_written(&form, &value, plan, transform.place, out),
+        Composition::Second => {
+            over_written(&other_form, &other_value, plan, transform.place, out)
+        }
+        Composition::Unknown => {
+            over_large(lay, rec, row, types, values, plan, transform, out, ends)
+        }
+    }
 }
 
 // Whether the selector at `c` is made of casts and renames of a position.
@@ -183,7 +204,7 @@ pub fn transfer_top(
     requires { ⌜ RowIn (now lay) (now rec) row ⌝ }
     requires { ⌜ IndexedIn (now lay) (now rec) row (now types) (now values) × (0 < row .stride) ⌝ }
     requires { ⌜ SelectorAt (now plan) (place .selector .at) ⌝ }
-    requires { ⌜ (length (now rec) ≤ 65536) × (length (now plan) ≤ 65536) × (place .k ≤ 16387) ⌝ }
+    requires { ⌜ (length (now rec) ≤ longestPlan) × (length (now plan) ≤ longestPlan) × (place .k ≤ 16387) ⌝ }
     ensures { λ r. ⌜ ((X : RowIn (now (lay .entry)) (now (rec .entry)) row) (P : SelectorAt (now (plan .entry)) (place .selector .at)) → SelectorReached (X .values .values) P (now (out .entry)) (place .k) r (now (out .exit))) ⌝ }
 {
     let c = place.selector;
@@ -195,16 +216,17 @@ pub fn transfer_top(
         let node = Node { edition, at };
         return transfer(lay, rec, node, plan, place, out, ends);
     }
-    if 16384 < place.k {
+    if LONGEST < place.k {
         return Reached::Unknown;
     }
-    if 65536 < lay.len() {
+    if LONGEST_PLAN < lay.len() {
         return Reached::Unknown;
     }
     match input_of(plan, c) {
         Input::None => Reached::Unknown,
         Input::At(input) => {
-            let transform = Transform { place, input };
+            let leaf = innermost(plan, input);
+            let transform = Transform { place, input, leaf };
             over_input(lay, rec, row, types, values, plan, transform, out, ends)
         }
     }
@@ -226,7 +248,7 @@ pub fn transfer_tops(
     requires { ⌜ RowIn (now lay) (now rec) row ⌝ }
     requires { ⌜ IndexedIn (now lay) (now rec) row (now types) (now values) × (0 < row .stride) ⌝ }
     requires { ⌜ SelectorsIn (now plan) selectors ⌝ }
-    requires { ⌜ (length (now rec) ≤ 65536) × (length (now plan) ≤ 65536) × (selectors .first .k ≤ 16387) ⌝ }
+    requires { ⌜ (length (now rec) ≤ longestPlan) × (length (now plan) ≤ longestPlan) × (selectors .first .k ≤ 16387) ⌝ }
     ensures { λ r. ⌜ ((X : RowIn (now (lay .entry)) (now (rec .entry)) row) (S : SelectorsIn (now (plan .entry)) selectors) → RowReached X S (now (out .entry)) (selectors .first .k) r (now (out .exit))) ⌝ }
 {
     let count = selectors.count;

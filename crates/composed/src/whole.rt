@@ -4,6 +4,7 @@ ghost use Prim.Native.Nat.{ℕ, _≤_};
 ghost use lib.ListN.{length};
 ghost use Rattle.ends.specs.code.Ends.{Ends};
 ghost use Rattle.layout.specs.Bytes.{Bytes};
+ghost use Rattle.layout.specs.Limits.{longestPlan};
 ghost use Rattle.values.specs.Encode.{encodeValues};
 ghost use Rattle.plan.specs.Run.{evals, cleanAll};
 ghost use Rattle.walk.specs.code.Stands.{SelectorsAt};
@@ -19,6 +20,7 @@ use index::row::index_row;
 use layout::columns::ColumnRange;
 use layout::cursor::Cursor;
 use layout::edition::Edition;
+use layout::limits::DEEPEST_SELECTOR;
 use transfer::leaf::Place;
 use transfer::leaf::Reached;
 use transfer::leaf::Selectors;
@@ -43,7 +45,7 @@ fn transfer_few(
     requires { ⌜ Ends v (now lay) (now ends) ⌝ }
     requires { ⌜ RowAt v (now lay) n 7 (now rec) 0 ⌝ }
     requires { ⌜ SelectorsAt (now plan) count 7 ⌝ }
-    requires { ⌜ (length (now rec) ≤ 65536) × (length (now plan) ≤ 65536) ⌝ }
+    requires { ⌜ (length (now rec) ≤ longestPlan) × (length (now plan) ≤ longestPlan) ⌝ }
     ensures { λ r. ⌜ ((X : RowAt v (now (lay .entry)) n 7 (now (rec .entry)) 0) (S : SelectorsAt (now (plan .entry)) count 7) → RowReached X S (now (out .entry)) 0 r (now (out .exit))) ⌝ }
 {
     let start = Cursor { at: 7 };
@@ -59,7 +61,7 @@ fn transfer_few(
     };
     let first = Place {
         selector: start,
-        levels: 64,
+        levels: DEEPEST_SELECTOR,
         k: 0,
     };
     let types: [u16; 1] = [0; 1];
@@ -92,7 +94,7 @@ fn transfer_many(
     requires { ⌜ Ends v (now lay) (now ends) ⌝ }
     requires { ⌜ RowAt v (now lay) n 7 (now rec) 0 ⌝ }
     requires { ⌜ SelectorsAt (now plan) count 7 ⌝ }
-    requires { ⌜ (length (now rec) ≤ 65536) × (length (now plan) ≤ 65536) ⌝ }
+    requires { ⌜ (length (now rec) ≤ longestPlan) × (length (now plan) ≤ longestPlan) ⌝ }
     ensures { λ r. ⌜ ((X : RowAt v (now (lay .entry)) n 7 (now (rec .entry)) 0) (S : SelectorsAt (now (plan .entry)) count 7) → RowReached X S (now (out .entry)) 0 r (now (out .exit))) ⌝ }
 {
     let start = Cursor { at: 7 };
@@ -108,7 +110,7 @@ fn transfer_many(
     };
     let first = Place {
         selector: start,
-        levels: 64,
+        levels: DEEPEST_SELECTOR,
         k: 0,
     };
     let mut types = [0u16; 256];
@@ -152,7 +154,7 @@ pub fn transfer_record(
     requires { ⌜ Ends v (now lay) (now ends) ⌝ }
     requires { ⌜ RowAt v (now lay) n 7 (now rec) 0 ⌝ }
     requires { ⌜ SelectorsAt (now plan) count 7 ⌝ }
-    requires { ⌜ (length (now rec) ≤ 65536) × (length (now plan) ≤ 65536) ⌝ }
+    requires { ⌜ (length (now rec) ≤ longestPlan) × (length (now plan) ≤ longestPlan) ⌝ }
     ensures { λ r. ⌜ ((X : RowAt v (now (lay .entry)) n 7 (now (rec .entry)) 0) (S : SelectorsAt (now (plan .entry)) count 7) → TransferredIs (cleanAll (evals (X .values .values) (S .trees))) (encodeValues (evals (X .values .values) (S .trees))) (now (out .entry)) r (now (out .exit))) ⌝ }
 {
     if few(n, count) {

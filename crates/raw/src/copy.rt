@@ -13,6 +13,7 @@ ghost use Rattle.nodes.specs.code.Raw.{RawAt};
 ghost use Rattle.raw.specs.code.Stored.{Stores, lead};
 use layout::cursor::Cursor;
 use layout::edition::Edition;
+use layout::limits::DEEPEST;
 use layout::walk::skip_type;
 use store::put;
 use values::constant::read_constant_value;
@@ -47,7 +48,7 @@ pub fn copy_raw(
     requires { ⌜ Ends v (now lay) (now ends) ⌝ }
     ensures { λ r. ⌜ ((X : RawAt v (now (lay .entry)) (t .at) (now (rec .entry)) (c .at)) → Stores (now (out .entry)) k (encodeValue (X .value .tree)) r (now (out .exit))) ⌝ }
 {
-    match copy_value(lay, v, 16, t, rec, c, out, k, ends) {
+    match copy_value(lay, v, DEEPEST, t, rec, c, out, k, ends) {
         ValueRead::To(_, e) => k + (e.at - c.at),
         ValueRead::Refused(_) => k,
     }
@@ -59,7 +60,7 @@ pub fn copy_constant(plan: &[u8], t: Cursor, c: Cursor, out: &mut [u8], k: usize
     requires { ⌜ k + length (now plan) < 2 ^ 64 ⌝ }
     ensures { λ r. ⌜ ((X : RawAt EditionOf.One (now (plan .entry)) (t .at) (now (plan .entry)) (c .at)) → Stores (now (out .entry)) k (encodeValue (X .value .tree)) r (now (out .exit))) ⌝ }
 {
-    match read_constant_value(plan, t, skip_type(plan, Edition::One, 16, t), c) {
+    match read_constant_value(plan, t, skip_type(plan, Edition::One, DEEPEST, t), c) {
         ValueRead::To(_, e) => {
             store::copy(plan, c.at, e.at, out, k);
             k + (e.at - c.at)

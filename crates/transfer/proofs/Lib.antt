@@ -1,3 +1,4 @@
+pub mod Casting
 pub mod Reaching
 pub mod Origins
 pub mod Opening

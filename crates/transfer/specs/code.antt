@@ -1,3 +1,4 @@
+pub mod Casts
 pub mod Reaching
 pub mod Opening
 pub mod Chains

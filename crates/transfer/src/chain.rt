@@ -2,6 +2,7 @@
 ghost use Prim.Native.Nat.{_≤_};
 ghost use lib.ListN.{length};
 ghost use Rattle.ends.specs.code.Ends.{Ends};
+ghost use Rattle.layout.specs.Limits.{longest, longestPlan};
 ghost use Rattle.layout.specs.Tree.{dtypeOf};
 ghost use Rattle.layout.specs.code.Stands.{TypeAt};
 ghost use Rattle.layout.specs.declared.edition.Edition.{Edition as EditionOf};
@@ -38,7 +39,7 @@ pub enum ChainValue {
 }
 
 // The value that was taken.
-fn taken_leaf(lay: &[u8], rec: &[u8], node: Node) -> ChainValue
+pub fn taken_leaf(lay: &[u8], rec: &[u8], node: Node) -> ChainValue
     requires { ⌜ ((x : Value) × NodeIn (now lay) (now rec) x node) ⌝ }
     ensures { λ r. ⌜ ((x : Value) → NodeIn (now (lay .entry)) (now (rec .entry)) x node → ChainIs x x r) ⌝ }
 {
@@ -64,7 +65,7 @@ fn converted(kind: Leaf, n: u64, to: Leaf) -> ChainValue
 }
 
 // Cast to the kind `to`.
-fn cast_to(q: ChainValue, to: Leaf) -> ChainValue
+pub fn cast_to(q: ChainValue, to: Leaf) -> ChainValue
     ensures { λ r. ⌜ ((x y : Value) → ChainIs x y q → ChainIs (castLeaf to x) y r) ⌝ }
 {
     match q {
@@ -149,7 +150,7 @@ pub fn put_chain(
 ) -> Reached
     requires { ⌜ Ends (node .edition) (now lay) (now ends) ⌝ }
     requires { ⌜ ((x : Value) × NodeIn (now lay) (now rec) x node) ⌝ }
-    requires { ⌜ (length (now rec) ≤ 65536) × (k ≤ 16384) ⌝ }
+    requires { ⌜ (length (now rec) ≤ longestPlan) × (k ≤ longest) ⌝ }
     ensures { λ r. ⌜ ((x y : Value) → NodeIn (now (lay .entry)) (now (rec .entry)) y node → ChainIs x y q → ReachedIs (clean x) (encodeValue x) (end .at) (now (out .entry)) k r (now (out .exit))) ⌝ }
 {
     match q {
@@ -171,7 +172,7 @@ pub fn transfer_cast(
 ) -> Reached
     requires { ⌜ Ends (node .edition) (now lay) (now ends) ⌝ }
     requires { ⌜ ((x : Value) × NodeIn (now lay) (now rec) x node) ⌝ }
-    requires { ⌜ (length (now rec) ≤ 65536) × (place .k ≤ 16384) ⌝ }
+    requires { ⌜ (length (now rec) ≤ longestPlan) × (place .k ≤ longest) ⌝ }
     ensures { λ r. ⌜ ((ρ : Values) (P : SelectorAt (now (plan .entry)) (place .selector .at)) → NodeIn (now (lay .entry)) (now (rec .entry)) (valueAt ρ (takes (P .tree))) node → ReachedIs (clean (eval ρ (P .tree))) (encodeValue (eval ρ (P .tree))) (P .end) (now (out .entry)) (place .k) r (now (out .exit))) ⌝ }
 {
     let q = chain_value(lay, rec, node, plan, place.selector, place.levels);

@@ -5,6 +5,7 @@ ghost use Prim.Native.Nat.{ℕ, _≤_};
 ghost use lib.ListN.{length};
 ghost use Rattle.ends.specs.code.Ends.{Ends};
 ghost use Rattle.layout.specs.Bytes.{Bytes};
+ghost use Rattle.layout.specs.Limits.{longest, longestPlan};
 ghost use Rattle.values.specs.Value.{Value, vnull};
 ghost use Rattle.values.specs.Encode.{encodeValue};
 ghost use Rattle.plan.specs.Run.{clean};
@@ -13,6 +14,8 @@ ghost use Rattle.raw.specs.code.Stored.{Stores};
 ghost use Rattle.transfer.specs.code.Reaching.{NodeIn, ReachedIs};
 use layout::cursor::Cursor;
 use layout::edition::Edition;
+use layout::limits::DEEPEST;
+use layout::limits::LONGEST;
 use layout::walk::skip_type;
 use nodes::raw::NodeAt;
 use raw::copy::copy_constant;
@@ -48,7 +51,7 @@ pub enum Reached {
 pub fn limited(end: Cursor, r: usize) -> Reached
     ensures { λ q. ⌜ ((ok : Bool) (b out : Bytes) (k : ℕ) (new : Bytes) → ok ≡ true → Stores out k b r new → ReachedIs ok b (end .at) out k q new) ⌝ }
 {
-    if 16384 < r {
+    if LONGEST < r {
         return Reached::Unknown;
     }
     Reached::To(end, r)
@@ -56,7 +59,7 @@ pub fn limited(end: Cursor, r: usize) -> Reached
 
 // A null, of a selector that ends at `end`.
 pub fn put_nothing(end: Cursor, out: &mut [u8], k: usize) -> Reached
-    requires { ⌜ k ≤ 16384 ⌝ }
+    requires { ⌜ k ≤ longest ⌝ }
     ensures { λ r. ⌜ ReachedIs true (encodeValue vnull) (end .at) (now (out .entry)) k r (now (out .exit)) ⌝ }
 {
     limited(end, put_null(out, k))
@@ -74,7 +77,7 @@ pub fn put_node(
 ) -> Reached
     requires { ⌜ Ends (node .edition) (now lay) (now ends) ⌝ }
     requires { ⌜ ((x : Value) × NodeIn (now lay) (now rec) x node) ⌝ }
-    requires { ⌜ (length (now rec) ≤ 65536) × (k ≤ 16384) ⌝ }
+    requires { ⌜ (length (now rec) ≤ longestPlan) × (k ≤ longest) ⌝ }
     ensures { λ r. ⌜ ((x : Value) → NodeIn (now (lay .entry)) (now (rec .entry)) x node → ReachedIs (clean x) (encodeValue x) (end .at) (now (out .entry)) k r (now (out .exit))) ⌝ }
 {
     let v = node.edition;
@@ -88,9 +91,9 @@ pub fn put_node(
 // The constant whose type begins at `t`.
 pub fn put_constant(plan: &[u8], t: Cursor, end: Cursor, out: &mut [u8], k: usize) -> Reached
     requires { ⌜ ConstantRaw (now plan) (t .at) ⌝ }
-    requires { ⌜ (length (now plan) ≤ 65536) × (k ≤ 16384) ⌝ }
+    requires { ⌜ (length (now plan) ≤ longestPlan) × (k ≤ longest) ⌝ }
     ensures { λ r. ⌜ ((X : ConstantRaw (now (plan .entry)) (t .at)) → ReachedIs (clean (X .value .tree)) (encodeValue (X .value .tree)) (end .at) (now (out .entry)) k r (now (out .exit))) ⌝ }
 {
-    let c = skip_type(plan, Edition::One, 16, t);
+    let c = skip_type(plan, Edition::One, DEEPEST, t);
     limited(end, copy_constant(plan, t, c, out, k))
 }

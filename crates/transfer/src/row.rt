@@ -6,6 +6,7 @@ ghost use Prim.Native.Nat.{ℕ, _≤_, _<_};
 ghost use lib.ListN.{length, take};
 ghost use Rattle.ends.specs.code.Ends.{Ends};
 ghost use Rattle.layout.specs.Bytes.{Bytes};
+ghost use Rattle.layout.specs.Limits.{longest, longestPlan};
 ghost use Rattle.layout.specs.declared.edition.Edition.{Edition as EditionOf};
 ghost use Rattle.values.specs.Value.{Value, Values, vnil, vcons};
 ghost use Rattle.plan.specs.Run.{valueAt, eval};
@@ -16,6 +17,9 @@ ghost use Rattle.index.specs.code.Indexed.{RowIn, IndexedIn};
 ghost use Rattle.direct.specs.code.Inputs.{inputOf, InputAt};
 ghost use Rattle.transfer.specs.code.Reaching.{takes, NodeIn, ReachedIs};
 ghost use Rattle.transfer.specs.code.Given.{SelectorsIn, ElementsIn, SelectorReached, RowReached, ElementsReached};
+use crate::casts::Each;
+use crate::casts::cast_elements;
+use crate::casts::each_of;
 use crate::chain::cast_value;
 use crate::chain::put_chain;
 use crate::chain::transfer_cast;
@@ -40,6 +44,8 @@ use layout::cursor::Cursor;
 use layout::cursor::Moved;
 use layout::cursor::Text;
 use layout::edition::Edition;
+use layout::limits::DEEPEST;
+use layout::limits::LONGEST;
 use nodes::raw::NodeAt;
 use raw::copy::put_lead;
 use values::read::read_element;
@@ -49,11 +55,11 @@ use walk::head::skip_selector;
 use walk::head::struct_fields;
 
 // The elements of a list or an array: how many, where their type stands, and where their values begin.
-struct Elements {
-    edition: Edition,
-    count: u32,
-    element: Cursor,
-    values: Cursor,
+pub struct Elements {
+    pub edition: Edition,
+    pub count: u32,
+    pub element: Cursor,
+    pub values: Cursor,
 }
 
 // What a rename's input gave, and past the name.
@@ -80,13 +86,13 @@ fn element_node(p: u16, t: Cursor, c: Cursor) -> NodeAt
 }
 
 // Past the element whose value begins at `c`.
-fn skip_value(lay: &[u8], rec: &[u8], elements: Elements, c: Cursor, ends: &[u16]) -> Cursor
+pub fn skip_value(lay: &[u8], rec: &[u8], elements: Elements, c: Cursor, ends: &[u16]) -> Cursor
     requires { ⌜ Ends (elements .edition) (now lay) (now ends) ⌝ }
     requires { ⌜ RawAt (elements .edition) (now lay) (elements .element .at) (now rec) (c .at) ⌝ }
     ensures { λ r. ⌜ ((X : RawAt (elements .edition) (now (lay .entry)) (elements .element .at) (now (rec .entry)) (c .at)) → r .at ≡ X .value .end) ⌝ }
 {
     let v = elements.edition;
-    match read_element(lay, v, 16, elements.element, rec, c, ends) {
+    match read_element(lay, v, DEEPEST, elements.element, rec, c, ends) {
         Moved::To(d) => d,
         Moved::Refused(_) => c,
     }
@@ -108,7 +114,7 @@ pub fn transfer_row(
     requires { ⌜ RowIn (now lay) (now rec) row ⌝ }
     requires { ⌜ IndexedIn (now lay) (now rec) row (now types) (now values) × (0 < row .stride) ⌝ }
     requires { ⌜ SelectorsIn (now plan) selectors ⌝ }
-    requires { ⌜ (length (now rec) ≤ 65536) × (length (now plan) ≤ 65536) × (selectors .first .k ≤ 16387) ⌝ }
+    requires { ⌜ (length (now rec) ≤ longestPlan) × (length (now plan) ≤ longestPlan) × (selectors .first .k ≤ 16387) ⌝ }
     ensures { λ r. ⌜ ((X : RowIn (now (lay .entry)) (now (rec .entry)) row) (S : SelectorsIn (now (plan .entry)) selectors) → RowReached X S (now (out .entry)) (selectors .first .k) r (now (out .exit))) ⌝ }
 {
     let columns = row.columns;
@@ -153,7 +159,7 @@ fn transfer_elements(
     requires { ⌜ Ends (elements .edition) (now lay) (now ends) ⌝ }
     requires { ⌜ ElementsIn (now lay) (now rec) elements ⌝ }
     requires { ⌜ SelectorAt (now plan) (place .selector .at) ⌝ }
-    requires { ⌜ (length (now rec) ≤ 65536) × (length (now plan) ≤ 65536) × (place .k ≤ 16387) ⌝ }
+    requires { ⌜ (length (now rec) ≤ longestPlan) × (length (now plan) ≤ longestPlan) × (place .k ≤ 16387) ⌝ }
     ensures { λ r. ⌜ ((X : ElementsIn (now (lay .entry)) (now (rec .entry)) elements) (P : SelectorAt (now (plan .entry)) (place .selector .at)) → ElementsReached X P (end .at) (now (out .entry)) (place .k) r (now (out .exit))) ⌝ }
 {
     let v = elements.edition;
@@ -184,6 +190,29 @@ fn transfer_elements(
         i += 1;
     }
     limited(end, k)
+}
+
+// As `transfer_elements`; where the selector is a cast, the plan is looked at once.
+fn map_elements(
+    lay: &[u8],
+    rec: &[u8],
+    elements: Elements,
+    plan: &[u8],
+    place: Place,
+    end: Cursor,
+    out: &mut [u8],
+    ends: &[u16],
+) -> Reached
+    requires { ⌜ Ends (elements .edition) (now lay) (now ends) ⌝ }
+    requires { ⌜ ElementsIn (now lay) (now rec) elements ⌝ }
+    requires { ⌜ SelectorAt (now plan) (place .selector .at) ⌝ }
+    requires { ⌜ (length (now rec) ≤ longestPlan) × (length (now plan) ≤ longestPlan) × (place .k ≤ 16387) ⌝ }
+    ensures { λ r. ⌜ ((X : ElementsIn (now (lay .entry)) (now (rec .entry)) elements) (P : SelectorAt (now (plan .entry)) (place .selector .at)) → ElementsReached X P (end .at) (now (out .entry)) (place .k) r (now (out .exit))) ⌝ }
+{
+    match each_of(plan, place.selector) {
+        Each::Cast(to) => cast_elements(lay, rec, elements, to, end, out, place.k, ends),
+        Each::Other => transfer_elements(lay, rec, elements, plan, place, end, out, ends),
+    }
 }
 
 // Fills the tables of a struct's fields, of which `count` are taken; where these are few, it would take longer than
@@ -223,7 +252,7 @@ fn transfer_fields(
     requires { ⌜ RowIn (now lay) (now rec) row ⌝ }
     requires { ⌜ 0 < row .stride ⌝ }
     requires { ⌜ SelectorsIn (now plan) selectors ⌝ }
-    requires { ⌜ (length (now rec) ≤ 65536) × (length (now plan) ≤ 65536) × (selectors .first .k ≤ 16387) ⌝ }
+    requires { ⌜ (length (now rec) ≤ longestPlan) × (length (now plan) ≤ longestPlan) × (selectors .first .k ≤ 16387) ⌝ }
     ensures { λ r. ⌜ ((X : RowIn (now (lay .entry)) (now (rec .entry)) row) (S : SelectorsIn (now (plan .entry)) selectors) → RowReached X S (now (out .entry)) (selectors .first .k) r (now (out .exit))) ⌝ }
 {
     let mut types = [0u16; 64];
@@ -264,7 +293,7 @@ fn struct_over(
     requires { ⌜ Ends (node .edition) (now lay) (now ends) ⌝ }
     requires { ⌜ ((x : Value) × NodeIn (now lay) (now rec) x node) ⌝ }
     requires { ⌜ ((P : SelectorAt (now plan) (place .selector .at)) × StructAt (now plan) (place .selector .at) P (input .at)) ⌝ }
-    requires { ⌜ (length (now rec) ≤ 65536) × (length (now plan) ≤ 65536) × (place .k ≤ 16384) ⌝ }
+    requires { ⌜ (length (now rec) ≤ longestPlan) × (length (now plan) ≤ longestPlan) × (place .k ≤ longest) ⌝ }
     ensures { λ r. ⌜ ((ρ : Values) (P : SelectorAt (now (plan .entry)) (place .selector .at)) (S : StructAt (now (plan .entry)) (place .selector .at) P (input .at)) → NodeIn (now (lay .entry)) (now (rec .entry)) (eval ρ (S .input .tree)) node → SelectorReached ρ P (now (out .entry)) (place .k) r (now (out .exit))) ⌝ }
 {
     let v = node.edition;
@@ -315,7 +344,7 @@ fn list_over(
     requires { ⌜ Ends (node .edition) (now lay) (now ends) ⌝ }
     requires { ⌜ ((x : Value) × NodeIn (now lay) (now rec) x node) ⌝ }
     requires { ⌜ ((P : SelectorAt (now plan) (place .selector .at)) × ListAt (now plan) (place .selector .at) P (input .at)) ⌝ }
-    requires { ⌜ (length (now rec) ≤ 65536) × (length (now plan) ≤ 65536) × (place .k ≤ 16384) ⌝ }
+    requires { ⌜ (length (now rec) ≤ longestPlan) × (length (now plan) ≤ longestPlan) × (place .k ≤ longest) ⌝ }
     ensures { λ r. ⌜ ((ρ : Values) (P : SelectorAt (now (plan .entry)) (place .selector .at)) (L : ListAt (now (plan .entry)) (place .selector .at) P (input .at)) → NodeIn (now (lay .entry)) (now (rec .entry)) (eval ρ (L .input .tree)) node → SelectorReached ρ P (now (out .entry)) (place .k) r (now (out .exit))) ⌝ }
 {
     let v = node.edition;
@@ -336,7 +365,7 @@ fn list_over(
                 element: t,
                 values: d,
             };
-            transfer_elements(lay, rec, elements, plan, each, end, out, ends)
+            map_elements(lay, rec, elements, plan, each, end, out, ends)
         }
         Opened::Row(_, _, _) => Reached::Unknown,
         Opened::Array(_, _, _) => Reached::Unknown,
@@ -358,7 +387,7 @@ fn array_over(
     requires { ⌜ Ends (node .edition) (now lay) (now ends) ⌝ }
     requires { ⌜ ((x : Value) × NodeIn (now lay) (now rec) x node) ⌝ }
     requires { ⌜ ((P : SelectorAt (now plan) (place .selector .at)) × ArrayAt (now plan) (place .selector .at) P (input .at)) ⌝ }
-    requires { ⌜ (length (now rec) ≤ 65536) × (length (now plan) ≤ 65536) × (place .k ≤ 16384) ⌝ }
+    requires { ⌜ (length (now rec) ≤ longestPlan) × (length (now plan) ≤ longestPlan) × (place .k ≤ longest) ⌝ }
     ensures { λ r. ⌜ ((ρ : Values) (P : SelectorAt (now (plan .entry)) (place .selector .at)) (L : ArrayAt (now (plan .entry)) (place .selector .at) P (input .at)) → NodeIn (now (lay .entry)) (now (rec .entry)) (eval ρ (L .input .tree)) node → SelectorReached ρ P (now (out .entry)) (place .k) r (now (out .exit))) ⌝ }
 {
     let v = node.edition;
@@ -379,7 +408,7 @@ fn array_over(
                 element: t,
                 values: d,
             };
-            transfer_elements(lay, rec, elements, plan, each, end, out, ends)
+            map_elements(lay, rec, elements, plan, each, end, out, ends)
         }
         Opened::Row(_, _, _) => Reached::Unknown,
         Opened::List(_, _, _) => Reached::Unknown,
@@ -400,7 +429,7 @@ pub fn transfer_over(
     requires { ⌜ Ends (node .edition) (now lay) (now ends) ⌝ }
     requires { ⌜ ((x : Value) × NodeIn (now lay) (now rec) x node) ⌝ }
     requires { ⌜ SelectorAt (now plan) (place .selector .at) ⌝ }
-    requires { ⌜ (length (now rec) ≤ 65536) × (length (now plan) ≤ 65536) × (place .k ≤ 16384) ⌝ }
+    requires { ⌜ (length (now rec) ≤ longestPlan) × (length (now plan) ≤ longestPlan) × (place .k ≤ longest) ⌝ }
     ensures { λ r. ⌜ ((ρ : Values) (P : SelectorAt (now (plan .entry)) (place .selector .at)) → NodeIn (now (lay .entry)) (now (rec .entry)) (eval ρ (inputOf (P .tree))) node → SelectorReached ρ P (now (out .entry)) (place .k) r (now (out .exit))) ⌝ }
 {
     if place.levels == 0 {
@@ -452,7 +481,7 @@ fn transfer_taken(
     requires { ⌜ Ends (node .edition) (now lay) (now ends) ⌝ }
     requires { ⌜ ((x : Value) × NodeIn (now lay) (now rec) x node) ⌝ }
     requires { ⌜ SelectorAt (now plan) (place .selector .at) ⌝ }
-    requires { ⌜ (length (now rec) ≤ 65536) × (length (now plan) ≤ 65536) × (place .k ≤ 16384) ⌝ }
+    requires { ⌜ (length (now rec) ≤ longestPlan) × (length (now plan) ≤ longestPlan) × (place .k ≤ longest) ⌝ }
     ensures { λ r. ⌜ ((ρ : Values) (P : SelectorAt (now (plan .entry)) (place .selector .at)) → InputAt (now (plan .entry)) (place .selector .at) P (input .at) → NodeIn (now (lay .entry)) (now (rec .entry)) (valueAt ρ (takes (P .tree))) node → SelectorReached ρ P (now (out .entry)) (place .k) r (now (out .exit))) ⌝ }
 {
     if is_position(plan, input) {
@@ -474,56 +503,49 @@ pub fn transfer(
     requires { ⌜ Ends (node .edition) (now lay) (now ends) ⌝ }
     requires { ⌜ ((x : Value) × NodeIn (now lay) (now rec) x node) ⌝ }
     requires { ⌜ SelectorAt (now plan) (place .selector .at) ⌝ }
-    requires { ⌜ (length (now rec) ≤ 65536) × (length (now plan) ≤ 65536) × (place .k ≤ 16387) ⌝ }
+    requires { ⌜ (length (now rec) ≤ longestPlan) × (length (now plan) ≤ longestPlan) × (place .k ≤ 16387) ⌝ }
     ensures { λ r. ⌜ ((ρ : Values) (P : SelectorAt (now (plan .entry)) (place .selector .at)) → NodeIn (now (lay .entry)) (now (rec .entry)) (valueAt ρ (takes (P .tree))) node → SelectorReached ρ P (now (out .entry)) (place .k) r (now (out .exit))) ⌝ }
 {
     if place.levels == 0 {
         return Reached::Unknown;
     }
-    if 16384 < place.k {
+    if LONGEST < place.k {
         return Reached::Unknown;
     }
     let c = place.selector;
     let k = place.k;
     let levels = place.levels - 1;
+    let inner = Place {
+        selector: c,
+        levels,
+        k,
+    };
     match head(plan, c) {
         SelectorHead::Position(_) => {
             put_node(lay, rec, node, skip_selector(plan, c), out, k, ends)
         }
         SelectorHead::Constant(_, t) => put_constant(plan, t, skip_selector(plan, c), out, k),
         SelectorHead::Rename(input) => {
-            let inner = Place {
+            let under = Place {
                 selector: input,
                 levels,
                 k,
             };
-            past_name(plan, transfer(lay, rec, node, plan, inner, out, ends))
+            past_name(plan, transfer(lay, rec, node, plan, under, out, ends))
         }
         SelectorHead::Cast(_) => transfer_cast(lay, rec, node, plan, place, out, ends),
-        SelectorHead::Struct(input) => {
-            let inner = Place {
-                selector: c,
-                levels,
-                k,
-            };
-            transfer_taken(lay, rec, node, plan, inner, input, out, ends)
-        }
-        SelectorHead::List(input) => {
-            let inner = Place {
-                selector: c,
-                levels,
-                k,
-            };
-            transfer_taken(lay, rec, node, plan, inner, input, out, ends)
-        }
-        SelectorHead::Array(input) => {
-            let inner = Place {
-                selector: c,
-                levels,
-                k,
-            };
-            transfer_taken(lay, rec, node, plan, inner, input, out, ends)
-        }
+        SelectorHead::Struct(input) => transfer_taken(
+            lay,
+            rec,
+            node,
+            plan,
+            inner,
+            input,
+            out,
+            ends,
+        ),
+        SelectorHead::List(input) => transfer_taken(lay, rec, node, plan, inner, input, out, ends),
+        SelectorHead::Array(input) => transfer_taken(lay, rec, node, plan, inner, input, out, ends),
         SelectorHead::Refused => Reached::Unknown,
     }
 }

@@ -1,8 +1,6 @@
-use Rattle.composed.proofs.Composing.{composed-as, raw-node, composed-node}
+use Rattle.composed.proofs.Composing.{row-fits, composed-as, in-first, in-second}
 use borrow.Author.Tests.{not-false}
-use Rattle.ends.proofs.Entries.{ends-none}
 use native.Mathlib.Omega.{arith}
-use mathlib.Core.Path.{refl}
 use borrow.Author.Needs.{needs}
 use Rattle.composed.proofs.top.over_large.Statement.{statement}
 use Rattle.composed.proofs.top.over_large.Tie as tie
@@ -13,24 +11,34 @@ over-large-spec =
     (tie.spec
     (λ c. search needs)
     (λ c. search needs)
+    (λ c κs.
+    let c10 = c .before .before .before .before .before .before .before .before .before .before in
+    let B = c10 .pre .1 .1 .1 .1 .1 in
+    (c10 .pre .0, (c10 .pre .1 .0, (c10 .pre .1 .1 .0, (c10 .pre .1 .1 .1 .1 .0, ((B .0, B .1, B .2), (omega arith, omega arith)))))))
+    (λ c. search needs)
+    (λ c. search needs)
+    (λ c. search needs)
     (λ c. search needs)
     (λ c. search needs)
     (λ c κs.
-    let c12 = c .before .before .before .before .before .before .before .before .before .before .before .before in (
-      c12 .pre .0,
+    let c4 = c .before .before .before .before in let c7 = c4 .before .before .before in let c16 = c7 .before .before .before .before .before .before
+    .before .before .before in let c18 = c16 .before .before in
+    let X = c18 .pre .1 .0 in
+    let (P, I) = c18 .pre .1 .1 .1 .0 in
+    let L = c18 .pre .1 .1 .1 .1 .0 in
+    let A = row-fits (λ i. omega (arith, c16 .shared-slice-known2 .given i)) X in
+    let C = c7 .compose-leaf .ensures (not-false _ (c4 .if1 .left)) X L in (
+      I .input,
       (
-        c12 .pre .1 .0,
+        (_, _, A, L, C),
         (
-          c12 .pre .1 .1 .0,
+          c18 .pre .1 .1 .1 .1 .1 .2,
           (
-            c12 .pre .1 .1 .1 .0 .1 .input,
+            (omega (arith, c7 .compose-leaf .kept), omega (arith, c7 .compose-leaf .kept)),
             (
-              (
-                c12 .pre .1 .1 .1 .1 .0,
-                c12 .pre .1 .1 .1 .1 .1,
-                c12 .pre .1 .1 .1 .1 .2,
-              ),
-              ((omega arith, omega arith), (omega arith, omega arith)),
+              omega
+                  arith,
+              omega arith,
             ),
           ),
         ),
@@ -39,24 +47,56 @@ over-large-spec =
     (λ c. search needs)
     (λ c. search needs)
     (λ c. search needs)
+    (λ c κs.
+    let c3 = c .before .before .before in let c9 = c3 .before .before .before .before .before .before in let c14 = c9 .before .before .before .before
+    .before in let c17 = c14 .before .before .before in let c26 = c17 .before .before .before .before .before .before .before .before .before in let c28 =
+    c26 .before .before in
+    let X = c28 .pre .1 .0 in
+    let (P, I) = c28 .pre .1 .1 .1 .0 in
+    let L = c28 .pre .1 .1 .1 .1 .0 in
+    let B = c28 .pre .1 .1 .1 .1 .1 in
+    let C = c17 .compose-leaf .ensures (not-false _ (c14 .if1 .left)) X L in
+    let K = in-first (c9 .compose-value .ensures _ _ L (I .input) (row-fits (λ i. omega (arith, c26 .shared-slice-known2 .given i)) X) C)
+    (c3 .enum-told .given .1) in
+    (K .raw, (P, (omega (arith, c9 .compose-value .kept, c17 .compose-leaf .kept), B .2, B .3))))
+    (λ c. search needs)
     (λ c. search needs)
     (λ c. search needs)
     (λ c κs.
-    let c4 = c .before .before .before .before in let c9 = c4 .before .before .before .before .before in let c22 =
-    c9 .before .before .before .before .before .before .before .before .before .before .before .before .before in (
-      ends-none refl,
-      (
-        (
-          _,
-          raw-node refl refl (c9 .compose-value .ensures (not-false _ (c4 .if1 .left)) (c22 .pre .1 .0)
-              (c22 .pre .1 .1 .1 .0 .1 .input) .raw),
-        ),
-        (c22 .pre .1 .1 .1 .0 .0, (omega arith, c22 .pre .1 .1 .1 .1 .2, c22 .pre .1 .1 .1 .1 .3)),
-      ),
-    ))
+    let c3 = c .before .before .before in let c9 = c3 .before .before .before .before .before .before in let c14 = c9 .before .before .before .before
+    .before in let c17 = c14 .before .before .before in let c26 = c17 .before .before .before .before .before .before .before .before .before in let c28 =
+    c26 .before .before in
+    let X = c28 .pre .1 .0 in
+    let (P, I) = c28 .pre .1 .1 .1 .0 in
+    let L = c28 .pre .1 .1 .1 .1 .0 in
+    let B = c28 .pre .1 .1 .1 .1 .1 in
+    let C = c17 .compose-leaf .ensures (not-false _ (c14 .if1 .left)) X L in
+    let K = in-second (c9 .compose-value .ensures _ _ L (I .input) (row-fits (λ i. omega (arith, c26 .shared-slice-known2 .given i)) X) C)
+    (c3 .enum-told2 .given .1) in
+    (K .raw, (P, (omega (arith, c9 .compose-value .kept, c17 .compose-leaf .kept), B .2, B .3))))
+    (λ c. search needs)
     (λ c. search needs)
     (λ c.
-    let c2 = c .before .before in let c7 = c2 .before .before .before .before .before in let c12 = c7 .before .before .before .before .before in
+    let c2 = c .before .before in let c6 = c2 .before .before .before .before in let c12 = c6 .before .before .before .before .before .before in let c17 =
+    c12 .before .before .before .before .before in let c20 = c17 .before .before .before in let c29 = c20 .before .before .before .before .before .before
+    .before .before .before in let c31 = c29 .before .before in
+    let L = c31 .pre .1 .1 .1 .1 .0 in
     λ X P I.
-    c2 .transfer-over .ensures (X .values .values) P (composed-node refl refl (composed-as (I .is) (c12 .compose-value .ensures (not-false _ (c7 .if1 .left))
-    X (I .input))))))
+    let C = c20 .compose-leaf .ensures (not-false _ (c17 .if1 .left)) X L in
+    let K = composed-as (I .is) (in-first (c12 .compose-value .ensures _ _ L (I .input) (row-fits (λ i. omega (arith, c29 .shared-slice-known2 .given i))
+    X) C)
+    (c6 .enum-told .given .1)) in
+    c2 .over-written .ensures (X .values .values) (K .raw) P (K .is))
+    (λ c. search needs)
+    (λ c.
+    let c2 = c .before .before in let c6 = c2 .before .before .before .before in let c12 = c6 .before .before .before .before .before .before in let c17 =
+    c12 .before .before .before .before .before in let c20 = c17 .before .before .before in let c29 = c20 .before .before .before .before .before .before
+    .before .before .before in let c31 = c29 .before .before in
+    let L = c31 .pre .1 .1 .1 .1 .0 in
+    λ X P I.
+    let C = c20 .compose-leaf .ensures (not-false _ (c17 .if1 .left)) X L in
+    let K = composed-as (I .is) (in-second (c12 .compose-value .ensures _ _ L (I .input) (row-fits (λ i. omega (arith, c29 .shared-slice-known2 .given i))
+    X) C)
+    (c6 .enum-told2 .given .1)) in
+    c2 .over-written2 .ensures (X .values .values) (K .raw) P (K .is))
+    (λ c. search needs))

@@ -27,22 +27,22 @@ transfer-top-spec =
     (λ c. search needs)
     (λ c. search needs)
     (λ c κs.
-    let c2 = c .before .before in let c4 = c2 .before .before in let c5 = c4 .before in let c6 = c5 .before in let c18 =
-    c6 .before .before .before .before .before .before .before .before .before .before .before .before in
-    let P = c18 .pre .1 .1 .1 .0 in (
-      c18 .pre .0,
+    let c1 = c .before in let c3 = c1 .before .before in let c17 = c3 .before .before .before .before .before .before .before .before .before .before .before
+    .before .before .before in
+    input-by (c3 .input-of .ensures (c17 .pre .1 .1 .1 .0)) (c1 .input .given .1) .input)
+    (λ c κs.
+    let c1 = c .before in let c3 = c1 .before .before in let c5 = c3 .before .before in let c6 = c5 .before in let c7 = c6 .before in let c19 =
+    c7 .before .before .before .before .before .before .before .before .before .before .before .before in
+    let P = c19 .pre .1 .1 .1 .0 in
+    let B = c19 .pre .1 .1 .1 .1 in (
+      c19 .pre .0,
       (
-        c18 .pre .1 .0,
+        c19 .pre .1 .0,
         (
-          c18 .pre .1 .1 .0,
+          c19 .pre .1 .1 .0,
           (
-            (P, input-by (c4 .input-of .ensures P) (c2 .input .given .1)),
-            (
-              omega (arith, c5 .if3 .left),
-              c18 .pre .1 .1 .1 .1 .0,
-              c18 .pre .1 .1 .1 .1 .1,
-              omega (arith, c6 .if2 .left),
-            ),
+            (P, input-by (c5 .input-of .ensures P) (c3 .input .given .1)),
+            (c1 .innermost .ensures, (omega (arith, c6 .if3 .left), B .0, B .1, omega (arith, c7 .if2 .left))),
           ),
         ),
       ),
@@ -50,5 +50,5 @@ transfer-top-spec =
     (λ c. search needs)
     (λ c. search needs)
     (λ c.
-    let c2 = c .before .before in let c5 = c2 .before .before .before in let c7 = c5 .before .before in
-    λ X P. c2 .over-input .ensures X P (input-by (c7 .input-of .ensures P) (c5 .input .given .1))))
+    let c2 = c .before .before in let c6 = c2 .before .before .before .before in let c8 = c6 .before .before in
+    λ X P. c2 .over-input .ensures X P (input-by (c8 .input-of .ensures P) (c6 .input .given .1))))

@@ -7,6 +7,7 @@ use Rattle.transfer.proofs.Rows.{list-null, list-row, list-reached, arr
 use Rattle.transfer.proofs.Rows.{cast-given, rename-given, struct-given, list-given, array-given, taken-node}
 use Rattle.transfer.proofs.Reaching.{unknown, reached-as, reached-end, reached-to, reached-null}
 use Rattle.transfer.proofs.Origins.{position-value}
+use Rattle.transfer.proofs.Casting.{casts-are}
 use Rattle.raw.proofs.Storing.{lead-short}
 use Rattle.direct.proofs.Inputs.{struct-input, list-input, array-input}
 use Rattle.nodes.specs.code.Raw.{ElementsAt}
@@ -25,34 +26,39 @@ use borrow.Fn.Kinds.{In}
 use borrow.Fn.PlainCycle.{Measures, is, falls, and}
 use Rattle.transfer.proofs.row.array_over.Reads as array-over
 use Rattle.transfer.proofs.row.array_over.Kinds as array-over-kinds
-use Rattle.transfer.proofs.row.+array_over+list_over+struct_over+transfer+transfer_elements+transfer_fields+transfer_over+transfer_row+transfer_taken.Lts-array_over as array-over-lts
+use Rattle.transfer.proofs.row.+array_over+list_over+map_elements+struct_over+transfer+transfer_elements+transfer_fields+transfer_over+transfer_row+transfer_taken.Lts-array_over as array-over-lts
 use Rattle.transfer.proofs.row.list_over.Reads as list-over
 use Rattle.transfer.proofs.row.list_over.Kinds as list-over-kinds
-use Rattle.transfer.proofs.row.+array_over+list_over+struct_over+transfer+transfer_elements+transfer_fields+transfer_over+transfer_row+transfer_taken.Lts-list_over as list-over-lts
+use Rattle.transfer.proofs.row.+array_over+list_over+map_elements+struct_over+transfer+transfer_elements+transfer_fields+transfer_over+transfer_row+transfer_taken.Lts-list_over as list-over-lts
+use Rattle.transfer.proofs.row.map_elements.Reads as map-elements
+use Rattle.transfer.proofs.row.map_elements.Kinds as map-elements-kinds
+use Rattle.transfer.proofs.row.+array_over+list_over+map_elements+struct_over+transfer+transfer_elements+transfer_fields+transfer_over+transfer_row+transfer_taken.Lts-map_elements as map-elements-lts
 use Rattle.transfer.proofs.row.struct_over.Reads as struct-over
 use Rattle.transfer.proofs.row.struct_over.Kinds as struct-over-kinds
-use Rattle.transfer.proofs.row.+array_over+list_over+struct_over+transfer+transfer_elements+transfer_fields+transfer_over+transfer_row+transfer_taken.Lts-struct_over as struct-over-lts
+use Rattle.transfer.proofs.row.+array_over+list_over+map_elements+struct_over+transfer+transfer_elements+transfer_fields+transfer_over+transfer_row+transfer_taken.Lts-struct_over as struct-over-lts
 use Rattle.transfer.proofs.row.transfer.Reads as transfer
 use Rattle.transfer.proofs.row.transfer.Kinds as transfer-kinds
-use Rattle.transfer.proofs.row.+array_over+list_over+struct_over+transfer+transfer_elements+transfer_fields+transfer_over+transfer_row+transfer_taken.Lts-transfer as transfer-lts
+use Rattle.transfer.proofs.row.+array_over+list_over+map_elements+struct_over+transfer+transfer_elements+transfer_fields+transfer_over+transfer_row+transfer_taken.Lts-transfer as transfer-lts
 use Rattle.transfer.proofs.row.transfer_elements.Reads as transfer-elements
 use Rattle.transfer.proofs.row.transfer_elements.Kinds as transfer-elements-kinds
-use Rattle.transfer.proofs.row.+array_over+list_over+struct_over+transfer+transfer_elements+transfer_fields+transfer_over+transfer_row+transfer_taken.Lts-transfer_elements as transfer-elements-lts
+use Rattle.transfer.proofs.row.+array_over+list_over+map_elements+struct_over+transfer+transfer_elements+transfer_fields+transfer_over+transfer_row+transfer_taken.Lts-transfer_elements as transfer-elements-lts
 use Rattle.transfer.proofs.row.transfer_fields.Reads as transfer-fields
 use Rattle.transfer.proofs.row.transfer_fields.Kinds as transfer-fields-kinds
-use Rattle.transfer.proofs.row.+array_over+list_over+struct_over+transfer+transfer_elements+transfer_fields+transfer_over+transfer_row+transfer_taken.Lts-transfer_fields as transfer-fields-lts
+use Rattle.transfer.proofs.row.+array_over+list_over+map_elements+struct_over+transfer+transfer_elements+transfer_fields+transfer_over+transfer_row+transfer_taken.Lts-transfer_fields as transfer-fields-lts
 use Rattle.transfer.proofs.row.transfer_over.Reads as transfer-over
 use Rattle.transfer.proofs.row.transfer_over.Kinds as transfer-over-kinds
-use Rattle.transfer.proofs.row.+array_over+list_over+struct_over+transfer+transfer_elements+transfer_fields+transfer_over+transfer_row+transfer_taken.Lts-transfer_over as transfer-over-lts
+use Rattle.transfer.proofs.row.+array_over+list_over+map_elements+struct_over+transfer+transfer_elements+transfer_fields+transfer_over+transfer_row+transfer_taken.Lts-transfer_over as transfer-over-lts
 use Rattle.transfer.proofs.row.transfer_row.Reads as transfer-row
 use Rattle.transfer.proofs.row.transfer_row.Kinds as transfer-row-kinds
-use Rattle.transfer.proofs.row.+array_over+list_over+struct_over+transfer+transfer_elements+transfer_fields+transfer_over+transfer_row+transfer_taken.Lts-transfer_row as transfer-row-lts
+use Rattle.transfer.proofs.row.+array_over+list_over+map_elements+struct_over+transfer+transfer_elements+transfer_fields+transfer_over+transfer_row+transfer_taken.Lts-transfer_row as transfer-row-lts
 use Rattle.transfer.proofs.row.transfer_taken.Reads as transfer-taken
 use Rattle.transfer.proofs.row.transfer_taken.Kinds as transfer-taken-kinds
-use Rattle.transfer.proofs.row.+array_over+list_over+struct_over+transfer+transfer_elements+transfer_fields+transfer_over+transfer_row+transfer_taken.Lts-transfer_taken as transfer-taken-lts
+use Rattle.transfer.proofs.row.+array_over+list_over+map_elements+struct_over+transfer+transfer_elements+transfer_fields+transfer_over+transfer_row+transfer_taken.Lts-transfer_taken as transfer-taken-lts
 use Rattle.index.proofs.columns.field_stride.Reads as field-stride-reads
 use Rattle.index.proofs.row.indexed_value.Reads as indexed-value-reads
 use Rattle.raw.proofs.copy.put_lead.Reads as put-lead-reads
+use Rattle.transfer.proofs.casts.cast_elements.Reads as cast-elements-reads
+use Rattle.transfer.proofs.casts.each_of.Reads as each-of-reads
 use Rattle.transfer.proofs.chain.cast_value.Reads as cast-value-reads
 use Rattle.transfer.proofs.chain.put_chain.Reads as put-chain-reads
 use Rattle.transfer.proofs.chain.transfer_cast.Reads as transfer-cast-reads
@@ -70,10 +76,10 @@ use Rattle.transfer.proofs.row.skip_value.Reads as skip-value-reads
 use Rattle.walk.proofs.head.head.Reads as head-reads
 use Rattle.walk.proofs.head.skip_selector.Reads as skip-selector-reads
 use Rattle.walk.proofs.head.struct_fields.Reads as struct-fields-reads
-use Rattle.transfer.proofs.row.+array_over+list_over+struct_over+transfer+transfer_elements+transfer_fields+transfer_over+transfer_row+transfer_taken.{
+use Rattle.transfer.proofs.row.+array_over+list_over+map_elements+struct_over+transfer+transfer_elements+transfer_fields+transfer_over+transfer_row+transfer_taken.{
   statement,
 }
-use Rattle.transfer.proofs.row.+array_over+list_over+struct_over+transfer+transfer_elements+transfer_fields+transfer_over+transfer_row+transfer_taken.Tie.{
+use Rattle.transfer.proofs.row.+array_over+list_over+map_elements+struct_over+transfer+transfer_elements+transfer_fields+transfer_over+transfer_row+transfer_taken.Tie.{
   close,
 }
 
@@ -82,6 +88,9 @@ abbrev μ-array-over : Measures 5 array-over-kinds.ps ℕ
 
 abbrev μ-list-over : Measures 5 list-over-kinds.ps ℕ
 μ-list-over κs a = 6 * (a .1 .1 .1 .1 .0 .levels) + 3
+
+abbrev μ-map-elements : Measures 5 map-elements-kinds.ps ℕ
+μ-map-elements κs a = 6 * (a .1 .1 .1 .1 .0 .levels) + 2
 
 abbrev μ-struct-over : Measures 5 struct-over-kinds.ps ℕ
 μ-struct-over κs a = 6 * (a .1 .1 .1 .1 .0 .levels) + 3
@@ -118,6 +127,14 @@ list-over-at t = and 5 list-over-kinds.ps (is 5 list-over-kinds.ps μ-list-over 
 abbrev list-over-below : ℕ → In 5 list-over-kinds.ps
 list-over-below t =
     and 5 list-over-kinds.ps (falls 5 list-over-kinds.ps _<_ μ-list-over t) list-over.Pre
+
+abbrev map-elements-at : ℕ → In 5 map-elements-kinds.ps
+map-elements-at t =
+    and 5 map-elements-kinds.ps (is 5 map-elements-kinds.ps μ-map-elements t) map-elements.Pre
+
+abbrev map-elements-below : ℕ → In 5 map-elements-kinds.ps
+map-elements-below t =
+    and 5 map-elements-kinds.ps (falls 5 map-elements-kinds.ps _<_ μ-map-elements t) map-elements.Pre
 
 abbrev struct-over-at : ℕ → In 5 struct-over-kinds.ps
 struct-over-at t =
@@ -216,8 +233,8 @@ array-over-claims t = (
   put-nothing-reads.Learnt,
   put-lead-reads.Asked,
   put-lead-reads.Learnt,
-  transfer-elements-below t,
-  transfer-elements.Post,
+  map-elements-below t,
+  map-elements.Post,
 )
 
 abbrev list-over-claims : ℕ → list-over-lts.Claims
@@ -230,6 +247,16 @@ list-over-claims t = (
   put-nothing-reads.Learnt,
   put-lead-reads.Asked,
   put-lead-reads.Learnt,
+  map-elements-below t,
+  map-elements.Post,
+)
+
+abbrev map-elements-claims : ℕ → map-elements-lts.Claims
+map-elements-claims t = (
+  each-of-reads.Asked,
+  each-of-reads.Learnt,
+  cast-elements-reads.Asked,
+  cast-elements-reads.Learnt,
   transfer-elements-below t,
   transfer-elements.Post,
 )
@@ -349,8 +376,8 @@ array-over-put-lead-requires t c κs =
 array-over-skip-selector-requires-2 : (t : ℕ) → array-over-lts.Need-skip-selector-requires-2 (array-over-claims t) (array-over-at t) array-over.Post
 array-over-skip-selector-requires-2 t c κs = search needs
 
-array-over-transfer-elements-requires : (t : ℕ) → array-over-lts.Need-transfer-elements-requires (array-over-claims t) (array-over-at t) array-over.Post
-array-over-transfer-elements-requires t c κs =
+array-over-map-elements-requires : (t : ℕ) → array-over-lts.Need-map-elements-requires (array-over-claims t) (array-over-at t) array-over.Post
+array-over-map-elements-requires t c κs =
     let c1 = c .before in let c4 = c1 .before .before .before in let c7 = c4 .before .before .before in let c9 = c7 .before .before in let c16 =
     c9 .before .before .before .before .before .before .before in
     let (x, N) = c16 .pre .1 .1 .0 in
@@ -403,7 +430,7 @@ array-over-returns-2 t c =
     λ ρ P K N.
     let O = c12 .open-node .ensures _ N in
     let f = c10 .m .given .1 in
-    reached-end (c13 .skip-selector .ensures P) (array-reached ρ K O f (c7 .put-lead .ensures) (c2 .transfer-elements .ensures (array-row ρ K O f .elements)
+    reached-end (c13 .skip-selector .ensures P) (array-reached ρ K O f (c7 .put-lead .ensures) (c2 .map-elements .ensures (array-row ρ K O f .elements)
     (selector-moved (K .element) (c4 .skip-selector2 .ensures (K .input)))))
 
 array-over-returns-3 : (t : ℕ) → array-over-lts.Need-returns-3 (array-over-claims t) (array-over-at t) array-over.Post
@@ -440,8 +467,8 @@ list-over-put-lead-requires t c κs =
 list-over-skip-selector-requires-2 : (t : ℕ) → list-over-lts.Need-skip-selector-requires-2 (list-over-claims t) (list-over-at t) list-over.Post
 list-over-skip-selector-requires-2 t c κs = search needs
 
-list-over-transfer-elements-requires : (t : ℕ) → list-over-lts.Need-transfer-elements-requires (list-over-claims t) (list-over-at t) list-over.Post
-list-over-transfer-elements-requires t c κs =
+list-over-map-elements-requires : (t : ℕ) → list-over-lts.Need-map-elements-requires (list-over-claims t) (list-over-at t) list-over.Post
+list-over-map-elements-requires t c κs =
     let c1 = c .before in let c4 = c1 .before .before .before in let c7 = c4 .before .before .before in let c9 = c7 .before .before in let c16 =
     c9 .before .before .before .before .before .before .before in
     let (x, N) = c16 .pre .1 .1 .0 in
@@ -494,7 +521,7 @@ list-over-returns-2 t c =
     λ ρ P K N.
     let O = c12 .open-node .ensures _ N in
     let f = c10 .m .given .1 in
-    reached-end (c13 .skip-selector .ensures P) (list-reached ρ K O f (c7 .put-lead .ensures) (c2 .transfer-elements .ensures (list-row ρ K O f .elements)
+    reached-end (c13 .skip-selector .ensures P) (list-reached ρ K O f (c7 .put-lead .ensures) (c2 .map-elements .ensures (list-row ρ K O f .elements)
     (selector-moved (K .element) (c4 .skip-selector2 .ensures (K .input)))))
 
 list-over-returns-3 : (t : ℕ) → list-over-lts.Need-returns-3 (list-over-claims t) (list-over-at t) list-over.Post
@@ -505,6 +532,43 @@ list-over-returns-4 t c = λ ρ P K N. unknown
 
 list-over-returns-5 : (t : ℕ) → list-over-lts.Need-returns-5 (list-over-claims t) (list-over-at t) list-over.Post
 list-over-returns-5 t c = λ ρ P K N. unknown
+
+map-elements-each-of-requires : (t : ℕ) → map-elements-lts.Need-each-of-requires (map-elements-claims t) (map-elements-at t) map-elements.Post
+map-elements-each-of-requires t c κs =
+    search needs
+
+map-elements-enum-known-to : (t : ℕ) → map-elements-lts.Need-enum-known-to (map-elements-claims t) (map-elements-at t) map-elements.Post
+map-elements-enum-known-to t c =
+    search needs
+
+map-elements-cast-elements-requires : (t : ℕ) → map-elements-lts.Need-cast-elements-requires (map-elements-claims t) (map-elements-at t) map-elements.Post
+map-elements-cast-elements-requires t c κs =
+    search needs
+
+map-elements-enum-told : (t : ℕ) → map-elements-lts.Need-enum-told (map-elements-claims t) (map-elements-at t) map-elements.Post
+map-elements-enum-told t c =
+    search needs
+
+map-elements-transfer-elements-requires : (t : ℕ) → map-elements-lts.Need-transfer-elements-requires (map-elements-claims t) (map-elements-at t) map-elements.Post
+map-elements-transfer-elements-requires t c κs =
+    search needs
+
+map-elements-same-length : (t : ℕ) → map-elements-lts.Need-same-length (map-elements-claims t) (map-elements-at t) map-elements.Post
+map-elements-same-length t c =
+    search needs
+
+map-elements-returns : (t : ℕ) → map-elements-lts.Need-returns (map-elements-claims t) (map-elements-at t) map-elements.Post
+map-elements-returns t c =
+    let c2 = c .before .before in let c5 = c2 .before .before .before in let c7 = c5 .before .before in
+    λ X P. casts-are X P (c7 .each-of .ensures P) (c5 .to .given .1) (c2 .cast-elements .ensures X)
+
+map-elements-same-length-2 : (t : ℕ) → map-elements-lts.Need-same-length-2 (map-elements-claims t) (map-elements-at t) map-elements.Post
+map-elements-same-length-2 t c =
+    search needs
+
+map-elements-returns-2 : (t : ℕ) → map-elements-lts.Need-returns-2 (map-elements-claims t) (map-elements-at t) map-elements.Post
+map-elements-returns-2 t c =
+    search needs
 
 struct-over-open-node-requires : (t : ℕ) → struct-over-lts.Need-open-node-requires (struct-over-claims t) (struct-over-at t) struct-over.Post
 struct-over-open-node-requires t c κs = search needs
@@ -1264,12 +1328,13 @@ transfer-taken-returns t c =
 transfer-taken-returns-2 : (t : ℕ) → transfer-taken-lts.Need-returns-2 (transfer-taken-claims t) (transfer-taken-at t) transfer-taken.Post
 transfer-taken-returns-2 t c = λ ρ P I N. unknown
 
-pub +array-over+list-over+struct-over+transfer+transfer-elements+transfer-fields+transfer-over+transfer-row+transfer-taken-spec :
+pub +array-over+list-over+map-elements+struct-over+transfer+transfer-elements+transfer-fields+transfer-over+transfer-row+transfer-taken-spec :
     {M : Type 1} → statement M
-+array-over+list-over+struct-over+transfer+transfer-elements+transfer-fields+transfer-over+transfer-row+transfer-taken-spec =
++array-over+list-over+map-elements+struct-over+transfer+transfer-elements+transfer-fields+transfer-over+transfer-row+transfer-taken-spec =
     close
     μ-array-over
     μ-list-over
+    μ-map-elements
     μ-struct-over
     μ-transfer
     μ-transfer-elements
@@ -1287,7 +1352,7 @@ pub +array-over+list-over+struct-over+transfer+transfer-elements+transfer-fields
     (array-over-enum-known-m t)
     (array-over-put-lead-requires t)
     (array-over-skip-selector-requires-2 t)
-    (array-over-transfer-elements-requires t)
+    (array-over-map-elements-requires t)
     (array-over-enum-told-2 t)
     (array-over-enum-told-3 t)
     (array-over-enum-told-4 t)
@@ -1308,7 +1373,7 @@ pub +array-over+list-over+struct-over+transfer+transfer-elements+transfer-fields
     (list-over-enum-known-m t)
     (list-over-put-lead-requires t)
     (list-over-skip-selector-requires-2 t)
-    (list-over-transfer-elements-requires t)
+    (list-over-map-elements-requires t)
     (list-over-enum-told-2 t)
     (list-over-enum-told-3 t)
     (list-over-enum-told-4 t)
@@ -1319,6 +1384,18 @@ pub +array-over+list-over+struct-over+transfer+transfer-elements+transfer-fields
     (list-over-returns-3 t)
     (list-over-returns-4 t)
     (list-over-returns-5 t))
+    (λ t. map-elements-lts.spec (map-elements-claims t)
+    (map-elements-at t)
+    map-elements.Post
+    (map-elements-each-of-requires t)
+    (map-elements-enum-known-to t)
+    (map-elements-cast-elements-requires t)
+    (map-elements-enum-told t)
+    (map-elements-transfer-elements-requires t)
+    (map-elements-same-length t)
+    (map-elements-returns t)
+    (map-elements-same-length-2 t)
+    (map-elements-returns-2 t))
     (λ t. struct-over-lts.spec (struct-over-claims t)
     (struct-over-at t)
     struct-over.Post
