@@ -75,7 +75,6 @@ static void slow_runs(void) {
     expect_sevens(2000);
 }
 
-<<<<<<< HEAD
 /* Columns of date-times in milliseconds, each cast strictly to nanoseconds. One pass settles all selectors but one: the
  * last cast, whose time is too large; or, beside the casts, a list made of lists that are together longer than an
  * output. */
@@ -114,7 +113,8 @@ static void slow_tops(void) {
         if (checked != 0 || check > 1000 || (listed && (output[9 * TIMES] != 1 || output[9 * TIMES + 2 * ELEMENTS + 2] != 7)))
             failed = 1;
     }
-=======
+}
+
 /* Empty arrays of a wide struct through list mappings, each of which is the input of the next. */
 static void mapped_arrays(int mappings) {
     char name[80];
@@ -130,5 +130,4 @@ static void mapped_arrays(int mappings) {
     expect(name, 0);
     if (memcmp(output, record.bytes, record.length) != 0)
         failed = 1;
->>>>>>> 4c7132bf35a820028c9bca7a6617ac64c02a4118
 }
