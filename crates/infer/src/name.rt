@@ -2,6 +2,7 @@
 ghost use mathlib.Core.Path.{_≡_};
 ghost use Prim.Native.Nat.{_+_, _≤_, _<_};
 ghost use lib.ListN.{length};
+ghost use Rattle.layout.specs.Limits.{longestPlan};
 ghost use Rattle.layout.specs.Bytes.{Bytes};
 ghost use Rattle.forms.specs.Form.{textBytes};
 ghost use Rattle.forms.specs.code.Readable.{ShortText};
@@ -71,7 +72,7 @@ pub fn infer_name(s: &[u8], source: Source, index: &[u16], plan: &[u8], c: Curso
 // Writes the name, its length first, and answers where it ends; 0 where there is no room.
 pub fn write_name(s: &[u8], plan: &[u8], name: Name, out: &mut [u8], k: usize) -> usize
     requires { ⌜ ((b : Bytes) × NameAt (now s) (now plan) name b × ShortText b) ⌝ }
-    requires { ⌜ (length (now s) ≤ 65536) × (length (now plan) ≤ 65536) × (length (now out) ≤ 65536) × (k ≤ length (now out)) ⌝ }
+    requires { ⌜ (length (now s) ≤ longestPlan) × (length (now plan) ≤ longestPlan) × (length (now out) ≤ longestPlan) × (k ≤ length (now out)) ⌝ }
     ensures { λ r. ⌜ ((b : Bytes) → NameAt (now (s .entry)) (now (plan .entry)) name b → 0 < r → (r ≡ k + length (textBytes b)) × Fills (textBytes b) (now (out .entry)) k (now (out .exit))) ⌝ }
 {
     let place = name.place;

@@ -3,6 +3,7 @@
 ghost use mathlib.Core.Path.{_≡_};
 ghost use Prim.Native.Nat.{ℕ, _+_, _≤_};
 ghost use lib.ListN.{length};
+ghost use Rattle.layout.specs.Limits.{longestPlan, deepest};
 ghost use Rattle.layout.specs.Bytes.{Bytes};
 ghost use Rattle.layout.specs.Tree.{Fields, dtypeOf};
 ghost use Rattle.layout.specs.code.Stands.{TypeAt};
@@ -54,10 +55,10 @@ fn cast_over(
     out: &mut [u8],
     k: usize,
 ) -> Inferred
-    requires { ⌜ TypeAt v 16 (now s) (d .at) ⌝ }
+    requires { ⌜ TypeAt v deepest (now s) (d .at) ⌝ }
     requires { ⌜ ((at : ℕ) × (P : SelectorAt (now plan) at) × CastAt (now plan) at P (input .at)) ⌝ }
-    requires { ⌜ (length (now s) ≤ 65536) × (length (now plan) ≤ 65536) × (length (now out) ≤ 65536) × (k ≤ length (now out)) × (depth ≤ 16) ⌝ }
-    ensures { λ r. ⌜ ((T : TypeAt v 16 (now (s .entry)) (d .at)) (at : ℕ) (P : SelectorAt (now (plan .entry)) at) (S : CastAt (now (plan .entry)) at P (input .at)) (Γ : Fields) (n : Bytes) → typeOf Γ (S .input .tree) ≡ gives (column n (dtypeOf (T .tree))) → InferredIs (typeOf Γ (P .tree)) depth (now (out .entry)) k r (now (out .exit))) ⌝ }
+    requires { ⌜ (length (now s) ≤ longestPlan) × (length (now plan) ≤ longestPlan) × (length (now out) ≤ longestPlan) × (k ≤ length (now out)) × (depth ≤ deepest) ⌝ }
+    ensures { λ r. ⌜ ((T : TypeAt v deepest (now (s .entry)) (d .at)) (at : ℕ) (P : SelectorAt (now (plan .entry)) at) (S : CastAt (now (plan .entry)) at P (input .at)) (Γ : Fields) (n : Bytes) → typeOf Γ (S .input .tree) ≡ gives (column n (dtypeOf (T .tree))) → InferredIs (typeOf Γ (P .tree)) depth (now (out .entry)) k r (now (out .exit))) ⌝ }
 {
     let t = skip_selector(plan, input);
     if !type_fits(s, v, d, plan, t, cast_option(plan, t)) {
@@ -79,7 +80,7 @@ fn infer_column(
 ) -> Inferred
     requires { ⌜ SourceAt (now s) source (now index) ⌝ }
     requires { ⌜ SelectorAt (now plan) (c .at) ⌝ }
-    requires { ⌜ (length (now s) ≤ 65536) × (length (now plan) ≤ 65536) × (length (now out) ≤ 65536) × (k ≤ length (now out)) × (depth ≤ 16) ⌝ }
+    requires { ⌜ (length (now s) ≤ longestPlan) × (length (now plan) ≤ longestPlan) × (length (now out) ≤ longestPlan) × (k ≤ length (now out)) × (depth ≤ deepest) ⌝ }
     ensures { λ r. ⌜ ((X : SourceAt (now (s .entry)) source (now (index .entry))) (P : SelectorAt (now (plan .entry)) (c .at)) → ColumnIs (typeOf (X .fields) (P .tree)) depth (now (out .entry)) k r (now (out .exit))) ⌝ }
 {
     match infer_name(s, source, index, plan, c) {
@@ -109,7 +110,7 @@ fn infer_fields(
 ) -> Inferred
     requires { ⌜ SourceAt (now s) source (now index) ⌝ }
     requires { ⌜ SelectorsAt (now plan) (fields .count) (fields .first .at) ⌝ }
-    requires { ⌜ (length (now s) ≤ 65536) × (length (now plan) ≤ 65536) × (length (now out) ≤ 65536) × (k ≤ length (now out)) × (depth ≤ 16) ⌝ }
+    requires { ⌜ (length (now s) ≤ longestPlan) × (length (now plan) ≤ longestPlan) × (length (now out) ≤ longestPlan) × (k ≤ length (now out)) × (depth ≤ deepest) ⌝ }
     ensures { λ r. ⌜ ((X : SourceAt (now (s .entry)) source (now (index .entry))) (S : SelectorsAt (now (plan .entry)) (fields .count) (fields .first .at)) → FieldsIs (typesOf (X .fields) (S .trees)) (fields .count) depth (now (out .entry)) k r (now (out .exit))) ⌝ }
 {
     let count = fields.count;
@@ -140,10 +141,10 @@ fn struct_over(
     out: &mut [u8],
     k: usize,
 ) -> Inferred
-    requires { ⌜ TypeAt v 16 (now s) (d .at) ⌝ }
+    requires { ⌜ TypeAt v deepest (now s) (d .at) ⌝ }
     requires { ⌜ ((at : ℕ) × (P : SelectorAt (now plan) at) × StructAt (now plan) at P (input .at)) ⌝ }
-    requires { ⌜ (length (now s) ≤ 65536) × (length (now plan) ≤ 65536) × (length (now out) ≤ 65536) × (k ≤ length (now out)) × (depth ≤ 15) ⌝ }
-    ensures { λ r. ⌜ ((T : TypeAt v 16 (now (s .entry)) (d .at)) (at : ℕ) (P : SelectorAt (now (plan .entry)) at) (S : StructAt (now (plan .entry)) at P (input .at)) (Γ : Fields) (n : Bytes) → typeOf Γ (S .input .tree) ≡ gives (column n (dtypeOf (T .tree))) → InferredIs (typeOf Γ (P .tree)) (depth + 1) (now (out .entry)) k r (now (out .exit))) ⌝ }
+    requires { ⌜ (length (now s) ≤ longestPlan) × (length (now plan) ≤ longestPlan) × (length (now out) ≤ longestPlan) × (k ≤ length (now out)) × (depth ≤ 15) ⌝ }
+    ensures { λ r. ⌜ ((T : TypeAt v deepest (now (s .entry)) (d .at)) (at : ℕ) (P : SelectorAt (now (plan .entry)) at) (S : StructAt (now (plan .entry)) at P (input .at)) (Γ : Fields) (n : Bytes) → typeOf Γ (S .input .tree) ≡ gives (column n (dtypeOf (T .tree))) → InferredIs (typeOf Γ (P .tree)) (depth + 1) (now (out .entry)) k r (now (out .exit))) ⌝ }
 {
     match inside_of(s, v, d) {
         Inside::Struct(n, x) => {
@@ -180,10 +181,10 @@ fn list_over(
     out: &mut [u8],
     k: usize,
 ) -> Inferred
-    requires { ⌜ TypeAt v 16 (now s) (d .at) ⌝ }
+    requires { ⌜ TypeAt v deepest (now s) (d .at) ⌝ }
     requires { ⌜ ((at : ℕ) × (P : SelectorAt (now plan) at) × ListAt (now plan) at P (input .at)) ⌝ }
-    requires { ⌜ (length (now s) ≤ 65536) × (length (now plan) ≤ 65536) × (length (now out) ≤ 65536) × (k ≤ length (now out)) × (depth ≤ 15) ⌝ }
-    ensures { λ r. ⌜ ((T : TypeAt v 16 (now (s .entry)) (d .at)) (at : ℕ) (P : SelectorAt (now (plan .entry)) at) (S : ListAt (now (plan .entry)) at P (input .at)) (Γ : Fields) (n : Bytes) → typeOf Γ (S .input .tree) ≡ gives (column n (dtypeOf (T .tree))) → InferredIs (typeOf Γ (P .tree)) (depth + 1) (now (out .entry)) k r (now (out .exit))) ⌝ }
+    requires { ⌜ (length (now s) ≤ longestPlan) × (length (now plan) ≤ longestPlan) × (length (now out) ≤ longestPlan) × (k ≤ length (now out)) × (depth ≤ 15) ⌝ }
+    ensures { λ r. ⌜ ((T : TypeAt v deepest (now (s .entry)) (d .at)) (at : ℕ) (P : SelectorAt (now (plan .entry)) at) (S : ListAt (now (plan .entry)) at P (input .at)) (Γ : Fields) (n : Bytes) → typeOf Γ (S .input .tree) ≡ gives (column n (dtypeOf (T .tree))) → InferredIs (typeOf Γ (P .tree)) (depth + 1) (now (out .entry)) k r (now (out .exit))) ⌝ }
 {
     match inside_of(s, v, d) {
         Inside::List(x) => {
@@ -216,10 +217,10 @@ fn array_over(
     out: &mut [u8],
     k: usize,
 ) -> Inferred
-    requires { ⌜ TypeAt v 16 (now s) (d .at) ⌝ }
+    requires { ⌜ TypeAt v deepest (now s) (d .at) ⌝ }
     requires { ⌜ ((at : ℕ) × (P : SelectorAt (now plan) at) × ArrayAt (now plan) at P (input .at)) ⌝ }
-    requires { ⌜ (length (now s) ≤ 65536) × (length (now plan) ≤ 65536) × (length (now out) ≤ 65536) × (k ≤ length (now out)) × (depth ≤ 15) ⌝ }
-    ensures { λ r. ⌜ ((T : TypeAt v 16 (now (s .entry)) (d .at)) (at : ℕ) (P : SelectorAt (now (plan .entry)) at) (S : ArrayAt (now (plan .entry)) at P (input .at)) (Γ : Fields) (n : Bytes) → typeOf Γ (S .input .tree) ≡ gives (column n (dtypeOf (T .tree))) → InferredIs (typeOf Γ (P .tree)) (depth + 1) (now (out .entry)) k r (now (out .exit))) ⌝ }
+    requires { ⌜ (length (now s) ≤ longestPlan) × (length (now plan) ≤ longestPlan) × (length (now out) ≤ longestPlan) × (k ≤ length (now out)) × (depth ≤ 15) ⌝ }
+    ensures { λ r. ⌜ ((T : TypeAt v deepest (now (s .entry)) (d .at)) (at : ℕ) (P : SelectorAt (now (plan .entry)) at) (S : ArrayAt (now (plan .entry)) at P (input .at)) (Γ : Fields) (n : Bytes) → typeOf Γ (S .input .tree) ≡ gives (column n (dtypeOf (T .tree))) → InferredIs (typeOf Γ (P .tree)) (depth + 1) (now (out .entry)) k r (now (out .exit))) ⌝ }
 {
     match inside_of(s, v, d) {
         Inside::Array(w, x) => {
@@ -252,10 +253,10 @@ pub fn infer_over(
     out: &mut [u8],
     k: usize,
 ) -> Inferred
-    requires { ⌜ TypeAt v 16 (now s) (d .at) ⌝ }
+    requires { ⌜ TypeAt v deepest (now s) (d .at) ⌝ }
     requires { ⌜ SelectorAt (now plan) (c .at) ⌝ }
-    requires { ⌜ (length (now s) ≤ 65536) × (length (now plan) ≤ 65536) × (length (now out) ≤ 65536) × (k ≤ length (now out)) × (depth ≤ 16) ⌝ }
-    ensures { λ r. ⌜ ((T : TypeAt v 16 (now (s .entry)) (d .at)) (P : SelectorAt (now (plan .entry)) (c .at)) (Γ : Fields) (n : Bytes) → typeOf Γ (inputOf (P .tree)) ≡ gives (column n (dtypeOf (T .tree))) → InferredIs (typeOf Γ (P .tree)) depth (now (out .entry)) k r (now (out .exit))) ⌝ }
+    requires { ⌜ (length (now s) ≤ longestPlan) × (length (now plan) ≤ longestPlan) × (length (now out) ≤ longestPlan) × (k ≤ length (now out)) × (depth ≤ deepest) ⌝ }
+    ensures { λ r. ⌜ ((T : TypeAt v deepest (now (s .entry)) (d .at)) (P : SelectorAt (now (plan .entry)) (c .at)) (Γ : Fields) (n : Bytes) → typeOf Γ (inputOf (P .tree)) ≡ gives (column n (dtypeOf (T .tree))) → InferredIs (typeOf Γ (P .tree)) depth (now (out .entry)) k r (now (out .exit))) ⌝ }
 {
     if depth == 0 {
         return Inferred::Unknown;
@@ -286,7 +287,7 @@ pub fn infer_leaf(
 ) -> Inferred
     requires { ⌜ SourceAt (now s) source (now index) ⌝ }
     requires { ⌜ SelectorAt (now plan) (c .at) ⌝ }
-    requires { ⌜ (length (now s) ≤ 65536) × (length (now plan) ≤ 65536) × (length (now out) ≤ 65536) × (k ≤ length (now out)) × (depth ≤ 16) ⌝ }
+    requires { ⌜ (length (now s) ≤ longestPlan) × (length (now plan) ≤ longestPlan) × (length (now out) ≤ longestPlan) × (k ≤ length (now out)) × (depth ≤ deepest) ⌝ }
     ensures { λ r. ⌜ ((X : SourceAt (now (s .entry)) source (now (index .entry))) (P : SelectorAt (now (plan .entry)) (c .at)) → InferredIs (typeOf (X .fields) (P .tree)) depth (now (out .entry)) k r (now (out .exit))) ⌝ }
 {
     let v = source.edition;
@@ -313,7 +314,7 @@ fn infer_selector(
 ) -> Inferred
     requires { ⌜ SourceAt (now s) source (now index) ⌝ }
     requires { ⌜ SelectorAt (now plan) (c .at) ⌝ }
-    requires { ⌜ (length (now s) ≤ 65536) × (length (now plan) ≤ 65536) × (length (now out) ≤ 65536) × (k ≤ length (now out)) × (depth ≤ 16) ⌝ }
+    requires { ⌜ (length (now s) ≤ longestPlan) × (length (now plan) ≤ longestPlan) × (length (now out) ≤ longestPlan) × (k ≤ length (now out)) × (depth ≤ deepest) ⌝ }
     ensures { λ r. ⌜ ((X : SourceAt (now (s .entry)) source (now (index .entry))) (P : SelectorAt (now (plan .entry)) (c .at)) → InferredIs (typeOf (X .fields) (P .tree)) depth (now (out .entry)) k r (now (out .exit))) ⌝ }
 {
     let v = source.edition;

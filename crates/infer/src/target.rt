@@ -3,6 +3,7 @@ ghost use mathlib.Core.Path.{_≡_};
 ghost use mathlib.Core.Bool.{true};
 ghost use Prim.Native.Nat.{_≤_};
 ghost use lib.ListN.{length};
+ghost use Rattle.layout.specs.Limits.{longest, longestPlan, deepest};
 ghost use Rattle.layout.specs.Bytes.{Bytes};
 ghost use Rattle.layout.specs.Tree.{dtypeOf, fieldsOf};
 ghost use Rattle.layout.specs.code.Answers.{spanAt, spanIn};
@@ -34,6 +35,10 @@ use layout::columns::ColumnRange;
 use layout::columns::Labelled;
 use layout::cursor::Cursor;
 use layout::edition::Edition;
+use layout::limits::DEEPEST;
+use layout::limits::DEEPEST_SELECTOR;
+use layout::limits::LONGEST;
+use layout::limits::LONGEST_PLAN;
 use walk::head::skip_selector;
 
 // Whether the type at the start of `out`, if the selector at `c` gave one, is the target's, and where both end.
@@ -46,15 +51,24 @@ fn fit_inferred(
     place: TargetPlace,
 ) -> FitEnd
     requires { ⌜ SelectorAt (now plan) (c .at) ⌝ }
-    requires { ⌜ TypeAt (place .edition) 16 (now target) (place .at .at) ⌝ }
-    requires { ⌜ ((a : Result Column) × (b : Bytes) × InferredIs a 16 b 0 r (now out)) ⌝ }
-    ensures { λ q. ⌜ ((a : Result Column) (b : Bytes) → InferredIs a 16 b 0 r (now (out .entry)) → (P : SelectorAt (now (plan .entry)) (c .at)) (T : TypeAt (place .edition) 16 (now (target .entry)) (place .at .at)) → TypedIs a (P .end) (dtypeOf (T .tree)) (T .end) q) ⌝ }
+    requires { ⌜ TypeAt (place .edition) deepest (now target) (place .at .at) ⌝ }
+    requires { ⌜ ((a : Result Column) × (b : Bytes) × InferredIs a deepest b 0 r (now out)) ⌝ }
+    ensures { λ q. ⌜ ((a : Result Column) (b : Bytes) → InferredIs a deepest b 0 r (now (out .entry)) → (P : SelectorAt (now (plan .entry)) (c .at)) (T : TypeAt (place .edition) deepest (now (target .entry)) (place .at .at)) → TypedIs a (P .end) (dtypeOf (T .tree)) (T .end) q) ⌝ }
 {
     match r {
         Inferred::Is(_) => {
             let start = Cursor { at: 0 };
             let vt = place.edition;
-            match same_type(out, Edition::One, 16, start, target, vt, 16, place.at) {
+            match same_type(
+                out,
+                Edition::One,
+                DEEPEST,
+                start,
+                target,
+                vt,
+                DEEPEST,
+                place.at,
+            ) {
                 Same::To(_, f) => FitEnd::At(skip_selector(plan, c), f),
                 Same::No => FitEnd::Unknown,
             }
@@ -74,12 +88,21 @@ fn fit_small(
     place: TargetPlace,
 ) -> FitEnd
     requires { ⌜ FitFrom (now s) source (now index) (now plan) (c .at) (now target) place ⌝ }
-    requires { ⌜ (length (now s) ≤ 65536) × (length (now plan) ≤ 65536) ⌝ }
+    requires { ⌜ (length (now s) ≤ longestPlan) × (length (now plan) ≤ longestPlan) ⌝ }
     ensures { λ r. ⌜ ((A : FitFrom (now (s .entry)) source (now (index .entry)) (now (plan .entry)) (c .at) (now (target .entry)) place) → FitsType A r) ⌝ }
 {
     let mut out: [u8; 256] = [0; 256];
     let mut other: [u8; 256] = [0; 256];
-    let r = compose_type(s, source, index, plan, c, 64, &mut out, &mut other);
+    let r = compose_type(
+        s,
+        source,
+        index,
+        plan,
+        c,
+        DEEPEST_SELECTOR,
+        &mut out,
+        &mut other,
+    );
     fit_inferred(r, &out, plan, c, target, place)
 }
 
@@ -94,12 +117,21 @@ fn fit_large(
     place: TargetPlace,
 ) -> FitEnd
     requires { ⌜ FitFrom (now s) source (now index) (now plan) (c .at) (now target) place ⌝ }
-    requires { ⌜ (length (now s) ≤ 65536) × (length (now plan) ≤ 65536) ⌝ }
+    requires { ⌜ (length (now s) ≤ longestPlan) × (length (now plan) ≤ longestPlan) ⌝ }
     ensures { λ r. ⌜ ((A : FitFrom (now (s .entry)) source (now (index .entry)) (now (plan .entry)) (c .at) (now (target .entry)) place) → FitsType A r) ⌝ }
 {
     let mut out: [u8; 16384] = [0; 16384];
     let mut other: [u8; 16384] = [0; 16384];
-    let r = compose_type(s, source, index, plan, c, 64, &mut out, &mut other);
+    let r = compose_type(
+        s,
+        source,
+        index,
+        plan,
+        c,
+        DEEPEST_SELECTOR,
+        &mut out,
+        &mut other,
+    );
     fit_inferred(r, &out, plan, c, target, place)
 }
 
@@ -136,7 +168,7 @@ fn fit_inputs(
     place: TargetPlace,
 ) -> FitEnd
     requires { ⌜ ColumnFitFrom (now s) source (now index) (now plan) (c .at) (now target) place ⌝ }
-    requires { ⌜ (length (now s) ≤ 65536) × (length (now plan) ≤ 65536) ⌝ }
+    requires { ⌜ (length (now s) ≤ longestPlan) × (length (now plan) ≤ longestPlan) ⌝ }
     ensures { λ r. ⌜ ((A : ColumnFitFrom (now (s .entry)) source (now (index .entry)) (now (plan .entry)) (c .at) (now (target .entry)) place) → FitsColumn A r) ⌝ }
 {
     let vt = place.edition;
@@ -168,10 +200,10 @@ pub fn fit_top(
     place: TargetPlace,
 ) -> FitEnd
     requires { ⌜ ColumnFitFrom (now s) source (now index) (now plan) (c .at) (now target) place ⌝ }
-    requires { ⌜ (length (now s) ≤ 65536) × (length (now plan) ≤ 65536) ⌝ }
+    requires { ⌜ (length (now s) ≤ longestPlan) × (length (now plan) ≤ longestPlan) ⌝ }
     ensures { λ r. ⌜ ((A : ColumnFitFrom (now (s .entry)) source (now (index .entry)) (now (plan .entry)) (c .at) (now (target .entry)) place) → FitsColumn A r) ⌝ }
 {
-    match fit_column(s, source, index, plan, c, target, place, 64) {
+    match fit_column(s, source, index, plan, c, target, place, DEEPEST_SELECTOR) {
         FitEnd::At(e, f) => FitEnd::At(e, f),
         FitEnd::Unknown => fit_inputs(s, source, index, plan, c, target, place),
     }
@@ -188,7 +220,7 @@ fn fit_tops(
     columns: ColumnRange,
 ) -> FitEnd
     requires { ⌜ FieldsFitFrom (now s) source (now index) (now plan) (c .at) (now target) columns ⌝ }
-    requires { ⌜ (length (now s) ≤ 65536) × (length (now plan) ≤ 65536) ⌝ }
+    requires { ⌜ (length (now s) ≤ longestPlan) × (length (now plan) ≤ longestPlan) ⌝ }
     ensures { λ r. ⌜ ((A : FieldsFitFrom (now (s .entry)) source (now (index .entry)) (now (plan .entry)) (c .at) (now (target .entry)) columns) → FitsFields A r) ⌝ }
 {
     let vt = columns.edition;
@@ -220,11 +252,11 @@ fn fits_few(
     vt: Edition,
     m: u16,
 ) -> bool
-    requires { ⌜ ColumnsAt v 16 (now incoming) n 7 ⌝ }
+    requires { ⌜ ColumnsAt v deepest (now incoming) n 7 ⌝ }
     requires { ⌜ SelectorsAt (now plan) m 7 ⌝ }
-    requires { ⌜ ColumnsAt vt 16 (now target) m 7 ⌝ }
-    requires { ⌜ (length (now incoming) ≤ 65536) × (length (now plan) ≤ 65536) × (length (now target) ≤ 16384) ⌝ }
-    ensures { λ r. ⌜ (r ≡ true → (P : ColumnsAt v 16 (now (incoming .entry)) n 7) (S : SelectorsAt (now (plan .entry)) m 7) (Q : ColumnsAt vt 16 (now (target .entry)) m 7) → typesOf (fieldsOf (P .columns)) (S .trees) ≡ gives (fieldsOf (Q .columns))) ⌝ }
+    requires { ⌜ ColumnsAt vt deepest (now target) m 7 ⌝ }
+    requires { ⌜ (length (now incoming) ≤ longestPlan) × (length (now plan) ≤ longestPlan) × (length (now target) ≤ longest) ⌝ }
+    ensures { λ r. ⌜ (r ≡ true → (P : ColumnsAt v deepest (now (incoming .entry)) n 7) (S : SelectorsAt (now (plan .entry)) m 7) (Q : ColumnsAt vt deepest (now (target .entry)) m 7) → typesOf (fieldsOf (P .columns)) (S .trees) ≡ gives (fieldsOf (Q .columns))) ⌝ }
 {
     let first = Cursor { at: 7 };
     let none: [u16; 1] = [0; 1];
@@ -256,11 +288,11 @@ fn fits_many(
     vt: Edition,
     m: u16,
 ) -> bool
-    requires { ⌜ ColumnsAt v 16 (now incoming) n 7 ⌝ }
+    requires { ⌜ ColumnsAt v deepest (now incoming) n 7 ⌝ }
     requires { ⌜ SelectorsAt (now plan) m 7 ⌝ }
-    requires { ⌜ ColumnsAt vt 16 (now target) m 7 ⌝ }
-    requires { ⌜ (length (now incoming) ≤ 65536) × (length (now plan) ≤ 65536) × (length (now target) ≤ 16384) ⌝ }
-    ensures { λ r. ⌜ (r ≡ true → (P : ColumnsAt v 16 (now (incoming .entry)) n 7) (S : SelectorsAt (now (plan .entry)) m 7) (Q : ColumnsAt vt 16 (now (target .entry)) m 7) → typesOf (fieldsOf (P .columns)) (S .trees) ≡ gives (fieldsOf (Q .columns))) ⌝ }
+    requires { ⌜ ColumnsAt vt deepest (now target) m 7 ⌝ }
+    requires { ⌜ (length (now incoming) ≤ longestPlan) × (length (now plan) ≤ longestPlan) × (length (now target) ≤ longest) ⌝ }
+    ensures { λ r. ⌜ (r ≡ true → (P : ColumnsAt v deepest (now (incoming .entry)) n 7) (S : SelectorsAt (now (plan .entry)) m 7) (Q : ColumnsAt vt deepest (now (target .entry)) m 7) → typesOf (fieldsOf (P .columns)) (S .trees) ≡ gives (fieldsOf (Q .columns))) ⌝ }
 {
     let first = Cursor { at: 7 };
     let stride = stride_of(n);
@@ -297,21 +329,21 @@ pub fn fits_target(
     vt: Edition,
     m: u16,
 ) -> bool
-    requires { ⌜ ColumnsAt v 16 (now incoming) n 7 ⌝ }
+    requires { ⌜ ColumnsAt v deepest (now incoming) n 7 ⌝ }
     requires { ⌜ SelectorsAt (now plan) count 7 ⌝ }
-    requires { ⌜ ColumnsAt vt 16 (now target) m 7 ⌝ }
-    ensures { λ r. ⌜ (r ≡ true → (P : ColumnsAt v 16 (now (incoming .entry)) n 7) (S : SelectorsAt (now (plan .entry)) count 7) (Q : ColumnsAt vt 16 (now (target .entry)) m 7) → check (fieldsOf (P .columns)) (fieldsOf (Q .columns)) (S .trees) ≡ accepted tt) ⌝ }
+    requires { ⌜ ColumnsAt vt deepest (now target) m 7 ⌝ }
+    ensures { λ r. ⌜ (r ≡ true → (P : ColumnsAt v deepest (now (incoming .entry)) n 7) (S : SelectorsAt (now (plan .entry)) count 7) (Q : ColumnsAt vt deepest (now (target .entry)) m 7) → check (fieldsOf (P .columns)) (fieldsOf (Q .columns)) (S .trees) ≡ accepted tt) ⌝ }
 {
     if count != m {
         return false;
     }
-    if 16384 < target.len() {
+    if LONGEST < target.len() {
         return false;
     }
-    if 65536 < incoming.len() {
+    if LONGEST_PLAN < incoming.len() {
         return false;
     }
-    if 65536 < plan.len() {
+    if LONGEST_PLAN < plan.len() {
         return false;
     }
     if few(n, count) {

@@ -5,15 +5,14 @@ use native.Mathlib.Omega.{arith}
 use Rattle.layout.specs.Bytes.{Bytes}
 use Rattle.layout.specs.Parser.{u16}
 use Rattle.layout.specs.Tree.{DataType, dtypeOf}
-use Rattle.layout.specs.Layout.{kind, elementLabel}
-use Rattle.layout.specs.code.Answers.{shortRes, headRes, labelRes}
+use Rattle.layout.specs.code.Answers.{shortRes}
+use Rattle.layout.specs.code.Parts.{PartsIs}
 use Rattle.layout.specs.declared.cursor.Cursor.{Cursor}
 use Rattle.layout.specs.declared.cursor.Short.{Short}
 use Rattle.layout.specs.declared.columns.Label.{Label as LabelSpan}
-use Rattle.layout.specs.declared.columns.Labelled.{Labelled}
-use Rattle.layout.specs.declared.types.Head.{Head}
+use Rattle.layout.specs.declared.parts.TypeParts.{TypeParts}
 use Rattle.layout.specs.declared.edition.Edition.{Edition}
-use Rattle.layout.proofs.View.{struct-at, array-at}
+use Rattle.layout.proofs.View.{struct-opened, array-opened}
 use Rattle.values.specs.Value.{Value}
 use Rattle.values.specs.Reading.{content as contentOf}
 use Rattle.values.specs.code.Stands.{ContentAt}
@@ -34,18 +33,17 @@ pub opened-counted : {v : Edition} {lay : Bytes} {rec : Bytes} {c : ℕ} {t : Cu
     → OpenedIs v lay rec (X .content .tree) (Opened.List n t d)
 opened-counted X e f = let L = list-in (X .content) e f in record { answer = record { elements = record { type = X .type; values = L .inner }; is = L .is } }
 
-module _ {v : Edition} {lay : Bytes} {t : ℕ} {rec : Bytes} {c : Cursor} (X : PresentAt v lay t rec (c .at)) {p : Head} (e : headRes lay p ≡ kind lay t) where
-  pub opened-struct : {n : ℕ} {b : Cursor} → p ≡ Head.Struct n b → OpenedIs v lay rec (X .content .tree) (Opened.Row n b c)
+module _ {v : Edition} {lay : Bytes} {t : ℕ} {rec : Bytes} {c : Cursor} (X : PresentAt v lay t rec (c .at)) {p : TypeParts} (R : PartsIs v lay t p) where
+  pub opened-struct : {n : ℕ} {b : Cursor} → p ≡ TypeParts.Struct n b → OpenedIs v lay rec (X .content .tree) (Opened.Row n b c)
   unfolding dtypeOf content-as deeper-columns
-  opened-struct f =
-      let S = struct-at (X .type) e f in
+  opened-struct e =
+      let S = struct-opened R (X .type) e in
       let I = struct-in (content-as (ap dtypeOf (S .is)) (X .content)) in
       record { answer = record { row = record { columns = deeper-columns (omega arith) (S .inner); values = I .inner }; is = I .is } }
 
-  module _ {b : Cursor} {q : Labelled} (g : labelRes lay q ≡ elementLabel v lay (b .at)) {l : LabelSpan} {a : Cursor} (h : q ≡ Labelled.Is l a) where
-    pub opened-array : {w : ℕ} → p ≡ Head.Array w b → OpenedIs v lay rec (X .content .tree) (Opened.Array w a c)
-    unfolding dtypeOf content-as deeper-type
-    opened-array f =
-        let L = array-at (X .type) e g f h in
-        let I = array-in (content-as (ap dtypeOf (L .is)) (X .content)) in
-        record { answer = record { elements = record { type = deeper-type (omega arith) (L .inner); values = I .inner }; is = I .is } }
+  pub opened-array : {w : ℕ} {l : LabelSpan} {a : Cursor} → p ≡ TypeParts.Array w l a → OpenedIs v lay rec (X .content .tree) (Opened.Array w a c)
+  unfolding dtypeOf content-as deeper-type
+  opened-array e =
+      let L = array-opened R (X .type) e in
+      let I = array-in (content-as (ap dtypeOf (L .is)) (X .content)) in
+      record { answer = record { elements = record { type = deeper-type (omega arith) (L .inner); values = I .inner }; is = I .is } }

@@ -6,11 +6,10 @@ ghost use Rattle.nodes.specs.code.Raw.{RawAt, PresentAt, ListOf};
 ghost use Rattle.transfer.specs.code.Reaching.{NodeIn};
 ghost use Rattle.transfer.specs.code.Opening.{OpenedIs};
 use crate::leaf::Node;
-use layout::columns::Labelled;
 use layout::cursor::Cursor;
 use layout::cursor::Short;
 use layout::edition::Edition;
-use layout::types::Head;
+use layout::parts::TypeParts;
 use nodes::raw::NodeAt;
 use values::leaf::Presence;
 use values::leaf::read_presence;
@@ -38,18 +37,12 @@ fn open_list(t: Cursor, rec: &[u8], c: Cursor) -> Opened
 fn open_present(lay: &[u8], v: Edition, t: Cursor, rec: &[u8], c: Cursor) -> Opened
     ensures { λ r. ⌜ ((X : PresentAt v (now (lay .entry)) (t .at) (now (rec .entry)) (c .at)) → OpenedIs v (now (lay .entry)) (now (rec .entry)) (X .content .tree) r) ⌝ }
 {
-    match t.head(lay) {
-        Head::Leaf(_, _) => Opened::Other,
-        Head::Struct(n, e) => Opened::Row(n, e, c),
-        Head::List(e) => match e.element_label(lay, v) {
-            Labelled::Is(_, f) => open_list(f, rec, c),
-            Labelled::Refused(_) => Opened::Other,
-        },
-        Head::Array(w, e) => match e.element_label(lay, v) {
-            Labelled::Is(_, f) => Opened::Array(w, f, c),
-            Labelled::Refused(_) => Opened::Other,
-        },
-        Head::Refused(_) => Opened::Other,
+    match t.parts(lay, v) {
+        TypeParts::Leaf(_, _) => Opened::Other,
+        TypeParts::Struct(n, e) => Opened::Row(n, e, c),
+        TypeParts::List(_, e) => open_list(e, rec, c),
+        TypeParts::Array(w, _, e) => Opened::Array(w, e, c),
+        TypeParts::Refused(_) => Opened::Other,
     }
 }
 

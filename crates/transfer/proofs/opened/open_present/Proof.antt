@@ -1,5 +1,6 @@
 use Rattle.transfer.proofs.Opening.{opened-as, opened-struct, opened-array}
-use Rattle.nodes.proofs.Node.{list-is}
+use Rattle.layout.proofs.View.{list-opened}
+use Rattle.nodes.proofs.Node.{list-within}
 use borrow.Author.Needs.{needs}
 use Rattle.transfer.proofs.opened.open_present.Statement.{statement}
 use Rattle.transfer.proofs.opened.open_present.Tie as tie
@@ -14,22 +15,13 @@ open-present-spec =
     (λ c. search needs)
     (λ c κs. search needs)
     (λ c. search needs)
-    (λ c κs. search needs)
     (λ c. search needs)
     (λ c. search needs)
-    (λ c κs. search needs)
-    (λ c. search needs)
-    (λ c. search needs)
-    (λ c. search needs)
-    (λ c. search needs)
-    (λ c. λ X. opened-struct X (c .before .before .before .head .ensures .0) (c .before .n .given .1))
+    (λ c. λ X. opened-struct X (c .before .before .before .parts .ensures) (c .before .n .given .1))
     (λ c.
-    let c2 = c .before .before in let c4 = c2 .before .before in let c6 = c4 .before .before in let c8 = c6 .before .before in
-    λ X. let L = list-is X (c8 .head .ensures .0) (c4 .element-label .ensures .0) (c2 .f .given .1) (c6 .e .given .1) in opened-as (L .is)
-    (c .open-list .ensures _ _ (L .inner)))
-    (λ c. search needs)
-    (λ c.
-    let c3 = c .before .before .before in let c5 = c3 .before .before in let c7 = c5 .before .before in
-    λ X. opened-array X (c7 .head .ensures .0) (c3 .element-label2 .ensures .0) (c .before .f2 .given .1) (c5 .w .given .1))
-    (λ c. search needs)
+    let c2 = c .before .before in
+    λ X.
+    let L = list-within X (list-opened (c2 .before .before .parts .ensures) (X .type) (c2 .e .given .1)) in
+    opened-as (L .is) (c .open-list .ensures _ _ (L .inner)))
+    (λ c. λ X. opened-array X (c .before .before .before .parts .ensures) (c .before .w .given .1))
     (λ c. search needs))
