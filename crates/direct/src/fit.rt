@@ -288,7 +288,7 @@ fn fit_struct(
                 let stride = field_stride(n);
                 let mut starts: [u16; 64] = [0; 64];
                 let len = index_fields(incoming, v, n, x, m, stride, &mut starts);
-                let inside = &starts[..len];
+                let table = &starts[..len];
                 let inner = Source {
                     edition: v,
                     scope,
@@ -299,16 +299,7 @@ fn fit_struct(
                     count: m,
                     first: y,
                 };
-                match fit_fields(
-                    incoming,
-                    inner,
-                    inside,
-                    plan,
-                    first,
-                    target,
-                    columns,
-                    levels,
-                ) {
+                match fit_fields(incoming, inner, table, plan, first, target, columns, levels) {
                     FitEnd::At(e, f) => Fit::Is(e, f, named(Place::Incoming, name)),
                     FitEnd::Unknown => Fit::Unknown,
                 }

@@ -534,16 +534,9 @@ pub fn transfer(
             past_name(plan, transfer(lay, rec, node, plan, under, out, ends))
         }
         SelectorHead::Cast(_) => transfer_cast(lay, rec, node, plan, place, out, ends),
-        SelectorHead::Struct(input) => transfer_taken(
-            lay,
-            rec,
-            node,
-            plan,
-            inner,
-            input,
-            out,
-            ends,
-        ),
+        SelectorHead::Struct(input) => {
+            transfer_taken(lay, rec, node, plan, inner, input, out, ends)
+        }
         SelectorHead::List(input) => transfer_taken(lay, rec, node, plan, inner, input, out, ends),
         SelectorHead::Array(input) => transfer_taken(lay, rec, node, plan, inner, input, out, ends),
         SelectorHead::Refused => Reached::Unknown,
