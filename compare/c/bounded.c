@@ -1,12 +1,14 @@
-/* Plans that ask for outputs far past any limit, some 10^33 bytes: nested list mappings over constant lists of hundreds of elements. A run must answer 44 or 45 at once. Tried are plans
- * with and without an overflow inside, with an empty list on the way (so that what is inside is never run), and driven by an incoming list. Then plans that no builder writes and that
- * cost the check the most of those tried: struct mappings one over another, each of which turns the fields of the one before round, at the top, and inside a list mapping's element, where
- * the general way decides. Then builds by number of columns that are all missing, with a table of as many entries as
- * fit, of which none is theirs: with ids in a row, and with ids that are all in one chain of the table's index; the
- * plans of slow_checks.h, slow_marks.h and slow_runs.h; and values that pass over a long type for each of their bytes:
- * empty arrays of a struct of lists, taken whole, in front of a column that thousands of selectors take, and in
- * constants. The exit status is 1 where an answer or an output is not the one due, or where it takes more than a second
- * of processor time; more than five for the mappings. */
+/* Plans that ask for outputs far past any limit, some 10^33 bytes: nested list mappings over constant lists of
+ * hundreds of elements. A run must answer 44 or 45 at once. Tried are plans with and without an overflow inside,
+ * with an empty list on the way (so that what is inside is never run), and driven by an incoming list. Then plans
+ * that no builder writes and that cost the check the most of those tried: struct mappings one over another, each of
+ * which turns the fields of the one before round, at the top, and inside a list mapping's element, where the general
+ * way decides. Then builds by number of columns that are all missing, with a table of as many entries as fit, of
+ * which none is theirs: with ids in a row, and with ids that are all in one chain of the table's index; the plans of
+ * slow_checks.h, slow_marks.h and slow_runs.h; and values that pass over a long type for each of their bytes: empty
+ * arrays of a struct of lists, taken whole, in front of a column that thousands of selectors take, and in constants.
+ * The exit status is 1 where an answer or an output is not the one due, or where it takes more than a second of
+ * processor time; more than five for the mappings. */
 #define _DEFAULT_SOURCE
 #include "selector.h"
 
@@ -73,7 +75,8 @@ static void record_of(text *t, int elements, int64_t last) {
     }
 }
 
-/* Mappings of constant lists, one inside another, the one at `empty` without elements; inside stands a strict cast of a constant from milliseconds to nanoseconds. */
+/* Mappings of constant lists, one inside another, the one at `empty` without elements; inside stands a strict cast
+ * of a constant from milliseconds to nanoseconds. */
 static void nested_of(text *t, int from, int levels, int empty, int64_t milliseconds) {
     for (int i = from; i < levels; i++) {
         put(t, 5, 1);
@@ -116,7 +119,8 @@ static void cast_of(text *t) {
     put(t, 1, 1);
 }
 
-/* One column, a struct of so many int8 fields with names of their own, in order or from the last to the first; or a list of such structs. */
+/* One column, a struct of so many int8 fields with names of their own, in order or from the last to the first; or a
+ * list of such structs. */
 static void struct_of(text *t, int listed, int fields, int turned) {
     mark(t, "LAY", 1);
     put(t, 0, 1);
@@ -270,7 +274,8 @@ static void table_of(text *t, int version, uint32_t step) {
     }
 }
 
-/* Builds columns of bytes that are missing, each of which takes its default from the table: there is none. The index of the longest table has
+/* Builds columns of bytes that are missing, each of which takes its default from the table: there is none. The index of
+ * the longest table has
  * `HEADS` chains: with ids as far apart, all are in one. */
 static void expect_missing(int version, uint32_t step) {
     struct timespec from;

@@ -1,5 +1,6 @@
-/* Part of bounded.c: plans within the limits whose check once took seconds, since a type was measured or a selector passed over again and again. One is refused with 33, in the
- * other the selector of a list mapping has a transform over a transform, so that the general way decides. */
+/* Part of bounded.c: plans within the limits whose check once took seconds, since a type was measured or a selector
+ * passed over again and again. One is refused with 33, in the other the selector of a list mapping has a transform
+ * over a transform, so that the general way decides. */
 
 enum { RENAMES = 60, RENAMED = 3900, CONSTANT = 40000, TAKEN = 7500, FIELDS_MADE = 3000, RENAMES_MADE = 11000, COLUMNS = 1000, RENAMES_LAST = 13000 };
 
@@ -165,8 +166,27 @@ static void slow_checks(void) {
     expect_check("a constant before positions in an element", 0);
 }
 
-/* Constants whose values pass over a long type for each of their bytes. */
+/* In an element, positions that take what stands behind a constant of empty arrays of a struct of ten fields. */
+static void behind_arrays(text *t, int elements, int positions) {
+    mark(t, "PLN", 1);
+    put(t, 5, 1);
+    position(t, 0);
+    put(t, 0x0404, 2);
+    position(t, 0);
+    put(t, 2, 2);
+    constant_arrays(t, elements, 10, 2);
+    position(t, 0);
+    put(t, (uint64_t)positions, 2);
+    for (int k = 0; k < positions; k++)
+        position(t, 1);
+}
+
+/* Constants whose values pass over a type for each of their bytes. */
 static void slow_constants(void) {
+    taken_of(&incoming, 1, 0);
+    taken_of(&target, 40, 0);
+    behind_arrays(&plan, 40000, 40);
+    expect_check("40 fields of a mapping, each behind 40,000 empty arrays of a short struct", 0);
     taken_of(&incoming, 1, 0);
     mark(&target, "LAY", 1);
     put(&target, 0, 1);

@@ -1,4 +1,5 @@
-/* Part of bounded.c: plans within the limits whose run once took seconds, since each cast of a chain was looked up from the chain's start. */
+/* Part of bounded.c: plans within the limits whose run once took seconds, since each cast of a chain was looked up
+ * from the chain's start. */
 
 enum { CHAINED = 60, OVER = 10, EACH = 46, ELEMENT = 0x4700 /* 7 as a float of 16 bits */ };
 
@@ -15,7 +16,8 @@ static void cast_to(text *t, int kind, int option) {
     put(t, (uint64_t)option, 1);
 }
 
-/* Casts over position 0, an even number of them: from int8 or, in a later mapping, from float16 up to float64, back and forth, and to float16. */
+/* Casts over position 0, an even number of them: from int8 or, in a later mapping, from float16 up to float64, back
+ * and forth, and to float16. */
 static void casts_of(text *t, int casts, int first) {
     for (int i = 0; i < casts; i++)
         put(t, 2, 1);

@@ -38,7 +38,7 @@ use Rattle.checker.specs.declared.place.TypeHead.{TypeHead}
 use Rattle.checker.specs.declared.resolve.Source.{Source}
 use Rattle.checker.specs.declared.resolve.Resolved.{Resolved}
 use Rattle.checker.proofs.Making.{made-ends, made-struct-head, made-list-head, made-array-head, made-never, array-input}
-use Rattle.checker.proofs.Outer.{behind}
+use Rattle.walk.proofs.View.{selector-longer}
 
 -- ---- a type that stands in bytes
 
@@ -117,7 +117,7 @@ pub record Widening (incoming : Bytes) (v : Edition) (n : ℕ) (plan : Bytes) (w
 
 module _ {incoming : Bytes} {v : Edition} {n : ℕ} {plan : Bytes} where
   pub mapped-before : {w : Walk} {t : DataType} → MappedAt incoming v n plan w t → w .at < w .lim
-  mapped-before M = let b = behind (M .standing .here) in omega (arith, M .standing .ends)
+  mapped-before M = let b = selector-longer (M .standing .here) in omega (arith, M .standing .ends)
 
   pub widening-start : {w : Walk} {x : ℕ} {t : DataType} → MappedAt incoming v n plan w (array x t) → Widening incoming v n plan w w
   widening-start {w} {x} {t} M = record { width = x; element = t; start = M; keeps = λ y u N. (u, N) }

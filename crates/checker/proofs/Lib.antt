@@ -1,7 +1,6 @@
 pub mod Given
 pub mod Steps
 pub mod Room
-pub mod Outer
 pub mod Stops
 pub mod Fields
 pub mod Resolving

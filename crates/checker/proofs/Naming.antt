@@ -53,7 +53,7 @@ use Rattle.checker.proofs.Fields.{field-found, field-here, field-never}
 use Rattle.checker.proofs.Headed.{raw-kind}
 use Rattle.checker.proofs.Making.{made-list-head, made-array-head}
 use Rattle.checker.proofs.Parting.{child-asks, child-named, child-less}
-use Rattle.checker.proofs.Outer.{behind}
+use Rattle.walk.proofs.View.{selector-longer}
 
 -- ---- the names of a type's parts
 
@@ -296,7 +296,7 @@ module _ {incoming : Bytes} {v : Edition} {n : ℕ} {plan : Bytes} where
   naming-start {a = a} N = record { some = a; start = N; keeps = λ b B. (b, (B, refl)) }
 
   pub named-before : {w : Walk} {a : Column} → NamedAt incoming v n plan w a → w .at < w .lim
-  named-before N = let b = behind (N .standing .here) in omega (arith, N .standing .ends)
+  named-before N = let b = selector-longer (N .standing .here) in omega (arith, N .standing .ends)
 
   module _ {w x : Walk} (O : Naming incoming v n plan w x) {r : OwnName}
       (h : (i : Bytes) (u : Edition) (m : ℕ) (a : Column) → NamedAt i u m plan x a → OwnNameIs i u m plan x a r) where

@@ -1,9 +1,9 @@
 -- What `raw_part`, `part` and `enclosing` ask and answer. Assumes nothing.
-use Prim.Native.Nat.{ℕ, _<_}
+use Prim.Native.Nat.{ℕ, _-_, _≤_, _<_}
 use mathlib.Core.Path.{_≡_, refl, sym, ap, subst}
 use mathlib.Core.List.{List, [], _∷_}
 use native.Mathlib.Omega.{arith}
-use lib.ListN.{length}
+use lib.ListN.{length, getD}
 use Rattle.layout.specs.Bytes.{Bytes}
 use Rattle.layout.specs.Tree.{DataType, leaf, struct, list, array, Fields, fieldsOf, dtypeOf}
 use Rattle.layout.specs.declared.cursor.Cursor.{Cursor}
@@ -12,13 +12,14 @@ use Rattle.plan.specs.Result.{gives}
 use Rattle.plan.specs.Selector.{Selector, nesting}
 use Rattle.plan.specs.Check.{Column, columnAt}
 use Rattle.plan.proofs.Results.{never-refused}
-use Rattle.walk.specs.code.State.{Frame, fields, element, State, state}
+use Rattle.walk.specs.code.State.{Frame, fields, element, State, state, inputOf}
 use Rattle.walk.specs.code.Moves.{Part}
 use Rattle.walk.specs.code.Types.{ScopeOf, c-top, c-fields, c-list, c-array, Along, a-here, a-field, a-list, a-array, Gives}
 use Rattle.walk.specs.code.Walks.{WalkAt, rank, StepsTo}
+use Rattle.walk.proofs.Walks.{outward-asks, frames-deep}
 use Rattle.walk.specs.declared.walk.Walk.{Walk}
 use Rattle.nodes.specs.code.Typed.{TypeIs, LeadsAt}
-use Rattle.checker.specs.code.Shallow.{Shallow, inputOf}
+use Rattle.checker.specs.code.Shallow.{Shallow}
 use Rattle.checker.specs.code.TypesAt.{partsOf, PartOf, TypedAt, NamedAt, Made, made-struct, made-list, made-array, MappedAt, ResolvedAt, Resolves}
 use Rattle.checker.specs.code.TypesAt.{ScopedAt, EnclosingIs}
 use Rattle.checker.specs.declared.resolve.Source.{Source}
@@ -159,13 +160,13 @@ module _ {incoming : Bytes} {v : Edition} {n : ℕ} {plan : Bytes} {w : Walk} {�
   made : OuterMade (fieldsOf (S .columns .columns)) (S .place .frames) Δ
   made = outer-made (let e = entries-count (S .standing .entries) in omega arith) (S .scoped)
 
-  pub outer-asks : (p : Bytes) × (x : State) × (f : Frame) × (E : List Frame) × (x .frames ≡ f ∷ E) × WalkAt p w x
-  outer-asks = (plan, S .place, made .frame, made .outer, made .is, S .standing)
+  pub enclosed-asks : (0 < w .deep) × (w .deep ≤ 64) × (getD (w .maps) (w .deep - 1) 0 < w .at)
+  enclosed-asks = outward-asks (S .standing) (frames-deep (S .standing) (made .is))
 
-  module _ {y : Walk} (g : (p : Bytes) (x : State) (f : Frame) (E : List Frame) → x .frames ≡ f ∷ E → WalkAt p w x → StepsTo p (state (inputOf f) E [])
+  module _ {y : Walk} (g : (p : Bytes) (x : State) (f : Frame) (E : List Frame) → WalkAt p w x → x .frames ≡ f ∷ E → StepsTo p (state (inputOf f) E [])
       w y) where
     stepped : StepsTo plan (state (inputOf (made .frame)) (made .outer) []) w y
-    stepped = g plan (S .place) (made .frame) (made .outer) (made .is) (S .standing)
+    stepped = g plan (S .place) (made .frame) (made .outer) (S .standing) (made .is)
 
     typed : TypedAt incoming v n plan y (made .type)
     typed = record {

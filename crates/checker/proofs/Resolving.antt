@@ -32,7 +32,7 @@ use Rattle.checker.specs.declared.resolve.Resolved.{Resolved}
 use Rattle.checker.proofs.Steps.{gives-moved}
 use Rattle.checker.proofs.Room.{shallow-moved, rename-shallow}
 use Rattle.checker.proofs.Stops.{column-stop, constant-stop, cast-stop, rename-stop, struct-stop, list-stop, array-stop}
-use Rattle.checker.proofs.Outer.{behind}
+use Rattle.walk.proofs.View.{selector-longer}
 use Rattle.checker.proofs.Fields.{FieldHere}
 
 -- under the selector's other name
@@ -197,7 +197,7 @@ module _ {incoming : Bytes} {v : Edition} {n : ℕ} {plan : Bytes} where
 
       module _ (e : r ≡ Stop.Rename) where
         pub before-end : y .at < y .lim
-        before-end = let W = opened e onward-stops .standing in let b = behind (W .here) in omega (arith, W .ends)
+        before-end = let W = opened e onward-stops .standing in let b = selector-longer (W .here) in omega (arith, W .ends)
 
         module _ {z : Walk} (g : (p : Bytes) (x : State) (s : Selector) → WalkAt p y x → Input (x .selector) s → StepsTo p
             (state s (x .frames) (x .path)) y z) where

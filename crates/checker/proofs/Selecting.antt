@@ -54,7 +54,7 @@ use Rattle.checker.proofs.Resolving.{selected, named-typed}
 use Rattle.checker.proofs.Making.{nth-there}
 use Rattle.walk.proofs.Children.{ChildAt, part-stands, passed-more}
 use Rattle.checker.proofs.Checks.{result-is, bind-refused, bind-gives, bind-known, PassedAs, passed-gives, refused-refuses}
-use Rattle.checker.proofs.Outer.{behind}
+use Rattle.walk.proofs.View.{selector-longer}
 use Rattle.checker.proofs.Within.{fields-limited, list-limited, array-limited, element-limited, within-fit, transform-within}
 use Rattle.checker.proofs.Fitting.{is-struct, is-list, is-array, fit-struct, fit-list, fit-array, rest-start, rest-none, rest-more, added-bounded}
 
@@ -92,7 +92,7 @@ checking-named {s = s} {Δ = Δ} C e = record {
 
 module _ {incoming : Bytes} {v : Edition} {n : ℕ} {plan : Bytes} {w : Walk} {s : Selector} {Δ : Fields} (C : CheckingAt incoming v n plan w s Δ) where
   pub checking-before : w .at < w .lim
-  checking-before = let b = behind (C .standing .here) in omega (arith, C .standing .ends)
+  checking-before = let b = selector-longer (C .standing .here) in omega (arith, C .standing .ends)
 
   pub checking-scope : ScopedAt incoming v n plan w Δ
   checking-scope = record { columns = C .columns; place = state s (C .frames) []; standing = C .standing; shallow = C .shallow; scoped = C .scoped }

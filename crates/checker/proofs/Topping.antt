@@ -203,7 +203,8 @@ module _ {vt : Edition} {target : Bytes} {m bt : ℕ} (Q : ColumnsAt vt 16 targe
           let (t, w) = moved-to (type vt Free 16 target (d .at)) o i in
           split-next (ok-eq (sym (parted .first .inner .reads) ∙ ap (λ (j : ℕ). type vt Free 16 target j) z ∙ w) .1)
 
-      pub next-typed : {d : Cursor} {p : Moved} {k e : ℕ} → r ≡ Moved.To d → p ≡ movedOf (type vt Free 16 target (d .at)) → p ≡ Moved.Refused k → NextColumns Q e
+      pub next-typed : {d : Cursor} {p : Moved} {k e : ℕ} → r ≡ Moved.To d → p ≡ movedOf (type vt Free 16 target (d .at)) → p ≡ Moved.Refused k
+          → NextColumns Q e
       next-typed {d} {k = k} g o i =
           let (l, q) = moved-to (label vt target bt) f g in
           let z : parted .first .start ≡ d .at = ok-eq (sym (parted .first .labelled) ∙ q) .1 in
@@ -415,7 +416,8 @@ module _ {incoming : Bytes} {v : Edition} {n : ℕ} {plan : Bytes} {count from :
             ∙ from-refuses Γ Δ (F .top .selector .tree) (F .parts) k same (subst (λ (x : Top). topParts (F .top) going-columns same x) e
             (f Γ (F .top) going-columns .parts)))
 
-        module _ {b : Bool} {x y : Cursor} (f : (Γ : Fields) (T : TopAt incoming v n plan at Γ) (Q : ColumnsAt vt 16 target l bt) → PassesTop T Q same b x y) where
+        module _ {b : Bool} {x y : Cursor} (f : (Γ : Fields) (T : TopAt incoming v n plan at Γ) (Q : ColumnsAt vt 16 target l bt)
+            → PassesTop T Q same b x y) where
           going-on : Going incoming v n plan count from target vt m base (x .at) (y .at) b (k + 1)
           going-on =
               let z : count - k - 1 ≡ count - (k + 1) = omega arith in
@@ -454,7 +456,8 @@ module _ {incoming : Bytes} {v : Edition} {n : ℕ} {plan : Bytes} {count from :
                 → PassesTop T Q b b x y
             any b P = record { column = P .column; typed = P .typed; same = both b _ (P .same); ends = P .ends; left = P .left }
 
-        pub going-more : {r : Top} {x y : Cursor} {b : Bool} → ((Γ : Fields) (T : TopAt incoming v n plan at Γ) (Q : ColumnsAt vt 16 target l bt) → TopIs T Q same r)
+        pub going-more : {r : Top} {x y : Cursor} {b : Bool} → ((Γ : Fields) (T : TopAt incoming v n plan at Γ) (Q : ColumnsAt vt 16 target l bt)
+            → TopIs T Q same r)
             → r ≡ Top.Passed x y b → Going incoming v n plan count from target vt m base (x .at) (y .at) b (k + 1)
         going-more f e = going-on (λ Γ T Q. subst (λ (z : Top). topParts T Q same z) e (f Γ T Q .parts))
 

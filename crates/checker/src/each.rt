@@ -69,6 +69,8 @@ fn next_column(target: &[u8], columns: ColumnRange) -> Cursor
 }
 
 // Whether the single pass says that the selector at `c` gives the first of the target's columns.
+// `fit_top` has large buffers: called here and in `infer`, it is put in line in neither, so that they are gone before
+// the general way begins (`compare/c/stack`).
 fn fit_first(
     incoming: &[u8],
     v: Edition,

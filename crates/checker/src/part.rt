@@ -11,7 +11,6 @@ ghost use Rattle.checker.specs.code.TypesAt.{PartOf, ResolvedAt, ScopedA
 use crate::resolve::Resolved;
 use crate::resolve::Source;
 use crate::resolve::found_in;
-use crate::resolve::outer;
 use crate::resolve::resolve;
 use layout::cursor::Cursor;
 use layout::edition::Edition;
@@ -65,6 +64,6 @@ pub fn enclosing(incoming: &[u8], v: Edition, n: u16, plan: &[u8], w: Walk) -> R
     requires { ⌜ 0 < w .deep ⌝ }
     ensures { λ r. ⌜ ((Δ : Fields) → ScopedAt (now (incoming .entry)) v n (now (plan .entry)) w Δ → EnclosingIs (now (incoming .entry)) v n (now (plan .entry)) w Δ r) ⌝ }
 {
-    let y = outer(w);
+    let y = w.outward();
     resolve(incoming, v, n, plan, y)
 }

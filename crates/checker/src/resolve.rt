@@ -1,15 +1,10 @@
 // Where the type of what a selector gives stands.
 ghost use mathlib.Core.Path.{_≡_};
-ghost use mathlib.Core.List.{List, [], _∷_};
 ghost use Prim.Native.Nat.{_≤_};
 ghost use lib.ListN.{length};
 ghost use lib.Seq.{slice};
-ghost use Rattle.layout.specs.Bytes.{Bytes};
 ghost use Rattle.layout.specs.Tree.{DataType};
-ghost use Rattle.walk.specs.code.State.{Frame, State, state};
-ghost use Rattle.walk.specs.code.Walks.{WalkAt, StepsTo};
 ghost use Rattle.nodes.specs.code.Typed.{TypeIs};
-ghost use Rattle.checker.specs.code.Shallow.{inputOf};
 ghost use Rattle.checker.specs.code.TypesAt.{ColumnAlong, TypedAt, StoppedAt, StopIs, Resolves};
 use layout::columns::Position;
 use layout::cursor::Cursor;
@@ -48,23 +43,6 @@ pub enum Stop {
     Plan(Cursor),
     Rename,
     Mapping,
-}
-
-// The input of the innermost mapping that was entered.
-pub fn outer(w: Walk) -> Walk
-    requires { ⌜ ((plan : Bytes) × (x : State) × (f : Frame) × (E : List Frame) × (x .frames ≡ f ∷ E) × WalkAt plan w x) ⌝ }
-    ensures { λ r. ⌜ ((plan : Bytes) (x : State) (f : Frame) (E : List Frame) → x .frames ≡ f ∷ E → WalkAt plan w x → StepsTo plan (state (inputOf f) E []) w r) ⌝ }
-{
-    let deep = w.deep - 1;
-    let at = (w.maps[deep] as usize) + 1;
-    Walk {
-        at,
-        lim: w.at,
-        deep,
-        len: deep,
-        maps: w.maps,
-        path: w.path,
-    }
 }
 
 // The type at the end of a path into the column `k` of the incoming layout.

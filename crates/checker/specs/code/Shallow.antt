@@ -3,14 +3,9 @@
 use Prim.Native.Nat.{_+_, _≤_, _<_}
 use mathlib.Core.List.{List, [], _∷_}
 use lib.ListN.{length}
-use Rattle.plan.specs.Selector.{Selector, nesting}
+use Rattle.plan.specs.Selector.{nesting}
 use Rattle.plan.specs.Read.{deepestSelector}
-use Rattle.walk.specs.code.State.{Frame, fields, element, State}
-
--- a mapping's input
-abbrev pub inputOf : Frame → Selector
-inputOf (fields s) = s
-inputOf (element s i) = s
+use Rattle.walk.specs.code.State.{Frame, State, inputOf}
 
 abbrev pub ShallowFrames : List Frame → Type 0
 ShallowFrames [] = Unit {0}

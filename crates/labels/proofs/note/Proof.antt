@@ -80,7 +80,8 @@ returns-3 c = (search needs, λ h. clash (cc))
 
 add-i : tie.Need-add-i Inv-loop μ-loop
 add-i c =
-    let c12 = c .before .before .before .before .before .before .before .before .before .before .before .before in let c17 = c12 .before .before .before .before .before in
+    let c12 = c .before .before .before .before .before .before .before .before .before .before .before .before in
+    let c17 = c12 .before .before .before .before .before in
     omega (arith, c12 .loop-test .taken, c17 .good .1 .0)
 
 loop-less : tie.Need-loop-less Inv-loop μ-loop
@@ -92,7 +93,8 @@ loop-again c =
     let c17 = c13 .before .before .before .before in (
       search needs,
       noting-more (c13 .loop .inv .1) (let a = c13 .loop .inv .0 in let b = c17 .pre .0 in omega arith) (c12 .loop-test .taken)
-          (c .before .before .before .before .before .before .before .label .ensures .0) (c .before .before .before .before .before .next .given .1) (c .before .before .before .pass-type .ensures) (c .before .e .given .1)
+          (c .before .before .before .before .before .before .before .label .ensures .0) (c .before .before .before .before .before .next .given .1)
+          (c .before .before .before .pass-type .ensures) (c .before .e .given .1)
           (let a = c9 .wide .ensures in omega arith),
     )
 

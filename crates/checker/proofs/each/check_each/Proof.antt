@@ -26,7 +26,8 @@ loop-again c =
     let h = c .before .before .before .loop-test .taken in
     let l = c .before .before .left-of .ensures in
     ⊎-elim
-    (λ w. let (m, e, t, x, y, z) = w in going-at (going-fits O h l (c .before .fit-first .ensures) (e .given .1)) {d = d} {b = b} {s = s} (ap (λ (i : Cursor). i .at) x)
+    (λ w. let (m, e, t, x, y, z) = w in going-at (going-fits O h l (c .before .fit-first .ensures) (e .given .1)) {d = d} {b = b} {s = s}
+    (ap (λ (i : Cursor). i .at) x)
     (ap (λ (i : Cursor). i .at) y) z)
     (λ w. let (m, o, f, n, e, t, x, y, z) = w in going-at (going-more O h l (f .ensures) (e .given .1)) {d = d} {b = b} {s = s} (ap (λ (i : Cursor). i .at) x)
     (ap (λ (i : Cursor). i .at) y) z)
@@ -42,20 +43,30 @@ check-each-spec =
     (λ c κs. search needs)
     (λ c κs. (
       going-asks (c .before .before .loop .inv) (c .before .loop-test .taken),
-      (going-columns (c .before .before .loop .inv) (c .before .loop-test .taken) (c .left-of .ensures), c .before .before .before .before .before .before .before .before .pre .1 .1),
+      (
+        going-columns (c .before .before .loop .inv) (c .before .loop-test .taken)
+            (c .left-of .ensures),
+        c .before .before .before .before .before .before .before .before .pre .1 .1,
+      ),
     ))
     (λ c. search needs)
     (λ c. search needs)
     (λ c κs. (
       going-asks (c .before .before .before .before .before .loop .inv) (c .before .before .before .before .loop-test .taken),
-      going-columns (c .before .before .before .before .before .loop .inv) (c .before .before .before .before .loop-test .taken) (c .before .before .before .left-of .ensures),
+      going-columns (c .before .before .before .before .before .loop .inv) (c .before .before .before .before .loop-test .taken)
+          (c .before .before .before .left-of .ensures),
     ))
     (λ c. search needs)
     (λ c. search needs)
-    (λ c. going-refused (c .before .before .before .before .before .before .before .before .before .loop .inv) (c .before .before .before .before .before .before .before .before .loop-test .taken) (c .before .before .before .before .before .before .before .left-of .ensures) (c .before .before .before .check-top .ensures) (c .before .j .given .1))
-    (λ c. omega (arith, c .before .before .before .before .before .before .before .before .before .before .fits .count, c .before .before .before .loop-test .taken))
+    (λ c. going-refused (c .before .before .before .before .before .before .before .before .before .loop .inv)
+    (c .before .before .before .before .before .before .before .before .loop-test .taken)
+    (c .before .before .before .before .before .before .before .left-of .ensures) (c .before .before .before .check-top .ensures) (c .before .j .given .1))
+    (λ c. omega
+    (arith, c .before .before .before .before .before .before .before .before .before .before .fits .count, c .before .before .before .loop-test .taken))
     (λ c. omega (arith, c .before .before .before .loop-test .taken))
     loop-again
-    (λ c. λ Γ ss Q T. going-differs (c .before .before .loop .inv) (c .before .loop-test .left) Γ ss Q T (not-true (c .before .before .loop .same) (c .if1 .taken)))
+    (λ c. λ Γ ss Q T. going-differs (c .before .before .loop .inv) (c .before .loop-test .left) Γ ss Q T
+    (not-true (c .before .before .loop .same) (c .if1 .taken)))
     (λ c. λ Γ ss Q T. going-short (c .before .before .before .loop .inv) (c .before .before .loop-test .left) Γ ss Q T (c .if2 .taken))
-    (λ c. λ Γ ss Q T. going-passed (c .before .before .before .loop .inv) (c .before .before .loop-test .left) Γ ss Q T (not-false (c .before .before .before .loop .same) (c .before .if1 .left)) (c .if2 .left)))
+    (λ c. λ Γ ss Q T. going-passed (c .before .before .before .loop .inv) (c .before .before .loop-test .left) Γ ss Q T
+    (not-false (c .before .before .before .loop .same) (c .before .if1 .left)) (c .if2 .left)))

@@ -16,15 +16,22 @@ check-top-spec =
     (λ c κs.
     let (Γ, T) = c .before .before .before .before .before .before .before .before .before .pre .0 in
     let s = c .before .before .before .before .before .skip-selector .ensures in
-    let g = c .before .before .before .before .top .ensures in
-    ((_, top-named T s g (c .before .before .before .check-selector .ensures _ Γ (top-checking T s g)) (c .before .enum-told .given .1)), c .before .before .before .before .before .before .before .before .before .pre .1))
+    let g = c .before .before .before .before .top .ensures in (
+      (
+        _,
+        top-named T s g (c .before .before .before .check-selector .ensures _ Γ (top-checking T s g))
+            (c .before .enum-told .given .1),
+      ),
+      c .before .before .before .before .before .before .before .before .before .pre .1,
+    ))
     (λ c. search needs)
     (λ c. λ Γ T Q.
     let s = c .before .before .before .before .before .before .skip-selector .ensures in
     let g = c .before .before .before .before .before .top .ensures in
     let f = c .before .before .before .before .check-selector .ensures _ Γ (top-checking T s g) in
     let p = c .before .before .enum-told .given .1 in
-    top-passed T s g f Q {same = c .before .before .before .before .before .before .before .before .before .before .args .same} p (c .before .next-column .ensures Q) (c .still-same .ensures _ Q (top-named T s g f p)))
+    top-passed T s g f Q {same = c .before .before .before .before .before .before .before .before .before .before .args .same} p
+    (c .before .next-column .ensures Q) (c .still-same .ensures _ Q (top-named T s g f p)))
     (λ c. λ Γ T Q.
     let s = c .before .before .before .before .before .skip-selector .ensures in
     let g = c .before .before .before .before .top .ensures in

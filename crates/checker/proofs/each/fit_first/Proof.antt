@@ -14,6 +14,11 @@ fit-first-spec =
     (λ c κs. search needs)
     (λ c κs.
     let p = c .before .before .before .before .before .before .before .before .before .before .pre in
-    let (Γ, T) = p .0 in
-    (fit-asks T (p .1 .0) (p .1 .1) (c .before .stride-of .ensures .0) (c .before .stride-of .ensures .1) (c .before .before .before .before .if1 .left) (c .before .before .before .if2 .left), (c .before .before .if3 .left, T .small)))
-    (λ c. λ Γ T Q. fits-top T Q (c .before .before .before .before .before .before .before .before .before .before .before .pre .1 .1) (c .before .before .stride-of .ensures .0) (c .before .before .stride-of .ensures .1) (c .before .before .before .before .before .if1 .left) (c .before .before .before .before .if2 .left) (c .fit-top .ensures)))
+    let (Γ, T) = p .0 in (
+      fit-asks T (p .1 .0) (p .1 .1) (c .before .stride-of .ensures .0) (c .before .stride-of .ensures .1) (c .before .before .before .before .if1 .left)
+          (c .before .before .before .if2 .left),
+      (c .before .before .if3 .left, T .small),
+    ))
+    (λ c. λ Γ T Q. fits-top T Q (c .before .before .before .before .before .before .before .before .before .before .before .pre .1 .1)
+    (c .before .before .stride-of .ensures .0) (c .before .before .stride-of .ensures .1) (c .before .before .before .before .before .if1 .left)
+    (c .before .before .before .before .if2 .left) (c .fit-top .ensures)))

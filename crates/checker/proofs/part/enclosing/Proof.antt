@@ -1,9 +1,9 @@
 -- `checker::part::enclosing` meets its contract. Assumes nothing.
-use Rattle.checker.proofs.Parting.{outer-asks, enclosing-asks, enclosing-is}
+use Rattle.checker.proofs.Parting.{enclosed-asks, enclosing-asks, enclosing-is}
 use Rattle.checker.proofs.part.enclosing.Statement.{statement}
 use Rattle.checker.proofs.part.enclosing.Tie as tie
 
 pub enclosing-spec : {M : Type 1} → statement M
-enclosing-spec = tie.close (tie.spec (λ c κs. let (Δ, S) = c .before .before .pre .0 in outer-asks S (c .before .before .pre .1))
-    (λ c κs. let (Δ, S) = c .before .before .before .pre .0 in enclosing-asks S (c .before .before .before .pre .1) (c .outer .ensures))
-    (λ c. λ Δ S. enclosing-is S (c .before .before .before .before .pre .1) (c .before .outer .ensures) (c .resolve .ensures)))
+enclosing-spec = tie.close (tie.spec (λ c κs. let (Δ, S) = c .before .before .pre .0 in enclosed-asks S (c .before .before .pre .1))
+    (λ c κs. let (Δ, S) = c .before .before .before .pre .0 in enclosing-asks S (c .before .before .before .pre .1) (c .outward .ensures .1))
+    (λ c. λ Δ S. enclosing-is S (c .before .before .before .before .pre .1) (c .before .outward .ensures .1) (c .resolve .ensures)))

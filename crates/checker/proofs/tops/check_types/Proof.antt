@@ -18,5 +18,12 @@ check-types-spec =
     (λ c κs. search needs)
     (λ c. search needs)
     (λ c. sym (length-take-le _ _ (c .before .before .index-columns .ensures .0)))
-    (λ c κs. (c .before .before .before .before .before .before .before .before .before .before .pre .0, (c .before .before .before .before .before .before .before .before .before .before .pre .1, strided (c .before .before .before .before .stride-of .ensures .0) (c .before .before .index-columns .ensures .1))))
+    (λ c κs. (
+      c .before .before .before .before .before .before .before .before .before .before .pre .0,
+      (
+        c .before .before .before .before .before .before .before .before .before .before .pre .1,
+        strided
+            (c .before .before .before .before .stride-of .ensures .0) (c .before .before .index-columns .ensures .1),
+      ),
+    ))
     (λ c. c .check-each .ensures))

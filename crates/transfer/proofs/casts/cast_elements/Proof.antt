@@ -68,8 +68,8 @@ cast-elements-spec =
       c6 .put-chain .kept .1 .1 .1 .1 .1 .0 ∙ c12 .loop .inv .0,
       λ X.
           let N = element-stands (going-value (castLeaf (c19 .args .to)) X (c12 .loop .inv .1 X) (c11 .loop-test .taken)) in
-          going-more (castLeaf (c19 .args .to)) X (c12 .loop .inv .1 X) (c11 .loop-test .taken) (c .skip-value .ensures (going-value (castLeaf (c19 .args .to)) X
-          (c12 .loop .inv .1 X) (c11 .loop-test .taken)))
+          going-more (castLeaf (c19 .args .to)) X (c12 .loop .inv .1 X) (c11 .loop-test .taken) (c .skip-value .ensures (going-value (castLeaf (c19 .args .to))
+          X (c12 .loop .inv .1 X) (c11 .loop-test .taken)))
           (c6 .put-chain .ensures _ _ N (c8 .cast-to .ensures _ _ (c9 .taken-leaf .ensures _ N))) (c2 .r .given .1),
     ))
     (λ c κs. search needs)

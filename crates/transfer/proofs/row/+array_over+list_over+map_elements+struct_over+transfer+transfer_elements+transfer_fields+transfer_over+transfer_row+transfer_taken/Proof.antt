@@ -549,7 +549,8 @@ map-elements-enum-told : (t : ℕ) → map-elements-lts.Need-enum-told (map-elem
 map-elements-enum-told t c =
     search needs
 
-map-elements-transfer-elements-requires : (t : ℕ) → map-elements-lts.Need-transfer-elements-requires (map-elements-claims t) (map-elements-at t) map-elements.Post
+map-elements-transfer-elements-requires : (t : ℕ) → map-elements-lts.Need-transfer-elements-requires (map-elements-claims t) (map-elements-at t)
+    map-elements.Post
 map-elements-transfer-elements-requires t c κs =
     search needs
 
