@@ -556,8 +556,8 @@ fit-struct-index-fields-requires t c κs = search needs
 fit-struct-array-share-prefix-starts : (t : ℕ) → fit-struct-lts.Need-array-share-prefix-starts (fit-struct-claims t) (fit-struct-at t) fit-struct.Post
 fit-struct-array-share-prefix-starts t c = search needs
 
-fit-struct-slice-aggregate-inside : (t : ℕ) → fit-struct-lts.Need-slice-aggregate-inside (fit-struct-claims t) (fit-struct-at t) fit-struct.Post
-fit-struct-slice-aggregate-inside t c = sym (length-take-le _ _ (c .before .before .index-fields .ensures .0))
+fit-struct-slice-aggregate-table : (t : ℕ) → fit-struct-lts.Need-slice-aggregate-table (fit-struct-claims t) (fit-struct-at t) fit-struct.Post
+fit-struct-slice-aggregate-table t c = sym (length-take-le _ _ (c .before .before .index-fields .ensures .0))
 
 fit-struct-fit-fields-requires : (t : ℕ) → fit-struct-lts.Need-fit-fields-requires (fit-struct-claims t) (fit-struct-at t) fit-struct.Post
 fit-struct-fit-fields-requires t c κs =
@@ -726,7 +726,7 @@ pub +fit-array+fit-column+fit-fields+fit-list+fit-rename+fit-selector+fit-struct
     (fit-struct-slice-aggregate-index-fields t)
     (fit-struct-index-fields-requires t)
     (fit-struct-array-share-prefix-starts t)
-    (fit-struct-slice-aggregate-inside t)
+    (fit-struct-slice-aggregate-table t)
     (fit-struct-fit-fields-requires t)
     (fit-struct-enum-known-e t)
     (fit-struct-named-requires t)
