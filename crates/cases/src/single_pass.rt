@@ -38,15 +38,22 @@ pub fn checks(incoming: &[u8], target: &[u8], plan: &[u8]) -> bool {
 pub fn writes(incoming: &[u8], plan: &[u8], rec: &[u8], output: &mut [u8]) -> bool {
     let none: [u16; 1] = [0; 1];
     let mut aside = scratch();
-    let first = Cursor { at: 7 };
     match read_layout(incoming) {
         LayoutRead::Read {
             edition: v,
             count: n,
             columns: _,
         } => match read_plan(plan) {
-            PlanRead::Read(count, _) => match read_record(incoming, v, n, first, rec, &none[..0]) {
+            PlanRead::Read(count, _) => match read_record(
+                incoming,
+                v,
+                n,
+                Cursor { at: 7 },
+                rec,
+                &none[..0],
+            ) {
                 RecordRead::Fits => {
+                    let first = Cursor { at: 7 };
                     let columns = ColumnRange {
                         edition: v,
                         count: n,
