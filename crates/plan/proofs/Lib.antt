@@ -12,6 +12,7 @@ pub mod Parts
 pub mod Written
 pub mod ReadBack
 pub mod Theorems
+pub mod Entries
 pub mod Moves
 pub mod Holds
 pub mod Sound

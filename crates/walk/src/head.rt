@@ -4,6 +4,7 @@ ghost use mathlib.Core.Path.{_≡_};
 ghost use Prim.Native.Nat.{ℕ, _<_};
 ghost use Rattle.layout.specs.code.Stands.{TypeAt};
 ghost use Rattle.layout.specs.declared.edition.Edition.{Edition as EditionOf};
+ghost use Rattle.plan.specs.code.Constants.{ConstantEnds};
 ghost use Rattle.walk.specs.code.Stands.{SelectorAt, SelectorsAt};
 ghost use Rattle.walk.specs.code.Parts.{TextAt, OptionAt, CountedAt, NameIs, CountedIs, NthIs, HeadIs};
 use layout::bytes::Span;
@@ -70,17 +71,27 @@ pub fn head(plan: &[u8], c: Cursor) -> SelectorHead
 pub fn skip_selector(plan: &[u8], c: Cursor) -> Cursor
     ensures { λ r. ⌜ ((P : SelectorAt (now (plan .entry)) (c .at)) → r .at ≡ P .end) ⌝ }
 {
-    match read_selector(plan, DEEPEST_SELECTOR, c) {
+    let none = [0u16; 1];
+    skip_by(plan, c, &none)
+}
+
+// The same, where a table has the ends of long constants.
+pub fn skip_by(plan: &[u8], c: Cursor, constants: &[u16]) -> Cursor
+    requires { ⌜ ConstantEnds (now plan) (now constants) ⌝ }
+    ensures { λ r. ⌜ ((P : SelectorAt (now (plan .entry)) (c .at)) → r .at ≡ P .end) ⌝ }
+{
+    match read_selector(plan, DEEPEST_SELECTOR, c, constants) {
         Moved::To(e) => e,
         Moved::Refused(_) => c,
     }
 }
 
 // The k-th of the selectors that begin at `first`.
-pub fn nth_selector(plan: &[u8], first: Cursor, k: u16) -> Cursor
+pub fn nth_selector(plan: &[u8], first: Cursor, k: u16, constants: &[u16]) -> Cursor
+    requires { ⌜ ConstantEnds (now plan) (now constants) ⌝ }
     ensures { λ r. ⌜ ((n : ℕ) (Q : SelectorsAt (now (plan .entry)) n (first .at)) → k < n → NthIs (now (plan .entry)) n (first .at) Q k (r .at)) ⌝ }
 {
-    match read_selectors(plan, DEEPEST_SELECTOR, k, first) {
+    match read_selectors(plan, DEEPEST_SELECTOR, k, first, constants) {
         Moved::To(e) => e,
         Moved::Refused(_) => first,
     }
@@ -102,15 +113,21 @@ pub fn cast_option(plan: &[u8], c: Cursor) -> CastOption
     }
 }
 
-// Of the rename whose input begins at `input`.
-pub fn rename_name(plan: &[u8], input: Cursor) -> Span
-    ensures { λ r. ⌜ ((P : SelectorAt (now (plan .entry)) (input .at)) (N : TextAt (now (plan .entry)) (P .end)) → NameIs (now (plan .entry)) (P .end) N r) ⌝ }
+// The name that stands at `c`.
+pub fn name_behind(plan: &[u8], c: Cursor) -> Span
+    ensures { λ r. ⌜ ((at : ℕ) (N : TextAt (now (plan .entry)) at) → c .at ≡ at → NameIs (now (plan .entry)) at N r) ⌝ }
 {
-    let c = skip_selector(plan, input);
     match c.text(plan) {
         Text::Is(name, _) => name,
         Text::Refused(_) => Span { start: 0, len: 0 },
     }
+}
+
+// Of the rename whose input begins at `input`.
+pub fn rename_name(plan: &[u8], input: Cursor) -> Span
+    ensures { λ r. ⌜ ((P : SelectorAt (now (plan .entry)) (input .at)) (N : TextAt (now (plan .entry)) (P .end)) → NameIs (now (plan .entry)) (P .end) N r) ⌝ }
+{
+    name_behind(plan, skip_selector(plan, input))
 }
 
 // The count that stands at `c`, and the selectors behind it.

@@ -7,6 +7,7 @@ ghost use mathlib.Core.Bool.{true};
 ghost use Prim.Native.Nat.{ℕ, _+_, _<_, _≤_};
 ghost use lib.ListN.{length};
 ghost use Rattle.layout.specs.Bytes.{Bytes};
+ghost use Rattle.plan.specs.code.Constants.{ConstantEnds};
 ghost use Rattle.walk.specs.code.Stands.{SelectorAt};
 ghost use Rattle.layout.specs.code.Stands.{TypeAt};
 ghost use Rattle.layout.specs.declared.edition.Edition.{Edition as EditionOf};
@@ -14,7 +15,7 @@ ghost use Rattle.walk.specs.code.Parts.{TextAt, OptionAt, CountedAt};
 ghost use Rattle.walk.specs.code.Ends.{EndsAt};
 use crate::head::SelectorHead;
 use crate::head::head;
-use crate::head::skip_selector;
+use crate::head::skip_by;
 use layout::cursor::Cursor;
 use layout::cursor::Moved;
 use layout::cursor::Short;
@@ -69,13 +70,14 @@ impl InputEnds {
     }
 
     // The end of the selector at `c`, found by skipping where it is not known.
-    pub fn end_of(self, plan: &[u8], c: Cursor) -> Cursor
+    pub fn end_of(self, plan: &[u8], c: Cursor, constants: &[u16]) -> Cursor
+        requires { ⌜ ConstantEnds (now plan) (now constants) ⌝ }
         requires { ⌜ EndsAt (now plan) self ⌝ }
         ensures { λ r. ⌜ ((P : SelectorAt (now (plan .entry)) (c .at)) → r .at ≡ P .end) ⌝ }
     {
         let at = self.known(c.at);
         if at == 0 {
-            return skip_selector(plan, c);
+            return skip_by(plan, c, constants);
         }
         Cursor { at }
     }
@@ -105,11 +107,12 @@ fn name_end(plan: &[u8], c: Cursor) -> Cursor
 }
 
 // Of a count and as many selectors.
-fn fields_end(plan: &[u8], c: Cursor) -> Cursor
+fn fields_end(plan: &[u8], c: Cursor, constants: &[u16]) -> Cursor
+    requires { ⌜ ConstantEnds (now plan) (now constants) ⌝ }
     ensures { λ r. ⌜ ((Q : CountedAt (now (plan .entry)) (c .at)) → r .at ≡ Q .selectors .end) ⌝ }
 {
     match c.short(plan) {
-        Short::Is(n, d) => match read_selectors(plan, DEEPEST_SELECTOR, n, d) {
+        Short::Is(n, d) => match read_selectors(plan, DEEPEST_SELECTOR, n, d, constants) {
             Moved::To(e) => e,
             Moved::Refused(_) => c,
         },
@@ -118,17 +121,18 @@ fn fields_end(plan: &[u8], c: Cursor) -> Cursor
 }
 
 // The end of the selector at `c`, whose input ends at `d`.
-fn end_behind(plan: &[u8], c: Cursor, d: Cursor) -> Cursor
+fn end_behind(plan: &[u8], c: Cursor, d: Cursor, constants: &[u16]) -> Cursor
+    requires { ⌜ ConstantEnds (now plan) (now constants) ⌝ }
     ensures { λ r. ⌜ ((P : SelectorAt (now (plan .entry)) (c .at)) → ((I : SelectorAt (now (plan .entry)) (c .at + 1)) → d .at ≡ I .end) → r .at ≡ P .end) ⌝ }
 {
     match head(plan, c) {
-        SelectorHead::Position(_) => skip_selector(plan, c),
-        SelectorHead::Constant(_, _) => skip_selector(plan, c),
+        SelectorHead::Position(_) => skip_by(plan, c, constants),
+        SelectorHead::Constant(_, _) => skip_by(plan, c, constants),
         SelectorHead::Cast(_) => option_end(plan, d),
         SelectorHead::Rename(_) => name_end(plan, d),
-        SelectorHead::Struct(_) => fields_end(plan, d),
-        SelectorHead::List(_) => skip_selector(plan, d),
-        SelectorHead::Array(_) => skip_selector(plan, d),
+        SelectorHead::Struct(_) => fields_end(plan, d, constants),
+        SelectorHead::List(_) => skip_by(plan, d, constants),
+        SelectorHead::Array(_) => skip_by(plan, d, constants),
         SelectorHead::Refused => c,
     }
 }
@@ -164,24 +168,26 @@ fn chained(plan: &[u8], c: Cursor) -> usize
 }
 
 // Those of the selector at `c` and of its inputs.
-pub fn input_ends(plan: &[u8], c: Cursor) -> InputEnds
+pub fn input_ends(plan: &[u8], c: Cursor, constants: &[u16]) -> InputEnds
+    requires { ⌜ ConstantEnds (now plan) (now constants) ⌝ }
     requires { ⌜ c .at ≤ length (now plan) ⌝ }
     ensures { λ r. ⌜ EndsAt (now (plan .entry)) r ⌝ }
 {
     let first = c.at;
     let mut i = chained(plan, c);
-    let mut d = skip_selector(plan, Cursor { at: first + i });
+    let mut d = skip_by(plan, Cursor { at: first + i }, constants);
     let mut ends = no_ends(first).knowing(i, d.at);
     while 0 < i {
         i -= 1;
-        d = end_behind(plan, Cursor { at: first + i }, d);
+        d = end_behind(plan, Cursor { at: first + i }, d, constants);
         ends = ends.knowing(i, d.at);
     }
     ends
 }
 
 // A table that has the end of the selector at `c`.
-pub fn ends_with(plan: &[u8], ends: InputEnds, c: Cursor) -> InputEnds
+pub fn ends_with(plan: &[u8], ends: InputEnds, c: Cursor, constants: &[u16]) -> InputEnds
+    requires { ⌜ ConstantEnds (now plan) (now constants) ⌝ }
     requires { ⌜ c .at ≤ length (now plan) ⌝ }
     requires { ⌜ EndsAt (now plan) ends ⌝ }
     ensures { λ r. ⌜ EndsAt (now (plan .entry)) r ⌝ }
@@ -189,11 +195,12 @@ pub fn ends_with(plan: &[u8], ends: InputEnds, c: Cursor) -> InputEnds
     if ends.known(c.at) != 0 {
         return ends;
     }
-    input_ends(plan, c)
+    input_ends(plan, c, constants)
 }
 
 // A table that has the end of the input of the mapping at `c`, if a mapping stands there.
-pub fn ends_for(plan: &[u8], ends: InputEnds, c: Cursor) -> InputEnds
+pub fn ends_for(plan: &[u8], ends: InputEnds, c: Cursor, constants: &[u16]) -> InputEnds
+    requires { ⌜ ConstantEnds (now plan) (now constants) ⌝ }
     requires { ⌜ c .at < length (now plan) ⌝ }
     requires { ⌜ EndsAt (now plan) ends ⌝ }
     ensures { λ r. ⌜ EndsAt (now (plan .entry)) r ⌝ }
@@ -202,5 +209,5 @@ pub fn ends_for(plan: &[u8], ends: InputEnds, c: Cursor) -> InputEnds
     if plan[at] < 4 {
         return ends;
     }
-    ends_with(plan, ends, Cursor { at: at + 1 })
+    ends_with(plan, ends, Cursor { at: at + 1 }, constants)
 }

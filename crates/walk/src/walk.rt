@@ -8,6 +8,7 @@ ghost use lib.ListN.{length, getD};
 ghost use Rattle.layout.specs.Bytes.{Bytes};
 ghost use Rattle.plan.specs.Selector.{Selector, position};
 ghost use Rattle.plan.specs.Read.{longestPlan};
+ghost use Rattle.plan.specs.code.Constants.{ConstantEnds};
 ghost use Rattle.walk.specs.code.Stands.{SelectorAt};
 ghost use Rattle.walk.specs.code.State.{Frame, inputOf, State, state};
 ghost use Rattle.walk.specs.code.Moves.{Input, Part, Mapping};
@@ -18,7 +19,7 @@ use crate::head::SelectorHead;
 use crate::head::counted_at;
 use crate::head::head;
 use crate::head::nth_selector;
-use crate::head::skip_selector;
+use crate::head::skip_by;
 use crate::inputs::InputEnds;
 use crate::inputs::ends_for;
 use crate::inputs::no_ends;
@@ -66,21 +67,23 @@ pub fn top(at: usize, lim: usize) -> Walk
 }
 
 // Of the struct mapping whose count stands at `c`.
-fn struct_part(plan: &[u8], c: Cursor, k: u16) -> PartFound
+fn struct_part(plan: &[u8], c: Cursor, k: u16, constants: &[u16]) -> PartFound
+    requires { ⌜ ConstantEnds (now plan) (now constants) ⌝ }
     ensures { λ r. ⌜ ((at m : ℕ) (P : SelectorAt (now (plan .entry)) at) (S : StructAt (now (plan .entry)) at P m) → c .at ≡ S .input .end → PartIs (now (plan .entry)) at P k r) ⌝ }
 {
     let f = counted_at(plan, c);
     let count = f.count;
     let first = f.first;
     if k < count {
-        PartFound::At(nth_selector(plan, first, k))
+        PartFound::At(nth_selector(plan, first, k, constants))
     } else {
         PartFound::None
     }
 }
 
 // The part `k` of the mapping at `c`, whose input ends at `d`.
-fn part(plan: &[u8], c: Cursor, d: Cursor, k: u16) -> PartFound
+fn part(plan: &[u8], c: Cursor, d: Cursor, k: u16, constants: &[u16]) -> PartFound
+    requires { ⌜ ConstantEnds (now plan) (now constants) ⌝ }
     requires { ⌜ ((I : SelectorAt (now plan) (c .at + 1)) → d .at ≡ I .end) ⌝ }
     ensures { λ r. ⌜ ((P : SelectorAt (now (plan .entry)) (c .at)) → Mapping (P .tree) → PartIs (now (plan .entry)) (c .at) P k r) ⌝ }
 {
@@ -89,7 +92,7 @@ fn part(plan: &[u8], c: Cursor, d: Cursor, k: u16) -> PartFound
         SelectorHead::Constant(_, _) => PartFound::None,
         SelectorHead::Cast(_) => PartFound::None,
         SelectorHead::Rename(_) => PartFound::None,
-        SelectorHead::Struct(_) => struct_part(plan, d, k),
+        SelectorHead::Struct(_) => struct_part(plan, d, k, constants),
         SelectorHead::List(_) => PartFound::At(d),
         SelectorHead::Array(_) => PartFound::At(d),
         SelectorHead::Refused => PartFound::None,
@@ -97,25 +100,27 @@ fn part(plan: &[u8], c: Cursor, d: Cursor, k: u16) -> PartFound
 }
 
 // The part `k` of the mapping at `c`, whose input is skipped.
-fn skipped_part(plan: &[u8], c: Cursor, k: u16) -> PartFound
+fn skipped_part(plan: &[u8], c: Cursor, k: u16, constants: &[u16]) -> PartFound
+    requires { ⌜ ConstantEnds (now plan) (now constants) ⌝ }
     requires { ⌜ c .at < 65536 ⌝ }
     ensures { λ r. ⌜ ((P : SelectorAt (now (plan .entry)) (c .at)) → Mapping (P .tree) → PartIs (now (plan .entry)) (c .at) P k r) ⌝ }
 {
-    let d = skip_selector(plan, Cursor { at: c.at + 1 });
-    part(plan, c, d, k)
+    let d = skip_by(plan, Cursor { at: c.at + 1 }, constants);
+    part(plan, c, d, k, constants)
 }
 
 // The part `k` of the mapping at `c`, where the table may have the end of the mapping's input.
-fn part_in(plan: &[u8], ends: InputEnds, c: Cursor, k: u16) -> PartFound
+fn part_in(plan: &[u8], ends: InputEnds, c: Cursor, k: u16, constants: &[u16]) -> PartFound
+    requires { ⌜ ConstantEnds (now plan) (now constants) ⌝ }
     requires { ⌜ EndsAt (now plan) ends ⌝ }
     requires { ⌜ c .at < 65536 ⌝ }
     ensures { λ r. ⌜ ((P : SelectorAt (now (plan .entry)) (c .at)) → Mapping (P .tree) → PartIs (now (plan .entry)) (c .at) P k r) ⌝ }
 {
     let at = ends.known(c.at + 1);
     if at == 0 {
-        return skipped_part(plan, c, k);
+        return skipped_part(plan, c, k, constants);
     }
-    part(plan, c, Cursor { at }, k)
+    part(plan, c, Cursor { at }, k, constants)
 }
 
 impl Walk {
@@ -171,7 +176,8 @@ impl Walk {
     }
 
     // At a mapping.
-    fn entering(self, plan: &[u8], ends: InputEnds) -> Move
+    fn entering(self, plan: &[u8], ends: InputEnds, constants: &[u16]) -> Move
+        requires { ⌜ ConstantEnds (now plan) (now constants) ⌝ }
         requires { ⌜ ((x : State) × WalkAt (now plan) self x) ⌝ }
         requires { ⌜ EndsAt (now plan) ends ⌝ }
         ensures { λ r. ⌜ ((x : State) (M : WalkAt (now (plan .entry)) self x) → Mapping (x .selector) → MoveIs (now (plan .entry)) self x M r) ⌝ }
@@ -179,7 +185,7 @@ impl Walk {
         let d = self.deep;
         if d < self.len {
             let k = self.path[d];
-            match part_in(plan, ends, Cursor { at: self.at }, k) {
+            match part_in(plan, ends, Cursor { at: self.at }, k, constants) {
                 PartFound::At(p) => Move::Enter(p),
                 PartFound::None => Move::Stop,
             }
@@ -210,7 +216,8 @@ impl Walk {
     }
 
     // The next move.
-    fn next_move(self, plan: &[u8], ends: InputEnds) -> Move
+    fn next_move(self, plan: &[u8], ends: InputEnds, constants: &[u16]) -> Move
+        requires { ⌜ ConstantEnds (now plan) (now constants) ⌝ }
         requires { ⌜ ((x : State) × WalkAt (now plan) self x) ⌝ }
         requires { ⌜ EndsAt (now plan) ends ⌝ }
         ensures { λ r. ⌜ ((x : State) (M : WalkAt (now (plan .entry)) self x) → MoveIs (now (plan .entry)) self x M r) ⌝ }
@@ -227,35 +234,37 @@ impl Walk {
                     Move::Stop
                 }
             }
-            SelectorHead::Struct(_) => self.entering(plan, ends),
-            SelectorHead::List(_) => self.entering(plan, ends),
-            SelectorHead::Array(_) => self.entering(plan, ends),
+            SelectorHead::Struct(_) => self.entering(plan, ends, constants),
+            SelectorHead::List(_) => self.entering(plan, ends, constants),
+            SelectorHead::Array(_) => self.entering(plan, ends, constants),
             SelectorHead::Refused => Move::Stop,
         }
     }
 
     // The table of ends for the next move.
-    fn ends_ahead(self, plan: &[u8], ends: InputEnds) -> InputEnds
+    fn ends_ahead(self, plan: &[u8], ends: InputEnds, constants: &[u16]) -> InputEnds
+        requires { ⌜ ConstantEnds (now plan) (now constants) ⌝ }
         requires { ⌜ ((x : State) × WalkAt (now plan) self x) ⌝ }
         requires { ⌜ EndsAt (now plan) ends ⌝ }
         ensures { λ r. ⌜ EndsAt (now (plan .entry)) r ⌝ }
     {
         if self.deep < self.len {
-            return ends_for(plan, ends, Cursor { at: self.at });
+            return ends_for(plan, ends, Cursor { at: self.at }, constants);
         }
         ends
     }
 
     // Moves on until no move is left.
-    pub fn locate(self, plan: &[u8]) -> Walk
+    pub fn locate(self, plan: &[u8], constants: &[u16]) -> Walk
+        requires { ⌜ ConstantEnds (now plan) (now constants) ⌝ }
         requires { ⌜ ((x : State) × WalkAt (now plan) self x) ⌝ }
         ensures { λ r. ⌜ ((x : State) → WalkAt (now (plan .entry)) self x → Located (now (plan .entry)) x self r) ⌝ }
     {
         let mut w = self;
         let mut ends = no_ends(0);
         loop {
-            ends = w.ends_ahead(plan, ends);
-            match w.next_move(plan, ends) {
+            ends = w.ends_ahead(plan, ends, constants);
+            match w.next_move(plan, ends, constants) {
                 Move::Input => {
                     w = w.to_input();
                 }
@@ -291,21 +300,23 @@ impl Walk {
     }
 
     // At a mapping with no path left: into its part `k`.
-    pub fn child(self, plan: &[u8], k: u16) -> Walk
+    pub fn child(self, plan: &[u8], k: u16, constants: &[u16]) -> Walk
+        requires { ⌜ ConstantEnds (now plan) (now constants) ⌝ }
         requires { ⌜ ((x : State) × WalkAt (now plan) self x) × (self .deep < 64) ⌝ }
         ensures { λ r. ⌜ ((x : State) (f : Frame) (t : Selector) → WalkAt (now (plan .entry)) self x → x .path ≡ [] → Part (x .selector) k f t → StepsTo (now (plan .entry)) (state t (f ∷ x .frames) []) self r) ⌝ }
     {
-        let found = skipped_part(plan, Cursor { at: self.at }, k);
+        let found = skipped_part(plan, Cursor { at: self.at }, k, constants);
         self.into_part(found, k)
     }
 
     // The same, where the table may have the end of the mapping's input.
-    pub fn child_in(self, plan: &[u8], ends: InputEnds, k: u16) -> Walk
+    pub fn child_in(self, plan: &[u8], ends: InputEnds, k: u16, constants: &[u16]) -> Walk
+        requires { ⌜ ConstantEnds (now plan) (now constants) ⌝ }
         requires { ⌜ ((x : State) × WalkAt (now plan) self x) × (self .deep < 64) ⌝ }
         requires { ⌜ EndsAt (now plan) ends ⌝ }
         ensures { λ r. ⌜ ((x : State) (f : Frame) (t : Selector) → WalkAt (now (plan .entry)) self x → x .path ≡ [] → Part (x .selector) k f t → StepsTo (now (plan .entry)) (state t (f ∷ x .frames) []) self r) ⌝ }
     {
-        let found = part_in(plan, ends, Cursor { at: self.at }, k);
+        let found = part_in(plan, ends, Cursor { at: self.at }, k, constants);
         self.into_part(found, k)
     }
 }

@@ -45,91 +45,91 @@ use Rattle.plan.proofs.read.+read_cast+read_element_mapping+read_rename
   close,
 }
 
-abbrev μ-read-cast : Measures 1 read-cast-kinds.ps ℕ
+abbrev μ-read-cast : Measures 2 read-cast-kinds.ps ℕ
 μ-read-cast κs a = 4 * (a .1 .0) + 2
 
-abbrev μ-read-element-mapping : Measures 1 read-element-mapping-kinds.ps ℕ
+abbrev μ-read-element-mapping : Measures 2 read-element-mapping-kinds.ps ℕ
 μ-read-element-mapping κs a = 4 * (a .1 .0) + 2
 
-abbrev μ-read-rename : Measures 1 read-rename-kinds.ps ℕ
+abbrev μ-read-rename : Measures 2 read-rename-kinds.ps ℕ
 μ-read-rename κs a = 4 * (a .1 .0) + 2
 
-abbrev μ-read-rest : Measures 1 read-rest-kinds.ps ℕ
+abbrev μ-read-rest : Measures 2 read-rest-kinds.ps ℕ
 μ-read-rest κs a = 4 * (a .1 .0) + 3
 
-abbrev μ-read-selector : Measures 1 read-selector-kinds.ps ℕ
+abbrev μ-read-selector : Measures 2 read-selector-kinds.ps ℕ
 μ-read-selector κs a = 4 * (a .1 .0) + 0
 
-abbrev μ-read-selectors : Measures 1 read-selectors-kinds.ps ℕ
+abbrev μ-read-selectors : Measures 2 read-selectors-kinds.ps ℕ
 μ-read-selectors κs a = 4 * (a .1 .0) + 1
 
-abbrev μ-read-struct : Measures 1 read-struct-kinds.ps ℕ
+abbrev μ-read-struct : Measures 2 read-struct-kinds.ps ℕ
 μ-read-struct κs a = 4 * (a .1 .0) + 2
 
-abbrev read-cast-at : ℕ → In 1 read-cast-kinds.ps
-read-cast-at t = and 1 read-cast-kinds.ps (is 1 read-cast-kinds.ps μ-read-cast t) read-cast.Pre
+abbrev read-cast-at : ℕ → In 2 read-cast-kinds.ps
+read-cast-at t = and 2 read-cast-kinds.ps (is 2 read-cast-kinds.ps μ-read-cast t) read-cast.Pre
 
-abbrev read-cast-below : ℕ → In 1 read-cast-kinds.ps
+abbrev read-cast-below : ℕ → In 2 read-cast-kinds.ps
 read-cast-below t =
-    and 1 read-cast-kinds.ps (falls 1 read-cast-kinds.ps _<_ μ-read-cast t) read-cast.Pre
+    and 2 read-cast-kinds.ps (falls 2 read-cast-kinds.ps _<_ μ-read-cast t) read-cast.Pre
 
-abbrev read-element-mapping-at : ℕ → In 1 read-element-mapping-kinds.ps
-read-element-mapping-at t = and 1 read-element-mapping-kinds.ps (is 1 read-element-mapping-kinds.ps μ-read-element-mapping t) read-element-mapping.Pre
+abbrev read-element-mapping-at : ℕ → In 2 read-element-mapping-kinds.ps
+read-element-mapping-at t = and 2 read-element-mapping-kinds.ps (is 2 read-element-mapping-kinds.ps μ-read-element-mapping t) read-element-mapping.Pre
 
-abbrev read-element-mapping-below : ℕ → In 1 read-element-mapping-kinds.ps
+abbrev read-element-mapping-below : ℕ → In 2 read-element-mapping-kinds.ps
 read-element-mapping-below t =
-    and 1 read-element-mapping-kinds.ps (falls 1 read-element-mapping-kinds.ps _<_ μ-read-element-mapping t) read-element-mapping.Pre
+    and 2 read-element-mapping-kinds.ps (falls 2 read-element-mapping-kinds.ps _<_ μ-read-element-mapping t) read-element-mapping.Pre
 
-abbrev read-rename-at : ℕ → In 1 read-rename-kinds.ps
+abbrev read-rename-at : ℕ → In 2 read-rename-kinds.ps
 read-rename-at t =
-    and 1 read-rename-kinds.ps (is 1 read-rename-kinds.ps μ-read-rename t) read-rename.Pre
+    and 2 read-rename-kinds.ps (is 2 read-rename-kinds.ps μ-read-rename t) read-rename.Pre
 
-abbrev read-rename-below : ℕ → In 1 read-rename-kinds.ps
+abbrev read-rename-below : ℕ → In 2 read-rename-kinds.ps
 read-rename-below t =
-    and 1 read-rename-kinds.ps (falls 1 read-rename-kinds.ps _<_ μ-read-rename t) read-rename.Pre
+    and 2 read-rename-kinds.ps (falls 2 read-rename-kinds.ps _<_ μ-read-rename t) read-rename.Pre
 
-abbrev read-rest-at : ℕ → In 1 read-rest-kinds.ps
-read-rest-at t = and 1 read-rest-kinds.ps (is 1 read-rest-kinds.ps μ-read-rest t) read-rest.Pre
+abbrev read-rest-at : ℕ → In 2 read-rest-kinds.ps
+read-rest-at t = and 2 read-rest-kinds.ps (is 2 read-rest-kinds.ps μ-read-rest t) read-rest.Pre
 
-abbrev read-rest-below : ℕ → In 1 read-rest-kinds.ps
+abbrev read-rest-below : ℕ → In 2 read-rest-kinds.ps
 read-rest-below t =
-    and 1 read-rest-kinds.ps (falls 1 read-rest-kinds.ps _<_ μ-read-rest t) read-rest.Pre
+    and 2 read-rest-kinds.ps (falls 2 read-rest-kinds.ps _<_ μ-read-rest t) read-rest.Pre
 
-abbrev read-selector-at : ℕ → In 1 read-selector-kinds.ps
+abbrev read-selector-at : ℕ → In 2 read-selector-kinds.ps
 read-selector-at t =
-    and 1 read-selector-kinds.ps (is 1 read-selector-kinds.ps μ-read-selector t) read-selector.Pre
+    and 2 read-selector-kinds.ps (is 2 read-selector-kinds.ps μ-read-selector t) read-selector.Pre
 
-abbrev read-selector-below : ℕ → In 1 read-selector-kinds.ps
+abbrev read-selector-below : ℕ → In 2 read-selector-kinds.ps
 read-selector-below t =
     and
-    1
+    2
     read-selector-kinds.ps
-    (falls 1 read-selector-kinds.ps _<_ μ-read-selector t)
+    (falls 2 read-selector-kinds.ps _<_ μ-read-selector t)
     read-selector.Pre
 
-abbrev read-selectors-at : ℕ → In 1 read-selectors-kinds.ps
+abbrev read-selectors-at : ℕ → In 2 read-selectors-kinds.ps
 read-selectors-at t =
     and
-    1
+    2
     read-selectors-kinds.ps
-    (is 1 read-selectors-kinds.ps μ-read-selectors t)
+    (is 2 read-selectors-kinds.ps μ-read-selectors t)
     read-selectors.Pre
 
-abbrev read-selectors-below : ℕ → In 1 read-selectors-kinds.ps
+abbrev read-selectors-below : ℕ → In 2 read-selectors-kinds.ps
 read-selectors-below t =
     and
-    1
+    2
     read-selectors-kinds.ps
-    (falls 1 read-selectors-kinds.ps _<_ μ-read-selectors t)
+    (falls 2 read-selectors-kinds.ps _<_ μ-read-selectors t)
     read-selectors.Pre
 
-abbrev read-struct-at : ℕ → In 1 read-struct-kinds.ps
+abbrev read-struct-at : ℕ → In 2 read-struct-kinds.ps
 read-struct-at t =
-    and 1 read-struct-kinds.ps (is 1 read-struct-kinds.ps μ-read-struct t) read-struct.Pre
+    and 2 read-struct-kinds.ps (is 2 read-struct-kinds.ps μ-read-struct t) read-struct.Pre
 
-abbrev read-struct-below : ℕ → In 1 read-struct-kinds.ps
+abbrev read-struct-below : ℕ → In 2 read-struct-kinds.ps
 read-struct-below t =
-    and 1 read-struct-kinds.ps (falls 1 read-struct-kinds.ps _<_ μ-read-struct t) read-struct.Pre
+    and 2 read-struct-kinds.ps (falls 2 read-struct-kinds.ps _<_ μ-read-struct t) read-struct.Pre
 
 abbrev read-cast-claims : ℕ → read-cast-lts.Claims
 read-cast-claims t = (
@@ -173,10 +173,10 @@ abbrev read-struct-claims : ℕ → read-struct-lts.Claims
 read-struct-claims t = (read-selector-below t, read-selector.Post, short-reads.Asked, short-reads.Learnt, read-selectors-below t, read-selectors.Post)
 
 abbrev read-selectors-Inv-loop : read-selectors-lts.InvT-loop
-read-selectors-Inv-loop s depth n d₀ i₀ d i = Passing (selector depth) s n (d₀ .at) i (d .at)
+read-selectors-Inv-loop s depth n constants d₀ i₀ d i = Passing (selector depth) s n (d₀ .at) i (d .at)
 
 abbrev read-selectors-μ-loop : read-selectors-lts.MeasureT-loop
-read-selectors-μ-loop s depth n d₀ i₀ d i = n - i
+read-selectors-μ-loop s depth n constants d₀ i₀ d i = n - i
 
 pub +read-cast+read-element-mapping+read-rename+read-rest+read-selector+read-selectors+read-struct-spec : {M : Type 1} → statement M
 +read-cast+read-element-mapping+read-rename+read-rest+read-selector+read-selectors+read-struct-spec =

@@ -13,4 +13,4 @@ first-part-spec =
     (λ c. search needs)
     (λ c. search needs)
     (λ c κs. search needs)
-    (λ c. reached-element 0 (c .before .if1 .left) (c .skip-selector .ensures)))
+    (λ c. reached-element 0 (c .before .if1 .left) (c .skip-by .ensures)))

@@ -10,5 +10,5 @@ next-part-spec =
     (tie.spec
     (λ c. search needs)
     (λ c κs. search needs)
-    (λ c. λ k R T. reached-next R T (c .before .if1 .taken) (c .skip-selector .ensures))
+    (λ c. λ k R T. reached-next R T (c .before .if1 .taken) (c .skip-by .ensures))
     (λ c. λ k R T. reached-same R (c .if1 .left)))

@@ -1,11 +1,8 @@
--- `walk::head::skip_selector` meets its contract: a selector that stands there is not refused. Assumes nothing.
+-- `walk::head::skip_selector` meets its contract: no constant's end is known. Assumes nothing.
+use Rattle.plan.proofs.Entries.{constants-none}
 use borrow.Author.Needs.{needs}
-use Rattle.walk.proofs.Heads.{selector-ends, selector-stuck}
 use Rattle.walk.proofs.head.skip_selector.Statement.{statement}
 use Rattle.walk.proofs.head.skip_selector.Tie as tie
 
 pub skip-selector-spec : {M : Type 1} → statement M
-skip-selector-spec =
-    tie.close (tie.spec (λ c κs. search needs) (λ c. search needs) (λ c. search needs)
-    (λ c. λ P. selector-ends P (c .before .before .before .read-selector .ensures) (c .before .e .given .1))
-    (λ c. λ P. selector-stuck P (c .before .before .read-selector .ensures) (c .enum-told .given .1)))
+skip-selector-spec = tie.close (tie.spec (λ c. search needs) (λ c κs. constants-none 1) (λ c. search needs))

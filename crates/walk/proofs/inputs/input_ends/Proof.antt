@@ -6,10 +6,10 @@ use Rattle.walk.proofs.inputs.input_ends.Statement.{statement}
 use Rattle.walk.proofs.inputs.input_ends.Tie as tie
 
 abbrev Inv-loop : tie.InvT-loop
-Inv-loop plan first i₀ d₀ ends₀ i d ends = Ending plan first i (d .at) ends
+Inv-loop plan constants first i₀ d₀ ends₀ i d ends = Ending plan first i (d .at) ends
 
 abbrev μ-loop : tie.MeasureT-loop
-μ-loop plan first i₀ d₀ ends₀ i d ends = i
+μ-loop plan constants first i₀ d₀ ends₀ i d ends = i
 
 pub input-ends-spec : {M : Type 1} → statement M
 input-ends-spec =
@@ -24,7 +24,7 @@ input-ends-spec =
     (λ c κs. search needs)
     (λ c.
     let c1 = c .before in let c2 = c1 .before in let c3 = c2 .before in let c5 = c3 .before .before in
-    ending (c1 .no-ends .ensures .1) (c3 .chained .ensures) (c2 .skip-selector .ensures) (c1 .no-ends .ensures .0 (now (c5 .args .plan)))
+    ending (c1 .no-ends .ensures .1) (c3 .chained .ensures) (c2 .skip-by .ensures) (c1 .no-ends .ensures .0 (now (c5 .before .args .plan)))
     (c .knowing .ensures))
     (λ c. search needs)
     (λ c. search needs)

@@ -26,13 +26,13 @@ part-spec =
     (λ c. λ P m. part-rename (is-rename (c .before .before .head .ensures P) (c .enum-told4 .given .1)) m)
     (λ c.
     let c3 = c .before .before .before in let c5 = c3 .before .before in
-    λ P m. let S = is-struct (c3 .head .ensures P) (c .before .enum-told5 .given .1) in c .struct-part .ensures (c5 .args .c .at) _ P S
-    (c5 .pre (selector-moved (S .starts) (S .input))))
+    λ P m. let S = is-struct (c3 .head .ensures P) (c .before .enum-told5 .given .1) in c .struct-part .ensures (c5 .before .args .c .at) _ P S
+    (c5 .before .pre .1 (selector-moved (S .starts) (S .input))))
     (λ c.
     let c2 = c .before .before in let c4 = c2 .before .before in
-    λ P m. let L = is-list (c2 .head .ensures P) (c .enum-told6 .given .1) in list-found (c4 .args .k) L (c4 .pre (selector-moved (L .starts) (L .input))))
+    λ P m. let L = is-list (c2 .head .ensures P) (c .enum-told6 .given .1) in list-found (c4 .before .args .k) L (c4 .before .pre .1 (selector-moved (L .starts) (L .input))))
     (λ c.
     let c2 = c .before .before in let c4 = c2 .before .before in
-    λ P m. let A = is-array (c2 .head .ensures P) (c .enum-told7 .given .1) in array-found (c4 .args .k) A
-    (c4 .pre (selector-moved (A .starts) (A .input))))
+    λ P m. let A = is-array (c2 .head .ensures P) (c .enum-told7 .given .1) in array-found (c4 .before .args .k) A
+    (c4 .before .pre .1 (selector-moved (A .starts) (A .input))))
     (λ c. λ P m. never-refused (c .before .before .head .ensures P) (c .enum-told8 .given .1)))

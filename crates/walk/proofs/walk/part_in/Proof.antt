@@ -12,5 +12,7 @@ part-in-spec =
     (λ c κs. search needs)
     (λ c κs. search needs)
     (λ c. search needs)
-    (λ c κs. λ I. c .before .known .ensures (now (c .before .before .before .before .args .plan)) I (c .before .before .before .before .pre .0) (c .if1 .left))
+    (λ c κs.
+    let c5 = c .before .before .before .before .before in
+    (c5 .pre .0, λ I. c .before .known .ensures (now (c5 .args .plan)) I (c5 .pre .1 .0) (c .if1 .left)))
     (λ c. search needs))

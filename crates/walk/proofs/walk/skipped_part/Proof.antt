@@ -9,5 +9,5 @@ skipped-part-spec =
     (tie.spec
     (λ c. search needs)
     (λ c κs. search needs)
-    (λ c κs. c .skip-selector .ensures)
+    (λ c κs. (c .before .before .before .before .pre .0, c .skip-by .ensures))
     (λ c. search needs))

@@ -10,4 +10,4 @@ end-of-spec =
     (λ c κs. search needs)
     (λ c κs. search needs)
     (λ c. search needs)
-    (λ c. λ P. c .before .known .ensures _ P (c .before .before .before .pre) (c .if1 .left)))
+    (λ c. λ P. c .before .known .ensures _ P (c .before .before .before .before .pre .1) (c .if1 .left)))

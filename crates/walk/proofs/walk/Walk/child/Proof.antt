@@ -9,6 +9,6 @@ pub child-spec : {M : Type 1} → statement M
 child-spec =
     tie.close
     (tie.spec
-    (λ c κs. walk-small (c .before .pre .0 .1))
-    (λ c κs. (walk-small (c .before .before .pre .0 .1), c .before .before .pre .1))
-    (λ c. λ x f t M h p. c .into-part .ensures (now (c .before .before .before .args .plan)) x f t M h p (c .before .skipped-part .ensures)))
+    (λ c κs. let p = c .before .before .pre in (p .0, walk-small (p .1 .0 .1)))
+    (λ c κs. (walk-small (c .before .before .before .pre .1 .0 .1), c .before .before .before .pre .1 .1))
+    (λ c. λ x f t M h p. c .into-part .ensures (now (c .before .before .before .before .args .plan)) x f t M h p (c .before .skipped-part .ensures)))

@@ -9,6 +9,6 @@ pub child-in-spec : {M : Type 1} → statement M
 child-in-spec =
     tie.close
     (tie.spec
-    (λ c κs. (c .before .pre .1, walk-small (c .before .pre .0 .0 .1)))
-    (λ c κs. (walk-small (c .before .before .pre .0 .0 .1), c .before .before .pre .0 .1))
-    (λ c. λ x f t M h p. c .into-part .ensures (now (c .before .before .before .args .plan)) x f t M h p (c .before .part-in .ensures)))
+    (λ c κs. let p = c .before .before .pre in (p .0, (p .1 .1, walk-small (p .1 .0 .0 .1))))
+    (λ c κs. (walk-small (c .before .before .before .pre .1 .0 .0 .1), c .before .before .before .pre .1 .0 .1))
+    (λ c. λ x f t M h p. c .into-part .ensures (now (c .before .before .before .before .args .plan)) x f t M h p (c .before .part-in .ensures)))

@@ -5,5 +5,5 @@ use Rattle.walk.proofs.walk.Walk.ends_ahead.Statement.{statement}
 use Rattle.walk.proofs.walk.Walk.ends_ahead.Tie as tie
 
 pub ends-ahead-spec : {M : Type 1} → statement M
-ends-ahead-spec = tie.close (tie.spec (λ c κs. (walk-inside (c .before .before .before .pre .0 .1), c .before .before .before .pre .1))
+ends-ahead-spec = tie.close (tie.spec (λ c κs. let p = c .before .before .before .before .pre in (p .0, (walk-inside (p .1 .0 .1), p .1 .1)))
     (λ c. search needs) (λ c. search needs))

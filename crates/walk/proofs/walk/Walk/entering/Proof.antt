@@ -11,7 +11,7 @@ entering-spec =
     (tie.spec
     (λ c. search needs)
     (λ c. search needs)
-    (λ c κs. (c .before .before .before .pre .1, walk-small (c .before .before .before .pre .0 .1)))
+    (λ c κs. let p = c .before .before .before .before .pre in (p .0, (p .1 .1, walk-small (p .1 .0 .1))))
     (λ c. search needs)
     (λ c. search needs)
     (λ c.
