@@ -12,8 +12,9 @@ pub mod Parts
 pub mod Written
 pub mod ReadBack
 pub mod Theorems
-pub mod Entries
 pub mod Moves
+pub mod Deeper
+pub mod Skipping
 pub mod Holds
 pub mod Sound
 pub mod Exact

@@ -4,4 +4,4 @@ pub mod Formed
 pub mod Fallback
 pub mod Answers
 pub mod Written
-pub mod Constants
+pub mod Skips

@@ -1,5 +1,5 @@
-// Reading a plan (30): selectors by recursion with the remaining nesting falling, counts of them by loops. Constants
-// whose ends a table has are not read again.
+// Reading a plan (30): selectors by recursion with the remaining nesting falling, counts of them by loops. Where they
+// end is kept in a table that is lent, if it has room.
 ghost use mathlib.Core.Path.{_≡_};
 ghost use mathlib.Core.Bool.{true};
 ghost use Prim.Native.Nat.{_+_, _<_, _≤_};
@@ -8,8 +8,10 @@ ghost use Rattle.layout.specs.code.Answers.{movedOf};
 ghost use Rattle.layout.specs.Layout.{text};
 ghost use Rattle.plan.specs.Read.{dataType, castOption, positionRest, constantRest, castRest, renameRest, structRest, listRest, arrayRest, selectorRest, selector, selectors, planCounted, faulty, plan};
 ghost use Rattle.plan.specs.code.Answers.{valueEnd, planRead};
-ghost use Rattle.plan.specs.code.Constants.{ConstantEnds};
-use crate::constants::known_end;
+ghost use Rattle.plan.specs.code.Skips.{Skips};
+use crate::skips::Since;
+use crate::skips::keep_passed;
+use crate::skips::keep_skip;
 use layout::bytes::same_bytes;
 use layout::cursor::Cursor;
 use layout::cursor::Moved;
@@ -32,7 +34,7 @@ pub enum PlanRead {
     Refused(u8),
 }
 
-pub fn read_text(s: &[u8], c: Cursor) -> Moved
+fn read_text(s: &[u8], c: Cursor) -> Moved
     ensures { λ r. ⌜ r ≡ movedOf (text (now (s .entry)) (c .at)) ⌝ }
 {
     match c.text(s) {
@@ -42,13 +44,13 @@ pub fn read_text(s: &[u8], c: Cursor) -> Moved
 }
 
 // A type in version 1 form.
-pub fn read_data_type(s: &[u8], c: Cursor) -> Moved
+fn read_data_type(s: &[u8], c: Cursor) -> Moved
     ensures { λ r. ⌜ r ≡ movedOf (dataType (now (s .entry)) (c .at)) ⌝ }
 {
     pass_type(s, Edition::One, DEEPEST, c)
 }
 
-pub fn read_option(s: &[u8], c: Cursor) -> Moved
+fn read_option(s: &[u8], c: Cursor) -> Moved
     ensures { λ r. ⌜ r ≡ movedOf (castOption (now (s .entry)) (c .at)) ⌝ }
 {
     match c.byte(s) {
@@ -60,7 +62,7 @@ pub fn read_option(s: &[u8], c: Cursor) -> Moved
     }
 }
 
-pub fn read_position(s: &[u8], c: Cursor) -> Moved
+fn read_position(s: &[u8], c: Cursor) -> Moved
     ensures { λ r. ⌜ r ≡ movedOf (positionRest (now (s .entry)) (c .at)) ⌝ }
 {
     match c.short(s) {
@@ -78,15 +80,10 @@ fn value_end(r: ValueRead) -> Moved
     }
 }
 
-// A name, a type and a value of it; where it is known, where they end.
-pub fn read_constant(s: &[u8], c: Cursor, constants: &[u16]) -> Moved
-    requires { ⌜ ConstantEnds (now s) (now constants) ⌝ }
+// A name, a type and a value of it.
+fn read_constant(s: &[u8], c: Cursor) -> Moved
     ensures { λ r. ⌜ r ≡ movedOf (constantRest (now (s .entry)) (c .at)) ⌝ }
 {
-    let at = known_end(constants, c.at);
-    if at != 0 {
-        return Moved::To(Cursor { at });
-    }
     match c.text(s) {
         Text::Is(_, d) => match pass_type(s, Edition::One, DEEPEST, d) {
             Moved::To(e) => value_end(read_constant_value(s, d, e, e)),
@@ -97,40 +94,43 @@ pub fn read_constant(s: &[u8], c: Cursor, constants: &[u16]) -> Moved
 }
 
 // A selector of at most `depth` levels.
-pub fn read_selector(s: &[u8], depth: u8, c: Cursor, constants: &[u16]) -> Moved
-    requires { ⌜ ConstantEnds (now s) (now constants) ⌝ }
+pub fn read_selector(s: &[u8], depth: u8, c: Cursor, skips: &mut [u16]) -> Moved
+    requires { ⌜ Skips (now s) (now skips) ⌝ }
     ensures { λ r. ⌜ r ≡ movedOf (selector depth (now (s .entry)) (c .at)) ⌝ }
+    ensures { λ r. ⌜ Skips (now (s .entry)) (now (skips .exit)) × (length (now (skips .exit)) ≡ length (now (skips .entry))) ⌝ }
 {
     if depth == 0 {
         return Moved::Refused(4);
     }
     match c.byte(s) {
-        Step::Byte(code, d) => read_rest(s, depth - 1, code, d, constants),
+        Step::Byte(code, d) => read_rest(s, depth - 1, code, d, skips),
         Step::Refused(k) => Moved::Refused(k),
     }
 }
 
 // What follows a selector's code; the selectors inside have at most `depth` levels.
-fn read_rest(s: &[u8], depth: u8, code: u8, c: Cursor, constants: &[u16]) -> Moved
-    requires { ⌜ ConstantEnds (now s) (now constants) ⌝ }
+fn read_rest(s: &[u8], depth: u8, code: u8, c: Cursor, skips: &mut [u16]) -> Moved
+    requires { ⌜ Skips (now s) (now skips) ⌝ }
     ensures { λ r. ⌜ r ≡ movedOf (selectorRest (selector depth) code (now (s .entry)) (c .at)) ⌝ }
+    ensures { λ r. ⌜ Skips (now (s .entry)) (now (skips .exit)) × (length (now (skips .exit)) ≡ length (now (skips .entry))) ⌝ }
 {
     match code {
         0 => read_position(s, c),
-        1 => read_constant(s, c, constants),
-        2 => read_cast(s, depth, c, constants),
-        3 => read_rename(s, depth, c, constants),
-        4 => read_struct(s, depth, c, constants),
-        5 | 6 => read_element_mapping(s, depth, c, constants),
+        1 => read_constant(s, c),
+        2 => read_cast(s, depth, c, skips),
+        3 => read_rename(s, depth, c, skips),
+        4 => read_struct(s, depth, c, skips),
+        5 | 6 => read_element_mapping(s, depth, c, skips),
         _ => Moved::Refused(3),
     }
 }
 
-fn read_cast(s: &[u8], depth: u8, c: Cursor, constants: &[u16]) -> Moved
-    requires { ⌜ ConstantEnds (now s) (now constants) ⌝ }
+fn read_cast(s: &[u8], depth: u8, c: Cursor, skips: &mut [u16]) -> Moved
+    requires { ⌜ Skips (now s) (now skips) ⌝ }
     ensures { λ r. ⌜ r ≡ movedOf (castRest (selector depth) (now (s .entry)) (c .at)) ⌝ }
+    ensures { λ r. ⌜ Skips (now (s .entry)) (now (skips .exit)) × (length (now (skips .exit)) ≡ length (now (skips .entry))) ⌝ }
 {
-    match read_selector(s, depth, c, constants) {
+    match read_selector(s, depth, c, skips) {
         Moved::To(d) => match read_data_type(s, d) {
             Moved::To(e) => read_option(s, e),
             Moved::Refused(k) => Moved::Refused(k),
@@ -139,43 +139,52 @@ fn read_cast(s: &[u8], depth: u8, c: Cursor, constants: &[u16]) -> Moved
     }
 }
 
-fn read_rename(s: &[u8], depth: u8, c: Cursor, constants: &[u16]) -> Moved
-    requires { ⌜ ConstantEnds (now s) (now constants) ⌝ }
+fn read_rename(s: &[u8], depth: u8, c: Cursor, skips: &mut [u16]) -> Moved
+    requires { ⌜ Skips (now s) (now skips) ⌝ }
     ensures { λ r. ⌜ r ≡ movedOf (renameRest (selector depth) (now (s .entry)) (c .at)) ⌝ }
+    ensures { λ r. ⌜ Skips (now (s .entry)) (now (skips .exit)) × (length (now (skips .exit)) ≡ length (now (skips .entry))) ⌝ }
 {
-    match read_selector(s, depth, c, constants) {
+    match read_selector(s, depth, c, skips) {
         Moved::To(d) => read_text(s, d),
         Moved::Refused(k) => Moved::Refused(k),
     }
 }
 
-fn read_struct(s: &[u8], depth: u8, c: Cursor, constants: &[u16]) -> Moved
-    requires { ⌜ ConstantEnds (now s) (now constants) ⌝ }
+fn read_struct(s: &[u8], depth: u8, c: Cursor, skips: &mut [u16]) -> Moved
+    requires { ⌜ Skips (now s) (now skips) ⌝ }
     ensures { λ r. ⌜ r ≡ movedOf (structRest (selector depth) (now (s .entry)) (c .at)) ⌝ }
+    ensures { λ r. ⌜ Skips (now (s .entry)) (now (skips .exit)) × (length (now (skips .exit)) ≡ length (now (skips .entry))) ⌝ }
 {
-    match read_selector(s, depth, c, constants) {
-        Moved::To(d) => match d.short(s) {
-            Short::Is(n, e) => read_selectors(s, depth, n, e, constants),
-            Short::Refused(k) => Moved::Refused(k),
-        },
+    match read_selector(s, depth, c, skips) {
+        Moved::To(d) => {
+            keep_skip(skips, depth, c, 1, d);
+            match d.short(s) {
+                Short::Is(n, e) => read_selectors(s, depth, n, e, skips),
+                Short::Refused(k) => Moved::Refused(k),
+            }
+        }
         Moved::Refused(k) => Moved::Refused(k),
     }
 }
 
 // A list or array mapping: the input, then the selector for each element.
-fn read_element_mapping(s: &[u8], depth: u8, c: Cursor, constants: &[u16]) -> Moved
-    requires { ⌜ ConstantEnds (now s) (now constants) ⌝ }
+fn read_element_mapping(s: &[u8], depth: u8, c: Cursor, skips: &mut [u16]) -> Moved
+    requires { ⌜ Skips (now s) (now skips) ⌝ }
     ensures { λ r. ⌜ r ≡ movedOf (listRest (selector depth) (now (s .entry)) (c .at)) ⌝ }
     ensures { λ r. ⌜ r ≡ movedOf (arrayRest (selector depth) (now (s .entry)) (c .at)) ⌝ }
+    ensures { λ r. ⌜ Skips (now (s .entry)) (now (skips .exit)) × (length (now (skips .exit)) ≡ length (now (skips .entry))) ⌝ }
 {
-    match read_selector(s, depth, c, constants) {
-        Moved::To(d) => read_selector(s, depth, d, constants),
+    match read_selector(s, depth, c, skips) {
+        Moved::To(d) => {
+            keep_skip(skips, depth, c, 1, d);
+            read_selector(s, depth, d, skips)
+        }
         Moved::Refused(k) => Moved::Refused(k),
     }
 }
 
 // Whether a position stands at `c`, whole, and may: what most selectors are, and passed over at once.
-fn is_position(s: &[u8], depth: u8, c: Cursor) -> bool
+pub fn is_position(s: &[u8], depth: u8, c: Cursor) -> bool
     ensures { λ r. ⌜ (r ≡ true → (0 < depth) × (c .at + 3 ≤ length (now (s .entry))) × (getD (now (s .entry)) (c .at) 0 ≡ 0)) ⌝ }
 {
     let at = c.at;
@@ -192,19 +201,24 @@ fn is_position(s: &[u8], depth: u8, c: Cursor) -> bool
 }
 
 // `n` selectors, each of at most `depth` levels.
-pub fn read_selectors(s: &[u8], depth: u8, n: u16, c: Cursor, constants: &[u16]) -> Moved
-    requires { ⌜ ConstantEnds (now s) (now constants) ⌝ }
+pub fn read_selectors(s: &[u8], depth: u8, n: u16, c: Cursor, skips: &mut [u16]) -> Moved
+    requires { ⌜ Skips (now s) (now skips) ⌝ }
     ensures { λ r. ⌜ r ≡ movedOf (selectors (selector depth) n (now (s .entry)) (c .at)) ⌝ }
+    ensures { λ r. ⌜ Skips (now (s .entry)) (now (skips .exit)) × (length (now (skips .exit)) ≡ length (now (skips .entry))) ⌝ }
 {
     let mut d = c;
     let mut i: u16 = 0;
+    let mut since = Since { from: c, count: 0 };
     while i < n {
         if is_position(s, depth, d) {
-            d = Cursor { at: d.at + 3 };
+            let e = Cursor { at: d.at + 3 };
+            since = keep_passed(skips, depth, since, d, e);
+            d = e;
             i += 1;
         } else {
-            match read_selector(s, depth, d, constants) {
+            match read_selector(s, depth, d, skips) {
                 Moved::To(e) => {
+                    since = keep_passed(skips, depth, since, d, e);
                     d = e;
                     i += 1;
                 }
@@ -222,9 +236,9 @@ fn read_counted(s: &[u8]) -> PlanRead
     ensures { λ r. ⌜ r ≡ planRead (faulty (planCounted (now (s .entry)) 5)) ⌝ }
 {
     let c = Cursor { at: 5 };
-    let constants = [0u16; 1];
+    let mut none = [0u16; 1];
     match c.short(s) {
-        Short::Is(n, d) => match read_selectors(s, DEEPEST_SELECTOR, n, d, &constants) {
+        Short::Is(n, d) => match read_selectors(s, DEEPEST_SELECTOR, n, d, &mut none) {
             Moved::To(e) => {
                 if e.at == s.len() {
                     PlanRead::Read(n, Cursor { at: 7 })

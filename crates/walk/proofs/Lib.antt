@@ -1,4 +1,3 @@
-pub mod Deeper
 pub mod Forward
 pub mod View
 pub mod Heads

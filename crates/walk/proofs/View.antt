@@ -26,7 +26,7 @@ use Rattle.plan.specs.Read.{selectorRest, selector, deepestSelector}
 use Rattle.plan.specs.Reach.{SelectorAt as Nth, s-here, s-there}
 use Rattle.walk.specs.code.Stands.{SelectorAt, SelectorsAt}
 use Rattle.walk.specs.code.Parts.{OptionAt, ConstantAt, CastAt, RenameAt, StructAt, ListAt, ArrayAt, NthIs}
-use Rattle.walk.proofs.Deeper.{selector-deeper, selectors-deeper}
+use Rattle.plan.proofs.Deeper.{selector-deeper, selectors-deeper}
 use Rattle.walk.proofs.Forward.{u16-from, text-from, type-from, option-from, selector-behind, selectors-from}
 
 -- the levels that a selector's parts have

@@ -1,5 +1,4 @@
 -- `plan::read::read_constant` meets its contract: its name, its type and a value of that. Assumes nothing.
-use Rattle.plan.proofs.Entries.{constant-known}
 use Rattle.plan.proofs.Moves.{type-stands, constant-to, constant-untyped, constant-stopped}
 use borrow.Author.Needs.{needs}
 use Rattle.plan.proofs.read.read_constant.Statement.{statement}
@@ -9,8 +8,6 @@ pub read-constant-spec : {M : Type 1} → statement M
 read-constant-spec =
     tie.close
     (tie.spec
-    (λ c κs. search needs)
-    (λ c. constant-known (c .before .known-end .ensures (c .if1 .taken) _ (c .before .before .before .before .pre)))
     (λ c κs. search needs)
     (λ c. search needs)
     (λ c κs. search needs)

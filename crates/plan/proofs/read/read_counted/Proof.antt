@@ -1,4 +1,4 @@
-use Rattle.plan.proofs.Entries.{constants-none}
+use Rattle.plan.proofs.Skipping.{skips-none}
 use Rattle.plan.proofs.Moves.{plan-uncounted, plan-broken, plan-longer, plan-whole}
 -- `plan::read::read_counted` meets its contract: each way has its law in `Moves`. Assumes nothing.
 use borrow.Author.Needs.{needs}
@@ -12,17 +12,17 @@ read-counted-spec =
     (λ c κs. search needs)
     (λ c. search needs)
     (λ c. search needs)
-    (λ c κs. constants-none 1)
+    (λ c κs. skips-none 1)
     (λ c. search needs)
     (λ c. search needs)
     (λ c. search needs)
     (λ c.
-    let c3 = c .before .before .before in let c5 = c3 .before .before in let c8 = c5 .before .before .before in let c10 = c8 .before .before in
-    plan-whole _ (c10 .short .ensures) (c8 .n .given .1) (c5 .read-selectors .ensures) (c3 .e .given .1) (c .if1 .taken))
+    let c3 = c .before .before .before in let c6 = c3 .before .before .before in let c9 = c6 .before .before .before in let c11 = c9 .before .before in
+    plan-whole _ (c11 .short .ensures) (c9 .n .given .1) (c6 .read-selectors .ensures .0) (c3 .e .given .1) (c .if1 .taken))
     (λ c.
-    let c3 = c .before .before .before in let c5 = c3 .before .before in let c8 = c5 .before .before .before in let c10 = c8 .before .before in
-    plan-longer _ (c10 .short .ensures) (c8 .n .given .1) (c5 .read-selectors .ensures) (c3 .e .given .1) (c .if1 .left))
+    let c3 = c .before .before .before in let c6 = c3 .before .before .before in let c9 = c6 .before .before .before in let c11 = c9 .before .before in
+    plan-longer _ (c11 .short .ensures) (c9 .n .given .1) (c6 .read-selectors .ensures .0) (c3 .e .given .1) (c .if1 .left))
     (λ c.
-    let c2 = c .before .before in let c5 = c2 .before .before .before in let c7 = c5 .before .before in
-    plan-broken _ (c7 .short .ensures) (c5 .n .given .1) (c2 .read-selectors .ensures) (c .enum-told .given .1))
+    let c3 = c .before .before .before in let c6 = c3 .before .before .before in let c8 = c6 .before .before in
+    plan-broken _ (c8 .short .ensures) (c6 .n .given .1) (c3 .read-selectors .ensures .0) (c .enum-told .given .1))
     (λ c. plan-uncounted _ (c .before .before .short .ensures) (c .enum-told2 .given .1)))
