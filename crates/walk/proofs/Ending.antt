@@ -117,11 +117,6 @@ module _ {s : Bytes} {at m d r : ℕ} {P : SelectorAt s at} (h : (I : SelectorAt
 
 -- ---- the pass outwards
 
--- a test that did not fail
-pub told : (b : Bool) → not b ≡ false → b ≡ true
-told true e = refl
-told false e = clash (cc)
-
 -- the selector at first + i ends at d
 pub record Ending (plan : Bytes) (first i d : ℕ) (e : InputEnds) : Type 0 where
   pub starts : e .first ≡ first

@@ -5,7 +5,7 @@ ghost use Prim.Native.Nat.{ℕ, _+_, _<_};
 ghost use lib.ListN.{length};
 ghost use Rattle.layout.specs.Bytes.{Bytes};
 ghost use Rattle.plan.specs.Selector.{Selector};
-ghost use Rattle.plan.specs.code.Constants.{ConstantEnds};
+ghost use Rattle.plan.specs.code.Skips.{Skips};
 ghost use Rattle.walk.specs.code.State.{Frame, State, state};
 ghost use Rattle.walk.specs.code.Moves.{Part};
 ghost use Rattle.walk.specs.code.Walks.{WalkAt, StepsTo};
@@ -16,38 +16,38 @@ use crate::walk::Walk;
 use layout::cursor::Cursor;
 
 // Of the struct mapping where the walk stands.
-pub fn first_child(plan: &[u8], w: Walk, constants: &[u16]) -> Cursor
-    requires { ⌜ ConstantEnds (now plan) (now constants) ⌝ }
+pub fn first_child(plan: &[u8], w: Walk, skips: &[u16]) -> Cursor
+    requires { ⌜ Skips (now plan) (now skips) ⌝ }
     requires { ⌜ w .at < 65536 ⌝ }
     ensures { λ r. ⌜ PassedTo (now (plan .entry)) (w .at) 0 (r .at) ⌝ }
 {
-    let d = skip_by(plan, Cursor { at: w.at + 1 }, constants);
+    let d = skip_by(plan, Cursor { at: w.at + 1 }, skips);
     let f = counted_at(plan, d);
     f.first
 }
 
 // Of the mapping where the walk stands, of whichever kind.
-pub fn first_part(plan: &[u8], w: Walk, constants: &[u16]) -> Cursor
-    requires { ⌜ ConstantEnds (now plan) (now constants) ⌝ }
+pub fn first_part(plan: &[u8], w: Walk, skips: &[u16]) -> Cursor
+    requires { ⌜ Skips (now plan) (now skips) ⌝ }
     requires { ⌜ (w .at < 65536) × (w .at < length (now plan)) ⌝ }
     ensures { λ r. ⌜ Reached (now (plan .entry)) (w .at) 0 (r .at) ⌝ }
 {
     let at = w.at;
     if plan[at] == 4 {
-        return first_child(plan, w, constants);
+        return first_child(plan, w, skips);
     }
-    skip_by(plan, Cursor { at: at + 1 }, constants)
+    skip_by(plan, Cursor { at: at + 1 }, skips)
 }
 
 // The part behind the one at `c`. A list or an array mapping has one selector for all its elements.
-pub fn next_part(plan: &[u8], w: Walk, c: Cursor, constants: &[u16]) -> Cursor
-    requires { ⌜ ConstantEnds (now plan) (now constants) ⌝ }
+pub fn next_part(plan: &[u8], w: Walk, c: Cursor, skips: &[u16]) -> Cursor
+    requires { ⌜ Skips (now plan) (now skips) ⌝ }
     requires { ⌜ w .at < length (now plan) ⌝ }
     ensures { λ r. ⌜ ((k : ℕ) → Reached (now (plan .entry)) (w .at) k (c .at) → PartStands (now (plan .entry)) (w .at) k (c .at) → Reached (now (plan .entry)) (w .at) (k + 1) (r .at)) ⌝ }
 {
     let at = w.at;
     if plan[at] == 4 {
-        return skip_by(plan, c, constants);
+        return skip_by(plan, c, skips);
     }
     c
 }

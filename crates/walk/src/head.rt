@@ -4,7 +4,7 @@ ghost use mathlib.Core.Path.{_≡_};
 ghost use Prim.Native.Nat.{ℕ, _<_};
 ghost use Rattle.layout.specs.code.Stands.{TypeAt};
 ghost use Rattle.layout.specs.declared.edition.Edition.{Edition as EditionOf};
-ghost use Rattle.plan.specs.code.Constants.{ConstantEnds};
+ghost use Rattle.plan.specs.code.Skips.{Skips};
 ghost use Rattle.walk.specs.code.Stands.{SelectorAt, SelectorsAt};
 ghost use Rattle.walk.specs.code.Parts.{TextAt, OptionAt, CountedAt, NameIs, CountedIs, NthIs, HeadIs};
 use layout::bytes::Span;
@@ -16,10 +16,9 @@ use layout::cursor::Step;
 use layout::cursor::Text;
 use layout::edition::Edition;
 use layout::limits::DEEPEST;
-use layout::limits::DEEPEST_SELECTOR;
 use layout::pass::pass_type;
-use plan::read::read_selector;
-use plan::read::read_selectors;
+use plan::pass::pass_selector;
+use plan::pass::pass_selectors;
 use rules::outcome::CastOption;
 use rules::outcome::OptionCode;
 use rules::outcome::option_of_code;
@@ -75,23 +74,23 @@ pub fn skip_selector(plan: &[u8], c: Cursor) -> Cursor
     skip_by(plan, c, &none)
 }
 
-// The same, where a table has the ends of long constants.
-pub fn skip_by(plan: &[u8], c: Cursor, constants: &[u16]) -> Cursor
-    requires { ⌜ ConstantEnds (now plan) (now constants) ⌝ }
+// The same, by a table of where selectors end.
+pub fn skip_by(plan: &[u8], c: Cursor, skips: &[u16]) -> Cursor
+    requires { ⌜ Skips (now plan) (now skips) ⌝ }
     ensures { λ r. ⌜ ((P : SelectorAt (now (plan .entry)) (c .at)) → r .at ≡ P .end) ⌝ }
 {
-    match read_selector(plan, DEEPEST_SELECTOR, c, constants) {
+    match pass_selector(plan, c, skips) {
         Moved::To(e) => e,
         Moved::Refused(_) => c,
     }
 }
 
 // The k-th of the selectors that begin at `first`.
-pub fn nth_selector(plan: &[u8], first: Cursor, k: u16, constants: &[u16]) -> Cursor
-    requires { ⌜ ConstantEnds (now plan) (now constants) ⌝ }
+pub fn nth_selector(plan: &[u8], first: Cursor, k: u16, skips: &[u16]) -> Cursor
+    requires { ⌜ Skips (now plan) (now skips) ⌝ }
     ensures { λ r. ⌜ ((n : ℕ) (Q : SelectorsAt (now (plan .entry)) n (first .at)) → k < n → NthIs (now (plan .entry)) n (first .at) Q k (r .at)) ⌝ }
 {
-    match read_selectors(plan, DEEPEST_SELECTOR, k, first, constants) {
+    match pass_selectors(plan, k, first, skips) {
         Moved::To(e) => e,
         Moved::Refused(_) => first,
     }

@@ -7,7 +7,7 @@ ghost use mathlib.Core.Bool.{true};
 ghost use Prim.Native.Nat.{ℕ, _+_, _<_, _≤_};
 ghost use lib.ListN.{length};
 ghost use Rattle.layout.specs.Bytes.{Bytes};
-ghost use Rattle.plan.specs.code.Constants.{ConstantEnds};
+ghost use Rattle.plan.specs.code.Skips.{Skips};
 ghost use Rattle.walk.specs.code.Stands.{SelectorAt};
 ghost use Rattle.layout.specs.code.Stands.{TypeAt};
 ghost use Rattle.layout.specs.declared.edition.Edition.{Edition as EditionOf};
@@ -23,9 +23,9 @@ use layout::cursor::Step;
 use layout::cursor::Text;
 use layout::edition::Edition;
 use layout::limits::DEEPEST;
-use layout::limits::DEEPEST_SELECTOR;
 use layout::pass::pass_type;
-use plan::read::read_selectors;
+use plan::pass::pass_selectors;
+use plan::skips::known_skip;
 
 // Of the selector at `first + i` the end, or 0 where it is not known.
 pub struct InputEnds {
@@ -70,14 +70,14 @@ impl InputEnds {
     }
 
     // The end of the selector at `c`, found by skipping where it is not known.
-    pub fn end_of(self, plan: &[u8], c: Cursor, constants: &[u16]) -> Cursor
-        requires { ⌜ ConstantEnds (now plan) (now constants) ⌝ }
+    pub fn end_of(self, plan: &[u8], c: Cursor, skips: &[u16]) -> Cursor
+        requires { ⌜ Skips (now plan) (now skips) ⌝ }
         requires { ⌜ EndsAt (now plan) self ⌝ }
         ensures { λ r. ⌜ ((P : SelectorAt (now (plan .entry)) (c .at)) → r .at ≡ P .end) ⌝ }
     {
         let at = self.known(c.at);
         if at == 0 {
-            return skip_by(plan, c, constants);
+            return skip_by(plan, c, skips);
         }
         Cursor { at }
     }
@@ -107,12 +107,12 @@ fn name_end(plan: &[u8], c: Cursor) -> Cursor
 }
 
 // Of a count and as many selectors.
-fn fields_end(plan: &[u8], c: Cursor, constants: &[u16]) -> Cursor
-    requires { ⌜ ConstantEnds (now plan) (now constants) ⌝ }
+fn fields_end(plan: &[u8], c: Cursor, skips: &[u16]) -> Cursor
+    requires { ⌜ Skips (now plan) (now skips) ⌝ }
     ensures { λ r. ⌜ ((Q : CountedAt (now (plan .entry)) (c .at)) → r .at ≡ Q .selectors .end) ⌝ }
 {
     match c.short(plan) {
-        Short::Is(n, d) => match read_selectors(plan, DEEPEST_SELECTOR, n, d, constants) {
+        Short::Is(n, d) => match pass_selectors(plan, n, d, skips) {
             Moved::To(e) => e,
             Moved::Refused(_) => c,
         },
@@ -121,18 +121,18 @@ fn fields_end(plan: &[u8], c: Cursor, constants: &[u16]) -> Cursor
 }
 
 // The end of the selector at `c`, whose input ends at `d`.
-fn end_behind(plan: &[u8], c: Cursor, d: Cursor, constants: &[u16]) -> Cursor
-    requires { ⌜ ConstantEnds (now plan) (now constants) ⌝ }
+fn end_behind(plan: &[u8], c: Cursor, d: Cursor, skips: &[u16]) -> Cursor
+    requires { ⌜ Skips (now plan) (now skips) ⌝ }
     ensures { λ r. ⌜ ((P : SelectorAt (now (plan .entry)) (c .at)) → ((I : SelectorAt (now (plan .entry)) (c .at + 1)) → d .at ≡ I .end) → r .at ≡ P .end) ⌝ }
 {
     match head(plan, c) {
-        SelectorHead::Position(_) => skip_by(plan, c, constants),
-        SelectorHead::Constant(_, _) => skip_by(plan, c, constants),
+        SelectorHead::Position(_) => skip_by(plan, c, skips),
+        SelectorHead::Constant(_, _) => skip_by(plan, c, skips),
         SelectorHead::Cast(_) => option_end(plan, d),
         SelectorHead::Rename(_) => name_end(plan, d),
-        SelectorHead::Struct(_) => fields_end(plan, d, constants),
-        SelectorHead::List(_) => skip_by(plan, d, constants),
-        SelectorHead::Array(_) => skip_by(plan, d, constants),
+        SelectorHead::Struct(_) => fields_end(plan, d, skips),
+        SelectorHead::List(_) => skip_by(plan, d, skips),
+        SelectorHead::Array(_) => skip_by(plan, d, skips),
         SelectorHead::Refused => c,
     }
 }
@@ -168,26 +168,26 @@ fn chained(plan: &[u8], c: Cursor) -> usize
 }
 
 // Those of the selector at `c` and of its inputs.
-pub fn input_ends(plan: &[u8], c: Cursor, constants: &[u16]) -> InputEnds
-    requires { ⌜ ConstantEnds (now plan) (now constants) ⌝ }
+pub fn input_ends(plan: &[u8], c: Cursor, skips: &[u16]) -> InputEnds
+    requires { ⌜ Skips (now plan) (now skips) ⌝ }
     requires { ⌜ c .at ≤ length (now plan) ⌝ }
     ensures { λ r. ⌜ EndsAt (now (plan .entry)) r ⌝ }
 {
     let first = c.at;
     let mut i = chained(plan, c);
-    let mut d = skip_by(plan, Cursor { at: first + i }, constants);
+    let mut d = skip_by(plan, Cursor { at: first + i }, skips);
     let mut ends = no_ends(first).knowing(i, d.at);
     while 0 < i {
         i -= 1;
-        d = end_behind(plan, Cursor { at: first + i }, d, constants);
+        d = end_behind(plan, Cursor { at: first + i }, d, skips);
         ends = ends.knowing(i, d.at);
     }
     ends
 }
 
-// A table that has the end of the selector at `c`.
-pub fn ends_with(plan: &[u8], ends: InputEnds, c: Cursor, constants: &[u16]) -> InputEnds
-    requires { ⌜ ConstantEnds (now plan) (now constants) ⌝ }
+// A table that has the end of the selector at `c`, or `skips` has it.
+pub fn ends_with(plan: &[u8], ends: InputEnds, c: Cursor, skips: &[u16]) -> InputEnds
+    requires { ⌜ Skips (now plan) (now skips) ⌝ }
     requires { ⌜ c .at ≤ length (now plan) ⌝ }
     requires { ⌜ EndsAt (now plan) ends ⌝ }
     ensures { λ r. ⌜ EndsAt (now (plan .entry)) r ⌝ }
@@ -195,12 +195,15 @@ pub fn ends_with(plan: &[u8], ends: InputEnds, c: Cursor, constants: &[u16]) -> 
     if ends.known(c.at) != 0 {
         return ends;
     }
-    input_ends(plan, c, constants)
+    if known_skip(skips, c.at, 1).count != 0 {
+        return ends;
+    }
+    input_ends(plan, c, skips)
 }
 
-// A table that has the end of the input of the mapping at `c`, if a mapping stands there.
-pub fn ends_for(plan: &[u8], ends: InputEnds, c: Cursor, constants: &[u16]) -> InputEnds
-    requires { ⌜ ConstantEnds (now plan) (now constants) ⌝ }
+// A table that has the end of the input of the mapping at `c`, if a mapping stands there, or `skips` has it.
+pub fn ends_for(plan: &[u8], ends: InputEnds, c: Cursor, skips: &[u16]) -> InputEnds
+    requires { ⌜ Skips (now plan) (now skips) ⌝ }
     requires { ⌜ c .at < length (now plan) ⌝ }
     requires { ⌜ EndsAt (now plan) ends ⌝ }
     ensures { λ r. ⌜ EndsAt (now (plan .entry)) r ⌝ }
@@ -209,5 +212,5 @@ pub fn ends_for(plan: &[u8], ends: InputEnds, c: Cursor, constants: &[u16]) -> I
     if plan[at] < 4 {
         return ends;
     }
-    ends_with(plan, ends, Cursor { at: at + 1 }, constants)
+    ends_with(plan, ends, Cursor { at: at + 1 }, skips)
 }

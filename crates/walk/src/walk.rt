@@ -8,7 +8,7 @@ ghost use lib.ListN.{length, getD};
 ghost use Rattle.layout.specs.Bytes.{Bytes};
 ghost use Rattle.plan.specs.Selector.{Selector, position};
 ghost use Rattle.plan.specs.Read.{longestPlan};
-ghost use Rattle.plan.specs.code.Constants.{ConstantEnds};
+ghost use Rattle.plan.specs.code.Skips.{Skips};
 ghost use Rattle.walk.specs.code.Stands.{SelectorAt};
 ghost use Rattle.walk.specs.code.State.{Frame, inputOf, State, state};
 ghost use Rattle.walk.specs.code.Moves.{Input, Part, Mapping};
@@ -67,23 +67,23 @@ pub fn top(at: usize, lim: usize) -> Walk
 }
 
 // Of the struct mapping whose count stands at `c`.
-fn struct_part(plan: &[u8], c: Cursor, k: u16, constants: &[u16]) -> PartFound
-    requires { ⌜ ConstantEnds (now plan) (now constants) ⌝ }
+fn struct_part(plan: &[u8], c: Cursor, k: u16, skips: &[u16]) -> PartFound
+    requires { ⌜ Skips (now plan) (now skips) ⌝ }
     ensures { λ r. ⌜ ((at m : ℕ) (P : SelectorAt (now (plan .entry)) at) (S : StructAt (now (plan .entry)) at P m) → c .at ≡ S .input .end → PartIs (now (plan .entry)) at P k r) ⌝ }
 {
     let f = counted_at(plan, c);
     let count = f.count;
     let first = f.first;
     if k < count {
-        PartFound::At(nth_selector(plan, first, k, constants))
+        PartFound::At(nth_selector(plan, first, k, skips))
     } else {
         PartFound::None
     }
 }
 
 // The part `k` of the mapping at `c`, whose input ends at `d`.
-fn part(plan: &[u8], c: Cursor, d: Cursor, k: u16, constants: &[u16]) -> PartFound
-    requires { ⌜ ConstantEnds (now plan) (now constants) ⌝ }
+fn part(plan: &[u8], c: Cursor, d: Cursor, k: u16, skips: &[u16]) -> PartFound
+    requires { ⌜ Skips (now plan) (now skips) ⌝ }
     requires { ⌜ ((I : SelectorAt (now plan) (c .at + 1)) → d .at ≡ I .end) ⌝ }
     ensures { λ r. ⌜ ((P : SelectorAt (now (plan .entry)) (c .at)) → Mapping (P .tree) → PartIs (now (plan .entry)) (c .at) P k r) ⌝ }
 {
@@ -92,7 +92,7 @@ fn part(plan: &[u8], c: Cursor, d: Cursor, k: u16, constants: &[u16]) -> PartFou
         SelectorHead::Constant(_, _) => PartFound::None,
         SelectorHead::Cast(_) => PartFound::None,
         SelectorHead::Rename(_) => PartFound::None,
-        SelectorHead::Struct(_) => struct_part(plan, d, k, constants),
+        SelectorHead::Struct(_) => struct_part(plan, d, k, skips),
         SelectorHead::List(_) => PartFound::At(d),
         SelectorHead::Array(_) => PartFound::At(d),
         SelectorHead::Refused => PartFound::None,
@@ -100,27 +100,27 @@ fn part(plan: &[u8], c: Cursor, d: Cursor, k: u16, constants: &[u16]) -> PartFou
 }
 
 // The part `k` of the mapping at `c`, whose input is skipped.
-fn skipped_part(plan: &[u8], c: Cursor, k: u16, constants: &[u16]) -> PartFound
-    requires { ⌜ ConstantEnds (now plan) (now constants) ⌝ }
+fn skipped_part(plan: &[u8], c: Cursor, k: u16, skips: &[u16]) -> PartFound
+    requires { ⌜ Skips (now plan) (now skips) ⌝ }
     requires { ⌜ c .at < 65536 ⌝ }
     ensures { λ r. ⌜ ((P : SelectorAt (now (plan .entry)) (c .at)) → Mapping (P .tree) → PartIs (now (plan .entry)) (c .at) P k r) ⌝ }
 {
-    let d = skip_by(plan, Cursor { at: c.at + 1 }, constants);
-    part(plan, c, d, k, constants)
+    let d = skip_by(plan, Cursor { at: c.at + 1 }, skips);
+    part(plan, c, d, k, skips)
 }
 
 // The part `k` of the mapping at `c`, where the table may have the end of the mapping's input.
-fn part_in(plan: &[u8], ends: InputEnds, c: Cursor, k: u16, constants: &[u16]) -> PartFound
-    requires { ⌜ ConstantEnds (now plan) (now constants) ⌝ }
+fn part_in(plan: &[u8], ends: InputEnds, c: Cursor, k: u16, skips: &[u16]) -> PartFound
+    requires { ⌜ Skips (now plan) (now skips) ⌝ }
     requires { ⌜ EndsAt (now plan) ends ⌝ }
     requires { ⌜ c .at < 65536 ⌝ }
     ensures { λ r. ⌜ ((P : SelectorAt (now (plan .entry)) (c .at)) → Mapping (P .tree) → PartIs (now (plan .entry)) (c .at) P k r) ⌝ }
 {
     let at = ends.known(c.at + 1);
     if at == 0 {
-        return skipped_part(plan, c, k, constants);
+        return skipped_part(plan, c, k, skips);
     }
-    part(plan, c, Cursor { at }, k, constants)
+    part(plan, c, Cursor { at }, k, skips)
 }
 
 impl Walk {
@@ -176,8 +176,8 @@ impl Walk {
     }
 
     // At a mapping.
-    fn entering(self, plan: &[u8], ends: InputEnds, constants: &[u16]) -> Move
-        requires { ⌜ ConstantEnds (now plan) (now constants) ⌝ }
+    fn entering(self, plan: &[u8], ends: InputEnds, skips: &[u16]) -> Move
+        requires { ⌜ Skips (now plan) (now skips) ⌝ }
         requires { ⌜ ((x : State) × WalkAt (now plan) self x) ⌝ }
         requires { ⌜ EndsAt (now plan) ends ⌝ }
         ensures { λ r. ⌜ ((x : State) (M : WalkAt (now (plan .entry)) self x) → Mapping (x .selector) → MoveIs (now (plan .entry)) self x M r) ⌝ }
@@ -185,7 +185,7 @@ impl Walk {
         let d = self.deep;
         if d < self.len {
             let k = self.path[d];
-            match part_in(plan, ends, Cursor { at: self.at }, k, constants) {
+            match part_in(plan, ends, Cursor { at: self.at }, k, skips) {
                 PartFound::At(p) => Move::Enter(p),
                 PartFound::None => Move::Stop,
             }
@@ -216,8 +216,8 @@ impl Walk {
     }
 
     // The next move.
-    fn next_move(self, plan: &[u8], ends: InputEnds, constants: &[u16]) -> Move
-        requires { ⌜ ConstantEnds (now plan) (now constants) ⌝ }
+    fn next_move(self, plan: &[u8], ends: InputEnds, skips: &[u16]) -> Move
+        requires { ⌜ Skips (now plan) (now skips) ⌝ }
         requires { ⌜ ((x : State) × WalkAt (now plan) self x) ⌝ }
         requires { ⌜ EndsAt (now plan) ends ⌝ }
         ensures { λ r. ⌜ ((x : State) (M : WalkAt (now (plan .entry)) self x) → MoveIs (now (plan .entry)) self x M r) ⌝ }
@@ -234,37 +234,37 @@ impl Walk {
                     Move::Stop
                 }
             }
-            SelectorHead::Struct(_) => self.entering(plan, ends, constants),
-            SelectorHead::List(_) => self.entering(plan, ends, constants),
-            SelectorHead::Array(_) => self.entering(plan, ends, constants),
+            SelectorHead::Struct(_) => self.entering(plan, ends, skips),
+            SelectorHead::List(_) => self.entering(plan, ends, skips),
+            SelectorHead::Array(_) => self.entering(plan, ends, skips),
             SelectorHead::Refused => Move::Stop,
         }
     }
 
     // The table of ends for the next move.
-    fn ends_ahead(self, plan: &[u8], ends: InputEnds, constants: &[u16]) -> InputEnds
-        requires { ⌜ ConstantEnds (now plan) (now constants) ⌝ }
+    fn ends_ahead(self, plan: &[u8], ends: InputEnds, skips: &[u16]) -> InputEnds
+        requires { ⌜ Skips (now plan) (now skips) ⌝ }
         requires { ⌜ ((x : State) × WalkAt (now plan) self x) ⌝ }
         requires { ⌜ EndsAt (now plan) ends ⌝ }
         ensures { λ r. ⌜ EndsAt (now (plan .entry)) r ⌝ }
     {
         if self.deep < self.len {
-            return ends_for(plan, ends, Cursor { at: self.at }, constants);
+            return ends_for(plan, ends, Cursor { at: self.at }, skips);
         }
         ends
     }
 
     // Moves on until no move is left.
-    pub fn locate(self, plan: &[u8], constants: &[u16]) -> Walk
-        requires { ⌜ ConstantEnds (now plan) (now constants) ⌝ }
+    pub fn locate(self, plan: &[u8], skips: &[u16]) -> Walk
+        requires { ⌜ Skips (now plan) (now skips) ⌝ }
         requires { ⌜ ((x : State) × WalkAt (now plan) self x) ⌝ }
         ensures { λ r. ⌜ ((x : State) → WalkAt (now (plan .entry)) self x → Located (now (plan .entry)) x self r) ⌝ }
     {
         let mut w = self;
         let mut ends = no_ends(0);
         loop {
-            ends = w.ends_ahead(plan, ends, constants);
-            match w.next_move(plan, ends, constants) {
+            ends = w.ends_ahead(plan, ends, skips);
+            match w.next_move(plan, ends, skips) {
                 Move::Input => {
                     w = w.to_input();
                 }
@@ -300,23 +300,23 @@ impl Walk {
     }
 
     // At a mapping with no path left: into its part `k`.
-    pub fn child(self, plan: &[u8], k: u16, constants: &[u16]) -> Walk
-        requires { ⌜ ConstantEnds (now plan) (now constants) ⌝ }
+    pub fn child(self, plan: &[u8], k: u16, skips: &[u16]) -> Walk
+        requires { ⌜ Skips (now plan) (now skips) ⌝ }
         requires { ⌜ ((x : State) × WalkAt (now plan) self x) × (self .deep < 64) ⌝ }
         ensures { λ r. ⌜ ((x : State) (f : Frame) (t : Selector) → WalkAt (now (plan .entry)) self x → x .path ≡ [] → Part (x .selector) k f t → StepsTo (now (plan .entry)) (state t (f ∷ x .frames) []) self r) ⌝ }
     {
-        let found = skipped_part(plan, Cursor { at: self.at }, k, constants);
+        let found = skipped_part(plan, Cursor { at: self.at }, k, skips);
         self.into_part(found, k)
     }
 
     // The same, where the table may have the end of the mapping's input.
-    pub fn child_in(self, plan: &[u8], ends: InputEnds, k: u16, constants: &[u16]) -> Walk
-        requires { ⌜ ConstantEnds (now plan) (now constants) ⌝ }
+    pub fn child_in(self, plan: &[u8], ends: InputEnds, k: u16, skips: &[u16]) -> Walk
+        requires { ⌜ Skips (now plan) (now skips) ⌝ }
         requires { ⌜ ((x : State) × WalkAt (now plan) self x) × (self .deep < 64) ⌝ }
         requires { ⌜ EndsAt (now plan) ends ⌝ }
         ensures { λ r. ⌜ ((x : State) (f : Frame) (t : Selector) → WalkAt (now (plan .entry)) self x → x .path ≡ [] → Part (x .selector) k f t → StepsTo (now (plan .entry)) (state t (f ∷ x .frames) []) self r) ⌝ }
     {
-        let found = part_in(plan, ends, Cursor { at: self.at }, k, constants);
+        let found = part_in(plan, ends, Cursor { at: self.at }, k, skips);
         self.into_part(found, k)
     }
 }

@@ -7,5 +7,5 @@ use Rattle.walk.proofs.head.nth_selector.Tie as tie
 pub nth-selector-spec : {M : Type 1} → statement M
 nth-selector-spec =
     tie.close (tie.spec (λ c κs. search needs) (λ c. search needs) (λ c. search needs)
-    (λ c. λ n Q l. nth-is Q l (c .before .before .before .read-selectors .ensures) (c .before .e .given .1))
-    (λ c. λ n Q l. nth-stuck Q l (c .before .before .read-selectors .ensures) (c .enum-told .given .1)))
+    (λ c. λ n Q l. nth-is Q l (c .before .before .before .pass-selectors .ensures) (c .before .e .given .1))
+    (λ c. λ n Q l. nth-stuck Q l (c .before .before .pass-selectors .ensures) (c .enum-told .given .1)))

@@ -2,7 +2,7 @@
 use borrow.Author.Needs.{needs}
 use Prim.Native.Nat.{_+_, _-_, _≤_, _<_}
 use lib.ListN.{length}
-use Rattle.walk.proofs.Ending.{told}
+use Rattle.plan.proofs.Skipping.{told}
 use native.Mathlib.Omega.{arith}
 use Rattle.walk.proofs.inputs.chained.Statement.{statement}
 use Rattle.walk.proofs.inputs.chained.Tie as tie

@@ -6,10 +6,10 @@ use Rattle.walk.proofs.inputs.input_ends.Statement.{statement}
 use Rattle.walk.proofs.inputs.input_ends.Tie as tie
 
 abbrev Inv-loop : tie.InvT-loop
-Inv-loop plan constants first i₀ d₀ ends₀ i d ends = Ending plan first i (d .at) ends
+Inv-loop plan skips first i₀ d₀ ends₀ i d ends = Ending plan first i (d .at) ends
 
 abbrev μ-loop : tie.MeasureT-loop
-μ-loop plan constants first i₀ d₀ ends₀ i d ends = i
+μ-loop plan skips first i₀ d₀ ends₀ i d ends = i
 
 pub input-ends-spec : {M : Type 1} → statement M
 input-ends-spec =

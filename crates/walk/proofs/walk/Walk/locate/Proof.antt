@@ -9,10 +9,10 @@ use Rattle.walk.proofs.walk.Walk.locate.Statement.{statement}
 use Rattle.walk.proofs.walk.Walk.locate.Tie as tie
 
 abbrev Inv-loop : tie.InvT-loop
-Inv-loop plan constants w₀ ends₀ w ends = ((x : State) → WalkAt plan w₀ x → Walking plan x w₀ w) × EndsAt plan ends
+Inv-loop plan skips w₀ ends₀ w ends = ((x : State) → WalkAt plan w₀ x → Walking plan x w₀ w) × EndsAt plan ends
 
 abbrev μ-loop : tie.MeasureT-loop
-μ-loop plan constants w₀ ends₀ w ends = rank w
+μ-loop plan skips w₀ ends₀ w ends = rank w
 
 pub locate-spec : {M : Type 1} → statement M
 locate-spec =
