@@ -266,7 +266,8 @@ fn over_fields(
     false
 }
 
-// In the column that the selector at `top` gives, whose type in the target stands at `place`.
+// In the column that the selector at `top` gives, whose type in the target stands at `place`. In a long plan the
+// selector is passed once before, for a table of where its constants end.
 pub fn top_overflows(
     lay: &[u8],
     columns: ColumnRange,
