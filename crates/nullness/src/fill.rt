@@ -1,4 +1,4 @@
-// Filling the table of nulls, in one pass over the plan's constants.
+// Filling the table of nulls, in one pass over each of the plan's large constants.
 ghost use mathlib.Core.Bool.{true};
 ghost use mathlib.Core.Path.{_≡_};
 ghost use Rattle.layout.specs.code.Stands.{TypeAt};
@@ -10,17 +10,16 @@ ghost use Rattle.nodes.specs.code.Raw.{RawAt, RowAt, ElementsAt, ListOf, Presen
 ghost use Rattle.nullness.specs.code.Nulls.{NullsOf, EachOf, RowOf, Nulls, Grown};
 use crate::nulls::keep_constant;
 use crate::nulls::keep_null;
+use layout::bytes::wide;
 use layout::columns::Labelled;
 use layout::cursor::Cursor;
 use layout::cursor::Moved;
 use layout::cursor::Short;
-use layout::cursor::Step;
 use layout::cursor::Text;
 use layout::edition::Edition;
 use layout::limits::DEEPEST;
 use layout::pass::pass_type;
 use layout::types::Head;
-use plan::read::read_selector;
 use values::leaf::Presence;
 use values::leaf::read_presence;
 use values::read::ValueRead;
@@ -159,14 +158,16 @@ fn fill_elements(
     true
 }
 
-// ---- a plan's selectors. The answer is where a selector ends; a refusal leaves the rest to scans.
+// ---- a plan's constants. What is refused is left to scans.
 
-// Whether a constant is worth a pass.
+// A constant of as many bytes is worth a pass.
+const LARGE: usize = 1024;
+
 fn is_large(from: usize, to: usize) -> bool {
-    if to < 1024 {
+    if to < LARGE {
         return false;
     }
-    from <= to - 1024
+    from <= to - LARGE
 }
 
 // The constant of the type at `t`, whose value stands at `c`.
@@ -182,7 +183,7 @@ fn fill_large(plan: &[u8], t: Cursor, c: Cursor, nulls: &mut [u64])
 }
 
 // The same, where its value is not read yet.
-fn fill_known(plan: &[u8], t: Cursor, c: Cursor, nulls: &mut [u64]) -> Moved
+fn fill_known(plan: &[u8], t: Cursor, c: Cursor, nulls: &mut [u64])
     requires { ⌜ ((T : TypeAt EditionOf.One deepest (now plan) (t .at)) × (c .at ≡ T .end)) ⌝ }
     requires { ⌜ Nulls (now plan) (now nulls) ⌝ }
     ensures { λ _. ⌜ Nulls (now (plan .entry)) (now (nulls .exit)) ⌝ }
@@ -193,98 +194,39 @@ fn fill_known(plan: &[u8], t: Cursor, c: Cursor, nulls: &mut [u64]) -> Moved
             if is_large(t.at, d.at) {
                 fill_large(plan, t, c, nulls);
             }
-            Moved::To(d)
         }
-        Moved::Refused(k) => Moved::Refused(k),
+        Moved::Refused(_) => {}
     }
 }
 
-// A name, a type and a value of it.
-fn fill_constant(plan: &[u8], c: Cursor, nulls: &mut [u64]) -> Moved
+// A name, a type and a value of it, `n` bytes together.
+fn fill_constant(plan: &[u8], c: Cursor, n: usize, nulls: &mut [u64])
     requires { ⌜ Nulls (now plan) (now nulls) ⌝ }
     ensures { λ _. ⌜ Nulls (now (plan .entry)) (now (nulls .exit)) ⌝ }
 {
+    if n < LARGE {
+        return;
+    }
     match c.text(plan) {
         Text::Is(_, t) => match pass_type(plan, Edition::One, DEEPEST, t) {
             Moved::To(d) => fill_known(plan, t, d, nulls),
-            Moved::Refused(k) => Moved::Refused(k),
+            Moved::Refused(_) => {}
         },
-        Text::Refused(k) => Moved::Refused(k),
+        Text::Refused(_) => {}
     }
 }
 
-// A selector of at most `depth` levels. What a cast takes is a leaf, which is scanned at once.
-fn fill_selector(plan: &[u8], depth: u8, c: Cursor, nulls: &mut [u64]) -> Moved
+// The constants that a table of their ends has.
+pub fn fill_constants(plan: &[u8], constants: &[u16], nulls: &mut [u64])
     requires { ⌜ Nulls (now plan) (now nulls) ⌝ }
     ensures { λ _. ⌜ Nulls (now (plan .entry)) (now (nulls .exit)) ⌝ }
 {
-    if depth == 0 {
-        return Moved::Refused(4);
-    }
-    match c.byte(plan) {
-        Step::Byte(code, d) => match code {
-            1 => fill_constant(plan, d, nulls),
-            3 => fill_rename(plan, depth - 1, d, nulls),
-            4 => fill_struct(plan, depth - 1, d, nulls),
-            5 | 6 => fill_mapping(plan, depth - 1, d, nulls),
-            _ => read_selector(plan, depth, c),
-        },
-        Step::Refused(k) => Moved::Refused(k),
-    }
-}
-
-fn fill_rename(plan: &[u8], depth: u8, c: Cursor, nulls: &mut [u64]) -> Moved
-    requires { ⌜ Nulls (now plan) (now nulls) ⌝ }
-    ensures { λ _. ⌜ Nulls (now (plan .entry)) (now (nulls .exit)) ⌝ }
-{
-    match fill_selector(plan, depth, c, nulls) {
-        Moved::To(d) => match d.text(plan) {
-            Text::Is(_, e) => Moved::To(e),
-            Text::Refused(k) => Moved::Refused(k),
-        },
-        Moved::Refused(k) => Moved::Refused(k),
-    }
-}
-
-fn fill_struct(plan: &[u8], depth: u8, c: Cursor, nulls: &mut [u64]) -> Moved
-    requires { ⌜ Nulls (now plan) (now nulls) ⌝ }
-    ensures { λ _. ⌜ Nulls (now (plan .entry)) (now (nulls .exit)) ⌝ }
-{
-    match fill_selector(plan, depth, c, nulls) {
-        Moved::To(d) => match d.short(plan) {
-            Short::Is(n, e) => fill_selectors(plan, depth, n, e, nulls),
-            Short::Refused(k) => Moved::Refused(k),
-        },
-        Moved::Refused(k) => Moved::Refused(k),
-    }
-}
-
-// A list or array mapping.
-fn fill_mapping(plan: &[u8], depth: u8, c: Cursor, nulls: &mut [u64]) -> Moved
-    requires { ⌜ Nulls (now plan) (now nulls) ⌝ }
-    ensures { λ _. ⌜ Nulls (now (plan .entry)) (now (nulls .exit)) ⌝ }
-{
-    match fill_selector(plan, depth, c, nulls) {
-        Moved::To(d) => fill_selector(plan, depth, d, nulls),
-        Moved::Refused(k) => Moved::Refused(k),
-    }
-}
-
-// `n` selectors, each of at most `depth` levels.
-pub fn fill_selectors(plan: &[u8], depth: u8, n: u16, c: Cursor, nulls: &mut [u64]) -> Moved
-    requires { ⌜ Nulls (now plan) (now nulls) ⌝ }
-    ensures { λ _. ⌜ Nulls (now (plan .entry)) (now (nulls .exit)) ⌝ }
-{
-    let mut d = c;
-    let mut i: u16 = 0;
-    while i < n {
-        match fill_selector(plan, depth, d, nulls) {
-            Moved::To(e) => {
-                d = e;
-            }
-            Moved::Refused(k) => return Moved::Refused(k),
-        }
+    let pairs = constants.len() / 2;
+    let mut i: usize = 0;
+    while i < pairs {
+        let at = wide(constants[2 * i]);
+        let n = wide(constants[2 * i + 1]);
+        fill_constant(plan, Cursor { at }, n, nulls);
         i += 1;
     }
-    Moved::To(d)
 }

@@ -8,13 +8,14 @@ ghost use Rattle.layout.specs.code.Stands.{TypeAt, ColumnsAt};
 ghost use Rattle.layout.specs.Limits.{deepest};
 ghost use Rattle.plan.specs.Nullness.{topOf, insideOf, nullnessAt, nullnessOf, nullnessesOf};
 ghost use Rattle.plan.specs.Marks.{allowed, givens, meets, meetsAll};
+ghost use Rattle.plan.specs.code.Constants.{ConstantEnds};
 ghost use Rattle.overflow.specs.code.Overflows.{PlanAt, ElementTypeAt};
 ghost use Rattle.overflow.specs.code.Ranges.{ColumnsIn};
 ghost use Rattle.nullness.specs.code.Incoming.{IndexAt};
 ghost use Rattle.nullness.specs.code.Nulls.{Nulls};
 ghost use Rattle.nullness.specs.code.Places.{nullnessIn};
 ghost use Rattle.nullness.specs.code.Stops.{PlaceAt, ElementAt};
-use crate::fill::fill_selectors;
+use crate::fill::fill_constants;
 use crate::follow::follow;
 use index::columns::index_columns;
 use index::columns::stride_of;
@@ -31,7 +32,8 @@ use nodes::places::TypePlace;
 use overflow::overflows::FieldsPlace;
 use overflow::overflows::part_path;
 use overflow::overflows::start;
-use walk::head::skip_selector;
+use plan::fill::fill_selectors;
+use walk::head::skip_by;
 
 // A type of the target, and whether what is of it is required.
 pub struct MarkedType {
@@ -48,7 +50,9 @@ fn meets_place(
     nulls: &[u64],
     path: TopPath,
     required: bool,
+    constants: &[u16],
 ) -> bool
+    requires { ⌜ ConstantEnds (now plan) (now constants) ⌝ }
     requires { ⌜ IndexAt (now incoming) columns (now index) × Nulls (now plan) (now nulls) ⌝ }
     requires { ⌜ ((P : ColumnsIn (now incoming) columns) × (u : DataType) × PlaceAt (now plan) (path .top) (fieldsOf (P .columns)) (slice 0 (path .len) (path .steps)) u) ⌝ }
     requires { ⌜ (path .len ≤ 64) × (length (path .steps) ≡ 64) ⌝ }
@@ -64,6 +68,7 @@ fn meets_place(
         plan,
         nulls,
         start(path, plan.len()),
+        constants,
     )
 }
 
@@ -77,7 +82,9 @@ fn meets_type(
     path: TopPath,
     tgt: &[u8],
     t: MarkedType,
+    constants: &[u16],
 ) -> bool
+    requires { ⌜ ConstantEnds (now plan) (now constants) ⌝ }
     requires { ⌜ IndexAt (now incoming) columns (now index) × Nulls (now plan) (now nulls) ⌝ }
     requires { ⌜ ((P : ColumnsIn (now incoming) columns) × (Q : TypeAt (t .place .edition) (t .place .depth) (now tgt) (t .place .at .at)) × PlaceAt (now plan) (path .top) (fieldsOf (P .columns)) (slice 0 (path .len) (path .steps)) (dtypeOf (Q .tree))) ⌝ }
     requires { ⌜ (path .len + t .place .depth ≤ deepest) × (length (path .steps) ≡ 64) ⌝ }
@@ -86,7 +93,16 @@ fn meets_type(
     let place = t.place;
     let y = place.edition;
     let c = place.at;
-    if !meets_place(incoming, columns, index, plan, nulls, path, t.required) {
+    if !meets_place(
+        incoming,
+        columns,
+        index,
+        plan,
+        nulls,
+        path,
+        t.required,
+        constants,
+    ) {
         return false;
     }
     match c.head(tgt) {
@@ -98,7 +114,17 @@ fn meets_type(
                 count: m,
                 first: e,
             };
-            meets_fields(incoming, columns, index, plan, nulls, path, tgt, fields)
+            meets_fields(
+                incoming,
+                columns,
+                index,
+                plan,
+                nulls,
+                path,
+                tgt,
+                fields,
+                constants,
+            )
         }
         Head::List(e) => {
             let element = TypePlace {
@@ -106,7 +132,17 @@ fn meets_type(
                 depth: place.depth - 1,
                 at: e,
             };
-            meets_element(incoming, columns, index, plan, nulls, path, tgt, element)
+            meets_element(
+                incoming,
+                columns,
+                index,
+                plan,
+                nulls,
+                path,
+                tgt,
+                element,
+                constants,
+            )
         }
         Head::Array(_, e) => {
             let element = TypePlace {
@@ -114,7 +150,17 @@ fn meets_type(
                 depth: place.depth - 1,
                 at: e,
             };
-            meets_element(incoming, columns, index, plan, nulls, path, tgt, element)
+            meets_element(
+                incoming,
+                columns,
+                index,
+                plan,
+                nulls,
+                path,
+                tgt,
+                element,
+                constants,
+            )
         }
         Head::Refused(_) => false,
     }
@@ -130,7 +176,9 @@ fn meets_element(
     path: TopPath,
     tgt: &[u8],
     place: TypePlace,
+    constants: &[u16],
 ) -> bool
+    requires { ⌜ ConstantEnds (now plan) (now constants) ⌝ }
     requires { ⌜ IndexAt (now incoming) columns (now index) × Nulls (now plan) (now nulls) ⌝ }
     requires { ⌜ ((P : ColumnsIn (now incoming) columns) × (Q : ElementTypeAt (place .edition) (place .depth) (now tgt) (place .at .at)) × ElementAt (now plan) (path .top) (fieldsOf (P .columns)) (slice 0 (path .len) (path .steps)) (dtypeOf (Q .type .tree))) ⌝ }
     requires { ⌜ (path .len + 1 + place .depth ≤ deepest) × (length (path .steps) ≡ 64) ⌝ }
@@ -147,7 +195,17 @@ fn meets_element(
                 place: element,
                 required: l.required,
             };
-            meets_type(incoming, columns, index, plan, nulls, below, tgt, t)
+            meets_type(
+                incoming,
+                columns,
+                index,
+                plan,
+                nulls,
+                below,
+                tgt,
+                t,
+                constants,
+            )
         }
         Labelled::Refused(_) => false,
     }
@@ -163,7 +221,9 @@ fn meets_fields(
     path: TopPath,
     tgt: &[u8],
     fields: FieldsPlace,
+    constants: &[u16],
 ) -> bool
+    requires { ⌜ ConstantEnds (now plan) (now constants) ⌝ }
     requires { ⌜ IndexAt (now incoming) columns (now index) × Nulls (now plan) (now nulls) ⌝ }
     requires { ⌜ ((P : ColumnsIn (now incoming) columns) × (Q : ColumnsAt (fields .edition) (fields .depth) (now tgt) (fields .count) (fields .first .at)) × PlaceAt (now plan) (path .top) (fieldsOf (P .columns)) (slice 0 (path .len) (path .steps)) (struct (fieldsOf (Q .columns)))) ⌝ }
     requires { ⌜ (path .len + 1 + fields .depth ≤ deepest) × (length (path .steps) ≡ 64) ⌝ }
@@ -187,7 +247,17 @@ fn meets_fields(
                     place,
                     required: l.required,
                 };
-                if !meets_type(incoming, columns, index, plan, nulls, below, tgt, t) {
+                if !meets_type(
+                    incoming,
+                    columns,
+                    index,
+                    plan,
+                    nulls,
+                    below,
+                    tgt,
+                    t,
+                    constants,
+                ) {
                     return false;
                 }
                 d = skip_type(tgt, edition, depth, e);
@@ -208,7 +278,9 @@ fn meets_columns(
     nulls: &[u64],
     tgt: &[u8],
     target: ColumnRange,
+    constants: &[u16],
 ) -> bool
+    requires { ⌜ ConstantEnds (now plan) (now constants) ⌝ }
     requires { ⌜ IndexAt (now incoming) columns (now index) × Nulls (now plan) (now nulls) ⌝ }
     requires { ⌜ ((P : ColumnsIn (now incoming) columns) × (D : ColumnsIn (now tgt) target) × PlanAt (now plan) 7 (fieldsOf (P .columns)) (fieldsOf (D .columns))) ⌝ }
     ensures { λ r. ⌜ ((P : ColumnsIn (now (incoming .entry)) columns) (D : ColumnsIn (now (tgt .entry)) target) (S : PlanAt (now (plan .entry)) 7 (fieldsOf (P .columns)) (fieldsOf (D .columns))) → r ≡ meetsAll (nullnessesOf (givens (P .columns)) (S .selectors .trees)) (D .columns)) ⌝ }
@@ -235,10 +307,20 @@ fn meets_columns(
                     place,
                     required: l.required,
                 };
-                if !meets_type(incoming, columns, index, plan, nulls, path, tgt, t) {
+                if !meets_type(
+                    incoming,
+                    columns,
+                    index,
+                    plan,
+                    nulls,
+                    path,
+                    tgt,
+                    t,
+                    constants,
+                ) {
                     return false;
                 }
-                s = skip_selector(plan, s);
+                s = skip_by(plan, s, constants);
                 d = skip_type(tgt, edition, DEEPEST, e);
             }
             Labelled::Refused(_) => return false,
@@ -248,7 +330,7 @@ fn meets_columns(
     true
 }
 
-// The same of plans that are worth a table of the nulls in their constants.
+// The same of plans that are worth a table of where their constants end, and one of the nulls in them.
 fn meets_by_table(
     incoming: &[u8],
     columns: ColumnRange,
@@ -261,15 +343,26 @@ fn meets_by_table(
     requires { ⌜ ((P : ColumnsIn (now incoming) columns) × (D : ColumnsIn (now tgt) target) × PlanAt (now plan) 7 (fieldsOf (P .columns)) (fieldsOf (D .columns))) ⌝ }
     ensures { λ r. ⌜ ((P : ColumnsIn (now (incoming .entry)) columns) (D : ColumnsIn (now (tgt .entry)) target) (S : PlanAt (now (plan .entry)) 7 (fieldsOf (P .columns)) (fieldsOf (D .columns))) → r ≡ meetsAll (nullnessesOf (givens (P .columns)) (S .selectors .trees)) (D .columns)) ⌝ }
 {
-    let mut nulls = [0u64; 1088];
+    let mut constants = [0u16; 2048];
     fill_selectors(
         plan,
         DEEPEST_SELECTOR,
         target.count,
         Cursor { at: 7 },
-        &mut nulls,
+        &mut constants,
     );
-    meets_columns(incoming, columns, index, plan, &nulls, tgt, target)
+    let mut nulls = [0u64; 1088];
+    fill_constants(plan, &constants, &mut nulls);
+    meets_columns(
+        incoming,
+        columns,
+        index,
+        plan,
+        &nulls,
+        tgt,
+        target,
+        &constants,
+    )
 }
 
 // Of a plan that passed the check between the two layouts up to 33.
@@ -300,6 +393,7 @@ pub fn meets_marks(
     let j = index_columns(incoming, v, n, first, stride_of(n), &mut starts);
     if plan.len() < 1024 {
         let none = [0u64; 1];
+        let unknown = [0u16; 1];
         return meets_columns(
             incoming,
             columns,
@@ -308,6 +402,7 @@ pub fn meets_marks(
             &none[..0],
             tgt,
             target,
+            &unknown,
         );
     }
     meets_by_table(incoming, columns, &starts[..j], plan, tgt, target)

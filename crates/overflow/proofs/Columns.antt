@@ -1,7 +1,7 @@
--- What holds while the columns of a plan are asked one after the other. Assumes nothing.
+-- A plan's selectors beside the target's columns, one after the other; one selector's column. Assumes nothing.
 use Prim.Native.Nat.{ℕ, _+_, _-_, _≤_, _<_}
 use mathlib.Core.Path.{_≡_, refl, sym, ap, _∙_, subst}
-use mathlib.Core.Bool.{Bool, true, false, not, _&&_}
+use mathlib.Core.Bool.{Bool, not}
 use mathlib.Core.List.{[]}
 use native.Mathlib.Omega.{arith}
 use lib.ListN.{length}
@@ -17,19 +17,16 @@ use Rattle.layout.specs.declared.columns.Siblings.the-variants.{Free}
 use Rattle.layout.specs.declared.edition.Edition.{Edition}
 use Rattle.layout.proofs.Ways.{clash}
 use Rattle.layout.proofs.View.{FirstAt, first-at, first-labelled, no-column}
-use Rattle.values.specs.Value.{Values}
 use Rattle.plan.specs.Selector.{Selector, Selectors, snil, scons, countSelectors}
 use Rattle.plan.specs.Check.{column}
 use Rattle.plan.specs.Read.{longestPlan, selectors as selectorsOf, selector, deepestSelector}
-use Rattle.plan.specs.Run.{eval, evals, clean, cleanAll}
+use Rattle.plan.specs.Run.{eval, clean}
 use Rattle.plan.proofs.Typed.{Typed, TypedAll, t-nil, t-cons, typed→check, check→typed, passed→typed}
 use Rattle.plan.proofs.Preserve.{eval-over}
 use Rattle.plan.proofs.ReadBack.{selector-back, selectors-read}
 use Rattle.nodes.specs.code.Raw.{RowAt}
-use Rattle.layout.specs.declared.columns.ColumnRange.{ColumnRange}
 use Rattle.walk.specs.code.Stands.{SelectorAt, SelectorsAt}
 use Rattle.walk.proofs.View.{FirstAt as FirstOf, first-at as first-of, selectors-counted}
-use Rattle.overflow.specs.code.Ranges.{RecordAt}
 use Rattle.overflow.specs.code.Want.{overflowing}
 use Rattle.overflow.specs.code.Some.{some}
 use Rattle.overflow.specs.code.Leaves.{leaves}
@@ -171,54 +168,3 @@ top-unclean o p X T e g =
     let Γ = fieldsOf (X .columns .columns) in
     let d = subst (λ (u : DataType). Typed Γ (T .here .tree) (T .column .name) u) e (check→typed (formed-at p (T .here)) (T .passes)) in
     g ∙ unclean (eval-over d (row-over o X))
-
--- ---- b is whether there is an overflow in what is left
-
-pub record Columning (plan : Bytes) (Γ : Fields) (ρ : Values) (y : Edition) (tgt : Bytes) (m : ℕ) (b : Bool) (at to i : ℕ) : Type 0 where
-  pub pairing : Pairing plan Γ y tgt m at to i
-  pub is : not (cleanAll (evals ρ (pairing .selectors .trees))) ≡ b
-
-not-clean : (ρ : Values) (ss : Selectors) {s : Selector} {rs : Selectors} {c : Bool} → ss ≡ scons s rs → not (clean (eval ρ s)) ≡ c → not
-    (cleanAll (evals ρ ss)) ≡ not (not c && cleanAll (evals ρ rs))
-unfolding evals cleanAll
-not-clean ρ ss {s} {rs} e h = rw e (ap (λ (x : Bool). not (x && cleanAll (evals ρ rs))) (turned (clean (eval ρ s)) h))
-  where
-    turned : (a : Bool) {c : Bool} → not a ≡ c → a ≡ not c
-    turned true k = ap not k
-    turned false k = ap not k
-
-none-left : (ρ : Values) (ss : Selectors) → ss ≡ snil → not (cleanAll (evals ρ ss)) ≡ false
-unfolding evals cleanAll
-none-left ρ ss e = rw e
-
-module _ {plan : Bytes} {Γ : Fields} {ρ : Values} {y : Edition} {tgt : Bytes} {m : ℕ} {b : Bool} {at to i : ℕ} (C : Columning plan Γ ρ y tgt m b at to i) where
-  pub columning-all : m ≤ i → false ≡ b
-  columning-all h = sym (none-left ρ (C .pairing .selectors .trees) (no-pair (C .pairing) h .0)) ∙ C .is
-
-  module _ (lt : i < m) {q : Labelled} (g : labelRes tgt q ≡ label y tgt to) {l : LabelSpan} {e : Cursor} (h : q ≡ Labelled.Is l e) {r : Bool}
-      (x : (T : TopAt plan at Γ) (Q : TypeAt y 16 tgt (e .at)) → T .column .type ≡ dtypeOf (Q .tree) → r ≡ not (clean (eval ρ (T .here .tree)))) where
-    column-clean : not (clean (eval ρ (next (C .pairing) lt g h .selector .head .tree))) ≡ r
-    unfolding column-top
-    column-clean = sym (x (column-top (C .pairing) lt g h) (next (C .pairing) lt g h .field .head) refl)
-
-    pub columning-found : r ≡ true → true ≡ b
-    columning-found k = sym (not-clean ρ (C .pairing .selectors .trees) (next (C .pairing) lt g h .selector .is) (column-clean ∙ k)) ∙ C .is
-
-    pub columning-more : r ≡ false → {o u : ℕ} → ((P : SelectorAt plan at) → o ≡ P .end) → ((P : TypeAt y 16 tgt (e .at)) → u ≡ P .end) → Columning plan
-        Γ ρ y tgt m b o u (i + 1)
-    unfolding pair-more
-    columning-more k f w = record {
-      pairing = pair-more (C .pairing) lt g h f w;
-      is = sym (not-clean ρ (C .pairing .selectors .trees) (next (C .pairing) lt g h .selector .is) (column-clean ∙ k)) ∙ C .is;
-    }
-
--- of all that stand there
-abbrev pub Columnings : Bytes → ColumnRange → Bytes → Bytes → ℕ → Bytes → Edition → ℕ → ℕ → ℕ → ℕ → ℕ → Type 0
-Columnings lay columns rec plan first tgt y m target at to i =
-    (X : RecordAt lay columns rec) (D : ColumnsAt y 16 tgt m target) (P : PlanAt plan first (fieldsOf (X .columns .columns)) (fieldsOf (D .columns)))
-    → Columning plan (fieldsOf (X .columns .columns)) (X .values .values) y tgt m (not (cleanAll (evals (X .values .values) (P .selectors .trees)))) at to i
-
-pub columning-start : (lay : Bytes) (columns : ColumnRange) (rec plan : Bytes) (first : ℕ) (tgt : Bytes) (y : Edition) (m target : ℕ) → AllBytes plan
-    → Columnings lay columns rec plan first tgt y m target first target 0
-unfolding pair-start
-columning-start lay columns rec plan first tgt y m target p X D P = record { pairing = pair-start p D P; is = refl }

@@ -1,6 +1,6 @@
-// Whether a strict cast overflows anywhere in the output of a plan. The output is not visited: for each path to a
-// date-time leaf of the target's types the nodes there, over all elements of the lists and arrays on it, are asked for
-// at once.
+// Whether a strict cast overflows anywhere in what a top selector of a plan gives. That is not visited: for each path
+// to a date-time leaf of the target's type the nodes there, over all elements of the lists and arrays on it, are asked
+// for at once.
 ghost use mathlib.Core.Path.{_≡_};
 ghost use mathlib.Core.Bool.{not};
 ghost use mathlib.Core.List.{[], _∷_};
@@ -10,10 +10,11 @@ ghost use Rattle.ends.specs.code.Ends.{Ends};
 ghost use Rattle.layout.specs.Tree.{dtypeOf, fieldsOf};
 ghost use Rattle.layout.specs.code.Stands.{TypeAt, ColumnsAt};
 ghost use Rattle.layout.specs.Limits.{deepest};
-ghost use Rattle.plan.specs.Run.{clean, cleanAll, eval, evals};
-ghost use Rattle.overflow.specs.code.Ranges.{ColumnsIn, RecordAt};
+ghost use Rattle.plan.specs.Run.{clean, eval};
+ghost use Rattle.plan.specs.code.Constants.{ConstantEnds};
+ghost use Rattle.overflow.specs.code.Ranges.{RecordAt};
 ghost use Rattle.overflow.specs.code.Leaves.{leaves, leavesFrom};
-ghost use Rattle.overflow.specs.code.Overflows.{TopAt, PlanAt, ElementTypeAt, overAt, partPath, started};
+ghost use Rattle.overflow.specs.code.Overflows.{TopAt, ElementTypeAt, overAt, partPath, started};
 use crate::seek::seek;
 use crate::want::Bounds;
 use crate::want::Timed;
@@ -24,12 +25,12 @@ use layout::columns::Labelled;
 use layout::cursor::Cursor;
 use layout::edition::Edition;
 use layout::leaf::TimeUnit;
-use layout::limits::DEEPEST;
+use layout::limits::DEEPEST_SELECTOR;
 use layout::types::Head;
 use layout::walk::skip_type;
 use nodes::places::TopPath;
 use nodes::places::TypePlace;
-use walk::head::skip_selector;
+use plan::fill::fill_selectors;
 use walk::walk::Walk;
 
 const HALF: u64 = 9223372036854775808;
@@ -78,7 +79,9 @@ fn over_leaf(
     path: TopPath,
     u: TimeUnit,
     table: &[u16],
+    constants: &[u16],
 ) -> bool
+    requires { ⌜ ConstantEnds (now plan) (now constants) ⌝ }
     requires { ⌜ Ends (columns .edition) (now lay) (now table) ⌝ }
     requires { ⌜ ((X : RecordAt (now lay) columns (now rec)) × TopAt (now plan) (path .top) (fieldsOf (X .columns .columns))) ⌝ }
     requires { ⌜ (path .len ≤ 64) × (length (path .steps) ≡ 64) ⌝ }
@@ -89,7 +92,16 @@ fn over_leaf(
         above: HALF,
         below: HALF,
     };
-    seek(lay, columns, rec, plan, w, Want::Beyond(bounds, u), table)
+    seek(
+        lay,
+        columns,
+        rec,
+        plan,
+        w,
+        Want::Beyond(bounds, u),
+        table,
+        constants,
+    )
 }
 
 // At the paths that go on to a date-time leaf of the type at `place`.
@@ -102,7 +114,9 @@ fn over_type(
     tgt: &[u8],
     place: TypePlace,
     table: &[u16],
+    constants: &[u16],
 ) -> bool
+    requires { ⌜ ConstantEnds (now plan) (now constants) ⌝ }
     requires { ⌜ Ends (columns .edition) (now lay) (now table) ⌝ }
     requires { ⌜ ((X : RecordAt (now lay) columns (now rec)) × TopAt (now plan) (path .top) (fieldsOf (X .columns .columns))) ⌝ }
     requires { ⌜ TypeAt (place .edition) (place .depth) (now tgt) (place .at .at) × (path .len + place .depth ≤ deepest) × (length (path .steps) ≡ 64) ⌝ }
@@ -114,7 +128,7 @@ fn over_type(
         Head::Leaf(l, _) => {
             let leaf = l.leaf;
             match time_of(leaf) {
-                Timed::In(u) => over_leaf(lay, columns, rec, plan, path, u, table),
+                Timed::In(u) => over_leaf(lay, columns, rec, plan, path, u, table, constants),
                 Timed::Never => false,
             }
         }
@@ -125,7 +139,7 @@ fn over_type(
                 count: m,
                 first: e,
             };
-            over_fields(lay, columns, rec, plan, path, tgt, fields, table)
+            over_fields(lay, columns, rec, plan, path, tgt, fields, table, constants)
         }
         Head::List(e) => {
             let element = TypePlace {
@@ -133,7 +147,17 @@ fn over_type(
                 depth: place.depth - 1,
                 at: e,
             };
-            over_element(lay, columns, rec, plan, path, tgt, element, table)
+            over_element(
+                lay,
+                columns,
+                rec,
+                plan,
+                path,
+                tgt,
+                element,
+                table,
+                constants,
+            )
         }
         Head::Array(_, e) => {
             let element = TypePlace {
@@ -141,7 +165,17 @@ fn over_type(
                 depth: place.depth - 1,
                 at: e,
             };
-            over_element(lay, columns, rec, plan, path, tgt, element, table)
+            over_element(
+                lay,
+                columns,
+                rec,
+                plan,
+                path,
+                tgt,
+                element,
+                table,
+                constants,
+            )
         }
         Head::Refused(_) => true,
     }
@@ -157,7 +191,9 @@ fn over_element(
     tgt: &[u8],
     place: TypePlace,
     table: &[u16],
+    constants: &[u16],
 ) -> bool
+    requires { ⌜ ConstantEnds (now plan) (now constants) ⌝ }
     requires { ⌜ Ends (columns .edition) (now lay) (now table) ⌝ }
     requires { ⌜ ((X : RecordAt (now lay) columns (now rec)) × TopAt (now plan) (path .top) (fieldsOf (X .columns .columns))) ⌝ }
     requires { ⌜ ElementTypeAt (place .edition) (place .depth) (now tgt) (place .at .at) × (path .len + 1 + place .depth ≤ deepest) × (length (path .steps) ≡ 64) ⌝ }
@@ -170,7 +206,17 @@ fn over_element(
         Labelled::Is(_, at) => {
             let below = part_path(path, 0);
             let element = TypePlace { edition, depth, at };
-            over_type(lay, columns, rec, plan, below, tgt, element, table)
+            over_type(
+                lay,
+                columns,
+                rec,
+                plan,
+                below,
+                tgt,
+                element,
+                table,
+                constants,
+            )
         }
         Labelled::Refused(_) => true,
     }
@@ -186,7 +232,9 @@ fn over_fields(
     tgt: &[u8],
     fields: FieldsPlace,
     table: &[u16],
+    constants: &[u16],
 ) -> bool
+    requires { ⌜ ConstantEnds (now plan) (now constants) ⌝ }
     requires { ⌜ Ends (columns .edition) (now lay) (now table) ⌝ }
     requires { ⌜ ((X : RecordAt (now lay) columns (now rec)) × TopAt (now plan) (path .top) (fieldsOf (X .columns .columns))) ⌝ }
     requires { ⌜ ColumnsAt (fields .edition) (fields .depth) (now tgt) (fields .count) (fields .first .at) × (path .len + 1 + fields .depth ≤ deepest) × (length (path .steps) ≡ 64) ⌝ }
@@ -206,7 +254,7 @@ fn over_fields(
                     depth,
                     at: e,
                 };
-                if over_type(lay, columns, rec, plan, below, tgt, place, table) {
+                if over_type(lay, columns, rec, plan, below, tgt, place, table, constants) {
                     return true;
                 }
                 d = skip_type(tgt, edition, depth, e);
@@ -218,7 +266,8 @@ fn over_fields(
     false
 }
 
-// In the column that the selector at `top` gives, whose type in the target stands at `place`.
+// In the column that the selector at `top` gives, whose type in the target stands at `place`. In a long plan the
+// selector is passed once before, for a table of where its constants end.
 pub fn top_overflows(
     lay: &[u8],
     columns: ColumnRange,
@@ -239,46 +288,11 @@ pub fn top_overflows(
         steps: [0u16; 64],
         len: 0,
     };
-    over_type(lay, columns, rec, plan, path, tgt, place, table)
-}
-
-// In the output of a plan whose selectors begin at `first`, over a record.
-pub fn overflows(
-    lay: &[u8],
-    columns: ColumnRange,
-    rec: &[u8],
-    plan: &[u8],
-    first: Cursor,
-    tgt: &[u8],
-    target: ColumnRange,
-    table: &[u16],
-) -> bool
-    requires { ⌜ Ends (columns .edition) (now lay) (now table) ⌝ }
-    requires { ⌜ ((X : RecordAt (now lay) columns (now rec)) × (D : ColumnsIn (now tgt) target) × PlanAt (now plan) (first .at) (fieldsOf (X .columns .columns)) (fieldsOf (D .columns))) ⌝ }
-    ensures { λ r. ⌜ ((X : RecordAt (now (lay .entry)) columns (now (rec .entry))) (D : ColumnsIn (now (tgt .entry)) target) (P : PlanAt (now (plan .entry)) (first .at) (fieldsOf (X .columns .columns)) (fieldsOf (D .columns))) → r ≡ not (cleanAll (evals (X .values .values) (P .selectors .trees)))) ⌝ }
-{
-    let edition = target.edition;
-    let count = target.count;
-    let mut s = first;
-    let mut d = target.first;
-    let mut i: u16 = 0;
-    while i < count {
-        match d.label(tgt, edition) {
-            Labelled::Is(_, e) => {
-                let place = TypePlace {
-                    edition,
-                    depth: DEEPEST,
-                    at: e,
-                };
-                if top_overflows(lay, columns, rec, plan, s, tgt, place, table) {
-                    return true;
-                }
-                s = skip_selector(plan, s);
-                d = skip_type(tgt, edition, DEEPEST, e);
-            }
-            Labelled::Refused(_) => return true,
-        }
-        i += 1;
+    if plan.len() < 1024 {
+        let none = [0u16; 1];
+        return over_type(lay, columns, rec, plan, path, tgt, place, table, &none);
     }
-    false
+    let mut constants = [0u16; 2048];
+    fill_selectors(plan, DEEPEST_SELECTOR, 1, top, &mut constants);
+    over_type(lay, columns, rec, plan, path, tgt, place, table, &constants)
 }

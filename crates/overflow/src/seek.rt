@@ -8,6 +8,7 @@ ghost use mathlib.Core.Path.{_≡_};
 ghost use Rattle.ends.specs.code.Ends.{Ends};
 ghost use Rattle.layout.specs.Tree.{fieldsOf};
 ghost use Rattle.plan.specs.Run.{eval};
+ghost use Rattle.plan.specs.code.Constants.{ConstantEnds};
 ghost use Rattle.overflow.specs.code.Ranges.{RecordAt};
 ghost use Rattle.overflow.specs.code.Want.{SmallWant};
 ghost use Rattle.overflow.specs.code.Some.{some};
@@ -26,7 +27,9 @@ pub fn seek(
     w: Walk,
     want: Want,
     table: &[u16],
+    constants: &[u16],
 ) -> bool
+    requires { ⌜ ConstantEnds (now plan) (now constants) ⌝ }
     requires { ⌜ Ends (columns .edition) (now lay) (now table) ⌝ }
     requires { ⌜ ((X : RecordAt (now lay) columns (now rec)) × Seeks (now plan) w (fieldsOf (X .columns .columns))) ⌝ }
     requires { ⌜ SmallWant want ⌝ }
@@ -35,8 +38,8 @@ pub fn seek(
     let mut x = w;
     let mut asks = want;
     loop {
-        x = x.locate(plan);
-        match at_stop(lay, columns, rec, plan, x, asks, table) {
+        x = x.locate(plan, constants);
+        match at_stop(lay, columns, rec, plan, x, asks, table, constants) {
             Stop::No => return false,
             Stop::Yes => return true,
             Stop::Input(next) => {

@@ -1,4 +1,5 @@
--- `nullness::marks::meets_by_table` meets its contract: the table is that of the plan's constants. Assumes nothing.
+-- `nullness::marks::meets_by_table` meets its contract: the tables are those of the plan's constants. Assumes nothing.
+use Rattle.plan.proofs.Entries.{constants-none}
 use Rattle.nullness.proofs.NullsTable.{nulls-zeros}
 use borrow.Author.Needs.{needs}
 use Rattle.nullness.proofs.marks.meets_by_table.Statement.{statement}
@@ -9,9 +10,11 @@ meets-by-table-spec =
     tie.close
     (tie.spec
     (λ c. search needs)
+    (λ c κs. constants-none 2048)
+    (λ c. search needs)
+    (λ c. search needs)
     (λ c κs. nulls-zeros 1088)
     (λ c. search needs)
-    (λ c κs.
-    let c2 = c .before .before in let c8 = c2 .before .before .before .before .before .before in
-    ((c8 .pre .0, c2 .fill-selectors .ensures), c8 .pre .1))
-    (λ c. λ P D S. c .meets-columns .ensures P D S))
+    (λ c. search needs)
+    (λ c κs. search needs)
+    (λ c. search needs))

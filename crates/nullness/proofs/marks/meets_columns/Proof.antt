@@ -11,11 +11,11 @@ use Rattle.nullness.proofs.marks.meets_columns.Statement.{statement}
 use Rattle.nullness.proofs.marks.meets_columns.Tie as tie
 
 abbrev Inv-loop : tie.InvT-loop
-Inv-loop incoming columns index plan nulls tgt edition count s₀ d₀ i₀ s d i =
+Inv-loop incoming columns index plan nulls tgt constants edition count s₀ d₀ i₀ s d i =
     Columnings incoming columns plan (s₀ .at) tgt edition count (d₀ .at) (s .at) (d .at) i
 
 abbrev μ-loop : tie.MeasureT-loop
-μ-loop incoming columns index plan nulls tgt edition count s₀ d₀ i₀ s d i = count - i
+μ-loop incoming columns index plan nulls tgt constants edition count s₀ d₀ i₀ s d i = count - i
 
 pub meets-columns-spec : {M : Type 1} → statement M
 meets-columns-spec =
@@ -23,22 +23,25 @@ meets-columns-spec =
     (tie.spec
     Inv-loop
     μ-loop
-    (λ c. columning-start _ _ _ _ _ _ _ _ (λ i. omega (arith, c .before .before .before .shared-slice-known3 .given i)))
+    (λ c. columning-start _ _ _ _ _ _ _ _ (λ i. omega (arith, c .before .before .before .before .shared-slice-known3 .given i)))
     (λ c κs. search needs)
     (λ c. search needs)
     (λ c κs.
-    let c1 = c .before in let c3 = c1 .before .before in let c4 = c3 .before in let c5 = c4 .before in let c12 =
-    c5 .before .before .before .before .before .before .before in
-    let R = c12 .pre .1 in let C = c5 .loop .inv (R .0) (R .1) (R .2) in let T = next (C .pairing) (c4 .loop-test .taken) (c3 .label .ensures .0)
+    let c1 = c .before in let c3 = c1 .before .before in let c4 = c3 .before in let c5 = c4 .before in let c13 =
+    c5 .before .before .before .before .before .before .before .before in
+    let R = c13 .pre .1 .1 in let C = c5 .loop .inv (R .0) (R .1) (R .2) in let T = next (C .pairing) (c4 .loop-test .taken) (c3 .label .ensures .0)
     (c1 .l .given .1) .field .head in let S = column-place C (c4 .loop-test .taken) (c3 .label .ensures .0) (c1 .l .given .1) in (
-      c12 .pre .0,
+      c13 .pre .0,
       (
+        c13 .pre .1 .0,
         (
-          R .0,
-          T,
-          S,
+          (
+            R .0,
+            T,
+            S,
+          ),
+          (omega arith, length-replicate {A = ℕ} 64 0),
         ),
-        (omega arith, length-replicate {A = ℕ} 64 0),
       ),
     ))
     (λ c.
@@ -47,21 +50,21 @@ meets-columns-spec =
     (untold _ (c .if1 .taken)))
     (λ c κs. search needs)
     (λ c κs.
-    let c4 = c .before .before .before .before in let c6 = c4 .before .before in let c7 = c6 .before in let c8 = c7 .before in let c15 =
-    c8 .before .before .before .before .before .before .before in
-    let R = c15 .pre .1 in column-type (c8 .loop .inv (R .0) (R .1) (R .2) .pairing) (c7 .loop-test .taken) (c6 .label .ensures .0) (c4 .l .given .1))
+    let c4 = c .before .before .before .before in let c6 = c4 .before .before in let c7 = c6 .before in let c8 = c7 .before in let c16 =
+    c8 .before .before .before .before .before .before .before .before in
+    let R = c16 .pre .1 .1 in column-type (c8 .loop .inv (R .0) (R .1) (R .2) .pairing) (c7 .loop-test .taken) (c6 .label .ensures .0) (c4 .l .given .1))
     (λ c. search needs)
     (λ c.
     let c2 = c .before .before in let c3 = c2 .before in let c4 = c3 .before in
     λ P D S. pair-labelled (c4 .loop .inv P D S .pairing) (c3 .loop-test .taken) (c2 .label .ensures .0) (c .enum-told .given .1))
     (λ c.
-    let c8 = c .before .before .before .before .before .before .before .before in let c16 = c8 .before .before .before .before .before .before .before .before
-    in
-    omega (arith, c8 .loop-test .taken, c16 .good .1 .1 .1 .1 .1 .1 .0))
+    let c8 = c .before .before .before .before .before .before .before .before in
+    let c17 = c8 .before .before .before .before .before .before .before .before .before in
+    omega (arith, c8 .loop-test .taken, c17 .good .1 .1 .1 .1 .1 .1 .0))
     (λ c. search needs)
     (λ c.
     let c1 = c .before in let c2 = c1 .before in let c3 = c2 .before in let c5 = c3 .before .before in let c7 = c5 .before .before in let c8 = c7 .before in
     let c9 = c8 .before in
     λ P D S. columning-more (c9 .loop .inv P D S) (c8 .loop-test .taken) (c7 .label .ensures .0) (c5 .l .given .1) (λ T E. c3 .meets-type .ensures P T E) (told
-    _ (c2 .if1 .left)) (c1 .skip-selector .ensures) (c .skip-type .ensures))
+    _ (c2 .if1 .left)) (c1 .skip-by .ensures) (c .skip-type .ensures))
     (λ c. λ P D S. columning-all (c .before .loop .inv P D S) (c .loop-test .left)))

@@ -1,6 +1,7 @@
 -- `nullness::marks::meets_marks` meets its contract: the table is that of the incoming columns. Assumes nothing.
 use mathlib.Core.Path.{refl, sym}
 use lib.Seq.{length-take-le}
+use Rattle.plan.proofs.Entries.{constants-none}
 use Rattle.nullness.proofs.Marking.{stride-as}
 use Rattle.nullness.proofs.NullsTable.{nulls-none}
 use borrow.Author.Needs.{needs}
@@ -18,9 +19,10 @@ meets-marks-spec =
     (λ c. sym (length-take-le _ _ (c .before .before .before .index-columns .ensures .0)))
     (λ c. search needs)
     (λ c. search needs)
+    (λ c. search needs)
     (λ c κs.
-    let c4 = c .before .before .before .before in let c6 = c4 .before .before in let c10 = c6 .before .before .before .before in
-    ((stride-as (c6 .stride-of .ensures .0) (c4 .index-columns .ensures .1), nulls-none refl), c10 .pre))
+    let c5 = c .before .before .before .before .before in let c7 = c5 .before .before in let c11 = c7 .before .before .before .before in
+    (constants-none 1, ((stride-as (c7 .stride-of .ensures .0) (c5 .index-columns .ensures .1), nulls-none refl), c11 .pre)))
     (λ c. λ P D S. c .meets-columns .ensures P D S)
     (λ c. search needs)
     (λ c. sym (length-take-le _ _ (c .before .before .before .index-columns .ensures .0)))

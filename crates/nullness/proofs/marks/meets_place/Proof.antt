@@ -14,8 +14,17 @@ meets-place-spec =
     (λ c. λ P u S. place-optional _ (untold _ (c .if1 .taken)))
     (λ c κs. search needs)
     (λ c κs.
-    let c6 = c .before .before .before .before .before .before in
-    (c6 .pre .0, (c6 .pre .1 .0 .0, place-follows _ _ (c6 .pre .1 .0 .2) (c6 .pre .1 .1 .1) (c6 .pre .1 .1 .0) (c .start .ensures))))
+    let c7 = c .before .before .before .before .before .before .before in (
+      c7 .pre .0,
+      (
+        c7 .pre .1 .0,
+        (
+          c7 .pre .1 .1 .0 .0,
+          place-follows _ _ (c7 .pre .1 .1 .0 .2) (c7 .pre .1 .1 .1 .1) (c7 .pre .1 .1 .1 .0)
+              (c .start .ensures),
+        ),
+      ),
+    ))
     (λ c.
-    let c1 = c .before in let c2 = c1 .before in let c7 = c2 .before .before .before .before .before in
-    λ P u S. place-filled _ _ S (c7 .pre .1 .1 .1) (c7 .pre .1 .1 .0) (c1 .start .ensures) _ (told _ (c2 .if1 .left)) (c .follow .ensures P)))
+    let c1 = c .before in let c2 = c1 .before in let c8 = c2 .before .before .before .before .before .before in
+    λ P u S. place-filled _ _ S (c8 .pre .1 .1 .1 .1) (c8 .pre .1 .1 .1 .0) (c1 .start .ensures) _ (told _ (c2 .if1 .left)) (c .follow .ensures P)))

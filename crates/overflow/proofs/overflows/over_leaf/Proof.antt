@@ -10,8 +10,20 @@ over-leaf-spec =
     (tie.spec
     (λ c κs. search needs)
     (λ c κs.
-    let c5 = c .before .before .before .before .before in
-    (c5 .pre .0, ((c5 .pre .1 .0 .0, leaf-seeks (c5 .pre .1 .0 .1) (c5 .pre .1 .1 .1) (c5 .pre .1 .1 .0) (c .start .ensures)), widest-small)))
+    let c6 = c .before .before .before .before .before .before in (
+      c6 .pre .0,
+      (
+        c6 .pre .1 .0,
+        (
+          (
+            c6 .pre .1 .1 .0 .0,
+            leaf-seeks (c6 .pre .1 .1 .0 .1) (c6 .pre .1 .1 .1 .1) (c6 .pre .1 .1 .1 .0)
+                (c .start .ensures),
+          ),
+          widest-small,
+        ),
+      ),
+    ))
     (λ c.
-    let c1 = c .before in let c6 = c1 .before .before .before .before .before in
-    λ X T. leaf-over T (c6 .pre .1 .1 .1) (c6 .pre .1 .1 .0) (c1 .start .ensures) _ _ (c .seek .ensures X)))
+    let c1 = c .before in let c7 = c1 .before .before .before .before .before .before in
+    λ X T. leaf-over T (c7 .pre .1 .1 .1 .1) (c7 .pre .1 .1 .1 .0) (c1 .start .ensures) _ _ (c .seek .ensures X)))

@@ -13,17 +13,17 @@ at-stop-spec =
     (λ c κs. search needs)
     (λ c. search needs)
     (λ c κs.
-    let c8 = c .before .before .before .before .before .before .before .before in
-    (c8 .pre .0, (c8 .pre .1 .0 .0, (path-room (c8 .pre .1 .0 .1 .1), c8 .pre .1 .1))))
+    let c9 = c .before .before .before .before .before .before .before .before .before in
+    (c9 .pre .1 .0, (c9 .pre .1 .1 .0 .0, (path-room (c9 .pre .1 .1 .0 .1 .1), c9 .pre .1 .1 .1))))
     (λ c. search needs)
     (λ c κs.
-    let c1 = c .before in let c3 = c1 .before .before in let c8 = c3 .before .before .before .before .before in
-    ((constant-raw (c8 .pre .1 .0 .1 .1) (c3 .head .ensures (c8 .pre .1 .0 .1 .1 .here)) (c1 .t .given .1), c8 .pre .1 .0 .1), c8 .pre .1 .1))
+    let c1 = c .before in let c3 = c1 .before .before in let c9 = c3 .before .before .before .before .before .before in
+    ((constant-raw (c9 .pre .1 .1 .0 .1 .1) (c3 .head .ensures (c9 .pre .1 .1 .0 .1 .1 .here)) (c1 .t .given .1), c9 .pre .1 .1 .0 .1), c9 .pre .1 .1 .1))
     (λ c. search needs)
     (λ c κs. search needs)
     (λ c κs.
-    let c2 = c .before .before in let c4 = c2 .before .before in let c9 = c4 .before .before .before .before .before in
-    (cast-type (c9 .pre .1 .0 .1 .1) (c4 .head .ensures (c9 .pre .1 .0 .1 .1 .here)) (c2 .input .given .1) (c .skip-selector .ensures), c9 .pre .1 .1))
+    let c2 = c .before .before in let c4 = c2 .before .before in let c10 = c4 .before .before .before .before .before .before in
+    (cast-type (c10 .pre .1 .1 .0 .1 .1) (c4 .head .ensures (c10 .pre .1 .1 .0 .1 .1 .here)) (c2 .input .given .1) (c .skip-by .ensures), c10 .pre .1 .1 .1))
     (λ c. search needs)
     (λ c. search needs)
     (λ c κs. search needs)
@@ -36,21 +36,21 @@ at-stop-spec =
     let c2 = c .before .before in let c4 = c2 .before .before in
     λ X x M. c .at-position .ensures X _ x M (position-stop M (c4 .head .ensures (M .here)) (c2 .k .given .1)))
     (λ c.
-    let c2 = c .before .before in let c4 = c2 .before .before in let c9 = c4 .before .before .before .before .before in
-    λ X x M. constant-stop M _ (c9 .args .want) (c4 .head .ensures (M .here)) (c2 .t .given .1) (λ R. c .at-constant .ensures R x M))
+    let c2 = c .before .before in let c4 = c2 .before .before in let c10 = c4 .before .before .before .before .before .before in
+    λ X x M. constant-stop M _ (c10 .args .want) (c4 .head .ensures (M .here)) (c2 .t .given .1) (λ R. c .at-constant .ensures R x M))
     (λ c.
-    let c1 = c .before in let c3 = c1 .before .before in let c5 = c3 .before .before in let c10 = c5 .before .before .before .before .before in
-    λ X x M. cast-stop M _ (c10 .args .want) (c5 .head .ensures (M .here)) (c3 .input .given .1) (c1 .skip-selector .ensures) (λ T. c .at-cast .ensures T x M))
+    let c1 = c .before in let c3 = c1 .before .before in let c5 = c3 .before .before in let c11 = c5 .before .before .before .before .before .before in
+    λ X x M. cast-stop M _ (c11 .args .want) (c5 .head .ensures (M .here)) (c3 .input .given .1) (c1 .skip-by .ensures) (λ T. c .at-cast .ensures T x M))
     (λ c.
-    let c2 = c .before .before in let c7 = c2 .before .before .before .before .before in
-    λ X x M. rename-stop M _ (c7 .args .want) (c2 .head .ensures (M .here)) (c .enum-told .given .1))
+    let c2 = c .before .before in let c8 = c2 .before .before .before .before .before .before in
+    λ X x M. rename-stop M _ (c8 .args .want) (c2 .head .ensures (M .here)) (c .enum-told .given .1))
     (λ c.
-    let c1 = c .before in let c3 = c1 .before .before in let c8 = c3 .before .before .before .before .before in
-    λ X x M. struct-stop M _ (c8 .args .want) (c3 .head .ensures (M .here)) (c1 .enum-told2 .given .1) (c .at-struct .ensures _ x M))
+    let c1 = c .before in let c3 = c1 .before .before in let c9 = c3 .before .before .before .before .before .before in
+    λ X x M. struct-stop M _ (c9 .args .want) (c3 .head .ensures (M .here)) (c1 .enum-told2 .given .1) (c .at-struct .ensures _ x M))
     (λ c.
-    let c1 = c .before in let c3 = c1 .before .before in let c8 = c3 .before .before .before .before .before in
-    λ X x M. list-stop M _ (c8 .args .want) (c3 .head .ensures (M .here)) (c1 .enum-told3 .given .1) (c .before-list .ensures))
+    let c1 = c .before in let c3 = c1 .before .before in let c9 = c3 .before .before .before .before .before .before in
+    λ X x M. list-stop M _ (c9 .args .want) (c3 .head .ensures (M .here)) (c1 .enum-told3 .given .1) (c .before-list .ensures))
     (λ c.
-    let c1 = c .before in let c3 = c1 .before .before in let c8 = c3 .before .before .before .before .before in
-    λ X x M. array-stop M _ (c8 .args .want) (c3 .head .ensures (M .here)) (c1 .enum-told4 .given .1) (c .before-list2 .ensures))
+    let c1 = c .before in let c3 = c1 .before .before in let c9 = c3 .before .before .before .before .before .before in
+    λ X x M. array-stop M _ (c9 .args .want) (c3 .head .ensures (M .here)) (c1 .enum-told4 .given .1) (c .before-list2 .ensures))
     (λ c. λ X x M. never-refused (c .before .before .head .ensures (M .here)) (c .enum-told5 .given .1)))
