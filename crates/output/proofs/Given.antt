@@ -51,6 +51,6 @@ mutual
       array-given _ (λ v. given (vcons v vnil) x) (λ v k. eval-given e (only k)) (eval-over d h)
       ∙ ap (opened (λ vs. varray (mapValues (λ v. given (vcons v vnil) x) vs))) (eval-given d h)
 
-  pub evals-given : {Γ : Fields} {ρ : Values} {ss : Selectors} {fs : Fields} → TypedAll Γ ss fs → FitsAllOver Γ ρ → evals ρ ss ≡ givens ρ ss
+  evals-given : {Γ : Fields} {ρ : Values} {ss : Selectors} {fs : Fields} → TypedAll Γ ss fs → FitsAllOver Γ ρ → evals ρ ss ≡ givens ρ ss
   evals-given t-nil h = refl
   evals-given (t-cons d ds) h = let p = eval-given d h in let q = evals-given ds h in rw (p, q)

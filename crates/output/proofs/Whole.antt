@@ -1,52 +1,43 @@
--- The output of a whole plan. Assumes nothing.
-use Prim.Native.Nat.{ℕ, suc, _+_, _-_, _<_, _≤_}
+-- What a column of a plan gives, and what was written aside. Assumes nothing.
+use Prim.Native.Nat.{ℕ, _+_, _<_, _≤_}
 use mathlib.Core.Path.{_≡_, refl, ap, sym, subst, _∙_}
 use mathlib.Core.Bool.{Bool, true, false, _&&_}
 use mathlib.Core.List.{[]}
 use native.Mathlib.Omega.{arith}
-use native.Mathlib.Nat.{add-zero, zero-add}
+use native.Mathlib.Nat.{zero-add}
 use native.Mathlib.Decide.{decLt}
 use lib.Dec.{leb}
 use lib.ListN.{length, take, length-take}
 use lib.Seq.{slice}
 use borrow.Author.Tests.{le-leb, lt-leb}
 use Rattle.layout.specs.Bytes.{Bytes, AllBytes}
-use Rattle.layout.specs.Parser.{ok}
-use Rattle.layout.specs.Tree.{DataType, Fields, fieldsOf}
+use Rattle.layout.specs.Tree.{DataType, Fields}
 use Rattle.layout.specs.declared.edition.Edition.{Edition}
 use Rattle.store.specs.code.Overlay.{overlay}
 use Rattle.store.proofs.Overlay.{overlay-front}
 use Rattle.store.proofs.Holds.{holds-front}
 use Rattle.forms.specs.Depth.{depthOf, depthOfFields}
-use Rattle.values.specs.Value.{Value, Values, countValues}
+use Rattle.values.specs.Value.{Value, Values}
 use Rattle.values.specs.Encode.{encodeValue, encodeValues}
 use Rattle.values.specs.Record.{longest}
-use Rattle.values.proofs.Back.{values-back}
 use Rattle.plan.specs.Selector.{Selector, Selectors}
-use Rattle.plan.specs.Read.{longestPlan, deepestSelector, selector, selectors as selectorsOf}
+use Rattle.plan.specs.Read.{longestPlan, deepestSelector, selector}
 use Rattle.plan.specs.Result.{Answer}
-use Rattle.plan.specs.Run.{valueAt, eval, evals, clean, cleanAll, spacious, run}
+use Rattle.plan.specs.Run.{eval, evals, clean, cleanAll, spacious, run}
 use Rattle.plan.specs.code.Fits.{FitsOver, over-null, over-number, over-text, over-datetime, over-struct, over-list, over-array, FitsAllOver, over-nil}
 use Rattle.plan.specs.code.Fits.{over-cons, FitsEachOver, over-none, over-more}
-use Rattle.plan.proofs.Typed.{TypedAll, passed→typed}
-use Rattle.plan.proofs.Over.{all-over}
-use Rattle.plan.proofs.Preserve.{evals-over}
-use Rattle.plan.proofs.ReadBack.{selector-back, selectors-read}
+use Rattle.plan.proofs.ReadBack.{selector-back}
 use Rattle.plan.proofs.Theorems.{run-writes, run-exceeds}
 use Rattle.walk.specs.code.State.{state}
-use Rattle.walk.specs.code.Stands.{SelectorAt, SelectorsAt}
+use Rattle.walk.specs.code.Stands.{SelectorAt}
 use Rattle.walk.specs.code.Walks.{WalkAt}
-use Rattle.walk.specs.code.Values.{given, givens, within, valueNode, stateValue}
+use Rattle.walk.specs.code.Values.{within, valueNode, stateValue}
 use Rattle.walk.specs.declared.walk.Walk.{Walk}
-use Rattle.walk.proofs.View.{FirstAt, first-at, selectors-counted}
 use Rattle.output.specs.code.Output.{Emits, levels, levelsAll}
 use Rattle.plan.specs.Calls.{bufferAfter}
-use Rattle.output.specs.code.Answers.{size, EmitAt, EmitTopAt, EmitAllAt, OutputAt, HandedOver, writtenOf}
+use Rattle.output.specs.code.Answers.{size, EmitAt, EmitTopAt, writtenOf}
 use Rattle.output.specs.declared.write.Written.{Written}
-use Rattle.output.proofs.Given.{evals-given}
-use Rattle.output.proofs.Ends.{count-givens}
-use Rattle.output.proofs.Writing.{within-limit, clean-at, levels-at}
-use Rattle.output.proofs.Emitting.{Rowing, rowing-none, rowing-past, rowing-all, rowing-more}
+use Rattle.output.proofs.Writing.{within-limit}
 
 -- ---- one selector
 
@@ -83,99 +74,6 @@ module _ {v : Edition} {lay : Bytes} {n t : ℕ} {rec plan : Bytes} {at : ℕ} (
       → ((B : EmitAt v lay n t rec plan w) → Emits out k (encodeValue (stateValue (B .row .values .values) (B .state))) r new)
       → Emits out k (encodeValue (eval (A .row .values .values) (A .selector .tree))) r new
   top-emits {out} {k} {r} {new} f = subst (λ (u : Value). Emits out k (encodeValue u) r new) top-is (f top-at)
-
--- ---- the loop over selectors
-
-sub-zero : (n : ℕ) → n - 0 ≡ n
-sub-zero n = omega arith
-
-module _ {v : Edition} {lay : Bytes} {n t : ℕ} {rec plan : Bytes} {count first : ℕ} (A : EmitAllAt v lay n t rec plan count first) where
-  abbrev ρ : Values
-  ρ = A .row .values .values
-
-  abbrev all : Values
-  all = evals ρ (A .selectors .trees)
-
-  abbrev allGiven : Values
-  allGiven = givens ρ (A .selectors .trees)
-
-  counted : countValues all ≡ count
-  counted = ap countValues (A .same) ∙ count-givens ρ (A .selectors .trees) ∙ selectors-counted count (A .selectors)
-
-  -- from `from` on, the selectors that are left after i
-  pub record Running (out₀ : Bytes) (k i from at : ℕ) (out : Bytes) : Type 0 where
-    pub left : SelectorsAt plan (count - i) from
-    pub same : (j : ℕ) → valueAt all (i + j) ≡ valueAt (evals ρ (left .trees)) j
-    pub given : (j : ℕ) → valueAt allGiven (i + j) ≡ valueAt (givens ρ (left .trees)) j
-    pub rowing : Rowing all out₀ k i at out
-
-  pub running-none : (out : Bytes) (k : ℕ) → Running out k 0 first k out
-  running-none out k = record {
-    left = record {
-      trees = A .selectors .trees;
-      end = A .selectors .end;
-      reads = ap (λ (m : ℕ). selectorsOf (selector deepestSelector) m plan first) (sub-zero count) ∙ A .selectors .reads;
-    };
-    same = λ j. ap (valueAt all) (zero-add j);
-    given = λ j. ap (valueAt allGiven) (zero-add j);
-    rowing = rowing-none all out k;
-  }
-
-  module _ {out₀ : Bytes} {k i from at : ℕ} {out : Bytes} (R : Running out₀ k i from at out) where
-    pub running-past : longest < at → Emits out₀ k (encodeValues all) at out
-    running-past h = rowing-past (R .rowing) h
-
-    pub running-all : count ≤ i → Emits out₀ k (encodeValues all) at out
-    running-all h = rowing-all (R .rowing) (omega (arith, counted))
-
-    module _ (h : i < count) where
-      next : FirstAt plan (count - i) from (R .left)
-      next = first-at (R .left) (omega arith)
-
-      top-value : eval ρ (next .head .tree) ≡ valueAt all i
-      unfolding evals valueAt
-      top-value = sym (ap (valueAt all) (sym (add-zero i)) ∙ R .same 0 ∙ ap (λ (ss : Selectors). valueAt (evals ρ ss) 0) (next .is))
-
-      top-given : valueAt allGiven i ≡ given ρ (next .head .tree)
-      unfolding givens valueAt
-      top-given = ap (valueAt allGiven) (sym (add-zero i)) ∙ R .given 0 ∙ ap (λ (ss : Selectors). valueAt (givens ρ ss) 0) (next .is)
-
-      abbrev running-at : EmitTopAt v lay n t rec plan from
-      running-at = record {
-        row = A .row;
-        selector = next .head;
-        same = top-value ∙ ap (λ (vs : Values). valueAt vs i) (A .same) ∙ top-given;
-        clean = ap clean top-value ∙ clean-at all i (A .clean);
-        low = omega (arith, A .low, ap levels top-value, levels-at all i);
-        short = A .short;
-        small = A .small;
-      }
-
-      pub running-asks : EmitTopAt v lay n t rec plan from
-      running-asks = running-at
-
-      pub running-more : at ≤ longest → {e : ℕ} → ((P : SelectorAt plan from) → e ≡ P .end) → {r : ℕ} {new : Bytes} → length new ≡ length out
-          → ((B : EmitTopAt v lay n t rec plan from) → Emits out at (encodeValue (eval (B .row .values .values) (B .selector .tree))) r new)
-          → Running out₀ k (i + 1) e r new
-      unfolding evals givens valueAt
-      running-more l {e} q {r} {new} z f =
-          let d : e ≡ next .head .end = q (next .head) in
-          let c : count - i - 1 ≡ count - (i + 1) = omega arith in
-          record {
-            left = record { trees = next .tail .trees; end = next .tail .end; reads = moved d c };
-            same = λ j. ap (valueAt all) (later j) ∙ R .same (suc j) ∙ ap (λ (ss : Selectors). valueAt (evals ρ ss) (suc j)) (next .is);
-            given = λ j. ap (valueAt allGiven) (later j) ∙ R .given (suc j) ∙ ap (λ (ss : Selectors). valueAt (givens ρ ss) (suc j)) (next .is);
-            rowing = rowing-more (R .rowing) l (omega (arith, counted)) z (subst (λ (u : Value). Emits out at (encodeValue u) r new) top-value (f running-at));
-          }
-        where
-          later : (j : ℕ) → i + 1 + j ≡ i + suc j
-          later j = omega arith
-
-          moved : e ≡ next .head .end → count - i - 1 ≡ count - (i + 1) → selectorsOf (selector deepestSelector) (count - (i + 1)) plan e ≡ ok
-              (next .tail .trees) (next .tail .end)
-          moved d c =
-              ap (λ (m : ℕ). selectorsOf (selector deepestSelector) m plan e) (sym c)
-              ∙ ap (λ (m : ℕ). selectorsOf (selector deepestSelector) (count - i - 1) plan m) d ∙ next .tail .reads
 
 -- ---- what a type's depth allows
 
@@ -263,46 +161,3 @@ module _ (σ : Values) (ss : Selectors) (x : cleanAll (evals σ ss) ≡ true) {a
           ap Written.Written length-is ∙ sym (ap writtenOf e),
           g ∙ ap (overlay out 0) front-is ∙ overlay-front out b (omega (arith, length-is)) ∙ sym (ap (λ (r : Answer Bytes). bufferAfter r out) e),
         )
-
--- ---- the output
-
-module _ {v : Edition} {lay : Bytes} {n t : ℕ} {rec plan : Bytes} {count first : ℕ} (A : OutputAt v lay n t rec plan count first) (ro : AllBytes rec)
-    (po : AllBytes plan) where
-  abbrev σ : Values
-  σ = A .row .values .values
-
-  abbrev ss : Selectors
-  ss = A .selectors .trees
-
-  typed : TypedAll (fieldsOf (A .row .columns .columns)) ss (A .target)
-  typed = passed→typed (selectors-read plan po deepestSelector count first (A .within) (A .selectors .reads) .formed) (A .passes)
-
-  fits : FitsAllOver (fieldsOf (A .row .columns .columns)) σ
-  fits = all-over (values-back (fieldsOf (A .row .columns .columns)) rec ro 0 σ (A .row .values .end) (omega arith) (A .row .values .reads) .fits)
-
-  pub output-given : evals σ ss ≡ givens σ ss
-  output-given = evals-given typed fits
-
-  abbrev output-at : EmitAllAt v lay n t rec plan count first
-  output-at = record {
-    row = A .row;
-    selectors = A .selectors;
-    same = output-given;
-    clean = A .clean;
-    low = omega (arith, all-levels (evals-over typed fits), A .deep);
-    short = A .short;
-    small = A .small;
-  }
-
-  pub output-asks : EmitAllAt v lay n t rec plan count first
-  output-asks = output-at
-
-  module _ {aside₀ : Bytes} (size : 16384 ≡ length aside₀) {len : ℕ} {aside : Bytes}
-      (f : (B : EmitAllAt v lay n t rec plan count first) → Emits aside₀ 0 (encodeValues (evals (B .row .values .values) (B .selectors .trees))) len
-      aside) where
-    pub output-inside : len ≤ 16384 → len ≤ length aside
-    output-inside l = aside-inside σ ss (A .clean) size (f output-at) l
-
-    pub output-handed : (out : Bytes) {w : Written} {new : Bytes} → HandedOver aside len out w new
-        → (w ≡ writtenOf (run σ ss (length out))) × (new ≡ bufferAfter (run σ ss (length out)) out)
-    output-handed out H = H σ ss aside₀ (A .clean) size (f output-at)

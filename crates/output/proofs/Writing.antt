@@ -117,13 +117,13 @@ front-long (vcons v vs) (suc i) c h =
     (encodeValue v) (encodeValues (front vs i)) in
     omega (arith, n, clean-some v a, front-long vs i b (omega arith))
 
-pub clean-at : (vs : Values) (i : ℕ) → cleanAll vs ≡ true → clean (valueAt vs i) ≡ true
+clean-at : (vs : Values) (i : ℕ) → cleanAll vs ≡ true → clean (valueAt vs i) ≡ true
 unfolding clean cleanAll valueAt
 clean-at vnil i c = refl
 clean-at (vcons v vs) zero c = both (clean v) c .0
 clean-at (vcons v vs) (suc i) c = clean-at vs i (both (clean v) c .1)
 
-pub levels-at : (vs : Values) (i : ℕ) → levels (valueAt vs i) ≤ levelsAll vs
+levels-at : (vs : Values) (i : ℕ) → levels (valueAt vs i) ≤ levelsAll vs
 unfolding levels levelsAll valueAt
 levels-at vnil i = omega arith
 levels-at (vcons v vs) zero = omega arith

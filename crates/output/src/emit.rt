@@ -13,6 +13,7 @@ ghost use Rattle.walk.specs.code.State.{State};
 ghost use Rattle.walk.specs.code.Walks.{WalkAt};
 ghost use Rattle.walk.specs.code.Values.{stateValue};
 ghost use Rattle.nodes.specs.code.Raw.{RawAt};
+ghost use Rattle.plan.specs.code.Constants.{ConstantEnds};
 ghost use Rattle.output.specs.code.Chain.{Passed, castAll};
 ghost use Rattle.raw.specs.code.Stored.{Stores};
 ghost use Rattle.output.specs.code.Output.{Emits};
@@ -50,7 +51,9 @@ fn put_part(
     casts: usize,
     out: &mut [u8],
     k: usize,
+    constants: &[u16],
 ) -> usize
+    requires { ⌜ ConstantEnds (now plan) (now constants) ⌝ }
     requires { ⌜ RawAt EditionOf.One (now plan) (t .at) (now plan) (c .at) ⌝ }
     requires { ⌜ ((x : State) × WalkAt (now plan) w x) ⌝ }
     requires { ⌜ k + 9 + length (now plan) < 2 ^ 64 ⌝ }
@@ -65,7 +68,7 @@ fn put_part(
         data_type: t,
         value: c,
     };
-    let cast = cast_leaf(plan, node, plan, plan, w, casts);
+    let cast = cast_leaf(plan, node, plan, plan, w, casts, constants);
     put_raw(plan, node, plan, cast, out, k, &none[..0])
 }
 
@@ -91,25 +94,27 @@ fn emit_mapping(
     out: &mut [u8],
     k: usize,
     table: &[u16],
+    constants: &[u16],
 ) -> usize
+    requires { ⌜ ConstantEnds (now plan) (now constants) ⌝ }
     requires { ⌜ Ends (columns .edition) (now lay) (now table) ⌝ }
     requires { ⌜ ((A : EmitAt (columns .edition) (now lay) (columns .count) (columns .first .at) (now rec) (now plan) w) × Mapped (A .state)) ⌝ }
     requires { ⌜ k ≤ longest ⌝ }
     ensures { λ r. ⌜ ((A : EmitAt (columns .edition) (now (lay .entry)) (columns .count) (columns .first .at) (now (rec .entry)) (now (plan .entry)) w) → Mapped (A .state) → Emits (now (out .entry)) k (encodeValue (stateValue (A .row .values .values) (A .state))) r (now (out .exit))) ⌝ }
 {
-    let Parts::Some(m) = parts_count(lay, columns, rec, plan, w, table) else {
+    let Parts::Some(m) = parts_count(lay, columns, rec, plan, w, table, constants) else {
         return put_null(out, k);
     };
     let mut at = put_lead(is_list(plan, w), m, out, k);
-    let mut c = first_part(plan, w);
+    let mut c = first_part(plan, w, constants);
     let mut i: u32 = 0;
     while i < m {
         if LONGEST < at {
             return at;
         }
         let part = child_at(w, i as u16, c);
-        at = emit(lay, columns, rec, plan, part, out, at, table);
-        c = next_part(plan, w, c);
+        at = emit(lay, columns, rec, plan, part, out, at, table, constants);
+        c = next_part(plan, w, c, constants);
         i += 1;
     }
     at
@@ -125,17 +130,19 @@ pub fn emit(
     out: &mut [u8],
     k: usize,
     table: &[u16],
+    constants: &[u16],
 ) -> usize
+    requires { ⌜ ConstantEnds (now plan) (now constants) ⌝ }
     requires { ⌜ Ends (columns .edition) (now lay) (now table) ⌝ }
     requires { ⌜ EmitAt (columns .edition) (now lay) (columns .count) (columns .first .at) (now rec) (now plan) w ⌝ }
     requires { ⌜ k ≤ longest ⌝ }
     ensures { λ r. ⌜ ((A : EmitAt (columns .edition) (now (lay .entry)) (columns .count) (columns .first .at) (now (rec .entry)) (now (plan .entry)) w) → Emits (now (out .entry)) k (encodeValue (stateValue (A .row .values .values) (A .state))) r (now (out .exit))) ⌝ }
 {
-    let o = find_origin(plan, w);
+    let o = find_origin(plan, w, constants);
     let at = o.walk;
     let casts = o.casts;
     let v = columns.edition;
-    match source_at(lay, columns, rec, plan, at, table) {
+    match source_at(lay, columns, rec, plan, at, table, constants) {
         Source::Null => put_null(out, k),
         Source::Record(t, c) => {
             let node = Node {
@@ -143,18 +150,18 @@ pub fn emit(
                 data_type: t,
                 value: c,
             };
-            let cast = cast_leaf(lay, node, rec, plan, w, casts);
+            let cast = cast_leaf(lay, node, rec, plan, w, casts, constants);
             put_raw(lay, node, rec, cast, out, k, table)
         }
         Source::Constant(t, c) => {
-            if is_constant_run(lay, columns, rec, plan, at, c, table) {
-                return put_part(plan, t, c, w, casts, out, k);
+            if is_constant_run(lay, columns, rec, plan, at, c, table, constants) {
+                return put_part(plan, t, c, w, casts, out, k, constants);
             }
             put_null(out, k)
         }
-        Source::Struct(_) => emit_mapping(lay, columns, rec, plan, at, out, k, table),
-        Source::List => emit_mapping(lay, columns, rec, plan, at, out, k, table),
-        Source::Array => emit_mapping(lay, columns, rec, plan, at, out, k, table),
+        Source::Struct(_) => emit_mapping(lay, columns, rec, plan, at, out, k, table, constants),
+        Source::List => emit_mapping(lay, columns, rec, plan, at, out, k, table, constants),
+        Source::Array => emit_mapping(lay, columns, rec, plan, at, out, k, table, constants),
         Source::Refused => PAST,
     }
 }

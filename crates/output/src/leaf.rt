@@ -11,6 +11,7 @@ ghost use Rattle.walk.specs.code.State.{State};
 ghost use Rattle.walk.specs.code.Walks.{WalkAt};
 ghost use Rattle.nodes.specs.code.Raw.{RawAt};
 ghost use Rattle.raw.specs.code.Stored.{Stores};
+ghost use Rattle.plan.specs.code.Constants.{ConstantEnds};
 ghost use Rattle.output.specs.code.Chain.{Passed, castAll, Kept, Casting};
 ghost use Rattle.output.specs.code.Answers.{castValueOf, castLeafOf};
 use crate::casts::last_kinds;
@@ -69,7 +70,15 @@ fn block_of(left: usize) -> usize
 
 // The number of the kind `kind` through the casts that a walk passes, from the innermost outward. They are walked past
 // once for each 1,024 of them.
-fn cast_number(plan: &[u8], w: Walk, casts: usize, kind: Leaf, n: u64) -> CastValue
+fn cast_number(
+    plan: &[u8],
+    w: Walk,
+    casts: usize,
+    kind: Leaf,
+    n: u64,
+    constants: &[u16],
+) -> CastValue
+    requires { ⌜ ConstantEnds (now plan) (now constants) ⌝ }
     requires { ⌜ ((x : State) × WalkAt (now plan) w x) ⌝ }
     ensures { λ r. ⌜ ((x z : State) (ks : List LeafOf) → WalkAt (now (plan .entry)) w x → Passed x ks z → length ks ≡ casts → castValueOf r ≡ castAll ks (vnumber kind n)) ⌝ }
 {
@@ -77,7 +86,7 @@ fn cast_number(plan: &[u8], w: Walk, casts: usize, kind: Leaf, n: u64) -> CastVa
     let mut x = n;
     let mut i = casts;
     while 0 < i {
-        let kinds = last_kinds(plan, w, i);
+        let kinds = last_kinds(plan, w, i, constants);
         let count = block_of(i);
         match cast_block(kinds, count, k, x) {
             CastValue::Number(j, y) => {
@@ -98,7 +107,16 @@ pub enum CastLeaf {
 }
 
 // The value at a node after the casts that a walk passes; only a number changes.
-pub fn cast_leaf(lay: &[u8], node: Node, rec: &[u8], plan: &[u8], w: Walk, casts: usize) -> CastLeaf
+pub fn cast_leaf(
+    lay: &[u8],
+    node: Node,
+    rec: &[u8],
+    plan: &[u8],
+    w: Walk,
+    casts: usize,
+    constants: &[u16],
+) -> CastLeaf
+    requires { ⌜ ConstantEnds (now plan) (now constants) ⌝ }
     requires { ⌜ RawAt (node .edition) (now lay) (node .«data_type» .at) (now rec) (node .value .at) ⌝ }
     requires { ⌜ ((x : State) × WalkAt (now plan) w x) ⌝ }
     ensures { λ r. ⌜ ((X : RawAt (node .edition) (now (lay .entry)) (node .«data_type» .at) (now (rec .entry)) (node .value .at)) (x z : State) (ks : List LeafOf) → WalkAt (now (plan .entry)) w x → Passed x ks z → length ks ≡ casts → castLeafOf (X .value .tree) r ≡ castAll ks (X .value .tree)) ⌝ }
@@ -108,7 +126,14 @@ pub fn cast_leaf(lay: &[u8], node: Node, rec: &[u8], plan: &[u8], w: Walk, casts
     }
     let v = node.edition;
     match leaf_at(lay, v, node.data_type, rec, node.value) {
-        LeafValue::Number(kind, n) => CastLeaf::Cast(cast_number(plan, w, casts, kind, n)),
+        LeafValue::Number(kind, n) => CastLeaf::Cast(cast_number(
+            plan,
+            w,
+            casts,
+            kind,
+            n,
+            constants,
+        )),
         LeafValue::Other => CastLeaf::Same,
     }
 }

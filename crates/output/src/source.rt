@@ -13,6 +13,7 @@ ghost use Rattle.walk.specs.code.Walks.{WalkAt};
 ghost use Rattle.walk.specs.code.Values.{valueNode};
 ghost use Rattle.nodes.specs.code.Raw.{RawAt, RowAt, NodeOf};
 ghost use Rattle.raw.specs.code.Constant.{ConstantRaw};
+ghost use Rattle.plan.specs.code.Constants.{ConstantEnds};
 ghost use Rattle.output.specs.code.Chain.{ends, next};
 ghost use Rattle.output.specs.code.Answers.{recordSource, constantSource, StructSource, SourceIs};
 use ends::local::fill_local;
@@ -26,8 +27,9 @@ use nodes::raw::column_value;
 use nodes::raw::value_at;
 use values::constant::needs_table;
 use walk::head::SelectorHead;
+use walk::head::counted_at;
 use walk::head::head;
-use walk::head::struct_fields;
+use walk::head::skip_by;
 use walk::walk::Walk;
 
 // A value in the record, by its type in the layout; a constant's value, by its type in the plan; a mapping, of a struct
@@ -119,13 +121,14 @@ fn constant_node(plan: &[u8], w: Walk, t: Cursor) -> NodeAt
     )
 }
 
-fn struct_source(plan: &[u8], w: Walk, input: Cursor) -> Source
+fn struct_source(plan: &[u8], w: Walk, input: Cursor, constants: &[u16]) -> Source
+    requires { ⌜ ConstantEnds (now plan) (now constants) ⌝ }
     ensures { λ r. ⌜ ((P : SelectorAt (now (plan .entry)) (w .at)) → StructAt (now (plan .entry)) (w .at) P (input .at) → StructSource (now (plan .entry)) w P r) ⌝ }
 {
     if w.deep < w.len {
         return Source::Null;
     }
-    let f = struct_fields(plan, input);
+    let f = counted_at(plan, skip_by(plan, input, constants));
     Source::Struct(f.count)
 }
 
@@ -136,7 +139,9 @@ pub fn source_at(
     plan: &[u8],
     w: Walk,
     table: &[u16],
+    constants: &[u16],
 ) -> Source
+    requires { ⌜ ConstantEnds (now plan) (now constants) ⌝ }
     requires { ⌜ Ends (columns .edition) (now lay) (now table) ⌝ }
     requires { ⌜ RowAt (columns .edition) (now lay) (columns .count) (columns .first .at) (now rec) 0 ⌝ }
     requires { ⌜ ((x : State) × WalkAt (now plan) w x) ⌝ }
@@ -153,7 +158,7 @@ pub fn source_at(
         SelectorHead::Constant(_, t) => constant_source(constant_node(plan, w, t)),
         SelectorHead::Cast(_) => Source::Refused,
         SelectorHead::Rename(_) => Source::Refused,
-        SelectorHead::Struct(input) => struct_source(plan, w, input),
+        SelectorHead::Struct(input) => struct_source(plan, w, input, constants),
         SelectorHead::List(_) => Source::List,
         SelectorHead::Array(_) => Source::Array,
         SelectorHead::Refused => Source::Refused,

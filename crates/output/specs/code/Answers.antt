@@ -5,32 +5,29 @@ use mathlib.Core.Bool.{Bool, true, false}
 use mathlib.Core.List.{List, [], _∷_}
 use lib.ListN.{length}
 use Rattle.layout.specs.Bytes.{Bytes}
-use Rattle.layout.specs.Tree.{leafOf, DataType, leaf, struct, list, array, Fields, fieldsOf}
-use Rattle.layout.specs.Layout.{deepest}
+use Rattle.layout.specs.Tree.{leafOf, DataType, leaf, struct, list, array}
 use Rattle.layout.specs.declared.leaf.Leaf.{Leaf}
 use Rattle.layout.specs.declared.edition.Edition.{Edition}
 use Rattle.layout.specs.declared.edition.Edition.the-variants.{One}
 use Rattle.values.specs.Value.{Value, vnull, vnumber, voverflow, Values}
 use Rattle.values.specs.Encode.{encodeValues}
 use Rattle.values.specs.Record.{longest}
-use Rattle.forms.specs.Depth.{depthOfFields}
 use Rattle.plan.specs.Read.{longestPlan}
 use Rattle.plan.specs.Result.{Answer, accepted, refusedAt}
-use Rattle.plan.specs.Check.{check}
 use Rattle.plan.specs.Selector.{Selector, position, constant, cast, rename, structMapping, listMapping, arrayMapping, Selectors, countSelectors}
 use Rattle.plan.specs.Run.{eval, evals, clean, cleanAll, run}
 use Rattle.plan.specs.Calls.{bufferAfter}
 use Rattle.walk.specs.code.State.{Frame, fields, element, inputOf, State, state}
 use Rattle.walk.specs.code.Moves.{Moves, Stopped, Input, Mapping}
-use Rattle.walk.specs.code.Stands.{SelectorAt, SelectorsAt}
+use Rattle.walk.specs.code.Stands.{SelectorAt}
 use Rattle.walk.specs.code.Walks.{WalkAt, rank}
-use Rattle.walk.specs.code.Values.{given, givens, within, stateValue}
+use Rattle.walk.specs.code.Values.{given, within, stateValue}
 use Rattle.walk.specs.declared.walk.Walk.{Walk}
 use Rattle.nodes.specs.code.Raw.{RowAt, NodeIs, partsOf}
 use Rattle.nodes.specs.declared.raw.NodeAt.{NodeAt}
 use Rattle.nodes.specs.declared.raw.Parts.{Parts}
 use Rattle.output.specs.code.Chain.{ends, goes, casts, next, Passed}
-use Rattle.output.specs.code.Output.{Emits, levels, levelsAll, answer}
+use Rattle.output.specs.code.Output.{Emits, levels, answer}
 use Rattle.output.specs.declared.casts.Pass.{Pass}
 use Rattle.output.specs.declared.casts.Origin.{Origin}
 use Rattle.output.specs.declared.leaf.CastLeaf.{CastLeaf}
@@ -217,29 +214,6 @@ pub record EmitTopAt (v : Edition) (lay : Bytes) (n t : ℕ) (rec plan : Bytes) 
   pub low : levels (eval (row .values .values) (selector .tree)) ≤ 64
   pub short : length rec ≤ longest
   pub small : length plan ≤ longestPlan
-
--- the same of count selectors, the first of which stands at `first`
-pub record EmitAllAt (v : Edition) (lay : Bytes) (n t : ℕ) (rec plan : Bytes) (count first : ℕ) : Type 0 where
-  pub row : RowAt v lay n t rec 0
-  pub selectors : SelectorsAt plan count first
-  pub same : evals (row .values .values) (selectors .trees) ≡ givens (row .values .values) (selectors .trees)
-  pub clean : cleanAll (evals (row .values .values) (selectors .trees)) ≡ true
-  pub low : levelsAll (evals (row .values .values) (selectors .trees)) ≤ 64
-  pub short : length rec ≤ longest
-  pub small : length plan ≤ longestPlan
-
--- a plan that passed the check from the columns of a layout, over a record that fits them, where no strict date-time is
--- too large
-pub record OutputAt (v : Edition) (lay : Bytes) (n t : ℕ) (rec plan : Bytes) (count first : ℕ) : Type 0 where
-  pub row : RowAt v lay n t rec 0
-  pub selectors : SelectorsAt plan count first
-  pub target : Fields
-  pub passes : check (fieldsOf (row .columns .columns)) target (selectors .trees) ≡ accepted tt
-  pub deep : depthOfFields target ≤ deepest
-  pub clean : cleanAll (evals (row .values .values) (selectors .trees)) ≡ true
-  pub short : length rec ≤ longest
-  pub small : length plan ≤ longestPlan
-  pub within : first ≤ length plan
 
 -- 45, or the output's length
 abbrev pub writtenOf : Answer Bytes → Written

@@ -8,8 +8,8 @@ pub ends-ahead-spec : {M : Type 1} → statement M
 ends-ahead-spec =
     tie.close
     (tie.spec
-    (λ c. walk-inside (c .before .before .pre .0 .1))
-    (λ c. omega (arith, walk-small (c .before .before .before .pre .0 .1)))
-    (λ c κs. let p = c .before .before .before .pre in (omega (arith, walk-inside (p .0 .1)), p .1))
+    (λ c. walk-inside (c .before .before .before .pre .1 .0 .1))
+    (λ c. omega (arith, walk-small (c .before .before .before .before .pre .1 .0 .1)))
+    (λ c κs. let p = c .before .before .before .before .pre in (p .0, (omega (arith, walk-inside (p .1 .0 .1)), p .1 .1)))
     (λ c. search needs)
     (λ c. search needs))

@@ -9,11 +9,11 @@ use Rattle.output.proofs.casts.find_origin.Statement.{statement}
 use Rattle.output.proofs.casts.find_origin.Tie as tie
 
 abbrev Inv-loop : tie.InvT-loop
-Inv-loop plan at₀ ends₀ casts₀ at ends casts =
+Inv-loop plan constants at₀ ends₀ casts₀ at ends casts =
     EndsAt plan ends × ((x : State) × WalkAt plan at₀ x × Stopped x) × ((x : State) → WalkAt plan at₀ x → Stopped x → Passing plan x at₀ casts at)
 
 abbrev μ-loop : tie.MeasureT-loop
-μ-loop plan at₀ ends₀ casts₀ at ends casts = rank at
+μ-loop plan constants at₀ ends₀ casts₀ at ends casts = rank at
 
 pub find-origin-spec : {M : Type 1} → statement M
 find-origin-spec =
@@ -24,16 +24,16 @@ find-origin-spec =
     (λ c κs. search needs)
     (λ c κs. search needs)
     (λ c.
-    let L = c .before .locate .ensures (c .before .before .before .pre .0) (c .before .before .before .pre .1) in
+    let L = c .before .locate .ensures (c .before .before .before .before .pre .1 .0) (c .before .before .before .before .pre .1 .1) in
     (c .no-ends .ensures .0 _, (L .state, L .standing, L .stopped), λ x W S. passing-none W S))
-    (λ c κs. let (E, (x, W, S), f) = c .loop .inv in let P = f x W S in ((P .state, P .standing), E))
+    (λ c κs. let (E, (x, W, S), f) = c .loop .inv in let P = f x W S in (c .before .before .before .before .before .pre .0, ((P .state, P .standing), E)))
     (λ c κs. search needs)
     (λ c. search needs)
     (λ c. search needs)
     (λ c κs. let (E, (x, W, S), f) = c .before .before .before .before .loop .inv in
     let P = f x W S in
     let G = is-goes (c .before .before .next-pass .ensures _ (P .standing) (P .stopped)) (c .enum-told2 .given .1) in
-    (P .state, G .input, P .standing, G .is))
+    (c .before .before .before .before .before .before .before .before .before .pre .0, (P .state, G .input, P .standing, G .is)))
     (λ c. let (E, (x, W, S), f) = c .before .before .before .before .before .loop .inv in
     let P = f x W S in
     let G = is-goes (c .before .before .before .next-pass .ensures _ (P .standing) (P .stopped)) (c .before .enum-told2 .given .1) in
@@ -50,7 +50,7 @@ find-origin-spec =
     (λ c κs. let (E, (x, W, S), f) = c .before .before .before .before .loop .inv in
     let P = f x W S in
     let G = is-casts (c .before .before .next-pass .ensures _ (P .standing) (P .stopped)) (c .enum-told3 .given .1) in
-    (P .state, G .input, P .standing, G .is))
+    (c .before .before .before .before .before .before .before .before .before .pre .0, (P .state, G .input, P .standing, G .is)))
     (λ c. let (E, (x, W, S), f) = c .before .before .before .before .before .loop .inv in
     omega (arith, passing-small (f x W S) W))
     (λ c. let (E, (x, W, S), f) = c .before .before .before .before .before .loop .inv in

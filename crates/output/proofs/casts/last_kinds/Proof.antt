@@ -12,12 +12,12 @@ use Rattle.output.proofs.casts.last_kinds.Statement.{statement}
 use Rattle.output.proofs.casts.last_kinds.Tie as tie
 
 abbrev Inv-loop : tie.InvT-loop
-Inv-loop plan i kinds₀ at₀ ends₀ left₀ kinds at ends left =
+Inv-loop plan i constants kinds₀ at₀ ends₀ left₀ kinds at ends left =
     EndsAt plan ends × ((y : State) × WalkAt plan at y × Stopped y)
     × ((x z : State) (ks : List Leaf) → WalkAt plan at₀ x → Stopped x → Ahead z ks i i x → Keeping plan z ks i left kinds at)
 
 abbrev μ-loop : tie.MeasureT-loop
-μ-loop plan i kinds₀ at₀ ends₀ left₀ kinds at ends left = rank at
+μ-loop plan i constants kinds₀ at₀ ends₀ left₀ kinds at ends left = rank at
 
 pub last-kinds-spec : {M : Type 1} → statement M
 last-kinds-spec =
@@ -28,9 +28,9 @@ last-kinds-spec =
     (λ c κs. search needs)
     (λ c κs. search needs)
     (λ c.
-    let L = c .before .locate .ensures (c .before .before .before .pre .0) (c .before .before .before .pre .1) in
+    let L = c .before .locate .ensures (c .before .before .before .before .pre .1 .0) (c .before .before .before .before .pre .1 .1) in
     (c .no-ends .ensures .0 _, (L .state, L .standing, L .stopped), λ x z ks W S A. keeping-none refl W S A))
-    (λ c κs. let (E, (y, W, S), f) = c .before .loop .inv in ((y, W), E))
+    (λ c κs. let (E, (y, W, S), f) = c .before .loop .inv in (c .before .before .before .before .before .before .pre .0, ((y, W), E)))
     (λ c κs. search needs)
     (λ c. search needs)
     (λ c. λ x z ks W p h.
@@ -41,7 +41,7 @@ last-kinds-spec =
     (λ c. search needs)
     (λ c κs. let (y, W, S) = c .before .before .before .before .before .loop .inv .1 in
     let G = is-goes (c .before .before .next-pass .ensures y W S) (c .enum-told2 .given .1) in
-    (y, G .input, W, G .is))
+    (c .before .before .before .before .before .before .before .before .before .before .pre .0, (y, G .input, W, G .is)))
     (λ c. let (y, W, S) = c .before .before .before .before .before .before .loop .inv .1 in
     let G = is-goes (c .before .before .before .next-pass .ensures y W S) (c .before .enum-told2 .given .1) in
     c .onward .ensures y (G .input) W (G .is) .falls)
@@ -61,7 +61,7 @@ last-kinds-spec =
     (λ c. search needs)
     (λ c κs. let (y, W, S) = c .before .before .before .before .before .before .loop .inv .1 in
     let G = is-casts (c .before .before .before .next-pass .ensures y W S) (c .before .kind .given .1) in
-    (y, G .input, W, G .is))
+    (c .before .before .before .before .before .before .before .before .before .before .before .pre .0, (y, G .input, W, G .is)))
     (λ c. let (y, W, S) = c .before .before .before .before .before .before .before .loop .inv .1 in
     let G = is-casts (c .before .before .before .before .next-pass .ensures y W S) (c .before .before .kind .given .1) in
     c .onward2 .ensures y (G .input) W (G .is) .falls)

@@ -43,23 +43,23 @@ use Rattle.walk.proofs.child.next_part.Reads as next-part-reads
 use Rattle.output.proofs.emit.+emit+emit_mapping.{statement}
 use Rattle.output.proofs.emit.+emit+emit_mapping.Tie.{close}
 
-abbrev μ-emit : Measures 5 emit-kinds.ps ℕ
+abbrev μ-emit : Measures 6 emit-kinds.ps ℕ
 μ-emit κs a = 2 * rank (a .1 .1 .1 .1 .0) + 1
 
-abbrev μ-emit-mapping : Measures 5 emit-mapping-kinds.ps ℕ
+abbrev μ-emit-mapping : Measures 6 emit-mapping-kinds.ps ℕ
 μ-emit-mapping κs a = 2 * rank (a .1 .1 .1 .1 .0)
 
-abbrev emit-at : ℕ → In 5 emit-kinds.ps
-emit-at t = and 5 emit-kinds.ps (is 5 emit-kinds.ps μ-emit t) emit.Pre
+abbrev emit-at : ℕ → In 6 emit-kinds.ps
+emit-at t = and 6 emit-kinds.ps (is 6 emit-kinds.ps μ-emit t) emit.Pre
 
-abbrev emit-below : ℕ → In 5 emit-kinds.ps
-emit-below t = and 5 emit-kinds.ps (falls 5 emit-kinds.ps _<_ μ-emit t) emit.Pre
+abbrev emit-below : ℕ → In 6 emit-kinds.ps
+emit-below t = and 6 emit-kinds.ps (falls 6 emit-kinds.ps _<_ μ-emit t) emit.Pre
 
-abbrev emit-mapping-at : ℕ → In 5 emit-mapping-kinds.ps
-emit-mapping-at t = and 5 emit-mapping-kinds.ps (is 5 emit-mapping-kinds.ps μ-emit-mapping t) emit-mapping.Pre
+abbrev emit-mapping-at : ℕ → In 6 emit-mapping-kinds.ps
+emit-mapping-at t = and 6 emit-mapping-kinds.ps (is 6 emit-mapping-kinds.ps μ-emit-mapping t) emit-mapping.Pre
 
-abbrev emit-mapping-below : ℕ → In 5 emit-mapping-kinds.ps
-emit-mapping-below t = and 5 emit-mapping-kinds.ps (falls 5 emit-mapping-kinds.ps _<_ μ-emit-mapping t) emit-mapping.Pre
+abbrev emit-mapping-below : ℕ → In 6 emit-mapping-kinds.ps
+emit-mapping-below t = and 6 emit-mapping-kinds.ps (falls 6 emit-mapping-kinds.ps _<_ μ-emit-mapping t) emit-mapping.Pre
 
 abbrev emit-claims : ℕ → emit-lts.Claims
 emit-claims t = (
@@ -106,54 +106,54 @@ abbrev count : {v : Edition} {lay : Bytes} {n t : ℕ} {rec plan : Bytes} {w : W
 count A = countValues (parts (stateValue (A .row .values .values) (A .state)))
 
 abbrev emit-mapping-Inv-loop : emit-mapping-lts.InvT-loop
-emit-mapping-Inv-loop lay columns rec plan w out₀ k table m at₀ c₀ i₀ out at c i =
+emit-mapping-Inv-loop lay columns rec plan w out₀ k table constants m at₀ c₀ i₀ out at c i =
     ((A : EmitAt (columns .edition) lay (columns .count) (columns .first .at) rec plan w) × Mapped (A .state) × (m ≡ count A))
     × Reached plan (w .at) i (c .at) × (length out ≡ length out₀)
     × ((A : EmitAt (columns .edition) lay (columns .count) (columns .first .at) rec plan w) → Mapped (A .state) → m ≡ count A
     → Rowing (parts (stateValue (A .row .values .values) (A .state))) out₀ at₀ i at out)
 
 abbrev emit-mapping-μ-loop : emit-mapping-lts.MeasureT-loop
-emit-mapping-μ-loop lay columns rec plan w out₀ k table m at₀ c₀ i₀ out at c i = m - i
+emit-mapping-μ-loop lay columns rec plan w out₀ k table constants m at₀ c₀ i₀ out at c i = m - i
 
 pub +emit+emit-mapping-spec : {M : Type 1} → statement M
 +emit+emit-mapping-spec = close μ-emit μ-emit-mapping (λ t. emit-lts.spec (emit-claims t)
     (emit-at t)
     emit.Post
-    (λ c κs. let c5 = c .before .before .before .before .before in let A = c5 .pre .1 .1 .0 in (A .state, A .standing))
+    (λ c κs. let c6 = c .before .before .before .before .before .before in let A = c6 .pre .1 .1 .1 .0 in (c6 .pre .1 .0, (A .state, A .standing)))
     (λ c κs.
-    let c1 = c .before in let c7 = c1 .before .before .before .before .before .before in
-    let A = c7 .pre .1 .1 .0 in
+    let c1 = c .before in let c8 = c1 .before .before .before .before .before .before .before in
+    let A = c8 .pre .1 .1 .1 .0 in
     let O = c1 .find-origin .ensures _ (A .standing) in
-    (c7 .pre .1 .0, (A .row, (O .state, O .standing))))
+    (c8 .pre .1 .0, (c8 .pre .1 .1 .0, (A .row, (O .state, O .standing)))))
     (λ c. search needs)
     (λ c κs. search needs)
     (λ c. search needs)
     (λ c κs.
-    let c1 = c .before in let c3 = c1 .before .before in let c5 = c3 .before .before in let c11 = c5 .before .before .before .before .before .before in
-    let A = c11 .pre .1 .1 .0 in
+    let c1 = c .before in let c3 = c1 .before .before in let c5 = c3 .before .before in let c12 = c5 .before .before .before .before .before .before .before in
+    let A = c12 .pre .1 .1 .1 .0 in
     let O = c5 .find-origin .ensures _ (A .standing) in
     let N = from-record (c3 .source-at .ensures (A .row) _ (O .standing) (O .ended)) (c1 .t .given .1) in
-    (N .raw, (A .state, A .standing)))
+    (c12 .pre .1 .0, (N .raw, (A .state, A .standing))))
     (λ c κs.
-    let c3 = c .before .before .before in let c5 = c3 .before .before in let c7 = c5 .before .before in let c13 =
-    c7 .before .before .before .before .before .before in
-    let A = c13 .pre .1 .1 .0 in
+    let c3 = c .before .before .before in let c5 = c3 .before .before in let c7 = c5 .before .before in let c14 =
+    c7 .before .before .before .before .before .before .before in
+    let A = c14 .pre .1 .1 .1 .0 in
     let O = c7 .find-origin .ensures _ (A .standing) in
     let N = from-record (c5 .source-at .ensures (A .row) _ (O .standing) (O .ended)) (c3 .t .given .1) in
-    (c13 .pre .1 .0, (N .raw, omega (arith, c13 .pre .1 .1 .1, A .short))))
+    (c14 .pre .1 .1 .0, (N .raw, omega (arith, c14 .pre .1 .1 .1 .1, A .short))))
     (λ c. search needs)
     (λ c κs.
-    let c5 = c .before .before .before .before .before in let c11 = c5 .before .before .before .before .before .before in
-    let A = c11 .pre .1 .1 .0 in
+    let c5 = c .before .before .before .before .before in let c12 = c5 .before .before .before .before .before .before .before in
+    let A = c12 .pre .1 .1 .1 .0 in
     let O = c5 .find-origin .ensures _ (A .standing) in
-    (c11 .pre .1 .0, (A .row, (O .state, O .standing))))
+    (c12 .pre .1 .0, (c12 .pre .1 .1 .0, (A .row, (O .state, O .standing)))))
     (λ c κs.
-    let c4 = c .before .before .before .before in let c6 = c4 .before .before in let c8 = c6 .before .before in let c14 =
-    c8 .before .before .before .before .before .before in
-    let A = c14 .pre .1 .1 .0 in
+    let c4 = c .before .before .before .before in let c6 = c4 .before .before in let c8 = c6 .before .before in let c15 =
+    c8 .before .before .before .before .before .before .before in
+    let A = c15 .pre .1 .1 .1 .0 in
     let O = c8 .find-origin .ensures _ (A .standing) in
     let C = from-constant (c6 .source-at .ensures (A .row) _ (O .standing) (O .ended)) (c4 .t2 .given .1) in
-    (C .node .raw, ((A .state, A .standing), omega (arith, c14 .pre .1 .1 .1, A .standing .small))))
+    (c15 .pre .1 .0, (C .node .raw, ((A .state, A .standing), omega (arith, c15 .pre .1 .1 .1 .1, A .standing .small)))))
     (λ c. search needs)
     (λ c.
     let c2 = c .before .before in let c4 = c2 .before .before in let c5 = c4 .before in let c7 = c5 .before .before in let c9 = c7 .before .before in let c11 =
@@ -164,29 +164,29 @@ pub +emit+emit-mapping-spec : {M : Type 1} → statement M
     emitted A O (constant-run _ C (O .kinds) (c5 .is-constant-run .ensures (A .row) _ _ (O .standing) C) (c4 .if1 .taken)
     (c2 .put-part .ensures (C .node .raw) _ _ _ (A .standing) (O .passed) (O .counted))))
     (λ c κs.
-    let c14 = c .before .before .before .before .before .before .before .before .before .before .before .before .before .before in
-    omega (arith, c14 .pre .1 .1 .1))
+    let c15 = c .before .before .before .before .before .before .before .before .before .before .before .before .before .before .before in
+    omega (arith, c15 .pre .1 .1 .1 .1))
     (λ c. search needs)
     (λ c κs.
-    let c1 = c .before in let c3 = c1 .before .before in let c5 = c3 .before .before in let c11 = c5 .before .before .before .before .before .before in
-    let A = c11 .pre .1 .1 .0 in
+    let c1 = c .before in let c3 = c1 .before .before in let c5 = c3 .before .before in let c12 = c5 .before .before .before .before .before .before .before in
+    let A = c12 .pre .1 .1 .1 .0 in
     let O = c5 .find-origin .ensures _ (A .standing) in
     let M = struct-mapped (from-struct (c3 .source-at .ensures (A .row) _ (O .standing) (O .ended)) (c1 .enum-told2 .given .1)) in
-    (omega (arith, O .falls, c11 .pre .0), (c11 .pre .1 .0, (mapped-asks A O M, c11 .pre .1 .1 .1))))
+    (omega (arith, O .falls, c12 .pre .0), (c12 .pre .1 .0, (c12 .pre .1 .1 .0, (mapped-asks A O M, c12 .pre .1 .1 .1 .1)))))
     (λ c. search needs)
     (λ c κs.
-    let c1 = c .before in let c3 = c1 .before .before in let c5 = c3 .before .before in let c11 = c5 .before .before .before .before .before .before in
-    let A = c11 .pre .1 .1 .0 in
+    let c1 = c .before in let c3 = c1 .before .before in let c5 = c3 .before .before in let c12 = c5 .before .before .before .before .before .before .before in
+    let A = c12 .pre .1 .1 .1 .0 in
     let O = c5 .find-origin .ensures _ (A .standing) in
     let M = list-mapped (from-list (c3 .source-at .ensures (A .row) _ (O .standing) (O .ended)) (c1 .enum-told3 .given .1)) in
-    (omega (arith, O .falls, c11 .pre .0), (c11 .pre .1 .0, (mapped-asks A O M, c11 .pre .1 .1 .1))))
+    (omega (arith, O .falls, c12 .pre .0), (c12 .pre .1 .0, (c12 .pre .1 .1 .0, (mapped-asks A O M, c12 .pre .1 .1 .1 .1)))))
     (λ c. search needs)
     (λ c κs.
-    let c1 = c .before in let c3 = c1 .before .before in let c5 = c3 .before .before in let c11 = c5 .before .before .before .before .before .before in
-    let A = c11 .pre .1 .1 .0 in
+    let c1 = c .before in let c3 = c1 .before .before in let c5 = c3 .before .before in let c12 = c5 .before .before .before .before .before .before .before in
+    let A = c12 .pre .1 .1 .1 .0 in
     let O = c5 .find-origin .ensures _ (A .standing) in
     let M = array-mapped (from-array (c3 .source-at .ensures (A .row) _ (O .standing) (O .ended)) (c1 .enum-told4 .given .1)) in
-    (omega (arith, O .falls, c11 .pre .0), (c11 .pre .1 .0, (mapped-asks A O M, c11 .pre .1 .1 .1))))
+    (omega (arith, O .falls, c12 .pre .0), (c12 .pre .1 .0, (c12 .pre .1 .1 .0, (mapped-asks A O M, c12 .pre .1 .1 .1 .1)))))
     (λ c. search needs)
     (λ c. search needs)
     (λ c.
@@ -241,7 +241,10 @@ pub +emit+emit-mapping-spec : {M : Type 1} → statement M
     emit-mapping.Post
     emit-mapping-Inv-loop
     emit-mapping-μ-loop
-    (λ c κs. let c5 = c .before .before .before .before .before in let A = c5 .pre .1 .1 .0 .0 in (c5 .pre .1 .0, (A .row, (A .state, A .standing))))
+    (λ c κs. let c6 = c .before .before .before .before .before .before in let A = c6 .pre .1 .1 .1 .0 .0 in (
+      c6 .pre .1 .0,
+      (c6 .pre .1 .1 .0, (A .row, (A .state, A .standing))),
+    ))
     (λ c. search needs)
     (λ c. search needs)
     (λ c κs. search needs)
@@ -249,15 +252,15 @@ pub +emit+emit-mapping-spec : {M : Type 1} → statement M
     (λ c.
     let c2 = c .before .before in let c4 = c2 .before .before in let c6 = c4 .before .before in
     λ A M. mapping-null _ M refl (c6 .parts-count .ensures (A .row) _ (A .standing)) (c4 .enum-told .given .1) (c2 .put-null .ensures))
-    (λ c κs. let c9 = c .before .before .before .before .before .before .before .before .before in parts-asks (c9 .pre .1 .1 .0 .0) .1)
+    (λ c κs. let c10 = c .before .before .before .before .before .before .before .before .before .before in parts-asks (c10 .pre .1 .1 .1 .0 .0) .1)
     (λ c κs. search needs)
     (λ c κs.
-    let c14 = c .before .before .before .before .before .before .before .before .before .before .before .before .before .before in
-    parts-asks (c14 .pre .1 .1 .0 .0))
+    let c15 = c .before .before .before .before .before .before .before .before .before .before .before .before .before .before .before in
+    (c15 .pre .1 .0, parts-asks (c15 .pre .1 .1 .1 .0 .0)))
     (λ c.
-    let c5 = c .before .before .before .before .before in let c7 = c5 .before .before in let c9 = c7 .before .before in let c15 =
-    c9 .before .before .before .before .before .before in
-    let (A, M) = c15 .pre .1 .1 .0 in
+    let c5 = c .before .before .before .before .before in let c7 = c5 .before .before in let c9 = c7 .before .before in let c16 =
+    c9 .before .before .before .before .before .before .before in
+    let (A, M) = c16 .pre .1 .1 .1 .0 in
     let n = mapping-counted _ M (c5 .is-list .ensures _ (A .standing)) (c9 .parts-count .ensures (A .row) _ (A .standing)) (c7 .m .given .1) in
     ((A, M, n), c .first-part .ensures, refl, λ A M h. rowing-none _ _ _))
     (λ c. let c2 = c .before .before in let c6 = c2 .before .before .before .before in c2 .loop .inv .2 ∙ c6 .put-lead .kept .1 .1 .0)
@@ -279,16 +282,17 @@ pub +emit+emit-mapping-spec : {M : Type 1} → statement M
     let i : c2 .loop .i < count A = omega (arith, h, c1 .loop-test .taken) in
     (parts-asks A .0, part-room A M i))
     (λ c κs.
-    let c1 = c .before in let c2 = c1 .before in let c3 = c2 .before in let c4 = c3 .before in let c20 =
-    c4 .before .before .before .before .before .before .before .before .before .before .before .before .before .before .before .before in
+    let c1 = c .before in let c2 = c1 .before in let c3 = c2 .before in let c4 = c3 .before in let c21 =
+    c4 .before .before .before .before .before .before .before .before .before .before .before .before .before .before .before .before .before in
     let ((A, M, h), R, l, f) = c4 .loop .inv in
     let i : c4 .loop .i < count A = omega (arith, h, c3 .loop-test .taken) in
     let F = reached-child R (c1 .child-at .ensures) in
-    (omega (arith, part-falls A M i F, c20 .pre .0), (c20 .pre .1 .0, (part-emit A M i F, c2 .if1 .left))))
+    (omega (arith, part-falls A M i F, c21 .pre .0), (c21 .pre .1 .0, (c21 .pre .1 .1 .0, (part-emit A M i F, c2 .if1 .left)))))
     (λ c κs.
     let c7 = c .before .before .before .before .before .before .before in
     let ((A, M, h), R, l, f) = c7 .loop .inv in
-    parts-asks A .1)
+    let c24 = c7 .before .before .before .before .before .before .before .before .before .before .before .before .before .before .before .before .before in
+    (c24 .pre .1 .0, parts-asks A .1))
     (λ c.
     let c6 = c .before .before .before .before .before .before in let c8 = c6 .before .before in
     let ((A, M, h), R, l, f) = c8 .loop .inv in

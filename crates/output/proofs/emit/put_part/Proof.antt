@@ -16,7 +16,7 @@ put-part-spec =
     (λ c κs. search needs)
     (λ c. search needs)
     (λ c. search needs)
-    (λ c κs. let c6 = c .before .before .before .before .before .before in (ends-none refl, (c6 .pre .0, c6 .pre .1 .1)))
+    (λ c κs. let c7 = c .before .before .before .before .before .before .before in (ends-none refl, (c7 .pre .1 .0, c7 .pre .1 .1 .1)))
     (λ c. search needs)
     (λ c.
     let c2 = c .before .before in let c5 = c2 .before .before .before in

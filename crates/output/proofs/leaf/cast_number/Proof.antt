@@ -13,12 +13,12 @@ use Rattle.output.proofs.leaf.cast_number.Statement.{statement}
 use Rattle.output.proofs.leaf.cast_number.Tie as tie
 
 abbrev Inv-loop : tie.InvT-loop
-Inv-loop plan w casts n k₀ x₀ i₀ k x i =
+Inv-loop plan w casts n constants k₀ x₀ i₀ k x i =
     ((y : State) × WalkAt plan w y)
     × ((y z : State) (ks : List Leaf) → WalkAt plan w y → Passed y ks z → length ks ≡ i₀ → Casting ks (vnumber k₀ x₀) i (vnumber k x))
 
 abbrev μ-loop : tie.MeasureT-loop
-μ-loop plan w casts n k₀ x₀ i₀ k x i = i
+μ-loop plan w casts n constants k₀ x₀ i₀ k x i = i
 
 pub cast-number-spec : {M : Type 1} → statement M
 cast-number-spec =
@@ -26,8 +26,8 @@ cast-number-spec =
     (tie.spec
     Inv-loop
     μ-loop
-    (λ c. (c .before .pre, λ y z ks W p e. casting-none ks _ e))
-    (λ c κs. c .before .loop .inv .0)
+    (λ c. (c .before .before .pre .1, λ y z ks W p e. casting-none ks _ e))
+    (λ c κs. (c .before .before .before .before .pre .0, c .before .loop .inv .0))
     (λ c κs. search needs)
     (λ c κs. c .block-of .ensures .0)
     (λ c. search needs)

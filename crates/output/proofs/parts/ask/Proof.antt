@@ -10,13 +10,13 @@ use Rattle.output.proofs.parts.ask.Statement.{statement}
 use Rattle.output.proofs.parts.ask.Tie as tie
 
 abbrev Inv-loop : tie.InvT-loop
-Inv-loop lay columns rec plan least table at₀ m₀ known₀ at m known =
+Inv-loop lay columns rec plan least table constants at₀ m₀ known₀ at m known =
     RowAt (columns .edition) lay (columns .count) (columns .first .at) rec 0 × ((x : State) × WalkAt plan at x)
     × ((X : RowAt (columns .edition) lay (columns .count) (columns .first .at) rec 0) (x : State)
     → WalkAt plan at₀ x → Asking (X .values .values) plan x m₀ known₀ at m known)
 
 abbrev μ-loop : tie.MeasureT-loop
-μ-loop lay columns rec plan least table at₀ m₀ known₀ at m known = rank at
+μ-loop lay columns rec plan least table constants at₀ m₀ known₀ at m known = rank at
 
 pub ask-spec : {M : Type 1} → statement M
 ask-spec =
@@ -25,12 +25,13 @@ ask-spec =
     Inv-loop
     μ-loop
     (λ c.
-    let c4 = c .before .before .before .before in
-    (c4 .pre .1 .0, c4 .pre .1 .1, λ X x W. record { state = x; standing = W; same = refl }))
-    (λ c κs. c .loop .inv .1)
+    let c5 = c .before .before .before .before .before in
+    (c5 .pre .1 .1 .0, c5 .pre .1 .1 .1, λ X x W. record { state = x; standing = W; same = refl }))
+    (λ c κs. (c .before .before .before .before .before .before .pre .0, c .loop .inv .1))
     (λ c κs. let (R, (x, W), f) = c .before .before .loop .inv in
     let O = c .before .find-origin .ensures x W in
-    (c .before .before .before .before .before .before .before .pre .0, (R, (O .state, O .standing, O .ended))))
+    let p = c .before .before .before .before .before .before .before .before .pre in
+    (p .0, (p .1 .0, (R, (O .state, O .standing, O .ended)))))
     (λ c. search needs)
     (λ c. λ X x W.
     let A = c .before .before .before .before .before .before .loop .inv .2 X x W in

@@ -10,20 +10,20 @@ ask-step-spec =
     tie.close
     (tie.spec
     (λ c κs.
-    let c4 = c .before .before .before .before in
-    let (x, W, h) = c4 .pre .1 .1 in (c4 .pre .0, (c4 .pre .1 .0, (x, W))))
+    let c5 = c .before .before .before .before .before in
+    let (x, W, h) = c5 .pre .1 .1 .1 in (c5 .pre .0, (c5 .pre .1 .0, (c5 .pre .1 .1 .0, (x, W)))))
     (λ c. search needs)
     (λ c. search needs)
     (λ c κs.
-    let c3 = c .before .before .before in let c8 = c3 .before .before .before .before .before in
-    let (x, W, h) = c8 .pre .1 .1 in from-record (c3 .source-at .ensures (c8 .pre .1 .0) x W h) (c .before .t .given .1) .raw)
+    let c3 = c .before .before .before in let c9 = c3 .before .before .before .before .before .before in
+    let (x, W, h) = c9 .pre .1 .1 .1 in from-record (c3 .source-at .ensures (c9 .pre .1 .1 .0) x W h) (c .before .t .given .1) .raw)
     (λ c κs. search needs)
     (λ c. search needs)
     (λ c κs.
-    let c3 = c .before .before .before in let c8 = c3 .before .before .before .before .before in
-    let (x, W, h) = c8 .pre .1 .1 in from-constant (c3 .source-at .ensures (c8 .pre .1 .0) x W h) (c .before .t2 .given .1) .node .raw)
+    let c3 = c .before .before .before in let c9 = c3 .before .before .before .before .before .before in
+    let (x, W, h) = c9 .pre .1 .1 .1 in from-constant (c3 .source-at .ensures (c9 .pre .1 .1 .0) x W h) (c .before .t2 .given .1) .node .raw)
     (λ c κs. search needs)
-    (λ c κs. let (x, W, h) = c .before .before .before .before .before .before .before .before .before .before .pre .1 .1 in (x, W))
+    (λ c κs. let (x, W, h) = c .before .before .before .before .before .before .before .before .before .before .before .pre .1 .1 .1 in (x, W))
     (λ c. search needs)
     (λ c. search needs)
     (λ c κs. search needs)

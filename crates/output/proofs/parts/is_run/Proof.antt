@@ -10,13 +10,13 @@ is-run-spec =
     tie.close
     (tie.spec
     (λ c. λ X x u W. run-top _ x u (top-frames W (c .if1 .taken)))
-    (λ c κs. (c .before .before .before .before .before .before .pre .1 .1, omega (arith, c .if1 .left)))
-    (λ c κs. outward-asks (c .before .before .before .before .before .before .before .pre .1 .1 .1) (c .before .if1 .left))
+    (λ c κs. (c .before .before .before .before .before .before .before .pre .1 .1 .1, omega (arith, c .if1 .left)))
+    (λ c κs. outward-asks (c .before .before .before .before .before .before .before .before .pre .1 .1 .1 .1) (c .before .if1 .left))
     (λ c κs.
-    let c2 = c .before .before in let c8 = c2 .before .before .before .before .before .before in
-    let (x, W) = c8 .pre .1 .1 in
+    let c2 = c .before .before in let c9 = c2 .before .before .before .before .before .before .before in
+    let (x, W) = c9 .pre .1 .1 .1 in
     let (f, F, e) = some-inner (c2 .if1 .left) (W .entries) in
-    (c8 .pre .0, (c8 .pre .1 .0, (_, c .outward .ensures .1 _ x f F W e .standing))))
+    (c9 .pre .0, (c9 .pre .1 .0, (c9 .pre .1 .1 .0, (_, c .outward .ensures .1 _ x f F W e .standing)))))
     (λ c. search needs)
     (λ c. search needs)
     (λ c.

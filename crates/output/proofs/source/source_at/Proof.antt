@@ -12,9 +12,9 @@ source-at-spec =
     (tie.spec
     (λ c κs. search needs)
     (λ c. search needs)
-    (λ c κs. let W = c .before .before .before .before .before .before .before .before .before .before .pre .1 .1 .1 in (
-      c .before .before .before .before .before .before .before .before .before .before .pre .0,
-      (c .before .before .before .before .before .before .before .before .before .before .pre .1 .0, (W .deep, omega (arith, W .short, W .room .1))),
+    (λ c κs. let W = c .before .before .before .before .before .before .before .before .before .before .before .pre .1 .1 .1 .1 in (
+      c .before .before .before .before .before .before .before .before .before .before .before .pre .1 .0,
+      (c .before .before .before .before .before .before .before .before .before .before .before .pre .1 .1 .0, (W .deep, omega (arith, W .short, W .room .1))),
     ))
     (λ c κs. search needs)
     (λ c.
@@ -22,7 +22,7 @@ source-at-spec =
     λ X x W h. source-column W _ (is-position (c7 .head .ensures (W .here)) (c5 .k .given .1) .1) (c2 .if1 .taken)
     (c .before .column-node .ensures X) (c .record-source .ensures))
     (λ c. search needs)
-    (λ c κs. let W = c .before .before .before .before .before .before .before .before .pre .1 .1 .1 in (
+    (λ c κs. let W = c .before .before .before .before .before .before .before .before .before .pre .1 .1 .1 .1 in (
       constant-part (is-constant (c .before .before .before .head .ensures (W .here)) (c .before .t .given .1)),
       (W .deep, omega (arith, W .short, W .room .1)),
     ))
