@@ -39,16 +39,16 @@ use Rattle.run.proofs.Parts.{part-stored}
 -- ---- one run of bytes after another
 
 -- in a buffer that is the same as far as anything is written
-emits-kept : {out₀ a : Bytes} {len : ℕ} {out new : Bytes} → (len ≤ longest → take len new ≡ take len out) → Emits out₀ 0 a len out → Emits out₀ 0 a len new
+emits-kept : {out₀ a : Bytes} {len : ℕ} {out new : Bytes} → take len new ≡ take len out → Emits out₀ 0 a len out → Emits out₀ 0 a len new
 unfolding Holds Agree
 emits-kept {out₀} {a} {len} {out} {new} h E = record {
   fits = λ l.
       let (e, H) = E .fits l in
-      (e, ap (λ (n : ℕ). take n new) (sym e) ∙ h (omega (arith, e)) ∙ ap (λ (n : ℕ). take n out) e ∙ H);
+      (e, ap (λ (n : ℕ). take n new) (sym e) ∙ h ∙ ap (λ (n : ℕ). take n out) e ∙ H);
   exceeds = E .exceeds;
 }
 
-pub follows-kept : {out new : Bytes} {len : ℕ} {b : Bytes} {r : ℕ} {o : Bytes} → length new ≡ length out → (len ≤ longest → take len new ≡ take len out)
+pub follows-kept : {out new : Bytes} {len : ℕ} {b : Bytes} {r : ℕ} {o : Bytes} → length new ≡ length out → take len new ≡ take len out
     → Follows new len b r o → Follows out len b r o
 follows-kept l h F = record { emits = λ out₀ a z E. F .emits out₀ a (l ∙ z) (emits-kept h E) }
 
@@ -72,11 +72,9 @@ pub follows-emits : {out : Bytes} {len : ℕ} {b : Bytes} {r : ℕ} {new : Bytes
 follows-emits h W = record { emits = λ out₀ a z E. emits-append z E h W }
 
 -- into the rest of the buffer, where n elements were lent
-follows-stored : (out : Bytes) {len : ℕ} (k n : ℕ) {b : Bytes} {r q : ℕ} {new : Bytes} → k ≡ len → len ≤ longest → length out ≤ k + n
-    → Stores (midOf k n out) 0 b r new → q ≡ len + r → Follows out len b q (putMid k n out new)
-follows-stored out k n {b} {q = q} {new} z h l S e =
-    let E : Emits out k b q (putMid k n out new) = emits-exact out k b (omega (arith, S .ends, e, z)) (part-stored out k n b l (S .stored)) in
-    follows-emits h (subst (λ (j : ℕ). Emits out j b q (putMid k n out new)) z E)
+follows-stored : (out : Bytes) {len : ℕ} (n : ℕ) {b : Bytes} {r : ℕ} {new : Bytes} → len ≤ longest → length out ≤ len + n → Stores (midOf len n out) 0 b r new
+    → Follows out len b (len + r) (putMid len n out new)
+follows-stored out {len} n {b} h l S = follows-emits h (emits-exact out len b (omega (arith, S .ends)) (part-stored out len n b l (S .stored)))
 
 -- ---- one selector
 
@@ -120,24 +118,17 @@ module _ {x : Value} {e : ℕ} {out : Bytes} {len : ℕ} where
       (TopWritten.To c r) new
   top-given h c F = record { answer = (h, c, F) }
 
-  module _ (k n : ℕ) (starts : (k ≤ longest) × (len ≤ longest → k ≡ len)) where
+  module _ (n : ℕ) where
     -- in one pass, into the rest of the buffer
-    pub top-passed : {new : Bytes} → length out ≤ k + n → {c : Cursor} {r q : ℕ} → (c .at ≡ e) × Kept (clean x) (encodeValue x) (midOf k n out) 0 r new
-        → (len ≤ longest → q ≡ len + r) × (longest < len → longest < q) → TopIs x e out len (TopWritten.To c q) (putMid k n out new)
-    top-passed {new} l {c} {r} {q} (h, K) (f, g) = top-given h (K .clean) (go (decLt longest len))
-      where
-        go : Dec (longest < len) → Follows out len (encodeValue x) q (putMid k n out new)
-        go (yes i) = follows-past (encodeValue x) i (g i)
-        go (no i) = let z : len ≤ longest = omega arith in follows-stored out k n (starts .1 z) z l (K .stores) (f z)
+    pub top-passed : {new : Bytes} → len ≤ longest → length out ≤ len + n → {c : Cursor} {r : ℕ}
+        → (c .at ≡ e) × Kept (clean x) (encodeValue x) (midOf len n out) 0 r new → TopIs x e out len (TopWritten.To c (len + r)) (putMid len n out new)
+    top-passed h l (a, K) = top-given a (K .clean) (follows-stored out n h l (K .stores))
 
     -- after a pass that settled nothing
-    pub top-anew : (new : Bytes) → length new ≡ length (midOf k n out) → k ≤ length out → {r : TopWritten} {o : Bytes}
-        → TopIs x e (putMid k n out new) len r o → TopIs x e out len r o
+    pub top-anew : (new : Bytes) → length new ≡ length (midOf len n out) → len ≤ length out → {r : TopWritten} {o : Bytes}
+        → TopIs x e (putMid len n out new) len r o → TopIs x e out len r o
     top-anew new z w {r} {o} T = record { answer = go r (T .answer) }
       where
-        same : len ≤ longest → take len (putMid k n out new) ≡ take len out
-        same i = subst (λ (j : ℕ). take j (putMid k n out new) ≡ take j out) (starts .1 i) (take-put k n out new w)
-
-        go : (r : TopWritten) → topAnswer x e (putMid k n out new) len r o → topAnswer x e out len r o
-        go (TopWritten.To c q) (a, b, F) = (a, b, follows-kept (same-len-mid k n out new z) same F)
+        go : (r : TopWritten) → topAnswer x e (putMid len n out new) len r o → topAnswer x e out len r o
+        go (TopWritten.To c q) (a, b, F) = (a, b, follows-kept (same-len-mid len n out new z) (take-put len n out new w) F)
         go TopWritten.Overflows h = h

@@ -1,6 +1,6 @@
 // The top selectors of a plan one after another: each in one pass, where that settles it, and else through paths.
 ghost use mathlib.Core.Path.{_≡_};
-ghost use Prim.Native.Nat.{_+_, _≤_, _<_};
+ghost use Prim.Native.Nat.{_≤_, _<_};
 ghost use lib.ListN.{length};
 ghost use Rattle.ends.specs.code.Ends.{Ends};
 ghost use Rattle.layout.specs.Limits.{longest};
@@ -81,29 +81,8 @@ fn write_general(
     TopWritten::To(end, to)
 }
 
-// Where what a selector gives is stored: once the output is too long, nothing that stands aside is of use.
-fn start_of(len: usize) -> usize
-    ensures { λ r. ⌜ (r ≤ longest) × (len ≤ longest → r ≡ len) ⌝ }
-{
-    if LONGEST < len {
-        return 0;
-    }
-    len
-}
-
-// The length of an output that goes on for `r` bytes.
-fn longer(len: usize, r: usize) -> usize
-    requires { ⌜ r ≤ longest ⌝ }
-    ensures { λ q. ⌜ (len ≤ longest → q ≡ len + r) × (longest < len → longest < q) ⌝ }
-{
-    if LONGEST < len {
-        return len;
-    }
-    len + r
-}
-
 // In one pass, or else through paths. A pass that settles nothing may have written over what it was lent, so that it is
-// lent what is still free.
+// lent what is still free. Once the output is too long no pass is made: nothing that it would store is of use.
 fn write_top(
     lay: &[u8],
     rec: &[u8],
@@ -123,14 +102,16 @@ fn write_top(
     ensures { λ r. ⌜ ((A : TopIn (now (lay .entry)) (tops .columns) (now (rec .entry)) (now (plan .entry)) (now (tgt .entry)) top) → TopIs (eval (A .row .values .values) (A .selector .here .tree)) (A .selector .here .end) (now (aside .entry)) (top .len) r (now (aside .exit))) ⌝ }
 {
     let columns = tops.columns;
+    let len = top.len;
+    if LONGEST < len {
+        return write_general(lay, columns, rec, plan, top, tgt, aside, ends);
+    }
     let row = Row {
         columns,
         values: Cursor { at: 0 },
         stride: tops.stride,
     };
     let selector = top.selector;
-    let len = top.len;
-    let k = start_of(len);
     let place = Place {
         selector,
         levels: DEEPEST_SELECTOR,
@@ -144,10 +125,10 @@ fn write_top(
         values,
         plan,
         place,
-        &mut aside[k..],
+        &mut aside[len..],
         ends,
     ) {
-        Reached::To(end, r) => TopWritten::To(end, longer(len, r)),
+        Reached::To(end, r) => TopWritten::To(end, len + r),
         Reached::Unknown => write_general(lay, columns, rec, plan, top, tgt, aside, ends),
     }
 }
