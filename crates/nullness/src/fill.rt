@@ -10,7 +10,6 @@ ghost use Rattle.nodes.specs.code.Raw.{RawAt, RowAt, ElementsAt, ListOf, Presen
 ghost use Rattle.nullness.specs.code.Nulls.{NullsOf, EachOf, RowOf, Nulls, Grown};
 use crate::nulls::keep_constant;
 use crate::nulls::keep_null;
-use layout::bytes::wide;
 use layout::columns::Labelled;
 use layout::cursor::Cursor;
 use layout::cursor::Moved;
@@ -20,6 +19,9 @@ use layout::edition::Edition;
 use layout::limits::DEEPEST;
 use layout::pass::pass_type;
 use layout::types::Head;
+use plan::skips::kept_count;
+use plan::skips::kept_from;
+use plan::skips::kept_to;
 use values::leaf::Presence;
 use values::leaf::read_presence;
 use values::read::ValueRead;
@@ -216,17 +218,53 @@ fn fill_constant(plan: &[u8], c: Cursor, n: usize, nulls: &mut [u64])
     }
 }
 
-// The constants that a table of their ends has.
-pub fn fill_constants(plan: &[u8], constants: &[u16], nulls: &mut [u64])
+// Where a constant stands that casts and renames take, from `at` on, each the input of the one before: behind its code;
+// or 0.
+fn constant_under(plan: &[u8], at: usize) -> usize {
+    let mut d = at;
+    let mut left: u8 = 64;
+    while 0 < left {
+        if plan.len() <= d {
+            return 0;
+        }
+        match plan[d] {
+            1 => return d + 1,
+            2 | 3 => {
+                d += 1;
+            }
+            _ => return 0,
+        }
+        left -= 1;
+    }
+    0
+}
+
+// Of the selector from `from` to `to`, if it is a constant or casts and renames of one.
+fn fill_under(plan: &[u8], from: usize, to: usize, nulls: &mut [u64])
     requires { ⌜ Nulls (now plan) (now nulls) ⌝ }
     ensures { λ _. ⌜ Nulls (now (plan .entry)) (now (nulls .exit)) ⌝ }
 {
-    let pairs = constants.len() / 2;
-    let mut i: usize = 0;
-    while i < pairs {
-        let at = wide(constants[2 * i]);
-        let n = wide(constants[2 * i + 1]);
-        fill_constant(plan, Cursor { at }, n, nulls);
+    let at = constant_under(plan, from);
+    if at == 0 {
+        return;
+    }
+    if to < at {
+        return;
+    }
+    fill_constant(plan, Cursor { at }, to - at, nulls);
+}
+
+// Of the selectors that a table of where they end has: every long input, field and element.
+pub fn fill_constants(plan: &[u8], skips: &[u16], nulls: &mut [u64])
+    requires { ⌜ Nulls (now plan) (now nulls) ⌝ }
+    ensures { λ _. ⌜ Nulls (now (plan .entry)) (now (nulls .exit)) ⌝ }
+{
+    let count = kept_count(skips);
+    let mut i: u16 = 0;
+    while i < count {
+        let from = kept_from(skips, i);
+        let to = kept_to(skips, i);
+        fill_under(plan, from, to, nulls);
         i += 1;
     }
 }

@@ -4,7 +4,7 @@ ghost use mathlib.Core.Path.{_≡_};
 ghost use Rattle.layout.specs.Tree.{fieldsOf};
 ghost use Rattle.plan.specs.Nullness.{nullnessOf};
 ghost use Rattle.plan.specs.Marks.{givens};
-ghost use Rattle.plan.specs.code.Constants.{ConstantEnds};
+ghost use Rattle.plan.specs.code.Skips.{Skips};
 ghost use Rattle.overflow.specs.code.Ranges.{ColumnsIn};
 ghost use Rattle.nullness.specs.code.Incoming.{IndexAt};
 ghost use Rattle.nullness.specs.code.Nulls.{Nulls};
@@ -22,16 +22,16 @@ pub fn follow(
     plan: &[u8],
     nulls: &[u64],
     w: Walk,
-    constants: &[u16],
+    skips: &[u16],
 ) -> bool
-    requires { ⌜ ConstantEnds (now plan) (now constants) ⌝ }
+    requires { ⌜ Skips (now plan) (now skips) ⌝ }
     requires { ⌜ IndexAt (now incoming) columns (now index) × Nulls (now plan) (now nulls) ⌝ }
     requires { ⌜ ((P : ColumnsIn (now incoming) columns) × Follows (now plan) w (fieldsOf (P .columns))) ⌝ }
     ensures { λ r. ⌜ ((P : ColumnsIn (now (incoming .entry)) columns) (F : Follows (now (plan .entry)) w (fieldsOf (P .columns))) → r ≡ fillsAt (nullnessOf (givens (P .columns)) (F .selector)) (F .path)) ⌝ }
 {
     let mut x = w;
     loop {
-        x = x.locate(plan, constants);
+        x = x.locate(plan, skips);
         match at_stop(incoming, columns, index, plan, nulls, x) {
             Stop::Passes => return true,
             Stop::Fails => return false,

@@ -8,7 +8,7 @@ ghost use Rattle.layout.specs.code.Stands.{TypeAt, ColumnsAt};
 ghost use Rattle.layout.specs.Limits.{deepest};
 ghost use Rattle.plan.specs.Nullness.{topOf, insideOf, nullnessAt, nullnessOf, nullnessesOf};
 ghost use Rattle.plan.specs.Marks.{allowed, givens, meets, meetsAll};
-ghost use Rattle.plan.specs.code.Constants.{ConstantEnds};
+ghost use Rattle.plan.specs.code.Skips.{Skips};
 ghost use Rattle.overflow.specs.code.Overflows.{PlanAt, ElementTypeAt};
 ghost use Rattle.overflow.specs.code.Ranges.{ColumnsIn};
 ghost use Rattle.nullness.specs.code.Incoming.{IndexAt};
@@ -32,7 +32,8 @@ use nodes::places::TypePlace;
 use overflow::overflows::FieldsPlace;
 use overflow::overflows::part_path;
 use overflow::overflows::start;
-use plan::fill::fill_selectors;
+use plan::read::read_selectors;
+use plan::skips::SKIPS;
 use walk::head::skip_by;
 
 // A type of the target, and whether what is of it is required.
@@ -50,9 +51,9 @@ fn meets_place(
     nulls: &[u64],
     path: TopPath,
     required: bool,
-    constants: &[u16],
+    skips: &[u16],
 ) -> bool
-    requires { ⌜ ConstantEnds (now plan) (now constants) ⌝ }
+    requires { ⌜ Skips (now plan) (now skips) ⌝ }
     requires { ⌜ IndexAt (now incoming) columns (now index) × Nulls (now plan) (now nulls) ⌝ }
     requires { ⌜ ((P : ColumnsIn (now incoming) columns) × (u : DataType) × PlaceAt (now plan) (path .top) (fieldsOf (P .columns)) (slice 0 (path .len) (path .steps)) u) ⌝ }
     requires { ⌜ (path .len ≤ 64) × (length (path .steps) ≡ 64) ⌝ }
@@ -68,7 +69,7 @@ fn meets_place(
         plan,
         nulls,
         start(path, plan.len()),
-        constants,
+        skips,
     )
 }
 
@@ -82,9 +83,9 @@ fn meets_type(
     path: TopPath,
     tgt: &[u8],
     t: MarkedType,
-    constants: &[u16],
+    skips: &[u16],
 ) -> bool
-    requires { ⌜ ConstantEnds (now plan) (now constants) ⌝ }
+    requires { ⌜ Skips (now plan) (now skips) ⌝ }
     requires { ⌜ IndexAt (now incoming) columns (now index) × Nulls (now plan) (now nulls) ⌝ }
     requires { ⌜ ((P : ColumnsIn (now incoming) columns) × (Q : TypeAt (t .place .edition) (t .place .depth) (now tgt) (t .place .at .at)) × PlaceAt (now plan) (path .top) (fieldsOf (P .columns)) (slice 0 (path .len) (path .steps)) (dtypeOf (Q .tree))) ⌝ }
     requires { ⌜ (path .len + t .place .depth ≤ deepest) × (length (path .steps) ≡ 64) ⌝ }
@@ -101,7 +102,7 @@ fn meets_type(
         nulls,
         path,
         t.required,
-        constants,
+        skips,
     ) {
         return false;
     }
@@ -123,7 +124,7 @@ fn meets_type(
                 path,
                 tgt,
                 fields,
-                constants,
+                skips,
             )
         }
         Head::List(e) => {
@@ -141,7 +142,7 @@ fn meets_type(
                 path,
                 tgt,
                 element,
-                constants,
+                skips,
             )
         }
         Head::Array(_, e) => {
@@ -159,7 +160,7 @@ fn meets_type(
                 path,
                 tgt,
                 element,
-                constants,
+                skips,
             )
         }
         Head::Refused(_) => false,
@@ -176,9 +177,9 @@ fn meets_element(
     path: TopPath,
     tgt: &[u8],
     place: TypePlace,
-    constants: &[u16],
+    skips: &[u16],
 ) -> bool
-    requires { ⌜ ConstantEnds (now plan) (now constants) ⌝ }
+    requires { ⌜ Skips (now plan) (now skips) ⌝ }
     requires { ⌜ IndexAt (now incoming) columns (now index) × Nulls (now plan) (now nulls) ⌝ }
     requires { ⌜ ((P : ColumnsIn (now incoming) columns) × (Q : ElementTypeAt (place .edition) (place .depth) (now tgt) (place .at .at)) × ElementAt (now plan) (path .top) (fieldsOf (P .columns)) (slice 0 (path .len) (path .steps)) (dtypeOf (Q .type .tree))) ⌝ }
     requires { ⌜ (path .len + 1 + place .depth ≤ deepest) × (length (path .steps) ≡ 64) ⌝ }
@@ -195,17 +196,7 @@ fn meets_element(
                 place: element,
                 required: l.required,
             };
-            meets_type(
-                incoming,
-                columns,
-                index,
-                plan,
-                nulls,
-                below,
-                tgt,
-                t,
-                constants,
-            )
+            meets_type(incoming, columns, index, plan, nulls, below, tgt, t, skips)
         }
         Labelled::Refused(_) => false,
     }
@@ -221,9 +212,9 @@ fn meets_fields(
     path: TopPath,
     tgt: &[u8],
     fields: FieldsPlace,
-    constants: &[u16],
+    skips: &[u16],
 ) -> bool
-    requires { ⌜ ConstantEnds (now plan) (now constants) ⌝ }
+    requires { ⌜ Skips (now plan) (now skips) ⌝ }
     requires { ⌜ IndexAt (now incoming) columns (now index) × Nulls (now plan) (now nulls) ⌝ }
     requires { ⌜ ((P : ColumnsIn (now incoming) columns) × (Q : ColumnsAt (fields .edition) (fields .depth) (now tgt) (fields .count) (fields .first .at)) × PlaceAt (now plan) (path .top) (fieldsOf (P .columns)) (slice 0 (path .len) (path .steps)) (struct (fieldsOf (Q .columns)))) ⌝ }
     requires { ⌜ (path .len + 1 + fields .depth ≤ deepest) × (length (path .steps) ≡ 64) ⌝ }
@@ -247,17 +238,7 @@ fn meets_fields(
                     place,
                     required: l.required,
                 };
-                if !meets_type(
-                    incoming,
-                    columns,
-                    index,
-                    plan,
-                    nulls,
-                    below,
-                    tgt,
-                    t,
-                    constants,
-                ) {
+                if !meets_type(incoming, columns, index, plan, nulls, below, tgt, t, skips) {
                     return false;
                 }
                 d = skip_type(tgt, edition, depth, e);
@@ -278,9 +259,9 @@ fn meets_columns(
     nulls: &[u64],
     tgt: &[u8],
     target: ColumnRange,
-    constants: &[u16],
+    skips: &[u16],
 ) -> bool
-    requires { ⌜ ConstantEnds (now plan) (now constants) ⌝ }
+    requires { ⌜ Skips (now plan) (now skips) ⌝ }
     requires { ⌜ IndexAt (now incoming) columns (now index) × Nulls (now plan) (now nulls) ⌝ }
     requires { ⌜ ((P : ColumnsIn (now incoming) columns) × (D : ColumnsIn (now tgt) target) × PlanAt (now plan) 7 (fieldsOf (P .columns)) (fieldsOf (D .columns))) ⌝ }
     ensures { λ r. ⌜ ((P : ColumnsIn (now (incoming .entry)) columns) (D : ColumnsIn (now (tgt .entry)) target) (S : PlanAt (now (plan .entry)) 7 (fieldsOf (P .columns)) (fieldsOf (D .columns))) → r ≡ meetsAll (nullnessesOf (givens (P .columns)) (S .selectors .trees)) (D .columns)) ⌝ }
@@ -307,20 +288,10 @@ fn meets_columns(
                     place,
                     required: l.required,
                 };
-                if !meets_type(
-                    incoming,
-                    columns,
-                    index,
-                    plan,
-                    nulls,
-                    path,
-                    tgt,
-                    t,
-                    constants,
-                ) {
+                if !meets_type(incoming, columns, index, plan, nulls, path, tgt, t, skips) {
                     return false;
                 }
-                s = skip_by(plan, s, constants);
+                s = skip_by(plan, s, skips);
                 d = skip_type(tgt, edition, DEEPEST, e);
             }
             Labelled::Refused(_) => return false,
@@ -330,7 +301,7 @@ fn meets_columns(
     true
 }
 
-// The same of plans that are worth a table of where their constants end, and one of the nulls in them.
+// The same of plans that are worth a table of where their selectors end, and one of the nulls in their constants.
 fn meets_by_table(
     incoming: &[u8],
     columns: ColumnRange,
@@ -343,26 +314,17 @@ fn meets_by_table(
     requires { ⌜ ((P : ColumnsIn (now incoming) columns) × (D : ColumnsIn (now tgt) target) × PlanAt (now plan) 7 (fieldsOf (P .columns)) (fieldsOf (D .columns))) ⌝ }
     ensures { λ r. ⌜ ((P : ColumnsIn (now (incoming .entry)) columns) (D : ColumnsIn (now (tgt .entry)) target) (S : PlanAt (now (plan .entry)) 7 (fieldsOf (P .columns)) (fieldsOf (D .columns))) → r ≡ meetsAll (nullnessesOf (givens (P .columns)) (S .selectors .trees)) (D .columns)) ⌝ }
 {
-    let mut constants = [0u16; 2048];
-    fill_selectors(
+    let mut skips = [0u16; SKIPS];
+    read_selectors(
         plan,
         DEEPEST_SELECTOR,
         target.count,
         Cursor { at: 7 },
-        &mut constants,
+        &mut skips,
     );
     let mut nulls = [0u64; 1088];
-    fill_constants(plan, &constants, &mut nulls);
-    meets_columns(
-        incoming,
-        columns,
-        index,
-        plan,
-        &nulls,
-        tgt,
-        target,
-        &constants,
-    )
+    fill_constants(plan, &skips, &mut nulls);
+    meets_columns(incoming, columns, index, plan, &nulls, tgt, target, &skips)
 }
 
 // Of a plan that passed the check between the two layouts up to 33.

@@ -14,7 +14,7 @@ ghost use Rattle.walk.specs.code.State.{State};
 ghost use Rattle.walk.specs.code.Moves.{Stopped, Input};
 ghost use Rattle.walk.specs.code.Walks.{WalkAt};
 ghost use Rattle.walk.specs.code.Ends.{EndsAt};
-ghost use Rattle.plan.specs.code.Constants.{ConstantEnds};
+ghost use Rattle.plan.specs.code.Skips.{Skips};
 ghost use Rattle.output.specs.code.Chain.{Passed, Kept};
 ghost use Rattle.output.specs.code.Answers.{castPass, PassIs, OnwardTo, OriginIs};
 use layout::cursor::Cursor;
@@ -57,8 +57,8 @@ fn pass_cast(plan: &[u8], t: Cursor) -> Pass
     }
 }
 
-fn next_pass(plan: &[u8], w: Walk, ends: InputEnds, constants: &[u16]) -> Pass
-    requires { ⌜ ConstantEnds (now plan) (now constants) ⌝ }
+fn next_pass(plan: &[u8], w: Walk, ends: InputEnds, skips: &[u16]) -> Pass
+    requires { ⌜ Skips (now plan) (now skips) ⌝ }
     requires { ⌜ EndsAt (now plan) ends ⌝ }
     ensures { λ r. ⌜ ((x : State) → WalkAt (now (plan .entry)) w x → Stopped x → PassIs x r) ⌝ }
 {
@@ -70,7 +70,7 @@ fn next_pass(plan: &[u8], w: Walk, ends: InputEnds, constants: &[u16]) -> Pass
             if w.deep < w.len {
                 return Pass::Goes;
             }
-            pass_cast(plan, ends.end_of(plan, input, constants))
+            pass_cast(plan, ends.end_of(plan, input, skips))
         }
         SelectorHead::Rename(_) => Pass::Goes,
         SelectorHead::Struct(_) => Pass::Ends,
@@ -82,48 +82,48 @@ fn next_pass(plan: &[u8], w: Walk, ends: InputEnds, constants: &[u16]) -> Pass
 
 // The table of ends for the next pass. The type of a cast stands behind its input, so that a chain of casts is read
 // from the innermost outwards once.
-fn ends_ahead(plan: &[u8], ends: InputEnds, w: Walk, constants: &[u16]) -> InputEnds
-    requires { ⌜ ConstantEnds (now plan) (now constants) ⌝ }
+fn ends_ahead(plan: &[u8], ends: InputEnds, w: Walk, skips: &[u16]) -> InputEnds
+    requires { ⌜ Skips (now plan) (now skips) ⌝ }
     requires { ⌜ ((x : State) × WalkAt (now plan) w x) ⌝ }
     requires { ⌜ EndsAt (now plan) ends ⌝ }
     ensures { λ r. ⌜ EndsAt (now (plan .entry)) r ⌝ }
 {
     let at = w.at;
     if plan[at] == 2 {
-        return ends_with(plan, ends, Cursor { at: at + 1 }, constants);
+        return ends_with(plan, ends, Cursor { at: at + 1 }, skips);
     }
     ends
 }
 
 // To the input of a transform, and on until no move is left.
-fn onward(plan: &[u8], w: Walk, constants: &[u16]) -> Walk
-    requires { ⌜ ConstantEnds (now plan) (now constants) ⌝ }
+fn onward(plan: &[u8], w: Walk, skips: &[u16]) -> Walk
+    requires { ⌜ Skips (now plan) (now skips) ⌝ }
     requires { ⌜ ((x : State) × (s : Selector) × WalkAt (now plan) w x × Input (x .selector) s) ⌝ }
     ensures { λ r. ⌜ ((x : State) (s : Selector) → WalkAt (now (plan .entry)) w x → Input (x .selector) s → OnwardTo (now (plan .entry)) x s w r) ⌝ }
 {
     let input = w.to_input();
-    input.locate(plan, constants)
+    input.locate(plan, skips)
 }
 
-pub fn find_origin(plan: &[u8], w: Walk, constants: &[u16]) -> Origin
-    requires { ⌜ ConstantEnds (now plan) (now constants) ⌝ }
+pub fn find_origin(plan: &[u8], w: Walk, skips: &[u16]) -> Origin
+    requires { ⌜ Skips (now plan) (now skips) ⌝ }
     requires { ⌜ ((x : State) × WalkAt (now plan) w x) ⌝ }
     ensures { λ r. ⌜ ((x : State) → WalkAt (now (plan .entry)) w x → OriginIs (now (plan .entry)) x w r) ⌝ }
 {
-    let mut at = w.locate(plan, constants);
+    let mut at = w.locate(plan, skips);
     let mut ends = no_ends(0);
     let mut casts: usize = 0;
     loop {
-        ends = ends_ahead(plan, ends, at, constants);
-        match next_pass(plan, at, ends, constants) {
+        ends = ends_ahead(plan, ends, at, skips);
+        match next_pass(plan, at, ends, skips) {
             Pass::Ends => {
                 break;
             }
             Pass::Goes => {
-                at = onward(plan, at, constants);
+                at = onward(plan, at, skips);
             }
             Pass::Casts(_) => {
-                at = onward(plan, at, constants);
+                at = onward(plan, at, skips);
                 casts += 1;
             }
         }
@@ -132,27 +132,27 @@ pub fn find_origin(plan: &[u8], w: Walk, constants: &[u16]) -> Origin
 }
 
 // Of the first `i` casts passed the kinds of the last 1,024, from the innermost on.
-pub fn last_kinds(plan: &[u8], w: Walk, i: usize, constants: &[u16]) -> [Leaf; 1024]
-    requires { ⌜ ConstantEnds (now plan) (now constants) ⌝ }
+pub fn last_kinds(plan: &[u8], w: Walk, i: usize, skips: &[u16]) -> [Leaf; 1024]
+    requires { ⌜ Skips (now plan) (now skips) ⌝ }
     requires { ⌜ ((x : State) × WalkAt (now plan) w x) ⌝ }
     ensures { λ r. ⌜ ((x z : State) (ks : List LeafOf) → WalkAt (now (plan .entry)) w x → Passed x ks z → i ≤ length ks → Kept ks i 0 r) ⌝ }
 {
     let mut kinds = [Leaf::Null; 1024];
-    let mut at = w.locate(plan, constants);
+    let mut at = w.locate(plan, skips);
     let mut ends = no_ends(0);
     let mut left = i;
     while 0 < left {
-        ends = ends_ahead(plan, ends, at, constants);
-        match next_pass(plan, at, ends, constants) {
+        ends = ends_ahead(plan, ends, at, skips);
+        match next_pass(plan, at, ends, skips) {
             Pass::Ends => return kinds,
             Pass::Goes => {
-                at = onward(plan, at, constants);
+                at = onward(plan, at, skips);
             }
             Pass::Casts(kind) => {
                 left -= 1;
                 let place = left % 1024;
                 kinds[place] = kind;
-                at = onward(plan, at, constants);
+                at = onward(plan, at, skips);
             }
         }
     }

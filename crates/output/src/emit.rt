@@ -13,7 +13,7 @@ ghost use Rattle.walk.specs.code.State.{State};
 ghost use Rattle.walk.specs.code.Walks.{WalkAt};
 ghost use Rattle.walk.specs.code.Values.{stateValue};
 ghost use Rattle.nodes.specs.code.Raw.{RawAt};
-ghost use Rattle.plan.specs.code.Constants.{ConstantEnds};
+ghost use Rattle.plan.specs.code.Skips.{Skips};
 ghost use Rattle.output.specs.code.Chain.{Passed, castAll};
 ghost use Rattle.raw.specs.code.Stored.{Stores};
 ghost use Rattle.output.specs.code.Output.{Emits};
@@ -51,9 +51,9 @@ fn put_part(
     casts: usize,
     out: &mut [u8],
     k: usize,
-    constants: &[u16],
+    skips: &[u16],
 ) -> usize
-    requires { ⌜ ConstantEnds (now plan) (now constants) ⌝ }
+    requires { ⌜ Skips (now plan) (now skips) ⌝ }
     requires { ⌜ RawAt EditionOf.One (now plan) (t .at) (now plan) (c .at) ⌝ }
     requires { ⌜ ((x : State) × WalkAt (now plan) w x) ⌝ }
     requires { ⌜ k + 9 + length (now plan) < 2 ^ 64 ⌝ }
@@ -68,7 +68,7 @@ fn put_part(
         data_type: t,
         value: c,
     };
-    let cast = cast_leaf(plan, node, plan, plan, w, casts, constants);
+    let cast = cast_leaf(plan, node, plan, plan, w, casts, skips);
     put_raw(plan, node, plan, cast, out, k, &none[..0])
 }
 
@@ -94,27 +94,27 @@ fn emit_mapping(
     out: &mut [u8],
     k: usize,
     table: &[u16],
-    constants: &[u16],
+    skips: &[u16],
 ) -> usize
-    requires { ⌜ ConstantEnds (now plan) (now constants) ⌝ }
+    requires { ⌜ Skips (now plan) (now skips) ⌝ }
     requires { ⌜ Ends (columns .edition) (now lay) (now table) ⌝ }
     requires { ⌜ ((A : EmitAt (columns .edition) (now lay) (columns .count) (columns .first .at) (now rec) (now plan) w) × Mapped (A .state)) ⌝ }
     requires { ⌜ k ≤ longest ⌝ }
     ensures { λ r. ⌜ ((A : EmitAt (columns .edition) (now (lay .entry)) (columns .count) (columns .first .at) (now (rec .entry)) (now (plan .entry)) w) → Mapped (A .state) → Emits (now (out .entry)) k (encodeValue (stateValue (A .row .values .values) (A .state))) r (now (out .exit))) ⌝ }
 {
-    let Parts::Some(m) = parts_count(lay, columns, rec, plan, w, table, constants) else {
+    let Parts::Some(m) = parts_count(lay, columns, rec, plan, w, table, skips) else {
         return put_null(out, k);
     };
     let mut at = put_lead(is_list(plan, w), m, out, k);
-    let mut c = first_part(plan, w, constants);
+    let mut c = first_part(plan, w, skips);
     let mut i: u32 = 0;
     while i < m {
         if LONGEST < at {
             return at;
         }
         let part = child_at(w, i as u16, c);
-        at = emit(lay, columns, rec, plan, part, out, at, table, constants);
-        c = next_part(plan, w, c, constants);
+        at = emit(lay, columns, rec, plan, part, out, at, table, skips);
+        c = next_part(plan, w, c, skips);
         i += 1;
     }
     at
@@ -130,19 +130,19 @@ pub fn emit(
     out: &mut [u8],
     k: usize,
     table: &[u16],
-    constants: &[u16],
+    skips: &[u16],
 ) -> usize
-    requires { ⌜ ConstantEnds (now plan) (now constants) ⌝ }
+    requires { ⌜ Skips (now plan) (now skips) ⌝ }
     requires { ⌜ Ends (columns .edition) (now lay) (now table) ⌝ }
     requires { ⌜ EmitAt (columns .edition) (now lay) (columns .count) (columns .first .at) (now rec) (now plan) w ⌝ }
     requires { ⌜ k ≤ longest ⌝ }
     ensures { λ r. ⌜ ((A : EmitAt (columns .edition) (now (lay .entry)) (columns .count) (columns .first .at) (now (rec .entry)) (now (plan .entry)) w) → Emits (now (out .entry)) k (encodeValue (stateValue (A .row .values .values) (A .state))) r (now (out .exit))) ⌝ }
 {
-    let o = find_origin(plan, w, constants);
+    let o = find_origin(plan, w, skips);
     let at = o.walk;
     let casts = o.casts;
     let v = columns.edition;
-    match source_at(lay, columns, rec, plan, at, table, constants) {
+    match source_at(lay, columns, rec, plan, at, table, skips) {
         Source::Null => put_null(out, k),
         Source::Record(t, c) => {
             let node = Node {
@@ -150,18 +150,18 @@ pub fn emit(
                 data_type: t,
                 value: c,
             };
-            let cast = cast_leaf(lay, node, rec, plan, w, casts, constants);
+            let cast = cast_leaf(lay, node, rec, plan, w, casts, skips);
             put_raw(lay, node, rec, cast, out, k, table)
         }
         Source::Constant(t, c) => {
-            if is_constant_run(lay, columns, rec, plan, at, c, table, constants) {
-                return put_part(plan, t, c, w, casts, out, k, constants);
+            if is_constant_run(lay, columns, rec, plan, at, c, table, skips) {
+                return put_part(plan, t, c, w, casts, out, k, skips);
             }
             put_null(out, k)
         }
-        Source::Struct(_) => emit_mapping(lay, columns, rec, plan, at, out, k, table, constants),
-        Source::List => emit_mapping(lay, columns, rec, plan, at, out, k, table, constants),
-        Source::Array => emit_mapping(lay, columns, rec, plan, at, out, k, table, constants),
+        Source::Struct(_) => emit_mapping(lay, columns, rec, plan, at, out, k, table, skips),
+        Source::List => emit_mapping(lay, columns, rec, plan, at, out, k, table, skips),
+        Source::Array => emit_mapping(lay, columns, rec, plan, at, out, k, table, skips),
         Source::Refused => PAST,
     }
 }

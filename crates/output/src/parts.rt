@@ -10,7 +10,7 @@ ghost use Rattle.walk.specs.code.Walks.{WalkAt};
 ghost use Rattle.walk.specs.code.Values.{within, stateValue};
 ghost use Rattle.nodes.specs.code.Raw.{RowAt, partsOf};
 ghost use Rattle.nodes.specs.declared.raw.Parts.{Parts as PartsOf};
-ghost use Rattle.plan.specs.code.Constants.{ConstantEnds};
+ghost use Rattle.plan.specs.code.Skips.{Skips};
 ghost use Rattle.output.specs.code.Chain.{ends, next};
 ghost use Rattle.output.specs.code.Output.{answer};
 ghost use Rattle.output.specs.code.Answers.{leastOf, ConstantIs, StructIs, AskedIs};
@@ -106,16 +106,16 @@ fn ask_step(
     least: u32,
     own: Parts,
     table: &[u16],
-    constants: &[u16],
+    skips: &[u16],
 ) -> Asked
-    requires { ⌜ ConstantEnds (now plan) (now constants) ⌝ }
+    requires { ⌜ Skips (now plan) (now skips) ⌝ }
     requires { ⌜ Ends (columns .edition) (now lay) (now table) ⌝ }
     requires { ⌜ RowAt (columns .edition) (now lay) (columns .count) (columns .first .at) (now rec) 0 ⌝ }
     requires { ⌜ ((x : State) × WalkAt (now plan) w x × (next x ≡ ends)) ⌝ }
     ensures { λ r. ⌜ ((X : RowAt (columns .edition) (now (lay .entry)) (columns .count) (columns .first .at) (now (rec .entry)) 0) (x : State) → WalkAt (now (plan .entry)) w x → next x ≡ ends → AskedIs (X .values .values) x least own r) ⌝ }
 {
     let v = columns.edition;
-    match source_at(lay, columns, rec, plan, w, table, constants) {
+    match source_at(lay, columns, rec, plan, w, table, skips) {
         Source::Null => Asked::Answer(Parts::None),
         Source::Record(t, c) => {
             let p = parts_at(lay, v, t, rec, c);
@@ -142,9 +142,9 @@ pub fn ask(
     least: u32,
     own: Parts,
     table: &[u16],
-    constants: &[u16],
+    skips: &[u16],
 ) -> Parts
-    requires { ⌜ ConstantEnds (now plan) (now constants) ⌝ }
+    requires { ⌜ Skips (now plan) (now skips) ⌝ }
     requires { ⌜ Ends (columns .edition) (now lay) (now table) ⌝ }
     requires { ⌜ RowAt (columns .edition) (now lay) (columns .count) (columns .first .at) (now rec) 0 ⌝ }
     requires { ⌜ ((x : State) × WalkAt (now plan) w x) ⌝ }
@@ -154,9 +154,9 @@ pub fn ask(
     let mut m = least;
     let mut known = own;
     loop {
-        let o = find_origin(plan, at, constants);
+        let o = find_origin(plan, at, skips);
         let z = o.walk;
-        match ask_step(lay, columns, rec, plan, z, m, known, table, constants) {
+        match ask_step(lay, columns, rec, plan, z, m, known, table, skips) {
             Asked::Answer(p) => return p,
             Asked::Input(l, k) => {
                 at = z.to_input();
@@ -180,15 +180,15 @@ pub fn parts_count(
     plan: &[u8],
     w: Walk,
     table: &[u16],
-    constants: &[u16],
+    skips: &[u16],
 ) -> Parts
-    requires { ⌜ ConstantEnds (now plan) (now constants) ⌝ }
+    requires { ⌜ Skips (now plan) (now skips) ⌝ }
     requires { ⌜ Ends (columns .edition) (now lay) (now table) ⌝ }
     requires { ⌜ RowAt (columns .edition) (now lay) (columns .count) (columns .first .at) (now rec) 0 ⌝ }
     requires { ⌜ ((x : State) × WalkAt (now plan) w x) ⌝ }
     ensures { λ r. ⌜ ((X : RowAt (columns .edition) (now (lay .entry)) (columns .count) (columns .first .at) (now (rec .entry)) 0) (x : State) → WalkAt (now (plan .entry)) w x → r ≡ partsOf (stateValue (X .values .values) x)) ⌝ }
 {
-    ask(lay, columns, rec, plan, w, 0, Parts::None, table, constants)
+    ask(lay, columns, rec, plan, w, 0, Parts::None, table, skips)
 }
 
 // Whether the selector where the walk stands is run at all: inside entered mappings, whether the innermost one's input
@@ -200,9 +200,9 @@ pub fn is_run(
     plan: &[u8],
     w: Walk,
     table: &[u16],
-    constants: &[u16],
+    skips: &[u16],
 ) -> bool
-    requires { ⌜ ConstantEnds (now plan) (now constants) ⌝ }
+    requires { ⌜ Skips (now plan) (now skips) ⌝ }
     requires { ⌜ Ends (columns .edition) (now lay) (now table) ⌝ }
     requires { ⌜ RowAt (columns .edition) (now lay) (columns .count) (columns .first .at) (now rec) 0 ⌝ }
     requires { ⌜ ((x : State) × WalkAt (now plan) w x) ⌝ }
@@ -221,7 +221,7 @@ pub fn is_run(
         least,
         Parts::Some(0),
         table,
-        constants,
+        skips,
     ) {
         Parts::None => false,
         Parts::Some(_) => true,
@@ -237,9 +237,9 @@ pub fn is_constant_run(
     w: Walk,
     c: Cursor,
     table: &[u16],
-    constants: &[u16],
+    skips: &[u16],
 ) -> bool
-    requires { ⌜ ConstantEnds (now plan) (now constants) ⌝ }
+    requires { ⌜ Skips (now plan) (now skips) ⌝ }
     requires { ⌜ Ends (columns .edition) (now lay) (now table) ⌝ }
     requires { ⌜ RowAt (columns .edition) (now lay) (columns .count) (columns .first .at) (now rec) 0 ⌝ }
     requires { ⌜ ((x : State) × WalkAt (now plan) w x) ⌝ }
@@ -248,5 +248,5 @@ pub fn is_constant_run(
     if is_null(plan, c) {
         return false;
     }
-    is_run(lay, columns, rec, plan, w, table, constants)
+    is_run(lay, columns, rec, plan, w, table, skips)
 }

@@ -13,7 +13,7 @@ ghost use Rattle.walk.specs.code.Walks.{WalkAt};
 ghost use Rattle.walk.specs.code.Values.{valueNode};
 ghost use Rattle.nodes.specs.code.Raw.{RawAt, RowAt, NodeOf};
 ghost use Rattle.raw.specs.code.Constant.{ConstantRaw};
-ghost use Rattle.plan.specs.code.Constants.{ConstantEnds};
+ghost use Rattle.plan.specs.code.Skips.{Skips};
 ghost use Rattle.output.specs.code.Chain.{ends, next};
 ghost use Rattle.output.specs.code.Answers.{recordSource, constantSource, StructSource, SourceIs};
 use ends::local::fill_local;
@@ -121,14 +121,14 @@ fn constant_node(plan: &[u8], w: Walk, t: Cursor) -> NodeAt
     )
 }
 
-fn struct_source(plan: &[u8], w: Walk, input: Cursor, constants: &[u16]) -> Source
-    requires { ⌜ ConstantEnds (now plan) (now constants) ⌝ }
+fn struct_source(plan: &[u8], w: Walk, input: Cursor, skips: &[u16]) -> Source
+    requires { ⌜ Skips (now plan) (now skips) ⌝ }
     ensures { λ r. ⌜ ((P : SelectorAt (now (plan .entry)) (w .at)) → StructAt (now (plan .entry)) (w .at) P (input .at) → StructSource (now (plan .entry)) w P r) ⌝ }
 {
     if w.deep < w.len {
         return Source::Null;
     }
-    let f = counted_at(plan, skip_by(plan, input, constants));
+    let f = counted_at(plan, skip_by(plan, input, skips));
     Source::Struct(f.count)
 }
 
@@ -139,9 +139,9 @@ pub fn source_at(
     plan: &[u8],
     w: Walk,
     table: &[u16],
-    constants: &[u16],
+    skips: &[u16],
 ) -> Source
-    requires { ⌜ ConstantEnds (now plan) (now constants) ⌝ }
+    requires { ⌜ Skips (now plan) (now skips) ⌝ }
     requires { ⌜ Ends (columns .edition) (now lay) (now table) ⌝ }
     requires { ⌜ RowAt (columns .edition) (now lay) (columns .count) (columns .first .at) (now rec) 0 ⌝ }
     requires { ⌜ ((x : State) × WalkAt (now plan) w x) ⌝ }
@@ -158,7 +158,7 @@ pub fn source_at(
         SelectorHead::Constant(_, t) => constant_source(constant_node(plan, w, t)),
         SelectorHead::Cast(_) => Source::Refused,
         SelectorHead::Rename(_) => Source::Refused,
-        SelectorHead::Struct(input) => struct_source(plan, w, input, constants),
+        SelectorHead::Struct(input) => struct_source(plan, w, input, skips),
         SelectorHead::List(_) => Source::List,
         SelectorHead::Array(_) => Source::Array,
         SelectorHead::Refused => Source::Refused,

@@ -6,7 +6,7 @@ ghost use Rattle.ends.specs.code.Ends.{Ends};
 ghost use Rattle.layout.specs.Limits.{longest};
 ghost use Rattle.values.specs.Encode.{encodeValue};
 ghost use Rattle.plan.specs.Run.{eval};
-ghost use Rattle.plan.specs.code.Constants.{ConstantEnds};
+ghost use Rattle.plan.specs.code.Skips.{Skips};
 ghost use Rattle.output.specs.code.Output.{Emits};
 ghost use Rattle.output.specs.code.Answers.{EmitTopAt, HandedOver};
 use crate::emit::emit;
@@ -14,7 +14,8 @@ use layout::columns::ColumnRange;
 use layout::cursor::Cursor;
 use layout::limits::DEEPEST_SELECTOR;
 use layout::limits::LONGEST;
-use plan::fill::fill_selectors;
+use plan::read::read_selectors;
+use plan::skips::SKIPS;
 use walk::walk::top;
 
 // The output's length; or it exceeds the buffer or 16,384 bytes, and nothing was written.
@@ -23,7 +24,7 @@ pub enum Written {
     TooLong,
 }
 
-// A plan of at least so many bytes is worth a table of where its long constants end.
+// A plan of at least so many bytes is worth a table of where its selectors end.
 const TABLED: usize = 1024;
 
 // What `emit_top` says, with such a table.
@@ -36,16 +37,16 @@ fn emit_column(
     out: &mut [u8],
     k: usize,
     table: &[u16],
-    constants: &[u16],
+    skips: &[u16],
 ) -> usize
-    requires { ⌜ ConstantEnds (now plan) (now constants) ⌝ }
+    requires { ⌜ Skips (now plan) (now skips) ⌝ }
     requires { ⌜ Ends (columns .edition) (now lay) (now table) ⌝ }
     requires { ⌜ EmitTopAt (columns .edition) (now lay) (columns .count) (columns .first .at) (now rec) (now plan) (c .at) ⌝ }
     requires { ⌜ k ≤ longest ⌝ }
     ensures { λ r. ⌜ ((A : EmitTopAt (columns .edition) (now (lay .entry)) (columns .count) (columns .first .at) (now (rec .entry)) (now (plan .entry)) (c .at)) → Emits (now (out .entry)) k (encodeValue (eval (A .row .values .values) (A .selector .tree))) r (now (out .exit))) ⌝ }
 {
     let w = top(c.at, plan.len());
-    emit(lay, columns, rec, plan, w, out, k, table, constants)
+    emit(lay, columns, rec, plan, w, out, k, table, skips)
 }
 
 // What the selector of a column of the plan gives, from an index on; where it ends, or past the limit.
@@ -68,9 +69,9 @@ pub fn emit_top(
         let none = [0u16; 1];
         return emit_column(lay, columns, rec, plan, c, out, k, table, &none);
     }
-    let mut constants = [0u16; 2048];
-    fill_selectors(plan, DEEPEST_SELECTOR, 1, c, &mut constants);
-    emit_column(lay, columns, rec, plan, c, out, k, table, &constants)
+    let mut skips = [0u16; SKIPS];
+    read_selectors(plan, DEEPEST_SELECTOR, 1, c, &mut skips);
+    emit_column(lay, columns, rec, plan, c, out, k, table, &skips)
 }
 
 // Where an output is written before it is known to fit.

@@ -11,7 +11,7 @@ ghost use Rattle.layout.specs.Tree.{dtypeOf, fieldsOf};
 ghost use Rattle.layout.specs.code.Stands.{TypeAt, ColumnsAt};
 ghost use Rattle.layout.specs.Limits.{deepest};
 ghost use Rattle.plan.specs.Run.{clean, eval};
-ghost use Rattle.plan.specs.code.Constants.{ConstantEnds};
+ghost use Rattle.plan.specs.code.Skips.{Skips};
 ghost use Rattle.overflow.specs.code.Ranges.{RecordAt};
 ghost use Rattle.overflow.specs.code.Leaves.{leaves, leavesFrom};
 ghost use Rattle.overflow.specs.code.Overflows.{TopAt, ElementTypeAt, overAt, partPath, started};
@@ -30,7 +30,8 @@ use layout::types::Head;
 use layout::walk::skip_type;
 use nodes::places::TopPath;
 use nodes::places::TypePlace;
-use plan::fill::fill_selectors;
+use plan::read::read_selectors;
+use plan::skips::SKIPS;
 use walk::walk::Walk;
 
 const HALF: u64 = 9223372036854775808;
@@ -79,9 +80,9 @@ fn over_leaf(
     path: TopPath,
     u: TimeUnit,
     table: &[u16],
-    constants: &[u16],
+    skips: &[u16],
 ) -> bool
-    requires { ⌜ ConstantEnds (now plan) (now constants) ⌝ }
+    requires { ⌜ Skips (now plan) (now skips) ⌝ }
     requires { ⌜ Ends (columns .edition) (now lay) (now table) ⌝ }
     requires { ⌜ ((X : RecordAt (now lay) columns (now rec)) × TopAt (now plan) (path .top) (fieldsOf (X .columns .columns))) ⌝ }
     requires { ⌜ (path .len ≤ 64) × (length (path .steps) ≡ 64) ⌝ }
@@ -100,7 +101,7 @@ fn over_leaf(
         w,
         Want::Beyond(bounds, u),
         table,
-        constants,
+        skips,
     )
 }
 
@@ -114,9 +115,9 @@ fn over_type(
     tgt: &[u8],
     place: TypePlace,
     table: &[u16],
-    constants: &[u16],
+    skips: &[u16],
 ) -> bool
-    requires { ⌜ ConstantEnds (now plan) (now constants) ⌝ }
+    requires { ⌜ Skips (now plan) (now skips) ⌝ }
     requires { ⌜ Ends (columns .edition) (now lay) (now table) ⌝ }
     requires { ⌜ ((X : RecordAt (now lay) columns (now rec)) × TopAt (now plan) (path .top) (fieldsOf (X .columns .columns))) ⌝ }
     requires { ⌜ TypeAt (place .edition) (place .depth) (now tgt) (place .at .at) × (path .len + place .depth ≤ deepest) × (length (path .steps) ≡ 64) ⌝ }
@@ -128,7 +129,7 @@ fn over_type(
         Head::Leaf(l, _) => {
             let leaf = l.leaf;
             match time_of(leaf) {
-                Timed::In(u) => over_leaf(lay, columns, rec, plan, path, u, table, constants),
+                Timed::In(u) => over_leaf(lay, columns, rec, plan, path, u, table, skips),
                 Timed::Never => false,
             }
         }
@@ -139,7 +140,7 @@ fn over_type(
                 count: m,
                 first: e,
             };
-            over_fields(lay, columns, rec, plan, path, tgt, fields, table, constants)
+            over_fields(lay, columns, rec, plan, path, tgt, fields, table, skips)
         }
         Head::List(e) => {
             let element = TypePlace {
@@ -147,17 +148,7 @@ fn over_type(
                 depth: place.depth - 1,
                 at: e,
             };
-            over_element(
-                lay,
-                columns,
-                rec,
-                plan,
-                path,
-                tgt,
-                element,
-                table,
-                constants,
-            )
+            over_element(lay, columns, rec, plan, path, tgt, element, table, skips)
         }
         Head::Array(_, e) => {
             let element = TypePlace {
@@ -165,17 +156,7 @@ fn over_type(
                 depth: place.depth - 1,
                 at: e,
             };
-            over_element(
-                lay,
-                columns,
-                rec,
-                plan,
-                path,
-                tgt,
-                element,
-                table,
-                constants,
-            )
+            over_element(lay, columns, rec, plan, path, tgt, element, table, skips)
         }
         Head::Refused(_) => true,
     }
@@ -191,9 +172,9 @@ fn over_element(
     tgt: &[u8],
     place: TypePlace,
     table: &[u16],
-    constants: &[u16],
+    skips: &[u16],
 ) -> bool
-    requires { ⌜ ConstantEnds (now plan) (now constants) ⌝ }
+    requires { ⌜ Skips (now plan) (now skips) ⌝ }
     requires { ⌜ Ends (columns .edition) (now lay) (now table) ⌝ }
     requires { ⌜ ((X : RecordAt (now lay) columns (now rec)) × TopAt (now plan) (path .top) (fieldsOf (X .columns .columns))) ⌝ }
     requires { ⌜ ElementTypeAt (place .edition) (place .depth) (now tgt) (place .at .at) × (path .len + 1 + place .depth ≤ deepest) × (length (path .steps) ≡ 64) ⌝ }
@@ -206,17 +187,7 @@ fn over_element(
         Labelled::Is(_, at) => {
             let below = part_path(path, 0);
             let element = TypePlace { edition, depth, at };
-            over_type(
-                lay,
-                columns,
-                rec,
-                plan,
-                below,
-                tgt,
-                element,
-                table,
-                constants,
-            )
+            over_type(lay, columns, rec, plan, below, tgt, element, table, skips)
         }
         Labelled::Refused(_) => true,
     }
@@ -232,9 +203,9 @@ fn over_fields(
     tgt: &[u8],
     fields: FieldsPlace,
     table: &[u16],
-    constants: &[u16],
+    skips: &[u16],
 ) -> bool
-    requires { ⌜ ConstantEnds (now plan) (now constants) ⌝ }
+    requires { ⌜ Skips (now plan) (now skips) ⌝ }
     requires { ⌜ Ends (columns .edition) (now lay) (now table) ⌝ }
     requires { ⌜ ((X : RecordAt (now lay) columns (now rec)) × TopAt (now plan) (path .top) (fieldsOf (X .columns .columns))) ⌝ }
     requires { ⌜ ColumnsAt (fields .edition) (fields .depth) (now tgt) (fields .count) (fields .first .at) × (path .len + 1 + fields .depth ≤ deepest) × (length (path .steps) ≡ 64) ⌝ }
@@ -254,7 +225,7 @@ fn over_fields(
                     depth,
                     at: e,
                 };
-                if over_type(lay, columns, rec, plan, below, tgt, place, table, constants) {
+                if over_type(lay, columns, rec, plan, below, tgt, place, table, skips) {
                     return true;
                 }
                 d = skip_type(tgt, edition, depth, e);
@@ -267,7 +238,7 @@ fn over_fields(
 }
 
 // In the column that the selector at `top` gives, whose type in the target stands at `place`. In a long plan the
-// selector is passed once before, for a table of where its constants end.
+// selector is read once before, for a table of where what is in it ends.
 pub fn top_overflows(
     lay: &[u8],
     columns: ColumnRange,
@@ -292,7 +263,7 @@ pub fn top_overflows(
         let none = [0u16; 1];
         return over_type(lay, columns, rec, plan, path, tgt, place, table, &none);
     }
-    let mut constants = [0u16; 2048];
-    fill_selectors(plan, DEEPEST_SELECTOR, 1, top, &mut constants);
-    over_type(lay, columns, rec, plan, path, tgt, place, table, &constants)
+    let mut skips = [0u16; SKIPS];
+    read_selectors(plan, DEEPEST_SELECTOR, 1, top, &mut skips);
+    over_type(lay, columns, rec, plan, path, tgt, place, table, &skips)
 }

@@ -8,7 +8,7 @@ ghost use mathlib.Core.Path.{_≡_};
 ghost use Rattle.ends.specs.code.Ends.{Ends};
 ghost use Rattle.layout.specs.Tree.{fieldsOf};
 ghost use Rattle.plan.specs.Run.{eval};
-ghost use Rattle.plan.specs.code.Constants.{ConstantEnds};
+ghost use Rattle.plan.specs.code.Skips.{Skips};
 ghost use Rattle.overflow.specs.code.Ranges.{RecordAt};
 ghost use Rattle.overflow.specs.code.Want.{SmallWant};
 ghost use Rattle.overflow.specs.code.Some.{some};
@@ -27,9 +27,9 @@ pub fn seek(
     w: Walk,
     want: Want,
     table: &[u16],
-    constants: &[u16],
+    skips: &[u16],
 ) -> bool
-    requires { ⌜ ConstantEnds (now plan) (now constants) ⌝ }
+    requires { ⌜ Skips (now plan) (now skips) ⌝ }
     requires { ⌜ Ends (columns .edition) (now lay) (now table) ⌝ }
     requires { ⌜ ((X : RecordAt (now lay) columns (now rec)) × Seeks (now plan) w (fieldsOf (X .columns .columns))) ⌝ }
     requires { ⌜ SmallWant want ⌝ }
@@ -38,8 +38,8 @@ pub fn seek(
     let mut x = w;
     let mut asks = want;
     loop {
-        x = x.locate(plan, constants);
-        match at_stop(lay, columns, rec, plan, x, asks, table, constants) {
+        x = x.locate(plan, skips);
+        match at_stop(lay, columns, rec, plan, x, asks, table, skips) {
             Stop::No => return false,
             Stop::Yes => return true,
             Stop::Input(next) => {

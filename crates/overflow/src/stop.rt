@@ -12,7 +12,7 @@ ghost use Rattle.layout.specs.Bytes.{Bytes};
 ghost use Rattle.layout.specs.Limits.{deepest};
 ghost use Rattle.plan.specs.Run.{valueAt};
 ghost use Rattle.plan.specs.Selector.{position};
-ghost use Rattle.plan.specs.code.Constants.{ConstantEnds};
+ghost use Rattle.plan.specs.code.Skips.{Skips};
 ghost use Rattle.nodes.specs.code.Raw.{RawAt};
 ghost use Rattle.walk.specs.code.State.{State};
 ghost use Rattle.walk.specs.code.Walks.{WalkAt};
@@ -256,9 +256,9 @@ pub fn at_stop(
     w: Walk,
     want: Want,
     table: &[u16],
-    constants: &[u16],
+    skips: &[u16],
 ) -> Stop
-    requires { ⌜ ConstantEnds (now plan) (now constants) ⌝ }
+    requires { ⌜ Skips (now plan) (now skips) ⌝ }
     requires { ⌜ Ends (columns .edition) (now lay) (now table) ⌝ }
     requires { ⌜ RecordAt (now lay) columns (now rec) × ((x : State) × WalkAt (now plan) w x) ⌝ }
     requires { ⌜ SmallWant want ⌝ }
@@ -268,7 +268,7 @@ pub fn at_stop(
     match head(plan, c) {
         SelectorHead::Position(k) => at_position(lay, columns, rec, k, w, want, table),
         SelectorHead::Constant(_, t) => at_constant(plan, t, w, want),
-        SelectorHead::Cast(input) => at_cast(plan, skip_by(plan, input, constants), w, want),
+        SelectorHead::Cast(input) => at_cast(plan, skip_by(plan, input, skips), w, want),
         SelectorHead::Rename(_) => Stop::Input(want),
         SelectorHead::Struct(_) => at_struct(w, want),
         SelectorHead::List(_) => before_list(want),

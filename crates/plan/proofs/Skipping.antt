@@ -74,7 +74,8 @@ module _ {d : ℕ} {s : Bytes} where
   pass-more {from} {n} {at} P h = record { reads = after (selector d) s n 1 from (passed P .1) ∙ sym (h ∙ one (selector d) s at) }
 
   -- so many of those that are left
-  pub passing-skip : {n from i at j to : ℕ} → Passing (selector d) s n from i at → PassTo d s at j to → j ≤ n - i → i < n → Passing (selector d) s n from (i + j) to
+  pub passing-skip : {n from i at j to : ℕ} → Passing (selector d) s n from i at → PassTo d s at j to → j ≤ n - i → i < n → Passing (selector d) s n from (i
+      + j) to
   passing-skip {n} {from} {i} {at} {j} {to} a P l h = record {
     within = let w = a .within in omega arith;
     rest = a .rest ∙ ap (λ (k : ℕ). movedOf (selectors (selector d) k s at)) (let e : n - i ≡ j + (n - (i + j)) = omega arith in e) ∙ after (selector d) s j

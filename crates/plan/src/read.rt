@@ -108,6 +108,21 @@ pub fn read_selector(s: &[u8], depth: u8, c: Cursor, skips: &mut [u16]) -> Moved
     }
 }
 
+// A selector whose end is kept: the input of a mapping, the selector for each element.
+fn read_kept(s: &[u8], depth: u8, c: Cursor, skips: &mut [u16]) -> Moved
+    requires { ⌜ Skips (now s) (now skips) ⌝ }
+    ensures { λ r. ⌜ r ≡ movedOf (selector depth (now (s .entry)) (c .at)) ⌝ }
+    ensures { λ r. ⌜ Skips (now (s .entry)) (now (skips .exit)) × (length (now (skips .exit)) ≡ length (now (skips .entry))) ⌝ }
+{
+    match read_selector(s, depth, c, skips) {
+        Moved::To(d) => {
+            keep_skip(skips, depth, c, 1, d);
+            Moved::To(d)
+        }
+        Moved::Refused(k) => Moved::Refused(k),
+    }
+}
+
 // What follows a selector's code; the selectors inside have at most `depth` levels.
 fn read_rest(s: &[u8], depth: u8, code: u8, c: Cursor, skips: &mut [u16]) -> Moved
     requires { ⌜ Skips (now s) (now skips) ⌝ }
@@ -155,14 +170,11 @@ fn read_struct(s: &[u8], depth: u8, c: Cursor, skips: &mut [u16]) -> Moved
     ensures { λ r. ⌜ r ≡ movedOf (structRest (selector depth) (now (s .entry)) (c .at)) ⌝ }
     ensures { λ r. ⌜ Skips (now (s .entry)) (now (skips .exit)) × (length (now (skips .exit)) ≡ length (now (skips .entry))) ⌝ }
 {
-    match read_selector(s, depth, c, skips) {
-        Moved::To(d) => {
-            keep_skip(skips, depth, c, 1, d);
-            match d.short(s) {
-                Short::Is(n, e) => read_selectors(s, depth, n, e, skips),
-                Short::Refused(k) => Moved::Refused(k),
-            }
-        }
+    match read_kept(s, depth, c, skips) {
+        Moved::To(d) => match d.short(s) {
+            Short::Is(n, e) => read_selectors(s, depth, n, e, skips),
+            Short::Refused(k) => Moved::Refused(k),
+        },
         Moved::Refused(k) => Moved::Refused(k),
     }
 }
@@ -174,11 +186,8 @@ fn read_element_mapping(s: &[u8], depth: u8, c: Cursor, skips: &mut [u16]) -> Mo
     ensures { λ r. ⌜ r ≡ movedOf (arrayRest (selector depth) (now (s .entry)) (c .at)) ⌝ }
     ensures { λ r. ⌜ Skips (now (s .entry)) (now (skips .exit)) × (length (now (skips .exit)) ≡ length (now (skips .entry))) ⌝ }
 {
-    match read_selector(s, depth, c, skips) {
-        Moved::To(d) => {
-            keep_skip(skips, depth, c, 1, d);
-            read_selector(s, depth, d, skips)
-        }
+    match read_kept(s, depth, c, skips) {
+        Moved::To(d) => read_kept(s, depth, d, skips),
         Moved::Refused(k) => Moved::Refused(k),
     }
 }

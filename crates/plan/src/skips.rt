@@ -46,6 +46,19 @@ fn number_at(skips: &[u16], k: usize) -> usize
     if k < skips.len() { wide(skips[k]) } else { 0 }
 }
 
+// How many entries there are; what entry `i` is about: from where to where.
+pub fn kept_count(skips: &[u16]) -> u16 {
+    if 0 < skips.len() { skips[0] } else { 0 }
+}
+
+pub fn kept_from(skips: &[u16], i: u16) -> usize {
+    number_at(skips, 2560 + 3 * wide(i))
+}
+
+pub fn kept_to(skips: &[u16], i: u16) -> usize {
+    number_at(skips, 2562 + 3 * wide(i))
+}
+
 // The entry `i`, one more than its number, if it is one of at most `most` selectors at `at`.
 fn entry_at(skips: &[u16], i: usize, at: usize, most: u16) -> Skip
     ensures { λ r. ⌜ ((s : Bytes) → Skips s (now (skips .entry)) → SkipIs s at most r) ⌝ }

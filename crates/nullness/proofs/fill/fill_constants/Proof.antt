@@ -8,10 +8,10 @@ use Rattle.nullness.proofs.fill.fill_constants.Statement.{statement}
 use Rattle.nullness.proofs.fill.fill_constants.Tie as tie
 
 abbrev Inv-loop : tie.InvT-loop
-Inv-loop plan constants nulls₀ pairs i₀ nulls i = Nulls plan nulls × (length nulls ≡ length nulls₀)
+Inv-loop plan skips nulls₀ pairs i₀ nulls i = Nulls plan nulls × (length nulls ≡ length nulls₀)
 
 abbrev μ-loop : tie.MeasureT-loop
-μ-loop plan constants nulls₀ pairs i₀ nulls i = pairs - i
+μ-loop plan skips nulls₀ pairs i₀ nulls i = pairs - i
 
 pub fill-constants-spec : {M : Type 1} → statement M
 fill-constants-spec =

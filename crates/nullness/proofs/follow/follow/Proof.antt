@@ -7,10 +7,10 @@ use Rattle.nullness.proofs.follow.follow.Statement.{statement}
 use Rattle.nullness.proofs.follow.follow.Tie as tie
 
 abbrev Inv-loop : tie.InvT-loop
-Inv-loop incoming columns index plan nulls constants x₀ x = Followings incoming columns plan x₀ x
+Inv-loop incoming columns index plan nulls skips x₀ x = Followings incoming columns plan x₀ x
 
 abbrev μ-loop : tie.MeasureT-loop
-μ-loop incoming columns index plan nulls constants x₀ x = rank x
+μ-loop incoming columns index plan nulls skips x₀ x = rank x
 
 pub follow-spec : {M : Type 1} → statement M
 follow-spec =

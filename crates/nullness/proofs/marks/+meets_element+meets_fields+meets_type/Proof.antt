@@ -94,11 +94,11 @@ meets-type-claims t = (
 )
 
 abbrev meets-fields-Inv-loop : meets-fields-lts.InvT-loop
-meets-fields-Inv-loop incoming columns index plan nulls path tgt constants edition depth count d₀ i₀ d i =
+meets-fields-Inv-loop incoming columns index plan nulls path tgt skips edition depth count d₀ i₀ d i =
     Fieldings incoming columns plan path edition depth tgt count (d₀ .at) i (d .at)
 
 abbrev meets-fields-μ-loop : meets-fields-lts.MeasureT-loop
-meets-fields-μ-loop incoming columns index plan nulls path tgt constants edition depth count d₀ i₀ d i = count - i
+meets-fields-μ-loop incoming columns index plan nulls path tgt skips edition depth count d₀ i₀ d i = count - i
 
 pub +meets-element+meets-fields+meets-type-spec : {M : Type 1} → statement M
 +meets-element+meets-fields+meets-type-spec =

@@ -1,5 +1,5 @@
 -- `nullness::marks::meets_by_table` meets its contract: the tables are those of the plan's constants. Assumes nothing.
-use Rattle.plan.proofs.Entries.{constants-none}
+use Rattle.plan.proofs.Skipping.{skips-none}
 use Rattle.nullness.proofs.NullsTable.{nulls-zeros}
 use borrow.Author.Needs.{needs}
 use Rattle.nullness.proofs.marks.meets_by_table.Statement.{statement}
@@ -10,7 +10,7 @@ meets-by-table-spec =
     tie.close
     (tie.spec
     (λ c. search needs)
-    (λ c κs. constants-none 2048)
+    (λ c κs. skips-none 7168)
     (λ c. search needs)
     (λ c. search needs)
     (λ c κs. nulls-zeros 1088)

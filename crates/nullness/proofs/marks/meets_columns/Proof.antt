@@ -11,11 +11,11 @@ use Rattle.nullness.proofs.marks.meets_columns.Statement.{statement}
 use Rattle.nullness.proofs.marks.meets_columns.Tie as tie
 
 abbrev Inv-loop : tie.InvT-loop
-Inv-loop incoming columns index plan nulls tgt constants edition count s₀ d₀ i₀ s d i =
+Inv-loop incoming columns index plan nulls tgt skips edition count s₀ d₀ i₀ s d i =
     Columnings incoming columns plan (s₀ .at) tgt edition count (d₀ .at) (s .at) (d .at) i
 
 abbrev μ-loop : tie.MeasureT-loop
-μ-loop incoming columns index plan nulls tgt constants edition count s₀ d₀ i₀ s d i = count - i
+μ-loop incoming columns index plan nulls tgt skips edition count s₀ d₀ i₀ s d i = count - i
 
 pub meets-columns-spec : {M : Type 1} → statement M
 meets-columns-spec =

@@ -1,7 +1,7 @@
 -- `nullness::marks::meets_marks` meets its contract: the table is that of the incoming columns. Assumes nothing.
 use mathlib.Core.Path.{refl, sym}
 use lib.Seq.{length-take-le}
-use Rattle.plan.proofs.Entries.{constants-none}
+use Rattle.plan.proofs.Skipping.{skips-none}
 use Rattle.nullness.proofs.Marking.{stride-as}
 use Rattle.nullness.proofs.NullsTable.{nulls-none}
 use borrow.Author.Needs.{needs}
@@ -22,7 +22,7 @@ meets-marks-spec =
     (λ c. search needs)
     (λ c κs.
     let c5 = c .before .before .before .before .before in let c7 = c5 .before .before in let c11 = c7 .before .before .before .before in
-    (constants-none 1, ((stride-as (c7 .stride-of .ensures .0) (c5 .index-columns .ensures .1), nulls-none refl), c11 .pre)))
+    (skips-none 1, ((stride-as (c7 .stride-of .ensures .0) (c5 .index-columns .ensures .1), nulls-none refl), c11 .pre)))
     (λ c. λ P D S. c .meets-columns .ensures P D S)
     (λ c. search needs)
     (λ c. sym (length-take-le _ _ (c .before .before .before .index-columns .ensures .0)))

@@ -9,11 +9,11 @@ use Rattle.output.proofs.casts.find_origin.Statement.{statement}
 use Rattle.output.proofs.casts.find_origin.Tie as tie
 
 abbrev Inv-loop : tie.InvT-loop
-Inv-loop plan constants at₀ ends₀ casts₀ at ends casts =
+Inv-loop plan skips at₀ ends₀ casts₀ at ends casts =
     EndsAt plan ends × ((x : State) × WalkAt plan at₀ x × Stopped x) × ((x : State) → WalkAt plan at₀ x → Stopped x → Passing plan x at₀ casts at)
 
 abbrev μ-loop : tie.MeasureT-loop
-μ-loop plan constants at₀ ends₀ casts₀ at ends casts = rank at
+μ-loop plan skips at₀ ends₀ casts₀ at ends casts = rank at
 
 pub find-origin-spec : {M : Type 1} → statement M
 find-origin-spec =

@@ -12,12 +12,12 @@ use Rattle.output.proofs.casts.last_kinds.Statement.{statement}
 use Rattle.output.proofs.casts.last_kinds.Tie as tie
 
 abbrev Inv-loop : tie.InvT-loop
-Inv-loop plan i constants kinds₀ at₀ ends₀ left₀ kinds at ends left =
+Inv-loop plan i skips kinds₀ at₀ ends₀ left₀ kinds at ends left =
     EndsAt plan ends × ((y : State) × WalkAt plan at y × Stopped y)
     × ((x z : State) (ks : List Leaf) → WalkAt plan at₀ x → Stopped x → Ahead z ks i i x → Keeping plan z ks i left kinds at)
 
 abbrev μ-loop : tie.MeasureT-loop
-μ-loop plan i constants kinds₀ at₀ ends₀ left₀ kinds at ends left = rank at
+μ-loop plan i skips kinds₀ at₀ ends₀ left₀ kinds at ends left = rank at
 
 pub last-kinds-spec : {M : Type 1} → statement M
 last-kinds-spec =

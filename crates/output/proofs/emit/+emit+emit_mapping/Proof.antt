@@ -106,14 +106,14 @@ abbrev count : {v : Edition} {lay : Bytes} {n t : ℕ} {rec plan : Bytes} {w : W
 count A = countValues (parts (stateValue (A .row .values .values) (A .state)))
 
 abbrev emit-mapping-Inv-loop : emit-mapping-lts.InvT-loop
-emit-mapping-Inv-loop lay columns rec plan w out₀ k table constants m at₀ c₀ i₀ out at c i =
+emit-mapping-Inv-loop lay columns rec plan w out₀ k table skips m at₀ c₀ i₀ out at c i =
     ((A : EmitAt (columns .edition) lay (columns .count) (columns .first .at) rec plan w) × Mapped (A .state) × (m ≡ count A))
     × Reached plan (w .at) i (c .at) × (length out ≡ length out₀)
     × ((A : EmitAt (columns .edition) lay (columns .count) (columns .first .at) rec plan w) → Mapped (A .state) → m ≡ count A
     → Rowing (parts (stateValue (A .row .values .values) (A .state))) out₀ at₀ i at out)
 
 abbrev emit-mapping-μ-loop : emit-mapping-lts.MeasureT-loop
-emit-mapping-μ-loop lay columns rec plan w out₀ k table constants m at₀ c₀ i₀ out at c i = m - i
+emit-mapping-μ-loop lay columns rec plan w out₀ k table skips m at₀ c₀ i₀ out at c i = m - i
 
 pub +emit+emit-mapping-spec : {M : Type 1} → statement M
 +emit+emit-mapping-spec = close μ-emit μ-emit-mapping (λ t. emit-lts.spec (emit-claims t)

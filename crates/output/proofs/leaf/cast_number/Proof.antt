@@ -13,12 +13,12 @@ use Rattle.output.proofs.leaf.cast_number.Statement.{statement}
 use Rattle.output.proofs.leaf.cast_number.Tie as tie
 
 abbrev Inv-loop : tie.InvT-loop
-Inv-loop plan w casts n constants k₀ x₀ i₀ k x i =
+Inv-loop plan w casts n skips k₀ x₀ i₀ k x i =
     ((y : State) × WalkAt plan w y)
     × ((y z : State) (ks : List Leaf) → WalkAt plan w y → Passed y ks z → length ks ≡ i₀ → Casting ks (vnumber k₀ x₀) i (vnumber k x))
 
 abbrev μ-loop : tie.MeasureT-loop
-μ-loop plan w casts n constants k₀ x₀ i₀ k x i = i
+μ-loop plan w casts n skips k₀ x₀ i₀ k x i = i
 
 pub cast-number-spec : {M : Type 1} → statement M
 cast-number-spec =

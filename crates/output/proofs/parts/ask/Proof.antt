@@ -10,13 +10,13 @@ use Rattle.output.proofs.parts.ask.Statement.{statement}
 use Rattle.output.proofs.parts.ask.Tie as tie
 
 abbrev Inv-loop : tie.InvT-loop
-Inv-loop lay columns rec plan least table constants at₀ m₀ known₀ at m known =
+Inv-loop lay columns rec plan least table skips at₀ m₀ known₀ at m known =
     RowAt (columns .edition) lay (columns .count) (columns .first .at) rec 0 × ((x : State) × WalkAt plan at x)
     × ((X : RowAt (columns .edition) lay (columns .count) (columns .first .at) rec 0) (x : State)
     → WalkAt plan at₀ x → Asking (X .values .values) plan x m₀ known₀ at m known)
 
 abbrev μ-loop : tie.MeasureT-loop
-μ-loop lay columns rec plan least table constants at₀ m₀ known₀ at m known = rank at
+μ-loop lay columns rec plan least table skips at₀ m₀ known₀ at m known = rank at
 
 pub ask-spec : {M : Type 1} → statement M
 ask-spec =

@@ -1,4 +1,4 @@
-use Rattle.plan.proofs.Entries.{constants-none}
+use Rattle.plan.proofs.Skipping.{skips-none}
 use borrow.Author.Needs.{needs}
 use Rattle.output.proofs.write.emit_top.Statement.{statement}
 use Rattle.output.proofs.write.emit_top.Tie as tie
@@ -8,11 +8,11 @@ emit-top-spec =
     tie.close
     (tie.spec
     (λ c. search needs)
-    (λ c κs. (constants-none 1, c .before .before .before .before .before .before .before .before .pre))
+    (λ c κs. (skips-none 1, c .before .before .before .before .before .before .before .before .pre))
     (λ c. search needs)
     (λ c. search needs)
     (λ c. search needs)
-    (λ c κs. constants-none 2048)
+    (λ c κs. skips-none 7168)
     (λ c. search needs)
     (λ c κs. search needs)
     (λ c. search needs)

@@ -102,11 +102,11 @@ over-type-claims t = (
 )
 
 abbrev over-fields-Inv-loop : over-fields-lts.InvT-loop
-over-fields-Inv-loop lay columns rec plan path tgt table constants edition depth count d₀ i₀ d i =
+over-fields-Inv-loop lay columns rec plan path tgt table skips edition depth count d₀ i₀ d i =
     Fieldings lay columns rec plan path edition depth tgt count (d₀ .at) i (d .at)
 
 abbrev over-fields-μ-loop : over-fields-lts.MeasureT-loop
-over-fields-μ-loop lay columns rec plan path tgt table constants edition depth count d₀ i₀ d i = count - i
+over-fields-μ-loop lay columns rec plan path tgt table skips edition depth count d₀ i₀ d i = count - i
 
 pub +over-element+over-fields+over-type-spec : {M : Type 1} → statement M
 +over-element+over-fields+over-type-spec =

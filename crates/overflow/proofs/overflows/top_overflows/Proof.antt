@@ -1,7 +1,7 @@
 -- `overflow::overflows::top_overflows` meets its contract: a value has an overflow just where a path to a leaf has one;
 -- a table that was filled is true. Assumes nothing.
 use Rattle.overflow.proofs.Columns.{top-unclean}
-use Rattle.plan.proofs.Entries.{constants-none}
+use Rattle.plan.proofs.Skipping.{skips-none}
 use lib.ListN.{length-replicate}
 use native.Mathlib.Omega.{arith}
 use Prim.Native.Nat.{ℕ}
@@ -16,18 +16,18 @@ top-overflows-spec =
     (λ c. search needs)
     (λ c κs.
     let c7 = c .before .before .before .before .before .before .before in
-    (constants-none 1, (c7 .pre .0, (c7 .pre .1 .0, (c7 .pre .1 .1 .0, omega (arith, c7 .pre .1 .1 .1), length-replicate {A = ℕ} 64 0)))))
+    (skips-none 1, (c7 .pre .0, (c7 .pre .1 .0, (c7 .pre .1 .1 .0, omega (arith, c7 .pre .1 .1 .1), length-replicate {A = ℕ} 64 0)))))
     (λ c.
     let c5 = c .before .before .before .before .before in
     λ X T Q e. top-unclean (λ i. omega (arith, c5 .before .shared-slice-known2 .given i)) (λ i. omega (arith, c5 .shared-slice-known3 .given i)) X T e
     (c .over-type .ensures X T Q))
     (λ c. search needs)
-    (λ c κs. constants-none 2048)
+    (λ c κs. skips-none 7168)
     (λ c. search needs)
     (λ c κs.
     let c2 = c .before .before in
     let c10 = c2 .before .before .before .before .before .before .before .before in
-    (c2 .fill-selectors .ensures .0, (c10 .pre .0, (c10 .pre .1 .0, (c10 .pre .1 .1 .0, omega (arith, c10 .pre .1 .1 .1), length-replicate {A = ℕ} 64 0)))))
+    (c2 .read-selectors .ensures .0, (c10 .pre .0, (c10 .pre .1 .0, (c10 .pre .1 .1 .0, omega (arith, c10 .pre .1 .1 .1), length-replicate {A = ℕ} 64 0)))))
     (λ c.
     let c8 = c .before .before .before .before .before .before .before .before in
     λ X T Q e. top-unclean (λ i. omega (arith, c8 .before .shared-slice-known2 .given i)) (λ i. omega (arith, c8 .shared-slice-known3 .given i)) X T e

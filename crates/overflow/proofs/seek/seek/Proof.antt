@@ -8,10 +8,10 @@ use Rattle.overflow.proofs.seek.seek.Statement.{statement}
 use Rattle.overflow.proofs.seek.seek.Tie as tie
 
 abbrev Inv-loop : tie.InvT-loop
-Inv-loop lay columns rec plan table constants x₀ asks₀ x asks = Going lay columns rec plan x₀ asks₀ x asks
+Inv-loop lay columns rec plan table skips x₀ asks₀ x asks = Going lay columns rec plan x₀ asks₀ x asks
 
 abbrev μ-loop : tie.MeasureT-loop
-μ-loop lay columns rec plan table constants x₀ asks₀ x asks = rank x
+μ-loop lay columns rec plan table skips x₀ asks₀ x asks = rank x
 
 pub seek-spec : {M : Type 1} → statement M
 seek-spec =

@@ -30,7 +30,8 @@ part-spec =
     (c5 .before .pre .1 (selector-moved (S .starts) (S .input))))
     (λ c.
     let c2 = c .before .before in let c4 = c2 .before .before in
-    λ P m. let L = is-list (c2 .head .ensures P) (c .enum-told6 .given .1) in list-found (c4 .before .args .k) L (c4 .before .pre .1 (selector-moved (L .starts) (L .input))))
+    λ P m. let L = is-list (c2 .head .ensures P) (c .enum-told6 .given .1) in list-found (c4 .before .args .k) L (c4 .before .pre .1 (selector-moved (L
+    .starts) (L .input))))
     (λ c.
     let c2 = c .before .before in let c4 = c2 .before .before in
     λ P m. let A = is-array (c2 .head .ensures P) (c .enum-told7 .given .1) in array-found (c4 .before .args .k) A

@@ -45,10 +45,12 @@ locate-spec =
     (λ c. search needs)
     (λ c κs.
     let c3 = c .before .before .before in let c5 = c3 .before .before in let c8 = c5 .before .before .before in
-    let N = c5 .loop .inv .0 (c8 .before .pre .1 .0) (c8 .before .pre .1 .1) in enter-asks N (c3 .next-move .ensures (N .state) (N .standing)) (c .before .part .given .1))
+    let N = c5 .loop .inv .0 (c8 .before .pre .1 .0) (c8 .before .pre .1 .1) in enter-asks N (c3 .next-move .ensures (N .state) (N .standing)) (c .before
+    .part .given .1))
     (λ c.
     let c2 = c .before .before in let c4 = c2 .before .before in let c6 = c4 .before .before in let c9 = c6 .before .before .before in
-    let N = c6 .loop .inv .0 (c9 .before .pre .1 .0) (c9 .before .pre .1 .1) in walking-enter N (c4 .next-move .ensures (N .state) (N .standing)) (c2 .part .given .1)
+    let N = c6 .loop .inv .0 (c9 .before .pre .1 .0) (c9 .before .pre .1 .1) in walking-enter N (c4 .next-move .ensures (N .state) (N .standing)) (c2 .part
+    .given .1)
     (c .enter .ensures) .1)
     (λ c.
     let c2 = c .before .before in let c4 = c2 .before .before in let c5 = c4 .before in let c6 = c5 .before in (
@@ -59,10 +61,12 @@ locate-spec =
     (λ c. search needs)
     (λ c κs.
     let c3 = c .before .before .before in let c5 = c3 .before .before in let c8 = c5 .before .before .before in
-    let N = c5 .loop .inv .0 (c8 .before .pre .1 .0) (c8 .before .pre .1 .1) in leave-asks N (c3 .next-move .ensures (N .state) (N .standing)) (c .before .k .given .1))
+    let N = c5 .loop .inv .0 (c8 .before .pre .1 .0) (c8 .before .pre .1 .1) in leave-asks N (c3 .next-move .ensures (N .state) (N .standing)) (c .before .k
+    .given .1))
     (λ c.
     let c2 = c .before .before in let c4 = c2 .before .before in let c6 = c4 .before .before in let c9 = c6 .before .before .before in
-    let N = c6 .loop .inv .0 (c9 .before .pre .1 .0) (c9 .before .pre .1 .1) in walking-leave N (c4 .next-move .ensures (N .state) (N .standing)) (c2 .k .given .1)
+    let N = c6 .loop .inv .0 (c9 .before .pre .1 .0) (c9 .before .pre .1 .1) in walking-leave N (c4 .next-move .ensures (N .state) (N .standing)) (c2 .k
+    .given .1)
     (c .leave .ensures) .1)
     (λ c.
     let c2 = c .before .before in let c4 = c2 .before .before in let c5 = c4 .before in let c6 = c5 .before in (
