@@ -6,6 +6,7 @@ ghost use lib.Seq.{slice};
 ghost use Rattle.layout.specs.Tree.{DataType};
 ghost use Rattle.nodes.specs.code.Typed.{TypeIs};
 ghost use Rattle.checker.specs.code.TypesAt.{ColumnAlong, TypedAt, StoppedAt, StopIs, Resolves};
+ghost use Rattle.checker.specs.code.Tables.{Tables};
 use layout::columns::Position;
 use layout::cursor::Cursor;
 use layout::edition::Edition;
@@ -14,7 +15,7 @@ use layout::find::column_at;
 use nodes::types::type_at;
 use walk::head::SelectorHead;
 use walk::head::head;
-use walk::head::skip_selector;
+use walk::head::skip_by;
 use walk::walk::Walk;
 
 // In the incoming layout or in the plan, or it is made by a mapping.
@@ -67,7 +68,8 @@ fn in_column(
 }
 
 // What stands where no move is left.
-fn stopped(incoming: &[u8], v: Edition, n: u16, plan: &[u8], w: Walk) -> Stop
+fn stopped(incoming: &[u8], v: Edition, n: u16, plan: &[u8], w: Walk, tables: &[u16]) -> Stop
+    requires { ⌜ Tables (now incoming) v n (now plan) (now tables) ⌝ }
     requires { ⌜ ((t : DataType) × StoppedAt (now incoming) v n (now plan) w t) ⌝ }
     ensures { λ r. ⌜ ((t : DataType) → StoppedAt (now (incoming .entry)) v n (now (plan .entry)) w t → StopIs (now (incoming .entry)) v n (now (plan .entry)) w t r) ⌝ }
 {
@@ -81,7 +83,7 @@ fn stopped(incoming: &[u8], v: Edition, n: u16, plan: &[u8], w: Walk) -> Stop
             Stop::Plan(type_at(plan, Edition::One, d, path, w.deep, w.len))
         }
         SelectorHead::Cast(d) => {
-            let e = skip_selector(plan, d);
+            let e = skip_by(plan, d, tables);
             Stop::Plan(type_at(plan, Edition::One, e, path, w.deep, w.len))
         }
         SelectorHead::Rename(_) => Stop::Rename,
@@ -92,14 +94,22 @@ fn stopped(incoming: &[u8], v: Edition, n: u16, plan: &[u8], w: Walk) -> Stop
     }
 }
 
-pub fn resolve(incoming: &[u8], v: Edition, n: u16, plan: &[u8], w: Walk) -> Resolved
+pub fn resolve(
+    incoming: &[u8],
+    v: Edition,
+    n: u16,
+    plan: &[u8],
+    w: Walk,
+    tables: &[u16],
+) -> Resolved
+    requires { ⌜ Tables (now incoming) v n (now plan) (now tables) ⌝ }
     requires { ⌜ ((t : DataType) × TypedAt (now incoming) v n (now plan) w t) ⌝ }
     ensures { λ r. ⌜ ((t : DataType) → TypedAt (now (incoming .entry)) v n (now (plan .entry)) w t → Resolves (now (incoming .entry)) v n (now (plan .entry)) w t r) ⌝ }
 {
     let mut x = w;
     loop {
-        let y = x.locate(plan);
-        match stopped(incoming, v, n, plan, y) {
+        let y = x.locate(plan, tables);
+        match stopped(incoming, v, n, plan, y, tables) {
             Stop::Incoming(c) => return found_in(Source::Incoming, c, y),
             Stop::Plan(c) => return found_in(Source::Plan, c, y),
             Stop::Rename => {
