@@ -18,6 +18,11 @@ table-columns {incoming} {v} {n} {plan} {t} T =
     subst (λ (xs : List ℕ). Indexed v incoming n 7 (strideOf n) xs)
     (sym (take-all (length t - 2048) (drop 2048 t) (let e = length-drop 2048 t in omega arith))) (T .columns)
 
+-- by the stride that was worked out
+pub by-stride : {v : Edition} {s : Bytes} {n at stride : ℕ} {index : List ℕ} → stride ≡ strideOf n → Indexed v s n at (strideOf n) index
+    → Indexed v s n at stride index
+by-stride {v} {s} {n} {at} {index = index} e I = subst (λ (k : ℕ). Indexed v s n at k index) (sym e) I
+
 -- the constants are those of the first 2,048 entries
 pub constants-as : {s : Bytes} {t w : List ℕ} → take 2048 t ≡ take 2048 w → ConstantEnds s t → ConstantEnds s w
 constants-as {s} {t} {w} e T = record { right = λ i l z. go i l z }

@@ -12,6 +12,7 @@ ghost use Rattle.index.specs.code.Indexed.{strideOf, Indexed};
 ghost use Rattle.checker.specs.code.TypesAt.{NamedAt};
 ghost use Rattle.checker.specs.code.Tables.{Tables};
 ghost use Rattle.checker.specs.code.Tops.{planChecked, TopAt, TopsAt, sameFirst, NextColumns, FitsTop, TopIs};
+use crate::resolve::INDEX;
 use crate::same::Ends;
 use crate::same::same_column;
 use crate::selector::Checked;
@@ -201,7 +202,7 @@ pub fn check_each(
             count: left,
             first: b,
         };
-        match fit_first(incoming, v, n, &tables[2048..], plan, d, target, rest) {
+        match fit_first(incoming, v, n, &tables[INDEX..], plan, d, target, rest) {
             FitEnd::At(e, f) => {
                 d = e;
                 b = f;

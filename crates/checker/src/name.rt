@@ -8,15 +8,19 @@ ghost use Rattle.layout.specs.declared.edition.Edition.{Edition as EditionOf};
 ghost use Rattle.plan.specs.Check.{Column};
 ghost use Rattle.plan.specs.code.Constants.{ConstantEnds};
 ghost use Rattle.nodes.specs.code.Typed.{TypeIs};
+ghost use Rattle.index.specs.code.Indexed.{strideOf, Indexed};
 ghost use Rattle.direct.specs.code.Places.{bytesOf, NameAt};
 ghost use Rattle.checker.specs.code.TypesAt.{PartOf, ColumnOf, NamedAt, MappedAt, ResolvedAt, OwnNameIs, MappedNameIs};
 ghost use Rattle.checker.specs.code.Tables.{Tables};
 use crate::part::enclosing;
+use crate::resolve::INDEX;
 use crate::resolve::Resolved;
 use crate::resolve::Source;
 use direct::place::Name;
 use direct::place::Place;
 use direct::place::named;
+use index::columns::indexed_column;
+use index::columns::stride_of;
 use layout::bytes::Span;
 use layout::columns::Position;
 use layout::cursor::Cursor;
@@ -72,11 +76,12 @@ fn raw_name(s: &[u8], v: Edition, place: Place, c: Cursor, k: u16) -> Name
 }
 
 // Of the column `k` of the incoming layout.
-fn column_name(incoming: &[u8], v: Edition, n: u16, k: Position) -> Name
+fn column_name(incoming: &[u8], v: Edition, n: u16, k: Position, index: &[u16]) -> Name
+    requires { ⌜ Indexed v (now incoming) n 7 (strideOf n) (now index) ⌝ }
     requires { ⌜ ((a : Column) × ColumnOf (now incoming) v n k a) ⌝ }
     ensures { λ r. ⌜ ((plan : Bytes) (a : Column) → ColumnOf (now (incoming .entry)) v n k a → NameAt (now (incoming .entry)) plan r (a .name)) ⌝ }
 {
-    match column_at(incoming, v, 16, n, Cursor { at: 7 }, k) {
+    match indexed_column(incoming, v, n, Cursor { at: 7 }, index, stride_of(n), k) {
         Found::At(_, l, _) => named(Place::Incoming, l.name),
         Found::Absent => no_name(Place::Incoming),
     }
@@ -150,7 +155,7 @@ pub fn name_at(incoming: &[u8], v: Edition, n: u16, plan: &[u8], w: Walk, tables
             }
             OwnName::Position(k) => {
                 if x.deep == 0 {
-                    return column_name(incoming, v, n, k);
+                    return column_name(incoming, v, n, k, &tables[INDEX..]);
                 }
                 let r = enclosing(incoming, v, n, plan, x, tables);
                 let i = k.0;

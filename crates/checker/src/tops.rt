@@ -10,6 +10,7 @@ ghost use Rattle.overflow.specs.code.Overflows.{PlanAt};
 ghost use Rattle.checker.specs.code.Tops.{planChecked, TopsAt};
 ghost use Rattle.plan.specs.Calls.{checkPlan};
 use crate::each::check_each;
+use crate::resolve::INDEX;
 use index::columns::index_columns;
 use index::columns::stride_of;
 use infer::target::fits_target;
@@ -54,9 +55,9 @@ fn check_types(
         count: m,
         first,
     };
-    let mut tables = [0u16; 2304];
+    let mut tables = [0u16; INDEX + 256];
     fill_selectors(plan, DEEPEST_SELECTOR, count, first, &mut tables);
-    let len = index_columns(incoming, v, n, first, stride_of(n), &mut tables[2048..]);
+    let len = index_columns(incoming, v, n, first, stride_of(n), &mut tables[INDEX..]);
     check_each(
         incoming,
         v,
@@ -65,7 +66,7 @@ fn check_types(
         count,
         target,
         columns,
-        &tables[..2048 + len],
+        &tables[..INDEX + len],
     )
 }
 

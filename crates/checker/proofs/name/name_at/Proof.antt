@@ -6,6 +6,7 @@ use Rattle.walk.specs.code.Ends.{EndsAt}
 use Rattle.walk.proofs.Walks.{walk-inside}
 use denote.Ref.{now}
 use native.Mathlib.Omega.{arith}
+use Rattle.checker.proofs.Tabled.{table-columns}
 use borrow.Author.Needs.{needs}
 use Rattle.checker.proofs.name.name_at.Statement.{statement}
 use Rattle.checker.proofs.name.name_at.Tie as tie
@@ -36,12 +37,17 @@ name-at-spec =
     let c3 = c .before .before .before in let c4 = c3 .before in
     (naming-input (c4 .loop .inv .0) (c3 .own-name .ensures) (c .before .enum-told .given .1) (c .to-input .ensures), c4 .loop .inv .1))
     (λ c. search needs)
+    (λ c. c .before .before .before .before .before .before .before .before .before .before .before .pre .0 .room)
+    (λ c. c .before .before .before .before .before .before .before .before .before .before .before .pre .0 .room)
+    (λ c. search needs)
     (λ c κs.
-    let c3 = c .before .before .before in let c5 = c3 .before .before in let c6 = c5 .before in
-    (_, naming-column (c6 .loop .inv .0) (c5 .own-name .ensures) (c3 .k .given .1) (c .if1 .taken) (c6 .loop .inv .0 .start)))
+    let c4 = c .before .before .before .before in let c6 = c4 .before .before in let c7 = c6 .before in (
+      table-columns (c7 .before .before .before .before .before .pre .0),
+      (_, naming-column (c7 .loop .inv .0) (c6 .own-name .ensures) (c4 .k .given .1) (c .before .if1 .taken) (c7 .loop .inv .0 .start)),
+    ))
     (λ c.
-    let c4 = c .before .before .before .before in let c6 = c4 .before .before in let c7 = c6 .before in
-    naming-top (c7 .loop .inv .0) (c6 .own-name .ensures) (c4 .k .given .1) (c .before .if1 .taken) (c .column-name .ensures))
+    let c5 = c .before .before .before .before .before in let c7 = c5 .before .before in let c8 = c7 .before in
+    naming-top (c8 .loop .inv .0) (c7 .own-name .ensures) (c5 .k .given .1) (c .before .before .if1 .taken) (c .column-name .ensures))
     (λ c κs. (
       c .before .before .before .before .before .before .before .before .before .before .before .pre .0,
       (
