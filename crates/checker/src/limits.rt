@@ -23,6 +23,7 @@ use crate::resolve::Source;
 use crate::resolve::resolve;
 use layout::cursor::Cursor;
 use layout::edition::Edition;
+use layout::limits::LONGEST;
 use nodes::types::form_size;
 use walk::child::child_at;
 use walk::child::first_child;
@@ -319,6 +320,6 @@ pub fn list_fit(
     requires { ⌜ head < 16384 ⌝ }
     ensures { λ f. ⌜ ((b : Bool) (t : DataType) → TypedAt (now (incoming .entry)) v n (now (plan .entry)) x t → size ≡ sizeOf b t → f ≡ fitOf (depthOf t + 1) (head + length (form t)) 16 16384) ⌝ }
 {
-    let f = sized_fit(incoming, v, n, plan, x, size, 15, 16384 - head, tables);
+    let f = sized_fit(incoming, v, n, plan, x, size, 15, LONGEST - head, tables);
     around(head, f)
 }

@@ -31,6 +31,7 @@ use crate::resolve::resolve;
 use layout::columns::Position;
 use layout::cursor::Cursor;
 use layout::edition::Edition;
+use layout::limits::LONGEST;
 use walk::child::child_at;
 use walk::child::first_child;
 use walk::head::SelectorHead;
@@ -103,7 +104,7 @@ fn columns_within(incoming: &[u8], w: Walk) -> bool
     if w.deep != 0 {
         return false;
     }
-    if 16384 < incoming.len() {
+    if LONGEST < incoming.len() {
         return false;
     }
     true
@@ -127,7 +128,7 @@ fn input_within(plan: &[u8], x: Walk, scope: ScopeColumns) -> bool
     let c = Cursor { at: x.at };
     match head(plan, c) {
         SelectorHead::Position(_) => scope.within,
-        SelectorHead::Constant(_, d) => is_within(raw_fit(plan, Edition::One, d, 16, 16384)),
+        SelectorHead::Constant(_, d) => is_within(raw_fit(plan, Edition::One, d, 16, LONGEST)),
         SelectorHead::Cast(_) => true,
         SelectorHead::Rename(_) => true,
         SelectorHead::Struct(_) => true,
@@ -169,7 +170,7 @@ fn cast_result(
     if !cast_fits(incoming, plan, h, c, o) {
         return Measured::Refused(32);
     }
-    fitting(raw_fit(plan, Edition::One, c, 16, 16384))
+    fitting(raw_fit(plan, Edition::One, c, 16, LONGEST))
 }
 
 // Whether the selector at `c` transforms what another gives.
@@ -206,7 +207,7 @@ fn rename_result(
     if within {
         return Measured::Passed(size);
     }
-    fitting(sized_fit(incoming, v, n, plan, x, size, 16, 16384, tables))
+    fitting(sized_fit(incoming, v, n, plan, x, size, 16, LONGEST, tables))
 }
 
 // What the input of a mapping begins with.
