@@ -10,7 +10,14 @@ column-name-spec =
     tie.close
     (tie.spec
     (λ c κs. search needs)
-    (λ c κs. let (a, C) = c .before .before .before .pre .1 in (C .columns, (by-stride (c .stride-of .ensures .0) (c .before .before .before .pre .0), c .stride-of .ensures .1)))
+    (λ c κs. let (a, C) = c .before .before .before .pre .1 in (
+      C .columns,
+      (
+        by-stride (c .stride-of .ensures .0)
+            (c .before .before .before .pre .0),
+        c .stride-of .ensures .1,
+      ),
+    ))
     (λ c. search needs)
     (λ c κs. search needs)
     (λ c. search needs)

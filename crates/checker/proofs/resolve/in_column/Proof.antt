@@ -11,7 +11,14 @@ in-column-spec =
     tie.close
     (tie.spec
     (λ c κs. search needs)
-    (λ c κs. let (t, A) = c .before .before .before .pre .1 .0 in (A .columns, (by-stride (c .stride-of .ensures .0) (c .before .before .before .pre .0), c .stride-of .ensures .1)))
+    (λ c κs. let (t, A) = c .before .before .before .pre .1 .0 in (
+      A .columns,
+      (
+        by-stride (c .stride-of .ensures .0)
+            (c .before .before .before .pre .0),
+        c .stride-of .ensures .1,
+      ),
+    ))
     (λ c. search needs)
     (λ c κs. let (t, A) = c .before .before .before .before .before .before .before .pre .1 .0 in (
       (
