@@ -15,5 +15,6 @@ pub mod Casting
 pub mod Checks
 pub mod Within
 pub mod Selecting
+pub mod Tabled
 pub mod Topping
 pub mod Required

@@ -463,10 +463,6 @@ module _ {incoming : Bytes} {v : Edition} {n : ℕ} {plan : Bytes} {count from :
 
 -- ---- check_types
 
-pub strided : {v : Edition} {s : Bytes} {n at stride : ℕ} {index : List ℕ} → stride ≡ strideOf n → Indexed v s n at stride index
-    → Indexed v s n at (strideOf n) index
-strided {v} {s} {n} {at} {index = index} e I = subst (λ (k : ℕ). Indexed v s n at k index) e I
-
 pub read-direct : {incoming : Bytes} {v : Edition} {n : ℕ} {plan : Bytes} {count at : ℕ} {Γ : Fields} {ss : Selectors}
     (T : TopsAt incoming v n plan count at Γ ss) (Δ : Fields)
     → check (fieldsOf (T .columns .columns)) Δ (T .selectors .trees) ≡ accepted tt → PlanChecked.Passed ≡ planChecked (check Γ Δ ss)

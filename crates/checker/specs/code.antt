@@ -1,5 +1,6 @@
 pub mod Shallow
 pub mod TypesAt
+pub mod Tables
 pub mod Limits
 pub mod Same
 pub mod Checking

@@ -10,7 +10,9 @@ ghost use Rattle.plan.specs.Selector.{Selectors};
 ghost use Rattle.plan.specs.Check.{Column, check};
 ghost use Rattle.index.specs.code.Indexed.{strideOf, Indexed};
 ghost use Rattle.checker.specs.code.TypesAt.{NamedAt};
+ghost use Rattle.checker.specs.code.Tables.{Tables};
 ghost use Rattle.checker.specs.code.Tops.{planChecked, TopAt, TopsAt, sameFirst, NextColumns, FitsTop, TopIs};
+use crate::resolve::INDEX;
 use crate::same::Ends;
 use crate::same::same_column;
 use crate::selector::Checked;
@@ -32,7 +34,7 @@ use layout::limits::LONGEST_PLAN;
 use layout::pass::pass_label;
 use layout::pass::pass_type;
 use nodes::places::TypePlace;
-use walk::head::skip_selector;
+use walk::head::skip_by;
 use walk::walk::Walk;
 use walk::walk::top;
 
@@ -119,7 +121,9 @@ fn still_same(
     target: &[u8],
     columns: ColumnRange,
     same: bool,
+    tables: &[u16],
 ) -> bool
+    requires { ⌜ Tables (now incoming) v n (now plan) (now tables) ⌝ }
     requires { ⌜ ((a : Column) × NamedAt (now incoming) v n (now plan) w a) ⌝ }
     requires { ⌜ ColumnsAt (columns .edition) deepest (now target) (columns .count) (columns .first .at) ⌝ }
     ensures { λ r. ⌜ ((a : Column) (Q : ColumnsAt (columns .edition) deepest (now (target .entry)) (columns .count) (columns .first .at)) → NamedAt (now (incoming .entry)) v n (now (plan .entry)) w a → r ≡ (same && sameFirst a (fieldsOf (Q .columns)))) ⌝ }
@@ -134,7 +138,7 @@ fn still_same(
     let depth = DEEPEST;
     let at = columns.first;
     let place = TypePlace { edition, depth, at };
-    match same_column(incoming, v, n, plan, w, target, place) {
+    match same_column(incoming, v, n, plan, w, target, place, tables) {
         Ends::At(_) => true,
         Ends::Differ => false,
     }
@@ -150,17 +154,19 @@ fn check_top(
     target: &[u8],
     columns: ColumnRange,
     same: bool,
+    tables: &[u16],
 ) -> Top
+    requires { ⌜ Tables (now incoming) v n (now plan) (now tables) ⌝ }
     requires { ⌜ ((Γ : Fields) × TopAt (now incoming) v n (now plan) (c .at) Γ) ⌝ }
     requires { ⌜ ColumnsAt (columns .edition) deepest (now target) (columns .count) (columns .first .at) ⌝ }
     ensures { λ r. ⌜ ((Γ : Fields) (T : TopAt (now (incoming .entry)) v n (now (plan .entry)) (c .at) Γ) (Q : ColumnsAt (columns .edition) deepest (now (target .entry)) (columns .count) (columns .first .at)) → TopIs T Q same r) ⌝ }
 {
-    let e = skip_selector(plan, c);
+    let e = skip_by(plan, c, tables);
     let w = top(c.at, e.at);
-    match check_selector(incoming, v, n, plan, w) {
+    match check_selector(incoming, v, n, plan, w, tables) {
         Checked::Passed => {
             let f = next_column(target, columns);
-            let b = still_same(incoming, v, n, plan, w, target, columns, same);
+            let b = still_same(incoming, v, n, plan, w, target, columns, same, tables);
             Top::Passed(e, f, b)
         }
         Checked::Refused(j) => Top::Refused(j),
@@ -172,15 +178,15 @@ pub fn check_each(
     incoming: &[u8],
     v: Edition,
     n: u16,
-    index: &[u16],
     plan: &[u8],
     count: u16,
     target: &[u8],
     columns: ColumnRange,
+    tables: &[u16],
 ) -> PlanChecked
+    requires { ⌜ Tables (now incoming) v n (now plan) (now tables) ⌝ }
     requires { ⌜ ((Γ : Fields) × (ss : Selectors) × TopsAt (now incoming) v n (now plan) count 7 Γ ss) ⌝ }
     requires { ⌜ ColumnsAt (columns .edition) deepest (now target) (columns .count) (columns .first .at) ⌝ }
-    requires { ⌜ Indexed v (now incoming) n 7 (strideOf n) (now index) ⌝ }
     ensures { λ r. ⌜ ((Γ : Fields) (ss : Selectors) (Q : ColumnsAt (columns .edition) deepest (now (target .entry)) (columns .count) (columns .first .at)) → TopsAt (now (incoming .entry)) v n (now (plan .entry)) count 7 Γ ss → r ≡ planChecked (check Γ (fieldsOf (Q .columns)) ss)) ⌝ }
 {
     let vt = columns.edition;
@@ -196,12 +202,22 @@ pub fn check_each(
             count: left,
             first: b,
         };
-        match fit_first(incoming, v, n, index, plan, d, target, rest) {
+        match fit_first(incoming, v, n, &tables[INDEX..], plan, d, target, rest) {
             FitEnd::At(e, f) => {
                 d = e;
                 b = f;
             }
-            FitEnd::Unknown => match check_top(incoming, v, n, plan, d, target, rest, same) {
+            FitEnd::Unknown => match check_top(
+                incoming,
+                v,
+                n,
+                plan,
+                d,
+                target,
+                rest,
+                same,
+                tables,
+            ) {
                 Top::Passed(e, f, still) => {
                     d = e;
                     b = f;

@@ -7,6 +7,7 @@ ghost use Rattle.layout.specs.declared.edition.Edition.{Edition as EditionOf};
 ghost use Rattle.nodes.specs.code.Typed.{TypeIs};
 ghost use Rattle.direct.specs.code.Places.{bytesOf};
 ghost use Rattle.checker.specs.code.TypesAt.{MappedAt, ResolvedAt, TypeHeadIs};
+ghost use Rattle.checker.specs.code.Tables.{Tables};
 use crate::place::TypeHead;
 use crate::resolve::Resolved;
 use crate::resolve::Source;
@@ -16,8 +17,9 @@ use layout::cursor::Cursor;
 use layout::edition::Edition;
 use layout::types::Head;
 use walk::head::SelectorHead;
+use walk::head::counted_at;
 use walk::head::head;
-use walk::head::struct_fields;
+use walk::head::skip_by;
 use walk::walk::Walk;
 
 // Of a type that stands in the bytes of a place.
@@ -46,14 +48,15 @@ fn raw_width(s: &[u8], c: Cursor) -> u32
 }
 
 // The width of the array that an array mapping makes is that of its input.
-fn width(incoming: &[u8], v: Edition, n: u16, plan: &[u8], w: Walk) -> u32
+fn width(incoming: &[u8], v: Edition, n: u16, plan: &[u8], w: Walk, tables: &[u16]) -> u32
+    requires { ⌜ Tables (now incoming) v n (now plan) (now tables) ⌝ }
     requires { ⌜ ((x : ℕ) × (t : DataType) × MappedAt (now incoming) v n (now plan) w (array x t)) ⌝ }
     ensures { λ r. ⌜ ((x : ℕ) (t : DataType) → MappedAt (now (incoming .entry)) v n (now (plan .entry)) w (array x t) → r ≡ x) ⌝ }
 {
     let mut x = w;
     loop {
         let y = x.to_input();
-        let r = resolve(incoming, v, n, plan, y);
+        let r = resolve(incoming, v, n, plan, y, tables);
         let source = r.source;
         let at = r.at;
         match source {
@@ -68,7 +71,15 @@ fn width(incoming: &[u8], v: Edition, n: u16, plan: &[u8], w: Walk) -> u32
 }
 
 // Of the type that a mapping makes.
-fn mapped_head(incoming: &[u8], v: Edition, n: u16, plan: &[u8], w: Walk) -> TypeHead
+fn mapped_head(
+    incoming: &[u8],
+    v: Edition,
+    n: u16,
+    plan: &[u8],
+    w: Walk,
+    tables: &[u16],
+) -> TypeHead
+    requires { ⌜ Tables (now incoming) v n (now plan) (now tables) ⌝ }
     requires { ⌜ ((t : DataType) × MappedAt (now incoming) v n (now plan) w t) ⌝ }
     ensures { λ r. ⌜ ((t : DataType) → MappedAt (now (incoming .entry)) v n (now (plan .entry)) w t → TypeHeadIs (now (incoming .entry)) (now (plan .entry)) t r) ⌝ }
 {
@@ -79,16 +90,24 @@ fn mapped_head(incoming: &[u8], v: Edition, n: u16, plan: &[u8], w: Walk) -> Typ
         SelectorHead::Cast(_) => TypeHead::List,
         SelectorHead::Rename(_) => TypeHead::List,
         SelectorHead::Struct(input) => {
-            let fields = struct_fields(plan, input);
+            let fields = counted_at(plan, skip_by(plan, input, tables));
             TypeHead::Struct(fields.count)
         }
         SelectorHead::List(_) => TypeHead::List,
-        SelectorHead::Array(_) => TypeHead::Array(width(incoming, v, n, plan, w)),
+        SelectorHead::Array(_) => TypeHead::Array(width(incoming, v, n, plan, w, tables)),
         SelectorHead::Refused => TypeHead::List,
     }
 }
 
-pub fn type_head(incoming: &[u8], v: Edition, n: u16, plan: &[u8], r: Resolved) -> TypeHead
+pub fn type_head(
+    incoming: &[u8],
+    v: Edition,
+    n: u16,
+    plan: &[u8],
+    r: Resolved,
+    tables: &[u16],
+) -> TypeHead
+    requires { ⌜ Tables (now incoming) v n (now plan) (now tables) ⌝ }
     requires { ⌜ ((t : DataType) × ResolvedAt (now incoming) v n (now plan) r t) ⌝ }
     ensures { λ h. ⌜ ((t : DataType) → ResolvedAt (now (incoming .entry)) v n (now (plan .entry)) r t → TypeHeadIs (now (incoming .entry)) (now (plan .entry)) t h) ⌝ }
 {
@@ -98,6 +117,6 @@ pub fn type_head(incoming: &[u8], v: Edition, n: u16, plan: &[u8], r: Resolved) 
     match source {
         Source::Incoming => raw_head(incoming, Place::Incoming, at),
         Source::Plan => raw_head(plan, Place::Plan, at),
-        Source::Mapped => mapped_head(incoming, v, n, plan, w),
+        Source::Mapped => mapped_head(incoming, v, n, plan, w, tables),
     }
 }

@@ -12,6 +12,7 @@ ghost use Rattle.nodes.specs.code.Typed.{TypeIs};
 ghost use Rattle.checker.specs.declared.limits.Fit.{Fit as FitOf};
 ghost use Rattle.checker.specs.declared.resolve.Source.{Source as SourceOf};
 ghost use Rattle.checker.specs.code.TypesAt.{PartOf, TypedAt, NamedAt, MappedAt, ResolvedAt};
+ghost use Rattle.checker.specs.code.Tables.{Tables};
 ghost use Rattle.checker.specs.code.Limits.{fitOf, typeFit, fieldsFit, columnFit, aroundOf, joinedOf, addedOf, Bounded, sizeOf};
 use crate::head::type_head;
 use crate::name::name_at;
@@ -22,10 +23,11 @@ use crate::resolve::Source;
 use crate::resolve::resolve;
 use layout::cursor::Cursor;
 use layout::edition::Edition;
+use layout::limits::LONGEST;
 use nodes::types::form_size;
 use walk::child::child_at;
 use walk::child::first_child;
-use walk::head::skip_selector;
+use walk::head::skip_by;
 use walk::walk::Walk;
 
 // A length in version 1 form and a depth, or the limits are passed.
@@ -98,7 +100,9 @@ fn type_fit(
     r: Resolved,
     levels: u8,
     room: usize,
+    tables: &[u16],
 ) -> Fit
+    requires { ⌜ Tables (now incoming) v n (now plan) (now tables) ⌝ }
     requires { ⌜ ((t : DataType) × ResolvedAt (now incoming) v n (now plan) r t) ⌝ }
     ensures { λ f. ⌜ ((t : DataType) → ResolvedAt (now (incoming .entry)) v n (now (plan .entry)) r t → f ≡ typeFit t levels room) ⌝ }
 {
@@ -107,7 +111,7 @@ fn type_fit(
     match source {
         Source::Incoming => raw_fit(incoming, v, at, levels, room),
         Source::Plan => raw_fit(plan, Edition::One, at, levels, room),
-        Source::Mapped => mapped_fit(incoming, v, n, plan, r, levels, room),
+        Source::Mapped => mapped_fit(incoming, v, n, plan, r, levels, room, tables),
     }
 }
 
@@ -120,7 +124,9 @@ fn mapped_fit(
     r: Resolved,
     levels: u8,
     room: usize,
+    tables: &[u16],
 ) -> Fit
+    requires { ⌜ Tables (now incoming) v n (now plan) (now tables) ⌝ }
     requires { ⌜ ((t : DataType) × ResolvedAt (now incoming) v n (now plan) r t) ⌝ }
     requires { ⌜ r .source ≡ SourceOf.Mapped ⌝ }
     ensures { λ f. ⌜ ((t : DataType) → ResolvedAt (now (incoming .entry)) v n (now (plan .entry)) r t → f ≡ typeFit t levels room) ⌝ }
@@ -128,18 +134,18 @@ fn mapped_fit(
     if levels == 0 {
         return Fit::Over;
     }
-    match type_head(incoming, v, n, plan, r) {
+    match type_head(incoming, v, n, plan, r, tables) {
         TypeHead::Leaf(_, _) => Fit::Over,
         TypeHead::Struct(count) => {
             if room < 3 {
                 return Fit::Over;
             }
             let w = r.walk;
-            let f = fields_fit(incoming, v, n, plan, w, count, levels - 1, room - 3);
+            let f = fields_fit(incoming, v, n, plan, w, count, levels - 1, room - 3, tables);
             around(3, f)
         }
-        TypeHead::List => element_fit(incoming, v, n, plan, r, 1, levels, room),
-        TypeHead::Array(_) => element_fit(incoming, v, n, plan, r, 5, levels, room),
+        TypeHead::List => element_fit(incoming, v, n, plan, r, 1, levels, room, tables),
+        TypeHead::Array(_) => element_fit(incoming, v, n, plan, r, 5, levels, room, tables),
     }
 }
 
@@ -153,7 +159,9 @@ fn element_fit(
     head: usize,
     levels: u8,
     room: usize,
+    tables: &[u16],
 ) -> Fit
+    requires { ⌜ Tables (now incoming) v n (now plan) (now tables) ⌝ }
     requires { ⌜ ((t : DataType) × (a : Column) × ResolvedAt (now incoming) v n (now plan) r t × PartOf t 0 a) ⌝ }
     requires { ⌜ 0 < levels ⌝ }
     ensures { λ f. ⌜ ((t : DataType) (a : Column) → ResolvedAt (now (incoming .entry)) v n (now (plan .entry)) r t → PartOf t 0 a → f ≡ fitOf (depthOf (a .type) + 1) (head + length (form (a .type))) levels room) ⌝ }
@@ -161,8 +169,8 @@ fn element_fit(
     if room < head {
         return Fit::Over;
     }
-    let p = part(incoming, v, n, plan, r, 0);
-    let f = type_fit(incoming, v, n, plan, p, levels - 1, room - head);
+    let p = part(incoming, v, n, plan, r, 0, tables);
+    let f = type_fit(incoming, v, n, plan, p, levels - 1, room - head, tables);
     around(head, f)
 }
 
@@ -176,15 +184,17 @@ pub fn sized_fit(
     size: Size,
     levels: u8,
     room: usize,
+    tables: &[u16],
 ) -> Fit
+    requires { ⌜ Tables (now incoming) v n (now plan) (now tables) ⌝ }
     requires { ⌜ ((b : Bool) × (t : DataType) × TypedAt (now incoming) v n (now plan) x t × (size ≡ sizeOf b t)) ⌝ }
     ensures { λ f. ⌜ ((b : Bool) (t : DataType) → TypedAt (now (incoming .entry)) v n (now (plan .entry)) x t → size ≡ sizeOf b t → f ≡ typeFit t levels room) ⌝ }
 {
     match size {
         Size::Is(bytes, deep) => size_fit(bytes, deep, levels, room),
         Size::Unknown => {
-            let r = resolve(incoming, v, n, plan, x);
-            type_fit(incoming, v, n, plan, r, levels, room)
+            let r = resolve(incoming, v, n, plan, x, tables);
+            type_fit(incoming, v, n, plan, r, levels, room, tables)
         }
     }
 }
@@ -199,16 +209,28 @@ fn column_fit(
     size: Size,
     levels: u8,
     room: usize,
+    tables: &[u16],
 ) -> Fit
+    requires { ⌜ Tables (now incoming) v n (now plan) (now tables) ⌝ }
     requires { ⌜ ((b : Bool) × (a : Column) × NamedAt (now incoming) v n (now plan) x a × (size ≡ sizeOf b (a .type))) ⌝ }
     ensures { λ f. ⌜ ((b : Bool) (a : Column) → NamedAt (now (incoming .entry)) v n (now (plan .entry)) x a → size ≡ sizeOf b (a .type) → f ≡ columnFit a levels room) ⌝ }
 {
-    let name = name_at(incoming, v, n, plan, x);
+    let name = name_at(incoming, v, n, plan, x, tables);
     let len = name.span.len;
     if room <= len {
         return Fit::Over;
     }
-    let f = sized_fit(incoming, v, n, plan, x, size, levels, room - len - 1);
+    let f = sized_fit(
+        incoming,
+        v,
+        n,
+        plan,
+        x,
+        size,
+        levels,
+        room - len - 1,
+        tables,
+    );
     joined(len + 1, 0, f)
 }
 
@@ -222,24 +244,36 @@ fn fields_fit(
     count: u16,
     levels: u8,
     room: usize,
+    tables: &[u16],
 ) -> Fit
+    requires { ⌜ Tables (now incoming) v n (now plan) (now tables) ⌝ }
     requires { ⌜ ((fs : Fields) × MappedAt (now incoming) v n (now plan) w (struct fs) × (countFields fs ≡ count)) ⌝ }
     ensures { λ f. ⌜ ((fs : Fields) → MappedAt (now (incoming .entry)) v n (now (plan .entry)) w (struct fs) → countFields fs ≡ count → f ≡ fieldsFit fs levels room) ⌝ }
 {
-    let mut c = first_child(plan, w);
+    let mut c = first_child(plan, w, tables);
     let mut size: usize = 0;
     let mut deep: u8 = 0;
     let mut k: u16 = 0;
     while k < count {
         let x = child_at(w, k, c);
-        match column_fit(incoming, v, n, plan, x, Size::Unknown, levels, room - size) {
+        match column_fit(
+            incoming,
+            v,
+            n,
+            plan,
+            x,
+            Size::Unknown,
+            levels,
+            room - size,
+            tables,
+        ) {
             Fit::Within(more, inner) => {
                 size += more;
                 deep = larger(deep, inner);
             }
             Fit::Over => return Fit::Over,
         }
-        c = skip_selector(plan, c);
+        c = skip_by(plan, c, tables);
         k += 1;
     }
     Fit::Within(size, deep)
@@ -254,14 +288,16 @@ pub fn add_field(
     x: Walk,
     size: Size,
     fields: Fit,
+    tables: &[u16],
 ) -> Fit
+    requires { ⌜ Tables (now incoming) v n (now plan) (now tables) ⌝ }
     requires { ⌜ ((b : Bool) × (a : Column) × NamedAt (now incoming) v n (now plan) x a × (size ≡ sizeOf b (a .type))) ⌝ }
     requires { ⌜ Bounded 15 16381 fields ⌝ }
     ensures { λ f. ⌜ ((b : Bool) (a : Column) → NamedAt (now (incoming .entry)) v n (now (plan .entry)) x a → size ≡ sizeOf b (a .type) → f ≡ addedOf 15 16381 fields a) ⌝ }
 {
     match fields {
         Fit::Within(before, deep) => {
-            let f = column_fit(incoming, v, n, plan, x, size, 15, 16381 - before);
+            let f = column_fit(incoming, v, n, plan, x, size, 15, 16381 - before, tables);
             joined(before, deep, f)
         }
         Fit::Over => Fit::Over,
@@ -277,11 +313,13 @@ pub fn list_fit(
     x: Walk,
     size: Size,
     head: usize,
+    tables: &[u16],
 ) -> Fit
+    requires { ⌜ Tables (now incoming) v n (now plan) (now tables) ⌝ }
     requires { ⌜ ((b : Bool) × (t : DataType) × TypedAt (now incoming) v n (now plan) x t × (size ≡ sizeOf b t)) ⌝ }
     requires { ⌜ head < 16384 ⌝ }
     ensures { λ f. ⌜ ((b : Bool) (t : DataType) → TypedAt (now (incoming .entry)) v n (now (plan .entry)) x t → size ≡ sizeOf b t → f ≡ fitOf (depthOf t + 1) (head + length (form t)) 16 16384) ⌝ }
 {
-    let f = sized_fit(incoming, v, n, plan, x, size, 15, 16384 - head);
+    let f = sized_fit(incoming, v, n, plan, x, size, 15, LONGEST - head, tables);
     around(head, f)
 }

@@ -6,15 +6,21 @@ ghost use Rattle.layout.specs.Bytes.{Bytes};
 ghost use Rattle.layout.specs.Tree.{DataType};
 ghost use Rattle.layout.specs.declared.edition.Edition.{Edition as EditionOf};
 ghost use Rattle.plan.specs.Check.{Column};
+ghost use Rattle.plan.specs.code.Constants.{ConstantEnds};
 ghost use Rattle.nodes.specs.code.Typed.{TypeIs};
+ghost use Rattle.index.specs.code.Indexed.{strideOf, Indexed};
 ghost use Rattle.direct.specs.code.Places.{bytesOf, NameAt};
 ghost use Rattle.checker.specs.code.TypesAt.{PartOf, ColumnOf, NamedAt, MappedAt, ResolvedAt, OwnNameIs, MappedNameIs};
+ghost use Rattle.checker.specs.code.Tables.{Tables};
 use crate::part::enclosing;
+use crate::resolve::INDEX;
 use crate::resolve::Resolved;
 use crate::resolve::Source;
 use direct::place::Name;
 use direct::place::Place;
 use direct::place::named;
+use index::columns::indexed_column;
+use index::columns::stride_of;
 use layout::bytes::Span;
 use layout::columns::Position;
 use layout::cursor::Cursor;
@@ -24,7 +30,8 @@ use layout::find::column_at;
 use layout::types::Head;
 use walk::head::SelectorHead;
 use walk::head::head;
-use walk::head::rename_name;
+use walk::head::name_behind;
+use walk::head::skip_by;
 use walk::inputs::ends_for;
 use walk::inputs::no_ends;
 use walk::walk::Walk;
@@ -69,18 +76,20 @@ fn raw_name(s: &[u8], v: Edition, place: Place, c: Cursor, k: u16) -> Name
 }
 
 // Of the column `k` of the incoming layout.
-fn column_name(incoming: &[u8], v: Edition, n: u16, k: Position) -> Name
+fn column_name(incoming: &[u8], v: Edition, n: u16, k: Position, index: &[u16]) -> Name
+    requires { ⌜ Indexed v (now incoming) n 7 (strideOf n) (now index) ⌝ }
     requires { ⌜ ((a : Column) × ColumnOf (now incoming) v n k a) ⌝ }
     ensures { λ r. ⌜ ((plan : Bytes) (a : Column) → ColumnOf (now (incoming .entry)) v n k a → NameAt (now (incoming .entry)) plan r (a .name)) ⌝ }
 {
-    match column_at(incoming, v, 16, n, Cursor { at: 7 }, k) {
+    match indexed_column(incoming, v, n, Cursor { at: 7 }, index, stride_of(n), k) {
         Found::At(_, l, _) => named(Place::Incoming, l.name),
         Found::Absent => no_name(Place::Incoming),
     }
 }
 
 // Of the selector where the walk stands.
-fn own_name(plan: &[u8], w: Walk) -> OwnName
+fn own_name(plan: &[u8], w: Walk, tables: &[u16]) -> OwnName
+    requires { ⌜ ConstantEnds (now plan) (now tables) ⌝ }
     ensures { λ r. ⌜ ((incoming : Bytes) (v : EditionOf) (n : ℕ) (a : Column) → NamedAt incoming v n (now (plan .entry)) w a → OwnNameIs incoming v n (now (plan .entry)) w a r) ⌝ }
 {
     let c = Cursor { at: w.at };
@@ -89,7 +98,7 @@ fn own_name(plan: &[u8], w: Walk) -> OwnName
         SelectorHead::Constant(name, _) => OwnName::Is(named(Place::Plan, name)),
         SelectorHead::Cast(_) => OwnName::Input,
         SelectorHead::Rename(input) => {
-            let name = rename_name(plan, input);
+            let name = name_behind(plan, skip_by(plan, input, tables));
             OwnName::Is(named(Place::Plan, name))
         }
         SelectorHead::Struct(_) => OwnName::Input,
@@ -131,30 +140,31 @@ fn direct_name(incoming: &[u8], v: Edition, plan: &[u8], r: Resolved, k: u16) ->
     }
 }
 
-pub fn name_at(incoming: &[u8], v: Edition, n: u16, plan: &[u8], w: Walk) -> Name
+pub fn name_at(incoming: &[u8], v: Edition, n: u16, plan: &[u8], w: Walk, tables: &[u16]) -> Name
+    requires { ⌜ Tables (now incoming) v n (now plan) (now tables) ⌝ }
     requires { ⌜ ((a : Column) × NamedAt (now incoming) v n (now plan) w a) ⌝ }
     ensures { λ r. ⌜ ((a : Column) → NamedAt (now (incoming .entry)) v n (now (plan .entry)) w a → NameAt (now (incoming .entry)) (now (plan .entry)) r (a .name)) ⌝ }
 {
     let mut x = w;
     let mut ends = no_ends(0);
     loop {
-        match own_name(plan, x) {
+        match own_name(plan, x, tables) {
             OwnName::Is(name) => return name,
             OwnName::Input => {
                 x = x.to_input();
             }
             OwnName::Position(k) => {
                 if x.deep == 0 {
-                    return column_name(incoming, v, n, k);
+                    return column_name(incoming, v, n, k, &tables[INDEX..]);
                 }
-                let r = enclosing(incoming, v, n, plan, x);
+                let r = enclosing(incoming, v, n, plan, x, tables);
                 let i = k.0;
                 match direct_name(incoming, v, plan, r, i) {
                     PartName::Is(name) => return name,
                     PartName::Child => {
                         let z = r.walk;
-                        ends = ends_for(plan, ends, Cursor { at: z.at });
-                        x = z.child_in(plan, ends, i);
+                        ends = ends_for(plan, ends, Cursor { at: z.at }, tables);
+                        x = z.child_in(plan, ends, i, tables);
                     }
                 }
             }

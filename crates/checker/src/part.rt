@@ -8,6 +8,7 @@ ghost use Rattle.layout.specs.Tree.{DataType, Fields};
 ghost use Rattle.plan.specs.Check.{Column};
 ghost use Rattle.nodes.specs.code.Typed.{TypeIs};
 ghost use Rattle.checker.specs.code.TypesAt.{PartOf, ResolvedAt, ScopedAt, EnclosingIs};
+ghost use Rattle.checker.specs.code.Tables.{Tables};
 use crate::resolve::Resolved;
 use crate::resolve::Source;
 use crate::resolve::found_in;
@@ -35,7 +36,16 @@ fn raw_part(s: &[u8], v: Edition, c: Cursor, k: u16) -> Cursor
     type_at(s, v, c, path, 0, 1)
 }
 
-pub fn part(incoming: &[u8], v: Edition, n: u16, plan: &[u8], r: Resolved, k: u16) -> Resolved
+pub fn part(
+    incoming: &[u8],
+    v: Edition,
+    n: u16,
+    plan: &[u8],
+    r: Resolved,
+    k: u16,
+    tables: &[u16],
+) -> Resolved
+    requires { ⌜ Tables (now incoming) v n (now plan) (now tables) ⌝ }
     requires { ⌜ ((t : DataType) × (a : Column) × ResolvedAt (now incoming) v n (now plan) r t × PartOf t k a) ⌝ }
     ensures { λ p. ⌜ ((t : DataType) (a : Column) → ResolvedAt (now (incoming .entry)) v n (now (plan .entry)) r t → PartOf t k a → ResolvedAt (now (incoming .entry)) v n (now (plan .entry)) p (a .type)) ⌝ }
 {
@@ -52,18 +62,26 @@ pub fn part(incoming: &[u8], v: Edition, n: u16, plan: &[u8], r: Resolved, k: u1
             found_in(Source::Plan, c, w)
         }
         Source::Mapped => {
-            let x = w.child(plan, k);
-            resolve(incoming, v, n, plan, x)
+            let x = w.child(plan, k, tables);
+            resolve(incoming, v, n, plan, x, tables)
         }
     }
 }
 
 // The type whose parts the positions inside the innermost mapping take: that of the mapping's input.
-pub fn enclosing(incoming: &[u8], v: Edition, n: u16, plan: &[u8], w: Walk) -> Resolved
+pub fn enclosing(
+    incoming: &[u8],
+    v: Edition,
+    n: u16,
+    plan: &[u8],
+    w: Walk,
+    tables: &[u16],
+) -> Resolved
+    requires { ⌜ Tables (now incoming) v n (now plan) (now tables) ⌝ }
     requires { ⌜ ((Δ : Fields) × ScopedAt (now incoming) v n (now plan) w Δ) ⌝ }
     requires { ⌜ 0 < w .deep ⌝ }
     ensures { λ r. ⌜ ((Δ : Fields) → ScopedAt (now (incoming .entry)) v n (now (plan .entry)) w Δ → EnclosingIs (now (incoming .entry)) v n (now (plan .entry)) w Δ r) ⌝ }
 {
     let y = w.outward();
-    resolve(incoming, v, n, plan, y)
+    resolve(incoming, v, n, plan, y, tables)
 }

@@ -4,18 +4,24 @@ ghost use Prim.Native.Nat.{_≤_};
 ghost use lib.ListN.{length};
 ghost use lib.Seq.{slice};
 ghost use Rattle.layout.specs.Tree.{DataType};
+ghost use Rattle.index.specs.code.Indexed.{strideOf, Indexed};
 ghost use Rattle.nodes.specs.code.Typed.{TypeIs};
 ghost use Rattle.checker.specs.code.TypesAt.{ColumnAlong, TypedAt, StoppedAt, StopIs, Resolves};
+ghost use Rattle.checker.specs.code.Tables.{Tables};
+use index::columns::indexed_column;
+use index::columns::stride_of;
 use layout::columns::Position;
 use layout::cursor::Cursor;
 use layout::edition::Edition;
 use layout::find::Found;
-use layout::find::column_at;
 use nodes::types::type_at;
 use walk::head::SelectorHead;
 use walk::head::head;
-use walk::head::skip_selector;
+use walk::head::skip_by;
 use walk::walk::Walk;
+
+// Where the index of the incoming columns begins in the tables: behind the ends of 1,024 constants.
+pub const INDEX: usize = 2048;
 
 // In the incoming layout or in the plan, or it is made by a mapping.
 pub enum Source {
@@ -54,20 +60,23 @@ fn in_column(
     path: [u16; 64],
     from: usize,
     len: usize,
+    index: &[u16],
 ) -> Cursor
+    requires { ⌜ Indexed v (now incoming) n 7 (strideOf n) (now index) ⌝ }
     requires { ⌜ ((t : DataType) × ColumnAlong (now incoming) v n k (slice from len path) t) ⌝ }
     requires { ⌜ (from ≤ len) × (len ≤ length path) ⌝ }
     ensures { λ r. ⌜ ((t : DataType) → ColumnAlong (now (incoming .entry)) v n k (slice from len path) t → TypeIs v (now (incoming .entry)) (r .at) t) ⌝ }
 {
     let columns = Cursor { at: 7 };
-    match column_at(incoming, v, 16, n, columns, k) {
+    match indexed_column(incoming, v, n, columns, index, stride_of(n), k) {
         Found::At(_, _, c) => type_at(incoming, v, c, path, from, len),
         Found::Absent => columns,
     }
 }
 
 // What stands where no move is left.
-fn stopped(incoming: &[u8], v: Edition, n: u16, plan: &[u8], w: Walk) -> Stop
+fn stopped(incoming: &[u8], v: Edition, n: u16, plan: &[u8], w: Walk, tables: &[u16]) -> Stop
+    requires { ⌜ Tables (now incoming) v n (now plan) (now tables) ⌝ }
     requires { ⌜ ((t : DataType) × StoppedAt (now incoming) v n (now plan) w t) ⌝ }
     ensures { λ r. ⌜ ((t : DataType) → StoppedAt (now (incoming .entry)) v n (now (plan .entry)) w t → StopIs (now (incoming .entry)) v n (now (plan .entry)) w t r) ⌝ }
 {
@@ -75,13 +84,13 @@ fn stopped(incoming: &[u8], v: Edition, n: u16, plan: &[u8], w: Walk) -> Stop
     let path = w.path;
     match head(plan, c) {
         SelectorHead::Position(k) => {
-            Stop::Incoming(in_column(incoming, v, n, k, path, w.deep, w.len))
+            Stop::Incoming(in_column(incoming, v, n, k, path, w.deep, w.len, &tables[INDEX..]))
         }
         SelectorHead::Constant(_, d) => {
             Stop::Plan(type_at(plan, Edition::One, d, path, w.deep, w.len))
         }
         SelectorHead::Cast(d) => {
-            let e = skip_selector(plan, d);
+            let e = skip_by(plan, d, tables);
             Stop::Plan(type_at(plan, Edition::One, e, path, w.deep, w.len))
         }
         SelectorHead::Rename(_) => Stop::Rename,
@@ -92,14 +101,22 @@ fn stopped(incoming: &[u8], v: Edition, n: u16, plan: &[u8], w: Walk) -> Stop
     }
 }
 
-pub fn resolve(incoming: &[u8], v: Edition, n: u16, plan: &[u8], w: Walk) -> Resolved
+pub fn resolve(
+    incoming: &[u8],
+    v: Edition,
+    n: u16,
+    plan: &[u8],
+    w: Walk,
+    tables: &[u16],
+) -> Resolved
+    requires { ⌜ Tables (now incoming) v n (now plan) (now tables) ⌝ }
     requires { ⌜ ((t : DataType) × TypedAt (now incoming) v n (now plan) w t) ⌝ }
     ensures { λ r. ⌜ ((t : DataType) → TypedAt (now (incoming .entry)) v n (now (plan .entry)) w t → Resolves (now (incoming .entry)) v n (now (plan .entry)) w t r) ⌝ }
 {
     let mut x = w;
     loop {
-        let y = x.locate(plan);
-        match stopped(incoming, v, n, plan, y) {
+        let y = x.locate(plan, tables);
+        match stopped(incoming, v, n, plan, y, tables) {
             Stop::Incoming(c) => return found_in(Source::Incoming, c, y),
             Stop::Plan(c) => return found_in(Source::Plan, c, y),
             Stop::Rename => {

@@ -13,6 +13,7 @@ ghost use Rattle.forms.specs.code.Labelled.{ElementAt, ColumnAt};
 ghost use Rattle.plan.specs.Check.{Column};
 ghost use Rattle.checker.specs.declared.resolve.Source.{Source as SourceOf};
 ghost use Rattle.checker.specs.code.TypesAt.{PartOf, NamedAt, MappedAt, ResolvedAt, headKind};
+ghost use Rattle.checker.specs.code.Tables.{Tables};
 ghost use Rattle.checker.specs.code.Same.{endsFrom, endsOf, codeOf};
 use crate::head::type_head;
 use crate::name::name_at;
@@ -32,7 +33,7 @@ use layout::types::Head;
 use nodes::places::TypePlace;
 use walk::child::child_at;
 use walk::child::first_child;
-use walk::head::skip_selector;
+use walk::head::skip_by;
 use walk::walk::Walk;
 
 // Where the target's type ends, if it is the same.
@@ -106,7 +107,9 @@ pub fn same_as(
     r: Resolved,
     target: &[u8],
     place: TypePlace,
+    tables: &[u16],
 ) -> Ends
+    requires { ⌜ Tables (now incoming) v n (now plan) (now tables) ⌝ }
     requires { ⌜ ((t : DataType) × ResolvedAt (now incoming) v n (now plan) r t) ⌝ }
     requires { ⌜ TypeAt (place .edition) (place .depth) (now target) (place .at .at) ⌝ }
     ensures { λ e. ⌜ ((t : DataType) (Q : TypeAt (place .edition) (place .depth) (now (target .entry)) (place .at .at)) → ResolvedAt (now (incoming .entry)) v n (now (plan .entry)) r t → e ≡ endsOf (sameDtype t (dtypeOf (Q .tree))) (Q .end)) ⌝ }
@@ -119,7 +122,7 @@ pub fn same_as(
     match source {
         Source::Incoming => target_end(same_type(incoming, v, 16, at, target, vt, depth, c)),
         Source::Plan => target_end(same_type(plan, Edition::One, 16, at, target, vt, depth, c)),
-        Source::Mapped => same_mapped(incoming, v, n, plan, r, target, place),
+        Source::Mapped => same_mapped(incoming, v, n, plan, r, target, place, tables),
     }
 }
 
@@ -132,14 +135,16 @@ fn same_mapped(
     r: Resolved,
     target: &[u8],
     place: TypePlace,
+    tables: &[u16],
 ) -> Ends
+    requires { ⌜ Tables (now incoming) v n (now plan) (now tables) ⌝ }
     requires { ⌜ ((t : DataType) × ResolvedAt (now incoming) v n (now plan) r t) ⌝ }
     requires { ⌜ r .source ≡ SourceOf.Mapped ⌝ }
     requires { ⌜ TypeAt (place .edition) (place .depth) (now target) (place .at .at) ⌝ }
     ensures { λ e. ⌜ ((t : DataType) (Q : TypeAt (place .edition) (place .depth) (now (target .entry)) (place .at .at)) → ResolvedAt (now (incoming .entry)) v n (now (plan .entry)) r t → e ≡ endsOf (sameDtype t (dtypeOf (Q .tree))) (Q .end)) ⌝ }
 {
     let c = place.at;
-    let h = type_head(incoming, v, n, plan, r);
+    let h = type_head(incoming, v, n, plan, r, tables);
     let a = code(h);
     let b = target_code(target, c);
     if a.code != b.code {
@@ -156,10 +161,10 @@ fn same_mapped(
         TypeHead::Leaf(_, _) => Ends::Differ,
         TypeHead::Struct(count) => {
             let w = r.walk;
-            same_fields(incoming, v, n, plan, w, count, target, inner)
+            same_fields(incoming, v, n, plan, w, count, target, inner, tables)
         }
-        TypeHead::List => same_element(incoming, v, n, plan, r, target, inner),
-        TypeHead::Array(_) => same_element(incoming, v, n, plan, r, target, inner),
+        TypeHead::List => same_element(incoming, v, n, plan, r, target, inner, tables),
+        TypeHead::Array(_) => same_element(incoming, v, n, plan, r, target, inner, tables),
     }
 }
 
@@ -172,7 +177,9 @@ fn same_element(
     r: Resolved,
     target: &[u8],
     place: TypePlace,
+    tables: &[u16],
 ) -> Ends
+    requires { ⌜ Tables (now incoming) v n (now plan) (now tables) ⌝ }
     requires { ⌜ ((t : DataType) × (a : Column) × ResolvedAt (now incoming) v n (now plan) r t × PartOf t 0 a) ⌝ }
     requires { ⌜ ElementAt (place .edition) (place .depth) (now target) (place .at .at) ⌝ }
     ensures { λ e. ⌜ ((t : DataType) (a : Column) (E : ElementAt (place .edition) (place .depth) (now (target .entry)) (place .at .at)) → ResolvedAt (now (incoming .entry)) v n (now (plan .entry)) r t → PartOf t 0 a → e ≡ endsOf (sameDtype (a .type) (dtypeOf (E .inner .tree))) (E .inner .end)) ⌝ }
@@ -182,9 +189,9 @@ fn same_element(
     let c = place.at;
     match c.element_label(target, edition) {
         Labelled::Is(_, at) => {
-            let p = part(incoming, v, n, plan, r, 0);
+            let p = part(incoming, v, n, plan, r, 0, tables);
             let inner = TypePlace { edition, depth, at };
-            same_as(incoming, v, n, plan, p, target, inner)
+            same_as(incoming, v, n, plan, p, target, inner, tables)
         }
         Labelled::Refused(_) => Ends::Differ,
     }
@@ -199,7 +206,9 @@ pub fn same_column(
     w: Walk,
     target: &[u8],
     place: TypePlace,
+    tables: &[u16],
 ) -> Ends
+    requires { ⌜ Tables (now incoming) v n (now plan) (now tables) ⌝ }
     requires { ⌜ ((a : Column) × NamedAt (now incoming) v n (now plan) w a) ⌝ }
     requires { ⌜ ColumnAt (place .edition) (place .depth) (now target) (place .at .at) ⌝ }
     ensures { λ e. ⌜ ((a : Column) (E : ColumnAt (place .edition) (place .depth) (now (target .entry)) (place .at .at)) → NamedAt (now (incoming .entry)) v n (now (plan .entry)) w a → e ≡ endsOf (sameBytes (a .name) (E .label .name) && sameDtype (a .type) (dtypeOf (E .inner .tree))) (E .inner .end)) ⌝ }
@@ -209,14 +218,14 @@ pub fn same_column(
     let c = place.at;
     match c.label(target, edition) {
         Labelled::Is(l, at) => {
-            let name = name_at(incoming, v, n, plan, w);
+            let name = name_at(incoming, v, n, plan, w, tables);
             let q = l.name;
             if !same_name(incoming, plan, name, target, q) {
                 return Ends::Differ;
             }
-            let r = resolve(incoming, v, n, plan, w);
+            let r = resolve(incoming, v, n, plan, w, tables);
             let inner = TypePlace { edition, depth, at };
-            same_as(incoming, v, n, plan, r, target, inner)
+            same_as(incoming, v, n, plan, r, target, inner, tables)
         }
         Labelled::Refused(_) => Ends::Differ,
     }
@@ -232,12 +241,14 @@ fn same_fields(
     count: u16,
     target: &[u8],
     place: TypePlace,
+    tables: &[u16],
 ) -> Ends
+    requires { ⌜ Tables (now incoming) v n (now plan) (now tables) ⌝ }
     requires { ⌜ ((fs : Fields) × MappedAt (now incoming) v n (now plan) w (struct fs) × (countFields fs ≡ count)) ⌝ }
     requires { ⌜ ColumnsAt (place .edition) (place .depth) (now target) count (place .at .at) ⌝ }
     ensures { λ e. ⌜ ((fs : Fields) (Q : ColumnsAt (place .edition) (place .depth) (now (target .entry)) count (place .at .at)) → MappedAt (now (incoming .entry)) v n (now (plan .entry)) w (struct fs) → countFields fs ≡ count → e ≡ endsOf (sameFields fs (fieldsOf (Q .columns))) (Q .end)) ⌝ }
 {
-    let mut c = first_child(plan, w);
+    let mut c = first_child(plan, w, tables);
     let mut at = place.at;
     let mut k: u16 = 0;
     while k < count {
@@ -248,13 +259,13 @@ fn same_fields(
             depth: place.depth,
             at,
         };
-        match same_column(incoming, v, n, plan, x, target, column) {
+        match same_column(incoming, v, n, plan, x, target, column, tables) {
             Ends::At(e) => {
                 at = e;
             }
             Ends::Differ => return Ends::Differ,
         }
-        c = skip_selector(plan, c);
+        c = skip_by(plan, c, tables);
         k += 1;
     }
     Ends::At(at)

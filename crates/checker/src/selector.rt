@@ -13,6 +13,7 @@ ghost use Rattle.plan.specs.Check.{Column, columnAt, typeOf, withinLimits, resu
 ghost use Rattle.walk.specs.code.Stands.{SelectorAt};
 ghost use Rattle.walk.specs.code.Parts.{OptionAt};
 ghost use Rattle.checker.specs.code.TypesAt.{TypeHeadIs, ScopedAt, TypedAt, NamedAt};
+ghost use Rattle.checker.specs.code.Tables.{Tables};
 ghost use Rattle.checker.specs.code.Limits.{sizeOf, withinFit, Limited, ScopeIs};
 ghost use Rattle.checker.specs.code.Checking.{checkedOf, droppedOf, measuredOf, MeasuredIs, fittingOf, isTransform, CheckingAt, PassedInput, nothingLeft, fieldsLeft, listedLeft, arrayedLeft, RestIs, MappingAt, Elements, fieldsResult, elementResult};
 use crate::cast::cast_fits;
@@ -30,13 +31,14 @@ use crate::resolve::resolve;
 use layout::columns::Position;
 use layout::cursor::Cursor;
 use layout::edition::Edition;
+use layout::limits::LONGEST;
 use walk::child::child_at;
 use walk::child::first_child;
 use walk::head::SelectorHead;
 use walk::head::cast_option;
+use walk::head::counted_at;
 use walk::head::head;
-use walk::head::skip_selector;
-use walk::head::struct_fields;
+use walk::head::skip_by;
 use walk::walk::Walk;
 
 // Whether a selector passes, or the number of its refusal.
@@ -77,15 +79,16 @@ fn fitting(f: Fit) -> Measured
 }
 
 // How many columns positions can take from.
-fn scope_count(incoming: &[u8], v: Edition, n: u16, plan: &[u8], w: Walk) -> u16
+fn scope_count(incoming: &[u8], v: Edition, n: u16, plan: &[u8], w: Walk, tables: &[u16]) -> u16
+    requires { ⌜ Tables (now incoming) v n (now plan) (now tables) ⌝ }
     requires { ⌜ ((Δ : Fields) × ScopedAt (now incoming) v n (now plan) w Δ) ⌝ }
     ensures { λ r. ⌜ ((Δ : Fields) → ScopedAt (now (incoming .entry)) v n (now (plan .entry)) w Δ → r ≡ countFields Δ) ⌝ }
 {
     if w.deep == 0 {
         return n;
     }
-    let r = enclosing(incoming, v, n, plan, w);
-    match type_head(incoming, v, n, plan, r) {
+    let r = enclosing(incoming, v, n, plan, w, tables);
+    match type_head(incoming, v, n, plan, r, tables) {
         TypeHead::Leaf(_, _) => 0,
         TypeHead::Struct(count) => count,
         TypeHead::List => 1,
@@ -101,7 +104,7 @@ fn columns_within(incoming: &[u8], w: Walk) -> bool
     if w.deep != 0 {
         return false;
     }
-    if 16384 < incoming.len() {
+    if LONGEST < incoming.len() {
         return false;
     }
     true
@@ -125,7 +128,7 @@ fn input_within(plan: &[u8], x: Walk, scope: ScopeColumns) -> bool
     let c = Cursor { at: x.at };
     match head(plan, c) {
         SelectorHead::Position(_) => scope.within,
-        SelectorHead::Constant(_, d) => is_within(raw_fit(plan, Edition::One, d, 16, 16384)),
+        SelectorHead::Constant(_, d) => is_within(raw_fit(plan, Edition::One, d, 16, LONGEST)),
         SelectorHead::Cast(_) => true,
         SelectorHead::Rename(_) => true,
         SelectorHead::Struct(_) => true,
@@ -147,18 +150,27 @@ fn check_position(k: Position, scope: u16) -> Measured
 }
 
 // A cast whose input, at which `x` stands and which begins at `input`, has passed.
-fn cast_result(incoming: &[u8], v: Edition, n: u16, plan: &[u8], x: Walk, input: Cursor) -> Measured
+fn cast_result(
+    incoming: &[u8],
+    v: Edition,
+    n: u16,
+    plan: &[u8],
+    x: Walk,
+    input: Cursor,
+    tables: &[u16],
+) -> Measured
+    requires { ⌜ Tables (now incoming) v n (now plan) (now tables) ⌝ }
     requires { ⌜ ((a : Column) × (P : SelectorAt (now plan) (input .at)) × (T : TypeAt EditionOf.One 16 (now plan) (P .end)) × OptionAt (now plan) (T .end) × TypedAt (now incoming) v n (now plan) x (a .type)) ⌝ }
     ensures { λ r. ⌜ ((a : Column) (P : SelectorAt (now (plan .entry)) (input .at)) (T : TypeAt EditionOf.One 16 (now (plan .entry)) (P .end)) (O : OptionAt (now (plan .entry)) (T .end)) → TypedAt (now (incoming .entry)) v n (now (plan .entry)) x (a .type) → r ≡ measuredOf true (checkCast (dtypeOf (T .tree)) (O .option) a)) ⌝ }
 {
-    let r = resolve(incoming, v, n, plan, x);
-    let h = type_head(incoming, v, n, plan, r);
-    let c = skip_selector(plan, input);
+    let r = resolve(incoming, v, n, plan, x, tables);
+    let h = type_head(incoming, v, n, plan, r, tables);
+    let c = skip_by(plan, input, tables);
     let o = cast_option(plan, c);
     if !cast_fits(incoming, plan, h, c, o) {
         return Measured::Refused(32);
     }
-    fitting(raw_fit(plan, Edition::One, c, 16, 16384))
+    fitting(raw_fit(plan, Edition::One, c, 16, LONGEST))
 }
 
 // Whether the selector at `c` transforms what another gives.
@@ -186,23 +198,26 @@ fn rename_result(
     x: Walk,
     size: Size,
     within: bool,
+    tables: &[u16],
 ) -> Measured
+    requires { ⌜ Tables (now incoming) v n (now plan) (now tables) ⌝ }
     requires { ⌜ ((b : Bool) × (a : Column) × NamedAt (now incoming) v n (now plan) x a × (size ≡ sizeOf b (a .type))) ⌝ }
     ensures { λ r. ⌜ ((b : Bool) (a : Column) (name : Bytes) → NamedAt (now (incoming .entry)) v n (now (plan .entry)) x a → size ≡ sizeOf b (a .type) → (within ≡ true → withinLimits (a .type) ≡ true) → MeasuredIs r (resulting name (a .type))) ⌝ }
 {
     if within {
         return Measured::Passed(size);
     }
-    fitting(sized_fit(incoming, v, n, plan, x, size, 16, 16384))
+    fitting(sized_fit(incoming, v, n, plan, x, size, 16, LONGEST, tables))
 }
 
 // What the input of a mapping begins with.
-fn input_head(incoming: &[u8], v: Edition, n: u16, plan: &[u8], x: Walk) -> TypeHead
+fn input_head(incoming: &[u8], v: Edition, n: u16, plan: &[u8], x: Walk, tables: &[u16]) -> TypeHead
+    requires { ⌜ Tables (now incoming) v n (now plan) (now tables) ⌝ }
     requires { ⌜ ((t : DataType) × TypedAt (now incoming) v n (now plan) x t) ⌝ }
     ensures { λ h. ⌜ ((t : DataType) → TypedAt (now (incoming .entry)) v n (now (plan .entry)) x t → TypeHeadIs (now (incoming .entry)) (now (plan .entry)) t h) ⌝ }
 {
-    let r = resolve(incoming, v, n, plan, x);
-    type_head(incoming, v, n, plan, r)
+    let r = resolve(incoming, v, n, plan, x, tables);
+    type_head(incoming, v, n, plan, r, tables)
 }
 
 // A position, among so many columns, or a constant.
@@ -288,7 +303,9 @@ fn check_input(
     x: Walk,
     size: Size,
     within: bool,
+    tables: &[u16],
 ) -> Rest
+    requires { ⌜ Tables (now incoming) v n (now plan) (now tables) ⌝ }
     requires { ⌜ ((s : Selector) × (Δ : Fields) × PassedInput (now incoming) v n (now plan) w x size within s Δ) ⌝ }
     ensures { λ r. ⌜ ((s : Selector) (Δ : Fields) → PassedInput (now (incoming .entry)) v n (now (plan .entry)) w x size within s Δ → RestIs (now (incoming .entry)) v n (now (plan .entry)) w within s Δ r) ⌝ }
 {
@@ -296,16 +313,24 @@ fn check_input(
     match head(plan, c) {
         SelectorHead::Position(_) => Rest::Refused(32),
         SelectorHead::Constant(_, _) => Rest::Refused(32),
-        SelectorHead::Cast(input) => nothing_left(cast_result(incoming, v, n, plan, x, input)),
+        SelectorHead::Cast(input) => nothing_left(cast_result(
+            incoming,
+            v,
+            n,
+            plan,
+            x,
+            input,
+            tables,
+        )),
         SelectorHead::Rename(_) => {
-            nothing_left(rename_result(incoming, v, n, plan, x, size, within))
+            nothing_left(rename_result(incoming, v, n, plan, x, size, within, tables))
         }
         SelectorHead::Struct(input) => {
-            let f = struct_fields(plan, input);
-            fields_left(input_head(incoming, v, n, plan, x), f.count)
+            let f = counted_at(plan, skip_by(plan, input, tables));
+            fields_left(input_head(incoming, v, n, plan, x, tables), f.count)
         }
-        SelectorHead::List(_) => listed_left(input_head(incoming, v, n, plan, x)),
-        SelectorHead::Array(_) => arrayed_left(input_head(incoming, v, n, plan, x)),
+        SelectorHead::List(_) => listed_left(input_head(incoming, v, n, plan, x, tables)),
+        SelectorHead::Array(_) => arrayed_left(input_head(incoming, v, n, plan, x, tables)),
         SelectorHead::Refused => Rest::Refused(32),
     }
 }
@@ -318,12 +343,14 @@ fn check_scoped(
     plan: &[u8],
     w: Walk,
     scope: ScopeColumns,
+    tables: &[u16],
 ) -> Measured
+    requires { ⌜ Tables (now incoming) v n (now plan) (now tables) ⌝ }
     requires { ⌜ ((s : Selector) × (Δ : Fields) × CheckingAt (now incoming) v n (now plan) w s Δ × ScopeIs scope Δ) ⌝ }
     ensures { λ r. ⌜ ((s : Selector) (Δ : Fields) → CheckingAt (now (incoming .entry)) v n (now (plan .entry)) w s Δ → ScopeIs scope Δ → MeasuredIs r (typeOf Δ s)) ⌝ }
 {
     if is_transform(plan, Cursor { at: w.at }) {
-        return check_transform(incoming, v, n, plan, w, scope);
+        return check_transform(incoming, v, n, plan, w, scope, tables);
     }
     check_source(plan, w, scope.count)
 }
@@ -337,22 +364,24 @@ fn check_transform(
     plan: &[u8],
     w: Walk,
     scope: ScopeColumns,
+    tables: &[u16],
 ) -> Measured
+    requires { ⌜ Tables (now incoming) v n (now plan) (now tables) ⌝ }
     requires { ⌜ ((s : Selector) × (Δ : Fields) × CheckingAt (now incoming) v n (now plan) w s Δ × ScopeIs scope Δ × (isTransform s ≡ true)) ⌝ }
     ensures { λ r. ⌜ ((s : Selector) (Δ : Fields) → CheckingAt (now (incoming .entry)) v n (now (plan .entry)) w s Δ → ScopeIs scope Δ → isTransform s ≡ true → MeasuredIs r (typeOf Δ s)) ⌝ }
 {
     let x = w.to_input();
-    match check_scoped(incoming, v, n, plan, x, scope) {
+    match check_scoped(incoming, v, n, plan, x, scope, tables) {
         Measured::Passed(size) => {
             let within = input_within(plan, x, scope);
-            match check_input(incoming, v, n, plan, w, x, size, within) {
+            match check_input(incoming, v, n, plan, w, x, size, within, tables) {
                 Rest::Passed(z) => Measured::Passed(z),
                 Rest::Refused(k) => Measured::Refused(k),
                 Rest::Fields(count, m) => {
                     let inner = ScopeColumns { count: m, within };
-                    check_fields(incoming, v, n, plan, w, count, inner)
+                    check_fields(incoming, v, n, plan, w, count, inner, tables)
                 }
-                Rest::Element(head) => check_element(incoming, v, n, plan, w, head, within),
+                Rest::Element(head) => check_element(incoming, v, n, plan, w, head, within, tables),
             }
         }
         Measured::Refused(k) => Measured::Refused(k),
@@ -369,19 +398,21 @@ fn check_fields(
     w: Walk,
     count: u16,
     scope: ScopeColumns,
+    tables: &[u16],
 ) -> Measured
+    requires { ⌜ Tables (now incoming) v n (now plan) (now tables) ⌝ }
     requires { ⌜ ((i : Selector) × (ss : Selectors) × (fs : Fields) × MappingAt (now incoming) v n (now plan) w (structMapping i ss) i (struct fs) × (countSelectors ss ≡ count) × ScopeIs scope fs) ⌝ }
     ensures { λ r. ⌜ ((i : Selector) (ss : Selectors) (fs : Fields) (name : Bytes) → MappingAt (now (incoming .entry)) v n (now (plan .entry)) w (structMapping i ss) i (struct fs) → countSelectors ss ≡ count → ScopeIs scope fs → r ≡ measuredOf true (fieldsResult fs ss name)) ⌝ }
 {
-    let mut c = first_child(plan, w);
+    let mut c = first_child(plan, w, tables);
     let mut fields = Fit::Within(0, 0);
     let mut k: u16 = 0;
     while k < count {
         let x = child_at(w, k, c);
-        match check_scoped(incoming, v, n, plan, x, scope) {
+        match check_scoped(incoming, v, n, plan, x, scope, tables) {
             Measured::Passed(size) => {
-                fields = add_field(incoming, v, n, plan, x, size, fields);
-                c = skip_selector(plan, c);
+                fields = add_field(incoming, v, n, plan, x, size, fields, tables);
+                c = skip_by(plan, c, tables);
                 k += 1;
             }
             Measured::Refused(j) => return Measured::Refused(j),
@@ -400,25 +431,35 @@ fn check_element(
     w: Walk,
     head: usize,
     within: bool,
+    tables: &[u16],
 ) -> Measured
+    requires { ⌜ Tables (now incoming) v n (now plan) (now tables) ⌝ }
     requires { ⌜ ((t : DataType) × (e : Selector) × (f : DataType → DataType) × Elements (now incoming) v n (now plan) w t e f head × (within ≡ true → withinLimits t ≡ true)) ⌝ }
     ensures { λ r. ⌜ ((t : DataType) (e : Selector) (f : DataType → DataType) (name : Bytes) → Elements (now (incoming .entry)) v n (now (plan .entry)) w t e f head → (within ≡ true → withinLimits t ≡ true) → r ≡ measuredOf true (elementResult t e f name)) ⌝ }
 {
-    let x = w.child(plan, 0);
+    let x = w.child(plan, 0, tables);
     let scope = ScopeColumns { count: 1, within };
-    match check_scoped(incoming, v, n, plan, x, scope) {
-        Measured::Passed(size) => fitting(list_fit(incoming, v, n, plan, x, size, head)),
+    match check_scoped(incoming, v, n, plan, x, scope, tables) {
+        Measured::Passed(size) => fitting(list_fit(incoming, v, n, plan, x, size, head, tables)),
         Measured::Refused(k) => Measured::Refused(k),
     }
 }
 
 // The selector at which the walk stands.
-pub fn check_selector(incoming: &[u8], v: Edition, n: u16, plan: &[u8], w: Walk) -> Checked
+pub fn check_selector(
+    incoming: &[u8],
+    v: Edition,
+    n: u16,
+    plan: &[u8],
+    w: Walk,
+    tables: &[u16],
+) -> Checked
+    requires { ⌜ Tables (now incoming) v n (now plan) (now tables) ⌝ }
     requires { ⌜ ((s : Selector) × (Δ : Fields) × CheckingAt (now incoming) v n (now plan) w s Δ) ⌝ }
     ensures { λ r. ⌜ ((s : Selector) (Δ : Fields) → CheckingAt (now (incoming .entry)) v n (now (plan .entry)) w s Δ → r ≡ checkedOf (typeOf Δ s)) ⌝ }
 {
-    let count = scope_count(incoming, v, n, plan, w);
+    let count = scope_count(incoming, v, n, plan, w, tables);
     let within = columns_within(incoming, w);
     let scope = ScopeColumns { count, within };
-    dropped(check_scoped(incoming, v, n, plan, w, scope))
+    dropped(check_scoped(incoming, v, n, plan, w, scope, tables))
 }

@@ -10,15 +10,18 @@ ghost use Rattle.overflow.specs.code.Overflows.{PlanAt};
 ghost use Rattle.checker.specs.code.Tops.{planChecked, TopsAt};
 ghost use Rattle.plan.specs.Calls.{checkPlan};
 use crate::each::check_each;
+use crate::resolve::INDEX;
 use index::columns::index_columns;
 use index::columns::stride_of;
 use infer::target::fits_target;
 use layout::columns::ColumnRange;
 use layout::cursor::Cursor;
 use layout::edition::Edition;
+use layout::limits::DEEPEST_SELECTOR;
 use layout::read::LayoutRead;
 use layout::read::read_layout;
 use nullness::marks::meets_marks;
+use plan::fill::fill_selectors;
 use plan::read::PlanRead;
 use plan::read::read_plan;
 
@@ -52,9 +55,19 @@ fn check_types(
         count: m,
         first,
     };
-    let mut starts: [u16; 256] = [0; 256];
-    let len = index_columns(incoming, v, n, first, stride_of(n), &mut starts);
-    check_each(incoming, v, n, &starts[..len], plan, count, target, columns)
+    let mut tables = [0u16; INDEX + 256];
+    fill_selectors(plan, DEEPEST_SELECTOR, count, first, &mut tables);
+    let len = index_columns(incoming, v, n, first, stride_of(n), &mut tables[INDEX..]);
+    check_each(
+        incoming,
+        v,
+        n,
+        plan,
+        count,
+        target,
+        columns,
+        &tables[..INDEX + len],
+    )
 }
 
 // Whether no required place of the target meets one that can be null. Editions 1 and 2 have no required places.

@@ -16,20 +16,22 @@ mapped-head-spec =
     (λ c. search needs)
     (λ c. search needs)
     (λ c. search needs)
+    (λ c κs. c .before .before .before .before .before .before .before .pre .0 .constants)
     (λ c κs. search needs)
     (λ c. search needs)
     (λ c. search needs)
     (λ c κs.
     let c2 = c .before .before in let c5 = c2 .before .before .before in
-    let (t, M) = c5 .pre in made-array-asks M (c2 .head .ensures (M .standing .here)) (c .enum-told6 .given .1))
+    let (t, M) = c5 .before .pre .1 in (c5 .before .pre .0, made-array-asks M (c2 .head .ensures (M .standing .here)) (c .enum-told6 .given .1)))
     (λ c. search needs)
     (λ c. λ t M. made-position-never M (c .before .before .head .ensures (M .standing .here)) (c .enum-told .given .1))
     (λ c. λ t M. made-constant-never M (c .before .before .head .ensures (M .standing .here)) (c .enum-told2 .given .1))
     (λ c. λ t M. made-cast-never M (c .before .before .head .ensures (M .standing .here)) (c .enum-told3 .given .1))
     (λ c. λ t M. made-rename-never M (c .before .before .head .ensures (M .standing .here)) (c .enum-told4 .given .1))
     (λ c.
-    let c2 = c .before .before in let c4 = c2 .before .before in
-    λ t M. made-struct-is M (c4 .head .ensures (M .standing .here)) (c2 .input .given .1) (c .struct-fields .ensures))
+    let c3 = c .before .before .before in let c5 = c3 .before .before in
+    λ t M. made-struct-is M (c5 .head .ensures (M .standing .here)) (c3 .input .given .1)
+    (λ P Q. c .counted-at .ensures (P .end) Q (c .before .skip-by .ensures P)))
     (λ c. λ t M. made-list-is M (c .before .before .head .ensures (M .standing .here)) (c .enum-told5 .given .1))
     (λ c. λ t M. made-array-is M (c .before .before .before .head .ensures (M .standing .here)) (c .before .enum-told6 .given .1) (c .width .ensures))
     (λ c. λ t M. never-refused (c .before .before .head .ensures (M .standing .here)) (c .enum-told7 .given .1)))

@@ -14,7 +14,8 @@ type-head-spec =
     (λ c. search needs)
     (λ c κs. search needs)
     (λ c. search needs)
-    (λ c κs. let (t, R) = c .before .before .before .before .before .before .pre in (t, from-mapping R (c .enum-told3 .given .1)))
+    (λ c κs. let (t, R) = c .before .before .before .before .before .before .before .pre .1 in
+    (c .before .before .before .before .before .before .before .pre .0, (t, from-mapping R (c .enum-told3 .given .1))))
     (λ c. λ t R. c .raw-head .ensures _ _ _ t refl (from-incoming R (c .before .enum-told .given .1)))
     (λ c. λ t R. c .raw-head2 .ensures _ _ _ t refl (from-plan R (c .before .enum-told2 .given .1)))
     (λ c. λ t R. c .mapped-head .ensures t (from-mapping R (c .before .enum-told3 .given .1))))

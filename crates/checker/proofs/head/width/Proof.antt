@@ -7,10 +7,10 @@ use Rattle.checker.proofs.head.width.Statement.{statement}
 use Rattle.checker.proofs.head.width.Tie as tie
 
 abbrev Inv-loop : tie.InvT-loop
-Inv-loop incoming v n plan x₀ x = Widening incoming v n plan x₀ x
+Inv-loop incoming v n plan tables x₀ x = Widening incoming v n plan x₀ x
 
 abbrev μ-loop : tie.MeasureT-loop
-μ-loop incoming v n plan x₀ x = rank x
+μ-loop incoming v n plan tables x₀ x = rank x
 
 pub width-spec : {M : Type 1} → statement M
 width-spec =
@@ -18,9 +18,9 @@ width-spec =
     (tie.spec
     Inv-loop
     μ-loop
-    (λ c. let (x, t, M) = c .before .before .pre in widening-start M)
+    (λ c. let (x, t, M) = c .before .before .before .pre .1 in widening-start M)
     (λ c κs. mapped-before (c .loop .inv .start))
-    (λ c κs. widening-asks (c .to-input .ensures) (c .before .loop .inv))
+    (λ c κs. (c .before .before .before .before .before .pre .0, widening-asks (c .to-input .ensures) (c .before .loop .inv)))
     (λ c. search needs)
     (λ c κs. search needs)
     (λ c.

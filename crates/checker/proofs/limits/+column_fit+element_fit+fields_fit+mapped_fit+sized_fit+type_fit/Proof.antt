@@ -43,7 +43,7 @@ use Rattle.checker.proofs.limits.size_fit.Reads as size-fit-reads
 use Rattle.checker.proofs.name.name_at.Reads as name-at-reads
 use Rattle.checker.proofs.part.part.Reads as part-reads
 use Rattle.checker.proofs.resolve.resolve.Reads as resolve-reads
-use Rattle.walk.proofs.head.skip_selector.Reads as skip-selector-reads
+use Rattle.walk.proofs.head.skip_by.Reads as skip-by-reads
 use Rattle.checker.proofs.limits.+column_fit+element_fit+fields_fit+mapped_fit+sized_fit+type_fit.{
   statement,
 }
@@ -51,69 +51,69 @@ use Rattle.checker.proofs.limits.+column_fit+element_fit+fields_fit+map
   close,
 }
 
-abbrev μ-column-fit : Measures 2 column-fit-kinds.ps ℕ
+abbrev μ-column-fit : Measures 3 column-fit-kinds.ps ℕ
 μ-column-fit κs a = 5 * (a .1 .1 .1 .1 .1 .1 .0) + 4
 
-abbrev μ-element-fit : Measures 2 element-fit-kinds.ps ℕ
+abbrev μ-element-fit : Measures 3 element-fit-kinds.ps ℕ
 μ-element-fit κs a = 5 * (a .1 .1 .1 .1 .1 .1 .0)
 
-abbrev μ-fields-fit : Measures 2 fields-fit-kinds.ps ℕ
+abbrev μ-fields-fit : Measures 3 fields-fit-kinds.ps ℕ
 μ-fields-fit κs a = 5 * (a .1 .1 .1 .1 .1 .1 .0) + 5
 
-abbrev μ-mapped-fit : Measures 2 mapped-fit-kinds.ps ℕ
+abbrev μ-mapped-fit : Measures 3 mapped-fit-kinds.ps ℕ
 μ-mapped-fit κs a = 5 * (a .1 .1 .1 .1 .1 .0) + 1
 
-abbrev μ-sized-fit : Measures 2 sized-fit-kinds.ps ℕ
+abbrev μ-sized-fit : Measures 3 sized-fit-kinds.ps ℕ
 μ-sized-fit κs a = 5 * (a .1 .1 .1 .1 .1 .1 .0) + 3
 
-abbrev μ-type-fit : Measures 2 type-fit-kinds.ps ℕ
+abbrev μ-type-fit : Measures 3 type-fit-kinds.ps ℕ
 μ-type-fit κs a = 5 * (a .1 .1 .1 .1 .1 .0) + 2
 
-abbrev column-fit-at : ℕ → In 2 column-fit-kinds.ps
+abbrev column-fit-at : ℕ → In 3 column-fit-kinds.ps
 column-fit-at t =
-    and 2 column-fit-kinds.ps (is 2 column-fit-kinds.ps μ-column-fit t) column-fit.Pre
+    and 3 column-fit-kinds.ps (is 3 column-fit-kinds.ps μ-column-fit t) column-fit.Pre
 
-abbrev column-fit-below : ℕ → In 2 column-fit-kinds.ps
+abbrev column-fit-below : ℕ → In 3 column-fit-kinds.ps
 column-fit-below t =
-    and 2 column-fit-kinds.ps (falls 2 column-fit-kinds.ps _<_ μ-column-fit t) column-fit.Pre
+    and 3 column-fit-kinds.ps (falls 3 column-fit-kinds.ps _<_ μ-column-fit t) column-fit.Pre
 
-abbrev element-fit-at : ℕ → In 2 element-fit-kinds.ps
+abbrev element-fit-at : ℕ → In 3 element-fit-kinds.ps
 element-fit-at t =
-    and 2 element-fit-kinds.ps (is 2 element-fit-kinds.ps μ-element-fit t) element-fit.Pre
+    and 3 element-fit-kinds.ps (is 3 element-fit-kinds.ps μ-element-fit t) element-fit.Pre
 
-abbrev element-fit-below : ℕ → In 2 element-fit-kinds.ps
+abbrev element-fit-below : ℕ → In 3 element-fit-kinds.ps
 element-fit-below t =
-    and 2 element-fit-kinds.ps (falls 2 element-fit-kinds.ps _<_ μ-element-fit t) element-fit.Pre
+    and 3 element-fit-kinds.ps (falls 3 element-fit-kinds.ps _<_ μ-element-fit t) element-fit.Pre
 
-abbrev fields-fit-at : ℕ → In 2 fields-fit-kinds.ps
+abbrev fields-fit-at : ℕ → In 3 fields-fit-kinds.ps
 fields-fit-at t =
-    and 2 fields-fit-kinds.ps (is 2 fields-fit-kinds.ps μ-fields-fit t) fields-fit.Pre
+    and 3 fields-fit-kinds.ps (is 3 fields-fit-kinds.ps μ-fields-fit t) fields-fit.Pre
 
-abbrev fields-fit-below : ℕ → In 2 fields-fit-kinds.ps
+abbrev fields-fit-below : ℕ → In 3 fields-fit-kinds.ps
 fields-fit-below t =
-    and 2 fields-fit-kinds.ps (falls 2 fields-fit-kinds.ps _<_ μ-fields-fit t) fields-fit.Pre
+    and 3 fields-fit-kinds.ps (falls 3 fields-fit-kinds.ps _<_ μ-fields-fit t) fields-fit.Pre
 
-abbrev mapped-fit-at : ℕ → In 2 mapped-fit-kinds.ps
+abbrev mapped-fit-at : ℕ → In 3 mapped-fit-kinds.ps
 mapped-fit-at t =
-    and 2 mapped-fit-kinds.ps (is 2 mapped-fit-kinds.ps μ-mapped-fit t) mapped-fit.Pre
+    and 3 mapped-fit-kinds.ps (is 3 mapped-fit-kinds.ps μ-mapped-fit t) mapped-fit.Pre
 
-abbrev mapped-fit-below : ℕ → In 2 mapped-fit-kinds.ps
+abbrev mapped-fit-below : ℕ → In 3 mapped-fit-kinds.ps
 mapped-fit-below t =
-    and 2 mapped-fit-kinds.ps (falls 2 mapped-fit-kinds.ps _<_ μ-mapped-fit t) mapped-fit.Pre
+    and 3 mapped-fit-kinds.ps (falls 3 mapped-fit-kinds.ps _<_ μ-mapped-fit t) mapped-fit.Pre
 
-abbrev sized-fit-at : ℕ → In 2 sized-fit-kinds.ps
-sized-fit-at t = and 2 sized-fit-kinds.ps (is 2 sized-fit-kinds.ps μ-sized-fit t) sized-fit.Pre
+abbrev sized-fit-at : ℕ → In 3 sized-fit-kinds.ps
+sized-fit-at t = and 3 sized-fit-kinds.ps (is 3 sized-fit-kinds.ps μ-sized-fit t) sized-fit.Pre
 
-abbrev sized-fit-below : ℕ → In 2 sized-fit-kinds.ps
+abbrev sized-fit-below : ℕ → In 3 sized-fit-kinds.ps
 sized-fit-below t =
-    and 2 sized-fit-kinds.ps (falls 2 sized-fit-kinds.ps _<_ μ-sized-fit t) sized-fit.Pre
+    and 3 sized-fit-kinds.ps (falls 3 sized-fit-kinds.ps _<_ μ-sized-fit t) sized-fit.Pre
 
-abbrev type-fit-at : ℕ → In 2 type-fit-kinds.ps
-type-fit-at t = and 2 type-fit-kinds.ps (is 2 type-fit-kinds.ps μ-type-fit t) type-fit.Pre
+abbrev type-fit-at : ℕ → In 3 type-fit-kinds.ps
+type-fit-at t = and 3 type-fit-kinds.ps (is 3 type-fit-kinds.ps μ-type-fit t) type-fit.Pre
 
-abbrev type-fit-below : ℕ → In 2 type-fit-kinds.ps
+abbrev type-fit-below : ℕ → In 3 type-fit-kinds.ps
 type-fit-below t =
-    and 2 type-fit-kinds.ps (falls 2 type-fit-kinds.ps _<_ μ-type-fit t) type-fit.Pre
+    and 3 type-fit-kinds.ps (falls 3 type-fit-kinds.ps _<_ μ-type-fit t) type-fit.Pre
 
 abbrev column-fit-claims : ℕ → column-fit-lts.Claims
 column-fit-claims t = (name-at-reads.Asked, name-at-reads.Learnt, sized-fit-below t, sized-fit.Post, joined-reads.Asked, joined-reads.Learnt)
@@ -131,8 +131,8 @@ fields-fit-claims t = (
   column-fit.Post,
   larger-reads.Asked,
   larger-reads.Learnt,
-  skip-selector-reads.Asked,
-  skip-selector-reads.Learnt,
+  skip-by-reads.Asked,
+  skip-by-reads.Learnt,
 )
 
 abbrev mapped-fit-claims : ℕ → mapped-fit-lts.Claims
@@ -154,7 +154,7 @@ abbrev type-fit-claims : ℕ → type-fit-lts.Claims
 type-fit-claims t = (raw-fit-reads.Asked, raw-fit-reads.Learnt, mapped-fit-below t, mapped-fit.Post)
 
 column-fit-name-at-requires : (t : ℕ) → column-fit-lts.Need-name-at-requires (column-fit-claims t) (column-fit-at t) column-fit.Post
-column-fit-name-at-requires t c κs = let (b, a, N, e) = c .before .before .pre .1 in (a, N)
+column-fit-name-at-requires t c κs = let (b, a, N, e) = c .before .before .before .pre .1 .1 in (c .before .before .before .pre .1 .0, (a, N))
 
 column-fit-returns : (t : ℕ) → column-fit-lts.Need-returns (column-fit-claims t) (column-fit-at t) column-fit.Post
 column-fit-returns t c = λ b a N e. column-over a (c .before .name-at .ensures a N) _ _ (c .if1 .taken)
@@ -166,22 +166,22 @@ column-fit-sub-sized-fit-2 : (t : ℕ) → column-fit-lts.Need-sub-sized-fit-2 (
 column-fit-sub-sized-fit-2 t c = omega (arith, c .if1 .left)
 
 column-fit-sized-fit-requires : (t : ℕ) → column-fit-lts.Need-sized-fit-requires (column-fit-claims t) (column-fit-at t) column-fit.Post
-column-fit-sized-fit-requires t c κs = let (b, a, N, e) = c .before .before .before .before .pre .1 in (
+column-fit-sized-fit-requires t c κs = let (b, a, N, e) = c .before .before .before .before .before .pre .1 .1 in (
   omega
-      (arith, c .before .before .before .before .pre .0),
-  (b, a .type, named-typed N, e),
+      (arith, c .before .before .before .before .before .pre .0),
+  (c .before .before .before .before .before .pre .1 .0, (b, a .type, named-typed N, e)),
 )
 
 column-fit-add-joined : (t : ℕ) → column-fit-lts.Need-add-joined (column-fit-claims t) (column-fit-at t) column-fit.Post
-column-fit-add-joined t c = omega (arith, c .before .if1 .left, c .before .before .before .before .before .fits .room)
+column-fit-add-joined t c = omega (arith, c .before .if1 .left, c .before .before .before .before .before .before .fits .room)
 
 column-fit-joined-requires : (t : ℕ) → column-fit-lts.Need-joined-requires (column-fit-claims t) (column-fit-at t) column-fit.Post
-column-fit-joined-requires t c κs = let (b, a, N, e) = c .before .before .before .before .before .pre .1 in λ s d q. omega (
+column-fit-joined-requires t c κs = let (b, a, N, e) = c .before .before .before .before .before .before .pre .1 .1 in λ s d q. omega (
   arith,
   fit-bounded _ _ _ _
       (c .sized-fit .ensures b (a .type) (named-typed N) e) s d q .1,
   c .before .if1 .left,
-  c .before .before .before .before .before .fits .room,
+  c .before .before .before .before .before .before .fits .room,
 )
 
 column-fit-returns-2 : (t : ℕ) → column-fit-lts.Need-returns-2 (column-fit-claims t) (column-fit-at t) column-fit.Post
@@ -192,46 +192,48 @@ element-fit-returns : (t : ℕ) → element-fit-lts.Need-returns (element-fit-cl
 element-fit-returns t c = λ u a R P. fit-long _ _ _ _ (omega (arith, c .if1 .taken))
 
 element-fit-part-requires : (t : ℕ) → element-fit-lts.Need-part-requires (element-fit-claims t) (element-fit-at t) element-fit.Post
-element-fit-part-requires t c κs = c .before .before .before .pre .1 .0
+element-fit-part-requires t c κs = (c .before .before .before .before .pre .1 .0, c .before .before .before .before .pre .1 .1 .0)
 
 element-fit-sub-type-fit : (t : ℕ) → element-fit-lts.Need-sub-type-fit (element-fit-claims t) (element-fit-at t) element-fit.Post
-element-fit-sub-type-fit t c = omega (arith, c .before .before .before .before .pre .1 .1)
+element-fit-sub-type-fit t c = omega (arith, c .before .before .before .before .before .pre .1 .1 .1)
 
 element-fit-type-fit-requires : (t : ℕ) → element-fit-lts.Need-type-fit-requires (element-fit-claims t) (element-fit-at t) element-fit.Post
-element-fit-type-fit-requires t c κs = let (u, a, R, P) = c .before .before .before .before .pre .1 .0 in (
+element-fit-type-fit-requires t c κs = let (u, a, R, P) = c .before .before .before .before .before .pre .1 .1 .0 in (
   omega
-      (arith, c .before .before .before .before .pre .0, c .before .before .before .before .pre .1 .1),
-  (_, c .part .ensures u a R P),
+      (arith, c .before .before .before .before .before .pre .0, c .before .before .before .before .before .pre .1 .1 .1),
+  (c .before .before .before .before .before .pre .1 .0, (_, c .part .ensures u a R P)),
 )
 
 element-fit-around-requires : (t : ℕ) → element-fit-lts.Need-around-requires (element-fit-claims t) (element-fit-at t) element-fit.Post
-element-fit-around-requires t c κs = let (u, a, R, P) = c .before .before .before .before .before .pre .1 .0 in λ s d q. let B = fit-bounded _ _ _ _
+element-fit-around-requires t c κs = let (u, a, R, P) = c .before .before .before .before .before .before .pre .1 .1 .0 in λ s d q. let B = fit-bounded _ _ _ _
     (c .type-fit .ensures (a .type) (c .before .part .ensures u a R P)) s d q in (
       omega
-          (arith, B .1, c .before .before .if1 .left, c .before .before .before .before .before .fits .room),
+          (arith, B .1, c .before .before .if1 .left, c .before .before .before .before .before .before .fits .room),
       omega
-          (arith, B .0, c .before .before .before .before .before .pre .1 .1, c .before .before .before .before .before .fits .levels),
+          (arith, B .0, c .before .before .before .before .before .before .pre .1 .1 .1, c .before .before .before .before .before .before .fits .levels),
     )
 
 element-fit-returns-2 : (t : ℕ) → element-fit-lts.Need-returns-2 (element-fit-claims t) (element-fit-at t) element-fit.Post
-element-fit-returns-2 t c = λ u a R P. c .around .ensures ∙ ap (aroundOf (c .before .before .before .before .before .before .args .head))
+element-fit-returns-2 t c = λ u a R P. c .around .ensures ∙ ap (aroundOf (c .before .before .before .before .before .before .before .args .head))
     (c .before .type-fit .ensures (a .type) (c .before .before .part .ensures u a R P)) ∙ fit-around
-    (c .before .before .before .before .before .before .args .head) _ _ (c .before .before .before .before .before .before .args .levels)
-    (c .before .before .before .before .before .before .args .room) (c .before .before .before .before .before .before .pre .1 .1)
+    (c .before .before .before .before .before .before .before .args .head) _ _ (c .before .before .before .before .before .before .before .args .levels)
+    (c .before .before .before .before .before .before .before .args .room) (c .before .before .before .before .before .before .before .pre .1 .1 .1)
     (c .before .before .before .if1 .left)
 
 abbrev fields-fit-Inv-loop : fields-fit-lts.InvT-loop
-fields-fit-Inv-loop incoming v n plan w count levels room c₀ size₀ deep₀ k₀ c size deep k = Fitting incoming v n plan w count levels room (c .at) size deep k
+fields-fit-Inv-loop incoming v n plan w count levels room tables c₀ size₀ deep₀ k₀ c size deep k = Fitting incoming v n plan w count levels room
+    (c .at) size deep k
 
 abbrev fields-fit-μ-loop : fields-fit-lts.MeasureT-loop
-fields-fit-μ-loop incoming v n plan w count levels room c₀ size₀ deep₀ k₀ c size deep k = count - k
+fields-fit-μ-loop incoming v n plan w count levels room tables c₀ size₀ deep₀ k₀ c size deep k = count - k
 
 fields-fit-first-child-requires : (t : ℕ) → fields-fit-lts.Need-first-child-requires (fields-fit-claims t)
     (fields-fit-at t) fields-fit.Post fields-fit-Inv-loop fields-fit-μ-loop
-fields-fit-first-child-requires t c κs = let (fs, M, e) = c .before .before .pre .1 in made-asks M .0
+fields-fit-first-child-requires t c κs = let (fs, M, e) = c .before .before .before .pre .1 .1 in
+    (c .before .before .before .pre .1 .0 .constants, made-asks M .0)
 
 fields-fit-loop-holds : (t : ℕ) → fields-fit-lts.Need-loop-holds (fields-fit-claims t) (fields-fit-at t) fields-fit.Post fields-fit-Inv-loop fields-fit-μ-loop
-fields-fit-loop-holds t c = let (fs, M, e) = c .before .before .before .pre .1 in fitting-start M e (c .first-child .ensures)
+fields-fit-loop-holds t c = let (fs, M, e) = c .before .before .before .before .pre .1 .1 in fitting-start M e (c .first-child .ensures)
 
 fields-fit-child-at-requires : (t : ℕ) → fields-fit-lts.Need-child-at-requires (fields-fit-claims t)
     (fields-fit-at t) fields-fit.Post fields-fit-Inv-loop fields-fit-μ-loop
@@ -244,9 +246,10 @@ fields-fit-sub-column-fit t c = omega (arith, c .before .before .loop .inv .smal
 fields-fit-column-fit-requires : (t : ℕ) → fields-fit-lts.Need-column-fit-requires (fields-fit-claims t)
     (fields-fit-at t) fields-fit.Post fields-fit-Inv-loop fields-fit-μ-loop
 fields-fit-column-fit-requires t c κs = (
-  omega (arith, c .before .before .before .before .before .before .pre .0),
+  omega (arith, c .before .before .before .before .before .before .before .pre .0),
   let (a, N) = fitting-asks
-      (c .before .before .loop .inv) (c .before .loop-test .taken) (c .child-at .ensures) in (false, a, N, refl),
+      (c .before .before .loop .inv) (c .before .loop-test .taken) (c .child-at .ensures) in
+      (c .before .before .before .before .before .before .before .pre .1 .0, (false, a, N, refl)),
 )
 
 fields-fit-enum-known-more : (t : ℕ) → fields-fit-lts.Need-enum-known-more (fields-fit-claims t)
@@ -260,7 +263,7 @@ fields-fit-add-size t c = omega (
       (c .before .before .before .before .before .loop-test .taken) (c .before .before .before .before .child-at .ensures)
       (c .before .before .before .column-fit .ensures)
       (c .before .more .given .1),
-  c .before .before .before .before .before .before .before .before .before .before .fits .room,
+  c .before .before .before .before .before .before .before .before .before .before .before .fits .room,
 )
 
 fields-fit-larger-requires : (t : ℕ) → fields-fit-lts.Need-larger-requires (fields-fit-claims t)
@@ -274,14 +277,14 @@ fields-fit-returns : (t : ℕ) → fields-fit-lts.Need-returns (fields-fit-claim
 fields-fit-returns t c = fitting-over (c .before .before .before .before .before .loop .inv) (c .before .before .before .before .loop-test .taken)
     (c .before .before .before .child-at .ensures) (c .before .before .column-fit .ensures) (c .enum-told .given .1)
 
-fields-fit-skip-selector-requires : (t : ℕ) → fields-fit-lts.Need-skip-selector-requires (fields-fit-claims t)
+fields-fit-skip-by-requires : (t : ℕ) → fields-fit-lts.Need-skip-by-requires (fields-fit-claims t)
     (fields-fit-at t) fields-fit.Post fields-fit-Inv-loop fields-fit-μ-loop
-fields-fit-skip-selector-requires t c κs = search needs
+fields-fit-skip-by-requires t c κs = c .before .before .before .before .before .before .before .before .before .before .before .before .pre .1 .0 .constants
 
 fields-fit-add-k : (t : ℕ) → fields-fit-lts.Need-add-k (fields-fit-claims t) (fields-fit-at t) fields-fit.Post fields-fit-Inv-loop fields-fit-μ-loop
 fields-fit-add-k t c = omega (
   arith,
-  c .before .before .before .before .before .before .before .before .before .before .before .before .fits .count,
+  c .before .before .before .before .before .before .before .before .before .before .before .before .before .fits .count,
   c .before .before .before
       .before .before .before .before .loop-test .taken,
 )
@@ -293,7 +296,7 @@ fields-fit-loop-again : (t : ℕ) → fields-fit-lts.Need-loop-again (fields-fit
 fields-fit-loop-again t c = fitting-more (c .before .before .before .before .before .before .before .before .loop .inv)
     (c .before .before .before .before .before .before .before .loop-test .taken) (c .before .before .before .before .before .before .child-at .ensures)
     (c .before .before .before .before .before .column-fit .ensures) (c .before .before .before .more .given .1) refl (c .before .larger .ensures)
-    (c .skip-selector .ensures)
+    (c .skip-by .ensures)
 
 fields-fit-returns-2 : (t : ℕ) → fields-fit-lts.Need-returns-2 (fields-fit-claims t) (fields-fit-at t) fields-fit.Post fields-fit-Inv-loop fields-fit-μ-loop
 fields-fit-returns-2 t c = fitting-end (c .before .loop .inv) (c .loop-test .left)
@@ -302,7 +305,7 @@ mapped-fit-returns : (t : ℕ) → mapped-fit-lts.Need-returns (mapped-fit-claim
 mapped-fit-returns t c = λ u R. fit-none u _ _ (c .if1 .taken)
 
 mapped-fit-type-head-requires : (t : ℕ) → mapped-fit-lts.Need-type-head-requires (mapped-fit-claims t) (mapped-fit-at t) mapped-fit.Post
-mapped-fit-type-head-requires t c κs = c .before .before .before .pre .1 .0
+mapped-fit-type-head-requires t c κs = (c .before .before .before .before .pre .1 .0, c .before .before .before .before .pre .1 .1 .0)
 
 mapped-fit-enum-told : (t : ℕ) → mapped-fit-lts.Need-enum-told (mapped-fit-claims t) (mapped-fit-at t) mapped-fit.Post
 mapped-fit-enum-told t c = search needs
@@ -318,32 +321,37 @@ mapped-fit-sub-fields-fit : (t : ℕ) → mapped-fit-lts.Need-sub-fields-fit (ma
 mapped-fit-sub-fields-fit t c = omega (arith, c .before .before .before .before .before .before .if1 .left)
 
 mapped-fit-fields-fit-requires : (t : ℕ) → mapped-fit-lts.Need-fields-fit-requires (mapped-fit-claims t) (mapped-fit-at t) mapped-fit.Post
-mapped-fit-fields-fit-requires t c κs = let (u, R) = c .before .before .before .before .before .before .before .before .before .pre .1 .0 in (
+mapped-fit-fields-fit-requires t c κs = let (u, R) = c .before .before .before .before .before .before .before .before .before .before .pre .1 .1 .0 in (
   omega (
     arith,
-    c .before .before .before .before .before .before .before .before .before .pre .0,
+    c .before .before .before .before .before .before .before .before .before .before .pre .0,
     c .before .before .before .before .before .before .if1
         .left,
   ),
-  struct-asks (c .before .before .before .before .before .type-head .ensures u R) R
-      (c .before .before .before .before .before .before .before .before .before .pre .1 .1) (c .before .before .before .count .given .1),
+  (
+    c .before .before .before .before .before .before .before .before .before .before .pre .1 .0,
+    struct-asks (c .before .before .before .before .before .type-head .ensures u R) R
+        (c .before .before .before .before .before .before .before .before .before .before .pre .1 .1 .1) (c .before .before .before .count .given .1),
+  ),
 )
 
 mapped-fit-around-requires : (t : ℕ) → mapped-fit-lts.Need-around-requires (mapped-fit-claims t) (mapped-fit-at t) mapped-fit.Post
-mapped-fit-around-requires t c κs = let (u, R) = c .before .before .before .before .before .before .before .before .before .before .pre .1 .0 in λ s d q.
+mapped-fit-around-requires t c κs = let (u, R) = c .before .before .before .before .before .before .before .before .before .before .before .pre .1 .1 .0 in
+    λ s d q.
     let (m, k) = struct-bounded (c .before .before .before .before .before .before .type-head .ensures u R)
-    (c .before .before .before .before .before .before .before .before .before .before .args .levels)
-    (c .before .before .before .before .before .before .before .before .before .before .args .room) R
-    (c .before .before .before .before .before .before .before .before .before .before .pre .1 .1) (c .before .before .before .before .count .given .1)
+    (c .before .before .before .before .before .before .before .before .before .before .before .args .levels)
+    (c .before .before .before .before .before .before .before .before .before .before .before .args .room) R
+    (c .before .before .before .before .before .before .before .before .before .before .before .pre .1 .1 .1)
+    (c .before .before .before .before .count .given .1)
     (c .fields-fit .ensures) s d q in (
       omega
-          (arith, k, c .before .before .if2 .left, c .before .before .before .before .before .before .before .before .before .before .fits .room),
+          (arith, k, c .before .before .if2 .left, c .before .before .before .before .before .before .before .before .before .before .before .fits .room),
       omega (
         arith,
         m,
         c .before .before .before .before .before .before .before .if1 .left,
         c .before .before .before .before .before .before .before .before
-            .before .before .fits .levels,
+            .before .before .before .fits .levels,
       ),
     )
 
@@ -351,13 +359,16 @@ mapped-fit-enum-told-2 : (t : ℕ) → mapped-fit-lts.Need-enum-told-2 (mapped-f
 mapped-fit-enum-told-2 t c = search needs
 
 mapped-fit-element-fit-requires : (t : ℕ) → mapped-fit-lts.Need-element-fit-requires (mapped-fit-claims t) (mapped-fit-at t) mapped-fit.Post
-mapped-fit-element-fit-requires t c κs = let (u, R) = c .before .before .before .before .before .before .pre .1 .0 in (
+mapped-fit-element-fit-requires t c κs = let (u, R) = c .before .before .before .before .before .before .before .pre .1 .1 .0 in (
   omega
-      (arith, c .before .before .before .before .before .before .pre .0),
+      (arith, c .before .before .before .before .before .before .before .pre .0),
   (
-    list-asks (c .before .before .type-head .ensures u R) R
-        (c .enum-told2 .given .1),
-    omega (arith, c .before .before .before .if1 .left),
+    c .before .before .before .before .before .before .before .pre .1 .0,
+    (
+      list-asks (c .before .before .type-head .ensures u R) R
+          (c .enum-told2 .given .1),
+      omega (arith, c .before .before .before .if1 .left),
+    ),
   ),
 )
 
@@ -365,25 +376,29 @@ mapped-fit-enum-told-3 : (t : ℕ) → mapped-fit-lts.Need-enum-told-3 (mapped-f
 mapped-fit-enum-told-3 t c = search needs
 
 mapped-fit-element-fit-requires-2 : (t : ℕ) → mapped-fit-lts.Need-element-fit-requires-2 (mapped-fit-claims t) (mapped-fit-at t) mapped-fit.Post
-mapped-fit-element-fit-requires-2 t c κs = let (u, R) = c .before .before .before .before .before .before .pre .1 .0 in (
+mapped-fit-element-fit-requires-2 t c κs = let (u, R) = c .before .before .before .before .before .before .before .pre .1 .1 .0 in (
   omega
-      (arith, c .before .before .before .before .before .before .pre .0),
+      (arith, c .before .before .before .before .before .before .before .pre .0),
   (
-    array-asks (c .before .before .type-head .ensures u R) R
-        (c .enum-told3 .given .1),
-    omega (arith, c .before .before .before .if1 .left),
+    c .before .before .before .before .before .before .before .pre .1 .0,
+    (
+      array-asks (c .before .before .type-head .ensures u R) R
+          (c .enum-told3 .given .1),
+      omega (arith, c .before .before .before .if1 .left),
+    ),
   ),
 )
 
 mapped-fit-returns-3 : (t : ℕ) → mapped-fit-lts.Need-returns-3 (mapped-fit-claims t) (mapped-fit-at t) mapped-fit.Post
-mapped-fit-returns-3 t c = λ u R. made-no-leaf R (c .before .before .before .before .before .before .pre .1 .1) (c .before .before .type-head .ensures u R)
+mapped-fit-returns-3 t c = λ u R. made-no-leaf R (c .before .before .before .before .before .before .before .pre .1 .1 .1)
+    (c .before .before .type-head .ensures u R)
     (c .enum-told .given .1)
 
 mapped-fit-returns-4 : (t : ℕ) → mapped-fit-lts.Need-returns-4 (mapped-fit-claims t) (mapped-fit-at t) mapped-fit.Post
 mapped-fit-returns-4 t c = λ u R. struct-fits (c .before .before .before .before .before .before .before .type-head .ensures u R)
-    (c .before .before .before .before .before .before .before .before .before .before .before .args .levels)
-    (c .before .before .before .before .before .before .before .before .before .before .before .args .room) R
-    (c .before .before .before .before .before .before .before .before .before .before .before .pre .1 .1)
+    (c .before .before .before .before .before .before .before .before .before .before .before .before .args .levels)
+    (c .before .before .before .before .before .before .before .before .before .before .before .before .args .room) R
+    (c .before .before .before .before .before .before .before .before .before .before .before .before .pre .1 .1 .1)
     (c .before .before .before .before .before .count .given .1) (c .before .fields-fit .ensures) (c .around .ensures) (omega
     (arith, c .before .before .before .before .before .before .before .before .if1 .left)) (c .before .before .before .if2 .left)
 
@@ -405,13 +420,14 @@ sized-fit-enum-told : (t : ℕ) → sized-fit-lts.Need-enum-told (sized-fit-clai
 sized-fit-enum-told t c = search needs
 
 sized-fit-resolve-requires : (t : ℕ) → sized-fit-lts.Need-resolve-requires (sized-fit-claims t) (sized-fit-at t) sized-fit.Post
-sized-fit-resolve-requires t c κs = let (b, u, X, e) = c .before .before .before .before .pre .1 in (u, X)
+sized-fit-resolve-requires t c κs = let (b, u, X, e) = c .before .before .before .before .before .pre .1 .1 in
+    (c .before .before .before .before .before .pre .1 .0, (u, X))
 
 sized-fit-type-fit-requires : (t : ℕ) → sized-fit-lts.Need-type-fit-requires (sized-fit-claims t) (sized-fit-at t) sized-fit.Post
-sized-fit-type-fit-requires t c κs = let (b, u, X, e) = c .before .before .before .before .before .pre .1 in (
+sized-fit-type-fit-requires t c κs = let (b, u, X, e) = c .before .before .before .before .before .before .pre .1 .1 in (
   omega
-      (arith, c .before .before .before .before .before .pre .0),
-  (u, c .resolve .ensures u X .resolved),
+      (arith, c .before .before .before .before .before .before .pre .0),
+  (c .before .before .before .before .before .before .pre .1 .0, (u, c .resolve .ensures u X .resolved)),
 )
 
 sized-fit-returns : (t : ℕ) → sized-fit-lts.Need-returns (sized-fit-claims t) (sized-fit-at t) sized-fit.Post
@@ -424,21 +440,21 @@ type-fit-enum-told : (t : ℕ) → type-fit-lts.Need-enum-told (type-fit-claims 
 type-fit-enum-told t c = search needs
 
 type-fit-raw-fit-requires : (t : ℕ) → type-fit-lts.Need-raw-fit-requires (type-fit-claims t) (type-fit-at t) type-fit.Post
-type-fit-raw-fit-requires t c κs = let (u, R) = c .before .before .before .before .before .pre .1 in (u, from-incoming R (c .enum-told .given .1))
+type-fit-raw-fit-requires t c κs = let (u, R) = c .before .before .before .before .before .before .pre .1 .1 in (u, from-incoming R (c .enum-told .given .1))
 
 type-fit-enum-told-2 : (t : ℕ) → type-fit-lts.Need-enum-told-2 (type-fit-claims t) (type-fit-at t) type-fit.Post
 type-fit-enum-told-2 t c = search needs
 
 type-fit-raw-fit-requires-2 : (t : ℕ) → type-fit-lts.Need-raw-fit-requires-2 (type-fit-claims t) (type-fit-at t) type-fit.Post
-type-fit-raw-fit-requires-2 t c κs = let (u, R) = c .before .before .before .before .before .pre .1 in (u, from-plan R (c .enum-told2 .given .1))
+type-fit-raw-fit-requires-2 t c κs = let (u, R) = c .before .before .before .before .before .before .pre .1 .1 in (u, from-plan R (c .enum-told2 .given .1))
 
 type-fit-enum-told-3 : (t : ℕ) → type-fit-lts.Need-enum-told-3 (type-fit-claims t) (type-fit-at t) type-fit.Post
 type-fit-enum-told-3 t c = search needs
 
 type-fit-mapped-fit-requires : (t : ℕ) → type-fit-lts.Need-mapped-fit-requires (type-fit-claims t) (type-fit-at t) type-fit.Post
 type-fit-mapped-fit-requires t c κs = (
-  omega (arith, c .before .before .before .before .before .pre .0),
-  (c .before .before .before .before .before .pre .1, c .enum-told3 .given .1),
+  omega (arith, c .before .before .before .before .before .before .pre .0),
+  (c .before .before .before .before .before .before .pre .1 .0, (c .before .before .before .before .before .before .pre .1 .1, c .enum-told3 .given .1)),
 )
 
 type-fit-returns : (t : ℕ) → type-fit-lts.Need-returns (type-fit-claims t) (type-fit-at t) type-fit.Post
@@ -495,7 +511,7 @@ pub +column-fit+element-fit+fields-fit+mapped-fit+sized-fit+type-fit-spec :
     (fields-fit-larger-requires t)
     (fields-fit-enum-told t)
     (fields-fit-returns t)
-    (fields-fit-skip-selector-requires t)
+    (fields-fit-skip-by-requires t)
     (fields-fit-add-k t)
     (fields-fit-loop-less t)
     (fields-fit-loop-again t)

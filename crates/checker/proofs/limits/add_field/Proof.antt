@@ -12,13 +12,13 @@ add-field-spec =
     tie.close
     (tie.spec
     (λ c. search needs)
-    (λ c. omega (arith, c .before .before .before .before .before .pre .1 _ _ (c .before .fields .given .1) .1))
-    (λ c κs. c .before .before .before .before .before .pre .0)
-    (λ c κs. let (b, a, N, e) = c .before .before .before .before .before .before .pre .0 in λ s d q. omega (
+    (λ c. omega (arith, c .before .before .before .before .before .before .pre .1 .1 _ _ (c .before .fields .given .1) .1))
+    (λ c κs. (c .before .before .before .before .before .before .pre .0, c .before .before .before .before .before .before .pre .1 .0))
+    (λ c κs. let (b, a, N, e) = c .before .before .before .before .before .before .before .pre .1 .0 in λ s d q. omega (
       arith,
       fit-bounded _ _ _ _
           (c .column-fit .ensures b a N e) s d q .1,
-      c .before .before .before .before .before .before .pre .1 _ _ (c .before .before .fields .given .1) .1,
+      c .before .before .before .before .before .before .before .pre .1 .1 _ _ (c .before .before .fields .given .1) .1,
     ))
     (λ c. search needs)
     (λ c. λ b a N e. c .joined .ensures ∙ ap (joinedOf _ _) (c .before .column-fit .ensures b a N e) ∙ sym (ap (λ f. addedOf 15 16381 f a)

@@ -15,6 +15,7 @@ own-name-spec =
     (λ c κs. search needs)
     (λ c. search needs)
     (λ c. search needs)
+    (λ c κs. c .before .before .before .before .before .before .pre)
     (λ c κs. search needs)
     (λ c κs. search needs)
     (λ c. search needs)
@@ -27,8 +28,9 @@ own-name-spec =
     λ i v n a N. own-constant N (c4 .head .ensures (N .standing .here)) (c2 .name .given .1) (c .named .ensures))
     (λ c. λ i v n a N. own-cast N (c .before .before .head .ensures (N .standing .here)) (c .enum-told .given .1))
     (λ c.
-    let c3 = c .before .before .before in let c5 = c3 .before .before in
-    λ i v n a N. own-rename N (c5 .head .ensures (N .standing .here)) (c3 .input .given .1) (c .before .rename-name .ensures) (c .named2 .ensures))
+    let c4 = c .before .before .before .before in let c6 = c4 .before .before in
+    λ i v n a N. own-rename N (c6 .head .ensures (N .standing .here)) (c4 .input .given .1)
+    (λ P T. c .before .name-behind .ensures (P .end) T (c .before .before .skip-by .ensures P)) (c .named2 .ensures))
     (λ c. λ i v n a N. own-struct N (c .before .before .head .ensures (N .standing .here)) (c .enum-told2 .given .1))
     (λ c. λ i v n a N. own-list N (c .before .before .head .ensures (N .standing .here)) (c .enum-told3 .given .1))
     (λ c. λ i v n a N. own-array N (c .before .before .head .ensures (N .standing .here)) (c .enum-told4 .given .1))

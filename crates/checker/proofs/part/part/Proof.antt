@@ -10,16 +10,17 @@ part-spec =
     tie.close
     (tie.spec
     (λ c. search needs)
-    (λ c κs. let (t, a, R, P) = c .before .before .before .before .before .before .pre in (t, a, from-incoming R (c .enum-told .given .1), P))
+    (λ c κs. let (t, a, R, P) = c .before .before .before .before .before .before .before .pre .1 in (t, a, from-incoming R (c .enum-told .given .1), P))
     (λ c κs. search needs)
     (λ c. search needs)
-    (λ c κs. let (t, a, R, P) = c .before .before .before .before .before .before .pre in (t, a, from-plan R (c .enum-told2 .given .1), P))
+    (λ c κs. let (t, a, R, P) = c .before .before .before .before .before .before .before .pre .1 in (t, a, from-plan R (c .enum-told2 .given .1), P))
     (λ c κs. search needs)
     (λ c. search needs)
-    (λ c κs. let (t, a, R, P) = c .before .before .before .before .before .before .pre in child-asks (from-mapping R (c .enum-told3 .given .1)))
+    (λ c κs. let (t, a, R, P) = c .before .before .before .before .before .before .before .pre .1 in
+    (c .before .before .before .before .before .before .before .pre .0 .constants, child-asks (from-mapping R (c .enum-told3 .given .1))))
     (λ c κs.
     let c7 = c .before .before .before .before .before .before .before in
-    let (t, a, R, P) = c7 .pre in (_, child-typed (c .child .ensures) (from-mapping R (c .before .enum-told3 .given .1)) P))
+    let (t, a, R, P) = c7 .before .pre .1 in (c7 .before .pre .0, (_, child-typed (c .child .ensures) (from-mapping R (c .before .enum-told3 .given .1)) P)))
     (λ c. λ t a R P. part-incoming (c .found-in .ensures) (c .before .raw-part .ensures t a (from-incoming R (c .before .before .enum-told .given .1)) P))
     (λ c. λ t a R P. part-plan (c .found-in2 .ensures) (c .before .raw-part2 .ensures t a (from-plan R (c .before .before .enum-told2 .given .1)) P))
     (λ c. λ t a R P. c .resolve .ensures (a .type) (child-typed (c .before .child .ensures) (from-mapping R (c .before .before .enum-told3 .given .1))

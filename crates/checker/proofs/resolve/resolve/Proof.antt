@@ -7,10 +7,10 @@ use Rattle.checker.proofs.resolve.resolve.Statement.{statement}
 use Rattle.checker.proofs.resolve.resolve.Tie as tie
 
 abbrev Inv-loop : tie.InvT-loop
-Inv-loop incoming v n plan x₀ x = Onward incoming v n plan x₀ x
+Inv-loop incoming v n plan tables x₀ x = Onward incoming v n plan x₀ x
 
 abbrev μ-loop : tie.MeasureT-loop
-μ-loop incoming v n plan x₀ x = rank x
+μ-loop incoming v n plan tables x₀ x = rank x
 
 pub resolve-spec : {M : Type 1} → statement M
 resolve-spec =
@@ -18,9 +18,9 @@ resolve-spec =
     (tie.spec
     Inv-loop
     μ-loop
-    (λ c. onward-start (c .before .before .pre .1))
-    (λ c κs. let O = c .loop .inv in (O .start .place, O .start .standing))
-    (λ c κs. let O = c .before .loop .inv in (O .some, onward-stops O (c .locate .ensures)))
+    (λ c. onward-start (c .before .before .before .pre .1 .1))
+    (λ c κs. let O = c .loop .inv in (c .before .before .before .before .pre .0 .constants, (O .start .place, O .start .standing)))
+    (λ c κs. let O = c .before .loop .inv in (c .before .before .before .before .before .pre .0, (O .some, onward-stops O (c .locate .ensures))))
     (λ c. search needs)
     (λ c κs. search needs)
     (λ c.

@@ -46,7 +46,7 @@ use Rattle.forms.proofs.compare.same_type.Reads as same-type-reads
 use Rattle.forms.proofs.head.head_end.Reads as head-end-reads
 use Rattle.layout.proofs.cursor.Cursor.element_label.Reads as element-label-reads
 use Rattle.layout.proofs.cursor.Cursor.label.Reads as label-reads
-use Rattle.walk.proofs.head.skip_selector.Reads as skip-selector-reads
+use Rattle.walk.proofs.head.skip_by.Reads as skip-by-reads
 use Rattle.checker.proofs.same.+same_as+same_column+same_element+same_fields+same_mapped.{
   statement,
 }
@@ -54,62 +54,62 @@ use Rattle.checker.proofs.same.+same_as+same_column+same_element+same_f
   close,
 }
 
-abbrev μ-same-as : Measures 3 same-as-kinds.ps ℕ
+abbrev μ-same-as : Measures 4 same-as-kinds.ps ℕ
 μ-same-as κs a = 4 * (a .1 .1 .1 .1 .1 .1 .0 .depth) + 1
 
-abbrev μ-same-column : Measures 3 same-column-kinds.ps ℕ
+abbrev μ-same-column : Measures 4 same-column-kinds.ps ℕ
 μ-same-column κs a = 4 * (a .1 .1 .1 .1 .1 .1 .0 .depth) + 2
 
-abbrev μ-same-element : Measures 3 same-element-kinds.ps ℕ
+abbrev μ-same-element : Measures 4 same-element-kinds.ps ℕ
 μ-same-element κs a = 4 * (a .1 .1 .1 .1 .1 .1 .0 .depth) + 2
 
-abbrev μ-same-fields : Measures 3 same-fields-kinds.ps ℕ
+abbrev μ-same-fields : Measures 4 same-fields-kinds.ps ℕ
 μ-same-fields κs a = 4 * (a .1 .1 .1 .1 .1 .1 .1 .0 .depth) + 3
 
-abbrev μ-same-mapped : Measures 3 same-mapped-kinds.ps ℕ
+abbrev μ-same-mapped : Measures 4 same-mapped-kinds.ps ℕ
 μ-same-mapped κs a = 4 * (a .1 .1 .1 .1 .1 .1 .0 .depth)
 
-abbrev same-as-at : ℕ → In 3 same-as-kinds.ps
-same-as-at t = and 3 same-as-kinds.ps (is 3 same-as-kinds.ps μ-same-as t) same-as.Pre
+abbrev same-as-at : ℕ → In 4 same-as-kinds.ps
+same-as-at t = and 4 same-as-kinds.ps (is 4 same-as-kinds.ps μ-same-as t) same-as.Pre
 
-abbrev same-as-below : ℕ → In 3 same-as-kinds.ps
-same-as-below t = and 3 same-as-kinds.ps (falls 3 same-as-kinds.ps _<_ μ-same-as t) same-as.Pre
+abbrev same-as-below : ℕ → In 4 same-as-kinds.ps
+same-as-below t = and 4 same-as-kinds.ps (falls 4 same-as-kinds.ps _<_ μ-same-as t) same-as.Pre
 
-abbrev same-column-at : ℕ → In 3 same-column-kinds.ps
+abbrev same-column-at : ℕ → In 4 same-column-kinds.ps
 same-column-at t =
-    and 3 same-column-kinds.ps (is 3 same-column-kinds.ps μ-same-column t) same-column.Pre
+    and 4 same-column-kinds.ps (is 4 same-column-kinds.ps μ-same-column t) same-column.Pre
 
-abbrev same-column-below : ℕ → In 3 same-column-kinds.ps
+abbrev same-column-below : ℕ → In 4 same-column-kinds.ps
 same-column-below t =
-    and 3 same-column-kinds.ps (falls 3 same-column-kinds.ps _<_ μ-same-column t) same-column.Pre
+    and 4 same-column-kinds.ps (falls 4 same-column-kinds.ps _<_ μ-same-column t) same-column.Pre
 
-abbrev same-element-at : ℕ → In 3 same-element-kinds.ps
+abbrev same-element-at : ℕ → In 4 same-element-kinds.ps
 same-element-at t =
-    and 3 same-element-kinds.ps (is 3 same-element-kinds.ps μ-same-element t) same-element.Pre
+    and 4 same-element-kinds.ps (is 4 same-element-kinds.ps μ-same-element t) same-element.Pre
 
-abbrev same-element-below : ℕ → In 3 same-element-kinds.ps
+abbrev same-element-below : ℕ → In 4 same-element-kinds.ps
 same-element-below t =
     and
-    3
+    4
     same-element-kinds.ps
-    (falls 3 same-element-kinds.ps _<_ μ-same-element t)
+    (falls 4 same-element-kinds.ps _<_ μ-same-element t)
     same-element.Pre
 
-abbrev same-fields-at : ℕ → In 3 same-fields-kinds.ps
+abbrev same-fields-at : ℕ → In 4 same-fields-kinds.ps
 same-fields-at t =
-    and 3 same-fields-kinds.ps (is 3 same-fields-kinds.ps μ-same-fields t) same-fields.Pre
+    and 4 same-fields-kinds.ps (is 4 same-fields-kinds.ps μ-same-fields t) same-fields.Pre
 
-abbrev same-fields-below : ℕ → In 3 same-fields-kinds.ps
+abbrev same-fields-below : ℕ → In 4 same-fields-kinds.ps
 same-fields-below t =
-    and 3 same-fields-kinds.ps (falls 3 same-fields-kinds.ps _<_ μ-same-fields t) same-fields.Pre
+    and 4 same-fields-kinds.ps (falls 4 same-fields-kinds.ps _<_ μ-same-fields t) same-fields.Pre
 
-abbrev same-mapped-at : ℕ → In 3 same-mapped-kinds.ps
+abbrev same-mapped-at : ℕ → In 4 same-mapped-kinds.ps
 same-mapped-at t =
-    and 3 same-mapped-kinds.ps (is 3 same-mapped-kinds.ps μ-same-mapped t) same-mapped.Pre
+    and 4 same-mapped-kinds.ps (is 4 same-mapped-kinds.ps μ-same-mapped t) same-mapped.Pre
 
-abbrev same-mapped-below : ℕ → In 3 same-mapped-kinds.ps
+abbrev same-mapped-below : ℕ → In 4 same-mapped-kinds.ps
 same-mapped-below t =
-    and 3 same-mapped-kinds.ps (falls 3 same-mapped-kinds.ps _<_ μ-same-mapped t) same-mapped.Pre
+    and 4 same-mapped-kinds.ps (falls 4 same-mapped-kinds.ps _<_ μ-same-mapped t) same-mapped.Pre
 
 abbrev same-as-claims : ℕ → same-as-lts.Claims
 same-as-claims t = (same-type-reads.Asked, same-type-reads.Learnt, target-end-reads.Asked, target-end-reads.Learnt, same-mapped-below t, same-mapped.Post)
@@ -139,8 +139,8 @@ same-fields-claims t = (
   child-at-reads.Learnt,
   same-column-below t,
   same-column.Post,
-  skip-selector-reads.Asked,
-  skip-selector-reads.Learnt,
+  skip-by-reads.Asked,
+  skip-by-reads.Learnt,
 )
 
 abbrev same-mapped-claims : ℕ → same-mapped-lts.Claims
@@ -160,11 +160,11 @@ same-mapped-claims t = (
 )
 
 abbrev same-fields-Inv-loop : same-fields-lts.InvT-loop
-same-fields-Inv-loop incoming v n plan w count target place c₀ at₀ k₀ c at k =
+same-fields-Inv-loop incoming v n plan w count target place tables c₀ at₀ k₀ c at k =
     Matching incoming v n plan w count target (place .edition) (place .depth) (at₀ .at) (c .at) (at .at) k
 
 abbrev same-fields-μ-loop : same-fields-lts.MeasureT-loop
-same-fields-μ-loop incoming v n plan w count target place c₀ at₀ k₀ c at k = count - k
+same-fields-μ-loop incoming v n plan w count target place tables c₀ at₀ k₀ c at k = count - k
 
 pub +same-as+same-column+same-element+same-fields+same-mapped-spec : {M : Type 1} → statement M
 +same-as+same-column+same-element+same-fields+same-mapped-spec =
@@ -178,21 +178,24 @@ pub +same-as+same-column+same-element+same-fields+same-mapped-spec : {M : Type 1
     (same-as-at t)
     same-as.Post
     (λ c. search needs)
-    (λ c κs. let (u, R) = c .before .before .before .before .before .before .before .pre .1 .0 in
-    (from-incoming R (c .enum-told .given .1) .type, c .before .before .before .before .before .before .before .pre .1 .1))
+    (λ c κs. let (u, R) = c .before .before .before .before .before .before .before .before .pre .1 .1 .0 in
+    (from-incoming R (c .enum-told .given .1) .type, c .before .before .before .before .before .before .before .before .pre .1 .1 .1))
     (λ c κs. search needs)
     (λ c. search needs)
-    (λ c κs. let (u, R) = c .before .before .before .before .before .before .before .pre .1 .0 in
-    (from-plan R (c .enum-told2 .given .1) .type, c .before .before .before .before .before .before .before .pre .1 .1))
+    (λ c κs. let (u, R) = c .before .before .before .before .before .before .before .before .pre .1 .1 .0 in
+    (from-plan R (c .enum-told2 .given .1) .type, c .before .before .before .before .before .before .before .before .pre .1 .1 .1))
     (λ c κs. search needs)
     (λ c. search needs)
     (λ c κs. (
-      omega (arith, c .before .before .before .before .before .before .before .pre .0),
+      omega (arith, c .before .before .before .before .before .before .before .before .pre .0),
       (
-        c .before .before .before .before .before .before .before .pre .1 .0,
+        c .before .before .before .before .before .before .before .before .pre .1 .0,
         (
-          c .enum-told3 .given .1,
-          c .before .before .before .before .before .before .before .pre .1 .1,
+          c .before .before .before .before .before .before .before .before .pre .1 .1 .0,
+          (
+            c .enum-told3 .given .1,
+            c .before .before .before .before .before .before .before .before .pre .1 .1 .1,
+          ),
         ),
       ),
     ))
@@ -206,23 +209,31 @@ pub +same-as+same-column+same-element+same-fields+same-mapped-spec : {M : Type 1
     same-column.Post
     (λ c κs. search needs)
     (λ c. search needs)
-    (λ c κs. c .before .before .before .before .before .before .before .before .pre .1 .0)
+    (λ c κs. (
+      c .before .before .before .before .before .before .before .before .before .pre .1 .0,
+      c .before .before .before .before .before .before
+          .before .before .before .pre .1 .1 .0,
+    ))
     (λ c κs.
     let c3 = c .before .before .before in let c5 = c3 .before .before in let c10 = c5 .before .before .before .before .before in
-    let (a, N) = c10 .pre .1 .0 in
+    let (a, N) = c10 .before .pre .1 .1 .0 in
     ((_, c .before .name-at .ensures a N), label-in _ (c5 .label .ensures .1) (c3 .l .given .1)))
     (λ c. λ a E N. field-differs E (c .before .before .before .before .before .before .before .label .ensures .0)
     (c .before .before .before .before .before .l .given .1) a (c .before .same-name .ensures (a .name) (c .before .before .before .name-at .ensures a N))
     (not-true _ (c .if1 .taken)))
-    (λ c κs. let (a, N) = c .before .before .before .before .before .before .before .before .before .before .before .before .pre .1 .0 in (_, named-typed N))
-    (λ c κs. let (a, N) = c .before .before .before .before .before .before .before .before .before .before .before .before .before .pre .1 .0 in (
-      omega (arith, c .before .before .before .before .before .before .before .before .before .before .before .before .before .pre .0),
+    (λ c κs. let (a, N) = c .before .before .before .before .before .before .before .before .before .before .before .before .before .pre .1 .1 .0 in
+    (c .before .before .before .before .before .before .before .before .before .before .before .before .before .pre .1 .0, (_, named-typed N)))
+    (λ c κs. let (a, N) = c .before .before .before .before .before .before .before .before .before .before .before .before .before .before .pre .1 .1 .0 in (
+      omega (arith, c .before .before .before .before .before .before .before .before .before .before .before .before .before .before .pre .0),
       (
-        (_, c .resolve .ensures _ (named-typed N) .resolved),
-        behind-label
-            (c .before .before .before .before .before .before .before .before .before .before .before .before .before .pre .1 .1)
-            (label-got _ (c .before .before .before .before .before .before .before .before .label .ensures .0)
-            (c .before .before .before .before .before .before .l .given .1)),
+        c .before .before .before .before .before .before .before .before .before .before .before .before .before .before .pre .1 .0,
+        (
+          (_, c .resolve .ensures _ (named-typed N) .resolved),
+          behind-label
+              (c .before .before .before .before .before .before .before .before .before .before .before .before .before .before .pre .1 .1 .1)
+              (label-got _ (c .before .before .before .before .before .before .before .before .label .ensures .0)
+              (c .before .before .before .before .before .before .l .given .1)),
+        ),
       ),
     ))
     (λ c. search needs)
@@ -239,13 +250,20 @@ pub +same-as+same-column+same-element+same-fields+same-mapped-spec : {M : Type 1
     same-element.Post
     (λ c κs. search needs)
     (λ c. search needs)
-    (λ c κs. c .before .before .before .before .before .before .before .before .pre .1 .0)
-    (λ c κs. let (u, a, R, P) = c .before .before .before .before .before .before .before .before .before .pre .1 .0 in (
-      omega (arith, c .before .before .before .before .before .before .before .before .before .pre .0),
+    (λ c κs. (
+      c .before .before .before .before .before .before .before .before .before .pre .1 .0,
+      c .before .before .before .before .before .before
+          .before .before .before .pre .1 .1 .0,
+    ))
+    (λ c κs. let (u, a, R, P) = c .before .before .before .before .before .before .before .before .before .before .pre .1 .1 .0 in (
+      omega (arith, c .before .before .before .before .before .before .before .before .before .before .pre .0),
       (
-        (_, c .part .ensures u a R P),
-        behind-label (c .before .before .before .before .before .before .before .before .before .pre .1 .1)
-            (label-got _ (c .before .before .before .before .element-label .ensures .0) (c .before .before .at .given .1)),
+        c .before .before .before .before .before .before .before .before .before .before .pre .1 .0,
+        (
+          (_, c .part .ensures u a R P),
+          behind-label (c .before .before .before .before .before .before .before .before .before .before .pre .1 .1 .1)
+              (label-got _ (c .before .before .before .before .element-label .ensures .0) (c .before .before .at .given .1)),
+        ),
       ),
     ))
     (λ c. search needs)
@@ -258,37 +276,41 @@ pub +same-as+same-column+same-element+same-fields+same-mapped-spec : {M : Type 1
     same-fields.Post
     same-fields-Inv-loop
     same-fields-μ-loop
-    (λ c κs. let (fs, M, e) = c .before .before .before .pre .1 .0 in made-asks M .0)
-    (λ c. let (fs, M, e) = c .before .before .before .before .before .pre .1 .0 in matching-start M e (c .before .before .before .before .before .pre .1 .1)
+    (λ c κs. let (fs, M, e) = c .before .before .before .before .pre .1 .1 .0 in (c .before .before .before .before .pre .1 .0 .constants, made-asks M .0))
+    (λ c. let (fs, M, e) = c .before .before .before .before .before .before .pre .1 .1 .0 in matching-start M e
+    (c .before .before .before .before .before .before .pre .1 .1 .1)
     (c .before .first-child .ensures))
     (λ c κs. made-asks (c .before .loop .inv .start))
     (λ c κs. (
-      omega (arith, c .before .before .before .before .before .before .before .before .pre .0),
+      omega (arith, c .before .before .before .before .before .before .before .before .before .pre .0),
       (
-        matching-asks (c .before .before .loop .inv) (c .before .loop-test .taken) (c .child-at .ensures),
-        matching-first (c .before .before .loop .inv)
-            (c .before .loop-test .taken) .first,
+        c .before .before .before .before .before .before .before .before .before .pre .1 .0,
+        (
+          matching-asks (c .before .before .loop .inv) (c .before .loop-test .taken) (c .child-at .ensures),
+          matching-first (c .before .before .loop .inv)
+              (c .before .loop-test .taken) .first,
+        ),
       ),
     ))
     (λ c. search needs)
     (λ c. search needs)
     (λ c. matching-no (c .before .before .before .before .before .loop .inv) (c .before .before .before .before .loop-test .taken)
     (c .before .before .before .child-at .ensures) (c .before .before .same-column .ensures) (c .enum-told .given .1))
-    (λ c κs. search needs)
+    (λ c κs. c .before .before .before .before .before .before .before .before .before .before .before .before .before .pre .1 .0 .constants)
     (λ c. omega (
       arith,
-      c .before .before .before .before .before .before .before .before .before .before .before .before .before .fits .count,
+      c .before .before .before .before .before .before .before .before .before .before .before .before .before .before .fits .count,
       c .before .before .before .before .before .before .loop-test .taken,
     ))
     (λ c. omega (arith, c .before .before .before .before .before .before .loop-test .taken))
     (λ c. matching-more (c .before .before .before .before .before .before .before .loop .inv)
     (c .before .before .before .before .before .before .loop-test .taken) (c .before .before .before .before .before .child-at .ensures)
-    (c .before .before .before .before .same-column .ensures) (c .before .before .e .given .1) (c .skip-selector .ensures))
+    (c .before .before .before .before .same-column .ensures) (c .before .before .e .given .1) (c .skip-by .ensures))
     (λ c. matching-end (c .before .loop .inv) (c .loop-test .left)))
     λ t. same-mapped-lts.spec (same-mapped-claims t)
     (same-mapped-at t)
     same-mapped.Post
-    (λ c κs. c .before .before .before .before .pre .1 .0)
+    (λ c κs. (c .before .before .before .before .before .pre .1 .0, c .before .before .before .before .before .pre .1 .1 .0))
     (λ c κs. search needs)
     (λ c κs. search needs)
     (λ c. λ u Q R. codes-differ (c .before .before .before .before .before .type-head .ensures u R) (c .before .before .before .before .code .ensures) Q
@@ -296,83 +318,98 @@ pub +same-as+same-column+same-element+same-fields+same-mapped-spec : {M : Type 1
     (λ c. λ u Q R. numbers-differ (c .before .before .before .before .before .before .before .before .type-head .ensures u R)
     (c .before .before .before .before .before .before .before .code .ensures) Q (c .before .before .before .before .before .before .target-code .ensures)
     (c .if2 .taken))
-    (λ c. let z = deep (c .before .before .before .before .before .before .before .before .before .before .before .before .before .before .pre .1 .1 .1) in
+    (λ c. let z = deep (c .before .before .before .before .before .before .before .before .before .before .before .before .before .before
+    .before .pre .1 .1 .1 .1) in
     omega arith)
     (λ c κs. search needs)
     (λ c. search needs)
     (λ c. search needs)
     (λ c κs. let (u, R) =
     c .before .before .before .before .before .before
-    .before .before .before .before .before .before .before .before .before .before .before .before .before .pre .1 .0
+    .before .before .before .before .before .before .before .before .before .before .before .before .before .before .pre .1 .1 .0
     in
     let Q = c .before .before .before .before .before
-    .before .before .before .before .before .before .before .before .before .before .before .before .before .before .pre .1 .1 .1 in
+    .before .before .before .before .before .before .before .before .before .before .before .before .before .before .before .pre .1 .1 .1 .1 in
     let z = deep Q in let H =
     c .before .before .before .before .before .before .before .before .before .before .before .before .before .before .type-head .ensures u R in (
       omega (
         arith,
         c .before .before .before .before
-            .before .before .before .before .before .before .before .before .before .before .before .before .before .before .before .pre .0,
+            .before .before .before .before .before .before .before .before .before .before .before .before .before .before .before .before .pre .0,
       ),
       (
-        struct-asks H R (c .before .before .before .before
-            .before .before .before .before .before .before .before .before .before .before .before .before .before .before .before .pre .1 .1 .0)
-            (c .before .before .h .given .1),
-        struct-there H
-            (c .before .before .before .before .before .before .before .before .before .before .before .before .before .code .ensures) Q
-            (c .before .before .before .before .before .before .before .before .before .before .before .before .target-code .ensures)
-            (c .before .before .before .before .before .before .before .before .before .if1 .left)
-            (c .before .before .before .before .before .before .if2 .left) refl
-            (c .before .before .before .before .head-end .ensures) (c .before .before .h .given .1) .inner,
+        c .before .before .before .before .before .before .before .before .before .before .before .before .before .before .before .before .before
+            .before .before .before .pre .1 .0,
+        (
+          struct-asks H R (c .before .before .before .before
+              .before .before .before .before .before .before .before .before .before .before .before .before .before .before .before .before .pre .1 .1 .1 .0)
+              (c .before .before .h .given .1),
+          struct-there H
+              (c .before .before .before .before .before .before .before .before .before .before .before .before .before .code .ensures) Q
+              (c .before .before .before .before .before .before .before .before .before .before .before .before .target-code .ensures)
+              (c .before .before .before .before .before .before .before .before .before .if1 .left)
+              (c .before .before .before .before .before .before .if2 .left) refl
+              (c .before .before .before .before .head-end .ensures) (c .before .before .h .given .1) .inner,
+        ),
       ),
     ))
     (λ c. search needs)
     (λ c κs. let (u, R) =
-    c .before .before .before .before .before .before .before .before .before .before .before .before .before .before .before .before .before .pre .1 .0 in
+    c .before .before .before .before .before .before .before .before .before .before .before .before .before .before .before .before .before
+    .before .pre .1 .1 .0 in
     let Q = c .before .before .before .before .before
-    .before .before .before .before .before .before .before .before .before .before .before .before .pre .1 .1 .1 in
+    .before .before .before .before .before .before .before .before .before .before .before .before .before .pre .1 .1 .1 .1 in
     let z = deep Q in let H = c .before .before .before .before .before .before .before .before .before .before .before .before .type-head .ensures u R in (
       omega (
         arith,
         c .before .before .before .before
-            .before .before .before .before .before .before .before .before .before .before .before .before .before .pre .0,
+            .before .before .before .before .before .before .before .before .before .before .before .before .before .before .pre .0,
       ),
       (
-        list-asks H R (c .enum-told2 .given .1),
-        list-there H
-            (c .before .before .before .before .before .before .before .before .before .before .before .code .ensures) Q
-            (c .before .before .before .before .before .before .before .before .before .before .target-code .ensures)
-            (c .before .before .before .before .before .before .before .if1 .left) (c .before .before .before .before .if2 .left) refl
-            (c .before .before .head-end .ensures)
-            (c .enum-told2 .given .1) .element,
+        c .before .before .before .before .before .before .before .before .before .before .before .before .before .before .before .before .before
+            .before .pre .1 .0,
+        (
+          list-asks H R (c .enum-told2 .given .1),
+          list-there H
+              (c .before .before .before .before .before .before .before .before .before .before .before .code .ensures) Q
+              (c .before .before .before .before .before .before .before .before .before .before .target-code .ensures)
+              (c .before .before .before .before .before .before .before .if1 .left) (c .before .before .before .before .if2 .left) refl
+              (c .before .before .head-end .ensures)
+              (c .enum-told2 .given .1) .element,
+        ),
       ),
     ))
     (λ c. search needs)
     (λ c κs. let (u, R) =
-    c .before .before .before .before .before .before .before .before .before .before .before .before .before .before .before .before .before .pre .1 .0 in
+    c .before .before .before .before .before .before .before .before .before .before .before .before .before .before .before .before .before
+    .before .pre .1 .1 .0 in
     let Q = c .before .before .before .before .before
-    .before .before .before .before .before .before .before .before .before .before .before .before .pre .1 .1 .1 in
+    .before .before .before .before .before .before .before .before .before .before .before .before .before .pre .1 .1 .1 .1 in
     let z = deep Q in let H = c .before .before .before .before .before .before .before .before .before .before .before .before .type-head .ensures u R in (
       omega (
         arith,
         c .before .before .before .before
-            .before .before .before .before .before .before .before .before .before .before .before .before .before .pre .0,
+            .before .before .before .before .before .before .before .before .before .before .before .before .before .before .pre .0,
       ),
       (
-        array-asks H R (c .enum-told3 .given .1),
-        array-there H
-            (c .before .before .before .before .before .before .before .before .before .before .before .code .ensures) Q
-            (c .before .before .before .before .before .before .before .before .before .before .target-code .ensures)
-            (c .before .before .before .before .before .before .before .if1 .left) (c .before .before .before .before .if2 .left) refl
-            (c .before .before .head-end .ensures)
-            (c .enum-told3 .given .1) .element,
+        c .before .before .before .before .before .before .before .before .before .before .before .before .before .before .before .before .before
+            .before .pre .1 .0,
+        (
+          array-asks H R (c .enum-told3 .given .1),
+          array-there H
+              (c .before .before .before .before .before .before .before .before .before .before .before .code .ensures) Q
+              (c .before .before .before .before .before .before .before .before .before .before .target-code .ensures)
+              (c .before .before .before .before .before .before .before .if1 .left) (c .before .before .before .before .if2 .left) refl
+              (c .before .before .head-end .ensures)
+              (c .enum-told3 .given .1) .element,
+        ),
       ),
     ))
     (λ c.
     let c12 = c .before .before .before .before .before .before .before .before .before .before .before .before in let c17 =
     c12 .before .before .before .before .before in
     λ u Q R. made-no-leaf R
-    (c17 .pre .1 .1 .0)
+    (c17 .before .pre .1 .1 .1 .0)
     (c12 .type-head .ensures u R) (c .enum-told .given .1))
     (λ c. λ u Q R. structs-same
     (c .before .before .before .before .before .before .before .before .before .before .before .before .before .before .before .type-head .ensures u R)
@@ -382,7 +419,7 @@ pub +same-as+same-column+same-element+same-fields+same-mapped-spec : {M : Type 1
     (c .before .before .before .before .before .before .before .if2 .left) refl
     (c .before .before .before .before .before .head-end .ensures) R
     (c .before .before .before .before .before .before
-    .before .before .before .before .before .before .before .before .before .before .before .before .before .before .pre .1 .1 .0)
+    .before .before .before .before .before .before .before .before .before .before .before .before .before .before .before .pre .1 .1 .1 .0)
     (c .before .before .before .h .given .1) (c .same-fields .ensures))
     (λ c. λ u Q R. lists-same (c .before .before .before .before .before .before .before .before .before .before .before .before .before .type-head .ensures u
     R)

@@ -34,7 +34,7 @@ use Rattle.checker.proofs.selector.check_source.Reads as check-source-r
 use Rattle.checker.proofs.selector.fitting.Reads as fitting-reads
 use Rattle.checker.proofs.selector.input_within.Reads as input-within-reads
 use Rattle.checker.proofs.selector.is_transform.Reads as is-transform-reads
-use Rattle.walk.proofs.head.skip_selector.Reads as skip-selector-reads
+use Rattle.walk.proofs.head.skip_by.Reads as skip-by-reads
 use Rattle.walk.proofs.walk.Walk.child.Reads as child-reads
 use Rattle.walk.proofs.walk.Walk.to_input.Reads as to-input-reads
 use Rattle.checker.proofs.selector.+check_element+check_fields+check_scoped+check_transform.{
@@ -44,68 +44,68 @@ use Rattle.checker.proofs.selector.+check_element+check_fields+check_sc
   close,
 }
 
-abbrev μ-check-element : Measures 2 check-element-kinds.ps ℕ
+abbrev μ-check-element : Measures 3 check-element-kinds.ps ℕ
 μ-check-element κs a = 4 * rank (a .1 .1 .1 .1 .0) + 1
 
-abbrev μ-check-fields : Measures 2 check-fields-kinds.ps ℕ
+abbrev μ-check-fields : Measures 3 check-fields-kinds.ps ℕ
 μ-check-fields κs a = 4 * rank (a .1 .1 .1 .1 .0) + 1
 
-abbrev μ-check-scoped : Measures 2 check-scoped-kinds.ps ℕ
+abbrev μ-check-scoped : Measures 3 check-scoped-kinds.ps ℕ
 μ-check-scoped κs a = 4 * rank (a .1 .1 .1 .1 .0) + 3
 
-abbrev μ-check-transform : Measures 2 check-transform-kinds.ps ℕ
+abbrev μ-check-transform : Measures 3 check-transform-kinds.ps ℕ
 μ-check-transform κs a = 4 * rank (a .1 .1 .1 .1 .0) + 2
 
-abbrev check-element-at : ℕ → In 2 check-element-kinds.ps
+abbrev check-element-at : ℕ → In 3 check-element-kinds.ps
 check-element-at t =
-    and 2 check-element-kinds.ps (is 2 check-element-kinds.ps μ-check-element t) check-element.Pre
+    and 3 check-element-kinds.ps (is 3 check-element-kinds.ps μ-check-element t) check-element.Pre
 
-abbrev check-element-below : ℕ → In 2 check-element-kinds.ps
+abbrev check-element-below : ℕ → In 3 check-element-kinds.ps
 check-element-below t =
     and
-    2
+    3
     check-element-kinds.ps
-    (falls 2 check-element-kinds.ps _<_ μ-check-element t)
+    (falls 3 check-element-kinds.ps _<_ μ-check-element t)
     check-element.Pre
 
-abbrev check-fields-at : ℕ → In 2 check-fields-kinds.ps
+abbrev check-fields-at : ℕ → In 3 check-fields-kinds.ps
 check-fields-at t =
-    and 2 check-fields-kinds.ps (is 2 check-fields-kinds.ps μ-check-fields t) check-fields.Pre
+    and 3 check-fields-kinds.ps (is 3 check-fields-kinds.ps μ-check-fields t) check-fields.Pre
 
-abbrev check-fields-below : ℕ → In 2 check-fields-kinds.ps
+abbrev check-fields-below : ℕ → In 3 check-fields-kinds.ps
 check-fields-below t =
     and
-    2
+    3
     check-fields-kinds.ps
-    (falls 2 check-fields-kinds.ps _<_ μ-check-fields t)
+    (falls 3 check-fields-kinds.ps _<_ μ-check-fields t)
     check-fields.Pre
 
-abbrev check-scoped-at : ℕ → In 2 check-scoped-kinds.ps
+abbrev check-scoped-at : ℕ → In 3 check-scoped-kinds.ps
 check-scoped-at t =
-    and 2 check-scoped-kinds.ps (is 2 check-scoped-kinds.ps μ-check-scoped t) check-scoped.Pre
+    and 3 check-scoped-kinds.ps (is 3 check-scoped-kinds.ps μ-check-scoped t) check-scoped.Pre
 
-abbrev check-scoped-below : ℕ → In 2 check-scoped-kinds.ps
+abbrev check-scoped-below : ℕ → In 3 check-scoped-kinds.ps
 check-scoped-below t =
     and
-    2
+    3
     check-scoped-kinds.ps
-    (falls 2 check-scoped-kinds.ps _<_ μ-check-scoped t)
+    (falls 3 check-scoped-kinds.ps _<_ μ-check-scoped t)
     check-scoped.Pre
 
-abbrev check-transform-at : ℕ → In 2 check-transform-kinds.ps
+abbrev check-transform-at : ℕ → In 3 check-transform-kinds.ps
 check-transform-at t =
     and
-    2
+    3
     check-transform-kinds.ps
-    (is 2 check-transform-kinds.ps μ-check-transform t)
+    (is 3 check-transform-kinds.ps μ-check-transform t)
     check-transform.Pre
 
-abbrev check-transform-below : ℕ → In 2 check-transform-kinds.ps
+abbrev check-transform-below : ℕ → In 3 check-transform-kinds.ps
 check-transform-below t =
     and
-    2
+    3
     check-transform-kinds.ps
-    (falls 2 check-transform-kinds.ps _<_ μ-check-transform t)
+    (falls 3 check-transform-kinds.ps _<_ μ-check-transform t)
     check-transform.Pre
 
 abbrev check-element-claims : ℕ → check-element-lts.Claims
@@ -130,8 +130,8 @@ check-fields-claims t = (
   check-scoped.Post,
   add-field-reads.Asked,
   add-field-reads.Learnt,
-  skip-selector-reads.Asked,
-  skip-selector-reads.Learnt,
+  skip-by-reads.Asked,
+  skip-by-reads.Learnt,
   around-reads.Asked,
   around-reads.Learnt,
   fitting-reads.Asked,
@@ -165,21 +165,29 @@ check-transform-claims t = (
 )
 
 check-element-child-requires : (t : ℕ) → check-element-lts.Need-child-requires (check-element-claims t) (check-element-at t) check-element.Post
-check-element-child-requires t c κs = let (u, e, f, E, l) = c .before .before .pre .1 in element-child-asks E
+check-element-child-requires t c κs = let (u, e, f, E, l) = c .before .before .before .pre .1 .1 in
+    (c .before .before .before .pre .1 .0 .constants, element-child-asks E)
 
 check-element-check-scoped-requires : (t : ℕ) → check-element-lts.Need-check-scoped-requires (check-element-claims t) (check-element-at t) check-element.Post
-check-element-check-scoped-requires t c κs = let (u, e, f, E, l) = c .before .before .before .pre .1 in
-    let S = element-step E (c .child .ensures) in (omega (arith, c .before .before .before .pre .0, S .falls), (e, _, S .checking, one-element u l))
+check-element-check-scoped-requires t c κs = let (u, e, f, E, l) = c .before .before .before .before .pre .1 .1 in
+    let S = element-step E (c .child .ensures) in (
+      omega
+          (arith, c .before .before .before .before .pre .0, S .falls),
+      (c .before .before .before .before .pre .1 .0, (e, _, S .checking, one-element u l)),
+    )
 
 check-element-enum-known-size : (t : ℕ) → check-element-lts.Need-enum-known-size (check-element-claims t) (check-element-at t) check-element.Post
 check-element-enum-known-size t c = search needs
 
 check-element-list-fit-requires : (t : ℕ) → check-element-lts.Need-list-fit-requires (check-element-claims t) (check-element-at t) check-element.Post
-check-element-list-fit-requires t c κs = let (u, e, f, E, l) = c .before .before .before .before .before .before .before .pre .1 in
+check-element-list-fit-requires t c κs = let (u, e, f, E, l) = c .before .before .before .before .before .before .before .before .pre .1 .1 in
     let g = c .before .before .before .before .child .ensures in let h = c .before .before .before .check-scoped .ensures in
     let d = one-element u l in
-    let p = c .before .size .given .1 in
-    ((element-answer E g d h .known, _, element-typed E g d h p, element-passed E g d h p .sized), element-small E)
+    let p = c .before .size .given .1 in (
+      c .before .before .before .before .before .before .before
+          .before .pre .1 .0,
+      ((element-answer E g d h .known, _, element-typed E g d h p, element-passed E g d h p .sized), element-small E),
+    )
 
 check-element-fitting-requires : (t : ℕ) → check-element-lts.Need-fitting-requires (check-element-claims t) (check-element-at t) check-element.Post
 check-element-fitting-requires t c κs = search needs
@@ -197,18 +205,19 @@ check-element-returns-2 t c = λ u e f name E l. element-refused E (c .before .b
     (c .before .before .before .check-scoped .ensures) name (c .before .k .given .1)
 
 abbrev check-fields-Inv-loop : check-fields-lts.InvT-loop
-check-fields-Inv-loop incoming v n plan w count scope c₀ fields₀ k₀ c fields k = Passing incoming v n plan w count scope (c .at) fields k
+check-fields-Inv-loop incoming v n plan w count scope tables c₀ fields₀ k₀ c fields k = Passing incoming v n plan w count scope (c .at) fields k
 
 abbrev check-fields-μ-loop : check-fields-lts.MeasureT-loop
-check-fields-μ-loop incoming v n plan w count scope c₀ fields₀ k₀ c fields k = count - k
+check-fields-μ-loop incoming v n plan w count scope tables c₀ fields₀ k₀ c fields k = count - k
 
 check-fields-first-child-requires : (t : ℕ)
     → check-fields-lts.Need-first-child-requires (check-fields-claims t) (check-fields-at t) check-fields.Post check-fields-Inv-loop check-fields-μ-loop
-check-fields-first-child-requires t c κs = let (i, ss, fs, M, e, d) = c .before .before .pre .1 in mapping-asks M .0
+check-fields-first-child-requires t c κs = let (i, ss, fs, M, e, d) = c .before .before .before .pre .1 .1 in
+    (c .before .before .before .pre .1 .0 .constants, mapping-asks M .0)
 
 check-fields-loop-holds : (t : ℕ)
     → check-fields-lts.Need-loop-holds (check-fields-claims t) (check-fields-at t) check-fields.Post check-fields-Inv-loop check-fields-μ-loop
-check-fields-loop-holds t c = let (i, ss, fs, M, e, d) = c .before .before .before .pre .1 in passing-start M e d (c .first-child .ensures)
+check-fields-loop-holds t c = let (i, ss, fs, M, e, d) = c .before .before .before .before .pre .1 .1 in passing-start M e d (c .first-child .ensures)
 
 check-fields-child-at-requires : (t : ℕ)
     → check-fields-lts.Need-child-at-requires (check-fields-claims t) (check-fields-at t) check-fields.Post check-fields-Inv-loop check-fields-μ-loop
@@ -219,11 +228,15 @@ check-fields-check-scoped-requires : (t : ℕ)
 check-fields-check-scoped-requires t c κs = (
   omega (
     arith,
-    c .before .before .before .before .before .before .pre .0,
+    c .before .before .before .before .before .before .before .pre .0,
     passing-falls (c .before .before .loop .inv) (c .before .loop-test .taken)
         (c .child-at .ensures),
   ),
-  passing-asks (c .before .before .loop .inv) (c .before .loop-test .taken) (c .child-at .ensures),
+  (
+    c .before .before .before .before .before .before .before .pre .1 .0,
+    passing-asks (c .before .before .loop .inv) (c .before .loop-test .taken)
+        (c .child-at .ensures),
+  ),
 )
 
 check-fields-enum-known-size : (t : ℕ) → check-fields-lts.Need-enum-known-size (check-fields-claims t)
@@ -233,21 +246,24 @@ check-fields-enum-known-size t c = search needs
 check-fields-add-field-requires : (t : ℕ) → check-fields-lts.Need-add-field-requires (check-fields-claims t)
     (check-fields-at t) check-fields.Post check-fields-Inv-loop check-fields-μ-loop
 check-fields-add-field-requires t c κs = (
-  passing-named (c .before .before .before .before .before .before .loop .inv) (c .before .before .before .before .before .loop-test .taken)
-      (c .before .before .before .before .child-at .ensures) (c .before .before .before .check-scoped .ensures)
-      (c .before .size .given .1),
-  c .before .before .before .before .before .before .loop .inv .small,
+  c .before .before .before .before .before .before .before .before .before .before .before .pre .1 .0,
+  (
+    passing-named (c .before .before .before .before .before .before .loop .inv) (c .before .before .before .before .before .loop-test .taken)
+        (c .before .before .before .before .child-at .ensures) (c .before .before .before .check-scoped .ensures)
+        (c .before .size .given .1),
+    c .before .before .before .before .before .before .loop .inv .small,
+  ),
 )
 
-check-fields-skip-selector-requires : (t : ℕ) → check-fields-lts.Need-skip-selector-requires (check-fields-claims t)
+check-fields-skip-by-requires : (t : ℕ) → check-fields-lts.Need-skip-by-requires (check-fields-claims t)
     (check-fields-at t) check-fields.Post check-fields-Inv-loop check-fields-μ-loop
-check-fields-skip-selector-requires t c κs = search needs
+check-fields-skip-by-requires t c κs = c .before .before .before .before .before .before .before .before .before .before .before .before .pre .1 .0 .constants
 
 check-fields-add-k : (t : ℕ) → check-fields-lts.Need-add-k (check-fields-claims t)
     (check-fields-at t) check-fields.Post check-fields-Inv-loop check-fields-μ-loop
 check-fields-add-k t c = omega (
   arith,
-  c .before .before .before .before .before .before .before .before .before .before .before .before .fits .count,
+  c .before .before .before .before .before .before .before .before .before .before .before .before .before .fits .count,
   c .before .before .before
       .before .before .before .before .loop-test .taken,
 )
@@ -261,7 +277,7 @@ check-fields-loop-again : (t : ℕ) → check-fields-lts.Need-loop-again (check-
 check-fields-loop-again t c = passing-more (c .before .before .before .before .before .before .before .before .loop .inv)
     (c .before .before .before .before .before .before .before .loop-test .taken) (c .before .before .before .before .before .before .child-at .ensures)
     (c .before .before .before .before .before .check-scoped .ensures) (c .before .before .before .size .given .1) (c .before .add-field .ensures)
-    (c .skip-selector .ensures)
+    (c .skip-by .ensures)
 
 check-fields-enum-known-j : (t : ℕ) → check-fields-lts.Need-enum-known-j (check-fields-claims t)
     (check-fields-at t) check-fields.Post check-fields-Inv-loop check-fields-μ-loop
@@ -290,9 +306,9 @@ check-scoped-is-transform-requires : (t : ℕ) → check-scoped-lts.Need-is-tran
 check-scoped-is-transform-requires t c κs = search needs
 
 check-scoped-check-transform-requires : (t : ℕ) → check-scoped-lts.Need-check-transform-requires (check-scoped-claims t) (check-scoped-at t) check-scoped.Post
-check-scoped-check-transform-requires t c κs = let (s, Δ, C, d) = c .before .before .before .before .pre .1 in (
-  omega (arith, c .before .before .before .before .pre .0),
-  (s, Δ, C, d, transform-is C (c .before .is-transform .ensures (C .standing .here)) (c .if1 .taken)),
+check-scoped-check-transform-requires t c κs = let (s, Δ, C, d) = c .before .before .before .before .before .pre .1 .1 in (
+  omega (arith, c .before .before .before .before .before .pre .0),
+  (c .before .before .before .before .before .pre .1 .0, (s, Δ, C, d, transform-is C (c .before .is-transform .ensures (C .standing .here)) (c .if1 .taken))),
 )
 
 check-scoped-returns : (t : ℕ) → check-scoped-lts.Need-returns (check-scoped-claims t) (check-scoped-at t) check-scoped.Post
@@ -307,29 +323,39 @@ check-scoped-returns-2 t c = λ s Δ C d. let h = transform-is C (c .before .bef
     record { known = false; is = c .check-source .ensures _ _ _ s Δ C (d .count) h }
 
 check-transform-to-input-requires : (t : ℕ) → check-transform-lts.Need-to-input-requires (check-transform-claims t) (check-transform-at t) check-transform.Post
-check-transform-to-input-requires t c κs = let (s, Δ, C, d, h) = c .before .before .pre .1 in checking-before C
+check-transform-to-input-requires t c κs = let (s, Δ, C, d, h) = c .before .before .before .pre .1 .1 in checking-before C
 
 check-transform-check-scoped-requires : (t : ℕ)
     → check-transform-lts.Need-check-scoped-requires (check-transform-claims t) (check-transform-at t) check-transform.Post
-check-transform-check-scoped-requires t c κs = let (s, Δ, C, d, h) = c .before .before .before .pre .1 in
-    let T = a-transform C h .transforms in
-    (omega (arith, c .before .before .before .pre .0, input-falls C T (c .to-input .ensures)), input-asks C T (c .to-input .ensures) d)
+check-transform-check-scoped-requires t c κs = let (s, Δ, C, d, h) = c .before .before .before .before .pre .1 .1 in
+    let T = a-transform C h .transforms in (
+      omega (
+        arith,
+        c .before .before .before .before .pre .0,
+        input-falls C T
+            (c .to-input .ensures),
+      ),
+      (c .before .before .before .before .pre .1 .0, input-asks C T (c .to-input .ensures) d),
+    )
 
 check-transform-enum-known-size : (t : ℕ) → check-transform-lts.Need-enum-known-size (check-transform-claims t) (check-transform-at t) check-transform.Post
 check-transform-enum-known-size t c = search needs
 
 check-transform-input-within-requires : (t : ℕ)
     → check-transform-lts.Need-input-within-requires (check-transform-claims t) (check-transform-at t) check-transform.Post
-check-transform-input-within-requires t c κs = let (s, Δ, C, d, h) = c .before .before .before .before .before .before .before .pre .1 in
+check-transform-input-within-requires t c κs = let (s, Δ, C, d, h) = c .before .before .before .before .before .before .before .before .pre .1 .1 in
     input-stands C (a-transform C h .transforms) (c .before .before .before .before .to-input .ensures)
 
 check-transform-check-input-requires : (t : ℕ)
     → check-transform-lts.Need-check-input-requires (check-transform-claims t) (check-transform-at t) check-transform.Post
-check-transform-check-input-requires t c κs = let (s, Δ, C, d, h) = c .before .before .before .before .before .before .before .before .pre .1 in (
-  s,
-  Δ,
-  input-passed C (a-transform C h .transforms) (c .before .before .before .before .before .to-input .ensures) d
-      (c .before .before .before .before .check-scoped .ensures) (c .before .before .size .given .1) (c .input-within .ensures),
+check-transform-check-input-requires t c κs = let (s, Δ, C, d, h) = c .before .before .before .before .before .before .before .before .before .pre .1 .1 in (
+  c .before .before .before .before .before .before .before .before .before .pre .1 .0,
+  (
+    s,
+    Δ,
+    input-passed C (a-transform C h .transforms) (c .before .before .before .before .before .to-input .ensures) d
+        (c .before .before .before .before .check-scoped .ensures) (c .before .before .size .given .1) (c .input-within .ensures),
+  ),
 )
 
 check-transform-enum-known-z : (t : ℕ) → check-transform-lts.Need-enum-known-z (check-transform-claims t) (check-transform-at t) check-transform.Post
@@ -344,20 +370,23 @@ check-transform-enum-known-count t c = search needs
 check-transform-check-fields-requires : (t : ℕ)
     → check-transform-lts.Need-check-fields-requires (check-transform-claims t) (check-transform-at t) check-transform.Post
 check-transform-check-fields-requires t c κs = let (s, Δ, C, d, h) =
-    c .before .before .before .before .before .before .before .before .before .before .before .before .pre .1 in
+    c .before .before .before .before .before .before .before .before .before .before .before .before .before .pre .1 .1 in
     let F = rest-of (c .before .before .before .check-input .ensures s Δ
     (input-passed C (a-transform C h .transforms) (c .before .before .before .before .before .before .before .before .before .to-input .ensures) d
     (c .before .before .before .before .before .before .before .before .check-scoped .ensures)
     (c .before .before .before .before .before .before .size .given .1) (c .before .before .before .before .input-within .ensures)))
     (c .before .count .given .1) in (
-      omega (arith, c .before .before .before .before .before .before .before .before .before .before .before .before .pre .0),
+      omega (arith, c .before .before .before .before .before .before .before .before .before .before .before .before .before .pre .0),
       (
-        F .input,
-        F .parts,
-        F .scope,
-        F .mapping,
-        F .counted,
-        F .columns,
+        c .before .before .before .before .before .before .before .before .before .before .before .before .before .pre .1 .0,
+        (
+          F .input,
+          F .parts,
+          F .scope,
+          F .mapping,
+          F .counted,
+          F .columns,
+        ),
       ),
     )
 
@@ -367,19 +396,22 @@ check-transform-enum-known-head t c = search needs
 check-transform-check-element-requires : (t : ℕ)
     → check-transform-lts.Need-check-element-requires (check-transform-claims t) (check-transform-at t) check-transform.Post
 check-transform-check-element-requires t c κs = let (s, Δ, C, d, h) =
-    c .before .before .before .before .before .before .before .before .before .before .before .before .pre .1 in
+    c .before .before .before .before .before .before .before .before .before .before .before .before .before .pre .1 .1 in
     let E = rest-of (c .before .before .before .check-input .ensures s Δ
     (input-passed C (a-transform C h .transforms) (c .before .before .before .before .before .before .before .before .before .to-input .ensures) d
     (c .before .before .before .before .before .before .before .before .check-scoped .ensures)
     (c .before .before .before .before .before .before .size .given .1) (c .before .before .before .before .input-within .ensures))) (c .before .head .given .1)
     in (
-      omega (arith, c .before .before .before .before .before .before .before .before .before .before .before .before .pre .0),
+      omega (arith, c .before .before .before .before .before .before .before .before .before .before .before .before .before .pre .0),
       (
-        E .element,
-        E .selector,
-        E .makes,
-        E .elements,
-        E .limited,
+        c .before .before .before .before .before .before .before .before .before .before .before .before .before .pre .1 .0,
+        (
+          E .element,
+          E .selector,
+          E .makes,
+          E .elements,
+          E .limited,
+        ),
       ),
     )
 
@@ -452,7 +484,7 @@ pub +check-element+check-fields+check-scoped+check-transform-spec : {M : Type 1}
     (check-fields-check-scoped-requires t)
     (check-fields-enum-known-size t)
     (check-fields-add-field-requires t)
-    (check-fields-skip-selector-requires t)
+    (check-fields-skip-by-requires t)
     (check-fields-add-k t)
     (check-fields-loop-less t)
     (check-fields-loop-again t)

@@ -17,21 +17,27 @@ check-input-spec =
     (λ c. search needs)
     (λ c. search needs)
     (λ c. search needs)
-    (λ c κs. let (s, Δ, R) = c .before .before .before .before .before .before .pre in let K = is-cast (c .before .before .before .head .ensures
-    (R .checking .standing .here)) (c .before .input .given .1) in (R .column, K .input, K .type, K .option, named-typed (R .named)))
+    (λ c κs. let (s, Δ, R) = c .before .before .before .before .before .before .before .pre .1 in let K = is-cast (c .before .before .before .head .ensures
+    (R .checking .standing .here)) (c .before .input .given .1) in
+    (c .before .before .before .before .before .before .before .pre .0, (R .column, K .input, K .type, K .option, named-typed (R .named))))
     (λ c κs. search needs)
     (λ c. search needs)
-    (λ c κs. let (s, Δ, R) = c .before .before .before .before .before .pre in (R .known, R .column, R .named, R .sized))
+    (λ c κs. let (s, Δ, R) = c .before .before .before .before .before .before .pre .1 in
+    (c .before .before .before .before .before .before .pre .0, (R .known, R .column, R .named, R .sized)))
     (λ c κs. search needs)
     (λ c. search needs)
+    (λ c κs. c .before .before .before .before .before .before .before .pre .0 .constants)
     (λ c κs. search needs)
-    (λ c κs. let (s, Δ, R) = c .before .before .before .before .before .before .before .pre in (_, named-typed (R .named)))
+    (λ c κs. let (s, Δ, R) = c .before .before .before .before .before .before .before .before .before .pre .1 in
+    (c .before .before .before .before .before .before .before .before .before .pre .0, (_, named-typed (R .named))))
     (λ c κs. search needs)
     (λ c. search needs)
-    (λ c κs. let (s, Δ, R) = c .before .before .before .before .before .pre in (_, named-typed (R .named)))
+    (λ c κs. let (s, Δ, R) = c .before .before .before .before .before .before .pre .1 in
+    (c .before .before .before .before .before .before .pre .0, (_, named-typed (R .named))))
     (λ c κs. search needs)
     (λ c. search needs)
-    (λ c κs. let (s, Δ, R) = c .before .before .before .before .before .pre in (_, named-typed (R .named)))
+    (λ c κs. let (s, Δ, R) = c .before .before .before .before .before .before .pre .1 in
+    (c .before .before .before .before .before .before .pre .0, (_, named-typed (R .named))))
     (λ c κs. search needs)
     (λ c. search needs)
     (λ c. λ s Δ R. no-source R (is-position (c .before .before .head .ensures (R .checking .standing .here)) (c .enum-told .given .1) .1) refl)
@@ -45,9 +51,10 @@ check-input-spec =
     (λ c. λ s Δ R. let K = is-rename (c .before .before .before .before .head .ensures (R .checking .standing .here))
     (c .before .before .enum-told3 .given .1) in none-left (c .nothing-left2 .ensures) (input-measured R (by-rename (R .checking) K) (a-rename (R .column)
     (K .name .bytes) (c .before .rename-result .ensures (R .known) (R .column) (K .name .bytes) (R .named) (R .sized) (R .limited)))))
-    (λ c. λ s Δ R. let K = is-struct (c .before .before .before .before .before .before .head .ensures (R .checking .standing .here))
-    (c .before .before .before .before .input2 .given .1) in some-fields R K (c .before .input-head .ensures (R .column .type) (named-typed (R .named)))
-    (selectors-counted _ (K .fields .selectors) ∙ sym (c .before .before .struct-fields .ensures (K .input) (K .fields) .count)) (c .fields-left .ensures))
+    (λ c. λ s Δ R. let K = is-struct (c .before .before .before .before .before .before .before .head .ensures (R .checking .standing .here))
+    (c .before .before .before .before .before .input2 .given .1) in some-fields R K (c .before .input-head .ensures (R .column .type) (named-typed (R .named)))
+    (selectors-counted _ (K .fields .selectors) ∙ sym (c .before .before .counted-at .ensures (K .input .end) (K .fields)
+    (c .before .before .before .skip-by .ensures (K .input)) .count)) (c .fields-left .ensures))
     (λ c. λ s Δ R. let K = is-list (c .before .before .before .before .head .ensures (R .checking .standing .here)) (c .before .before .enum-told4 .given .1) in
     some-list R K (c .before .input-head2 .ensures (R .column .type) (named-typed (R .named))) (c .listed-left .ensures))
     (λ c. λ s Δ R. let K = is-array (c .before .before .before .before .head .ensures (R .checking .standing .here)) (c .before .before .enum-told5 .given .1)

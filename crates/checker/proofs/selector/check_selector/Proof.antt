@@ -12,10 +12,10 @@ pub check-selector-spec : {M : Type 1} → statement M
 check-selector-spec =
     tie.close
     (tie.spec
-    (λ c κs. let (s, Δ, C) = c .before .before .pre in (Δ, checking-scope C))
+    (λ c κs. let (s, Δ, C) = c .before .before .before .pre .1 in (c .before .before .before .pre .0, (Δ, checking-scope C)))
     (λ c κs. search needs)
-    (λ c κs. let (s, Δ, C) = c .before .before .before .before .pre in
-    (s, Δ, C, scope-is C (c .before .scope-count .ensures) (c .columns-within .ensures)))
+    (λ c κs. let (s, Δ, C) = c .before .before .before .before .before .pre .1 in
+    (c .before .before .before .before .before .pre .0, (s, Δ, C, scope-is C (c .before .scope-count .ensures) (c .columns-within .ensures))))
     (λ c κs. search needs)
     (λ c. λ s Δ C.
     let A = c .before .check-scoped .ensures s Δ C (scope-is C (c .before .before .before .scope-count .ensures) (c .before .before .columns-within .ensures))

@@ -14,7 +14,7 @@ rename-result-spec =
     tie.close
     (tie.spec
     (λ c. λ b a name N e l. record { known = b; is = ap Measured.Passed e ∙ result-kept b name (a .type) (l (c .if1 .taken)) })
-    (λ c κs. let (b, a, N, e) = c .before .before .before .pre in (b, a .type, named-typed N, e))
+    (λ c κs. let (b, a, N, e) = c .before .before .before .before .pre .1 in (c .before .before .before .before .pre .0, (b, a .type, named-typed N, e)))
     (λ c κs. search needs)
     (λ c. λ b a name N e l. record {
       known = true;

@@ -10,8 +10,9 @@ scope-count-spec =
     tie.close
     (tie.spec
     (λ c. λ Δ S. scope-top S (c .if1 .taken))
-    (λ c κs. (c .before .before .before .before .pre, omega (arith, c .if1 .left)))
-    (λ c κs. let (Δ, S) = c .before .before .before .before .before .pre in let E = c .enclosing .ensures Δ S in (E .type, E .resolved))
+    (λ c κs. (c .before .before .before .before .before .pre .0, (c .before .before .before .before .before .pre .1, omega (arith, c .if1 .left))))
+    (λ c κs. let (Δ, S) = c .before .before .before .before .before .before .pre .1 in let E = c .enclosing .ensures Δ S in
+    (c .before .before .before .before .before .before .pre .0, (E .type, E .resolved)))
     (λ c. search needs)
     (λ c. search needs)
     (λ c. search needs)
