@@ -6,7 +6,7 @@ ghost use Rattle.layout.specs.Bytes.{Bytes};
 ghost use Rattle.layout.specs.Tree.{DataType};
 ghost use Rattle.layout.specs.declared.edition.Edition.{Edition as EditionOf};
 ghost use Rattle.plan.specs.Check.{Column};
-ghost use Rattle.plan.specs.code.Constants.{ConstantEnds};
+ghost use Rattle.plan.specs.code.Skips.{Skips};
 ghost use Rattle.nodes.specs.code.Typed.{TypeIs};
 ghost use Rattle.index.specs.code.Indexed.{strideOf, Indexed};
 ghost use Rattle.direct.specs.code.Places.{bytesOf, NameAt};
@@ -89,7 +89,7 @@ fn column_name(incoming: &[u8], v: Edition, n: u16, k: Position, index: &[u16]) 
 
 // Of the selector where the walk stands.
 fn own_name(plan: &[u8], w: Walk, tables: &[u16]) -> OwnName
-    requires { ⌜ ConstantEnds (now plan) (now tables) ⌝ }
+    requires { ⌜ Skips (now plan) (now tables) ⌝ }
     ensures { λ r. ⌜ ((incoming : Bytes) (v : EditionOf) (n : ℕ) (a : Column) → NamedAt incoming v n (now (plan .entry)) w a → OwnNameIs incoming v n (now (plan .entry)) w a r) ⌝ }
 {
     let c = Cursor { at: w.at };

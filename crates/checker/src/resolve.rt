@@ -20,8 +20,8 @@ use walk::head::head;
 use walk::head::skip_by;
 use walk::walk::Walk;
 
-// Where the index of the incoming columns begins in the tables: behind the ends of 1,024 constants.
-pub const INDEX: usize = 2048;
+// Where the index of the incoming columns begins in the tables: behind where the plan's selectors end.
+pub const INDEX: usize = 7168;
 
 // In the incoming layout or in the plan, or it is made by a mapping.
 pub enum Source {

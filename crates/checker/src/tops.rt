@@ -21,8 +21,8 @@ use layout::limits::DEEPEST_SELECTOR;
 use layout::read::LayoutRead;
 use layout::read::read_layout;
 use nullness::marks::meets_marks;
-use plan::fill::fill_selectors;
 use plan::read::PlanRead;
+use plan::read::fill_selectors;
 use plan::read::read_plan;
 
 // Passed, or the refusal's number and place.
@@ -56,7 +56,7 @@ fn check_types(
         first,
     };
     let mut tables = [0u16; INDEX + 256];
-    fill_selectors(plan, DEEPEST_SELECTOR, count, first, &mut tables);
+    read_selectors(plan, DEEPEST_SELECTOR, count, first, &mut tables);
     let len = index_columns(incoming, v, n, first, stride_of(n), &mut tables[INDEX..]);
     check_each(
         incoming,

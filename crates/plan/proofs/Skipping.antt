@@ -129,6 +129,14 @@ module _ {s : Bytes} {t : List ℕ} (T : Skips s t) where
             (T .right j (omega arith) (λ q. y (sym n ∙ q)));
       }
 
+  -- another table of the same entries
+  pub skips-same : {w : List ℕ} → ((k : ℕ) → k < 7168 → getD t k 0 ≡ getD w k 0) → Skips s w
+  skips-same {w} same = record {
+    right = λ i b z.
+        let n = same (2561 + 3 * i) (omega arith) in
+        pass-as (same (2560 + 3 * i) (omega arith)) n (same (2562 + 3 * i) (omega arith)) (T .right i b (λ q. z (sym n ∙ q)));
+  }
+
   -- a number before the entries
   pub skips-low : (k x : ℕ) → k < 2560 → Skips s (set t k x)
   skips-low k x l = record {

@@ -231,7 +231,8 @@ pub fn put_selectors(
         put_start(i as u64, level);
         let made = put_made_column(target, columns, i);
         put_selector(plan, incoming, scope, target, made, depth, d, level);
-        let Moved::To(end) = read_selector(plan, depth, d) else {
+        let mut none = [0u16; 1];
+        let Moved::To(end) = read_selector(plan, depth, d, &mut none) else {
             return;
         };
         d = end;

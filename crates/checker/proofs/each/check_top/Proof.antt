@@ -8,7 +8,7 @@ pub check-top-spec : {M : Type 1} → statement M
 check-top-spec =
     tie.close
     (tie.spec
-    (λ c κs. c .before .before .before .before .pre .0 .constants)
+    (λ c κs. c .before .before .before .before .pre .0 .skips)
     (λ c κs. search needs)
     (λ c κs. let (Γ, T) = c .before .before .before .before .before .before .pre .1 .0 in
     (c .before .before .before .before .before .before .pre .0, (_, Γ, top-checking T (c .before .skip-by .ensures) (c .top .ensures))))

@@ -16,7 +16,7 @@ mapped-head-spec =
     (λ c. search needs)
     (λ c. search needs)
     (λ c. search needs)
-    (λ c κs. c .before .before .before .before .before .before .before .pre .0 .constants)
+    (λ c κs. c .before .before .before .before .before .before .before .pre .0 .skips)
     (λ c κs. search needs)
     (λ c. search needs)
     (λ c. search needs)

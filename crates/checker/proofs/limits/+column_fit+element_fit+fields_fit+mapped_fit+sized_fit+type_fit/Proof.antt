@@ -230,7 +230,7 @@ fields-fit-μ-loop incoming v n plan w count levels room tables c₀ size₀ dee
 fields-fit-first-child-requires : (t : ℕ) → fields-fit-lts.Need-first-child-requires (fields-fit-claims t)
     (fields-fit-at t) fields-fit.Post fields-fit-Inv-loop fields-fit-μ-loop
 fields-fit-first-child-requires t c κs = let (fs, M, e) = c .before .before .before .pre .1 .1 in
-    (c .before .before .before .pre .1 .0 .constants, made-asks M .0)
+    (c .before .before .before .pre .1 .0 .skips, made-asks M .0)
 
 fields-fit-loop-holds : (t : ℕ) → fields-fit-lts.Need-loop-holds (fields-fit-claims t) (fields-fit-at t) fields-fit.Post fields-fit-Inv-loop fields-fit-μ-loop
 fields-fit-loop-holds t c = let (fs, M, e) = c .before .before .before .before .pre .1 .1 in fitting-start M e (c .first-child .ensures)
@@ -279,7 +279,7 @@ fields-fit-returns t c = fitting-over (c .before .before .before .before .before
 
 fields-fit-skip-by-requires : (t : ℕ) → fields-fit-lts.Need-skip-by-requires (fields-fit-claims t)
     (fields-fit-at t) fields-fit.Post fields-fit-Inv-loop fields-fit-μ-loop
-fields-fit-skip-by-requires t c κs = c .before .before .before .before .before .before .before .before .before .before .before .before .pre .1 .0 .constants
+fields-fit-skip-by-requires t c κs = c .before .before .before .before .before .before .before .before .before .before .before .before .pre .1 .0 .skips
 
 fields-fit-add-k : (t : ℕ) → fields-fit-lts.Need-add-k (fields-fit-claims t) (fields-fit-at t) fields-fit.Post fields-fit-Inv-loop fields-fit-μ-loop
 fields-fit-add-k t c = omega (

@@ -25,7 +25,7 @@ name-at-spec =
     μ-loop
     (λ c κs. search needs)
     (λ c. (naming-start (c .before .before .before .before .pre .1 .1), c .no-ends .ensures .0 (now (c .before .before .before .before .args .plan))))
-    (λ c κs. c .before .before .before .before .before .pre .0 .constants)
+    (λ c κs. c .before .before .before .before .before .pre .0 .skips)
     (λ c. search needs)
     (λ c. naming-is (c .before .before .before .before .loop .inv .0) (c .before .before .before .own-name .ensures) (c .before .name .given .1))
     (λ c. search needs)
@@ -69,7 +69,7 @@ name-at-spec =
     (λ c κs.
     let c3 = c .before .before .before in let c4 = c3 .before in let c8 = c4 .before .before .before .before in let c10 = c8 .before .before in let
     c11 = c10 .before in (
-      c11 .before .before .before .before .before .pre .0 .constants,
+      c11 .before .before .before .before .before .pre .0 .skips,
       (
         walk-inside (naming-child-asks (c11 .loop .inv .0) (c10 .own-name .ensures) (c8 .k .given .1) (c4 .enclosing .ensures)
             (c3 .direct-name .ensures) (c .before .enum-told2 .given .1) .0 .1),
@@ -79,7 +79,7 @@ name-at-spec =
     (λ c κs.
     let c2 = c .before .before in let c4 = c2 .before .before in let c5 = c4 .before in let c9 = c5 .before .before .before .before in let c11 =
     c9 .before .before in let c12 = c11 .before in (
-      c12 .before .before .before .before .before .pre .0 .constants,
+      c12 .before .before .before .before .before .pre .0 .skips,
       (
         naming-child-asks (c12 .loop .inv .0) (c11 .own-name .ensures) (c9 .k .given .1) (c5 .enclosing .ensures) (c4 .direct-name .ensures)
             (c2 .enum-told2 .given .1),

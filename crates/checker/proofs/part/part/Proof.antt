@@ -17,7 +17,7 @@ part-spec =
     (λ c κs. search needs)
     (λ c. search needs)
     (λ c κs. let (t, a, R, P) = c .before .before .before .before .before .before .before .pre .1 in
-    (c .before .before .before .before .before .before .before .pre .0 .constants, child-asks (from-mapping R (c .enum-told3 .given .1))))
+    (c .before .before .before .before .before .before .before .pre .0 .skips, child-asks (from-mapping R (c .enum-told3 .given .1))))
     (λ c κs.
     let c7 = c .before .before .before .before .before .before .before in
     let (t, a, R, P) = c7 .before .pre .1 in (c7 .before .pre .0, (_, child-typed (c .child .ensures) (from-mapping R (c .before .enum-told3 .given .1)) P)))

@@ -19,7 +19,7 @@ resolve-spec =
     Inv-loop
     μ-loop
     (λ c. onward-start (c .before .before .before .pre .1 .1))
-    (λ c κs. let O = c .loop .inv in (c .before .before .before .before .pre .0 .constants, (O .start .place, O .start .standing)))
+    (λ c κs. let O = c .loop .inv in (c .before .before .before .before .pre .0 .skips, (O .start .place, O .start .standing)))
     (λ c κs. let O = c .before .loop .inv in (c .before .before .before .before .before .pre .0, (O .some, onward-stops O (c .locate .ensures))))
     (λ c. search needs)
     (λ c κs. search needs)

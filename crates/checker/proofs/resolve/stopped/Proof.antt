@@ -26,7 +26,7 @@ stopped-spec =
     let c3 = c .before .before .before in let c7 = c3 .before .before .before .before in
     let (t, S) = c7 .before .pre .1 in ((t, stop-constant S (c3 .head .ensures (S .typed .standing .here)) (c .before .d .given .1)), stop-bounds S))
     (λ c. search needs)
-    (λ c κs. c .before .before .before .before .before .before .before .before .pre .0 .constants)
+    (λ c κs. c .before .before .before .before .before .before .before .before .pre .0 .skips)
     (λ c κs.
     let c2 = c .before .before in let c4 = c2 .before .before in let c8 = c4 .before .before .before .before in
     let (t, S) = c8 .before .pre .1 in let h = c4 .head .ensures (S .typed .standing .here) in

@@ -276,7 +276,7 @@ pub +same-as+same-column+same-element+same-fields+same-mapped-spec : {M : Type 1
     same-fields.Post
     same-fields-Inv-loop
     same-fields-μ-loop
-    (λ c κs. let (fs, M, e) = c .before .before .before .before .pre .1 .1 .0 in (c .before .before .before .before .pre .1 .0 .constants, made-asks M .0))
+    (λ c κs. let (fs, M, e) = c .before .before .before .before .pre .1 .1 .0 in (c .before .before .before .before .pre .1 .0 .skips, made-asks M .0))
     (λ c. let (fs, M, e) = c .before .before .before .before .before .before .pre .1 .1 .0 in matching-start M e
     (c .before .before .before .before .before .before .pre .1 .1 .1)
     (c .before .first-child .ensures))
@@ -296,7 +296,7 @@ pub +same-as+same-column+same-element+same-fields+same-mapped-spec : {M : Type 1
     (λ c. search needs)
     (λ c. matching-no (c .before .before .before .before .before .loop .inv) (c .before .before .before .before .loop-test .taken)
     (c .before .before .before .child-at .ensures) (c .before .before .same-column .ensures) (c .enum-told .given .1))
-    (λ c κs. c .before .before .before .before .before .before .before .before .before .before .before .before .before .pre .1 .0 .constants)
+    (λ c κs. c .before .before .before .before .before .before .before .before .before .before .before .before .before .pre .1 .0 .skips)
     (λ c. omega (
       arith,
       c .before .before .before .before .before .before .before .before .before .before .before .before .before .before .fits .count,

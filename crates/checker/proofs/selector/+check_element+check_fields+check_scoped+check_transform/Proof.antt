@@ -166,7 +166,7 @@ check-transform-claims t = (
 
 check-element-child-requires : (t : ℕ) → check-element-lts.Need-child-requires (check-element-claims t) (check-element-at t) check-element.Post
 check-element-child-requires t c κs = let (u, e, f, E, l) = c .before .before .before .pre .1 .1 in
-    (c .before .before .before .pre .1 .0 .constants, element-child-asks E)
+    (c .before .before .before .pre .1 .0 .skips, element-child-asks E)
 
 check-element-check-scoped-requires : (t : ℕ) → check-element-lts.Need-check-scoped-requires (check-element-claims t) (check-element-at t) check-element.Post
 check-element-check-scoped-requires t c κs = let (u, e, f, E, l) = c .before .before .before .before .pre .1 .1 in
@@ -213,7 +213,7 @@ check-fields-μ-loop incoming v n plan w count scope tables c₀ fields₀ k₀ 
 check-fields-first-child-requires : (t : ℕ)
     → check-fields-lts.Need-first-child-requires (check-fields-claims t) (check-fields-at t) check-fields.Post check-fields-Inv-loop check-fields-μ-loop
 check-fields-first-child-requires t c κs = let (i, ss, fs, M, e, d) = c .before .before .before .pre .1 .1 in
-    (c .before .before .before .pre .1 .0 .constants, mapping-asks M .0)
+    (c .before .before .before .pre .1 .0 .skips, mapping-asks M .0)
 
 check-fields-loop-holds : (t : ℕ)
     → check-fields-lts.Need-loop-holds (check-fields-claims t) (check-fields-at t) check-fields.Post check-fields-Inv-loop check-fields-μ-loop
@@ -257,7 +257,7 @@ check-fields-add-field-requires t c κs = (
 
 check-fields-skip-by-requires : (t : ℕ) → check-fields-lts.Need-skip-by-requires (check-fields-claims t)
     (check-fields-at t) check-fields.Post check-fields-Inv-loop check-fields-μ-loop
-check-fields-skip-by-requires t c κs = c .before .before .before .before .before .before .before .before .before .before .before .before .pre .1 .0 .constants
+check-fields-skip-by-requires t c κs = c .before .before .before .before .before .before .before .before .before .before .before .before .pre .1 .0 .skips
 
 check-fields-add-k : (t : ℕ) → check-fields-lts.Need-add-k (check-fields-claims t)
     (check-fields-at t) check-fields.Post check-fields-Inv-loop check-fields-μ-loop

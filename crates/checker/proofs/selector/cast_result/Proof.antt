@@ -14,7 +14,7 @@ cast-result-spec =
     (λ c κs. let (a, P, T, O, X) = c .before .before .before .pre .1 in (c .before .before .before .pre .0, (a .type, X)))
     (λ c κs. let (a, P, T, O, X) = c .before .before .before .before .pre .1 in
     (c .before .before .before .before .pre .0, (a .type, c .resolve .ensures (a .type) X .resolved)))
-    (λ c κs. c .before .before .before .before .before .pre .0 .constants)
+    (λ c κs. c .before .before .before .before .before .pre .0 .skips)
     (λ c κs. search needs)
     (λ c κs.
     let c2 = c .before .before in let c3 = c2 .before in let c6 = c3 .before .before .before in

@@ -26,7 +26,7 @@ check-input-spec =
     (c .before .before .before .before .before .before .pre .0, (R .known, R .column, R .named, R .sized)))
     (λ c κs. search needs)
     (λ c. search needs)
-    (λ c κs. c .before .before .before .before .before .before .before .pre .0 .constants)
+    (λ c κs. c .before .before .before .before .before .before .before .pre .0 .skips)
     (λ c κs. search needs)
     (λ c κs. let (s, Δ, R) = c .before .before .before .before .before .before .before .before .before .pre .1 in
     (c .before .before .before .before .before .before .before .before .before .pre .0, (_, named-typed (R .named))))

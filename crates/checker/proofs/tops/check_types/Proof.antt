@@ -1,7 +1,7 @@
 -- `checker::tops::check_types` meets its contract. Assumes nothing.
 use Rattle.checker.proofs.Topping.{read-direct}
 use Rattle.checker.proofs.Tabled.{tables-room, tables-made}
-use Rattle.plan.proofs.Entries.{constants-none}
+use Rattle.plan.proofs.Skipping.{skips-none}
 use Rattle.layout.specs.Tree.{fieldsOf}
 use lib.Seq.{length-take-le}
 use mathlib.Core.Path.{sym}
@@ -16,7 +16,7 @@ check-types-spec =
     (λ c κs. let (Γ, ss, T) = c .before .before .before .pre .0 in (T .columns, (T .selectors, c .before .before .before .pre .1)))
     (λ c. λ Γ ss Q T. read-direct T (fieldsOf (Q .columns)) (c .before .fits-target .ensures (c .if1 .taken) (T .columns) (T .selectors) Q))
     (λ c. search needs)
-    (λ c κs. constants-none 2304)
+    (λ c κs. skips-none 7424)
     (λ c κs. search needs)
     (λ c. search needs)
     (λ c. search needs)
@@ -26,19 +26,19 @@ check-types-spec =
     (λ c.
     let d = c .before .before .before .before .before in
     let i = c .before in
-    tables-room (d .fill-selectors .last .1 .1 .1 .1 .0) (i .index-columns .last .1 .1 .1 .1 .1 .0) _ (d .fill-selectors .ensures .1)
+    tables-room (d .read-selectors .last .1 .1 .1 .1 .0) (i .index-columns .last .1 .1 .1 .1 .1 .0) _ (d .read-selectors .ensures .1)
     (i .index-columns .ensures .0))
     (λ c.
     let d = c .before .before .before .before .before .before in
     let i = c .before .before in
     sym (length-take-le _ _
-    (tables-room (d .fill-selectors .last .1 .1 .1 .1 .0) (i .index-columns .last .1 .1 .1 .1 .1 .0) _ (d .fill-selectors .ensures .1)
+    (tables-room (d .read-selectors .last .1 .1 .1 .1 .0) (i .index-columns .last .1 .1 .1 .1 .1 .0) _ (d .read-selectors .ensures .1)
     (i .index-columns .ensures .0))))
     (λ c κs.
     let d = c .before .before .before .before .before .before in
     let i = c .before .before in (
-      tables-made (d .fill-selectors .last .1 .1 .1 .1 .0) (i .index-columns .last .1 .1 .1 .1 .1 .0) _ (d .fill-selectors .ensures .1)
-          (i .index-columns .ensures .0) (d .fill-selectors .ensures .0) (c .before .before .before .before .stride-of .ensures .0)
+      tables-made (d .read-selectors .last .1 .1 .1 .1 .0) (i .index-columns .last .1 .1 .1 .1 .1 .0) _ (d .read-selectors .ensures .1)
+          (i .index-columns .ensures .0) (d .read-selectors .ensures .0) (c .before .before .before .before .stride-of .ensures .0)
           (i .index-columns .ensures .1),
       (d .before .before .before .before .before .before .before .pre .0, d .before .before .before .before .before .before .before .pre .1),
     ))
