@@ -26,19 +26,19 @@ check-types-spec =
     (λ c.
     let d = c .before .before .before .before .before in
     let i = c .before in
-    tables-room (d .read-selectors .last .1 .1 .1 .1 .0) (i .index-columns .last .1 .1 .1 .1 .1 .0) _ (d .read-selectors .ensures .1)
+    tables-room (d .read-selectors .last .1 .1 .1 .1 .0) (i .index-columns .last .1 .1 .1 .1 .1 .0) _ (d .read-selectors .ensures .1 .1)
     (i .index-columns .ensures .0))
     (λ c.
     let d = c .before .before .before .before .before .before in
     let i = c .before .before in
     sym (length-take-le _ _
-    (tables-room (d .read-selectors .last .1 .1 .1 .1 .0) (i .index-columns .last .1 .1 .1 .1 .1 .0) _ (d .read-selectors .ensures .1)
+    (tables-room (d .read-selectors .last .1 .1 .1 .1 .0) (i .index-columns .last .1 .1 .1 .1 .1 .0) _ (d .read-selectors .ensures .1 .1)
     (i .index-columns .ensures .0))))
     (λ c κs.
     let d = c .before .before .before .before .before .before in
     let i = c .before .before in (
-      tables-made (d .read-selectors .last .1 .1 .1 .1 .0) (i .index-columns .last .1 .1 .1 .1 .1 .0) _ (d .read-selectors .ensures .1)
-          (i .index-columns .ensures .0) (d .read-selectors .ensures .0) (c .before .before .before .before .stride-of .ensures .0)
+      tables-made (d .read-selectors .last .1 .1 .1 .1 .0) (i .index-columns .last .1 .1 .1 .1 .1 .0) _ (d .read-selectors .ensures .1 .1)
+          (i .index-columns .ensures .0) (d .read-selectors .ensures .1 .0) (c .before .before .before .before .stride-of .ensures .0)
           (i .index-columns .ensures .1),
       (d .before .before .before .before .before .before .before .pre .0, d .before .before .before .before .before .before .before .pre .1),
     ))

@@ -1,7 +1,7 @@
 -- `nullness::column::column_filled` meets its contract: by the mark and what the type begins with. Assumes nothing.
 use Rattle.nullness.proofs.Marking.{optional-top, leaf-top, struct-top, list-top, array-top}
 use Rattle.nullness.proofs.Placing.{untold}
-use Rattle.walk.proofs.Ending.{told}
+use Rattle.plan.proofs.Skipping.{told}
 use Rattle.layout.proofs.View.{never-headless}
 use borrow.Author.Needs.{needs}
 use Rattle.nullness.proofs.column.column_filled.Statement.{statement}

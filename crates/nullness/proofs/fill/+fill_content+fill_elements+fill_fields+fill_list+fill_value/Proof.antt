@@ -4,7 +4,7 @@ use Rattle.overflow.proofs.Scanning.{list-elements}
 use Rattle.overflow.proofs.Raw.{leaf-value, struct-value, a-list, array-value}
 use Rattle.nodes.proofs.Node.{raw-present, list-is}
 use Rattle.values.proofs.Inside.{null-at}
-use Rattle.walk.proofs.Ending.{told}
+use Rattle.plan.proofs.Skipping.{told}
 use Rattle.layout.proofs.Ways.{clash}
 use borrow.Author.Needs.{needs}
 use Prim.Native.Nat.{ℕ, _<_, _+_, _-_, _*_}

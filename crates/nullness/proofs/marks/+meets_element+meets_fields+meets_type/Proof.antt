@@ -5,7 +5,7 @@ use Rattle.nullness.proofs.Meeting.{array-meets}
 use Rattle.nullness.proofs.Meeting.{Fieldings, fielding-start, fielding-all, fielding-labelled, field, field-place, fielding-fails, fielding-more}
 use Rattle.overflow.proofs.Paths.{step-room, step-deep}
 use Rattle.nullness.proofs.Placing.{untold}
-use Rattle.walk.proofs.Ending.{told}
+use Rattle.plan.proofs.Skipping.{told}
 use Rattle.overflow.proofs.Elements.{list-element, array-element, element-type, element-labelled}
 use Rattle.layout.proofs.View.{deep, struct-at, never-headless}
 use mathlib.Core.Path.{refl}

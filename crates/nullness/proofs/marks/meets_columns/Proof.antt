@@ -2,7 +2,7 @@
 use Rattle.nullness.proofs.Meeting.{Columnings, columning-start, columning-all, column-place, columning-fails, columning-more}
 use Rattle.nullness.proofs.Placing.{untold}
 use Rattle.overflow.proofs.Columns.{pair-labelled, next, column-type}
-use Rattle.walk.proofs.Ending.{told}
+use Rattle.plan.proofs.Skipping.{told}
 use lib.ListN.{length-replicate}
 use native.Mathlib.Omega.{arith}
 use Prim.Native.Nat.{ℕ, _-_}

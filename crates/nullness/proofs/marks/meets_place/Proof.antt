@@ -2,7 +2,7 @@
 -- Assumes nothing.
 use Rattle.nullness.proofs.Meeting.{place-optional, place-follows, place-filled}
 use Rattle.nullness.proofs.Placing.{untold}
-use Rattle.walk.proofs.Ending.{told}
+use Rattle.plan.proofs.Skipping.{told}
 use borrow.Author.Needs.{needs}
 use Rattle.nullness.proofs.marks.meets_place.Statement.{statement}
 use Rattle.nullness.proofs.marks.meets_place.Tie as tie

@@ -1,5 +1,5 @@
 -- `nullness::nulls::may_be_null` meets its contract: the loop keeps `Looking`. Assumes nothing.
-use Rattle.walk.proofs.Ending.{told}
+use Rattle.plan.proofs.Skipping.{told}
 use Rattle.layout.proofs.Ways.{clash}
 use Rattle.nullness.proofs.Looking.{Looking, looking-start, looking-more, looking-clean}
 use Prim.Native.Nat.{_-_}

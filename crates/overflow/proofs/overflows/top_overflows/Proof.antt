@@ -27,7 +27,7 @@ top-overflows-spec =
     (λ c κs.
     let c2 = c .before .before in
     let c10 = c2 .before .before .before .before .before .before .before .before in
-    (c2 .read-selectors .ensures .0, (c10 .pre .0, (c10 .pre .1 .0, (c10 .pre .1 .1 .0, omega (arith, c10 .pre .1 .1 .1), length-replicate {A = ℕ} 64 0)))))
+    (c2 .read-selectors .ensures .1 .0, (c10 .pre .0, (c10 .pre .1 .0, (c10 .pre .1 .1 .0, omega (arith, c10 .pre .1 .1 .1), length-replicate {A = ℕ} 64 0)))))
     (λ c.
     let c8 = c .before .before .before .before .before .before .before .before in
     λ X T Q e. top-unclean (λ i. omega (arith, c8 .before .shared-slice-known2 .given i)) (λ i. omega (arith, c8 .shared-slice-known3 .given i)) X T e
