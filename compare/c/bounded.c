@@ -339,9 +339,12 @@ int main(void) {
     slow_checks();
     slow_renames();
     slow_constants();
+    slow_fields();
+    slow_columns();
     slow_marks();
     slow_runs();
     slow_tops();
+    slow_past_the_limit();
     arrays_of(&incoming, 1);
     arrays_of(&target, 1);
     positions_of(&plan, 1, 0);

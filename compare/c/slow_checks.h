@@ -181,12 +181,88 @@ static void behind_arrays(text *t, int elements, int positions) {
         position(t, 1);
 }
 
+/* Checks a plan that gives a list of one struct of an int8 field's copies, and runs it. */
+static void expect_taken(const char *name) {
+    expect_check(name, 0);
+    record.length = 0;
+    put(&record, 0x01000101, 4); /* a list of one struct */
+    put(&record, 0x0701, 2);
+    expect("the same, run", 0);
+    if (output[0] != 1 || output[4] != 1 || output[5] != 7)
+        failed = 1;
+}
+
+/* A selector in front of others: a rename, a cast and back, or a constant of so many empty arrays. */
+static void in_front(text *t, int kind) {
+    if (kind == 0) {
+        rename_position(t, 0);
+    } else if (kind == 1) {
+        put(t, 0x0202, 2);
+        position(t, 0);
+        put(t, 0x02020003, 4); /* int16, Safe; int8, Overflowing */
+    } else {
+        constant_arrays(t, kind, 1, 0);
+    }
+}
+
+/* In an element, positions that take what stands behind so many selectors of that kind. */
+static void behind_many(text *t, int kind, int many, int positions) {
+    mark(t, "PLN", 1);
+    put(t, 5, 1);
+    position(t, 0);
+    put(t, 0x0404, 2);
+    position(t, 0);
+    put(t, (uint64_t)(many + 1), 2);
+    for (int k = 0; k < many; k++)
+        in_front(t, kind);
+    position(t, 0);
+    put(t, (uint64_t)positions, 2);
+    for (int k = 0; k < positions; k++)
+        position(t, many);
+}
+
+/* Fields of a mapping, each behind thousands of short selectors. */
+static void slow_fields(void) {
+    static const struct {
+        int kind, many, positions;
+        const char *name;
+    } tried[] = {
+        {0, 8000, 8000, "8,000 fields of a mapping, each behind 8,000 renames"},
+        {1, 4700, 7400, "7,400 fields of a mapping, each behind 4,700 casts over casts"},
+        {23, 1000, 7800, "7,800 fields of a mapping, each behind 1,000 short constants"},
+        {45, 660, 7800, "7,800 fields of a mapping, each behind 660 constants"},
+    };
+    for (size_t i = 0; i < sizeof tried / sizeof *tried; i++) {
+        taken_of(&incoming, 1, 0);
+        taken_of(&target, tried[i].positions, 0);
+        behind_many(&plan, tried[i].kind, tried[i].many, tried[i].positions);
+        expect_taken(tried[i].name);
+    }
+}
+
+/* Casts of the last of many columns. */
+static void slow_columns(void) {
+    enum { LISTS_BEFORE = 999, CASTS_LAST = 10900 };
+    lists_of(&incoming, LISTS_BEFORE);
+    put(&incoming, 0x0200, 2);
+    incoming.bytes[5] = (LISTS_BEFORE + 1) & 255;
+    incoming.bytes[6] = (LISTS_BEFORE + 1) >> 8;
+    taken_of(&target, 1, 0);
+    mark(&plan, "PLN", CASTS_LAST);
+    for (int k = 0; k < CASTS_LAST; k++) {
+        put(&plan, 2, 1);
+        position(&plan, LISTS_BEFORE);
+        put(&plan, 0x0003, 2); /* int16, Safe */
+    }
+    expect_check("casts of the last column", 33);
+}
+
 /* Constants whose values pass over a type for each of their bytes. */
 static void slow_constants(void) {
     taken_of(&incoming, 1, 0);
-    taken_of(&target, 40, 0);
-    behind_arrays(&plan, 40000, 40);
-    expect_check("40 fields of a mapping, each behind 40,000 empty arrays of a short struct", 0);
+    taken_of(&target, 7000, 0);
+    behind_arrays(&plan, 40000, 7000);
+    expect_taken("7,000 fields of a mapping, each behind 40,000 empty arrays of a short struct");
     taken_of(&incoming, 1, 0);
     mark(&target, "LAY", 1);
     put(&target, 0, 1);

@@ -117,6 +117,27 @@ static void slow_tops(void) {
     }
 }
 
+/* Renames of list mappings one over another of a list, as many as a plan has room for: the output is too long after a
+ * few of them. */
+static void slow_past_the_limit(void) {
+    enum { TOPS = 260, MAPPINGS = 60, LISTED = 5000 };
+    leaves_of(&incoming, 2);
+    mark(&target, "LAY", TOPS);
+    mark(&plan, "PLN", TOPS);
+    for (int i = 0; i < TOPS; i++) {
+        put(&target, 0x000002 | (uint64_t)i << 8, 3); /* a name of two bytes */
+        put(&target, 0x0213, 2);
+        put(&plan, 3, 1);
+        for (int k = 0; k < MAPPINGS; k++)
+            put(&plan, 5, 1);
+        for (int k = 0; k <= MAPPINGS; k++)
+            position(&plan, 0);
+        put(&plan, 0x000002 | (uint64_t)i << 8, 3);
+    }
+    sevens_of(&record, LISTED);
+    expect("260 lists of 5,000 elements through 60 mappings each", 45);
+}
+
 /* Empty arrays of a wide struct through list mappings, each of which is the input of the next. */
 static void mapped_arrays(int mappings) {
     char name[80];

@@ -22,8 +22,8 @@ use layout::read::LayoutRead;
 use layout::read::read_layout;
 use nullness::marks::meets_marks;
 use plan::read::PlanRead;
-use plan::read::fill_selectors;
 use plan::read::read_plan;
+use plan::read::read_selectors;
 
 // Passed, or the refusal's number and place.
 pub enum PlanChecked {
