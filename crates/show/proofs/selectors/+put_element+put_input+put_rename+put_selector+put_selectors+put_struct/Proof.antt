@@ -1,6 +1,7 @@
 -- The proof of the cycle of calls {put_element, put_input, put_rename, put_selector, put_selectors, put_struct}. The
 -- measure is 4 for each level left, and 2, 1, 1, 0, 1 and 2 more. Assumes nothing.
 use borrow.Author.Needs.{needs}
+use Rattle.plan.proofs.Skipping.{skips-none}
 use Prim.Native.Nat.{ℕ, _<_, _≤_, _+_, _-_, _*_}
 use borrow.Fn.Kinds.{In}
 use borrow.Fn.PlainCycle.{Measures, is, falls, and}
@@ -321,7 +322,8 @@ pub +put-element+put-input+put-rename+put-selector+put-selectors+put-struct-spec
     (λ c κs. search needs)
     (λ c κs. search needs)
     (λ c κs. search needs)
-    (λ c κs. search needs)
+    (λ c. search needs)
+    (λ c κs. skips-none 1)
     (λ c. search needs)
     (λ c. search needs)
     (λ c. search needs)
