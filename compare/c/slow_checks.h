@@ -192,14 +192,14 @@ static void expect_taken(const char *name) {
         failed = 1;
 }
 
-/* A selector in front of others: a rename, a cast and back, or a constant of so many empty arrays. */
+/* A selector in front of others: a rename, two casts, or a constant of so many empty arrays. */
 static void in_front(text *t, int kind) {
     if (kind == 0) {
         rename_position(t, 0);
     } else if (kind == 1) {
         put(t, 0x0202, 2);
         position(t, 0);
-        put(t, 0x02020003, 4); /* int16, Safe; int8, Overflowing */
+        put(t, 0x02040203, 4); /* int16 and int32, Overflowing */
     } else {
         constant_arrays(t, kind, 1, 0);
     }
@@ -252,7 +252,7 @@ static void slow_columns(void) {
     for (int k = 0; k < CASTS_LAST; k++) {
         put(&plan, 2, 1);
         position(&plan, LISTS_BEFORE);
-        put(&plan, 0x0003, 2); /* int16, Safe */
+        put(&plan, 0x0203, 2); /* int16, Overflowing */
     }
     expect_check("casts of the last column", 33);
 }
