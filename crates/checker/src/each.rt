@@ -207,24 +207,16 @@ pub fn check_each(
                 d = e;
                 b = f;
             }
-            FitEnd::Unknown => match check_top(
-                incoming,
-                v,
-                n,
-                plan,
-                d,
-                target,
-                rest,
-                same,
-                tables,
-            ) {
-                Top::Passed(e, f, still) => {
-                    d = e;
-                    b = f;
-                    same = still;
+            FitEnd::Unknown => {
+                match check_top(incoming, v, n, plan, d, target, rest, same, tables) {
+                    Top::Passed(e, f, still) => {
+                        d = e;
+                        b = f;
+                        same = still;
+                    }
+                    Top::Refused(j) => return PlanChecked::Refused(j, k),
                 }
-                Top::Refused(j) => return PlanChecked::Refused(j, k),
-            },
+            }
         }
         k += 1;
     }

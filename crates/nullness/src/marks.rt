@@ -44,7 +44,7 @@ pub struct MarkedType {
 
 // At a path into what a selector gives.
 fn meets_place(
-    incoming: &[u8],
+    lay: &[u8],
     columns: ColumnRange,
     index: &[u16],
     plan: &[u8],
@@ -54,16 +54,16 @@ fn meets_place(
     skips: &[u16],
 ) -> bool
     requires { ⌜ Skips (now plan) (now skips) ⌝ }
-    requires { ⌜ IndexAt (now incoming) columns (now index) × Nulls (now plan) (now nulls) ⌝ }
-    requires { ⌜ ((P : ColumnsIn (now incoming) columns) × (u : DataType) × PlaceAt (now plan) (path .top) (fieldsOf (P .columns)) (slice 0 (path .len) (path .steps)) u) ⌝ }
+    requires { ⌜ IndexAt (now lay) columns (now index) × Nulls (now plan) (now nulls) ⌝ }
+    requires { ⌜ ((P : ColumnsIn (now lay) columns) × (u : DataType) × PlaceAt (now plan) (path .top) (fieldsOf (P .columns)) (slice 0 (path .len) (path .steps)) u) ⌝ }
     requires { ⌜ (path .len ≤ 64) × (length (path .steps) ≡ 64) ⌝ }
-    ensures { λ r. ⌜ ((P : ColumnsIn (now (incoming .entry)) columns) (u : DataType) (S : PlaceAt (now (plan .entry)) (path .top) (fieldsOf (P .columns)) (slice 0 (path .len) (path .steps)) u) → r ≡ allowed (topOf (nullnessIn (nullnessOf (givens (P .columns)) (S .top .here .tree)) (slice 0 (path .len) (path .steps)))) required) ⌝ }
+    ensures { λ r. ⌜ ((P : ColumnsIn (now (lay .entry)) columns) (u : DataType) (S : PlaceAt (now (plan .entry)) (path .top) (fieldsOf (P .columns)) (slice 0 (path .len) (path .steps)) u) → r ≡ allowed (topOf (nullnessIn (nullnessOf (givens (P .columns)) (S .top .here .tree)) (slice 0 (path .len) (path .steps)))) required) ⌝ }
 {
     if !required {
         return true;
     }
     follow(
-        incoming,
+        lay,
         columns,
         index,
         plan,
@@ -75,7 +75,7 @@ fn meets_place(
 
 // At the places of a type of the target, in a column that is required or not.
 fn meets_type(
-    incoming: &[u8],
+    lay: &[u8],
     columns: ColumnRange,
     index: &[u16],
     plan: &[u8],
@@ -86,24 +86,15 @@ fn meets_type(
     skips: &[u16],
 ) -> bool
     requires { ⌜ Skips (now plan) (now skips) ⌝ }
-    requires { ⌜ IndexAt (now incoming) columns (now index) × Nulls (now plan) (now nulls) ⌝ }
-    requires { ⌜ ((P : ColumnsIn (now incoming) columns) × (Q : TypeAt (t .place .edition) (t .place .depth) (now tgt) (t .place .at .at)) × PlaceAt (now plan) (path .top) (fieldsOf (P .columns)) (slice 0 (path .len) (path .steps)) (dtypeOf (Q .tree))) ⌝ }
+    requires { ⌜ IndexAt (now lay) columns (now index) × Nulls (now plan) (now nulls) ⌝ }
+    requires { ⌜ ((P : ColumnsIn (now lay) columns) × (Q : TypeAt (t .place .edition) (t .place .depth) (now tgt) (t .place .at .at)) × PlaceAt (now plan) (path .top) (fieldsOf (P .columns)) (slice 0 (path .len) (path .steps)) (dtypeOf (Q .tree))) ⌝ }
     requires { ⌜ (path .len + t .place .depth ≤ deepest) × (length (path .steps) ≡ 64) ⌝ }
-    ensures { λ r. ⌜ ((P : ColumnsIn (now (incoming .entry)) columns) (Q : TypeAt (t .place .edition) (t .place .depth) (now (tgt .entry)) (t .place .at .at)) (S : PlaceAt (now (plan .entry)) (path .top) (fieldsOf (P .columns)) (slice 0 (path .len) (path .steps)) (dtypeOf (Q .tree))) → r ≡ meets (nullnessIn (nullnessOf (givens (P .columns)) (S .top .here .tree)) (slice 0 (path .len) (path .steps))) (t .required) (Q .tree)) ⌝ }
+    ensures { λ r. ⌜ ((P : ColumnsIn (now (lay .entry)) columns) (Q : TypeAt (t .place .edition) (t .place .depth) (now (tgt .entry)) (t .place .at .at)) (S : PlaceAt (now (plan .entry)) (path .top) (fieldsOf (P .columns)) (slice 0 (path .len) (path .steps)) (dtypeOf (Q .tree))) → r ≡ meets (nullnessIn (nullnessOf (givens (P .columns)) (S .top .here .tree)) (slice 0 (path .len) (path .steps))) (t .required) (Q .tree)) ⌝ }
 {
     let place = t.place;
     let y = place.edition;
     let c = place.at;
-    if !meets_place(
-        incoming,
-        columns,
-        index,
-        plan,
-        nulls,
-        path,
-        t.required,
-        skips,
-    ) {
+    if !meets_place(lay, columns, index, plan, nulls, path, t.required, skips) {
         return false;
     }
     match c.head(tgt) {
@@ -115,17 +106,7 @@ fn meets_type(
                 count: m,
                 first: e,
             };
-            meets_fields(
-                incoming,
-                columns,
-                index,
-                plan,
-                nulls,
-                path,
-                tgt,
-                fields,
-                skips,
-            )
+            meets_fields(lay, columns, index, plan, nulls, path, tgt, fields, skips)
         }
         Head::List(e) => {
             let element = TypePlace {
@@ -133,17 +114,7 @@ fn meets_type(
                 depth: place.depth - 1,
                 at: e,
             };
-            meets_element(
-                incoming,
-                columns,
-                index,
-                plan,
-                nulls,
-                path,
-                tgt,
-                element,
-                skips,
-            )
+            meets_element(lay, columns, index, plan, nulls, path, tgt, element, skips)
         }
         Head::Array(_, e) => {
             let element = TypePlace {
@@ -151,17 +122,7 @@ fn meets_type(
                 depth: place.depth - 1,
                 at: e,
             };
-            meets_element(
-                incoming,
-                columns,
-                index,
-                plan,
-                nulls,
-                path,
-                tgt,
-                element,
-                skips,
-            )
+            meets_element(lay, columns, index, plan, nulls, path, tgt, element, skips)
         }
         Head::Refused(_) => false,
     }
@@ -169,7 +130,7 @@ fn meets_type(
 
 // At the places of a list's or array's element, whose label and type stand at `place`.
 fn meets_element(
-    incoming: &[u8],
+    lay: &[u8],
     columns: ColumnRange,
     index: &[u16],
     plan: &[u8],
@@ -180,10 +141,10 @@ fn meets_element(
     skips: &[u16],
 ) -> bool
     requires { ⌜ Skips (now plan) (now skips) ⌝ }
-    requires { ⌜ IndexAt (now incoming) columns (now index) × Nulls (now plan) (now nulls) ⌝ }
-    requires { ⌜ ((P : ColumnsIn (now incoming) columns) × (Q : ElementTypeAt (place .edition) (place .depth) (now tgt) (place .at .at)) × ElementAt (now plan) (path .top) (fieldsOf (P .columns)) (slice 0 (path .len) (path .steps)) (dtypeOf (Q .type .tree))) ⌝ }
+    requires { ⌜ IndexAt (now lay) columns (now index) × Nulls (now plan) (now nulls) ⌝ }
+    requires { ⌜ ((P : ColumnsIn (now lay) columns) × (Q : ElementTypeAt (place .edition) (place .depth) (now tgt) (place .at .at)) × ElementAt (now plan) (path .top) (fieldsOf (P .columns)) (slice 0 (path .len) (path .steps)) (dtypeOf (Q .type .tree))) ⌝ }
     requires { ⌜ (path .len + 1 + place .depth ≤ deepest) × (length (path .steps) ≡ 64) ⌝ }
-    ensures { λ r. ⌜ ((P : ColumnsIn (now (incoming .entry)) columns) (Q : ElementTypeAt (place .edition) (place .depth) (now (tgt .entry)) (place .at .at)) (S : ElementAt (now (plan .entry)) (path .top) (fieldsOf (P .columns)) (slice 0 (path .len) (path .steps)) (dtypeOf (Q .type .tree))) → r ≡ meets (nullnessAt (insideOf (nullnessIn (nullnessOf (givens (P .columns)) (S .top .here .tree)) (slice 0 (path .len) (path .steps)))) 0) (Q .label .required) (Q .type .tree)) ⌝ }
+    ensures { λ r. ⌜ ((P : ColumnsIn (now (lay .entry)) columns) (Q : ElementTypeAt (place .edition) (place .depth) (now (tgt .entry)) (place .at .at)) (S : ElementAt (now (plan .entry)) (path .top) (fieldsOf (P .columns)) (slice 0 (path .len) (path .steps)) (dtypeOf (Q .type .tree))) → r ≡ meets (nullnessAt (insideOf (nullnessIn (nullnessOf (givens (P .columns)) (S .top .here .tree)) (slice 0 (path .len) (path .steps)))) 0) (Q .label .required) (Q .type .tree)) ⌝ }
 {
     let edition = place.edition;
     let depth = place.depth;
@@ -196,7 +157,7 @@ fn meets_element(
                 place: element,
                 required: l.required,
             };
-            meets_type(incoming, columns, index, plan, nulls, below, tgt, t, skips)
+            meets_type(lay, columns, index, plan, nulls, below, tgt, t, skips)
         }
         Labelled::Refused(_) => false,
     }
@@ -204,7 +165,7 @@ fn meets_element(
 
 // At the places of a struct's fields.
 fn meets_fields(
-    incoming: &[u8],
+    lay: &[u8],
     columns: ColumnRange,
     index: &[u16],
     plan: &[u8],
@@ -215,10 +176,10 @@ fn meets_fields(
     skips: &[u16],
 ) -> bool
     requires { ⌜ Skips (now plan) (now skips) ⌝ }
-    requires { ⌜ IndexAt (now incoming) columns (now index) × Nulls (now plan) (now nulls) ⌝ }
-    requires { ⌜ ((P : ColumnsIn (now incoming) columns) × (Q : ColumnsAt (fields .edition) (fields .depth) (now tgt) (fields .count) (fields .first .at)) × PlaceAt (now plan) (path .top) (fieldsOf (P .columns)) (slice 0 (path .len) (path .steps)) (struct (fieldsOf (Q .columns)))) ⌝ }
+    requires { ⌜ IndexAt (now lay) columns (now index) × Nulls (now plan) (now nulls) ⌝ }
+    requires { ⌜ ((P : ColumnsIn (now lay) columns) × (Q : ColumnsAt (fields .edition) (fields .depth) (now tgt) (fields .count) (fields .first .at)) × PlaceAt (now plan) (path .top) (fieldsOf (P .columns)) (slice 0 (path .len) (path .steps)) (struct (fieldsOf (Q .columns)))) ⌝ }
     requires { ⌜ (path .len + 1 + fields .depth ≤ deepest) × (length (path .steps) ≡ 64) ⌝ }
-    ensures { λ r. ⌜ ((P : ColumnsIn (now (incoming .entry)) columns) (Q : ColumnsAt (fields .edition) (fields .depth) (now (tgt .entry)) (fields .count) (fields .first .at)) (S : PlaceAt (now (plan .entry)) (path .top) (fieldsOf (P .columns)) (slice 0 (path .len) (path .steps)) (struct (fieldsOf (Q .columns)))) → r ≡ meetsAll (insideOf (nullnessIn (nullnessOf (givens (P .columns)) (S .top .here .tree)) (slice 0 (path .len) (path .steps)))) (Q .columns)) ⌝ }
+    ensures { λ r. ⌜ ((P : ColumnsIn (now (lay .entry)) columns) (Q : ColumnsAt (fields .edition) (fields .depth) (now (tgt .entry)) (fields .count) (fields .first .at)) (S : PlaceAt (now (plan .entry)) (path .top) (fieldsOf (P .columns)) (slice 0 (path .len) (path .steps)) (struct (fieldsOf (Q .columns)))) → r ≡ meetsAll (insideOf (nullnessIn (nullnessOf (givens (P .columns)) (S .top .here .tree)) (slice 0 (path .len) (path .steps)))) (Q .columns)) ⌝ }
 {
     let edition = fields.edition;
     let depth = fields.depth;
@@ -238,7 +199,7 @@ fn meets_fields(
                     place,
                     required: l.required,
                 };
-                if !meets_type(incoming, columns, index, plan, nulls, below, tgt, t, skips) {
+                if !meets_type(lay, columns, index, plan, nulls, below, tgt, t, skips) {
                     return false;
                 }
                 d = skip_type(tgt, edition, depth, e);
@@ -252,7 +213,7 @@ fn meets_fields(
 
 // Of the plan's selectors and the target's columns, with a table of where the incoming columns stand.
 fn meets_columns(
-    incoming: &[u8],
+    lay: &[u8],
     columns: ColumnRange,
     index: &[u16],
     plan: &[u8],
@@ -262,9 +223,9 @@ fn meets_columns(
     skips: &[u16],
 ) -> bool
     requires { ⌜ Skips (now plan) (now skips) ⌝ }
-    requires { ⌜ IndexAt (now incoming) columns (now index) × Nulls (now plan) (now nulls) ⌝ }
-    requires { ⌜ ((P : ColumnsIn (now incoming) columns) × (D : ColumnsIn (now tgt) target) × PlanAt (now plan) 7 (fieldsOf (P .columns)) (fieldsOf (D .columns))) ⌝ }
-    ensures { λ r. ⌜ ((P : ColumnsIn (now (incoming .entry)) columns) (D : ColumnsIn (now (tgt .entry)) target) (S : PlanAt (now (plan .entry)) 7 (fieldsOf (P .columns)) (fieldsOf (D .columns))) → r ≡ meetsAll (nullnessesOf (givens (P .columns)) (S .selectors .trees)) (D .columns)) ⌝ }
+    requires { ⌜ IndexAt (now lay) columns (now index) × Nulls (now plan) (now nulls) ⌝ }
+    requires { ⌜ ((P : ColumnsIn (now lay) columns) × (D : ColumnsIn (now tgt) target) × PlanAt (now plan) 7 (fieldsOf (P .columns)) (fieldsOf (D .columns))) ⌝ }
+    ensures { λ r. ⌜ ((P : ColumnsIn (now (lay .entry)) columns) (D : ColumnsIn (now (tgt .entry)) target) (S : PlanAt (now (plan .entry)) 7 (fieldsOf (P .columns)) (fieldsOf (D .columns))) → r ≡ meetsAll (nullnessesOf (givens (P .columns)) (S .selectors .trees)) (D .columns)) ⌝ }
 {
     let edition = target.edition;
     let count = target.count;
@@ -288,7 +249,7 @@ fn meets_columns(
                     place,
                     required: l.required,
                 };
-                if !meets_type(incoming, columns, index, plan, nulls, path, tgt, t, skips) {
+                if !meets_type(lay, columns, index, plan, nulls, path, tgt, t, skips) {
                     return false;
                 }
                 s = skip_by(plan, s, skips);
@@ -303,16 +264,16 @@ fn meets_columns(
 
 // The same of plans that are worth a table of where their selectors end, and one of the nulls in their constants.
 fn meets_by_table(
-    incoming: &[u8],
+    lay: &[u8],
     columns: ColumnRange,
     index: &[u16],
     plan: &[u8],
     tgt: &[u8],
     target: ColumnRange,
 ) -> bool
-    requires { ⌜ IndexAt (now incoming) columns (now index) ⌝ }
-    requires { ⌜ ((P : ColumnsIn (now incoming) columns) × (D : ColumnsIn (now tgt) target) × PlanAt (now plan) 7 (fieldsOf (P .columns)) (fieldsOf (D .columns))) ⌝ }
-    ensures { λ r. ⌜ ((P : ColumnsIn (now (incoming .entry)) columns) (D : ColumnsIn (now (tgt .entry)) target) (S : PlanAt (now (plan .entry)) 7 (fieldsOf (P .columns)) (fieldsOf (D .columns))) → r ≡ meetsAll (nullnessesOf (givens (P .columns)) (S .selectors .trees)) (D .columns)) ⌝ }
+    requires { ⌜ IndexAt (now lay) columns (now index) ⌝ }
+    requires { ⌜ ((P : ColumnsIn (now lay) columns) × (D : ColumnsIn (now tgt) target) × PlanAt (now plan) 7 (fieldsOf (P .columns)) (fieldsOf (D .columns))) ⌝ }
+    ensures { λ r. ⌜ ((P : ColumnsIn (now (lay .entry)) columns) (D : ColumnsIn (now (tgt .entry)) target) (S : PlanAt (now (plan .entry)) 7 (fieldsOf (P .columns)) (fieldsOf (D .columns))) → r ≡ meetsAll (nullnessesOf (givens (P .columns)) (S .selectors .trees)) (D .columns)) ⌝ }
 {
     let mut skips = [0u16; SKIPS];
     read_selectors(
@@ -324,12 +285,12 @@ fn meets_by_table(
     );
     let mut nulls = [0u64; 1088];
     fill_constants(plan, &skips, &mut nulls);
-    meets_columns(incoming, columns, index, plan, &nulls, tgt, target, &skips)
+    meets_columns(lay, columns, index, plan, &nulls, tgt, target, &skips)
 }
 
 // Of a plan that passed the check between the two layouts up to 33.
 pub fn meets_marks(
-    incoming: &[u8],
+    lay: &[u8],
     v: Edition,
     n: u16,
     plan: &[u8],
@@ -337,8 +298,8 @@ pub fn meets_marks(
     y: Edition,
     m: u16,
 ) -> bool
-    requires { ⌜ ((P : ColumnsAt v deepest (now incoming) n 7) × (D : ColumnsAt y deepest (now tgt) m 7) × PlanAt (now plan) 7 (fieldsOf (P .columns)) (fieldsOf (D .columns))) ⌝ }
-    ensures { λ r. ⌜ ((P : ColumnsAt v deepest (now (incoming .entry)) n 7) (D : ColumnsAt y deepest (now (tgt .entry)) m 7) (S : PlanAt (now (plan .entry)) 7 (fieldsOf (P .columns)) (fieldsOf (D .columns))) → r ≡ meetsAll (nullnessesOf (givens (P .columns)) (S .selectors .trees)) (D .columns)) ⌝ }
+    requires { ⌜ ((P : ColumnsAt v deepest (now lay) n 7) × (D : ColumnsAt y deepest (now tgt) m 7) × PlanAt (now plan) 7 (fieldsOf (P .columns)) (fieldsOf (D .columns))) ⌝ }
+    ensures { λ r. ⌜ ((P : ColumnsAt v deepest (now (lay .entry)) n 7) (D : ColumnsAt y deepest (now (tgt .entry)) m 7) (S : PlanAt (now (plan .entry)) 7 (fieldsOf (P .columns)) (fieldsOf (D .columns))) → r ≡ meetsAll (nullnessesOf (givens (P .columns)) (S .selectors .trees)) (D .columns)) ⌝ }
 {
     let first = Cursor { at: 7 };
     let columns = ColumnRange {
@@ -352,12 +313,12 @@ pub fn meets_marks(
         first,
     };
     let mut starts = [0u16; 256];
-    let j = index_columns(incoming, v, n, first, stride_of(n), &mut starts);
+    let j = index_columns(lay, v, n, first, stride_of(n), &mut starts);
     if plan.len() < 1024 {
         let none = [0u64; 1];
         let unknown = [0u16; 1];
         return meets_columns(
-            incoming,
+            lay,
             columns,
             &starts[..j],
             plan,
@@ -367,5 +328,5 @@ pub fn meets_marks(
             &unknown,
         );
     }
-    meets_by_table(incoming, columns, &starts[..j], plan, tgt, target)
+    meets_by_table(lay, columns, &starts[..j], plan, tgt, target)
 }
