@@ -56,8 +56,8 @@ extern "C" {
  * no proof counts it. */
 #define SELECTOR_READ_STACK 16384
 #define SELECTOR_BUILD_STACK 139264
-#define SELECTOR_CHECK_STACK 172032
-#define SELECTOR_RUN_STACK 180224
+#define SELECTOR_CHECK_STACK 188416
+#define SELECTOR_RUN_STACK 196608
 
 /* Refusals of a layout or a table of defaults. First its length is tested (4), then its mark and version (1). Then it
  * is read forward by byte, and the first of 2 to 5 and 50 that applies is the answer; 6 comes last. */

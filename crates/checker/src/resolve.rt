@@ -21,7 +21,7 @@ use walk::head::skip_by;
 use walk::walk::Walk;
 
 // Where the index of the incoming columns begins in the tables: behind where the plan's selectors end.
-pub const INDEX: usize = 7168;
+pub const INDEX: usize = 4608;
 
 // In the incoming layout or in the plan, or it is made by a mapping.
 pub enum Source {

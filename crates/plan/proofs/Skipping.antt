@@ -109,20 +109,20 @@ length-written t i x j y k z = length-set (set (set t i x) j y) k z ∙ length-s
 
 -- no entry
 pub skips-none : {s : Bytes} (n : ℕ) → Skips s (replicate n 0)
-skips-none n = record { right = λ i l z. absurd (z (zero-entry n (2561 + 3 * i))) }
+skips-none n = record { right = λ i l z. absurd (z (zero-entry n (1537 + 3 * i))) }
 
 pub skip-none : {s : Bytes} {at most : ℕ} {r : Skip} → r .count ≡ 0 → SkipIs s at most r
 skip-none e = record { few = omega arith; right = λ z. absurd (z e) }
 
 module _ {s : Bytes} {t : List ℕ} (T : Skips s t) where
-  pub skip-found : (i k : ℕ) {at most count to : ℕ} → k ≡ 2557 + 3 * i → (i ≡ 0 → ⊥) → i ≤ 1535 → getD t k 0 ≡ at → count ≡ getD t (k + 1) 0 → to ≡ getD t
+  pub skip-found : (i k : ℕ) {at most count to : ℕ} → k ≡ 1533 + 3 * i → (i ≡ 0 → ⊥) → i ≤ 1023 → getD t k 0 ≡ at → count ≡ getD t (k + 1) 0 → to ≡ getD t
       (k + 2) 0 → count ≤ most → SkipIs s at most (record { count = count; to = to })
   skip-found i k e z l f g h m =
       let j : ℕ = i - 1 in
-      let a : k ≡ 2560 + 3 * j = omega arith in
-      let b : k + 1 ≡ 2561 + 3 * j = omega arith in
-      let c : k + 2 ≡ 2562 + 3 * j = omega arith in
-      let n : getD t (2561 + 3 * j) 0 ≡ _ = ap (λ (x : ℕ). getD t x 0) (sym b) ∙ sym g in
+      let a : k ≡ 1536 + 3 * j = omega arith in
+      let b : k + 1 ≡ 1537 + 3 * j = omega arith in
+      let c : k + 2 ≡ 1538 + 3 * j = omega arith in
+      let n : getD t (1537 + 3 * j) 0 ≡ _ = ap (λ (x : ℕ). getD t x 0) (sym b) ∙ sym g in
       record {
         few = m;
         right = λ y. pass-as (ap (λ (x : ℕ). getD t x 0) (sym a) ∙ f) n (ap (λ (x : ℕ). getD t x 0) (sym c) ∙ sym h)
@@ -130,24 +130,24 @@ module _ {s : Bytes} {t : List ℕ} (T : Skips s t) where
       }
 
   -- another table of the same entries
-  pub skips-same : {w : List ℕ} → ((k : ℕ) → k < 7168 → getD t k 0 ≡ getD w k 0) → Skips s w
+  pub skips-same : {w : List ℕ} → ((k : ℕ) → k < 4608 → getD t k 0 ≡ getD w k 0) → Skips s w
   skips-same {w} same = record {
     right = λ i b z.
-        let n = same (2561 + 3 * i) (omega arith) in
-        pass-as (same (2560 + 3 * i) (omega arith)) n (same (2562 + 3 * i) (omega arith)) (T .right i b (λ q. z (sym n ∙ q)));
+        let n = same (1537 + 3 * i) (omega arith) in
+        pass-as (same (1536 + 3 * i) (omega arith)) n (same (1538 + 3 * i) (omega arith)) (T .right i b (λ q. z (sym n ∙ q)));
   }
 
   -- a number before the entries
-  pub skips-low : (k x : ℕ) → k < 2560 → Skips s (set t k x)
+  pub skips-low : (k x : ℕ) → k < 1536 → Skips s (set t k x)
   skips-low k x l = record {
     right = λ i b z.
-        let kept : (j : ℕ) → 2560 ≤ j → getD t j 0 ≡ getD (set t k x) j 0 = λ j g. sym (getD-set-other t k j x 0 (λ e. omega arith)) in
-        let n = kept (2561 + 3 * i) (omega arith) in
-        pass-as (kept (2560 + 3 * i) (omega arith)) n (kept (2562 + 3 * i) (omega arith)) (T .right i b (λ q. z (sym n ∙ q)));
+        let kept : (j : ℕ) → 1536 ≤ j → getD t j 0 ≡ getD (set t k x) j 0 = λ j g. sym (getD-set-other t k j x 0 (λ e. omega arith)) in
+        let n = kept (1537 + 3 * i) (omega arith) in
+        pass-as (kept (1536 + 3 * i) (omega arith)) n (kept (1538 + 3 * i) (omega arith)) (T .right i b (λ q. z (sym n ∙ q)));
   }
 
   -- an entry
-  pub skips-put : (i k from count to : ℕ) → k ≡ 2560 + 3 * i → k + 2 < length t → PassTo 64 s from count to → Skips s
+  pub skips-put : (i k from count to : ℕ) → k ≡ 1536 + 3 * i → k + 2 < length t → PassTo 64 s from count to → Skips s
       (set (set (set t k from) (k + 1) count) (k + 2) to)
   skips-put i k from count to e l P = record { right = λ j b z. go j b z (ℕ-discrete i j) }
     where
@@ -173,17 +173,17 @@ module _ {s : Bytes} {t : List ℕ} (T : Skips s t) where
       end : to ≡ getD w (k + 2) 0
       end = sym (getD-set-same v (k + 2) to 0 (let x = length-set t k from in let y = length-set u (k + 1) count in omega arith))
 
-      go : (j : ℕ) → j < 1535 → (getD w (2561 + 3 * j) 0 ≡ 0 → ⊥) → Dec (i ≡ j) → PassTo 64 s (getD w (2560 + 3 * j) 0) (getD w (2561 + 3 * j) 0)
-          (getD w (2562 + 3 * j) 0)
+      go : (j : ℕ) → j < 1023 → (getD w (1537 + 3 * j) 0 ≡ 0 → ⊥) → Dec (i ≡ j) → PassTo 64 s (getD w (1536 + 3 * j) 0) (getD w (1537 + 3 * j) 0)
+          (getD w (1538 + 3 * j) 0)
       go j b z (yes q) =
-          let f : k ≡ 2560 + 3 * j = omega arith in
-          let g : k + 1 ≡ 2561 + 3 * j = omega arith in
-          let h : k + 2 ≡ 2562 + 3 * j = omega arith in
+          let f : k ≡ 1536 + 3 * j = omega arith in
+          let g : k + 1 ≡ 1537 + 3 * j = omega arith in
+          let h : k + 2 ≡ 1538 + 3 * j = omega arith in
           pass-as (start ∙ ap (λ (x : ℕ). getD w x 0) f) (number ∙ ap (λ (x : ℕ). getD w x 0) g) (end ∙ ap (λ (x : ℕ). getD w x 0) h) P
       go j b z (no q) =
-          let n = kept (2561 + 3 * j) (λ x. omega arith) (λ x. q (omega arith)) (λ x. omega arith) in
-          pass-as (kept (2560 + 3 * j) (λ x. q (omega arith)) (λ x. omega arith) (λ x. omega arith)) n
-          (kept (2562 + 3 * j) (λ x. omega arith) (λ x. omega arith) (λ x. q (omega arith))) (T .right j b (λ x. z (sym n ∙ x)))
+          let n = kept (1537 + 3 * j) (λ x. omega arith) (λ x. q (omega arith)) (λ x. omega arith) in
+          pass-as (kept (1536 + 3 * j) (λ x. q (omega arith)) (λ x. omega arith) (λ x. omega arith)) n
+          (kept (1538 + 3 * j) (λ x. omega arith) (λ x. omega arith) (λ x. q (omega arith))) (T .right j b (λ x. z (sym n ∙ x)))
 
 -- one selector is known
 pub skip-one : {s : Bytes} {at : ℕ} {r : Skip} → SkipIs s at 1 r → (r .count ≡ 0 → ⊥) → Moved.To (record { at = r .to }) ≡ movedOf (selector 64 s at)

@@ -1,10 +1,10 @@
 // A table of where selectors end, so that what passes over a plan again and again passes over long ones at once. An
-// entry is an offset, a number of selectors, and where so many that begin at that offset end, at least 64 bytes on: one
-// long selector, or short ones that stand side by side. Entries of the same 64 bytes of the plan are in one chain.
-// Entry 0 is how many there are, 1 to 1,024 have the first of each chain, the next 1,535 the one behind it in its
-// chain, all by their number and one more, since 0 is none; behind them stand the entries themselves, three numbers
-// each. A shorter table has none. The table is a help, never needed: what it does not have is read. Nothing of this is
-// proved but that every entry is true.
+// entry is an offset, a number of selectors, and where so many that begin at that offset end, at least 128 bytes on:
+// one long selector, or short ones that stand side by side. Entries of the same 128 bytes of the plan are in one chain.
+// Number 0 of the table is how many entries there are, 1 to 512 are the first entry of each chain, the 1,023 behind
+// them the next entry in its chain, each by one more than its number, since 0 is none; then come the entries
+// themselves, three numbers each. A shorter table has none. The table is a help, never needed: what it does not have is
+// read. Nothing of this is proved but that every entry is true.
 ghost use mathlib.Core.Path.{_≡_};
 ghost use mathlib.Core.Bool.{true};
 ghost use Prim.Native.Nat.{_+_, _*_, _<_, _≤_};
@@ -19,8 +19,8 @@ use layout::cursor::Cursor;
 use layout::limits::DEEPEST_SELECTOR;
 use layout::limits::LONGEST_PLAN;
 
-// How long a table is that has entries, and how many it has.
-pub const SKIPS: usize = 7168;
+// How long a table is that has entries.
+pub const SKIPS: usize = 4608;
 
 // So many selectors end there; or none is known.
 pub struct Skip {
@@ -52,11 +52,11 @@ pub fn kept_count(skips: &[u16]) -> u16 {
 }
 
 pub fn kept_from(skips: &[u16], i: u16) -> usize {
-    number_at(skips, 2560 + 3 * wide(i))
+    number_at(skips, 1536 + 3 * wide(i))
 }
 
 pub fn kept_to(skips: &[u16], i: u16) -> usize {
-    number_at(skips, 2562 + 3 * wide(i))
+    number_at(skips, 1538 + 3 * wide(i))
 }
 
 // The entry `i`, one more than its number, if it is one of at most `most` selectors at `at`.
@@ -66,10 +66,10 @@ fn entry_at(skips: &[u16], i: usize, at: usize, most: u16) -> Skip
     if i == 0 {
         return none_known();
     }
-    if 1535 < i {
+    if 1023 < i {
         return none_known();
     }
-    let k = 2557 + 3 * i;
+    let k = 1533 + 3 * i;
     if skips.len() <= k + 2 {
         return none_known();
     }
@@ -91,7 +91,7 @@ pub fn known_skip(skips: &[u16], at: usize, most: u16) -> Skip
     if LONGEST_PLAN <= at {
         return none_known();
     }
-    let mut i = number_at(skips, 1 + at / 64);
+    let mut i = number_at(skips, 1 + at / 128);
     let mut left: u8 = 32;
     while 0 < left {
         let r = entry_at(skips, i, at, most);
@@ -101,7 +101,7 @@ pub fn known_skip(skips: &[u16], at: usize, most: u16) -> Skip
         if i == 0 {
             return none_known();
         }
-        i = number_at(skips, 1024 + i);
+        i = number_at(skips, 512 + i);
         left -= 1;
     }
     none_known()
@@ -109,22 +109,22 @@ pub fn known_skip(skips: &[u16], at: usize, most: u16) -> Skip
 
 // Puts the entry `i` into the chain of its offset.
 fn link(skips: &mut [u16], i: usize, from: usize)
-    requires { ⌜ (i < 1535) × (from < 65536) × (7168 ≤ length (now skips)) ⌝ }
+    requires { ⌜ (i < 1023) × (from < 65536) × (4608 ≤ length (now skips)) ⌝ }
     ensures { λ _. ⌜ ((s : Bytes) → Skips s (now (skips .entry)) → Skips s (now (skips .exit))) × (length (now (skips .exit)) ≡ length (now (skips .entry))) ⌝ }
 {
-    let head = 1 + from / 64;
+    let head = 1 + from / 128;
     let behind = skips[head];
     skips[0] = (i + 1) as u16;
-    skips[1025 + i] = behind;
+    skips[513 + i] = behind;
     skips[head] = (i + 1) as u16;
 }
 
 // Writes the entry `i`.
 fn put_entry(skips: &mut [u16], i: usize, from: usize, count: u16, to: usize)
-    requires { ⌜ (i < 1535) × (from < 65536) × (to < 65536) × (7168 ≤ length (now skips)) ⌝ }
+    requires { ⌜ (i < 1023) × (from < 65536) × (to < 65536) × (4608 ≤ length (now skips)) ⌝ }
     ensures { λ _. ⌜ ((s : Bytes) → Skips s (now (skips .entry)) → PassTo deepestSelector s from count to → Skips s (now (skips .exit))) × (length (now (skips .exit)) ≡ length (now (skips .entry))) ⌝ }
 {
-    let k = 2560 + 3 * i;
+    let k = 1536 + 3 * i;
     skips[k] = from as u16;
     skips[k + 1] = count;
     skips[k + 2] = to as u16;
@@ -132,12 +132,12 @@ fn put_entry(skips: &mut [u16], i: usize, from: usize, count: u16, to: usize)
 
 // Whether an entry is worth its room.
 fn is_long(from: Cursor, to: Cursor) -> bool
-    ensures { λ r. ⌜ (r ≡ true → from .at + 64 ≤ to .at) ⌝ }
+    ensures { λ r. ⌜ (r ≡ true → from .at + 128 ≤ to .at) ⌝ }
 {
-    if to.at < 64 {
+    if to.at < 128 {
         return false;
     }
-    if to.at - 64 < from.at {
+    if to.at - 128 < from.at {
         return false;
     }
     true
@@ -162,7 +162,7 @@ pub fn keep_skip(skips: &mut [u16], depth: u8, from: Cursor, count: u16, to: Cur
         return;
     }
     let i = wide(skips[0]);
-    if 1534 < i {
+    if 1022 < i {
         return;
     }
     put_entry(skips, i, a, count, b);

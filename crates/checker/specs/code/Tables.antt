@@ -9,6 +9,6 @@ use Rattle.plan.specs.code.Skips.{Skips}
 use Rattle.index.specs.code.Indexed.{strideOf, Indexed}
 
 pub record Tables (incoming : Bytes) (v : Edition) (n : ℕ) (plan : Bytes) (tables : List ℕ) : Type 0 where
-  pub room : 7168 ≤ length tables
+  pub room : 4608 ≤ length tables
   pub skips : Skips plan tables
-  pub columns : Indexed v incoming n 7 (strideOf n) (drop 7168 tables)
+  pub columns : Indexed v incoming n 7 (strideOf n) (drop 4608 tables)

@@ -1,4 +1,4 @@
--- A table of where selectors of a plan end: what its entries say. Entries 2560 + 3 i and the two behind it are an offset,
+-- A table of where selectors of a plan end: what its entries say. Entries 1536 + 3 i and the two behind it are an offset,
 -- a number of selectors and where so many that begin at that offset end.
 use Prim.Native.Nat.{ℕ, _+_, _*_, _≤_, _<_}
 use mathlib.Core.Path.{_≡_}
@@ -16,10 +16,10 @@ use Rattle.plan.specs.declared.skips.Since.{Since}
 pub record PassTo (d : ℕ) (s : Bytes) (from n to : ℕ) : Type 0 where
   pub reads : movedOf (selectors (selector d) n s from) ≡ Moved.To (record { at = to })
 
--- every entry is true, of the first 1,535
+-- every entry is true, of the first 1,023
 pub record Skips (s : Bytes) (skips : List ℕ) : Type 0 where
-  pub right : (i : ℕ) → i < 1535 → (getD skips (2561 + 3 * i) 0 ≡ 0 → ⊥) → PassTo deepestSelector s (getD skips (2560 + 3 * i) 0)
-      (getD skips (2561 + 3 * i) 0) (getD skips (2562 + 3 * i) 0)
+  pub right : (i : ℕ) → i < 1023 → (getD skips (1537 + 3 * i) 0 ≡ 0 → ⊥) → PassTo deepestSelector s (getD skips (1536 + 3 * i) 0)
+      (getD skips (1537 + 3 * i) 0) (getD skips (1538 + 3 * i) 0)
 
 -- what is found is true: at most so many selectors
 pub record SkipIs (s : Bytes) (at most : ℕ) (r : Skip) : Type 0 where

@@ -16,7 +16,7 @@ check-types-spec =
     (λ c κs. let (Γ, ss, T) = c .before .before .before .pre .0 in (T .columns, (T .selectors, c .before .before .before .pre .1)))
     (λ c. λ Γ ss Q T. read-direct T (fieldsOf (Q .columns)) (c .before .fits-target .ensures (c .if1 .taken) (T .columns) (T .selectors) Q))
     (λ c. search needs)
-    (λ c κs. skips-none 7424)
+    (λ c κs. skips-none 4864)
     (λ c κs. search needs)
     (λ c. search needs)
     (λ c. search needs)

@@ -10,7 +10,7 @@ meets-by-table-spec =
     tie.close
     (tie.spec
     (λ c. search needs)
-    (λ c κs. skips-none 7168)
+    (λ c κs. skips-none 4608)
     (λ c. search needs)
     (λ c. search needs)
     (λ c κs. nulls-zeros 1088)

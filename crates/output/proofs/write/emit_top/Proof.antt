@@ -12,7 +12,7 @@ emit-top-spec =
     (λ c. search needs)
     (λ c. search needs)
     (λ c. search needs)
-    (λ c κs. skips-none 7168)
+    (λ c κs. skips-none 4608)
     (λ c. search needs)
     (λ c κs. search needs)
     (λ c. search needs)

@@ -22,7 +22,7 @@ top-overflows-spec =
     λ X T Q e. top-unclean (λ i. omega (arith, c5 .before .shared-slice-known2 .given i)) (λ i. omega (arith, c5 .shared-slice-known3 .given i)) X T e
     (c .over-type .ensures X T Q))
     (λ c. search needs)
-    (λ c κs. skips-none 7168)
+    (λ c κs. skips-none 4608)
     (λ c. search needs)
     (λ c κs.
     let c2 = c .before .before in

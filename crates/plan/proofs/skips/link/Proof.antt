@@ -27,7 +27,7 @@ link-spec =
     (λ c. search needs)
     (λ c. let a = c .before .args in
     let l = length-set (now (a .skips)) 0 (a .i + 1) in
-    let m = length-set (set (now (a .skips)) 0 (a .i + 1)) (1025 + a .i) (getD (now (a .skips)) (1 + a .from / 64) 0) in omega (arith, l, m, c .before .pre))
+    let m = length-set (set (now (a .skips)) 0 (a .i + 1)) (513 + a .i) (getD (now (a .skips)) (1 + a .from / 128) 0) in omega (arith, l, m, c .before .pre))
     (λ c. search needs)
     (λ c. let a = c .before .args in
     let p = c .before .pre in (
