@@ -340,6 +340,7 @@ int main(void) {
     slow_renames();
     slow_constants();
     slow_fields();
+    slow_chains();
     slow_columns();
     slow_marks();
     slow_runs();

@@ -240,6 +240,43 @@ static void slow_fields(void) {
     }
 }
 
+/* Chains of mappings one over another, of a column of one field, each of which has an entry in the table of where
+ * selectors end, as often as there is room for; and behind them fields that take what stands behind constants. */
+static void slow_chains(void) {
+    enum { CHAINS = 24, LINKS = 60, WIDE = 45, BEFORE = 480, TAKEN_BEHIND = 6000 };
+    mark(&incoming, "LAY", 2);
+    put(&incoming, 0x126101, 3);
+    put(&incoming, 0x02000001, 4);
+    put(&incoming, 0x12136201, 4);
+    put(&incoming, 0x02000001, 4);
+    taken_of(&target, 1, 0);
+    mark(&plan, "PLN", CHAINS + 1);
+    for (int i = 0; i < CHAINS; i++) {
+        for (int k = 0; k < LINKS; k++)
+            put(&plan, 4, 1);
+        position(&plan, 0);
+        put(&plan, WIDE, 2);
+        for (int k = 0; k < WIDE; k++)
+            position(&plan, 0);
+        for (int k = 1; k < LINKS; k++) {
+            put(&plan, 1, 2);
+            position(&plan, 0);
+        }
+    }
+    put(&plan, 5, 1);
+    position(&plan, 1);
+    put(&plan, 0x0404, 2);
+    position(&plan, 0);
+    put(&plan, BEFORE + 1, 2);
+    for (int k = 0; k < BEFORE; k++)
+        constant_arrays(&plan, 40, 1, 0);
+    position(&plan, 0);
+    put(&plan, TAKEN_BEHIND, 2);
+    for (int k = 0; k < TAKEN_BEHIND; k++)
+        position(&plan, BEFORE);
+    expect_check("6,000 fields, each behind 480 constants, after 24 chains of mappings", 33);
+}
+
 /* Casts of the last of many columns. */
 static void slow_columns(void) {
     enum { LISTS_BEFORE = 999, CASTS_LAST = 10900 };

@@ -1,7 +1,7 @@
 -- A table of where selectors end: an empty one, what is found, one entry more; and passing over selectors by it. Assumes
 -- nothing.
-use Prim.Native.Nat.{ℕ, zero, suc, _+_, _-_, _*_, _≤_, _<_}
-use mathlib.Core.Path.{_≡_, refl, sym, ap, _∙_, subst}
+use Prim.Native.Nat.{ℕ, zero, suc, _+_, _-_, _*_, _/_, _≤_, _<_}
+use mathlib.Core.Path.{_≡_, refl, sym, ap, ap₂, _∙_, subst}
 use mathlib.Core.Bool.{Bool, true, false, not}
 use mathlib.Core.List.{List}
 use native.Mathlib.Decide.{ℕ-discrete, decLt}
@@ -16,8 +16,8 @@ use Rattle.layout.specs.declared.cursor.Moved.{Moved}
 use Rattle.layout.proofs.Ways.{clash, moved-to, to-pure}
 use Rattle.layout.proofs.View.{next-ok}
 use Rattle.plan.specs.Selector.{Selector, Selectors, snil, scons}
-use Rattle.plan.specs.Read.{selector, selectors}
-use Rattle.plan.specs.code.Skips.{PassTo, Skips, SkipIs}
+use Rattle.plan.specs.Read.{constantRest, selector, selectors}
+use Rattle.plan.specs.code.Skips.{RestEnds, PassTo, Skips, SkipIs}
 use Rattle.plan.specs.declared.skips.Skip.{Skip}
 use Rattle.plan.proofs.Deeper.{selectors-deeper}
 use Rattle.plan.proofs.Moves.{Passing}
@@ -93,6 +93,9 @@ pass-as : {d : ℕ} {s : Bytes} {a b n m e f : ℕ} → a ≡ b → n ≡ m → 
 pass-as {d} {s} {a} {b} {n} {m} {e} {f} p q r P = subst (λ (x : ℕ). PassTo d s x m f) p
     (subst (λ (x : ℕ). PassTo d s a x f) q (subst (λ (x : ℕ). PassTo d s a n x) r P))
 
+rest-as : {s : Bytes} {at to e f : ℕ} → at ≡ to → e ≡ f → RestEnds s at e → RestEnds s to f
+rest-as {s} {at} {to} {e} {f} p q R = subst (λ (b : ℕ). RestEnds s b f) p (subst (λ (k : ℕ). RestEnds s at k) q R)
+
 zero-entry : (n i : ℕ) → _≡_ {A = ℕ} (getD (replicate n 0) i 0) 0
 zero-entry n i = go (decLt i n)
   where
@@ -107,49 +110,115 @@ zero-entry n i = go (decLt i n)
 pub length-written : (t : List ℕ) (i x j y k z : ℕ) → length (set (set (set t i x) j y) k z) ≡ length t
 length-written t i x j y k z = length-set (set (set t i x) j y) k z ∙ length-set (set t i x) j y ∙ length-set t i x
 
+-- two numbers written
+pub length-two : (t : List ℕ) (i x j y : ℕ) → length (set (set t i x) j y) ≡ length t
+length-two t i x j y = length-set (set t i x) j y ∙ length-set t i x
+
 -- no entry
 pub skips-none : {s : Bytes} (n : ℕ) → Skips s (replicate n 0)
-skips-none n = record { right = λ i l z. absurd (z (zero-entry n (1537 + 3 * i))) }
+skips-none n = record {
+  constants = λ i l z. absurd (z (zero-entry n (2 * i + 1)));
+  right = λ i l z. absurd (z (zero-entry n (2305 + 3 * i)));
+}
 
 pub skip-none : {s : Bytes} {at most : ℕ} {r : Skip} → r .count ≡ 0 → SkipIs s at most r
 skip-none e = record { few = omega arith; right = λ z. absurd (z e) }
 
 module _ {s : Bytes} {t : List ℕ} (T : Skips s t) where
-  pub skip-found : (i k : ℕ) {at most count to : ℕ} → k ≡ 1533 + 3 * i → (i ≡ 0 → ⊥) → i ≤ 1023 → getD t k 0 ≡ at → count ≡ getD t (k + 1) 0 → to ≡ getD t
-      (k + 2) 0 → count ≤ most → SkipIs s at most (record { count = count; to = to })
+  pub constant-found : (at i : ℕ) {n : ℕ} → i ≡ at / 128 * 2 → at < 65536 → getD t i 0 ≡ at → n ≡ getD t (i + 1) 0 → (n ≡ 0 → ⊥) → RestEnds s at (at + n)
+  constant-found at i {n} e l g h z =
+      let j : ℕ = at / 128 in
+      let p : i ≡ 2 * j = omega arith in
+      let a : getD t (2 * j) 0 ≡ at = ap (λ (k : ℕ). getD t k 0) (sym p) ∙ g in
+      let m : getD t (2 * j + 1) 0 ≡ n = ap (λ (k : ℕ). getD t (k + 1) 0) (sym p) ∙ sym h in
+      rest-as a (ap₂ _+_ a m) (T .constants j (omega arith) (λ q. z (sym m ∙ q)))
+
+  pub skip-found : (i k : ℕ) {at most count to : ℕ} → k ≡ 2301 + 3 * i → (i ≡ 0 → ⊥) → i ≤ 767 → getD t k 0 ≡ at → count ≡ getD t (k + 1) 0
+      → to ≡ getD t (k + 2) 0 → count ≤ most → SkipIs s at most (record { count = count; to = to })
   skip-found i k e z l f g h m =
       let j : ℕ = i - 1 in
-      let a : k ≡ 1536 + 3 * j = omega arith in
-      let b : k + 1 ≡ 1537 + 3 * j = omega arith in
-      let c : k + 2 ≡ 1538 + 3 * j = omega arith in
-      let n : getD t (1537 + 3 * j) 0 ≡ _ = ap (λ (x : ℕ). getD t x 0) (sym b) ∙ sym g in
+      let a : k ≡ 2304 + 3 * j = omega arith in
+      let b : k + 1 ≡ 2305 + 3 * j = omega arith in
+      let c : k + 2 ≡ 2306 + 3 * j = omega arith in
+      let n : getD t (2305 + 3 * j) 0 ≡ _ = ap (λ (x : ℕ). getD t x 0) (sym b) ∙ sym g in
       record {
         few = m;
         right = λ y. pass-as (ap (λ (x : ℕ). getD t x 0) (sym a) ∙ f) n (ap (λ (x : ℕ). getD t x 0) (sym c) ∙ sym h)
             (T .right j (omega arith) (λ q. y (sym n ∙ q)));
       }
 
+  -- the constants of another table of the same pairs
+  same-constants : (w : List ℕ) → ((k : ℕ) → k < 1024 → getD t k 0 ≡ getD w k 0) → (i : ℕ) → i < 512 → (getD w (2 * i + 1) 0 ≡ 0 → ⊥)
+      → RestEnds s (getD w (2 * i) 0) (getD w (2 * i) 0 + getD w (2 * i + 1) 0)
+  same-constants w same i b z =
+      let a = same (2 * i) (omega arith) in
+      let m = same (2 * i + 1) (omega arith) in
+      rest-as a (ap₂ _+_ a m) (T .constants i b (λ q. z (sym m ∙ q)))
+
+  -- the selectors of another table of the same entries
+  same-selectors : (w : List ℕ) → ((k : ℕ) → 2304 ≤ k → k < 4605 → getD t k 0 ≡ getD w k 0) → (i : ℕ) → i < 767 → (getD w (2305 + 3 * i) 0 ≡ 0 → ⊥)
+      → PassTo 64 s (getD w (2304 + 3 * i) 0) (getD w (2305 + 3 * i) 0) (getD w (2306 + 3 * i) 0)
+  same-selectors w same i b z =
+      let n = same (2305 + 3 * i) (omega arith) (omega arith) in
+      pass-as (same (2304 + 3 * i) (omega arith) (omega arith)) n (same (2306 + 3 * i) (omega arith) (omega arith)) (T .right i b (λ q. z (sym n ∙ q)))
+
   -- another table of the same entries
   pub skips-same : {w : List ℕ} → ((k : ℕ) → k < 4608 → getD t k 0 ≡ getD w k 0) → Skips s w
-  skips-same {w} same = record {
-    right = λ i b z.
-        let n = same (1537 + 3 * i) (omega arith) in
-        pass-as (same (1536 + 3 * i) (omega arith)) n (same (1538 + 3 * i) (omega arith)) (T .right i b (λ q. z (sym n ∙ q)));
+  skips-same {w} same = record { constants = same-constants w (λ k l. same k (omega arith)); right = same-selectors w (λ k g l. same k (omega arith)) }
+
+  -- a number that is in no entry
+  pub skips-low : (k x : ℕ) → 1024 ≤ k → k < 2304 → Skips s (set t k x)
+  skips-low k x g l = record {
+    constants = same-constants (set t k x) (λ j b. sym (getD-set-other t k j x 0 (λ e. omega arith)));
+    right = same-selectors (set t k x) (λ j h b. sym (getD-set-other t k j x 0 (λ e. omega arith)));
   }
 
-  -- a number before the entries
-  pub skips-low : (k x : ℕ) → k < 1536 → Skips s (set t k x)
-  skips-low k x l = record {
-    right = λ i b z.
-        let kept : (j : ℕ) → 1536 ≤ j → getD t j 0 ≡ getD (set t k x) j 0 = λ j g. sym (getD-set-other t k j x 0 (λ e. omega arith)) in
-        let n = kept (1537 + 3 * i) (omega arith) in
-        pass-as (kept (1536 + 3 * i) (omega arith)) n (kept (1538 + 3 * i) (omega arith)) (T .right i b (λ q. z (sym n ∙ q)));
+  pub skips-high : (k x : ℕ) → 4605 ≤ k → Skips s (set t k x)
+  skips-high k x g = record {
+    constants = same-constants (set t k x) (λ j b. sym (getD-set-other t k j x 0 (λ e. omega arith)));
+    right = same-selectors (set t k x) (λ j h b. sym (getD-set-other t k j x 0 (λ e. omega arith)));
   }
+
+  -- a constant
+  pub constant-kept : (at i n : ℕ) {e : ℕ} → i ≡ at / 128 * 2 → at < 65536 → i + 1 < length t → at + n ≡ e → RestEnds s at e → Skips s
+      (set (set t i at) (i + 1) n)
+  constant-kept at i n {e} q l b f R = record {
+    constants = λ j r z. go j r z (ℕ-discrete i (2 * j));
+    right = same-selectors w (λ k g r. kept k (λ x. omega arith) (λ x. omega arith));
+  }
+    where
+      u : List ℕ
+      u = set t i at
+
+      w : List ℕ
+      w = set u (i + 1) n
+
+      start : at ≡ getD w i 0
+      start = sym (getD-set-other u (i + 1) i n 0 (λ x. omega arith) ∙ getD-set-same t i at 0 (omega arith))
+
+      size : n ≡ getD w (i + 1) 0
+      size = sym (getD-set-same u (i + 1) n 0 (let x = length-set t i at in omega arith))
+
+      kept : (k : ℕ) → (k ≡ i → ⊥) → (k ≡ i + 1 → ⊥) → getD t k 0 ≡ getD w k 0
+      kept k x y = sym (getD-set-other u (i + 1) k n 0 y ∙ getD-set-other t i k at 0 x)
+
+      go : (j : ℕ) → j < 512 → (getD w (2 * j + 1) 0 ≡ 0 → ⊥) → Dec (i ≡ 2 * j) → RestEnds s (getD w (2 * j) 0) (getD w (2 * j) 0 + getD w (2 * j + 1) 0)
+      go j r z (yes p) =
+          let a : at ≡ getD w (2 * j) 0 = start ∙ ap (λ (k : ℕ). getD w k 0) p in
+          let m : n ≡ getD w (2 * j + 1) 0 = size ∙ ap (λ (k : ℕ). getD w (k + 1) 0) p in
+          rest-as a (sym f ∙ ap₂ _+_ a m) R
+      go j r z (no p) =
+          let a : getD t (2 * j) 0 ≡ getD w (2 * j) 0 = kept (2 * j) (λ x. p (sym x)) (λ x. omega arith) in
+          let m : getD t (2 * j + 1) 0 ≡ getD w (2 * j + 1) 0 = kept (2 * j + 1) (λ x. omega arith) (λ x. p (omega arith)) in
+          rest-as a (ap₂ _+_ a m) (T .constants j r (λ x. z (sym m ∙ x)))
 
   -- an entry
-  pub skips-put : (i k from count to : ℕ) → k ≡ 1536 + 3 * i → k + 2 < length t → PassTo 64 s from count to → Skips s
+  pub skips-put : (i k from count to : ℕ) → k ≡ 2304 + 3 * i → k + 2 < length t → PassTo 64 s from count to → Skips s
       (set (set (set t k from) (k + 1) count) (k + 2) to)
-  skips-put i k from count to e l P = record { right = λ j b z. go j b z (ℕ-discrete i j) }
+  skips-put i k from count to e l P = record {
+    constants = same-constants w (λ j b. kept j (λ x. omega arith) (λ x. omega arith) (λ x. omega arith));
+    right = λ j b z. go j b z (ℕ-discrete i j);
+  }
     where
       u : List ℕ
       u = set t k from
@@ -173,17 +242,17 @@ module _ {s : Bytes} {t : List ℕ} (T : Skips s t) where
       end : to ≡ getD w (k + 2) 0
       end = sym (getD-set-same v (k + 2) to 0 (let x = length-set t k from in let y = length-set u (k + 1) count in omega arith))
 
-      go : (j : ℕ) → j < 1023 → (getD w (1537 + 3 * j) 0 ≡ 0 → ⊥) → Dec (i ≡ j) → PassTo 64 s (getD w (1536 + 3 * j) 0) (getD w (1537 + 3 * j) 0)
-          (getD w (1538 + 3 * j) 0)
+      go : (j : ℕ) → j < 767 → (getD w (2305 + 3 * j) 0 ≡ 0 → ⊥) → Dec (i ≡ j) → PassTo 64 s (getD w (2304 + 3 * j) 0) (getD w (2305 + 3 * j) 0)
+          (getD w (2306 + 3 * j) 0)
       go j b z (yes q) =
-          let f : k ≡ 1536 + 3 * j = omega arith in
-          let g : k + 1 ≡ 1537 + 3 * j = omega arith in
-          let h : k + 2 ≡ 1538 + 3 * j = omega arith in
+          let f : k ≡ 2304 + 3 * j = omega arith in
+          let g : k + 1 ≡ 2305 + 3 * j = omega arith in
+          let h : k + 2 ≡ 2306 + 3 * j = omega arith in
           pass-as (start ∙ ap (λ (x : ℕ). getD w x 0) f) (number ∙ ap (λ (x : ℕ). getD w x 0) g) (end ∙ ap (λ (x : ℕ). getD w x 0) h) P
       go j b z (no q) =
-          let n = kept (1537 + 3 * j) (λ x. omega arith) (λ x. q (omega arith)) (λ x. omega arith) in
-          pass-as (kept (1536 + 3 * j) (λ x. q (omega arith)) (λ x. omega arith) (λ x. omega arith)) n
-          (kept (1538 + 3 * j) (λ x. omega arith) (λ x. omega arith) (λ x. q (omega arith))) (T .right j b (λ x. z (sym n ∙ x)))
+          let n = kept (2305 + 3 * j) (λ x. omega arith) (λ x. q (omega arith)) (λ x. omega arith) in
+          pass-as (kept (2304 + 3 * j) (λ x. q (omega arith)) (λ x. omega arith) (λ x. omega arith)) n
+          (kept (2306 + 3 * j) (λ x. omega arith) (λ x. omega arith) (λ x. q (omega arith))) (T .right j b (λ x. z (sym n ∙ x)))
 
 -- one selector is known
 pub skip-one : {s : Bytes} {at : ℕ} {r : Skip} → SkipIs s at 1 r → (r .count ≡ 0 → ⊥) → Moved.To (record { at = r .to }) ≡ movedOf (selector 64 s at)
@@ -191,3 +260,10 @@ skip-one {r = r} K z =
     let few = K .few in
     let n : r .count ≡ 1 = omega arith in
     pass-first (pass-as refl n refl (K .right z))
+
+-- what was read
+pub constant-known : {s : Bytes} {at e : ℕ} → RestEnds s at e → Moved.To (record { at = e }) ≡ movedOf (constantRest s at)
+constant-known R = sym (R .reads)
+
+pub constant-read : {s : Bytes} {at : ℕ} {r : Moved} {d : Cursor} → r ≡ movedOf (constantRest s at) → r ≡ Moved.To d → RestEnds s at (d .at)
+constant-read e f = record { reads = sym e ∙ f }

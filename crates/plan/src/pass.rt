@@ -4,7 +4,7 @@ ghost use Rattle.layout.specs.code.Answers.{movedOf};
 ghost use Rattle.plan.specs.Read.{selector, selectors, deepestSelector};
 ghost use Rattle.plan.specs.code.Skips.{Skips};
 use crate::read::is_position;
-use crate::read::read_selector;
+use crate::read::read_one;
 use crate::skips::known_skip;
 use layout::cursor::Cursor;
 use layout::cursor::Moved;
@@ -20,7 +20,7 @@ pub fn pass_selector(s: &[u8], c: Cursor, skips: &[u16]) -> Moved
         return Moved::To(Cursor { at: known.to });
     }
     let mut none = [0u16; 1];
-    read_selector(s, DEEPEST_SELECTOR, c, &mut none)
+    read_one(s, DEEPEST_SELECTOR, c, skips, &mut none)
 }
 
 // `n` selectors.

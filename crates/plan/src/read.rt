@@ -10,8 +10,10 @@ ghost use Rattle.plan.specs.Read.{dataType, castOption, positionRest, co
 ghost use Rattle.plan.specs.code.Answers.{valueEnd, planRead};
 ghost use Rattle.plan.specs.code.Skips.{Skips};
 use crate::skips::Since;
+use crate::skips::keep_end;
+use crate::skips::keep_nested;
 use crate::skips::keep_passed;
-use crate::skips::keep_skip;
+use crate::skips::known_end;
 use layout::bytes::same_bytes;
 use layout::cursor::Cursor;
 use layout::cursor::Moved;
@@ -81,7 +83,7 @@ fn value_end(r: ValueRead) -> Moved
 }
 
 // A name, a type and a value of it.
-fn read_constant(s: &[u8], c: Cursor) -> Moved
+fn read_whole_constant(s: &[u8], c: Cursor) -> Moved
     ensures { λ r. ⌜ r ≡ movedOf (constantRest (now (s .entry)) (c .at)) ⌝ }
 {
     match c.text(s) {
@@ -93,9 +95,28 @@ fn read_constant(s: &[u8], c: Cursor) -> Moved
     }
 }
 
+// The same, which is not read where it is known, and kept where it is read.
+fn read_constant(s: &[u8], c: Cursor, known: &[u16], skips: &mut [u16]) -> Moved
+    requires { ⌜ Skips (now s) (now known) × Skips (now s) (now skips) ⌝ }
+    ensures { λ r. ⌜ r ≡ movedOf (constantRest (now (s .entry)) (c .at)) ⌝ }
+    ensures { λ r. ⌜ Skips (now (s .entry)) (now (skips .exit)) × (length (now (skips .exit)) ≡ length (now (skips .entry))) ⌝ }
+{
+    let at = known_end(known, c.at);
+    if at != 0 {
+        return Moved::To(Cursor { at });
+    }
+    match read_whole_constant(s, c) {
+        Moved::To(e) => {
+            keep_end(skips, c, e);
+            Moved::To(e)
+        }
+        Moved::Refused(k) => Moved::Refused(k),
+    }
+}
+
 // A selector of at most `depth` levels.
-pub fn read_selector(s: &[u8], depth: u8, c: Cursor, skips: &mut [u16]) -> Moved
-    requires { ⌜ Skips (now s) (now skips) ⌝ }
+pub fn read_one(s: &[u8], depth: u8, c: Cursor, known: &[u16], skips: &mut [u16]) -> Moved
+    requires { ⌜ Skips (now s) (now known) × Skips (now s) (now skips) ⌝ }
     ensures { λ r. ⌜ r ≡ movedOf (selector depth (now (s .entry)) (c .at)) ⌝ }
     ensures { λ r. ⌜ Skips (now (s .entry)) (now (skips .exit)) × (length (now (skips .exit)) ≡ length (now (skips .entry))) ⌝ }
 {
@@ -103,20 +124,20 @@ pub fn read_selector(s: &[u8], depth: u8, c: Cursor, skips: &mut [u16]) -> Moved
         return Moved::Refused(4);
     }
     match c.byte(s) {
-        Step::Byte(code, d) => read_rest(s, depth - 1, code, d, skips),
+        Step::Byte(code, d) => read_rest(s, depth - 1, code, d, known, skips),
         Step::Refused(k) => Moved::Refused(k),
     }
 }
 
 // A selector whose end is kept: the input of a mapping, the selector for each element.
-fn read_kept(s: &[u8], depth: u8, c: Cursor, skips: &mut [u16]) -> Moved
-    requires { ⌜ Skips (now s) (now skips) ⌝ }
+fn read_kept(s: &[u8], depth: u8, c: Cursor, known: &[u16], skips: &mut [u16]) -> Moved
+    requires { ⌜ Skips (now s) (now known) × Skips (now s) (now skips) ⌝ }
     ensures { λ r. ⌜ r ≡ movedOf (selector depth (now (s .entry)) (c .at)) ⌝ }
     ensures { λ r. ⌜ Skips (now (s .entry)) (now (skips .exit)) × (length (now (skips .exit)) ≡ length (now (skips .entry))) ⌝ }
 {
-    match read_selector(s, depth, c, skips) {
+    match read_one(s, depth, c, known, skips) {
         Moved::To(d) => {
-            keep_skip(skips, depth, c, 1, d);
+            keep_nested(s, depth, c, d, skips);
             Moved::To(d)
         }
         Moved::Refused(k) => Moved::Refused(k),
@@ -124,28 +145,28 @@ fn read_kept(s: &[u8], depth: u8, c: Cursor, skips: &mut [u16]) -> Moved
 }
 
 // What follows a selector's code; the selectors inside have at most `depth` levels.
-fn read_rest(s: &[u8], depth: u8, code: u8, c: Cursor, skips: &mut [u16]) -> Moved
-    requires { ⌜ Skips (now s) (now skips) ⌝ }
+fn read_rest(s: &[u8], depth: u8, code: u8, c: Cursor, known: &[u16], skips: &mut [u16]) -> Moved
+    requires { ⌜ Skips (now s) (now known) × Skips (now s) (now skips) ⌝ }
     ensures { λ r. ⌜ r ≡ movedOf (selectorRest (selector depth) code (now (s .entry)) (c .at)) ⌝ }
     ensures { λ r. ⌜ Skips (now (s .entry)) (now (skips .exit)) × (length (now (skips .exit)) ≡ length (now (skips .entry))) ⌝ }
 {
     match code {
         0 => read_position(s, c),
-        1 => read_constant(s, c),
-        2 => read_cast(s, depth, c, skips),
-        3 => read_rename(s, depth, c, skips),
-        4 => read_struct(s, depth, c, skips),
-        5 | 6 => read_element_mapping(s, depth, c, skips),
+        1 => read_constant(s, c, known, skips),
+        2 => read_cast(s, depth, c, known, skips),
+        3 => read_rename(s, depth, c, known, skips),
+        4 => read_struct(s, depth, c, known, skips),
+        5 | 6 => read_element_mapping(s, depth, c, known, skips),
         _ => Moved::Refused(3),
     }
 }
 
-fn read_cast(s: &[u8], depth: u8, c: Cursor, skips: &mut [u16]) -> Moved
-    requires { ⌜ Skips (now s) (now skips) ⌝ }
+fn read_cast(s: &[u8], depth: u8, c: Cursor, known: &[u16], skips: &mut [u16]) -> Moved
+    requires { ⌜ Skips (now s) (now known) × Skips (now s) (now skips) ⌝ }
     ensures { λ r. ⌜ r ≡ movedOf (castRest (selector depth) (now (s .entry)) (c .at)) ⌝ }
     ensures { λ r. ⌜ Skips (now (s .entry)) (now (skips .exit)) × (length (now (skips .exit)) ≡ length (now (skips .entry))) ⌝ }
 {
-    match read_selector(s, depth, c, skips) {
+    match read_one(s, depth, c, known, skips) {
         Moved::To(d) => match read_data_type(s, d) {
             Moved::To(e) => read_option(s, e),
             Moved::Refused(k) => Moved::Refused(k),
@@ -154,25 +175,25 @@ fn read_cast(s: &[u8], depth: u8, c: Cursor, skips: &mut [u16]) -> Moved
     }
 }
 
-fn read_rename(s: &[u8], depth: u8, c: Cursor, skips: &mut [u16]) -> Moved
-    requires { ⌜ Skips (now s) (now skips) ⌝ }
+fn read_rename(s: &[u8], depth: u8, c: Cursor, known: &[u16], skips: &mut [u16]) -> Moved
+    requires { ⌜ Skips (now s) (now known) × Skips (now s) (now skips) ⌝ }
     ensures { λ r. ⌜ r ≡ movedOf (renameRest (selector depth) (now (s .entry)) (c .at)) ⌝ }
     ensures { λ r. ⌜ Skips (now (s .entry)) (now (skips .exit)) × (length (now (skips .exit)) ≡ length (now (skips .entry))) ⌝ }
 {
-    match read_selector(s, depth, c, skips) {
+    match read_one(s, depth, c, known, skips) {
         Moved::To(d) => read_text(s, d),
         Moved::Refused(k) => Moved::Refused(k),
     }
 }
 
-fn read_struct(s: &[u8], depth: u8, c: Cursor, skips: &mut [u16]) -> Moved
-    requires { ⌜ Skips (now s) (now skips) ⌝ }
+fn read_struct(s: &[u8], depth: u8, c: Cursor, known: &[u16], skips: &mut [u16]) -> Moved
+    requires { ⌜ Skips (now s) (now known) × Skips (now s) (now skips) ⌝ }
     ensures { λ r. ⌜ r ≡ movedOf (structRest (selector depth) (now (s .entry)) (c .at)) ⌝ }
     ensures { λ r. ⌜ Skips (now (s .entry)) (now (skips .exit)) × (length (now (skips .exit)) ≡ length (now (skips .entry))) ⌝ }
 {
-    match read_kept(s, depth, c, skips) {
+    match read_kept(s, depth, c, known, skips) {
         Moved::To(d) => match d.short(s) {
-            Short::Is(n, e) => read_selectors(s, depth, n, e, skips),
+            Short::Is(n, e) => read_each(s, depth, n, e, known, skips),
             Short::Refused(k) => Moved::Refused(k),
         },
         Moved::Refused(k) => Moved::Refused(k),
@@ -180,14 +201,14 @@ fn read_struct(s: &[u8], depth: u8, c: Cursor, skips: &mut [u16]) -> Moved
 }
 
 // A list or array mapping: the input, then the selector for each element.
-fn read_element_mapping(s: &[u8], depth: u8, c: Cursor, skips: &mut [u16]) -> Moved
-    requires { ⌜ Skips (now s) (now skips) ⌝ }
+fn read_element_mapping(s: &[u8], depth: u8, c: Cursor, known: &[u16], skips: &mut [u16]) -> Moved
+    requires { ⌜ Skips (now s) (now known) × Skips (now s) (now skips) ⌝ }
     ensures { λ r. ⌜ r ≡ movedOf (listRest (selector depth) (now (s .entry)) (c .at)) ⌝ }
     ensures { λ r. ⌜ r ≡ movedOf (arrayRest (selector depth) (now (s .entry)) (c .at)) ⌝ }
     ensures { λ r. ⌜ Skips (now (s .entry)) (now (skips .exit)) × (length (now (skips .exit)) ≡ length (now (skips .entry))) ⌝ }
 {
-    match read_kept(s, depth, c, skips) {
-        Moved::To(d) => read_kept(s, depth, d, skips),
+    match read_kept(s, depth, c, known, skips) {
+        Moved::To(d) => read_kept(s, depth, d, known, skips),
         Moved::Refused(k) => Moved::Refused(k),
     }
 }
@@ -210,8 +231,8 @@ pub fn is_position(s: &[u8], depth: u8, c: Cursor) -> bool
 }
 
 // `n` selectors, each of at most `depth` levels.
-pub fn read_selectors(s: &[u8], depth: u8, n: u16, c: Cursor, skips: &mut [u16]) -> Moved
-    requires { ⌜ Skips (now s) (now skips) ⌝ }
+pub fn read_each(s: &[u8], depth: u8, n: u16, c: Cursor, known: &[u16], skips: &mut [u16]) -> Moved
+    requires { ⌜ Skips (now s) (now known) × Skips (now s) (now skips) ⌝ }
     ensures { λ r. ⌜ r ≡ movedOf (selectors (selector depth) n (now (s .entry)) (c .at)) ⌝ }
     ensures { λ r. ⌜ Skips (now (s .entry)) (now (skips .exit)) × (length (now (skips .exit)) ≡ length (now (skips .entry))) ⌝ }
 {
@@ -221,13 +242,13 @@ pub fn read_selectors(s: &[u8], depth: u8, n: u16, c: Cursor, skips: &mut [u16])
     while i < n {
         if is_position(s, depth, d) {
             let e = Cursor { at: d.at + 3 };
-            since = keep_passed(skips, depth, since, d, e);
+            since = keep_passed(s, depth, since, d, e, skips);
             d = e;
             i += 1;
         } else {
-            match read_selector(s, depth, d, skips) {
+            match read_one(s, depth, d, known, skips) {
                 Moved::To(e) => {
-                    since = keep_passed(skips, depth, since, d, e);
+                    since = keep_passed(s, depth, since, d, e, skips);
                     d = e;
                     i += 1;
                 }
@@ -236,6 +257,26 @@ pub fn read_selectors(s: &[u8], depth: u8, n: u16, c: Cursor, skips: &mut [u16])
         }
     }
     Moved::To(d)
+}
+
+// A selector of at most `depth` levels, where nothing is known.
+pub fn read_selector(s: &[u8], depth: u8, c: Cursor, skips: &mut [u16]) -> Moved
+    requires { ⌜ Skips (now s) (now skips) ⌝ }
+    ensures { λ r. ⌜ r ≡ movedOf (selector depth (now (s .entry)) (c .at)) ⌝ }
+    ensures { λ r. ⌜ Skips (now (s .entry)) (now (skips .exit)) × (length (now (skips .exit)) ≡ length (now (skips .entry))) ⌝ }
+{
+    let none = [0u16; 1];
+    read_one(s, depth, c, &none, skips)
+}
+
+// `n` of them.
+pub fn read_selectors(s: &[u8], depth: u8, n: u16, c: Cursor, skips: &mut [u16]) -> Moved
+    requires { ⌜ Skips (now s) (now skips) ⌝ }
+    ensures { λ r. ⌜ r ≡ movedOf (selectors (selector depth) n (now (s .entry)) (c .at)) ⌝ }
+    ensures { λ r. ⌜ Skips (now (s .entry)) (now (skips .exit)) × (length (now (skips .exit)) ≡ length (now (skips .entry))) ⌝ }
+{
+    let none = [0u16; 1];
+    read_each(s, depth, n, c, &none, skips)
 }
 
 const MARK: [u8; 5] = [0x50, 0x4C, 0x4E, 1, 0];

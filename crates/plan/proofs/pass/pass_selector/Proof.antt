@@ -11,5 +11,5 @@ pass-selector-spec =
     (λ c κs. search needs)
     (λ c. skip-one (c .before .before .known-skip .ensures _ (c .before .before .before .before .before .pre)) (c .if1 .taken))
     (λ c. search needs)
-    (λ c κs. skips-none 1)
+    (λ c κs. (c .before .before .before .before .before .before .pre, skips-none 1))
     (λ c. search needs))

@@ -35,4 +35,4 @@ entry-at-spec =
     (λ c. search needs)
     (λ c κs. search needs)
     (λ c. let c11 = c .before .before .before .before .before .before .before .before .before .before .before in let i = c11 .args .i in
-    λ s T. skip-found T i (1533 + 3 * i) refl (omega arith) (omega arith) (omega arith) refl (c .wide2 .ensures) (omega arith)))
+    λ s T. skip-found T i (2301 + 3 * i) refl (omega arith) (omega arith) (omega arith) refl (c .wide2 .ensures) (omega arith)))

@@ -21,12 +21,12 @@ put-entry-spec =
     (λ c. search needs)
     (λ c. search needs)
     (λ c. let a = c .args in
-    let l = length-set (now (a .skips)) (1536 + 3 * a .i) (a .from) in omega (arith, l, c .pre))
+    let l = length-set (now (a .skips)) (2304 + 3 * a .i) (a .from) in omega (arith, l, c .pre))
     (λ c. search needs)
     (λ c. search needs)
     (λ c. search needs)
     (λ c. let a = c .args in
-    let k = 1536 + 3 * a .i in
+    let k = 2304 + 3 * a .i in
     let l = length-set (now (a .skips)) k (a .from) in
     let m = length-set (set (now (a .skips)) k (a .from)) (k + 1) (a .count) in omega (arith, l, m, c .pre))
     (λ c. search needs)
