@@ -166,14 +166,19 @@ static void slow_checks(void) {
     expect_check("a constant before positions in an element", 0);
 }
 
+/* In an element of a column, a mapping over one of so many fields, up to the first of these. */
+static void over_fields_of(text *t, int column, int fields) {
+    put(t, 5, 1);
+    position(t, column);
+    put(t, 0x0404, 2);
+    position(t, 0);
+    put(t, (uint64_t)fields, 2);
+}
+
 /* In an element, positions that take what stands behind a constant of empty arrays of a struct of ten fields. */
 static void behind_arrays(text *t, int elements, int positions) {
     mark(t, "PLN", 1);
-    put(t, 5, 1);
-    position(t, 0);
-    put(t, 0x0404, 2);
-    position(t, 0);
-    put(t, 2, 2);
+    over_fields_of(t, 0, 2);
     constant_arrays(t, elements, 10, 2);
     position(t, 0);
     put(t, (uint64_t)positions, 2);
@@ -208,11 +213,7 @@ static void in_front(text *t, int kind) {
 /* In an element, positions that take what stands behind so many selectors of that kind. */
 static void behind_many(text *t, int kind, int many, int positions) {
     mark(t, "PLN", 1);
-    put(t, 5, 1);
-    position(t, 0);
-    put(t, 0x0404, 2);
-    position(t, 0);
-    put(t, (uint64_t)(many + 1), 2);
+    over_fields_of(t, 0, many + 1);
     for (int k = 0; k < many; k++)
         in_front(t, kind);
     position(t, 0);
@@ -263,11 +264,7 @@ static void slow_chains(void) {
             position(&plan, 0);
         }
     }
-    put(&plan, 5, 1);
-    position(&plan, 1);
-    put(&plan, 0x0404, 2);
-    position(&plan, 0);
-    put(&plan, BEFORE + 1, 2);
+    over_fields_of(&plan, 1, BEFORE + 1);
     for (int k = 0; k < BEFORE; k++)
         constant_arrays(&plan, 40, 1, 0);
     position(&plan, 0);
