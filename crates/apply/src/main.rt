@@ -1,6 +1,8 @@
 // Document 01's program: reads incoming.lay, target.lay, plan.pln and record.bin in the current folder and writes the
 // output record's bytes, or `refused`, the refusal's number and a line feed. Of a file that is too long, a byte past
 // its limit is read, which is enough to refuse it.
+#![tactic(auto)]
+
 use files::read_file;
 use libc::STDOUT_FILENO;
 

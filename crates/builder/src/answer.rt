@@ -5,7 +5,7 @@ ghost use Rattle.builder.specs.code.Answers.{is_refused, is_bare, len_of, failed
 use layout::columns::Position;
 
 // A refusal's number; a bare position; or the length of the selector that was written.
-#[derive(Drop)]
+#[derive(Clone, Copy)]
 pub enum Made {
     Refused(u8),
     Bare(Position),
@@ -13,7 +13,7 @@ pub enum Made {
 }
 
 // The same for the selectors of a struct's fields: whether each takes its own position, and their length.
-#[derive(Drop)]
+#[derive(Clone, Copy)]
 pub enum Row {
     Failed(u8),
     Done(bool, usize),

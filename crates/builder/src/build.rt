@@ -7,7 +7,7 @@ use layout::matching::Matching;
 use rules::policy::Policy;
 
 // A build's unchanging part, with the editions of the two layouts; but inside elements there are no defaults.
-#[derive(Drop)]
+#[derive(Clone, Copy)]
 pub struct Build {
     pub policy: Policy,
     pub matching: Matching,
@@ -17,14 +17,14 @@ pub struct Build {
 }
 
 // What a selector takes, and where it is written.
-#[derive(Drop)]
+#[derive(Clone, Copy)]
 pub struct Place {
     pub position: Position,
     pub k: usize,
 }
 
 // Two types that are matched, with the depth left to each, and the place of the selector.
-#[derive(Drop)]
+#[derive(Clone, Copy)]
 pub struct Types {
     pub depth: u8,
     pub incoming: Cursor,
@@ -33,14 +33,14 @@ pub struct Types {
 }
 
 // The columns of a layout or the fields of a struct: how many, and where the first stands.
-#[derive(Drop)]
+#[derive(Clone, Copy)]
 pub struct Fields {
     pub count: u16,
     pub first: Cursor,
 }
 
 // A struct's fields that are matched over a type, with the depth left to the two types, and the place of the selector.
-#[derive(Drop)]
+#[derive(Clone, Copy)]
 pub struct FieldsOver {
     pub depth: u8,
     pub incoming: Cursor,
@@ -49,7 +49,7 @@ pub struct FieldsOver {
 }
 
 // The columns that are matched, with the depth left to each, and where the selectors are written.
-#[derive(Drop)]
+#[derive(Clone, Copy)]
 pub struct Rows {
     pub depth: u8,
     pub incoming: Fields,
@@ -58,14 +58,14 @@ pub struct Rows {
 }
 
 // A column or an element: its label, and where its type stands.
-#[derive(Drop)]
+#[derive(Clone, Copy)]
 pub struct Column {
     pub label: Label,
     pub cursor: Cursor,
 }
 
 // Two columns or elements that are matched, with the depth left to each, and the place of the selector.
-#[derive(Drop)]
+#[derive(Clone, Copy)]
 pub struct Pair {
     pub depth: u8,
     pub incoming: Column,
@@ -74,7 +74,7 @@ pub struct Pair {
 }
 
 // What becomes of a target column with no counterpart: a constant, or this refusal (14 in a struct, 11 at the top).
-#[derive(Drop)]
+#[derive(Clone, Copy)]
 pub struct Missing {
     pub insert: bool,
     pub number: u8,
@@ -82,7 +82,7 @@ pub struct Missing {
 
 // A target column whose counterpart is sought among incoming columns, with the length of their table, which is 0 where
 // there is none, and where its selector is written.
-#[derive(Drop)]
+#[derive(Clone, Copy)]
 pub struct Sought {
     pub depth: u8,
     pub among: Fields,

@@ -33,7 +33,7 @@ use store::{copy, put};
 
 // A refusal's number; no default, and a null was written; or the length of the value that was written, and whether no
 // required field inside it is null.
-#[derive(Drop)]
+#[derive(Clone, Copy)]
 pub enum DefaultMade {
     Refused(u8),
     None,
@@ -42,7 +42,7 @@ pub enum DefaultMade {
 
 // The same for the values of a struct's fields: whether one has a default, whether no required one is null, and their
 // length.
-#[derive(Drop)]
+#[derive(Clone, Copy)]
 pub enum DefaultsMade {
     Failed(u8),
     Done(bool, bool, usize),

@@ -1,4 +1,6 @@
 // What the matchers are made of (document 01, "Matching"), under the names of source 000.
+#![tactic(auto)]
+
 pub mod answer;
 pub mod build;
 pub mod conditions;

@@ -12,21 +12,21 @@ use layout::parts::TypeParts;
 use layout::types::{Head, LeafType};
 use rules::kinds::kind;
 
-#[derive(Drop)]
+#[derive(Clone, Copy)]
 pub enum LeafPart {
     Is(LeafType),
     Mismatch,
 }
 
 // A struct's count of columns, and where they begin.
-#[derive(Drop)]
+#[derive(Clone, Copy)]
 pub enum StructPart {
     Is(u16, Cursor),
     Mismatch,
 }
 
 // A list's or array's element, with an array's width.
-#[derive(Drop)]
+#[derive(Clone, Copy)]
 pub enum ElementPart {
     List(Label, Cursor),
     Array(u32, Label, Cursor),
@@ -34,7 +34,7 @@ pub enum ElementPart {
 }
 
 // The label of a list's or array's element, and where its type begins.
-#[derive(Drop)]
+#[derive(Clone, Copy)]
 pub enum InnerPart {
     Is(Label, Cursor),
     Mismatch,

@@ -16,7 +16,7 @@ use layout::walk::skip_type;
 use matcher::attach::attach_field;
 
 // A refusal's number and the column's position; or the length of the selectors that were written.
-#[derive(Drop)]
+#[derive(Clone, Copy)]
 pub enum ColumnsMade {
     Failed(u8, u16),
     Done(usize),

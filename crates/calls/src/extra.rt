@@ -14,7 +14,7 @@ use layout::walk::skip_type;
 use rules::policy::ExtraColumnsPolicy;
 
 // The position of the first extra column.
-#[derive(Drop)]
+#[derive(Clone, Copy)]
 pub enum ExtraColumn {
     At(u16),
     Nothing,

@@ -10,14 +10,14 @@ use layout::matching::Matching;
 use layout::read::{LayoutRead, read_layout};
 
 // The columns of the two layouts.
-#[derive(Drop)]
+#[derive(Clone, Copy)]
 pub struct Both {
     pub incoming: Fields,
     pub target: Fields,
 }
 
 // The editions of the two layouts, the incoming one first, and their columns; or a refusal's number and place.
-#[derive(Drop)]
+#[derive(Clone, Copy)]
 pub enum BothRead {
     Read(Edition, Edition, Both),
     Refused(u8, u16),

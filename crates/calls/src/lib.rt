@@ -1,4 +1,6 @@
 // The two calls (document 01, "Building by name" and "Building by number").
+#![tactic(auto)]
+
 pub mod build;
 pub mod columns;
 pub mod extra;

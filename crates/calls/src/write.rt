@@ -17,7 +17,7 @@ use plan::answer::WriteResult;
 use store::{copy, put};
 
 // The answer of a build; or Short: the plan is longer than the room that it was built in.
-#[derive(Drop)]
+#[derive(Clone, Copy)]
 pub enum Attempt {
     Answer(WriteResult),
     Short,

@@ -6,7 +6,7 @@ use crate::case::Outcome;
 use layout::bytes::same_bytes;
 use lines::{Decimal, has_bytes, number, take_bytes, word};
 
-#[derive(Drop)]
+#[derive(Clone, Copy)]
 pub enum Expected {
     Is(u64),
     Malformed,

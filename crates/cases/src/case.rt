@@ -7,7 +7,7 @@ use crate::check::{check_case, run_case};
 use layout::bytes::same_bytes;
 use lines::{has_bytes, take_bytes, word};
 
-#[derive(Drop)]
+#[derive(Clone, Copy)]
 pub enum Kind {
     Layout,
     BuildName,
@@ -17,7 +17,7 @@ pub enum Kind {
     Unknown,
 }
 
-#[derive(Drop)]
+#[derive(Clone, Copy)]
 pub enum Outcome {
     Agrees,
     // With the answer that was given.

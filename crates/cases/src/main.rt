@@ -1,6 +1,8 @@
 // Replays a stored list of cases and compares: standard input has a case a line; standard output gets a line for each
 // case that differs, a line for each kind of case and a last line with the counts; before them how many of the accepted
 // cases one pass settles. compare/cases.py makes the list, whose head says its form.
+#![tactic(auto)]
+
 mod answer;
 mod buffers;
 mod build;

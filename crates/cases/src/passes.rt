@@ -9,7 +9,7 @@ use crate::single_pass::{checks, writes};
 use layout::bytes::same_bytes;
 use lines::{find, take_bytes, word};
 
-#[derive(Drop)]
+#[derive(Clone, Copy)]
 struct Share {
     settled: u64,
     accepted: u64,

@@ -6,7 +6,7 @@ use libc::STDOUT_FILENO;
 use lines::from_word;
 
 // How many lines there were, how many cases of each kind agreed, and how many lines differ.
-#[derive(Drop)]
+#[derive(Clone, Copy)]
 pub struct Tally {
     pub lines: u64,
     pub layout: u64,

@@ -30,7 +30,7 @@ use walk::walk::{Walk, top};
 
 // A top selector passes: where it ends, where the target's next column stands, and whether all columns up to here are
 // the target's. Or the number of its refusal.
-#[derive(Drop)]
+#[derive(Clone, Copy)]
 pub enum Top {
     Passed(Cursor, Cursor, bool),
     Refused(u8),

@@ -1,5 +1,7 @@
 // The check of a plan (document 01, "The check follows types"): the type of what a selector gives is looked at where it
 // stands, in the incoming layout or in the plan, so nothing is built.
+#![tactic(auto)]
+
 pub mod cast;
 pub mod each;
 pub mod head;

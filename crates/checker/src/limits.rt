@@ -28,7 +28,7 @@ use walk::head::skip_by;
 use walk::walk::Walk;
 
 // A length in version 1 form and a depth, or the limits are passed.
-#[derive(Drop)]
+#[derive(Clone, Copy)]
 pub enum Fit {
     Within(usize, u8),
     Over,
@@ -36,7 +36,7 @@ pub enum Fit {
 
 // What is known of the type of what a selector gives: the length in version 1 form and the depth of a transform's
 // result. A position or a constant is measured only where something is made of it.
-#[derive(Drop)]
+#[derive(Clone, Copy)]
 pub enum Size {
     Is(usize, u8),
     Unknown,

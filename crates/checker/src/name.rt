@@ -26,7 +26,7 @@ use walk::inputs::{ends_for, no_ends};
 use walk::walk::Walk;
 
 // A selector's own name; that of its input; or that of a column or field, by its position.
-#[derive(Drop)]
+#[derive(Clone, Copy)]
 pub enum OwnName {
     Is(Name),
     Input,
@@ -34,7 +34,7 @@ pub enum OwnName {
 }
 
 // A field's name; or that of the column that a mapping's selector for it gives.
-#[derive(Drop)]
+#[derive(Clone, Copy)]
 pub enum PartName {
     Is(Name),
     Child,

@@ -3,7 +3,7 @@ use direct::place::Place;
 use layout::types::LeafType;
 
 // A leaf's zone stands in the bytes of its place.
-#[derive(Drop)]
+#[derive(Clone, Copy)]
 pub enum TypeHead {
     Leaf(Place, LeafType),
     Struct(u16),

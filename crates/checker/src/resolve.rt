@@ -20,7 +20,7 @@ use walk::walk::Walk;
 pub const INDEX: usize = 4608;
 
 // In the incoming layout or in the plan, or it is made by a mapping.
-#[derive(Drop)]
+#[derive(Clone, Copy)]
 pub enum Source {
     Incoming,
     Plan,
@@ -28,7 +28,7 @@ pub enum Source {
 }
 
 // Where the type begins; if a mapping makes it, the walk stands there, with no path left.
-#[derive(Drop)]
+#[derive(Clone, Copy)]
 pub struct Resolved {
     pub source: Source,
     pub at: Cursor,
@@ -42,7 +42,7 @@ pub fn found_in(source: Source, at: Cursor, walk: Walk) -> Resolved
 }
 
 // Where a walk stops: a type in the incoming layout or in the plan, a rename or a mapping at the path's end.
-#[derive(Drop)]
+#[derive(Clone, Copy)]
 pub enum Stop {
     Incoming(Cursor),
     Plan(Cursor),

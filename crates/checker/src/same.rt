@@ -35,14 +35,14 @@ use walk::head::skip_by;
 use walk::walk::Walk;
 
 // Where the target's type ends, if it is the same.
-#[derive(Drop)]
+#[derive(Clone, Copy)]
 pub enum Ends {
     At(Cursor),
     Differ,
 }
 
 // A nested type's code, with a struct's count or an array's width; a leaf has code 0.
-#[derive(Drop)]
+#[derive(Clone, Copy)]
 pub struct HeadCode {
     pub code: u8,
     pub number: u32,

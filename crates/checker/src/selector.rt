@@ -40,21 +40,21 @@ use walk::head::skip_by;
 use walk::walk::Walk;
 
 // Whether a selector passes, or the number of its refusal.
-#[derive(Drop)]
+#[derive(Clone, Copy)]
 pub enum Checked {
     Passed,
     Refused(u8),
 }
 
 // With what is known of the type that it gives.
-#[derive(Drop)]
+#[derive(Clone, Copy)]
 pub enum Measured {
     Passed(Size),
     Refused(u8),
 }
 
 // The columns that positions take from: how many, and whether all their types are known to be within the limits.
-#[derive(Drop)]
+#[derive(Clone, Copy)]
 pub struct ScopeColumns {
     pub count: u16,
     pub within: bool,
@@ -241,7 +241,7 @@ fn check_source(plan: &[u8], w: Walk, scope: u16) -> Measured
 // What is left of a transform's check once its input has passed: nothing; or the selectors of a struct mapping, so many
 // of them over so many columns; or the selector of a list or array mapping, with how many bytes the head of such a type
 // has.
-#[derive(Drop)]
+#[derive(Clone, Copy)]
 pub enum Rest {
     Passed(Size),
     Refused(u8),

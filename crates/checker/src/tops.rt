@@ -23,7 +23,7 @@ use nullness::marks::meets_marks;
 use plan::read::{PlanRead, read_plan, read_selectors};
 
 // Passed, or the refusal's number and place.
-#[derive(Drop)]
+#[derive(Clone, Copy)]
 pub enum PlanChecked {
     Passed,
     Refused(u8, u16),

@@ -178,7 +178,7 @@ pub fn innermost(plan: &[u8], c: Cursor) -> Cursor
 }
 
 // Which pair of buffers holds a selector's type and value; or they are not settled.
-#[derive(Drop)]
+#[derive(Clone, Copy)]
 pub enum Composition {
     First,
     Second,

@@ -18,7 +18,7 @@ use transfer::row::transfer;
 use walk::head::{SelectorHead, head};
 
 // A transform, where its input stands, and where what is innermost in it does.
-#[derive(Drop)]
+#[derive(Clone, Copy)]
 struct Transform {
     place: Place,
     input: Cursor,

@@ -21,7 +21,7 @@ use layout::limits::DEEPEST_SELECTOR;
 use transfer::leaf::{Place, Reached, Selectors};
 
 // The length of the output; or it is not settled.
-#[derive(Drop)]
+#[derive(Clone, Copy)]
 pub enum Transferred {
     To(usize),
     Unknown,

@@ -13,14 +13,14 @@ use numeric::times::{Finer, divide, multiply};
 use rules::kinds::{Class, class_of};
 
 // A number of the kind that was asked for, or a date-time that is too large.
-#[derive(Drop)]
+#[derive(Clone, Copy)]
 pub enum Converted {
     Number(u64),
     Overflow,
 }
 
 // From one date-time unit to another.
-#[derive(Drop)]
+#[derive(Clone, Copy)]
 pub enum UnitChange {
     Multiply(u64),
     Divide(u64),

@@ -16,7 +16,7 @@ use values::leaf::{Presence, read_presence};
 
 // The defaults of a build: by number those that a table that was read has for an owner, at a source index. With no
 // entries there are none: so by name, and inside elements.
-#[derive(Drop)]
+#[derive(Clone, Copy)]
 pub struct DefaultFieldValues {
     pub version: TableVersion,
     pub count: u16,
@@ -26,7 +26,7 @@ pub struct DefaultFieldValues {
 }
 
 // 26, the values could not be loaded; no default; or a value's type and where the value begins, which is not null.
-#[derive(Drop)]
+#[derive(Clone, Copy)]
 pub enum DefaultValue {
     Failed,
     Nothing,

@@ -23,67 +23,67 @@ const SHARED: [u8; 5] = [0x44, 0x45, 0x46, 1, 0];
 const BY_OWNER: [u8; 5] = [0x44, 0x45, 0x46, 2, 0];
 
 // Version 1, whose entries count for every owner, and version 2, with an owner before each id.
-#[derive(Drop)]
+#[derive(Clone, Copy)]
 pub enum TableVersion {
     Shared,
     ByOwner,
 }
 
 // Whose an entry is.
-#[derive(Drop)]
+#[derive(Clone, Copy)]
 pub enum Owner {
     Every,
     Only(u16),
 }
 
 // By an entry's kind byte: 0 an initial default, 1 a partition's values.
-#[derive(Drop)]
+#[derive(Clone, Copy)]
 pub enum EntryKind {
     Initial,
     Partition,
 }
 
-#[derive(Drop)]
+#[derive(Clone, Copy)]
 pub enum KindRead {
     Is(EntryKind, Cursor),
     Refused(u8),
 }
 
-#[derive(Drop)]
+#[derive(Clone, Copy)]
 pub enum OwnerRead {
     Is(Owner, Cursor),
     Refused(u8),
 }
 
 // An entry's owner, id and kind, where that begins which it gives, and where it ends.
-#[derive(Drop)]
+#[derive(Clone, Copy)]
 pub enum EntryRead {
     Is(Owner, FieldId, EntryKind, Cursor, Cursor),
     Refused(u8),
 }
 
 // An entry's owner, id and kind, and where that begins which it gives.
-#[derive(Drop)]
+#[derive(Clone, Copy)]
 pub enum HeadRead {
     Is(Owner, FieldId, EntryKind, Cursor),
     Refused(u8),
 }
 
 // Where that begins which an entry gives.
-#[derive(Drop)]
+#[derive(Clone, Copy)]
 pub enum EntryFound {
     At(Cursor),
     Absent,
 }
 
-#[derive(Drop)]
+#[derive(Clone, Copy)]
 pub enum VersionRead {
     Is(TableVersion),
     Refused(u8),
 }
 
 // The version, the number of entries and where they begin.
-#[derive(Drop)]
+#[derive(Clone, Copy)]
 pub enum TableRead {
     Read {
         version: TableVersion,

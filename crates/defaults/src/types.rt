@@ -12,7 +12,7 @@ use layout::cursor::{Cursor, Moved, Step};
 use layout::types::{Head, LeafType};
 use values::leaf::{Presence, read_leaf, read_presence};
 
-#[derive(Drop)]
+#[derive(Clone, Copy)]
 pub enum LeafRead {
     Is(LeafType, Cursor),
     Refused(u8),

@@ -23,21 +23,21 @@ use layout::limits::DEEPEST;
 use walk::head::{SelectorHead, cast_option, head, skip_selector, struct_fields};
 
 // Where a type or a column of the target stands.
-#[derive(Drop)]
+#[derive(Clone, Copy)]
 pub struct TargetPlace {
     pub edition: Edition,
     pub at: Cursor,
 }
 
 // Where the selector and the type end, and the name of the column that the selector gives.
-#[derive(Drop)]
+#[derive(Clone, Copy)]
 pub enum Fit {
     Is(Cursor, Cursor, Name),
     Unknown,
 }
 
 // Where the selector and the column of the target end.
-#[derive(Drop)]
+#[derive(Clone, Copy)]
 pub enum FitEnd {
     At(Cursor, Cursor),
     Unknown,

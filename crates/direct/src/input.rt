@@ -6,7 +6,7 @@ use layout::cursor::Cursor;
 use walk::head::{SelectorHead, head};
 
 // Where the input stands; a position and a constant have none.
-#[derive(Drop)]
+#[derive(Clone, Copy)]
 pub enum Input {
     At(Cursor),
     None,

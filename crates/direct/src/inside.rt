@@ -8,7 +8,7 @@ use layout::edition::Edition;
 use layout::parts::TypeParts;
 
 // A struct's columns, a list's or array's element; a leaf has none.
-#[derive(Drop)]
+#[derive(Clone, Copy)]
 pub enum Inside {
     Leaf,
     Struct(u16, Cursor),
@@ -17,7 +17,7 @@ pub enum Inside {
 }
 
 // The parts of two types of one kind, arrays of one width.
-#[derive(Drop)]
+#[derive(Clone, Copy)]
 pub enum Both {
     Structs(u16, Cursor, u16, Cursor),
     Lists(Cursor, Cursor),

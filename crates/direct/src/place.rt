@@ -7,13 +7,13 @@ ghost use Rattle.direct.specs.code.Places.{NameAt};
 use forms::compare::same_text;
 use layout::bytes::Span;
 
-#[derive(Drop)]
+#[derive(Clone, Copy)]
 pub enum Place {
     Incoming,
     Plan,
 }
 
-#[derive(Drop)]
+#[derive(Clone, Copy)]
 pub struct Name {
     pub place: Place,
     pub span: Span,

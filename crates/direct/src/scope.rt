@@ -17,14 +17,14 @@ use layout::find::Found;
 use walk::head::{SelectorHead, head};
 
 // The columns of the layout or of a struct, which have an index; a list's or an array's element.
-#[derive(Drop)]
+#[derive(Clone, Copy)]
 pub enum Scope {
     Columns(u16, Cursor),
     Element(Cursor),
 }
 
 // What positions take from, in a layout of this edition; the entries of its index stand for every `stride`-th column.
-#[derive(Drop)]
+#[derive(Clone, Copy)]
 pub struct Source {
     pub edition: Edition,
     pub scope: Scope,
@@ -32,7 +32,7 @@ pub struct Source {
 }
 
 // The name's place and where the type begins.
-#[derive(Drop)]
+#[derive(Clone, Copy)]
 pub enum Taken {
     At(Span, Cursor),
     Absent,

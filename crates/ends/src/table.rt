@@ -13,7 +13,7 @@ ghost use Rattle.ends.specs.code.Ends.{LengthIs, Ends, EndAt, FoundIs};
 
 use layout::bytes::wide;
 
-#[derive(Drop)]
+#[derive(Clone, Copy)]
 pub enum EndFound {
     At(usize),
     Unknown,

@@ -1,4 +1,6 @@
 // What the programs read. A file that can't be opened counts as empty.
+#![tactic(auto)]
+
 ghost use Rattle.io.specs.Counts.{IsPrefixLen};
 
 fn none(buffer: &[u8]) -> usize

@@ -16,7 +16,7 @@ use layout::edition::Edition;
 use layout::types::Head;
 
 // Where two types that are the same end, each in its own bytes.
-#[derive(Drop)]
+#[derive(Clone, Copy)]
 pub enum Same {
     To(Cursor, Cursor),
     No,

@@ -18,7 +18,7 @@ use layout::types::Head;
 use store::{copy, put};
 
 // How many bytes were written, and where the type ends in the bytes that it was read from.
-#[derive(Drop)]
+#[derive(Clone, Copy)]
 pub struct Written {
     pub len: usize,
     pub end: Cursor,

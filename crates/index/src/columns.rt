@@ -89,7 +89,7 @@ fn column_after(s: &[u8], v: Edition, m: u16, c: Cursor, k: Position) -> Found
 }
 
 // Where a column at or before the one looked for stands, and how many lie between.
-#[derive(Drop)]
+#[derive(Clone, Copy)]
 struct Start {
     at: usize,
     left: u16,

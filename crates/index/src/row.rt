@@ -33,7 +33,7 @@ fn storable(j: usize, types: usize, values: usize, at: usize, to: usize) -> bool
 
 // The columns of a row, where their values begin in the record, and how many columns apart the entries of its tables
 // stand.
-#[derive(Drop)]
+#[derive(Clone, Copy)]
 pub struct Row {
     pub columns: ColumnRange,
     pub values: Cursor,

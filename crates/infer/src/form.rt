@@ -18,7 +18,7 @@ use nodes::types::form_size;
 use store::{copy, put, put_number};
 
 // The length of the form that was written.
-#[derive(Drop)]
+#[derive(Clone, Copy)]
 pub enum Inferred {
     Is(usize),
     Unknown,

@@ -18,7 +18,7 @@ use layout::cursor::Cursor;
 use walk::head::{SelectorHead, head, rename_name};
 
 // Where the name stands; or it is the input's.
-#[derive(Drop)]
+#[derive(Clone, Copy)]
 pub enum Named {
     Is(Name),
     Input(Cursor),

@@ -2,6 +2,8 @@
 // slice: two numbers for each column, its link (where its chain goes on) and where it begins, and behind them the heads
 // of the chains, as many as there is room for. The chain of a hash leads through the columns that have it, first ones
 // first, and passes over no type.
+#![tactic(auto)]
+
 ghost use Rattle.std.specs.Prelude.{true, ◌≡◌, ◌+◌, ◌≤◌, ◌<◌, length, take};
 ghost use Rattle.layout.specs.code.Answers.{label_at, SpanIn};
 ghost use Rattle.layout.specs.Find.{counterpart};
@@ -25,7 +27,7 @@ const MOST: u16 = 32767;
 const NONE: u16 = 65535;
 
 // Sibling columns with the depth left to their types, and how their labels are matched.
-#[derive(Drop)]
+#[derive(Clone, Copy)]
 pub struct SiblingColumns {
     pub edition: Edition,
     pub matching: Matching,

@@ -9,14 +9,14 @@ use crate::cursor::{Cursor, Long, Step, Text};
 use crate::edition::Edition;
 
 // A field's id and a position among siblings are separate kinds of quantity: a lookup by id can't be given an index.
-#[derive(Drop)]
+#[derive(Clone, Copy)]
 pub struct FieldId(pub u32);
 
-#[derive(Drop)]
+#[derive(Clone, Copy)]
 pub struct Position(pub u16);
 
 // What columns that stand side by side may not repeat.
-#[derive(Drop)]
+#[derive(Clone, Copy)]
 pub enum Siblings {
     Names,
     Ids,
@@ -24,7 +24,7 @@ pub enum Siblings {
 }
 
 // Where the name stands, the id (0 in version 1), and whether the column is required (never before version 3).
-#[derive(Drop)]
+#[derive(Clone, Copy)]
 pub struct Label {
     pub name: Span,
     pub id: FieldId,
@@ -32,20 +32,20 @@ pub struct Label {
 }
 
 // Columns side by side: their edition, how many, and where the first stands.
-#[derive(Drop)]
+#[derive(Clone, Copy)]
 pub struct ColumnRange {
     pub edition: Edition,
     pub count: u16,
     pub first: Cursor,
 }
 
-#[derive(Drop)]
+#[derive(Clone, Copy)]
 pub enum MarkRead {
     Is(bool, Cursor),
     Refused(u8),
 }
 
-#[derive(Drop)]
+#[derive(Clone, Copy)]
 pub enum Labelled {
     Is(Label, Cursor),
     Refused(u8),

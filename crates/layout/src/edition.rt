@@ -8,14 +8,14 @@ use crate::bytes::same_bytes;
 use crate::columns::Siblings;
 
 // Version 1 has names, version 2 also field numbers, version 3 also required marks.
-#[derive(Drop)]
+#[derive(Clone, Copy)]
 pub enum Edition {
     One,
     Two,
     Three,
 }
 
-#[derive(Drop)]
+#[derive(Clone, Copy)]
 pub enum EditionRead {
     Is(Edition),
     Refused(u8),

@@ -12,14 +12,14 @@ use crate::edition::Edition;
 use crate::matching::Matching;
 use crate::pass::{pass_columns, pass_type};
 
-#[derive(Drop)]
+#[derive(Clone, Copy)]
 pub enum Found {
     At(Position, Label, Cursor),
     Absent,
 }
 
 // A name stands beside it, as a slice.
-#[derive(Drop)]
+#[derive(Clone, Copy)]
 pub enum Wanted {
     Name,
     Id(FieldId),

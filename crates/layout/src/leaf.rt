@@ -2,7 +2,7 @@
 use numeric::floats::Format;
 use numeric::integers::Integer;
 
-#[derive(Drop)]
+#[derive(Clone, Copy)]
 pub enum TimeUnit {
     Nanoseconds,
     Microseconds,
@@ -10,14 +10,14 @@ pub enum TimeUnit {
 }
 
 // A decimal's digits, and how many of them stand behind its point.
-#[derive(Drop)]
+#[derive(Clone, Copy)]
 pub struct Decimal {
     pub precision: u8,
     pub scale: u8,
 }
 
 // A leaf's kind. A date-time's zone stands beside it: see `types::LeafType`.
-#[derive(Drop)]
+#[derive(Clone, Copy)]
 pub enum Leaf {
     Null,
     Boolean,

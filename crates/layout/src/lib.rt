@@ -1,5 +1,7 @@
 // Layouts (document 01): the byte cursor, leaf types, types and columns, reading a layout, and walking over one that
 // was read.
+#![tactic(auto)]
+
 pub mod bytes;
 pub mod columns;
 pub mod cursor;

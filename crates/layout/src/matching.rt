@@ -4,7 +4,7 @@ ghost use Rattle.layout.specs.code.Finding.{match_rule};
 
 use crate::columns::Siblings;
 
-#[derive(Drop)]
+#[derive(Clone, Copy)]
 pub enum Matching {
     ByName,
     ByNumber,

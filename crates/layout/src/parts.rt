@@ -8,7 +8,7 @@ use crate::types::{Head, LeafType};
 
 // A leaf type and where it ends; a struct's count of columns and where they begin; the label of a list's or array's
 // element and where its type begins, with an array's width.
-#[derive(Drop)]
+#[derive(Clone, Copy)]
 pub enum TypeParts {
     Leaf(LeafType, Cursor),
     Struct(u16, Cursor),

@@ -16,7 +16,7 @@ use crate::seen::{find_slot, label_hash, place};
 use crate::types::{PlainLeaf, plain_leaf};
 
 // A layout's version, its number of columns and where they begin.
-#[derive(Drop)]
+#[derive(Clone, Copy)]
 pub enum LayoutRead {
     Read {
         edition: Edition,

@@ -9,33 +9,33 @@ use crate::leaf::{Decimal, Leaf, TimeUnit};
 use numeric::floats::Format;
 use numeric::integers::Integer;
 
-#[derive(Drop)]
+#[derive(Clone, Copy)]
 pub enum Unit {
     Is(TimeUnit, Cursor),
     Refused(u8),
 }
 
-#[derive(Drop)]
+#[derive(Clone, Copy)]
 pub enum DecimalRead {
     Is(Decimal, Cursor),
     Refused(u8),
 }
 
 // The leaf of a code that has nothing after it.
-#[derive(Drop)]
+#[derive(Clone, Copy)]
 pub enum PlainLeaf {
     Known(Leaf),
     Unknown,
 }
 
 // A leaf type: the kind and where a date-time's zone stands; the zone of any other kind is empty.
-#[derive(Drop)]
+#[derive(Clone, Copy)]
 pub struct LeafType {
     pub leaf: Leaf,
     pub zone: Span,
 }
 
-#[derive(Drop)]
+#[derive(Clone, Copy)]
 pub enum Head {
     Leaf(LeafType, Cursor),
     Struct(u16, Cursor),

@@ -3,7 +3,7 @@ use layout::cursor::Cursor;
 use layout::edition::Edition;
 
 // Where a type stands, the edition of its layout, and the depth left to it.
-#[derive(Drop)]
+#[derive(Clone, Copy)]
 pub struct TypePlace {
     pub edition: Edition,
     pub depth: u8,
@@ -11,7 +11,7 @@ pub struct TypePlace {
 }
 
 // A path of `len` steps into what the selector at `top` gives.
-#[derive(Drop)]
+#[derive(Clone, Copy)]
 pub struct TopPath {
     pub top: usize,
     pub steps: [u16; 64],

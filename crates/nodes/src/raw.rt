@@ -17,14 +17,14 @@ use values::leaf::{Presence, read_presence};
 use values::read::{ValueRead, read_elements, read_fields};
 
 // Null where there is no such node; else its type and its value.
-#[derive(Drop)]
+#[derive(Clone, Copy)]
 pub enum NodeAt {
     Null,
     At(Cursor, Cursor),
 }
 
 // The number of fields or elements; none for a null or a leaf.
-#[derive(Drop)]
+#[derive(Clone, Copy)]
 pub enum Parts {
     None,
     Some(u32),

@@ -47,7 +47,7 @@ pub fn type_at(s: &[u8], v: Edition, c: Cursor, path: [u16; 64], from: usize, le
 }
 
 // The length of a type's version 1 form and its depth; and where the type ends.
-#[derive(Drop)]
+#[derive(Clone, Copy)]
 pub struct FormSize {
     pub size: usize,
     pub deep: u8,

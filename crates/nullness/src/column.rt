@@ -23,7 +23,7 @@ use rules::kinds::kind;
 const INSIDE: u8 = DEEPEST - 1;
 
 // Where the type of a place stands, and whether the place is marked required; or there is no such place.
-#[derive(Drop)]
+#[derive(Clone, Copy)]
 pub enum PartMark {
     At(Cursor, bool),
     None,

@@ -30,7 +30,7 @@ use plan::skips::SKIPS;
 use walk::head::skip_by;
 
 // A type of the target, and whether what is of it is required.
-#[derive(Drop)]
+#[derive(Clone, Copy)]
 pub struct MarkedType {
     pub place: TypePlace,
     pub required: bool,

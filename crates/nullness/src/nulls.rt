@@ -87,7 +87,7 @@ pub fn keep_constant(nulls: &mut [u64], at: usize)
 }
 
 // Where the type of a part stands.
-#[derive(Drop)]
+#[derive(Clone, Copy)]
 pub enum TypePart {
     At(Cursor),
     None,

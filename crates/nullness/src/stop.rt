@@ -22,7 +22,7 @@ use overflow::stop::in_constant;
 use walk::head::{SelectorHead, head};
 use walk::walk::Walk;
 
-#[derive(Drop)]
+#[derive(Clone, Copy)]
 pub enum Stop {
     Passes,
     Fails,

@@ -2,6 +2,8 @@
 // number is, the code of what it becomes, five zeros, and the pattern, lowest byte first. For each a line is written:
 // the answer as sixteen hexadecimal digits, or `too large`. compare/floats.c makes the list, and the answers by the
 // machine's own arithmetic.
+#![tactic(auto)]
+
 ghost use Rattle.std.specs.Prelude.{◌+◌, ◌≤◌, ◌<◌, length};
 
 use libc::{STDIN_FILENO, STDOUT_FILENO};

@@ -8,7 +8,7 @@ use crate::integers::{Integer, Whole, number};
 use crate::round::{power, round_to};
 
 // IEEE 754's binary formats.
-#[derive(Drop)]
+#[derive(Clone, Copy)]
 pub enum Format {
     Binary16,
     Binary32,

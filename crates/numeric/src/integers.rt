@@ -5,7 +5,7 @@ ghost use Rattle.numeric.specs.code.Answers.{whole_of};
 
 use crate::round::power;
 
-#[derive(Drop)]
+#[derive(Clone, Copy)]
 pub enum Integer {
     Int8,
     Int16,
@@ -18,7 +18,7 @@ pub enum Integer {
 }
 
 // A whole number: n, or -(n + 1).
-#[derive(Drop)]
+#[derive(Clone, Copy)]
 pub enum Whole {
     Pos(u64),
     NegSuc(u64),

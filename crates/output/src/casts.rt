@@ -24,7 +24,7 @@ use walk::walk::Walk;
 
 // What a walk that no move is left of does next: it is where the value comes from, or goes on to the input, past a cast
 // to a leaf kind or not.
-#[derive(Drop)]
+#[derive(Clone, Copy)]
 pub enum Pass {
     Ends,
     Goes,
@@ -32,7 +32,7 @@ pub enum Pass {
 }
 
 // Where the value comes from, and how many casts to leaf kinds were passed.
-#[derive(Drop)]
+#[derive(Clone, Copy)]
 pub struct Origin {
     pub casts: usize,
     pub walk: Walk,

@@ -23,7 +23,7 @@ use raw::leaf::{LeafValue, leaf_at};
 use walk::walk::Walk;
 
 // Where a value and its type stand, and the edition of the layout that has the type.
-#[derive(Drop)]
+#[derive(Clone, Copy)]
 pub struct Node {
     pub edition: Edition,
     pub data_type: Cursor,
@@ -31,7 +31,7 @@ pub struct Node {
 }
 
 // A number after its casts, or a date-time that is too large.
-#[derive(Drop)]
+#[derive(Clone, Copy)]
 pub enum CastValue {
     Number(Leaf, u64),
     Overflow,
@@ -92,7 +92,7 @@ fn cast_number(plan: &[u8], w: Walk, casts: usize, kind: Leaf, n: u64, skips: &[
 }
 
 // What casts leave: the value as it stands, or what a number becomes.
-#[derive(Drop)]
+#[derive(Clone, Copy)]
 pub enum CastLeaf {
     Same,
     Cast(CastValue),

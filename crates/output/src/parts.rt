@@ -24,7 +24,7 @@ use walk::walk::Walk;
 
 // An answer; or what to ask of the selector's input, or of the innermost mapping's input: none unless there are so many
 // parts, else the count that is known already.
-#[derive(Drop)]
+#[derive(Clone, Copy)]
 pub enum Asked {
     Answer(Parts),
     Input(u32, Parts),

@@ -28,7 +28,7 @@ use walk::walk::Walk;
 
 // A value in the record, by its type in the layout; a constant's value, by its type in the plan; a mapping, of a struct
 // with the number of its selectors. Null: the path leads nowhere. Refused: the walk does not end there.
-#[derive(Drop)]
+#[derive(Clone, Copy)]
 pub enum Source {
     Null,
     Record(Cursor, Cursor),

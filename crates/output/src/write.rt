@@ -17,7 +17,7 @@ use plan::skips::SKIPS;
 use walk::walk::top;
 
 // The output's length; or it exceeds the buffer or 16,384 bytes, and nothing was written.
-#[derive(Drop)]
+#[derive(Clone, Copy)]
 pub enum Written {
     Written(usize),
     TooLong,

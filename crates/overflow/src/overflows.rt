@@ -29,7 +29,7 @@ use walk::walk::Walk;
 const HALF: u64 = 9223372036854775808;
 
 // Where a struct's fields stand: the edition of their layout, the depth left to them, how many, and the first.
-#[derive(Drop)]
+#[derive(Clone, Copy)]
 pub struct FieldsPlace {
     pub edition: Edition,
     pub depth: u8,

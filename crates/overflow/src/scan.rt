@@ -20,14 +20,14 @@ use values::leaf::{Presence, number_at, read_presence};
 use values::read::read_element;
 
 // A null; or a value that is present, such as is wanted.
-#[derive(Drop)]
+#[derive(Clone, Copy)]
 pub enum Sought {
     Null,
     Present(Want),
 }
 
 // What is sought, and the path to it: the numbers of `path` from `from` to `len`.
-#[derive(Drop)]
+#[derive(Clone, Copy)]
 pub struct Search {
     pub sought: Sought,
     pub path: [u16; 64],

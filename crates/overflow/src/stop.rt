@@ -33,7 +33,7 @@ use walk::head::{SelectorHead, head, skip_by};
 use walk::walk::Walk;
 
 // Found or not; or to be asked of the input of the transform, or of the input of the innermost mapping.
-#[derive(Drop)]
+#[derive(Clone, Copy)]
 pub enum Stop {
     No,
     Yes,

@@ -12,7 +12,7 @@ const HALF: u64 = 9223372036854775808;
 const LAST: u64 = 18446744073709551615;
 
 // A count n from `above` on, or -(n + 1) with n from `below` on.
-#[derive(Drop)]
+#[derive(Clone, Copy)]
 pub struct Bounds {
     pub above: u64,
     pub below: u64,
@@ -20,7 +20,7 @@ pub struct Bounds {
 
 // Parts: a struct that is present. Element: a list or array that has an element. Beyond: an overflow, or a date-time
 // whose count, brought to the unit, is beyond the bounds.
-#[derive(Drop)]
+#[derive(Clone, Copy)]
 pub enum Want {
     Parts,
     Element,
@@ -28,7 +28,7 @@ pub enum Want {
 }
 
 // The unit of a leaf that is a date-time.
-#[derive(Drop)]
+#[derive(Clone, Copy)]
 pub enum Timed {
     In(TimeUnit),
     Never,

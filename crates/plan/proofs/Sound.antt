@@ -91,12 +91,32 @@ mutual
   holds-filled {r} (h_struct {p} h a) (cstruct cs) (over-struct f) e = full-struct (hold_filled a cs f (both (allowed p r) e).1)
   holds-filled {r} (h_list {p} h a) (clist l t) (over-list c f) e = full-list (each-filled a l t f (both (allowed p r) e).1)
   holds-filled {r} (h_array {p} h a) (carray w l t) (over-array c f) e = full-array (each-filled a l t f (both (allowed p r) e).1)
+  holds-filled {r = r} (h_number {p = p} {ns = ns} {k = k} {n = n} h) (cstruct cs) f e = elim f [ ]
+  holds-filled {r = r} (h_number {p = p} {ns = ns} {k = k} {n = n} h) (clist l t) f e = elim f [ ]
+  holds-filled {r = r} (h_number {p = p} {ns = ns} {k = k} {n = n} h) (carray w l t) f e = elim f [ ]
+  holds-filled {r = r} (h_text {p = p} {ns = ns} {b = b} h) (cstruct cs) f e = elim f [ ]
+  holds-filled {r = r} (h_text {p = p} {ns = ns} {b = b} h) (clist l t) f e = elim f [ ]
+  holds-filled {r = r} (h_text {p = p} {ns = ns} {b = b} h) (carray w l t) f e = elim f [ ]
+  holds-filled {r = r} (h_over {p = p} {ns = ns} h) (cstruct cs) f e = elim f [ ]
+  holds-filled {r = r} (h_over {p = p} {ns = ns} h) (clist l t) f e = elim f [ ]
+  holds-filled {r = r} (h_over {p = p} {ns = ns} h) (carray w l t) f e = elim f [ ]
+  holds-filled {r = r} (h_struct {p = p} {ns = ns} {vs = vs} h a) (cleaf l) f e = elim f [ ]
+  holds-filled {r = r} (h_struct {p = p} {ns = ns} {vs = vs} h a) (clist l t) f e = elim f [ ]
+  holds-filled {r = r} (h_struct {p = p} {ns = ns} {vs = vs} h a) (carray w l t) f e = elim f [ ]
+  holds-filled {r = r} (h_list {p = p} {ns = ns} {vs = vs} h a) (cleaf l) f e = elim f [ ]
+  holds-filled {r = r} (h_list {p = p} {ns = ns} {vs = vs} h a) (cstruct cs) f e = elim f [ ]
+  holds-filled {r = r} (h_list {p = p} {ns = ns} {vs = vs} h a) (carray w l t) f e = elim f [ ]
+  holds-filled {r = r} (h_array {p = p} {ns = ns} {vs = vs} h a) (cleaf l) f e = elim f [ ]
+  holds-filled {r = r} (h_array {p = p} {ns = ns} {vs = vs} h a) (cstruct cs) f e = elim f [ ]
+  holds-filled {r = r} (h_array {p = p} {ns = ns} {vs = vs} h a) (clist l t) f e = elim f [ ]
 
   hold_filled : {ns : Nullnesses} {vs : Values} → HoldsAll ns vs → (cs : Columns) → FitsAllOver (fields_of cs) vs → meets_all ns cs ≡ true → FilledAll
       required_of cs vs
   hold_filled h_nil cnil f e = full-nil
   hold_filled (h_cons {n} h hs) (ccons l t cs) (over_cons f fs) e =
       let (a, b) = both (meets n l.required t) e in full-cons (holds-filled h t f a) (hold_filled hs cs fs b)
+  hold_filled (h_nil {ns = ns}) (ccons l t cs) f e = elim f [ ]
+  hold_filled (h_cons {n = n} {ns = ns} {v = v} {vs = vs} h hs) cnil f e = elim f [ ]
 
   each-filled : {ns : Nullnesses} {vs : Values} → HoldsEach ns vs → (l : Label) (t : ColumnType) → FitsEachOver (dtype_of t) vs → meets (nullness_at ns 0)
       l.required t ≡ true → FilledEach required_of l.required t vs

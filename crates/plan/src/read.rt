@@ -18,7 +18,7 @@ use values::constant::read_constant_value;
 use values::read::ValueRead;
 
 // A plan's number of selectors, and where they begin.
-#[derive(Drop)]
+#[derive(Clone, Copy)]
 pub enum PlanRead {
     Read(u16, Cursor),
     Refused(u8),

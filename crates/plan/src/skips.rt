@@ -29,14 +29,14 @@ use layout::limits::{DEEPEST_SELECTOR, LONGEST_PLAN};
 pub const SKIPS: usize = 4608;
 
 // So many selectors end there; or none is known.
-#[derive(Drop)]
+#[derive(Clone, Copy)]
 pub struct Skip {
     pub count: u16,
     pub to: usize,
 }
 
 // So many selectors have been passed over since an offset.
-#[derive(Drop)]
+#[derive(Clone, Copy)]
 pub struct Since {
     pub from: Cursor,
     pub count: u16,

@@ -10,7 +10,7 @@ use values::content::{Content, content_of};
 use values::leaf::{Presence, number_at, read_presence};
 
 // The kind and the bit pattern of a number; or a null, a text, a struct, a list or an array.
-#[derive(Drop)]
+#[derive(Clone, Copy)]
 pub enum LeafValue {
     Number(Leaf, u64),
     Other,

@@ -8,7 +8,7 @@ use layout::types::{float_code, integer_code};
 use numeric::floats::Format;
 use numeric::integers::Integer;
 
-#[derive(Drop)]
+#[derive(Clone, Copy)]
 pub enum Class {
     Integer(Integer),
     Float(Format),

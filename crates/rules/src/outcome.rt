@@ -3,7 +3,7 @@ ghost use Rattle.std.specs.Prelude.{◌≡◌};
 ghost use Rattle.rules.specs.code.Answers.{number_of};
 ghost use Rattle.rules.specs.Outcomes.{option_code, option_at};
 
-#[derive(Drop)]
+#[derive(Clone, Copy)]
 pub enum CastOption {
     NonStrict,
     Strict,
@@ -11,7 +11,7 @@ pub enum CastOption {
 }
 
 // Why a leaf pair is refused.
-#[derive(Drop)]
+#[derive(Clone, Copy)]
 pub enum Mismatch {
     NullUpcast,
     IntegerUpcast,
@@ -26,7 +26,7 @@ pub enum Mismatch {
     NoRule,
 }
 
-#[derive(Drop)]
+#[derive(Clone, Copy)]
 pub enum Outcome {
     Untouched,
     Refused(Mismatch),
@@ -34,7 +34,7 @@ pub enum Outcome {
 }
 
 // The option that a plan's byte names.
-#[derive(Drop)]
+#[derive(Clone, Copy)]
 pub enum OptionCode {
     Known(CastOption),
     Unknown,

@@ -9,7 +9,7 @@ use layout::leaf::{Decimal, Leaf};
 
 // How they compare: the same bytes; zones that both count as UTC; the same scale and a larger precision in the target;
 // or none of these.
-#[derive(Drop)]
+#[derive(Clone, Copy)]
 pub enum Params {
     Identical,
     SameAsUtc,

@@ -2,19 +2,19 @@
 ghost use Rattle.std.specs.Prelude.{◌≡◌};
 ghost use Rattle.rules.specs.Policies.{policy_of, all_on, insert_if, ignore_if};
 
-#[derive(Drop)]
+#[derive(Clone, Copy)]
 pub enum MissingColumnsPolicy {
     Insert,
     Raise,
 }
 
-#[derive(Drop)]
+#[derive(Clone, Copy)]
 pub enum ExtraColumnsPolicy {
     Ignore,
     Raise,
 }
 
-#[derive(Drop)]
+#[derive(Clone, Copy)]
 pub struct Policy {
     pub null_upcast: bool,
     pub integer_upcast: bool,

@@ -2,7 +2,7 @@
 use layout::columns::ColumnRange;
 
 // Two layouts and a plan: the columns of both, and how many top selectors there are.
-#[derive(Drop)]
+#[derive(Clone, Copy)]
 pub struct Read {
     pub incoming: ColumnRange,
     pub selectors: u16,

@@ -11,7 +11,7 @@ use layout::columns::ColumnRange;
 use output::write::{Written, hand_over};
 
 // What was written; or one pass does not say, and nothing was.
-#[derive(Drop)]
+#[derive(Clone, Copy)]
 pub enum SinglePass {
     Is(Written),
     Unknown,

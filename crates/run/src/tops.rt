@@ -22,7 +22,7 @@ use transfer::leaf::{Place, Reached};
 use walk::head::skip_selector;
 
 // A top selector, how long the output before it is, and the type of its column in the target.
-#[derive(Drop)]
+#[derive(Clone, Copy)]
 pub struct Top {
     pub selector: Cursor,
     pub len: usize,
@@ -31,21 +31,21 @@ pub struct Top {
 
 // Where a top selector ends, and how long the output is with what it gives, a length past the limit standing for every
 // other; or a strict date-time in what it gives is too large.
-#[derive(Drop)]
+#[derive(Clone, Copy)]
 pub enum TopWritten {
     To(Cursor, usize),
     Overflows,
 }
 
 // The output's length; or a strict date-time anywhere in it is too large.
-#[derive(Drop)]
+#[derive(Clone, Copy)]
 pub enum TopsWritten {
     To(usize),
     Overflows,
 }
 
 // The columns that selectors take, the stride of the tables of where these stand, and the columns that they give.
-#[derive(Drop)]
+#[derive(Clone, Copy)]
 pub struct Tops {
     pub columns: ColumnRange,
     pub stride: u16,

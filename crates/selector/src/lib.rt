@@ -1,5 +1,7 @@
 // The C interface of the column selector: include/selector.h says what a caller must know. Each call is total, answers
 // a number of 64 bits and rests on the crates below.
+#![tactic(auto)]
+
 ghost use Rattle.std.specs.Prelude.{◌≡◌, ◌<◌, length};
 ghost use Rattle.layout.specs.Layout.{layout};
 ghost use Rattle.rules.specs.Policies.{policy_of};

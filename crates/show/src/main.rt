@@ -4,6 +4,8 @@
 // is refused as the library refuses it, with number, place and words. A file that can't be opened counts as empty; of a
 // longer one a byte past its limit is read, which is enough to refuse it. A program's exit status is always 0; the
 // script ./show answers 1 by the first line, where that is a refusal or says that a record needs its layout.
+#![tactic(auto)]
+
 mod dropped;
 mod plans;
 mod scope;

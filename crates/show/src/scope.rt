@@ -11,14 +11,14 @@ use text::out::{put, put_number};
 use walk::head::{SelectorHead, head, skip_selector};
 
 // Which bytes a type stands in.
-#[derive(Drop)]
+#[derive(Clone, Copy)]
 pub enum Source {
     Incoming,
     Plan,
 }
 
 // The number of columns and where they begin; where an element's type begins.
-#[derive(Drop)]
+#[derive(Clone, Copy)]
 pub enum Scope {
     Columns(Source, Edition, u16, Cursor),
     Element(Source, Edition, Cursor),
@@ -26,13 +26,13 @@ pub enum Scope {
 }
 
 // Where a type begins.
-#[derive(Drop)]
+#[derive(Clone, Copy)]
 pub enum Known {
     At(Source, Edition, Cursor),
     Unknown,
 }
 
-#[derive(Drop)]
+#[derive(Clone, Copy)]
 pub enum Column {
     Is(Label, Cursor),
     Absent,

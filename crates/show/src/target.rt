@@ -11,14 +11,14 @@ use layout::types::Head;
 use text::out::put;
 
 // Where the type of what is made begins.
-#[derive(Drop)]
+#[derive(Clone, Copy)]
 pub enum Made {
     At(Edition, Cursor),
     Unknown,
 }
 
 // The number of columns made and where they begin; and the number of the selector that the check refuses.
-#[derive(Drop)]
+#[derive(Clone, Copy)]
 pub enum MadeColumns {
     From(Edition, u16, Cursor),
     Refused(Edition, u16, Cursor, u16),

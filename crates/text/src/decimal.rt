@@ -10,14 +10,14 @@ const HIDDEN: u64 = 0x0010_0000_0000_0000;
 const WORD: u64 = 0x1000_0000_0000_0000;
 
 // significand * 2^exponent, in units of the smallest positive float64, 2^-1074.
-#[derive(Drop)]
+#[derive(Clone, Copy)]
 pub struct Parts {
     pub significand: u64,
     pub exponent: u64,
 }
 
 // whole + high / 2^60 + low / 2^120.
-#[derive(Drop)]
+#[derive(Clone, Copy)]
 pub struct Fixed {
     pub whole: u64,
     pub high: u64,
@@ -25,7 +25,7 @@ pub struct Fixed {
 }
 
 // The first decimal digit of a fraction, and the fraction that follows it.
-#[derive(Drop)]
+#[derive(Clone, Copy)]
 pub struct Digit {
     pub digit: u64,
     pub high: u64,
@@ -33,7 +33,7 @@ pub struct Digit {
 }
 
 // over * 2^60 + under.
-#[derive(Drop)]
+#[derive(Clone, Copy)]
 struct Shifted {
     over: u64,
     under: u64,

@@ -1,5 +1,7 @@
 // What the program `show` writes its lines with: numbers, quoted texts, leaf types and their values, and refusals in
 // words.
+#![tactic(auto)]
+
 pub mod calendar;
 pub mod decimal;
 pub mod floats;

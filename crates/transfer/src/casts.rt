@@ -20,7 +20,7 @@ use nodes::raw::NodeAt;
 use walk::head::{SelectorHead, head, skip_selector};
 
 // What an element's selector does: it casts the element to a kind, or something else.
-#[derive(Drop)]
+#[derive(Clone, Copy)]
 pub enum Each {
     Cast(Leaf),
     Other,

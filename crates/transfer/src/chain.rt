@@ -24,7 +24,7 @@ use raw::leaf::{LeafValue, leaf_at};
 use walk::head::{SelectorHead, head, skip_selector};
 
 // A number of a kind; or the value that was taken, which is no number.
-#[derive(Drop)]
+#[derive(Clone, Copy)]
 pub enum ChainValue {
     Number(Leaf, u64),
     Same,

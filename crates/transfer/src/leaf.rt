@@ -18,14 +18,14 @@ use nodes::raw::NodeAt;
 use raw::copy::{copy_constant, copy_raw, put_null};
 
 // The value that a selector takes, and the edition of its layout.
-#[derive(Drop)]
+#[derive(Clone, Copy)]
 pub struct Node {
     pub edition: Edition,
     pub at: NodeAt,
 }
 
 // A selector, the levels left to it, and where in the output what it gives begins.
-#[derive(Drop)]
+#[derive(Clone, Copy)]
 pub struct Place {
     pub selector: Cursor,
     pub levels: u8,
@@ -33,14 +33,14 @@ pub struct Place {
 }
 
 // Selectors that follow one another.
-#[derive(Drop)]
+#[derive(Clone, Copy)]
 pub struct Selectors {
     pub count: u16,
     pub first: Place,
 }
 
 // Where a selector ends, and where what it gives ends; or it is not settled.
-#[derive(Drop)]
+#[derive(Clone, Copy)]
 pub enum Reached {
     To(Cursor, usize),
     Unknown,

@@ -14,7 +14,7 @@ use nodes::raw::NodeAt;
 use values::leaf::{Presence, read_presence};
 
 // How many columns or elements there are, where their types begin and where their values do.
-#[derive(Drop)]
+#[derive(Clone, Copy)]
 pub enum Opened {
     Null,
     Other,

@@ -9,7 +9,7 @@ use layout::cursor::Cursor;
 use walk::head::{SelectorHead, head};
 
 // The position; or it is that which the input takes.
-#[derive(Drop)]
+#[derive(Clone, Copy)]
 pub enum Taken {
     Position(u16),
     Input(Cursor),

@@ -32,7 +32,7 @@ use values::read::read_element;
 use walk::head::{SelectorHead, head, skip_selector, struct_fields};
 
 // The elements of a list or an array: how many, where their type stands, and where their values begin.
-#[derive(Drop)]
+#[derive(Clone, Copy)]
 pub struct Elements {
     pub edition: Edition,
     pub count: u32,

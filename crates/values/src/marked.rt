@@ -21,7 +21,7 @@ use layout::edition::Edition;
 use layout::parts::TypeParts;
 
 // The edition of the layout in which a type stands, how many levels the type may have, and whether marks count.
-#[derive(Drop)]
+#[derive(Clone, Copy)]
 pub struct Context {
     pub edition: Edition,
     pub depth: u8,
@@ -63,7 +63,7 @@ fn pass_type(lay: &[u8], cx: Context, t: Cursor, c: Cursor, ends: &[u16]) -> Val
 }
 
 // What follows the presence byte of a number whose type is a code alone; or the type is another.
-#[derive(Drop)]
+#[derive(Clone, Copy)]
 enum NumberRead {
     Is(ValueRead),
     Other,

@@ -12,7 +12,7 @@ use layout::cursor::{Cursor, Moved};
 use layout::edition::Edition;
 
 // Where the type ends and where the value ends.
-#[derive(Drop)]
+#[derive(Clone, Copy)]
 pub enum ValueRead {
     To(Cursor, Cursor),
     Refused(u8),

@@ -90,6 +90,8 @@ part_same p_array p_array = (refl, refl)
 
 pub part-some : {B : Type 0} {y : Selector} {k : ℕ} {f : Frame} {t : Selector} → Part y k f t → NoPart y k → B
 part-some (p_field a) (n_field l) = let h = nth-below a in absurd (omega arith)
+part-some {B = B} {k = k} (p_list {s = s} {e = e}) x6 = elim x6 [ ]
+part-some {B = B} {k = k} (p_array {s = s} {e = e}) x7 = elim x7 [ ]
 
 position-input : {B : Type 0} {k : Position} {x : Selector} → Input (position k) x → B
 position-input {B} {k} {x} i = go (position k) refl i

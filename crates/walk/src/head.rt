@@ -17,7 +17,7 @@ use plan::pass::{pass_selector, pass_selectors};
 use rules::outcome::{CastOption, OptionCode, option_of_code};
 
 // A position; a constant's name and where its type begins; of a transform where its input begins.
-#[derive(Drop)]
+#[derive(Clone, Copy)]
 pub enum SelectorHead {
     Position(Position),
     Constant(Span, Cursor),
@@ -30,7 +30,7 @@ pub enum SelectorHead {
 }
 
 // The number of a struct mapping's selectors, and where they begin.
-#[derive(Drop)]
+#[derive(Clone, Copy)]
 pub struct StructFields {
     pub count: u16,
     pub first: Cursor,

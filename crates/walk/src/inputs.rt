@@ -20,7 +20,7 @@ use plan::pass::pass_selectors;
 use plan::skips::known_skip;
 
 // Of the selector at `first + i` the end, or 0 where it is not known.
-#[derive(Drop)]
+#[derive(Clone, Copy)]
 pub struct InputEnds {
     pub first: usize,
     pub ends: [u16; 64],

@@ -20,7 +20,7 @@ use layout::cursor::Cursor;
 
 // The selector at `at` ends at or before `lim`, inside `deep` entered mappings, whose offsets `maps` has. `path` has
 // the number of the part taken of each and after those, up to `len`, what is left of the path.
-#[derive(Drop)]
+#[derive(Clone, Copy)]
 pub struct Walk {
     pub at: usize,
     pub lim: usize,
@@ -31,7 +31,7 @@ pub struct Walk {
 }
 
 // Where a mapping's part stands.
-#[derive(Drop)]
+#[derive(Clone, Copy)]
 pub enum PartFound {
     At(Cursor),
     None,
@@ -39,7 +39,7 @@ pub enum PartFound {
 
 // To the input, into the part that stands there, out of a mapping by the number of a part of its input; or no move is
 // left.
-#[derive(Drop)]
+#[derive(Clone, Copy)]
 pub enum Move {
     Input,
     Enter(Cursor),
