@@ -6,6 +6,7 @@ ghost use Rattle.std.specs.Prelude.{◌<◌};
 use crate::out::{put, put_digits, put_number};
 use layout::leaf::TimeUnit;
 use numeric::round::less;
+use std::io;
 
 const HALF: u64 = 0x8000_0000_0000_0000;
 
@@ -26,47 +27,47 @@ const START: u64 = 9_227_314_926_835_200;
 const LAST: u64 = 0xFFFF_FFFF_FFFF_FFFF;
 
 // With zeros in front, two digits.
-fn put_two(n: u64) {
-    put_number(n / 10 % 10);
-    put_number(n % 10);
+fn put_two(rt: &impl Print, n: u64) -> io::Result<()> {
+    put_number(rt, n / 10 % 10)?;
+    put_number(rt, n % 10)
 }
 
 // Years past 9999 or before 0 have a sign.
-fn put_year(year: u64) {
+fn put_year(rt: &impl Print, year: u64) -> io::Result<()> {
     if year < START_YEAR {
-        put(b"-");
-        return put_padded(START_YEAR - year);
+        put(rt, b"-")?;
+        return put_padded(rt, START_YEAR - year);
     }
     let n = year - START_YEAR;
     if 9999 < n {
-        put(b"+");
+        put(rt, b"+")?;
     }
-    put_padded(n);
+    put_padded(rt, n)
 }
 
 // Four digits or more.
-fn put_padded(n: u64) {
+fn put_padded(rt: &impl Print, n: u64) -> io::Result<()> {
     if 9999 < n {
-        return put_number(n);
+        return put_number(rt, n);
     }
-    put_two(n / 100);
-    put_two(n);
+    put_two(rt, n / 100)?;
+    put_two(rt, n)
 }
 
 // The day of a year that begins in March, as month and day. Five months have 153 days.
-fn put_month_day(day: u64)
+fn put_month_day(rt: &impl Print, day: u64) -> io::Result<()>
     requires { day < 366 }
 {
     let month = (5 * day + 2) / 153;
     let before = (153 * month + 2) / 5;
-    put(b"-");
-    put_two((month + 2) % 12 + 1);
-    put(b"-");
-    put_two(less(day + 1, before));
+    put(rt, b"-")?;
+    put_two(rt, (month + 2) % 12 + 1)?;
+    put(rt, b"-")?;
+    put_two(rt, less(day + 1, before))
 }
 
 // A day, counted from the start. Within 400 years a year's number is its days, without the leap days before, by 365.
-fn put_days(days: u64) {
+fn put_days(rt: &impl Print, days: u64) -> io::Result<()> {
     let in_era = days % ERA;
     let leap_days = less(in_era / 1460 + in_era / 146_096, in_era / 36_524);
     let year_of_era = less(in_era, leap_days) / 365;
@@ -74,16 +75,16 @@ fn put_days(days: u64) {
     let day = less(in_era, before) % 366;
     let year = days / ERA % 2_000_000 * 400 + year_of_era;
     // January and February are the last months of the year that began in March.
-    put_year(year + day / 306);
-    put_month_day(day);
+    put_year(rt, year + day / 306)?;
+    put_month_day(rt, day)
 }
 
 // A number of days since 1970-01-01, by its pattern of 32 bits.
-pub fn put_date(x: u64) {
+pub fn put_date(rt: &impl Print, x: u64) -> io::Result<()> {
     if x < 0x8000_0000 {
-        return put_days(EPOCH + x);
+        return put_days(rt, EPOCH + x);
     }
-    put_days(less(EPOCH - 1, less(0xFFFF_FFFF, x)));
+    put_days(rt, less(EPOCH - 1, less(0xFFFF_FFFF, x)))
 }
 
 // The whole seconds from the start of a count by its pattern, of which `second` are a second. A count below 0 is -(LAST
@@ -109,31 +110,31 @@ fn part_of(x: u64, second: u64) -> u64
 }
 
 // 2023-11-14T22:13:20
-fn put_seconds(seconds: u64) {
-    put_days(seconds / A_DAY);
-    put(b"T");
-    put_two(seconds / 3600 % 24);
-    put(b":");
-    put_two(seconds / 60 % 60);
-    put(b":");
-    put_two(seconds % 60);
-    put(b".");
+fn put_seconds(rt: &impl Print, seconds: u64) -> io::Result<()> {
+    put_days(rt, seconds / A_DAY)?;
+    put(rt, b"T")?;
+    put_two(rt, seconds / 3600 % 24)?;
+    put(rt, b":")?;
+    put_two(rt, seconds / 60 % 60)?;
+    put(rt, b":")?;
+    put_two(rt, seconds % 60)?;
+    put(rt, b".")
 }
 
 // With all the digits of the unit: 2023-11-14T22:13:20.000
-pub fn put_datetime(x: u64, unit: TimeUnit) {
+pub fn put_datetime(rt: &impl Print, x: u64, unit: TimeUnit) -> io::Result<()> {
     match unit {
         TimeUnit::Nanoseconds => {
-            put_seconds(seconds_of(x, 1_000_000_000));
-            put_digits(part_of(x, 1_000_000_000), 9);
+            put_seconds(rt, seconds_of(x, 1_000_000_000))?;
+            put_digits(rt, part_of(x, 1_000_000_000), 9)
         }
         TimeUnit::Microseconds => {
-            put_seconds(seconds_of(x, 1_000_000));
-            put_digits(part_of(x, 1_000_000), 6);
+            put_seconds(rt, seconds_of(x, 1_000_000))?;
+            put_digits(rt, part_of(x, 1_000_000), 6)
         }
         TimeUnit::Milliseconds => {
-            put_seconds(seconds_of(x, 1000));
-            put_digits(part_of(x, 1000), 3);
+            put_seconds(rt, seconds_of(x, 1000))?;
+            put_digits(rt, part_of(x, 1000), 3)
         }
     }
 }

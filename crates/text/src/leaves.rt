@@ -14,69 +14,71 @@ use numeric::floats::Format;
 use numeric::integers::Integer;
 use values::content::{Content, content_of};
 use values::leaf::number_at;
+use std::io;
 
-pub fn put_unit(unit: TimeUnit) {
+pub fn put_unit(rt: &impl Print, unit: TimeUnit) -> io::Result<()> {
     match unit {
-        TimeUnit::Nanoseconds => put(b"ns"),
-        TimeUnit::Microseconds => put(b"us"),
-        TimeUnit::Milliseconds => put(b"ms"),
+        TimeUnit::Nanoseconds => put(rt, b"ns"),
+        TimeUnit::Microseconds => put(rt, b"us"),
+        TimeUnit::Milliseconds => put(rt, b"ms"),
     }
 }
 
-fn put_integer(i: Integer) {
+fn put_integer(rt: &impl Print, i: Integer) -> io::Result<()> {
     match i {
-        Integer::Int8 => put(b"int8"),
-        Integer::Int16 => put(b"int16"),
-        Integer::Int32 => put(b"int32"),
-        Integer::Int64 => put(b"int64"),
-        Integer::UInt8 => put(b"uint8"),
-        Integer::UInt16 => put(b"uint16"),
-        Integer::UInt32 => put(b"uint32"),
-        Integer::UInt64 => put(b"uint64"),
+        Integer::Int8 => put(rt, b"int8"),
+        Integer::Int16 => put(rt, b"int16"),
+        Integer::Int32 => put(rt, b"int32"),
+        Integer::Int64 => put(rt, b"int64"),
+        Integer::UInt8 => put(rt, b"uint8"),
+        Integer::UInt16 => put(rt, b"uint16"),
+        Integer::UInt32 => put(rt, b"uint32"),
+        Integer::UInt64 => put(rt, b"uint64"),
     }
 }
 
-fn put_format(f: Format) {
+fn put_format(rt: &impl Print, f: Format) -> io::Result<()> {
     match f {
-        Format::Binary16 => put(b"float16"),
-        Format::Binary32 => put(b"float32"),
-        Format::Binary64 => put(b"float64"),
+        Format::Binary16 => put(rt, b"float16"),
+        Format::Binary32 => put(rt, b"float32"),
+        Format::Binary64 => put(rt, b"float64"),
     }
 }
 
-fn put_leaf(leaf: Leaf) {
+fn put_leaf(rt: &impl Print, leaf: Leaf) -> io::Result<()> {
     match leaf {
-        Leaf::Null => put(b"null"),
-        Leaf::Boolean => put(b"boolean"),
-        Leaf::Integer(i) => put_integer(i),
-        Leaf::Float(f) => put_format(f),
-        Leaf::Date => put(b"date"),
+        Leaf::Null => put(rt, b"null"),
+        Leaf::Boolean => put(rt, b"boolean"),
+        Leaf::Integer(i) => put_integer(rt, i),
+        Leaf::Float(f) => put_format(rt, f),
+        Leaf::Date => put(rt, b"date"),
         Leaf::Datetime(unit) => {
-            put(b"date-time ");
-            put_unit(unit);
+            put(rt, b"date-time ")?;
+            put_unit(rt, unit)
         }
-        Leaf::String => put(b"string"),
-        Leaf::Binary => put(b"binary"),
-        Leaf::Categorical => put(b"category"),
+        Leaf::String => put(rt, b"string"),
+        Leaf::Binary => put(rt, b"binary"),
+        Leaf::Categorical => put(rt, b"category"),
         Leaf::Decimal(d) => {
-            put(b"decimal(");
-            put_number(d.precision as u64);
-            put(b",");
-            put_number(d.scale as u64);
-            put(b")");
+            put(rt, b"decimal(")?;
+            put_number(rt, d.precision as u64)?;
+            put(rt, b",")?;
+            put_number(rt, d.scale as u64)?;
+            put(rt, b")")
         }
     }
 }
 
 // The zone stands in `s`.
-pub fn put_leaf_type(s: &[u8], l: LeafType) {
+pub fn put_leaf_type(rt: &impl Print, s: &[u8], l: LeafType) -> io::Result<()> {
     let leaf = l.leaf;
     let zone = l.zone;
-    put_leaf(leaf);
+    put_leaf(rt, leaf)?;
     if zone.len != 0 {
-        put(b" ");
-        put_span(s, zone);
+        put(rt, b" ")?;
+        put_span(rt, s, zone)?;
     }
+    Ok(())
 }
 
 // The bit pattern of a number of `w` bytes; 0 where they are not there.
@@ -96,14 +98,15 @@ fn pattern(s: &[u8], at: usize, w: usize) -> u64
 }
 
 // A signed number by its bit pattern, of which `half` is the first negative one.
-fn put_signed(x: u64, half: u64) {
+fn put_signed(rt: &impl Print, x: u64, half: u64) -> io::Result<()> {
     if x < half {
-        return put_number(x);
+        return put_number(rt, x);
     }
     if x - half < half {
-        put(b"-");
-        put_number(magnitude(x, half));
+        put(rt, b"-")?;
+        put_number(rt, magnitude(x, half))?;
     }
+    Ok(())
 }
 
 // Of a negative number, whose pattern is below twice `half`.
@@ -116,100 +119,103 @@ fn magnitude(x: u64, half: u64) -> u64
 }
 
 // A magnitude with its point: 12340 at scale 3 is 12.340.
-fn put_scaled(m: u64, scale: u8) {
+fn put_scaled(rt: &impl Print, m: u64, scale: u8) -> io::Result<()> {
     if scale == 0 {
-        return put_number(m);
+        return put_number(rt, m);
     }
     if 18 < scale {
-        return put_number(m);
+        return put_number(rt, m);
     }
     let digits = scale as usize;
-    put_number(m / power_of_ten(digits));
-    put(b".");
-    put_digits(m, digits);
+    put_number(rt, m / power_of_ten(digits))?;
+    put(rt, b".")?;
+    put_digits(rt, m, digits)
 }
 
-fn put_decimal(x: u64, scale: u8) {
+fn put_decimal(rt: &impl Print, x: u64, scale: u8) -> io::Result<()> {
     let half = 0x8000_0000_0000_0000;
     if x < half {
-        return put_scaled(x, scale);
+        return put_scaled(rt, x, scale);
     }
-    put(b"-");
-    put_scaled(magnitude(x, half), scale);
+    put(rt, b"-")?;
+    put_scaled(rt, magnitude(x, half), scale)
 }
 
-fn put_integer_pattern(i: Integer, x: u64) {
+fn put_integer_pattern(rt: &impl Print, i: Integer, x: u64) -> io::Result<()> {
     match i {
-        Integer::Int8 => put_signed(x, 0x80),
-        Integer::Int16 => put_signed(x, 0x8000),
-        Integer::Int32 => put_signed(x, 0x8000_0000),
-        Integer::Int64 => put_signed(x, 0x8000_0000_0000_0000),
-        _ => put_number(x),
+        Integer::Int8 => put_signed(rt, x, 0x80),
+        Integer::Int16 => put_signed(rt, x, 0x8000),
+        Integer::Int32 => put_signed(rt, x, 0x8000_0000),
+        Integer::Int64 => put_signed(rt, x, 0x8000_0000_0000_0000),
+        _ => put_number(rt, x),
     }
 }
 
 // Floats have as many significant digits as IEEE 754 asks for to tell any two of a format apart.
-fn put_float_pattern(f: Format, x: u64) {
+fn put_float_pattern(rt: &impl Print, f: Format, x: u64) -> io::Result<()> {
     match f {
-        Format::Binary16 => put_float(x, f, 5, 4),
-        Format::Binary32 => put_float(x, f, 9, 8),
-        Format::Binary64 => put_float(x, f, 17, 16),
+        Format::Binary16 => put_float(rt, x, f, 5, 4),
+        Format::Binary32 => put_float(rt, x, f, 9, 8),
+        Format::Binary64 => put_float(rt, x, f, 17, 16),
     }
 }
 
-fn put_pattern(leaf: Leaf, x: u64) {
+fn put_pattern(rt: &impl Print, leaf: Leaf, x: u64) -> io::Result<()> {
     match leaf {
-        Leaf::Integer(i) => put_integer_pattern(i, x),
-        Leaf::Float(f) => put_float_pattern(f, x),
+        Leaf::Integer(i) => put_integer_pattern(rt, i, x),
+        Leaf::Float(f) => put_float_pattern(rt, f, x),
         Leaf::Date => {
-            put(b"day ");
-            put_signed(x, 0x8000_0000);
-            put(b" (");
-            put_date(x);
-            put(b")");
+            put(rt, b"day ")?;
+            put_signed(rt, x, 0x8000_0000)?;
+            put(rt, b" (")?;
+            put_date(rt, x)?;
+            put(rt, b")")
         }
         Leaf::Datetime(unit) => {
-            put_signed(x, 0x8000_0000_0000_0000);
-            put(b" ");
-            put_unit(unit);
-            put(b" (");
-            put_datetime(x, unit);
-            put(b")");
+            put_signed(rt, x, 0x8000_0000_0000_0000)?;
+            put(rt, b" ")?;
+            put_unit(rt, unit)?;
+            put(rt, b" (")?;
+            put_datetime(rt, x, unit)?;
+            put(rt, b")")
         }
-        Leaf::Decimal(d) => put_decimal(x, d.scale),
-        _ => put_number(x),
+        Leaf::Decimal(d) => put_decimal(rt, x, d.scale),
+        _ => put_number(rt, x),
     }
 }
 
-fn put_flag(s: &[u8], c: Cursor) {
+fn put_flag(rt: &impl Print, s: &[u8], c: Cursor) -> io::Result<()> {
     if let Step::Byte(b, _) = c.byte(s) {
         if b == 0 {
-            put(b"false");
+            put(rt, b"false")?;
         } else {
-            put(b"true");
+            put(rt, b"true")?;
         }
     }
+    Ok(())
 }
 
-fn put_long_text(s: &[u8], c: Cursor) {
+fn put_long_text(rt: &impl Print, s: &[u8], c: Cursor) -> io::Result<()> {
     if let Short::Is(n, d) = c.short(s) {
         put_span(
+            rt,
             s,
             Span {
                 start: d.at,
                 len: n as usize,
             },
-        );
+        )?;
     }
+    Ok(())
 }
 
 // What follows the presence byte of a leaf that is present.
-pub fn put_leaf_value(s: &[u8], leaf: Leaf, c: Cursor) {
+pub fn put_leaf_value(rt: &impl Print, s: &[u8], leaf: Leaf, c: Cursor) -> io::Result<()> {
     match content_of(leaf) {
-        Content::Nothing => put(b"null"),
-        Content::Flag => put_flag(s, c),
-        Content::Number(w) => put_pattern(leaf, pattern(s, c.at, w as usize)),
-        Content::Decimal(_) => put_pattern(leaf, pattern(s, c.at, 8)),
-        Content::Text => put_long_text(s, c),
+        Content::Nothing => put(rt, b"null"),
+        Content::Flag => put_flag(rt, s, c),
+        Content::Number(w) => put_pattern(rt, leaf, pattern(s, c.at, w as usize)),
+        Content::Decimal(_) => put_pattern(rt, leaf, pattern(s, c.at, 8)),
+        Content::Text => put_long_text(rt, s, c),
     }
 }

@@ -3,41 +3,47 @@ ghost use Rattle.std.specs.Prelude.{◌+◌, ◌≤◌, min, ◌≡◌, length};
 
 use crate::utf8::plain_len;
 use layout::bytes::Span;
-use libc::STDOUT_FILENO;
 use numeric::decimals::power_of_ten;
+use std::io;
 
-pub fn put(text: &[u8]) {
-    io::write_all(STDOUT_FILENO, text);
+pub fn put(rt: &impl Print, text: &[u8]) -> io::Result<()> {
+    rt.write_all(text)
 }
 
-pub fn put_number(n: u64) {
-    io::print_decimal(STDOUT_FILENO, n);
+pub fn put_number(rt: &impl Print, n: u64) -> io::Result<()> {
+    rt.print(n)
 }
 
-// With zeros in front, up to as many digits.
-pub fn put_hex(n: u64, digits: usize) {
-    io::print_hex(STDOUT_FILENO, n, digits);
+// With zeros in front, up to as many digits, of which there is one at least and are 16 at most.
+pub fn put_hex(rt: &impl Print, n: u64, digits: usize) -> io::Result<()> {
+    if digits < 16 {
+        rt.print(format_args!("{n:0digits$x}"))
+    } else {
+        rt.print(format_args!("{n:016x}"))
+    }
 }
 
 // The last digits of a number, with zeros in front.
-pub fn put_digits(m: u64, count: usize)
+pub fn put_digits(rt: &impl Print, m: u64, count: usize) -> io::Result<()>
     requires { count ≤ 18 }
 {
     let mut i = count;
     while 0 < i {
         i -= 1;
-        put_number(m / power_of_ten(i) % 10);
+        put_number(rt, m / power_of_ten(i) % 10)?;
     }
+    Ok(())
 }
 
 // A number and what it counts: 1 field, 2 fields.
-pub fn put_count(n: u64, what: &[u8]) {
-    put_number(n);
-    put(b" ");
-    put(what);
+pub fn put_count(rt: &impl Print, n: u64, what: &[u8]) -> io::Result<()> {
+    put_number(rt, n)?;
+    put(rt, b" ")?;
+    put(rt, what)?;
     if n != 1 {
-        put(b"s");
+        put(rt, b"s")?;
     }
+    Ok(())
 }
 
 // One level more, as far as there is one.
@@ -48,12 +54,13 @@ pub fn deeper(level: u8) -> u8
 }
 
 // The spaces that a line of a level begins with.
-pub fn put_indent(level: u8) {
+pub fn put_indent(rt: &impl Print, level: u8) -> io::Result<()> {
     let mut i: u8 = 0;
     while i < level {
-        put(b"    ");
+        put(rt, b"    ")?;
         i += 1;
     }
+    Ok(())
 }
 
 // The first place from `at` on where no letter stands that is written as it is, or else the end.
@@ -73,37 +80,37 @@ fn plain_end(s: &[u8], at: usize) -> usize
     i
 }
 
-fn put_escaped(b: u8) {
-    put(b"\\x");
-    put_hex(b as u64, 2);
+fn put_escaped(rt: &impl Print, b: u8) -> io::Result<()> {
+    put(rt, b"\\x")?;
+    put_hex(rt, b as u64, 2)
 }
 
 // In quotes; a quote, a backslash, what is no UTF-8 and letters that can't be seen byte by byte, as \x and two digits.
-pub fn put_text(s: &[u8]) {
-    put(b"\"");
+pub fn put_text(rt: &impl Print, s: &[u8]) -> io::Result<()> {
+    put(rt, b"\"")?;
     let mut at: usize = 0;
     while at < s.len() {
         let end = plain_end(s, at);
-        put(&s[at..end]);
+        put(rt, &s[at..end])?;
         if end < s.len() {
-            put_escaped(s[end]);
+            put_escaped(rt, s[end])?;
             at = end + 1;
         } else {
             at = end;
         }
     }
-    put(b"\"");
+    put(rt, b"\"")
 }
 
 // The text that stands at a span of `s`, if it lies inside.
-pub fn put_span(s: &[u8], span: Span) {
+pub fn put_span(rt: &impl Print, s: &[u8], span: Span) -> io::Result<()> {
     let start = span.start;
     let len = span.len;
     if s.len() < start {
-        return;
+        return Ok(());
     }
     if s.len() - start < len {
-        return;
+        return Ok(());
     }
-    put_text(&s[start..start + len]);
+    put_text(rt, &s[start..start + len])
 }
