@@ -12,9 +12,9 @@ use layout::types::LeafType;
 use numeric::decimals::power_of_ten;
 use numeric::floats::Format;
 use numeric::integers::Integer;
+use std::io;
 use values::content::{Content, content_of};
 use values::leaf::number_at;
-use std::io;
 
 pub fn put_unit(rt: &impl Print, unit: TimeUnit) -> io::Result<()> {
     match unit {

@@ -39,7 +39,10 @@ fn put_table_reading(rt: &impl Print, number: u8) -> io::Result<()> {
 fn put_building(rt: &impl Print, number: u8) -> io::Result<()> {
     match number {
         10 => put(rt, b"a layout of the wrong version"),
-        11 => put(rt, b"a target column has no counterpart, and missing columns are not inserted"),
+        11 => put(
+            rt,
+            b"a target column has no counterpart, and missing columns are not inserted",
+        ),
         12 => put(rt, b"a struct repeats a field's name"),
         13 => put(
             rt,
@@ -66,8 +69,14 @@ fn put_matching(rt: &impl Print, number: u8) -> io::Result<()> {
         22 => put(rt, b"a change of time unit is not allowed"),
         23 => put(rt, b"a cast of a category to a string is not allowed"),
         24 => put(rt, b"no rule takes the one type to the other"),
-        25 => put(rt, b"the elements of two lists or arrays have different ids"),
-        26 => put(rt, b"the default wanted is a partition's value that could not be loaded"),
+        25 => put(
+            rt,
+            b"the elements of two lists or arrays have different ids",
+        ),
+        26 => put(
+            rt,
+            b"the default wanted is a partition's value that could not be loaded",
+        ),
         27 => put(rt, b"the plan is longer than the buffer or 65536 bytes"),
         28 => put(rt, b"the default taken has a type unlike the field's"),
         _ => put_unknown(rt),
@@ -83,7 +92,10 @@ fn put_checking(rt: &impl Print, number: u8) -> io::Result<()> {
             rt,
             b"a transform does not fit its input, or its result is too deep or too large a type",
         ),
-        33 => put(rt, b"names, types or count of the columns made differ from the target's"),
+        33 => put(
+            rt,
+            b"names, types or count of the columns made differ from the target's",
+        ),
         _ => put_unknown(rt),
     }
 }
@@ -108,9 +120,18 @@ fn put_requested(rt: &impl Print, number: u8) -> io::Result<()> {
             rt,
             b"a decimal's precision is not 1 to 18, or its scale is larger than its precision",
         ),
-        51 => put(rt, b"a cast to a decimal of larger precision is not allowed"),
-        52 => put(rt, b"a decimal of the record has more digits than its precision"),
-        53 => put(rt, b"an incoming column has no counterpart, and extra columns are not ignored"),
+        51 => put(
+            rt,
+            b"a cast to a decimal of larger precision is not allowed",
+        ),
+        52 => put(
+            rt,
+            b"a decimal of the record has more digits than its precision",
+        ),
+        53 => put(
+            rt,
+            b"an incoming column has no counterpart, and extra columns are not ignored",
+        ),
         54 => put(rt, b"a required field would be filled with null"),
         55 => put(rt, b"an optional field meets a required one"),
         56 => put(rt, b"null in a required field of the record"),

@@ -12,8 +12,11 @@ returns-then-k-le60 c =
 
 pub returns-then-k-le120 : goal.returns-then-k-le120
 returns-then-k-le120 c =
-    unfold one count in record { low_value = upper word c.shift-s-then-k-le120.result.over c.shift-s-then-k-le120.result.under _ c.shift-s-then-k-le120.ensures.under_value ∙ raised
-          c.args.m c.args.k 60 (omega arith); words = (omega arith) }
+    unfold one count in record {
+      low_value = upper word c.shift-s-then-k-le120.result.over c.shift-s-then-k-le120.result.under _ c.shift-s-then-k-le120.ensures.under_value ∙ raised
+          c.args.m c.args.k 60 (omega arith);
+      words = (omega arith);
+    }
 
 pub overflow_mul-result : goal.overflow_mul-result
 overflow_mul-result c =
@@ -25,5 +28,8 @@ overflow_mul-result c =
 
 pub returns : goal.returns
 returns c =
-    unfold one count in record { low_value = top c.args.m c.args.k c.power.result c.power.ensures
-          (omega arith); words = (omega arith) }
+    unfold one count in record {
+      low_value = top c.args.m c.args.k c.power.result c.power.ensures
+          (omega arith);
+      words = (omega arith);
+    }

@@ -7,5 +7,5 @@ use native.Mathlib.Omega.{arith}
 use Rattle.text.proofs.floats.put_fixed.Goals as goal
 
 pub put_small-requires : goal.put_small-requires
-put_small-requires c =
+put_small-requires g c =
     let h : c.args.f.high + c.args.f.low ≡ 0 → ⊥ = eqb-false (c.args.f.high + c.args.f.low) 0 (sym c.is_zero.ensures ∙ c.if-is_zero.false) in record { words = c.requires; low_nonzero = omega arith }

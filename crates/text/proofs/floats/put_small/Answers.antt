@@ -8,9 +8,9 @@ use Rattle.text.specs.code.Decimal.{one, count, Words}
 use Rattle.text.proofs.floats.put_small.Goals as goal
 
 pub loop-d-smaller : goal.loop-d-smaller
-loop-d-smaller c =
+loop-d-smaller g c =
     closer c.loop-d.a c.loop-d.b c.next_digit-d.result.digit c.next_digit-d.result.high c.next_digit-d.result.low (omega arith) c.next_digit-d.ensures.low_value c.loop-d.invariant.1 c.next_digit-d.ensures.words
 
 pub loop-d-preserved : goal.loop-d-preserved
-loop-d-preserved c =
+loop-d-preserved g c =
     (c.next_digit-d.ensures.words, still_some c.loop-d.a c.loop-d.b c.next_digit-d.result.digit c.next_digit-d.result.high c.next_digit-d.result.low (omega arith) c.next_digit-d.ensures.low_value c.loop-d.invariant.1)

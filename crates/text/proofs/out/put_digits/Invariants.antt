@@ -3,7 +3,7 @@ use borrow.Author.Rules.{rules}
 use Rattle.text.proofs.out.put_digits.Given as goal
 
 abbrev pub invariant-loop-i : goal.invariant-loop-i
-invariant-loop-i l = l.i ≤ 18
+invariant-loop-i g l = l.i ≤ 18
 
 abbrev pub decreases-loop-i : goal.decreases-loop-i
-decreases-loop-i l = l.i
+decreases-loop-i g l = l.i
