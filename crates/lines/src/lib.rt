@@ -2,7 +2,6 @@
 #![tactic(auto)]
 
 ghost use Rattle.std.specs.Prelude.{◌≤◌, length};
-ghost use Rattle.io.specs.Counts.{IsPrefixLen};
 
 // Where a word stands.
 #[derive(Clone, Copy)]
@@ -154,7 +153,7 @@ fn least(a: usize, b: usize) -> usize
 
 // Puts the bytes of a word that is hexadecimal at the start of `out`, as far as they fit, and answers how many.
 fn decode(s: &[u8], out: &mut [u8]) -> usize
-    ensures { IsPrefixLen result out.new }
+    ensures { result ≤ length out.new }
 {
     let n = least(s.len() / 2, out.len());
     let mut i = 0;
@@ -172,7 +171,7 @@ pub fn has_bytes(line: &[u8], k: usize, most: usize) -> bool {
 
 // Puts the bytes of word `k` at the start of `out`, and answers how many.
 pub fn take_bytes(line: &[u8], k: usize, out: &mut [u8]) -> usize
-    ensures { IsPrefixLen result out.new }
+    ensures { result ≤ length out.new }
 {
     decode(word(line, k), out)
 }
@@ -214,7 +213,7 @@ pub fn number(s: &[u8]) -> Decimal {
 
 // The length of a buffer that word `k` gives, as far as `buffer` goes.
 pub fn room_in(line: &[u8], k: usize, buffer: &[u8]) -> usize
-    ensures { IsPrefixLen result buffer.now }
+    ensures { result ≤ length buffer.now }
 {
     match number(word(line, k)) {
         Decimal::Is(n) => least(n as usize, buffer.len()),
