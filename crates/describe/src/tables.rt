@@ -9,103 +9,115 @@ use defaults::types::{LeafRead, read_leaf_type};
 use layout::columns::FieldId;
 use layout::cursor::{Cursor, Moved, Short, Step};
 use layout::edition::Edition;
+use std::io;
 use text::leaves::put_leaf_type;
 use text::out::{put, put_count, put_number};
 use text::words::put_table_refusal;
 
-fn put_initial(s: &[u8], c: Cursor) {
-    put(b"initial ");
+fn put_initial(rt: &impl Print, s: &[u8], c: Cursor) -> io::Result<()> {
+    put(rt, b"initial ")?;
     if let LeafRead::Is(l, d) = read_leaf_type(s, c) {
-        put_leaf_type(s, l);
-        put_value(s, Edition::One, 16, c, s, d, 0);
+        put_leaf_type(rt, s, l)?;
+        put_value(rt, s, Edition::One, 16, c, s, d, 0)?;
     }
+    Ok(())
 }
 
 // `n` values from `c` of the type at `t`.
-fn put_each(s: &[u8], t: Cursor, n: u16, c: Cursor) {
+fn put_each(rt: &impl Print, s: &[u8], t: Cursor, n: u16, c: Cursor) -> io::Result<()> {
     let mut d = c;
     let mut i: u16 = 0;
     while i < n {
-        put_start(i as u64, 1);
-        put_type(s, Edition::One, 16, t);
-        let Moved::To(end) = put_value(s, Edition::One, 16, t, s, d, 1) else {
-            return;
+        put_start(rt, i as u64, 1)?;
+        put_type(rt, s, Edition::One, 16, t)?;
+        let Moved::To(end) = put_value(rt, s, Edition::One, 16, t, s, d, 1)? else {
+            return Ok(());
         };
         d = end;
         i += 1;
     }
+    Ok(())
 }
 
-fn put_loaded(s: &[u8], c: Cursor) {
-    put(b"loaded ");
+fn put_loaded(rt: &impl Print, s: &[u8], c: Cursor) -> io::Result<()> {
+    put(rt, b"loaded ")?;
     let LeafRead::Is(l, d) = read_leaf_type(s, c) else {
-        return;
+        return Ok(());
     };
     let Short::Is(n, e) = d.short(s) else {
-        return;
+        return Ok(());
     };
-    put_leaf_type(s, l);
-    put(b": ");
-    put_count(n as u64, b"value");
-    put(b"\n");
-    put_each(s, c, n, e);
+    put_leaf_type(rt, s, l)?;
+    put(rt, b": ")?;
+    put_count(rt, n as u64, b"value")?;
+    put(rt, b"\n")?;
+    put_each(rt, s, c, n, e)
 }
 
-fn put_partition(s: &[u8], c: Cursor) {
-    put(b"partition, ");
+fn put_partition(rt: &impl Print, s: &[u8], c: Cursor) -> io::Result<()> {
+    put(rt, b"partition, ")?;
     if let Step::Byte(b, d) = c.byte(s) {
         if b == 0 {
-            put_loaded(s, d);
+            put_loaded(rt, s, d)?;
         } else {
-            put(b"failed\n");
+            put(rt, b"failed\n")?;
         }
     }
+    Ok(())
 }
 
-fn put_owner(owner: Owner) {
+fn put_owner(rt: &impl Print, owner: Owner) -> io::Result<()> {
     if let Owner::Only(n) = owner {
-        put(b"owner ");
-        put_number(n as u64);
-        put(b"  ");
+        put(rt, b"owner ")?;
+        put_number(rt, n as u64)?;
+        put(rt, b"  ")?;
     }
+    Ok(())
 }
 
-fn put_entry(s: &[u8], id: FieldId, kind: EntryKind, c: Cursor) {
-    put(b"id ");
-    put_number(id.0 as u64);
-    put(b"  ");
+fn put_entry(rt: &impl Print, s: &[u8], id: FieldId, kind: EntryKind, c: Cursor) -> io::Result<()> {
+    put(rt, b"id ")?;
+    put_number(rt, id.0 as u64)?;
+    put(rt, b"  ")?;
     match kind {
-        EntryKind::Initial => put_initial(s, c),
-        EntryKind::Partition => put_partition(s, c),
+        EntryKind::Initial => put_initial(rt, s, c),
+        EntryKind::Partition => put_partition(rt, s, c),
     }
 }
 
-fn put_heading(n: u16) {
-    put(b"defaults, ");
-    put_number(n as u64);
+fn put_heading(rt: &impl Print, n: u16) -> io::Result<()> {
+    put(rt, b"defaults, ")?;
+    put_number(rt, n as u64)?;
     if n == 1 {
-        put(b" entry\n");
+        put(rt, b" entry\n")
     } else {
-        put(b" entries\n");
+        put(rt, b" entries\n")
     }
 }
 
 // `n` entries from `c`.
-fn put_entries(s: &[u8], version: TableVersion, n: u16, c: Cursor) {
+fn put_entries(
+    rt: &impl Print,
+    s: &[u8],
+    version: TableVersion,
+    n: u16,
+    c: Cursor,
+) -> io::Result<()> {
     let mut d = c;
     let mut i: u16 = 0;
     while i < n {
         let EntryRead::Is(owner, id, kind, given, end) = read_entry(s, version, d) else {
-            return;
+            return Ok(());
         };
-        put_owner(owner);
-        put_entry(s, id, kind, given);
+        put_owner(rt, owner)?;
+        put_entry(rt, s, id, kind, given)?;
         d = end;
         i += 1;
     }
+    Ok(())
 }
 
-pub fn put_table(s: &[u8]) {
+pub fn put_table(rt: &impl Print, s: &[u8]) -> io::Result<()> {
     let mut index = [0u16; 3384];
     match read_table(s, &mut index) {
         TableRead::Read {
@@ -113,9 +125,9 @@ pub fn put_table(s: &[u8]) {
             count,
             entries,
         } => {
-            put_heading(count);
-            put_entries(s, version, count, entries);
+            put_heading(rt, count)?;
+            put_entries(rt, s, version, count, entries)
         }
-        TableRead::Refused(k) => put_table_refusal(k),
+        TableRead::Refused(k) => put_table_refusal(rt, k),
     }
 }

@@ -3,34 +3,37 @@ use layout::columns::Labelled;
 use layout::cursor::Cursor;
 use layout::edition::Edition;
 use layout::types::Head;
+use std::io;
 use text::leaves::put_leaf_type;
 use text::out::{put, put_count, put_number};
 
 // The type at `c`.
-pub fn put_type(s: &[u8], v: Edition, depth: u8, c: Cursor) {
+pub fn put_type(rt: &impl Print, s: &[u8], v: Edition, depth: u8, c: Cursor) -> io::Result<()> {
     if depth == 0 {
-        return;
+        return Ok(());
     }
     match c.head(s) {
-        Head::Leaf(l, _) => put_leaf_type(s, l),
+        Head::Leaf(l, _) => put_leaf_type(rt, s, l),
         Head::Struct(n, _) => {
-            put(b"struct of ");
-            put_count(n as u64, b"field");
+            put(rt, b"struct of ")?;
+            put_count(rt, n as u64, b"field")
         }
         Head::List(d) => {
-            put(b"list of ");
+            put(rt, b"list of ")?;
             if let Labelled::Is(_, e) = d.element_label(s, v) {
-                put_type(s, v, depth - 1, e);
+                put_type(rt, s, v, depth - 1, e)?;
             }
+            Ok(())
         }
         Head::Array(w, d) => {
-            put(b"array of ");
-            put_number(w as u64);
-            put(b" of ");
+            put(rt, b"array of ")?;
+            put_number(rt, w as u64)?;
+            put(rt, b" of ")?;
             if let Labelled::Is(_, e) = d.element_label(s, v) {
-                put_type(s, v, depth - 1, e);
+                put_type(rt, s, v, depth - 1, e)?;
             }
+            Ok(())
         }
-        Head::Refused(_) => put(b"?"),
+        Head::Refused(_) => put(rt, b"?"),
     }
 }

@@ -1,0 +1,6 @@
+use borrow.Author.Rules.{rules}
+use Prim.Native.Nat.{ℕ, ◌<◌}
+use Rattle.describe.proofs.types.+put_type.Given as goal
+
+abbrev pub decreases-put_type : goal.decreases-put_type
+decreases-put_type g l = l.depth
