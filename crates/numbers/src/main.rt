@@ -6,10 +6,11 @@
 
 ghost use Rattle.std.specs.Prelude.{◌+◌, ◌≤◌, ◌<◌, length};
 
-use libc::{STDIN_FILENO, STDOUT_FILENO};
+use files::read_full;
 use numeric::floats::Format;
 use numeric::integers::Integer;
 use numeric::times::Finer;
+use std::io;
 
 fn integer(code: u8) -> Integer {
     match code {
@@ -51,15 +52,10 @@ fn answer(op: u8, from: u8, to: u8, b: u64) -> Finer {
     }
 }
 
-fn print_line(f: Finer) {
+fn print_line(rt: &impl Print, f: Finer) -> io::Result<()> {
     match f {
-        Finer::Count(n) => {
-            io::print_hex(STDOUT_FILENO, n, 16);
-            io::write_all(STDOUT_FILENO, b"\n");
-        }
-        Finer::TooLarge => {
-            io::write_all(STDOUT_FILENO, b"too large\n");
-        }
+        Finer::Count(n) => println!(rt; "{n:016x}"),
+        Finer::TooLarge => println!(rt; "too large"),
     }
 }
 
@@ -83,23 +79,24 @@ fn number(s: &[u8], at: usize) -> u64
     low + high * 4294967296
 }
 
-fn run(s: &[u8]) {
+fn run(rt: &impl Print, s: &[u8]) -> io::Result<()> {
     let mut at: usize = 0;
     while 16 <= s.len() - at {
-        print_line(answer(s[at], s[at + 1], s[at + 2], number(s, at + 8)));
+        print_line(rt, answer(s[at], s[at + 1], s[at + 2], number(s, at + 8)))?;
         at += 16;
     }
+    Ok(())
 }
 
 // One buffer of the list: it holds 4,096 whole records.
-fn replay(buf: &mut [u8]) {
-    let n = io::read_full(STDIN_FILENO, buf);
-    run(&buf[..n]);
+fn replay(rt: &(impl Input + Print), buf: &mut [u8]) -> io::Result<()> {
+    let n = read_full(&mut rt.reader(), buf);
+    run(rt, &buf[..n])
 }
 
-fn main() {
-    let mut buf = io::large_buffer();
-    replay(&mut buf);
-    replay(&mut buf);
-    replay(&mut buf);
+fn main(rt: HostRuntime) -> io::Result<()> {
+    let mut buf = [0u8; 65536];
+    replay(&rt, &mut buf)?;
+    replay(&rt, &mut buf)?;
+    replay(&rt, &mut buf)
 }
