@@ -3,36 +3,48 @@
 // its limit is read, which is enough to refuse it.
 #![tactic(auto)]
 
+ghost use Rattle.std.specs.Prelude.{◌≤◌, length};
+
 use files::read_file;
-use libc::STDOUT_FILENO;
+use std::io;
+
+// How many bytes an answer's lower half names, as far as `output` goes.
+fn count(n: usize, output: &[u8]) -> usize
+    ensures { result ≤ length output.now }
+{
+    if n < output.len() { n } else { output.len() }
+}
 
 // `answer` is that of `selector_run`.
-fn report(answer: u64, output: &[u8]) {
+fn report(rt: &impl Print, answer: u64, output: &[u8]) -> io::Result<()> {
     let number = answer / 0x1_0000_0000;
     if number == 0 {
-        let n = io::count((answer % 0x1_0000_0000) as isize, output);
-        io::write_all(STDOUT_FILENO, &output[..n]);
-        return;
+        let n = count((answer % 0x1_0000_0000) as usize, output);
+        return rt.write_all(&output[..n]);
     }
-    io::write_all(STDOUT_FILENO, b"refused ");
-    io::print_decimal(STDOUT_FILENO, number);
-    io::write_all(STDOUT_FILENO, b"\n");
+    println!(rt; "refused {number}")
 }
 
-fn run(incoming: &[u8], target: &[u8], plan: &[u8], record: &[u8]) {
+fn run(
+    rt: &impl Print,
+    incoming: &[u8],
+    target: &[u8],
+    plan: &[u8],
+    record: &[u8],
+) -> io::Result<()> {
     let mut output = [0u8; 16384];
     let answer = selector::selector_run(incoming, target, plan, record, &mut output);
-    report(answer, &output);
+    report(rt, answer, &output)
 }
 
-fn main() {
+fn main(rt: HostRuntime) -> io::Result<()> {
     let mut incoming = [0u8; 16385];
-    let a = read_file(b"incoming.lay", &mut incoming);
+    let a = read_file(&rt, b"incoming.lay", &mut incoming);
     let mut target = [0u8; 16385];
-    let b = read_file(b"target.lay", &mut target);
+    let b = read_file(&rt, b"target.lay", &mut target);
     let mut plan = [0u8; 65537];
-    let c = read_file(b"plan.pln", &mut plan);
+    let c = read_file(&rt, b"plan.pln", &mut plan);
     let mut record = [0u8; 16385];
-    let d = read_file(b"record.bin", &mut record);
-    run(&incoming[..a], &target[..b], &plan[..c], &record[..d]);
+    let d = read_file(&rt, b"record.bin", &mut record);
+    run(&rt, &incoming[..a], &target[..b], &plan[..c], &record[..d])
 }
