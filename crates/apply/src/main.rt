@@ -3,23 +3,14 @@
 // its limit is read, which is enough to refuse it.
 #![tactic(auto)]
 
-ghost use Rattle.std.specs.Prelude.{◌≤◌, length};
-
 use files::read_file;
 use std::io;
-
-// How many bytes an answer's lower half names, as far as `output` goes.
-fn count(n: usize, output: &[u8]) -> usize
-    ensures { result ≤ length output.now }
-{
-    if n < output.len() { n } else { output.len() }
-}
 
 // `answer` is that of `selector_run`.
 fn report(rt: &impl Print, answer: u64, output: &[u8]) -> io::Result<()> {
     let number = answer / 0x1_0000_0000;
     if number == 0 {
-        let n = count((answer % 0x1_0000_0000) as usize, output);
+        let n = output.len().min((answer % 0x1_0000_0000) as usize);
         return rt.write_all(&output[..n]);
     }
     println!(rt; "refused {number}")

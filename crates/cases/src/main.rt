@@ -15,7 +15,8 @@ mod single_pass;
 
 ghost use Rattle.std.specs.Prelude.{◌≡◌, length};
 
-use libc::STDIN_FILENO;
+use files::read_full;
+use std::io;
 
 // A list that fills this buffer may have been cut off, which the report says.
 const SPACE: usize = 4194304;
@@ -26,9 +27,9 @@ fn space() -> [u8; SPACE]
     [0; SPACE]
 }
 
-fn main() {
+fn main(rt: HostRuntime) -> io::Result<()> {
     let mut list = space();
-    let n = io::read_full(STDIN_FILENO, &mut list);
-    passes::shares(&list[..n]);
-    report::summary(replay::replay(&list[..n]), n < SPACE);
+    let n = read_full(&mut rt.reader(), &mut list);
+    passes::shares(&rt, &list[..n])?;
+    report::summary(&rt, replay::replay(&rt, &list[..n])?, n < SPACE)
 }

@@ -8,6 +8,7 @@ use crate::report::{more, put, put_number};
 use crate::single_pass::{checks, writes};
 use layout::bytes::same_bytes;
 use lines::{find, take_bytes, word};
+use std::io;
 
 #[derive(Clone, Copy)]
 struct Share {
@@ -92,24 +93,24 @@ fn count(list: &[u8], name: &[u8]) -> Share {
     s
 }
 
-fn put_share(list: &[u8], name: &[u8]) {
+fn put_share(rt: &impl Print, list: &[u8], name: &[u8]) -> io::Result<()> {
     let s = count(list, name);
-    put(name);
-    put(b": ");
-    put_number(s.settled);
-    put(b" of ");
-    put_number(s.accepted);
+    put(rt, name)?;
+    put(rt, b": ")?;
+    put_number(rt, s.settled)?;
+    put(rt, b" of ")?;
+    put_number(rt, s.accepted)
 }
 
-fn plans_line(list: &[u8], name: &[u8]) {
-    put_share(list, name);
-    put(b" plans checked in one pass\n");
+fn plans_line(rt: &impl Print, list: &[u8], name: &[u8]) -> io::Result<()> {
+    put_share(rt, list, name)?;
+    put(rt, b" plans checked in one pass\n")
 }
 
-pub fn shares(list: &[u8]) {
-    plans_line(list, b"build_name");
-    plans_line(list, b"build_number");
-    plans_line(list, b"check");
-    put_share(list, b"run");
-    put(b" records written in one pass\n");
+pub fn shares(rt: &impl Print, list: &[u8]) -> io::Result<()> {
+    plans_line(rt, list, b"build_name")?;
+    plans_line(rt, list, b"build_number")?;
+    plans_line(rt, list, b"check")?;
+    put_share(rt, list, b"run")?;
+    put(rt, b" records written in one pass\n")
 }

@@ -2,8 +2,8 @@
 ghost use Rattle.std.specs.Prelude.{◌≡◌, ◌+◌, min};
 
 use crate::case::{Kind, Outcome, answer_word};
-use libc::STDOUT_FILENO;
 use lines::from_word;
+use std::io;
 
 // How many lines there were, how many cases of each kind agreed, and how many lines differ.
 #[derive(Clone, Copy)]
@@ -78,53 +78,59 @@ impl Tally {
     }
 
     // Counts an outcome, and writes a line unless the case agrees.
-    pub fn with(self, kind: Kind, outcome: Outcome, line: &[u8]) -> Self {
+    pub fn with(
+        self,
+        rt: &impl Print,
+        kind: Kind,
+        outcome: Outcome,
+        line: &[u8],
+    ) -> io::Result<Self> {
         match outcome {
-            Outcome::Agrees => self.agrees(kind),
+            Outcome::Agrees => Ok(self.agrees(kind)),
             Outcome::Differs(given) => {
-                difference(self.lines, given, from_word(line, answer_word(kind)));
-                self.differs()
+                difference(rt, self.lines, given, from_word(line, answer_word(kind)))?;
+                Ok(self.differs())
             }
             Outcome::Malformed => {
-                no_case(self.lines);
-                self.differs()
+                no_case(rt, self.lines)?;
+                Ok(self.differs())
             }
         }
     }
 }
 
-pub fn put(text: &[u8]) {
-    io::write_all(STDOUT_FILENO, text);
+pub fn put(rt: &impl Print, text: &[u8]) -> io::Result<()> {
+    rt.write_all(text)
 }
 
-pub fn put_number(n: u64) {
-    io::print_decimal(STDOUT_FILENO, n);
+pub fn put_number(rt: &impl Print, n: u64) -> io::Result<()> {
+    rt.print(n)
 }
 
 // line 7: answered 3 1, expected 2 1
-fn difference(line_number: u64, given: u64, expected: &[u8]) {
-    put(b"line ");
-    put_number(line_number);
-    put(b": answered ");
-    put_number(given / 0x1_0000_0000);
-    put(b" ");
-    put_number(given % 0x1_0000_0000);
-    put(b", expected ");
-    put(expected);
-    put(b"\n");
+fn difference(rt: &impl Print, line_number: u64, given: u64, expected: &[u8]) -> io::Result<()> {
+    put(rt, b"line ")?;
+    put_number(rt, line_number)?;
+    put(rt, b": answered ")?;
+    put_number(rt, given / 0x1_0000_0000)?;
+    put(rt, b" ")?;
+    put_number(rt, given % 0x1_0000_0000)?;
+    put(rt, b", expected ")?;
+    put(rt, expected)?;
+    put(rt, b"\n")
 }
 
-fn no_case(line_number: u64) {
-    put(b"line ");
-    put_number(line_number);
-    put(b": no case\n");
+fn no_case(rt: &impl Print, line_number: u64) -> io::Result<()> {
+    put(rt, b"line ")?;
+    put_number(rt, line_number)?;
+    put(rt, b": no case\n")
 }
 
-fn kind_line(name: &[u8], agreed: u64) {
-    put(name);
-    put(b": ");
-    put_number(agreed);
-    put(b" agree\n");
+fn kind_line(rt: &impl Print, name: &[u8], agreed: u64) -> io::Result<()> {
+    put(rt, name)?;
+    put(rt, b": ")?;
+    put_number(rt, agreed)?;
+    put(rt, b" agree\n")
 }
 
 // The sum, as far as there is one.
@@ -139,17 +145,17 @@ fn sum(a: u64, b: u64) -> u64
 }
 
 // `whole` says that the list was read to its end.
-pub fn summary(t: Tally, whole: bool) {
+pub fn summary(rt: &impl Print, t: Tally, whole: bool) -> io::Result<()> {
     if !whole {
-        put(b"the list is longer than the buffer\n");
+        put(rt, b"the list is longer than the buffer\n")?;
     }
-    kind_line(b"layout", t.layout);
-    kind_line(b"build_name", t.build_name);
-    kind_line(b"build_number", t.build_number);
-    kind_line(b"check", t.check);
-    kind_line(b"run", t.run);
-    put_number(sum(t.agreed(), t.differ));
-    put(b" cases, ");
-    put_number(t.differ);
-    put(b" differ\n");
+    kind_line(rt, b"layout", t.layout)?;
+    kind_line(rt, b"build_name", t.build_name)?;
+    kind_line(rt, b"build_number", t.build_number)?;
+    kind_line(rt, b"check", t.check)?;
+    kind_line(rt, b"run", t.run)?;
+    put_number(rt, sum(t.agreed(), t.differ))?;
+    put(rt, b" cases, ")?;
+    put_number(rt, t.differ)?;
+    put(rt, b" differ\n")
 }
