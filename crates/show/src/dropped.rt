@@ -7,6 +7,7 @@ use layout::columns::Labelled;
 use layout::cursor::{Cursor, Moved};
 use layout::edition::Edition;
 use layout::pass::pass_type;
+use std::io;
 use text::out::{put, put_indent};
 use walk::head::{SelectorHead, head, skip_selector};
 
@@ -58,35 +59,53 @@ fn is_taken(taken: &[u8], i: u16) -> bool {
 }
 
 // The columns that are not taken, of `n` from `c` on.
-fn put_left(s: &[u8], v: Edition, n: u16, c: Cursor, taken: &[u8], level: u8) {
+fn put_left(
+    rt: &impl Print,
+    s: &[u8],
+    v: Edition,
+    n: u16,
+    c: Cursor,
+    taken: &[u8],
+    level: u8,
+) -> io::Result<()> {
     let mut d = c;
     let mut i: u16 = 0;
     while i < n {
         let Labelled::Is(l, e) = d.label(s, v) else {
-            return;
+            return Ok(());
         };
         if !is_taken(taken, i) {
-            put_indent(level);
-            put(b"dropped: ");
-            put_column(s, v, l, e);
-            put(b"\n");
+            put_indent(rt, level)?;
+            put(rt, b"dropped: ")?;
+            put_column(rt, s, v, l, e)?;
+            put(rt, b"\n")?;
         }
         let Moved::To(end) = pass_type(s, v, 16, e) else {
-            return;
+            return Ok(());
         };
         d = end;
         i += 1;
     }
+    Ok(())
 }
 
 // Of what is in scope for the `n` selectors from `c` on. A layout has fewer columns, and a struct in it fewer fields,
 // than 8,192.
-pub fn put_dropped(plan: &[u8], incoming: &[u8], scope: Scope, n: u16, c: Cursor, level: u8) {
+pub fn put_dropped(
+    rt: &impl Print,
+    plan: &[u8],
+    incoming: &[u8],
+    scope: Scope,
+    n: u16,
+    c: Cursor,
+    level: u8,
+) -> io::Result<()> {
     if let Scope::Columns(source, v, m, first) = scope {
         if let Source::Incoming = source {
             let mut taken = [0u8; 8192];
             note_taken(plan, n, c, &mut taken);
-            put_left(incoming, v, m, first, &taken, level);
+            put_left(rt, incoming, v, m, first, &taken, level)?;
         }
     }
+    Ok(())
 }

@@ -7,6 +7,7 @@ use layout::cursor::{Cursor, Moved};
 use layout::edition::Edition;
 use layout::pass::pass_columns;
 use layout::types::Head;
+use std::io;
 use text::out::{put, put_number};
 use walk::head::{SelectorHead, head, skip_selector};
 
@@ -119,39 +120,58 @@ pub fn inside(plan: &[u8], incoming: &[u8], known: Known) -> Scope {
     }
 }
 
-fn put_taken(s: &[u8], v: Edition, n: u16, c: Cursor, k: Position) {
+fn put_taken(
+    rt: &impl Print,
+    s: &[u8],
+    v: Edition,
+    n: u16,
+    c: Cursor,
+    k: Position,
+) -> io::Result<()> {
     match find_column(s, v, n, c, k) {
         Column::Is(l, d) => {
-            put(b" ");
-            put_column(s, v, l, d);
+            put(rt, b" ")?;
+            put_column(rt, s, v, l, d)
         }
-        Column::Absent => put(b", which is not there"),
+        Column::Absent => put(rt, b", which is not there"),
     }
 }
 
-fn put_element_taken(s: &[u8], v: Edition, c: Cursor, k: Position) {
+fn put_element_taken(
+    rt: &impl Print,
+    s: &[u8],
+    v: Edition,
+    c: Cursor,
+    k: Position,
+) -> io::Result<()> {
     if k.0 == 0 {
-        put(b" ");
-        put_type(s, v, 16, c);
+        put(rt, b" ")?;
+        put_type(rt, s, v, 16, c)
     } else {
-        put(b", which is not there");
+        put(rt, b", which is not there")
     }
 }
 
 // A position, with the name and type of the column that it takes.
-pub fn put_position(plan: &[u8], incoming: &[u8], scope: Scope, k: Position) {
-    put(b"position ");
-    put_number(k.0 as u64);
+pub fn put_position(
+    rt: &impl Print,
+    plan: &[u8],
+    incoming: &[u8],
+    scope: Scope,
+    k: Position,
+) -> io::Result<()> {
+    put(rt, b"position ")?;
+    put_number(rt, k.0 as u64)?;
     match scope {
         Scope::Columns(source, v, n, c) => match source {
-            Source::Incoming => put_taken(incoming, v, n, c, k),
-            Source::Plan => put_taken(plan, v, n, c, k),
+            Source::Incoming => put_taken(rt, incoming, v, n, c, k)?,
+            Source::Plan => put_taken(rt, plan, v, n, c, k)?,
         },
         Scope::Element(source, v, c) => match source {
-            Source::Incoming => put_element_taken(incoming, v, c, k),
-            Source::Plan => put_element_taken(plan, v, c, k),
+            Source::Incoming => put_element_taken(rt, incoming, v, c, k)?,
+            Source::Plan => put_element_taken(rt, plan, v, c, k)?,
         },
         Scope::Unknown => {}
     }
-    put(b"\n");
+    put(rt, b"\n")
 }

@@ -8,6 +8,7 @@ use layout::cursor::Cursor;
 use layout::edition::Edition;
 use layout::read::{LayoutRead, read_layout};
 use layout::types::Head;
+use std::io;
 use text::out::put;
 
 // Where the type of what is made begins.
@@ -68,55 +69,68 @@ fn element_made(target: &[u8], v: Edition, c: Cursor) -> Made {
 }
 
 // The rest of a list mapping's line, and what its element makes.
-pub fn put_list(target: &[u8], made: Made) -> Made {
-    put(b"list mapping\n");
+pub fn put_list(rt: &impl Print, target: &[u8], made: Made) -> io::Result<Made> {
+    put(rt, b"list mapping\n")?;
     if let Made::At(v, c) = made {
         if let Head::List(d) = c.head(target) {
-            return element_made(target, v, d);
+            return Ok(element_made(target, v, d));
         }
     }
-    Made::Unknown
+    Ok(Made::Unknown)
 }
 
 // The same of an array mapping.
-pub fn put_array(target: &[u8], made: Made) -> Made {
-    put(b"array mapping\n");
+pub fn put_array(rt: &impl Print, target: &[u8], made: Made) -> io::Result<Made> {
+    put(rt, b"array mapping\n")?;
     if let Made::At(v, c) = made {
         if let Head::Array(_, d) = c.head(target) {
-            return element_made(target, v, d);
+            return Ok(element_made(target, v, d));
         }
     }
-    Made::Unknown
+    Ok(Made::Unknown)
 }
 
 // Column `i` of the target, where it has so many.
-fn put_column_at(target: &[u8], v: Edition, n: u16, c: Cursor, i: u16) -> Made {
+fn put_column_at(
+    rt: &impl Print,
+    target: &[u8],
+    v: Edition,
+    n: u16,
+    c: Cursor,
+    i: u16,
+) -> io::Result<Made> {
     if let Column::Is(l, d) = find_column(target, v, n, c, Position(i)) {
-        put_column(target, v, l, d);
-        put(b" <- ");
-        return Made::At(v, d);
+        put_column(rt, target, v, l, d)?;
+        put(rt, b" <- ")?;
+        return Ok(Made::At(v, d));
     }
-    Made::Unknown
+    Ok(Made::Unknown)
 }
 
 // The column that selector `i` makes, before the selector; a sign before the one that is refused.
-pub fn put_made_column(target: &[u8], columns: MadeColumns, i: u16) -> Made {
+pub fn put_made_column(
+    rt: &impl Print,
+    target: &[u8],
+    columns: MadeColumns,
+    i: u16,
+) -> io::Result<Made> {
     match columns {
-        MadeColumns::From(v, n, c) => put_column_at(target, v, n, c, i),
+        MadeColumns::From(v, n, c) => put_column_at(rt, target, v, n, c, i),
         MadeColumns::Refused(v, n, c, k) => {
             if k == i {
-                put(b">> ");
+                put(rt, b">> ")?;
             }
-            put_column_at(target, v, n, c, i)
+            put_column_at(rt, target, v, n, c, i)
         }
-        MadeColumns::Unknown => Made::Unknown,
+        MadeColumns::Unknown => Ok(Made::Unknown),
     }
 }
 
 // The element that a selector makes, before the selector.
-pub fn put_made_element(target: &[u8], made: Made) {
+pub fn put_made_element(rt: &impl Print, target: &[u8], made: Made) -> io::Result<()> {
     if let Made::At(v, c) = made {
-        put_type(target, v, 16, c);
-        put(b" <- ");
+        put_type(rt, target, v, 16, c)?;
+        put(rt, b" <- ")?;
     }
+    Ok(())
 }
