@@ -1,5 +1,4 @@
-use borrow.Author.Rules.{rules}
-use Prim.Native.Nat.{ℕ, ◌<◌, ◌≤◌, ◌+◌, ◌-◌, ◌*◌}
+use Prim.Native.Nat.{◌<◌, ◌≤◌, ◌+◌, ◌-◌, ◌*◌}
 use Rattle.describe.proofs.columns.+put_columns_put_inner_put_inner_element.Given as goal
 
 abbrev pub decreases-put_columns : goal.decreases-put_columns

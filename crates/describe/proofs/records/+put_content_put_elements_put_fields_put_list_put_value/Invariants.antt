@@ -1,5 +1,4 @@
-use borrow.Author.Rules.{rules}
-use Prim.Native.Nat.{ℕ, ◌<◌, ◌≤◌, ◌+◌, ◌-◌, ◌*◌}
+use Prim.Native.Nat.{◌<◌, ◌≤◌, ◌+◌, ◌-◌, ◌*◌}
 use Rattle.describe.proofs.records.+put_content_put_elements_put_fields_put_list_put_value.Given as goal
 
 abbrev pub decreases-put_content : goal.decreases-put_content

@@ -1,7 +1,6 @@
 -- `describe::records::put_read` meets its contract: its record is read with an empty table. Assumes nothing.
 use Rattle.ends.proofs.Entries.{ends-none}
 use mathlib.Core.Path.{refl}
-use borrow.Author.Rules.{rules}
 use Rattle.describe.proofs.records.put_read.Goals as goal
 
 pub read_record-requires : goal.read_record-requires

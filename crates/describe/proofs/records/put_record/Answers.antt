@@ -1,5 +1,4 @@
 -- `describe::records::put_record` meets its contract: columns stand in a layout that was read. Assumes nothing.
-use borrow.Author.Rules.{rules}
 use mathlib.Core.Path.{sym}
 use Rattle.layout.proofs.View.{columns_moved}
 use Rattle.layout.proofs.Whole.{layout-at}

@@ -1,4 +1,3 @@
-use borrow.Author.Rules.{rules}
 use Prim.Native.Nat.{◌<◌, ◌≤◌, ◌-◌}
 use Rattle.describe.proofs.tables.put_each.Given as goal
 

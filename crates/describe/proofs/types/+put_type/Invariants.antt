@@ -1,5 +1,3 @@
-use borrow.Author.Rules.{rules}
-use Prim.Native.Nat.{ℕ, ◌<◌}
 use Rattle.describe.proofs.types.+put_type.Given as goal
 
 abbrev pub decreases-put_type : goal.decreases-put_type

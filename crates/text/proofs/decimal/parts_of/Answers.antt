@@ -1,5 +1,4 @@
 -- `text::decimal::parts_of` meets its contract. Assumes nothing.
-use borrow.Author.Rules.{rules}
 use native.Mathlib.Omega.{arith}
 use Rattle.text.proofs.Digits.{subnormal, normal}
 use Rattle.text.proofs.decimal.parts_of.Goals as goal

@@ -1,5 +1,4 @@
 -- `text::decimal::to_fixed` meets its contract. Assumes nothing.
-use borrow.Author.Rules.{rules}
 use mathlib.Core.Path.{◌∙◌}
 use native.Mathlib.Omega.{arith}
 use Rattle.text.specs.code.Decimal.{word, one, count}

@@ -1,4 +1,3 @@
-use borrow.Author.Rules.{rules}
 use Rattle.text.specs.code.Decimal.{Words}
 use Rattle.text.proofs.floats.put_digits.Given as goal
 

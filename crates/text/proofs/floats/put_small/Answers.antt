@@ -1,10 +1,7 @@
 -- `text::floats::put_small` meets its contract. It ends, since a fraction that is not 0 grows tenfold with each zero
 -- and stays below 1. Assumes nothing.
-use borrow.Author.Rules.{rules}
 use native.Mathlib.Omega.{arith}
 use Rattle.text.proofs.Digits.{closer, still_some}
-use Prim.Native.Nat.{◌+◌, ◌-◌, ◌<◌}
-use Rattle.text.specs.code.Decimal.{one, count, Words}
 use Rattle.text.proofs.floats.put_small.Goals as goal
 
 pub loop-d-smaller : goal.loop-d-smaller

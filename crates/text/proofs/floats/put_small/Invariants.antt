@@ -1,6 +1,3 @@
-use borrow.Author.Rules.{rules}
-use native.Mathlib.Omega.{arith}
-use Rattle.text.proofs.Digits.{closer, still_some}
 use Prim.Native.Nat.{◌+◌, ◌-◌, ◌<◌}
 use Rattle.text.specs.code.Decimal.{one, count, Words}
 use Rattle.text.proofs.floats.put_small.Given as goal

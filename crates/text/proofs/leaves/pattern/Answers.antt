@@ -1,5 +1,4 @@
 -- `text::leaves::pattern` meets its contract. Assumes nothing.
-use borrow.Author.Rules.{rules}
 use native.Mathlib.Omega.{arith}
 use Rattle.text.proofs.leaves.pattern.Goals as goal
 
