@@ -1,0 +1,6 @@
+use borrow.Author.Rules.{rules}
+use Prim.Native.Nat.{ℕ, ◌<◌}
+use Rattle.show.proofs.scope.+type_of.Given as goal
+
+abbrev pub decreases-type_of : goal.decreases-type_of
+decreases-type_of l = l.depth
