@@ -1,5 +1,4 @@
-use borrow.Author.Rules.{rules}
-use Prim.Native.Nat.{◌≤◌, ◌-◌}
+use Prim.Native.Nat.{◌≤◌}
 use Rattle.show.proofs.dropped.position_taken.Given as goal
 
 abbrev pub invariant-loop-left : goal.invariant-loop-left

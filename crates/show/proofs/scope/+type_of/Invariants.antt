@@ -1,5 +1,3 @@
-use borrow.Author.Rules.{rules}
-use Prim.Native.Nat.{ℕ, ◌<◌}
 use Rattle.show.proofs.scope.+type_of.Given as goal
 
 abbrev pub decreases-type_of : goal.decreases-type_of

@@ -1,6 +1,4 @@
-use borrow.Author.Rules.{rules}
-use Rattle.plan.proofs.Skipping.{skips-none}
-use Prim.Native.Nat.{ℕ, ◌<◌, ◌≤◌, ◌+◌, ◌-◌, ◌*◌}
+use Prim.Native.Nat.{◌<◌, ◌≤◌, ◌+◌, ◌-◌, ◌*◌}
 use Rattle.show.proofs.selectors.+put_element_put_input_put_rename_put_selector_put_selectors_put_struct.Given as goal
 
 abbrev pub decreases-put_element : goal.decreases-put_element
