@@ -1,0 +1,9 @@
+-- `cases::buffers::filled_buffer` meets its contract, by a law: the list is too long to be computed. Assumes nothing.
+use Prim.Native.Nat.{ℕ}
+use mathlib.Core.Path.{sym}
+use lib.ListN.{length-replicate}
+use Rattle.cases.proofs.buffers.filled_buffer.Goals as goal
+
+pub returns : goal.returns
+returns c =
+    sym (length-replicate {0} {A = ℕ} 70000 165)

@@ -1,9 +1,0 @@
--- `cases::buffers::plan_buffer` meets its contract, by a law: the list is too long to be computed. Assumes nothing.
-use Prim.Native.Nat.{ℕ}
-use mathlib.Core.Path.{sym}
-use lib.ListN.{length-replicate}
-use Rattle.cases.proofs.buffers.plan_buffer.Statement.{statement}
-use Rattle.cases.proofs.buffers.plan_buffer.Tie as tie
-
-pub plan-buffer-spec : {M : Type 1} → statement M
-plan-buffer-spec = tie.close (tie.spec (λ c. sym (length-replicate {0} {A = ℕ} 66000 0)))
