@@ -1,6 +1,5 @@
 use Rattle.layout.proofs.Whole.{layout-at}
 use Rattle.checker.proofs.Topping.{plan-at}
-use borrow.Author.Rules.{rules}
 use Rattle.cases.proofs.single_pass.checks.Goals as goal
 
 pub fits_target-requires : goal.fits_target-requires

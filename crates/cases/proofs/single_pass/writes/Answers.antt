@@ -4,7 +4,6 @@ use Rattle.layout.proofs.Whole.{layout-at}
 use Rattle.checker.proofs.Topping.{plan-at}
 use Rattle.ends.proofs.Entries.{ends-none}
 use mathlib.Core.Path.{refl}
-use borrow.Author.Rules.{rules}
 use Rattle.cases.proofs.single_pass.writes.Goals as goal
 
 pub read_record-requires : goal.read_record-requires
