@@ -6,7 +6,7 @@ use Rattle.direct.proofs.Fitting.{unknown, none-given, fit_to, gives_to, rename_
 use Rattle.direct.proofs.Fitting.{array_asks, array-fits}
 use Rattle.direct.proofs.Opening.{both_structs, both_lists, both_arrays}
 use Rattle.direct.proofs.Scoping.{taken_at}
-use Rattle.walk.proofs.Heads.{is-constant, is-cast, is-rename, is_struct_lem, is_list_lem, is-array}
+use Rattle.walk.proofs.Heads.{is-constant, is-cast, is-rename, is_struct_mapping, is_list_mapping, is-array}
 use Rattle.layout.proofs.Ways.{label_in}
 use borrow.Author.Rules.{rules}
 use lib.Seq.{length-take-le}
@@ -167,11 +167,11 @@ fit_selector-fit_rename-requires t c =
 
 pub fit_selector-fit_struct-requires : goal.fit_selector-fit_struct-requires
 fit_selector-fit_struct-requires t c =
-    (omega arith, (_, c.requires, is_struct_lem (c.head.ensures c.requires.selector) c.in-Struct.is))
+    (omega arith, (_, c.requires, is_struct_mapping (c.head.ensures c.requires.selector) c.in-Struct.is))
 
 pub fit_selector-fit_list-requires : goal.fit_selector-fit_list-requires
 fit_selector-fit_list-requires t c =
-    (omega arith, (_, c.requires, is_list_lem (c.head.ensures c.requires.selector) c.in-List.is))
+    (omega arith, (_, c.requires, is_list_mapping (c.head.ensures c.requires.selector) c.in-List.is))
 
 pub fit_selector-fit_array-requires : goal.fit_selector-fit_array-requires
 fit_selector-fit_array-requires t c =
@@ -196,11 +196,11 @@ fit_selector-returns-in-Rename t c =
 
 pub fit_selector-returns-in-Struct : goal.fit_selector-returns-in-Struct
 fit_selector-returns-in-Struct t c =
-    λ A. c.fit_struct.ensures _ A (is_struct_lem (c.head.ensures A.selector) c.in-Struct.is)
+    λ A. c.fit_struct.ensures _ A (is_struct_mapping (c.head.ensures A.selector) c.in-Struct.is)
 
 pub fit_selector-returns-in-List : goal.fit_selector-returns-in-List
 fit_selector-returns-in-List t c =
-    λ A. c.fit_list.ensures _ A (is_list_lem (c.head.ensures A.selector) c.in-List.is)
+    λ A. c.fit_list.ensures _ A (is_list_mapping (c.head.ensures A.selector) c.in-List.is)
 
 pub fit_selector-returns-in-Array : goal.fit_selector-returns-in-Array
 fit_selector-returns-in-Array t c =

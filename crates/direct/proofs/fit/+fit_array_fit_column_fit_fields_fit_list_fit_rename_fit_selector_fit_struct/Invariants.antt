@@ -3,7 +3,7 @@ use Rattle.direct.proofs.Fitting.{unknown, none-given, fit_to, gives_to, rename_
 use Rattle.direct.proofs.Fitting.{array_asks, array-fits}
 use Rattle.direct.proofs.Opening.{both_structs, both_lists, both_arrays}
 use Rattle.direct.proofs.Scoping.{taken_at}
-use Rattle.walk.proofs.Heads.{is-constant, is-cast, is-rename, is_struct_lem, is_list_lem, is-array}
+use Rattle.walk.proofs.Heads.{is-constant, is-cast, is-rename, is_struct_mapping, is_list_mapping, is-array}
 use Rattle.layout.proofs.Ways.{label_in}
 use borrow.Author.Rules.{rules}
 use lib.Seq.{length-take-le}

@@ -1,5 +1,5 @@
 use Rattle.direct.proofs.Inputs.{cast-input, rename-input, struct-input, list-input, array-input}
-use Rattle.walk.proofs.Heads.{is-cast, is-rename, is_struct_lem, is_list_lem, is-array}
+use Rattle.walk.proofs.Heads.{is-cast, is-rename, is_struct_mapping, is_list_mapping, is-array}
 use borrow.Author.Rules.{rules}
 use Rattle.direct.proofs.input.input_of.Goals as goal
 
@@ -13,11 +13,11 @@ returns-in-Rename c =
 
 pub returns-in-Struct : goal.returns-in-Struct
 returns-in-Struct c =
-    λ P. struct-input (is_struct_lem (c.head.ensures P) c.in-Struct.is)
+    λ P. struct-input (is_struct_mapping (c.head.ensures P) c.in-Struct.is)
 
 pub returns-in-List : goal.returns-in-List
 returns-in-List c =
-    λ P. list-input (is_list_lem (c.head.ensures P) c.in-List.is)
+    λ P. list-input (is_list_mapping (c.head.ensures P) c.in-List.is)
 
 pub returns-in-Array : goal.returns-in-Array
 returns-in-Array c =

@@ -1,5 +1,5 @@
 -- `direct::scope::take_column` meets its contract. Assumes nothing.
-use Rattle.direct.proofs.Scoping.{scope-columns, scope-element, column-taken, in_element}
+use Rattle.direct.proofs.Scoping.{scope-columns, scope-element, column-taken, in_element_lem}
 use borrow.Author.Rules.{rules}
 use Rattle.direct.proofs.scope.take_column.Goals as goal
 
@@ -14,4 +14,4 @@ returns-in-Columns c =
 
 pub returns-in-Element : goal.returns-in-Element
 returns-in-Element c =
-    λ X. let T = scope-element X c.in-Element.is in in_element T c.args.k (c.take_element.ensures T.type)
+    λ X. let T = scope-element X c.in-Element.is in in_element_lem T c.args.k (c.take_element.ensures T.type)

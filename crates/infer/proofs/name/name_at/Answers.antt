@@ -1,6 +1,6 @@
 -- `infer::name::name_at` meets its contract. Assumes nothing.
 use native.Mathlib.Omega.{arith}
-use Rattle.walk.proofs.Heads.{is_position_lem, is-constant, is-rename, is-cast, is_struct_lem, is_list_lem, is-array}
+use Rattle.walk.proofs.Heads.{is_position_lem, is-constant, is-rename, is-cast, is_struct_mapping, is_list_mapping, is-array}
 use Rattle.infer.proofs.Names.{scope-readable, position_step, constant_step, rename_step, cast_step, struct_step, list_step, array_step}
 use borrow.Author.Rules.{rules}
 use Rattle.infer.proofs.name.name_at.Goals as goal
@@ -26,11 +26,11 @@ returns-in-Cast c =
 
 pub returns-in-Struct : goal.returns-in-Struct
 returns-in-Struct c =
-    λ X P. struct_step X.fields (is_struct_lem (c.head.ensures P) c.in-Struct.is)
+    λ X P. struct_step X.fields (is_struct_mapping (c.head.ensures P) c.in-Struct.is)
 
 pub returns-in-List : goal.returns-in-List
 returns-in-List c =
-    λ X P. list_step X.fields (is_list_lem (c.head.ensures P) c.in-List.is)
+    λ X P. list_step X.fields (is_list_mapping (c.head.ensures P) c.in-List.is)
 
 pub returns-in-Array : goal.returns-in-Array
 returns-in-Array c =

@@ -5,9 +5,9 @@ use mathlib.Core.Path.{sym}
 use lib.Seq.{length-take-le}
 use borrow.Author.Tests.{not-false}
 use Rattle.walk.proofs.View.{selector_moved}
-use Rattle.walk.proofs.Heads.{is-cast, is-rename, is_struct_lem, is_list_lem, is-array}
+use Rattle.walk.proofs.Heads.{is-cast, is-rename, is_struct_mapping, is_list_mapping, is-array}
 use Rattle.direct.proofs.Scoping.{taken_at}
-use Rattle.infer.proofs.Transforms.{inferred_short, fields-short, depth_as, input-at, named-to, in_struct_lem, in_list, in_array, array-width, cast-from}
+use Rattle.infer.proofs.Transforms.{inferred_short, fields-short, depth_as, input-at, named-to, in_struct, in_list, in_array, array-width, cast-from}
 use Rattle.infer.proofs.Transforms.{rename-from, struct_from, list-from, array-from, rename_infers, list_infers, array_infers, struct_infers, list-scope}
 use Rattle.infer.proofs.Transforms.{array-scope, struct-scope, struct-selectors, unrenamed_infers, input-takes, column_infers}
 use Rattle.infer.proofs.Behind.{same_size, list_left, array-left, struct_left, name-left}
@@ -120,7 +120,7 @@ infer_over-struct_over-requires t c =
       (
         T,
         (
-          (_, P, is_struct_lem (c.head.ensures P) c.in-Struct.is),
+          (_, P, is_struct_mapping (c.head.ensures P) c.in-Struct.is),
           (
             L.0,
             L.1,
@@ -139,7 +139,7 @@ infer_over-list_over-requires t c =
       (
         T,
         (
-          (_, P, is_list_lem (c.head.ensures P) c.in-List.is),
+          (_, P, is_list_mapping (c.head.ensures P) c.in-List.is),
           (
             L.0,
             L.1,
@@ -181,12 +181,12 @@ infer_over-returns-in-Rename t c =
 
 pub infer_over-returns-in-Struct : goal.infer_over-returns-in-Struct
 infer_over-returns-in-Struct t c =
-    λ T P Γ n e. let S = is_struct_lem (c.head.ensures P) c.in-Struct.is in depth_as c.if-depth-eq0.false (c.struct_over.ensures T _ P S Γ n (struct_from
+    λ T P Γ n e. let S = is_struct_mapping (c.head.ensures P) c.in-Struct.is in depth_as c.if-depth-eq0.false (c.struct_over.ensures T _ P S Γ n (struct_from
     Γ S e))
 
 pub infer_over-returns-in-List : goal.infer_over-returns-in-List
 infer_over-returns-in-List t c =
-    λ T P Γ n e. let S = is_list_lem (c.head.ensures P) c.in-List.is in depth_as c.if-depth-eq0.false (c.list_over.ensures T _ P S Γ n (list-from Γ S e))
+    λ T P Γ n e. let S = is_list_mapping (c.head.ensures P) c.in-List.is in depth_as c.if-depth-eq0.false (c.list_over.ensures T _ P S Γ n (list-from Γ S e))
 
 pub infer_over-returns-in-Array : goal.infer_over-returns-in-Array
 infer_over-returns-in-Array t c =
@@ -264,7 +264,7 @@ struct_over-overflow_add-k t c =
 
 pub struct_over-infer_fields-r-requires : goal.struct_over-infer_fields-r-requires
 struct_over-infer_fields-r-requires t c =
-    let T = c.requires.type_at in let (a, P, S) = c.requires.by_index in let L = c.requires.s_len_bound in let I = in_struct_lem (c.inside_of.ensures T) c.in-Struct.is in
+    let T = c.requires.type_at in let (a, P, S) = c.requires.by_index in let L = c.requires.s_len_bound in let I = in_struct (c.inside_of.ensures T) c.in-Struct.is in
     let F = c.put_struct.ensures (not-false _ (ap not c.if-not-put_struct.false)) in (
       omega (arith, c.decreases),
       (
@@ -279,7 +279,7 @@ struct_over-infer_fields-r-requires t c =
 
 pub struct_over-behind-requires : goal.struct_over-behind-requires
 struct_over-behind-requires t c =
-    let T = c.requires.type_at in let (a, P, S) = c.requires.by_index in let L = c.requires.s_len_bound in let I = in_struct_lem (c.inside_of.ensures T) c.in-Struct.is in
+    let T = c.requires.type_at in let (a, P, S) = c.requires.by_index in let L = c.requires.s_len_bound in let I = in_struct (c.inside_of.ensures T) c.in-Struct.is in
     let F = c.put_struct.ensures (not-false _ (ap not c.if-not-put_struct.false)) in (
       omega arith,
       fields-short (c.infer_fields-r.ensures (struct-scope I c.index_fields-len.ensures.indexed c.field_stride-stride.ensures) (struct-selectors S
@@ -289,7 +289,7 @@ struct_over-behind-requires t c =
 pub struct_over-returns-else-not-put_struct : goal.struct_over-returns-else-not-put_struct
 struct_over-returns-else-not-put_struct t c =
     λ T a P S Γ n e.
-    let I = in_struct_lem (c.inside_of.ensures T) c.in-Struct.is in
+    let I = in_struct (c.inside_of.ensures T) c.in-Struct.is in
     let F = c.put_struct.ensures (not-false _ (ap not c.if-not-put_struct.false)) in
     let C = c.struct_fields-fields.ensures S.input S.fields in
     struct_infers T Γ c.requires.s_len_bound.4 S I C (omega (arith, c.struct_fields-fields.type_inv)) e F (c.infer_fields-r.ensures (struct-scope I

@@ -2,9 +2,9 @@ use mathlib.Core.Path.{sym}
 use lib.Seq.{length-take-le}
 use borrow.Author.Tests.{not-false}
 use Rattle.walk.proofs.View.{selector_moved}
-use Rattle.walk.proofs.Heads.{is-cast, is-rename, is_struct_lem, is_list_lem, is-array}
+use Rattle.walk.proofs.Heads.{is-cast, is-rename, is_struct_mapping, is_list_mapping, is-array}
 use Rattle.direct.proofs.Scoping.{taken_at}
-use Rattle.infer.proofs.Transforms.{inferred_short, fields-short, depth_as, input-at, named-to, in_struct_lem, in_list, in_array, array-width, cast-from}
+use Rattle.infer.proofs.Transforms.{inferred_short, fields-short, depth_as, input-at, named-to, in_struct, in_list, in_array, array-width, cast-from}
 use Rattle.infer.proofs.Transforms.{rename-from, struct_from, list-from, array-from, rename_infers, list_infers, array_infers, struct_infers, list-scope}
 use Rattle.infer.proofs.Transforms.{array-scope, struct-scope, struct-selectors, unrenamed_infers, input-takes, column_infers}
 use Rattle.infer.proofs.Behind.{same_size, list_left, array-left, struct_left, name-left}

@@ -1,6 +1,6 @@
 -- The proof of the cycle of calls {fields_size, type_size}. The measure is 2 for each level left, and 1 more for
 -- columns. `Sizing` holds at the head of the loop. Assumes nothing.
-use Rattle.nodes.proofs.Sizes.{Sizing, sizing_none, sizing_all, sizing-unlabelled, sizing-first, sizing-fits, sizing-more, size-leaf, in_struct_lem, in_list}
+use Rattle.nodes.proofs.Sizes.{Sizing, sizing_none, sizing_all, sizing-unlabelled, sizing-first, sizing-fits, sizing-more, size-leaf, in_struct, in_list}
 use Rattle.nodes.proofs.Sizes.{in_array, inside-fits, inside-size}
 use Rattle.layout.proofs.View.{deep, struct_at, list_at, array_at, list-labelled, array-labelled, never_headless}
 use Prim.Native.Nat.{◌+◌, ◌-◌, ◌*◌, ℕ, ◌<◌}
@@ -72,13 +72,13 @@ type_size-fields_size-fields-requires t c =
 
 pub type_size-overflow_sub-d : goal.type_size-overflow_sub-d
 type_size-overflow_sub-d t c =
-    (inside-fits (in_struct_lem c.requires
+    (inside-fits (in_struct c.requires
     c.head.ensures.result_value c.in-Struct.is
     c.fields_size-fields.ensures) (omega arith) (omega arith)).0
 
 pub type_size-around-requires : goal.type_size-around-requires
 type_size-around-requires t c =
-    let F = inside-fits (in_struct_lem c.requires
+    let F = inside-fits (in_struct c.requires
     c.head.ensures.result_value c.in-Struct.is
     c.fields_size-fields.ensures) (omega arith) (omega arith) in (F.1, F.2)
 
@@ -148,7 +148,7 @@ type_size-returns-in-Leaf t c =
 
 pub type_size-returns-in-Struct : goal.type_size-returns-in-Struct
 type_size-returns-in-Struct t c =
-    λ P. inside-size (in_struct_lem P c.head.ensures.result_value c.in-Struct.is c.fields_size-fields.ensures) c.around.ensures
+    λ P. inside-size (in_struct P c.head.ensures.result_value c.in-Struct.is c.fields_size-fields.ensures) c.around.ensures
 
 pub type_size-returns-in-Is : goal.type_size-returns-in-Is
 type_size-returns-in-Is t c =

@@ -1,4 +1,4 @@
-use Rattle.nodes.proofs.Sizes.{Sizing, sizing_none, sizing_all, sizing-unlabelled, sizing-first, sizing-fits, sizing-more, size-leaf, in_struct_lem, in_list}
+use Rattle.nodes.proofs.Sizes.{Sizing, sizing_none, sizing_all, sizing-unlabelled, sizing-first, sizing-fits, sizing-more, size-leaf, in_struct, in_list}
 use Rattle.nodes.proofs.Sizes.{in_array, inside-fits, inside-size}
 use Rattle.layout.proofs.View.{deep, struct_at, list_at, array_at, list-labelled, array-labelled, never_headless}
 use Prim.Native.Nat.{◌+◌, ◌-◌, ◌*◌, ℕ, ◌<◌}

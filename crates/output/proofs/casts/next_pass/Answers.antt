@@ -1,6 +1,6 @@
 use Rattle.output.proofs.Passing.{pass-ends, pass-rename, pass_below, pass-at-end, type_as}
 use Rattle.walk.proofs.Walks.{path-some, path-none}
-use Rattle.walk.proofs.Heads.{is_position_lem, is-constant, is-cast, is-rename, is_struct_lem, is_list_lem, is-array, never_refused}
+use Rattle.walk.proofs.Heads.{is_position_lem, is-constant, is-cast, is-rename, is_struct_mapping, is_list_mapping, is-array, never_refused}
 use mathlib.Core.Path.{sym, ◌∙◌}
 use borrow.Author.Rules.{rules}
 use Rattle.output.proofs.casts.next_pass.Goals as goal
@@ -31,11 +31,11 @@ returns-in-Rename c =
 
 pub returns-in-Struct : goal.returns-in-Struct
 returns-in-Struct c =
-    λ x W S. pass-ends x (sym (is_struct_lem (c.head.ensures W.here) c.in-Struct.is).is ∙ W.selector) S tt
+    λ x W S. pass-ends x (sym (is_struct_mapping (c.head.ensures W.here) c.in-Struct.is).is ∙ W.selector) S tt
 
 pub returns-in-List : goal.returns-in-List
 returns-in-List c =
-    λ x W S. pass-ends x (sym (is_list_lem (c.head.ensures W.here) c.in-List.is).is ∙ W.selector) S tt
+    λ x W S. pass-ends x (sym (is_list_mapping (c.head.ensures W.here) c.in-List.is).is ∙ W.selector) S tt
 
 pub returns-in-Array : goal.returns-in-Array
 returns-in-Array c =

@@ -1,6 +1,6 @@
 use Rattle.output.proofs.Sources.{source-column, source-lost, source-constant, never_cast, never_rename, source-struct, source-list, source-array}
 use Rattle.raw.proofs.Constants.{constant-part}
-use Rattle.walk.proofs.Heads.{is_position_lem, is-constant, is-cast, is-rename, is_struct_lem, is_list_lem, is-array, never_refused}
+use Rattle.walk.proofs.Heads.{is_position_lem, is-constant, is-cast, is-rename, is_struct_mapping, is_list_mapping, is-array, never_refused}
 use native.Mathlib.Omega.{arith}
 use borrow.Author.Rules.{rules}
 use Rattle.output.proofs.source.source_at.Goals as goal
@@ -37,11 +37,11 @@ returns-in-Rename c =
 
 pub returns-in-Struct : goal.returns-in-Struct
 returns-in-Struct c =
-    λ X x W h. let A = is_struct_lem (c.head.ensures W.here) c.in-Struct.is in source-struct W _ (c.struct_source.ensures W.here A) A.is h
+    λ X x W h. let A = is_struct_mapping (c.head.ensures W.here) c.in-Struct.is in source-struct W _ (c.struct_source.ensures W.here A) A.is h
 
 pub returns-in-List : goal.returns-in-List
 returns-in-List c =
-    λ X x W h. source-list W _ (is_list_lem (c.head.ensures W.here) c.in-List.is).is h
+    λ X x W h. source-list W _ (is_list_mapping (c.head.ensures W.here) c.in-List.is).is h
 
 pub returns-in-Array : goal.returns-in-Array
 returns-in-Array c =

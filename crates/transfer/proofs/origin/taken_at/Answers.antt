@@ -1,5 +1,5 @@
 use Rattle.transfer.proofs.Origins.{taken_position, taken-constant, taken-cast, taken-rename, taken-struct, taken-list, taken-array}
-use Rattle.walk.proofs.Heads.{is_position_lem, is-constant, is-cast, is-rename, is_struct_lem, is_list_lem, is-array, never_refused}
+use Rattle.walk.proofs.Heads.{is_position_lem, is-constant, is-cast, is-rename, is_struct_mapping, is_list_mapping, is-array, never_refused}
 use borrow.Author.Rules.{rules}
 use Rattle.transfer.proofs.origin.taken_at.Goals as goal
 
@@ -21,11 +21,11 @@ returns-in-Rename c =
 
 pub returns-in-Struct : goal.returns-in-Struct
 returns-in-Struct c =
-    λ P. taken-struct (is_struct_lem (c.head.ensures P) c.in-Struct.is)
+    λ P. taken-struct (is_struct_mapping (c.head.ensures P) c.in-Struct.is)
 
 pub returns-in-List : goal.returns-in-List
 returns-in-List c =
-    λ P. taken-list (is_list_lem (c.head.ensures P) c.in-List.is)
+    λ P. taken-list (is_list_mapping (c.head.ensures P) c.in-List.is)
 
 pub returns-in-Array : goal.returns-in-Array
 returns-in-Array c =

@@ -12,7 +12,7 @@ use Rattle.raw.proofs.Storing.{lead-short}
 use Rattle.direct.proofs.Inputs.{struct-input, list-input, array-input}
 use Rattle.nodes.specs.code.Raw.{ElementsAt}
 use Rattle.index.specs.code.Indexed.{RowIn}
-use Rattle.walk.proofs.Heads.{is_position_lem, is-constant, is-cast, is-rename, is_struct_lem, is_list_lem, is-array}
+use Rattle.walk.proofs.Heads.{is_position_lem, is-constant, is-cast, is-rename, is_struct_mapping, is_list_mapping, is-array}
 use Rattle.walk.specs.code.Stands.{SelectorAt, SelectorsAt}
 use Rattle.plan.specs.Run.{eval}
 use Rattle.values.specs.Value.{vcons, vnil}
@@ -251,11 +251,11 @@ transfer-returns-in-Cast t c =
 
 pub transfer-returns-in-Struct : goal.transfer-returns-in-Struct
 transfer-returns-in-Struct t c =
-    λ ρ P N. c.transfer_taken.ensures ρ P (struct-input (is_struct_lem (c.head.ensures P) c.in-Struct.is)).parts N
+    λ ρ P N. c.transfer_taken.ensures ρ P (struct-input (is_struct_mapping (c.head.ensures P) c.in-Struct.is)).parts N
 
 pub transfer-returns-in-List : goal.transfer-returns-in-List
 transfer-returns-in-List t c =
-    λ ρ P N. c.transfer_taken-in-List.ensures ρ P (list-input (is_list_lem (c.head.ensures P) c.in-List.is)).parts N
+    λ ρ P N. c.transfer_taken-in-List.ensures ρ P (list-input (is_list_mapping (c.head.ensures P) c.in-List.is)).parts N
 
 pub transfer-returns-in-Array : goal.transfer-returns-in-Array
 transfer-returns-in-Array t c =
@@ -394,7 +394,7 @@ transfer_over-struct_over-requires t c =
         (
           c.requires.node_in,
           (
-            (c.requires.selector_at, is_struct_lem (c.head.ensures c.requires.selector_at) c.in-Struct.is),
+            (c.requires.selector_at, is_struct_mapping (c.head.ensures c.requires.selector_at) c.in-Struct.is),
             c.requires.rec_len_bound,
           ),
         ),
@@ -410,7 +410,7 @@ transfer_over-list_over-requires t c =
         (
           c.requires.node_in,
           (
-            (c.requires.selector_at, is_list_lem (c.head.ensures c.requires.selector_at) c.in-List.is),
+            (c.requires.selector_at, is_list_mapping (c.head.ensures c.requires.selector_at) c.in-List.is),
             c.requires.rec_len_bound,
           ),
         ),
@@ -453,11 +453,11 @@ transfer_over-returns-in-Rename t c =
 
 pub transfer_over-returns-in-Struct : goal.transfer_over-returns-in-Struct
 transfer_over-returns-in-Struct t c =
-    λ ρ P N. let K = is_struct_lem (c.head.ensures P) c.in-Struct.is in c.struct_over.ensures ρ P K (struct-given ρ N K)
+    λ ρ P N. let K = is_struct_mapping (c.head.ensures P) c.in-Struct.is in c.struct_over.ensures ρ P K (struct-given ρ N K)
 
 pub transfer_over-returns-in-List : goal.transfer_over-returns-in-List
 transfer_over-returns-in-List t c =
-    λ ρ P N. let K = is_list_lem (c.head.ensures P) c.in-List.is in c.list_over.ensures ρ P K (list-given ρ N K)
+    λ ρ P N. let K = is_list_mapping (c.head.ensures P) c.in-List.is in c.list_over.ensures ρ P K (list-given ρ N K)
 
 pub transfer_over-returns-in-Array : goal.transfer_over-returns-in-Array
 transfer_over-returns-in-Array t c =

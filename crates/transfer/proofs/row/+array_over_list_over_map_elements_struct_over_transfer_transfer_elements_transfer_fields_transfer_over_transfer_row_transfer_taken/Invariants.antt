@@ -10,7 +10,7 @@ use Rattle.raw.proofs.Storing.{lead-short}
 use Rattle.direct.proofs.Inputs.{struct-input, list-input, array-input}
 use Rattle.nodes.specs.code.Raw.{ElementsAt}
 use Rattle.index.specs.code.Indexed.{RowIn}
-use Rattle.walk.proofs.Heads.{is_position_lem, is-constant, is-cast, is-rename, is_struct_lem, is_list_lem, is-array}
+use Rattle.walk.proofs.Heads.{is_position_lem, is-constant, is-cast, is-rename, is_struct_mapping, is_list_mapping, is-array}
 use Rattle.walk.specs.code.Stands.{SelectorAt, SelectorsAt}
 use Rattle.plan.specs.Run.{eval}
 use Rattle.values.specs.Value.{vcons, vnil}

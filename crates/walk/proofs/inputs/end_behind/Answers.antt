@@ -1,7 +1,7 @@
 -- `walk::inputs::end_behind` meets its contract: what stands behind the input, by the head. Assumes nothing.
 use borrow.Author.Rules.{rules}
 use Rattle.walk.proofs.Ending.{behind-cast, behind-rename, behind-struct, behind-list, behind-array}
-use Rattle.walk.proofs.Heads.{is-cast, is-rename, is_struct_lem, is_list_lem, is-array, never_refused}
+use Rattle.walk.proofs.Heads.{is-cast, is-rename, is_struct_mapping, is_list_mapping, is-array, never_refused}
 use Rattle.walk.proofs.inputs.end_behind.Goals as goal
 
 pub returns-in-Position : goal.returns-in-Position
@@ -22,11 +22,11 @@ returns-in-Rename c =
 
 pub returns-in-Struct : goal.returns-in-Struct
 returns-in-Struct c =
-    λ P h. behind-struct h (is_struct_lem (c.head.ensures P) c.in-Struct.is) c.fields_end.ensures
+    λ P h. behind-struct h (is_struct_mapping (c.head.ensures P) c.in-Struct.is) c.fields_end.ensures
 
 pub returns-in-List : goal.returns-in-List
 returns-in-List c =
-    λ P h. behind-list h (is_list_lem (c.head.ensures P) c.in-List.is) c.skip_by-in-List.ensures
+    λ P h. behind-list h (is_list_mapping (c.head.ensures P) c.in-List.is) c.skip_by-in-List.ensures
 
 pub returns-in-Array : goal.returns-in-Array
 returns-in-Array c =

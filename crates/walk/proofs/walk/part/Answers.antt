@@ -1,7 +1,7 @@
 -- `walk::walk::part` meets its contract: by the head. Assumes nothing.
 use borrow.Author.Rules.{rules}
 use Rattle.walk.proofs.Moving.{list-found, array-found, part-position, part-constant, part-cast, part-rename}
-use Rattle.walk.proofs.Heads.{is_position_lem, is-constant, is-cast, is-rename, is_struct_lem, is_list_lem, is-array, never_refused}
+use Rattle.walk.proofs.Heads.{is_position_lem, is-constant, is-cast, is-rename, is_struct_mapping, is_list_mapping, is-array, never_refused}
 use Rattle.walk.proofs.View.{selector_moved}
 use Rattle.walk.proofs.walk.part.Goals as goal
 
@@ -23,12 +23,12 @@ returns-in-Rename c =
 
 pub returns-in-Struct : goal.returns-in-Struct
 returns-in-Struct c =
-    λ P m. let S = is_struct_lem (c.head.ensures P) c.in-Struct.is in c.struct_part.ensures c.args.c.at _ P S
+    λ P m. let S = is_struct_mapping (c.head.ensures P) c.in-Struct.is in c.struct_part.ensures c.args.c.at _ P S
     (c.requires.at_value (selector_moved S.starts S.input))
 
 pub returns-in-List : goal.returns-in-List
 returns-in-List c =
-    λ P m. let L = is_list_lem (c.head.ensures P) c.in-List.is in list-found c.args.k L (c.requires.at_value (selector_moved L.starts L.input))
+    λ P m. let L = is_list_mapping (c.head.ensures P) c.in-List.is in list-found c.args.k L (c.requires.at_value (selector_moved L.starts L.input))
 
 pub returns-in-Array : goal.returns-in-Array
 returns-in-Array c =

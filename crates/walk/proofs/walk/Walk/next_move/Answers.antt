@@ -1,8 +1,8 @@
 -- `walk::walk::Walk::next_move` meets its contract: by the head. Assumes nothing.
 use borrow.Author.Rules.{rules}
 use Rattle.walk.proofs.Moving.{walk_is, walk_mapping, next-constant, next_cast_lem, next-rename, next-renamed}
-use Rattle.walk.specs.code.Moves.{is_struct_lem as a_struct, is_list_lem as a_list_lem, is-array as an_array_lem}
-use Rattle.walk.proofs.Heads.{is_position_lem, is-constant, is-cast, is-rename, is_struct_lem, is_list_lem, is-array, never_refused}
+use Rattle.walk.specs.code.Moves.{is_struct_mapping as a_struct_lem, is_list_mapping as a_list_lem, is-array as an_array_lem}
+use Rattle.walk.proofs.Heads.{is_position_lem, is-constant, is-cast, is-rename, is_struct_mapping, is_list_mapping, is-array, never_refused}
 use Rattle.walk.proofs.walk.Walk.next_move.Goals as goal
 
 pub returns-in-Position : goal.returns-in-Position
@@ -27,12 +27,12 @@ returns-else-self c =
 
 pub returns-in-Struct : goal.returns-in-Struct
 returns-in-Struct c =
-    λ x M. c.entering.ensures x M (walk_mapping M (is_struct_lem (c.head.ensures M.here)
-    c.in-Struct.is).is a_struct)
+    λ x M. c.entering.ensures x M (walk_mapping M (is_struct_mapping (c.head.ensures M.here)
+    c.in-Struct.is).is a_struct_lem)
 
 pub returns-in-List : goal.returns-in-List
 returns-in-List c =
-    λ x M. c.entering-in-List.ensures x M (walk_mapping M (is_list_lem (c.head.ensures M.here)
+    λ x M. c.entering-in-List.ensures x M (walk_mapping M (is_list_mapping (c.head.ensures M.here)
     c.in-List.is).is a_list_lem)
 
 pub returns-in-Array : goal.returns-in-Array
