@@ -59,6 +59,8 @@ module _ (M : Metadata) where
     unfolding valued
     hiding-valued not_present e h = ap (λ (p : PartitionValue). leaf_valued p (M.initial_default i)) e
     hiding-valued null_present e h = ap (λ (p : PartitionValue). leaf_valued p (M.initial_default i)) e
+    hiding-valued no_transform e h = elim h [ ]
+    hiding-valued (partitioned _) e h = elim h [ ]
 
     null-initial : valued M i (cleaf l) ≡ false → (q : InitialDefault) → M.initial_default i ≡ q → is_defined q ≡ false → Initial' M [] i (cleaf l) vnull
     null-initial v undefined e n = by-none' e nothing-defined (by-null' v)

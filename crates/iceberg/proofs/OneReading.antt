@@ -5,7 +5,7 @@ use Prim.Native.Nat.{ℕ, suc}
 use mathlib.Core.Path.{◌≡◌, refl, sym, ap, ap₂, ◌∙◌}
 use mathlib.Core.Bool.{Bool, true, false}
 use mathlib.Core.List.{◌∷◌, ◌++◌}
-use Rattle.layout.specs.Tree.{LeafType, Label, ColumnType, cleaf, cstruct, clist, Columns}
+use Rattle.layout.specs.Tree.{LeafType, Label, ColumnType, cleaf, cstruct, clist, carray, Columns}
 use Rattle.layout.specs.declared.columns.FieldId.{FieldId}
 use Rattle.layout.proofs.Ways.{clash}
 use Rattle.values.specs.Value.{Value, vnull, vstruct, vlist, varray, Values, vcons}
@@ -16,7 +16,7 @@ use Rattle.iceberg.specs.Specification.{id-there, Lacks, lacks_cons, Lacking, no
 use Rattle.iceberg.specs.Specification.{Initial, by_default, by-empty-struct, by-empty-list, by-null, InitialAll, initial-nil, initial-cons, Missing}
 use Rattle.iceberg.specs.Specification.{by-partition, by-null-partition, by-initial, Reads, reads-leaf, reads-null, reads_struct, reads-list, ReadsAll}
 use Rattle.iceberg.specs.Specification.{reads-nil, reads-selected, reads-missing, ReadsEach, reads_none, reads_more}
-use Rattle.iceberg.specs.Differences.{Difference, Differences, Hiding, hides_not_present, hides_null, Unseen, unseen_null, unseen_value, Nested}
+use Rattle.iceberg.specs.Differences.{Difference, Differences, array_read, Hiding, hides_not_present, hides_null, Unseen, unseen_null, unseen_value, Nested}
 use Rattle.iceberg.specs.Differences.{leaf_valued, valued, valued_any, Place, Initial', by-default', by-empty-struct', by-none', hidden-default}
 use Rattle.iceberg.specs.Differences.{struct-of-none, partition-in-struct, list-default, own_default_lem, InitialAll', initial-nil', initial-cons', Unstated'}
 use Rattle.iceberg.specs.Differences.{by-null', struct-together, Missing', by-partition', by-null-partition', by-initial', null-in-element'}
@@ -274,6 +274,21 @@ module _ (converted : LeafType → LeafType → Value → Value) (M : Metadata) 
     each-one d reads_none reads_none = refl
     each-one d (reads_more r rs) (reads_more s ss) = ap₂ vcons (reads-one d r s) (each-one d rs ss)
 
+  -- what a reading of an array has; its width stands in both types, so a match on two readings would need that twice
+  ArrayView : ColumnType → ColumnType → Value → Differences → Value → Type 0
+  ArrayView (carray w b u) (carray v a t) (varray xs) es z =
+      (ds : Differences) × (ys : Values) × ReadsEach' converted M ds u t xs ys × (es ≡ array_read ∷ ds) × (z ≡ varray ys)
+  ArrayView _ _ _ _ _ = Unit {0}
+
+  array_view : {o : Place} {es : Differences} {u t : ColumnType} {x z : Value} → Reads' converted M o es u t x z → ArrayView u t x es z
+  array_view (reads-leaf' p e) = tt
+  array_view reads-null' = tt
+  array_view (reads-struct' h) = tt
+  array_view (reads-list' e i h) = tt
+  array_view (any-element n a h) = tt
+  array_view (array-read h) = (_, _, h, refl, refl)
+  array_view (leaf-converted p n e) = tt
+
   mutual
     reads'-one : {o : Place} {ds es : Differences} {u t : ColumnType} {x y z : Value} → DistinctIds t → Reads' converted M o ds u t x y
         → Reads' converted M o es u t x z → Same ds es y z
@@ -288,7 +303,9 @@ module _ (converted : LeafType → LeafType → Value → Value) (M : Metadata) 
     reads'-one d (reads-list' e i h) (any-element n a g) = absurd (n e)
     reads'-one d (any-element n a h) (reads-list' f j g) = absurd (n f)
     reads'-one d (any-element n a h) (any-element m b g) = more _ vlist (each'-one d h g)
-    reads'-one d (array-read h) (array-read g) = more _ varray (each'-one d h g)
+    reads'-one d (array-read h) g =
+        let (ds, ys, k, e, f) = array_view g in
+        let (p, q) = more _ varray (each'-one d h k) in (p ∙ sym e, q ∙ sym f)
     reads'-one d (leaf-converted p n e) (reads-leaf' q f) = true≠false q p
     reads'-one d (leaf-converted p n e) reads-null' = null_present_lem refl n
     reads'-one d (leaf-converted p n e) (leaf-converted q m f) = (refl, sym e ∙ f)

@@ -146,7 +146,7 @@ absent-is : (x : Lookup) → is_absent x ≡ true → x ≡ absent
 absent-is absent e = refl
 absent-is (found k l t) e = clash (cc)
 
-first_extra : {fs gs : Columns} {i j : ℕ} → FirstExtra ByNumber gs fs i j → Extra fs gs
+first_extra : {gs fs : Columns} {i j : ℕ} → FirstExtra ByNumber gs fs i j → Extra fs gs
 first_extra (first-here {l = l} q) = extra_here (counterpart_lacks l _ (absent-is _ q))
 first_extra (first-later q f) = extra_there (first_extra f)
 
