@@ -32,21 +32,18 @@ STATEMENTS = [
 # record read by its types alone, which L5 is held against.
 STATED = {
     ("numeric", "Rounding"): {"PastMidpoint"},
-    ("plan", "Selector"): {"nesting", "nestingAll"},
+    ("plan", "Selector"): {"nesting", "nesting_all"},
     ("rules", "Kinds"): {"kinds"},
-    ("rules", "Promotion"): {"leafAt", "integerAt", "isIntegerCode", "promotes"},
-    ("values", "Marked"): {"valueMarked"},
-    ("values", "Record"): {"recordFrom", "recordOf", "RecordFits", "RecordFilled"},
+    ("rules", "Promotion"): {"leaf_at", "integer_at", "is_integer_code", "promotes"},
+    ("values", "Marked"): {"value_marked"},
+    ("values", "Record"): {"record_from", "record_of", "RecordFits", "RecordFilled"},
 }
 
 # Document 02's list as it is printed, to which a computed test holds the rule: cited by the test alone.
 PRINTED = "crates/rules/specs/PrintedList.antt"
 
 WORD = re.compile(r"[^\s(){}\[\],;.λ]+")
-USE = re.compile(
-    r"^(?:ghost |pub )?use Rattle·([a-z]+)(?:·specs|·proofs)?\.(specs|proofs\.proofs|proofs)\.([\w.+-]+)\.\{([^}]*)\}",
-    re.M,
-)
+USE = re.compile(r"^(?:ghost |pub )?use Rattle\.([a-z_]+)\.(specs|proofs)\.([\w.+-]+)\.\{([^}]*)\}", re.M)
 HEAD = re.compile(
     r"^(?:unfoldable |abbrev |opaque )*(?:pub )?(?:(record|data) )?([^\s(:{]+)(?:\s+[({][^)}]*[)}])*\s+:(?:\s|$)"
 )
@@ -64,7 +61,7 @@ class Module:
             for name in names.replace("\n", " ").split(","):
                 if name.strip():
                     there, _, here = name.strip().partition(" as ")
-                    self.names[(here or there).strip()] = (crate, kind.split(".")[0], module, there.strip())
+                    self.names[(here or there).strip()] = (crate, kind, module, there.strip())
         self.words = {}
         self.owner = {}
         self.scan(text)
@@ -87,7 +84,7 @@ class Module:
             if head:
                 current, is_type = head.group(2), bool(head.group(1))
                 self.words.setdefault(current, set())
-                self.owner.update((part, current) for part in current.split("_") if part and "_" in current)
+                self.owner.update((part, current) for part in current.split("◌") if part and "◌" in current)
             elif part:
                 self.owner[part.group(1)] = current
             if current:
@@ -106,6 +103,8 @@ def modules():
 
 def resolve(all_modules, place, word):
     """The definition that a word names inside a file, or None where it is no definition of ours."""
+    if place not in all_modules:
+        return None
     module = all_modules[place]
     if word in module.words:
         return (place, word)
