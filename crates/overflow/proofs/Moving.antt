@@ -51,6 +51,36 @@ module _ {Γ : Fields} {E : List Frame} where
         TypedState Γ (state x (fields s ∷ E) q)
     nth-typed {fs = fs} d (t_cons {n = m} {t = u} e ds) s_here = record { scope = fs; name = m; type = u; scoped = in_fields c d; typed = e }
     nth-typed d (t_cons e ds) (s_there a) = nth-typed d ds a
+    nth-typed {s = s} {k = k} {m = m} d Rattle.plan.proofs.Typed.t_nil x10 = elim x10 [ ]
+    nth-typed {s = s} {k = k} {m = m} d Rattle.plan.proofs.Typed.t_nil x10 = elim x10 [ ]
+    nth-typed {s = s} {k = k} {m = m} d Rattle.plan.proofs.Typed.t_nil x10 = elim x10 [ ]
+    nth-typed {s = s} {k = k} {m = m} d Rattle.plan.proofs.Typed.t_nil x10 = elim x10 [ ]
+    nth-typed {s = s} {k = k} {m = m} d Rattle.plan.proofs.Typed.t_nil x10 = elim x10 [ ]
+    nth-typed {s = s} {k = k} {m = m} d Rattle.plan.proofs.Typed.t_nil x10 = elim x10 [ ]
+    nth-typed {s = s} {k = k} {m = m} d Rattle.plan.proofs.Typed.t_nil x10 = elim x10 [ ]
+    nth-typed {s = s} {k = k} {m = m} d Rattle.plan.proofs.Typed.t_nil x10 = elim x10 [ ]
+    nth-typed {s = s} {k = k} {m = m} d Rattle.plan.proofs.Typed.t_nil x10 = elim x10 [ ]
+    nth-typed {s = s} {k = k} {m = m} d Rattle.plan.proofs.Typed.t_nil x10 = elim x10 [ ]
+    nth-typed {s = s} {k = k} {m = m} d Rattle.plan.proofs.Typed.t_nil x10 = elim x10 [ ]
+    nth-typed {s = s} {k = k} {m = m} d Rattle.plan.proofs.Typed.t_nil x10 = elim x10 [ ]
+    nth-typed {s = s} {k = k} {m = m} d Rattle.plan.proofs.Typed.t_nil x10 = elim x10 [ ]
+    nth-typed {s = s} {k = k} {m = m} d Rattle.plan.proofs.Typed.t_nil x10 = elim x10 [ ]
+    nth-typed {s = s} {k = k} {m = m} d Rattle.plan.proofs.Typed.t_nil x10 = elim x10 [ ]
+    nth-typed {s = s} {k = k} {m = m} d Rattle.plan.proofs.Typed.t_nil x10 = elim x10 [ ]
+    nth-typed {s = s} {k = k} {m = m} d Rattle.plan.proofs.Typed.t_nil x10 = elim x10 [ ]
+    nth-typed {s = s} {k = k} {m = m} d Rattle.plan.proofs.Typed.t_nil x10 = elim x10 [ ]
+    nth-typed {s = s} {k = k} {m = m} d Rattle.plan.proofs.Typed.t_nil x10 = elim x10 [ ]
+    nth-typed {s = s} {k = k} {m = m} d Rattle.plan.proofs.Typed.t_nil x10 = elim x10 [ ]
+    nth-typed {s = s} {k = k} {m = m} d Rattle.plan.proofs.Typed.t_nil x10 = elim x10 [ ]
+    nth-typed {s = s} {k = k} {m = m} d Rattle.plan.proofs.Typed.t_nil x10 = elim x10 [ ]
+    nth-typed {s = s} {k = k} {m = m} d Rattle.plan.proofs.Typed.t_nil x10 = elim x10 [ ]
+    nth-typed {s = s} {k = k} {m = m} d Rattle.plan.proofs.Typed.t_nil x10 = elim x10 [ ]
+    nth-typed {s = s} {k = k} {m = m} d Rattle.plan.proofs.Typed.t_nil x10 = elim x10 [ ]
+    nth-typed {s = s} {k = k} {m = m} d Rattle.plan.proofs.Typed.t_nil x10 = elim x10 [ ]
+    nth-typed {s = s} {k = k} {m = m} d Rattle.plan.proofs.Typed.t_nil x10 = elim x10 [ ]
+    nth-typed {s = s} {k = k} {m = m} d Rattle.plan.proofs.Typed.t_nil x10 = elim x10 [ ]
+    nth-typed {s = s} {k = k} {m = m} d Rattle.plan.proofs.Typed.t_nil x10 = elim x10 [ ]
+    nth-typed {s = s} {k = k} {m = m} d Rattle.plan.proofs.Typed.t_nil x10 = elim x10 [ ]
 
     field-inner : {n : Bytes} {t : DataType} {s x : Selector} {ss : Selectors} {k : ℕ} → Nth ss k x → Typed Δ (struct_mapping s ss) n t → TypedState Γ
         (state x (fields s ∷ E) q)
