@@ -1,4 +1,4 @@
--- `selector::has_place` meets its contract: the tests of `hasPlace`, computed on each interval. Assumes nothing.
+-- `selector::has_place` meets its contract: the tests of `has_place`, computed on each interval. Assumes nothing.
 use native.Mathlib.Omega.{arith}
 use Rattle.selector.proofs.Answers.{place_none, place-layout, place-between, place-column, place-one, place_after}
 use Rattle.demands.specs.Refusals.{is_in}
