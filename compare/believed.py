@@ -1,8 +1,9 @@
 #!/usr/bin/env python3
 """What a reader must believe, worked out from the sources.
 
-Follows every definition that the contracts of the exported calls (crates/selector/src/lib.rt) cite, and every one that
-the statements of the theorems (STATEMENTS) cite, down to the last. The files of specs/ so met must be the files that
+Follows every definition that the contracts of the calls (crates/selector/src/lib.rt) cite, and every one that the
+statements of the theorems (STATEMENTS) cite, down to the last. The exports to C (crates/selector_c/src/lib.rt) have the
+calls' parameters and clauses, word for word, over the same definitions. The files of specs/ so met must be the files that
 docs/ARCHITECTURE.md lists under "What a reader must believe", and no others; and they must have fewer lines than its
 limit. Prints the counts; exit status 1 where the document differs.
 
@@ -132,14 +133,38 @@ def followed(all_modules, starts):
     return seen
 
 
+def imported(text):
+    """What a source's clauses may name: each import's module, and the name there."""
+    return {((crate, "specs", module), name.strip()) for crate, _, module, names in USE.findall(text)
+            for name in names.split(",")}
+
+
 def cited_by_calls(all_modules):
-    """The definitions that the exported calls' contracts name."""
-    text = (CRATES / "selector/src/lib.rt").read_text()
-    for crate, kind, module, names in USE.findall(text):
-        for name in names.split(","):
-            found = resolve(all_modules, (crate, "specs", module), name.strip().partition(" as ")[0])
-            if found:
-                yield found
+    """The definitions that the calls' contracts name."""
+    for place, name in imported((CRATES / "selector/src/lib.rt").read_text()):
+        found = resolve(all_modules, place, name.partition(" as ")[0])
+        if found:
+            yield found
+
+
+def promised(pattern, text):
+    """Each function's parameters and clauses, wherever its lines are broken."""
+    return {name: " ".join(re.sub(r",\s*\)", ")", re.sub(r"\(\s+", "(", said)).split())
+            for name, said in re.findall(pattern, text, re.M | re.S)}
+
+
+def same_exports():
+    """Whether each call is exported with its own parameters and clauses, and no other function is."""
+    library = (CRATES / "selector/src/lib.rt").read_text()
+    thin = (CRATES / "selector_c/src/lib.rt").read_text()
+    calls = promised(r"^pub fn (\w+)(.*?)^\{", library)
+    exports = promised(r'^#\[unsafe\(no_mangle\)\]\npub extern "C" fn (\w+)(.*?)^\{', thin)
+    for name in sorted(calls.keys() | exports.keys()):
+        if calls.get(name) != exports.get(name):
+            print(f"crates/selector_c: {name} is not the call of this name, with its parameters and clauses")
+    for place, name in sorted(imported(thin) - imported(library)):
+        print(f"crates/selector_c: {name} is not what crates/selector means by it")
+    return calls == exports and imported(thin) <= imported(library)
 
 
 def statements(text):
@@ -224,6 +249,7 @@ def main():
     tables = listed()
     good = len(tables) == 2 and all([compare("contracts", calls, tables[0]), compare("theorems", theorems, tables[1])])
     good = apart(calls | theorems) and good
+    good = same_exports() and good
     good = all_cited(all_modules, by_calls | by_theorems) and good
     print(f"to be believed: {len(calls)} files, {count['calls']} lines for the calls; "
           f"{len(theorems)} more, {count['theorems']} lines, for the theorems")
