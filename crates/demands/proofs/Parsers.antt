@@ -36,7 +36,7 @@ use Rattle.plan.specs.Read.{plan_from, plan}
 use Rattle.demands.specs.Refusals.{is_in, layout_refusals, table_refusals, record_refusals}
 use Rattle.demands.proofs.Refusing.{all, RefusesIn, in_ok, in_refuse, next_in, choose_in, wider, renumber_in}
 
--- a value's numbers, which a record has in its own (`recordNumber`)
+-- a value's numbers, which a record has in its own (`record_number`)
 abbrev pub value_refusals : List ℕ
 value_refusals = 2 ∷ 3 ∷ 52 ∷ []
 
@@ -44,7 +44,7 @@ value_refusals = 2 ∷ 3 ∷ 52 ∷ []
 abbrev marked_refusals : List ℕ
 marked_refusals = 56 ∷ value_refusals
 
--- an entry's numbers, before 50 and 52 are 3 (`tableNumber`)
+-- an entry's numbers, before 50 and 52 are 3 (`table_number`)
 abbrev entry_refusals : List ℕ
 entry_refusals = 50 ∷ 52 ∷ table_refusals
 

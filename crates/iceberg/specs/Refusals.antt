@@ -1,7 +1,7 @@
 -- Where a reader of the specification reads on and documents 01 and 02 refuse to build: one rule for each reason, at
 -- the column where it is met, along matched paths. 11 to 28 are document 01's numbers, 51 and 53 to 55 are document
 -- 02's. A refused build is no reading; the list of reasons is complete (proofs/Refusing.antt). Nothing here rests on
--- the builder; `pairRule` is the documents' table of leaf pairs.
+-- the builder; `pair_rule` is the documents' table of leaf pairs.
 use Rattle.std.specs.Prelude.{ℕ, ◌≡◌, true, false, List, ◌∷◌}
 use Rattle.layout.specs.Tree.{LeafType, leaf_of, Label, ColumnType, cleaf, cstruct, clist, carray, Columns, ccons}
 use Rattle.layout.specs.declared.columns.FieldId.{FieldId}
